@@ -1,0 +1,23 @@
+//! The numbers that stand for texts, objects and worlds.
+
+/// Want of memory: the one refusal that no clause ties to a cause.
+#[derive(Clone, Copy, Debug, PartialEq, Eq)]
+pub struct OutOfMemory;
+
+/// The number of an interned text. Texts of equal content have equal numbers.
+#[derive(Clone, Copy, Debug, PartialEq, Eq, PartialOrd, Ord)]
+pub struct TextId(pub u64);
+
+/// An object: who made it, and its place among that owner's objects, counted from 0.
+#[derive(Clone, Copy, Debug, PartialEq, Eq, PartialOrd, Ord)]
+pub struct ObjId {
+    pub owner: u32,
+    pub serial: u64,
+}
+
+/// A world: who sprouted it, and its place among that owner's worlds, counted from 0.
+#[derive(Clone, Copy, Debug, PartialEq, Eq, PartialOrd, Ord)]
+pub struct WorldId {
+    pub owner: u32,
+    pub serial: u64,
+}
