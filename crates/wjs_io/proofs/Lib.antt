@@ -1,0 +1,2 @@
+-- Lemmas on what a source lost and a sink gained.
+pub mod Pieces

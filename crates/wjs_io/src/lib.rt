@@ -1,0 +1,16 @@
+//! Reading and writing with causes: a source or a sink counts its faults, so a caller can prove that
+//! it reports one only where there was one.
+#![tactic(auto)]
+
+mod loops;
+mod memory;
+mod standard;
+mod traits;
+
+pub use loops::{ReadFault, Stopped, read_all, write_all_of};
+pub use memory::{MemSink, MemSource};
+pub use standard::{StdSink, StdSource};
+pub use traits::{Failed, Sink, Source};
+
+#[cfg(test)]
+mod tests;
