@@ -1,0 +1,4 @@
+mod Decimals
+mod Tables
+pub mod TextLaws
+mod Transcoding
