@@ -1,0 +1,6 @@
+pub mod Bits
+pub mod Digits
+pub mod Exact
+pub mod Numerals
+pub mod Power
+pub mod ReadBack
