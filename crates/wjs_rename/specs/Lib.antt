@@ -1,0 +1,5 @@
+pub mod Rename
+pub mod Names
+pub mod Does
+pub mod Ascends
+pub mod Laws

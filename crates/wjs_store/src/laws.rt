@@ -1,0 +1,20 @@
+//! Laws of the machine of worlds, each the contract of a function that does nothing.
+ghost use Rattle.wjs_store.specs.Laws.{BelowIsByPath, ReachedStays, RefusedChangesNothing};
+
+/// The worlds that a write reaches are those from which a path of parents leads up to the world that is written in, on
+/// which every world, the last left out, is untouched at the slot.
+pub fn write_reaches_by_path()
+    ensures { BelowIsByPath }
+{}
+
+/// The facts of every reached state hold of the fresh state, and each action keeps them: an untouched slot has the
+/// parent's content, a slot that is read and not written has the content that was read, a slot of a listed object that
+/// is neither read nor written is absent, the world without parent has no marks, and parents are older.
+pub fn reached_states_stay_reached()
+    ensures { ReachedStays }
+{}
+
+/// A commit that answers Disagrees or NoParent changes no slot and no mark of any world.
+pub fn refused_commit_changes_nothing()
+    ensures { RefusedChangesNothing }
+{}

@@ -1,0 +1,29 @@
+//! Worlds over full copies, and the trait of every store of worlds.
+//!
+//! A world sees the slots of its parent until it has read or written them itself. A commit checks that what was read
+//! still stands in the parent, and then writes there what was written. The rules follow "Worlds: Controlling the Scope
+//! of Side Effects" (Warth, Ohshima, Kaehler, Kay; ECOOP 2011).
+#![tactic(auto)]
+
+mod action;
+mod full;
+mod history;
+mod laws;
+mod maps;
+mod rows;
+mod run;
+mod shown;
+mod store;
+mod table;
+
+pub use action::{Action, Answer};
+pub use full::FullStore;
+pub use history::serial_history;
+pub use laws::{
+    reached_states_stay_reached, refused_commit_changes_nothing, write_reaches_by_path,
+};
+pub use run::run_actions;
+pub use store::{Counts, Verdict, WorldStore};
+
+#[cfg(test)]
+mod tests;
