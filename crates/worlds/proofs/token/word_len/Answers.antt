@@ -1,0 +1,13 @@
+use Rattle.std.proofs.Common.{◌<◌, length, sym, ◌∙◌, arith}
+use Rattle.std.proofs.lemmas.List.Sums.{prefix_len_is}
+use Rattle.worlds.specs.Blank.{is_word_byte}
+use Rattle.worlds.proofs.token.word_len.Goals as goal
+
+pub returns-then-not-is_word_byte : goal.returns-then-not-is_word_byte
+returns-then-not-is_word_byte c =
+    sym (prefix_len_is is_word_byte c.args.bytes.now c.loop-i.i 0 (omega arith) c.loop-i.invariant (λ _. sym c.is_word_byte.ensures ∙ c.if-not-is_word_byte.true))
+
+pub returns : goal.returns
+returns c =
+    let bytes = c.args.bytes.now in
+    sym (prefix_len_is is_word_byte bytes (length bytes) 0 (omega arith) (λ k h. c.loop-i.invariant k (omega arith)) (λ (h : length bytes < length bytes). absurd (omega arith)))

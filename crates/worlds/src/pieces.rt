@@ -1,0 +1,26 @@
+//! Output in pieces.
+ghost use Rattle.std.specs.Prelude.{OnOk, OnErr, ◌≤◌};
+ghost use Rattle.worlds.specs.Table.{stream, Got};
+ghost use Rattle.worlds.specs.Writes.{Stops};
+
+use wjs_io::{Failed, Sink, write_all_of};
+
+// The longest piece that is handed to a sink.
+const PIECE: usize = 4096;
+
+/// Writes all of the bytes, in pieces of at most 4,096 bytes.
+pub fn write_pieces<O: Sink>(out: &mut O, bytes: &[u8]) -> Result<(), Failed>
+    ensures ok { OnOk result (Got (stream (O.held out.old) (O.held out.new) (O.faults out.old) (O.faults out.new)) bytes.now) }
+    ensures err { OnErr result (Stops (stream (O.held out.old) (O.held out.new) (O.faults out.old) (O.faults out.new)) bytes.now) }
+    ensures never_falls { O.faults out.old ≤ O.faults out.new }
+{
+    let mut rest = bytes;
+    while !rest.is_empty() {
+        let (piece, behind) = rest.split_at(rest.len().min(PIECE));
+        match write_all_of(out, piece) {
+            Ok(()) => rest = behind,
+            Err(_stopped) => return Err(Failed),
+        }
+    }
+    Ok(())
+}
