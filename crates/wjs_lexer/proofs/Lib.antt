@@ -1,0 +1,15 @@
+pub mod Places
+pub mod KeysFound
+pub mod Ranges
+pub mod KindLemmas
+pub mod SignsAhead
+pub mod NumbersFound
+pub mod WordsFound
+pub mod SlashFound
+pub mod StringsFound
+pub mod Texts
+pub mod Parts
+pub mod SpacesFound
+pub mod Sizes
+pub mod Onward
+pub mod Law

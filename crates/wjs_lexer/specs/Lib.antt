@@ -1,0 +1,15 @@
+pub mod Characters
+pub mod Places
+pub mod Words
+pub mod Numbers
+pub mod Signs
+pub mod SignSteps
+pub mod Comments
+pub mod Strings
+pub mod Pieces
+pub mod Readings
+pub mod Cursors
+pub mod KeySteps
+pub mod Lexing
+pub mod Steps
+pub mod Laws
