@@ -1,17 +1,18 @@
 -- The units of a text in UTF-8, the bytes of units, and where bytes stop being UTF-8.
-use Rattle.std.proofs.Common.{◌≡◌, ℕ, zero, suc, ◌+◌, ◌-◌, ◌*◌, ◌^◌, ◌<◌, ◌≤◌, Bool, true, false, cond, ◌&&◌, List, [], ◌∷◌, ◌++◌, Option, Some, None, length, map, ◌⊎◌, ⊎_elim, inl, inr, refl, sym, ap, subst, ◌∙◌, true≢false, arith, unwrap_or, slice_index}
+use Rattle.std.proofs.Common.{◌≡◌, ℕ, zero, suc, ◌+◌, ◌-◌, ◌*◌, ◌/◌, ◌%◌, ◌^◌, ◌<◌, ◌≤◌, Bool, true, false, cond, ◌&&◌, List, [], ◌∷◌, ◌++◌, Option, Some, None, length, map, ◌⊎◌, ⊎_elim, inl, inr, refl, sym, ap, subst, ◌∙◌, true≢false, arith, unwrap_or, slice_index, get_or}
 use Rattle.std.proofs.lemmas.Iterator.{YieldsList}
 use Rattle.std.proofs.lemmas.Iterator.Splits.{YieldsList-from_shown_while}
 use Rattle.std.proofs.lemmas.Str.{chars_past_char, IsUtf8-past_char, utf8_valid_len-IsValidUpTo, chars-nil, encodes-chars, scalars-chars}
 use Rattle.std.proofs.lemmas.List.Elements.{All-head, All-tail, All-cons, All-nil}
-use Rattle.std.proofs.lemmas.Bool.{and_parts}
+use Rattle.std.proofs.lemmas.Bool.{and_parts, cases_lt}
 use Rattle.std.proofs.Common.{ltb-true, leb-true, le-leb, le-ltb}
-use Rattle.std.proofs.str.Utf16.{pair_units, one_unit, utf16_chars_pair}
+use Rattle.std.proofs.Math.Utf8.{scalar, scalar_cases}
+use Rattle.std.proofs.str.Utf16.{pair_units, one_unit, two_units, utf16_chars_pair, utf16_chars_lone, utf16_chars-nil, lone_unit_char_low, lone_unit_char_high, IsPair}
 use Rattle.std.specs.declared.str.EncodeUtf16.{EncodeUtf16}
 use Rattle.std.specs.Char.Escape.{encode_utf16}
 use Rattle.std.specs.Char.Utf16.{is_high_surrogate, is_low_surrogate, surrogate_pair_char, lone_unit_char, utf16_chars, utf16_lossy_chars}
 use Rattle.std.specs.Prelude.{All, nat_le, nat_lt}
-use Rattle.std.specs.Str.{IsUtf8, IsValidUpTo, chars, encode_utf8_all}
+use Rattle.std.specs.Str.{IsUtf8, IsValidUpTo, chars, encode_utf8_all, all_scalars}
 use Rattle.std.specs.Str.Iter.{encode_utf16_rest, encode_utf16_pending, encode_utf16_steps}
 use Rattle.wjs_base.specs.Unicode.{utf16, SameText, StopsBeingUtf8, Shows, AreUnpaired, is_surrogate, shown, utf8_of}
 
@@ -163,3 +164,37 @@ pub shows : (units bytes : List ℕ) → All (λ unit. unit < 2 ^ 16) units → 
 shows units bytes fits e =
     let r = reading units fits in
     record { points = r.points; code_points = r.code_points; unpaired = r.unpaired; units_are = r.units_are; bytes_are = ap encode_utf8_all r.lossy ∙ sym e }
+
+-- the units of a scalar value are read as it, whatever follows
+one_read : (point : ℕ) (units : List ℕ) → scalar point ≡ true → utf16_chars (encode_utf16 point ++ units) ≡ Some point ∷ utf16_chars units
+one_read point units is = ⊎_elim low high (scalar_cases point is)
+  where
+    alone : point < 0x1_0000 → ¬ (IsPair point (get_or units 0 0)) → lone_unit_char point ≡ Some point → utf16_chars (encode_utf16 point ++ units) ≡ Some point ∷ utf16_chars units
+    alone small apart itself = ap (λ (us : List ℕ). utf16_chars (us ++ units)) (one_unit point small) ∙ utf16_chars_lone point units apart ∙ ap (λ (o : Option ℕ). o ∷ utf16_chars units) itself
+
+    low : point < 0xD800 → utf16_chars (encode_utf16 point ++ units) ≡ Some point ∷ utf16_chars units
+    low below = alone (omega arith) (λ p. omega arith) (lone_unit_char_low point below)
+
+    pair : 0x1_0000 ≤ point → point < 0x11_0000 → utf16_chars (encode_utf16 point ++ units) ≡ Some point ∷ utf16_chars units
+    pair large small =
+        let first = 0xD800 + (point - 0x1_0000) / 0x400 in
+        let second = 0xDC00 + (point - 0x1_0000) % 0x400 in
+        let quotient : (point - 0x1_0000) / 0x400 < 0x400 = omega arith in
+        let whole : surrogate_pair_char first second ≡ point = omega arith in
+        ap (λ (us : List ℕ). utf16_chars (us ++ units)) (two_units point large)
+        ∙ utf16_chars_pair first second units (omega arith, omega arith, omega arith, omega arith) ∙ ap (λ (x : ℕ). Some x ∷ utf16_chars units) whole
+
+    high : (57344 ≤ point) × (point < 1114112) → utf16_chars (encode_utf16 point ++ units) ≡ Some point ∷ utf16_chars units
+    high h = ⊎_elim (λ small. alone small (λ p. omega arith) (lone_unit_char_high point h.0)) (λ large. pair large h.1) (cases_lt point 0x1_0000)
+
+-- so the units of scalar values show just these
+pub scalars_back : (points : List ℕ) → all_scalars points ≡ true → utf16_lossy_chars (utf16 points) ≡ points
+scalars_back [] is = ap (map (λ (o : Option ℕ). unwrap_or o 0xFFFD)) utf16_chars-nil
+scalars_back (point ∷ points) is =
+    let parts = and_parts (scalar point) (all_scalars points) is in
+    ap (map (λ (o : Option ℕ). unwrap_or o 0xFFFD)) (one_read point (utf16 points) parts.0) ∙ ap (λ (ps : List ℕ). point ∷ ps) (scalars_back points parts.1)
+
+-- what is UTF-8 comes back from its units
+pub same_back : (bytes units shown_bytes : List ℕ) → shown_bytes ≡ utf8_of units → SameText bytes units → shown_bytes ≡ bytes
+same_back bytes units shown_bytes e same =
+    e ∙ ap utf8_of (sym same.units_are) ∙ ap encode_utf8_all (scalars_back same.points same.scalars) ∙ same.bytes_are

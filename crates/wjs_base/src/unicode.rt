@@ -1,5 +1,5 @@
 //! Between bytes in UTF-8 and code units.
-ghost use Rattle.std.specs.Prelude.{◌≡◌, ℕ, ◌↔◌, IfOk, IsErrOf};
+ghost use Rattle.std.specs.Prelude.{◌≡◌, ℕ, ◌↔◌, List, IfOk, IsErrOf};
 ghost use Rattle.wjs_base.specs.Unicode.{SameText, Shows, StopsBeingUtf8, utf8_of};
 
 use crate::ids::OutOfMemory;
@@ -41,6 +41,9 @@ pub fn units_of_utf8(alloc: Global, bytes: &[u8]) -> Result<Vec<u16>, Utf8Fault>
 pub fn utf8_of_units(alloc: Global, units: &[u16]) -> Result<Vec<u8>, OutOfMemory>
     ensures shows { IfOk result (λ bytes. Shows units.now bytes.items) }
     ensures bytes { IfOk result (λ bytes. bytes.items ≡ utf8_of units.now) }
+
+    // What is UTF-8 comes back from its units.
+    ensures back { IfOk result (λ bytes. (text : List ℕ) → SameText text units.now → bytes.items ≡ text) }
 {
     match String::from_utf16_lossy(alloc, units) {
         Ok(text) => Ok(text.into_bytes()),
