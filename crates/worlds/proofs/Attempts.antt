@@ -3,7 +3,7 @@ use Rattle.std.proofs.Common.{◌≡◌, ℕ, ◌+◌, ◌<◌, ◌≤◌, ◌�
 use Rattle.std.specs.Io.KnownBytes.{Appends, Consumes, IsAtEnd}
 use Rattle.std.proofs.Math.Seq.{take-append_seam}
 use Rattle.worlds.specs.declared.status.Status.{Status}
-use Rattle.worlds.specs.declared.status.Status.TheVariants.{Done, Refused as RefusedStatus, Usage as UsageStatus, OutOfMemory as OutOfMemoryStatus, ReadFault as ReadFaultStatus, OutFault as OutFaultStatus, ErrFault as ErrFaultStatus}
+use Rattle.worlds.specs.declared.status.Status.TheVariants.{Done, Threw, StepsSpent, Refused as RefusedStatus, Usage as UsageStatus, OutOfMemory as OutOfMemoryStatus, ReadFault as ReadFaultStatus, OutFault as OutFaultStatus, ErrFault as ErrFaultStatus}
 use Rattle.worlds.specs.declared.run.RunFault.{RunFault}
 use Rattle.worlds.specs.declared.run.RunFault.TheVariants.{OutFault as RunOutFault, OutOfMemory as RunOutOfMemory}
 use Rattle.worlds.specs.declared.command.Refusal.{Refusal}
@@ -17,13 +17,13 @@ use Rattle.worlds.specs.Table.{Due, Stream, stream, Failed, Had, Gave, Got, GotP
 use Rattle.worlds.specs.Writes.{Stops, Runs}
 use Rattle.worlds.specs.Due.{IsDue, IsUsage, IsTooLong, IsNotBuilt, IsRun, refusal, most_bytes, usage, too_long, not_built, runs}
 use Rattle.worlds.specs.Attempt.{text_of_refusal, status_of_refusal, Performs, Reaches, HasCauses, Attempts, Reports, Finishes, stop_of}
-use Rattle.worlds.specs.Command.{Ends}
+use Rattle.worlds.specs.Command.{Ends, IsComplete}
 use Rattle.worlds.proofs.Statements.{spells_once}
 use Rattle.worlds.proofs.Written.{Appends-nil, got_none}
 
 -- ---- running
 
-script_once : (bytes : List ℕ) (ss us : List Statement) → IsScript bytes ss → IsScript bytes us → ss ≡ us
+pub script_once : (bytes : List ℕ) (ss us : List Statement) → IsScript bytes ss → IsScript bytes us → ss ≡ us
 script_once bytes ss us h k = spells_once bytes ss us h.spelled k.spelled
 
 pub performs_fault : (bytes : List ℕ) (out : Stream) (ss : List Statement) (fault : RunFault) → IsScript bytes ss → Runs out (output start ss) (Err fault) → Performs bytes out (Err (stop_of fault))
@@ -212,3 +212,23 @@ finished due source out err (Err OutOfMemory) status r f = subst (EndsBy due sou
 pub ends_from : (words : List (List ℕ)) (source out err : Stream) (outcome : Result (Unit {0}) Stop) (status : Status) → Attempts words source out outcome → Finishes err outcome status → Ends words source out err status
 ends_from words source out err outcome status a f =
     record { bytes = a.bytes; had = a.had; ends = λ due d. finished due source out err outcome status (a.reaches due d) f }
+
+-- ---- laws
+
+-- one thing is due
+pub due_once : (words : List (List ℕ)) (bytes : List ℕ) (d e : Due) → IsDue words bytes d → IsDue words bytes e → d ≡ e
+due_once words bytes d e (usage u) k = u.is ∙ sym (usage_due words bytes e u.count k)
+due_once words bytes d e (too_long t) k = t.is ∙ sym (long_due words bytes e t.count t.more k)
+due_once words bytes d e (not_built n) k = n.is ∙ sym (other_due words bytes e n.count n.within n.none k)
+due_once words bytes d e (runs r) k = r.is ∙ sym (run_due words bytes e r.statements r.count r.within r.script k)
+
+pub complete : (due : Due) (source out err : Stream) (status : Status) → EndsBy due source out err status → IsComplete due source out err status
+complete due source out err Done h = λ s o e. inr h
+complete due source out err Threw h = λ s o e. inr h
+complete due source out err StepsSpent h = λ s o e. inr h
+complete due source out err RefusedStatus h = λ s o e. inr h
+complete due source out err UsageStatus h = λ s o e. inr h
+complete due source out err OutOfMemoryStatus h = λ s o e. inl refl
+complete due source out err ReadFaultStatus h = λ s o e. absurd (s h.cause)
+complete due source out err OutFaultStatus h = λ s o e. absurd (o h.cause)
+complete due source out err ErrFaultStatus h = λ s o e. absurd (e h.cause)

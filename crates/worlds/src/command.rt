@@ -16,6 +16,9 @@ use wjs_store::FullStore;
 /// The most bytes that a script has.
 const MOST_BYTES: u64 = 16_777_216;
 
+/// How many words there are: the program's name.
+const WORDS: usize = 1;
+
 /// Why a script is not run.
 #[derive(Clone, Copy, Debug, PartialEq, Eq)]
 pub enum Refusal {
@@ -99,7 +102,7 @@ fn attempt<S: Source, O: Sink>(
         (stream (S.left source.old) (S.left source.new) (S.faults source.old) (S.faults source.new))
         (stream (O.held out.old) (O.held out.new) (O.faults out.old) (O.faults out.new)) result }
 {
-    if words.len() != 1 {
+    if words.len() != WORDS {
         return Err(Stop::Refused(Refusal::Usage));
     }
     match read_all(alloc, source, MOST_BYTES) {

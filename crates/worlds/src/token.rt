@@ -7,6 +7,9 @@ ghost use Rattle.std.specs.Str.Parse.{digits_value};
 ghost use Rattle.worlds.specs.Blank.{is_blank, is_word_byte, after_blanks};
 ghost use Rattle.worlds.specs.Token.{Takes, IsNumber, IsNumeral, IsWord, IsSign, text};
 
+/// The most digits of a number.
+const MOST_DIGITS: usize = 15;
+
 /// A token.
 #[derive(Clone, Copy, Debug, PartialEq, Eq)]
 pub enum Token {
@@ -86,7 +89,7 @@ fn are_digits(word: &[u8]) -> bool
 fn is_numeral(word: &[u8]) -> bool
     ensures { IsTrue result ↔ IsNumeral word.now }
 {
-    if word.is_empty() || word.len() > 15 || (word[0] == b'0' && word.len() > 1) {
+    if word.is_empty() || word.len() > MOST_DIGITS || (word[0] == b'0' && word.len() > 1) {
         return false;
     }
     are_digits(word)
