@@ -1,5 +1,5 @@
 -- Two maps that hold the same of some keys list them alike.
-use Rattle.std.proofs.Common.{◌≡◌, Bool, true, false, cond, ◌&&◌, ◌||◌, T, List, [], ◌∷◌, refl, ap, sym, ◌∙◌, filter, map as each, Option, None, Some, Ordering}
+use Rattle.std.proofs.Common.{◌≡◌, Bool, true, false, cond, ◌&&◌, ◌||◌, T, List, [], ◌∷◌, refl, ap, sym, ◌∙◌, filter, map as each, None, Some, Ordering}
 use Rattle.std.specs.Ordering.{eq_by_cmp, is_lt}
 use Rattle.std.specs.Cmp.{IsTotalOrder}
 use Rattle.std.specs.List.{list_any}

@@ -1,16 +1,16 @@
 -- The history of a parent after a commit: its own, and then the child's.
-use Rattle.std.proofs.Common.{◌≡◌, Bool, true, false, cond, not, ◌&&◌, ◌||◌, List, [], ◌∷◌, ◌++◌, refl, ap, sym, ◌∙◌, subst, Option, None, Some, is_some}
-use Rattle.std.specs.Ordering.{eq_by_cmp, is_eq}
+use Rattle.std.proofs.Common.{◌≡◌, Bool, true, false, cond, ◌||◌, List, [], ◌∷◌, ◌++◌, refl, ap, sym, ◌∙◌, subst, Option, Some, is_some}
+use Rattle.std.specs.Ordering.{eq_by_cmp}
 use Rattle.std.specs.List.{list_any}
 use Rattle.std.specs.FinMap as map
 use Rattle.std.specs.FinMap.{FinMap}
-use Rattle.std.proofs.lemmas.Bool.{true≢false, false≢true, or_right, or_left}
+use Rattle.std.proofs.lemmas.Bool.{or_right, or_left}
 use Rattle.wjs_base.specs.declared.ids.ObjId.{ObjId}
 use Rattle.wjs_base.specs.Order.{obj_cmp, obj_total}
 use Rattle.wjs_store.specs.Naming.{Naming}
 use Rattle.wjs_store.specs.State.{World, State, Reply, find_world, is_touched, has_row, write_in, hand_entries, hand_objects, moves, reads_of, fails}
 use Rattle.wjs_store.specs.Reached.{IsReached}
-use Rattle.wjs_store.proofs.Marks.{Local, MarksOf, contains_insert, none_some, stays_touched}
+use Rattle.wjs_store.proofs.Marks.{Local, contains_insert, stays_touched}
 use Rattle.wjs_store.proofs.Writes.{by_bool, by_one, or_false, local_write}
 use Rattle.wjs_store.proofs.Commits.{pairs, writes_on, hand_one, hand_on, close_on, parent_on, entries_parents, objects_parents, agree_read, agree_closed, local_find, marks1, marks3, state2, reached2, fy2, copy2, new1}
 use Rattle.wjs_store.proofs.Replays.{Entry, Answered, ends, ends-append, Answered-append, Meets, Holds, seen, meets_one, meets_closed, meets_write}

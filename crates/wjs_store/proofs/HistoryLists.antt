@@ -1,5 +1,5 @@
 -- Lists of places that are taken out and put back.
-use Rattle.std.proofs.Common.{◌≡◌, ℕ, ◌+◌, ◌<◌, Bool, true, false, cond, List, [], ◌∷◌, ◌++◌, length, drop, get_or, suc, refl, ap, sym, ◌∙◌, Option, None, Some, arith}
+use Rattle.std.proofs.Common.{◌≡◌, ℕ, ◌+◌, ◌<◌, Bool, true, false, cond, List, [], ◌∷◌, ◌++◌, length, drop, get_or, suc, refl, ap, sym, ◌∙◌, Option, None, Some}
 use Rattle.std.proofs.lemmas.List.{drop_more}
 use Rattle.std.specs.Ordering.{eq_by_cmp}
 use Rattle.std.specs.FinMap as map
@@ -9,7 +9,7 @@ use Rattle.wjs_base.specs.Order.{world_cmp, world_total, world_exact}
 use Rattle.wjs_store.specs.declared.action.Action.{Action}
 use Rattle.wjs_store.specs.declared.action.Answer.{Answer}
 use Rattle.wjs_store.specs.Meaning.{Worlds}
-use Rattle.wjs_store.specs.Run.{answer_in, after_in, answers_in}
+use Rattle.wjs_store.specs.Run.{after_in, answers_in}
 use Rattle.wjs_store.specs.History.{Histories, places_of, emptied, put_places, noted, histories_from}
 
 -- what is put after a removal is put

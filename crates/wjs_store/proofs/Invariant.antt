@@ -1,8 +1,8 @@
 -- Each world's history stays its history, whatever action is done.
-use Rattle.std.proofs.Common.{◌≡◌, ℕ, Bool, true, false, cond, not, ◌&&◌, ◌||◌, List, [], ◌∷◌, ◌++◌, refl, ap, sym, ◌∙◌, subst, map as each, Option, None, Some, is_some}
+use Rattle.std.proofs.Common.{◌≡◌, ℕ, Bool, true, false, cond, not, ◌&&◌, ◌||◌, List, [], ◌∷◌, ◌++◌, refl, ap, sym, ◌∙◌, subst, Option, None, Some, is_some}
 use Rattle.std.specs.Option.{option_map, option_map_or, option_and_then}
 use Rattle.std.specs.FinMap as map
-use Rattle.std.proofs.lemmas.Bool.{true≢false, false≢true, and_parts}
+use Rattle.std.proofs.lemmas.Bool.{true≢false, false≢true}
 use Rattle.wjs_base.specs.declared.ids.WorldId.{WorldId}
 use Rattle.wjs_base.specs.declared.ids.ObjId.{ObjId}
 use Rattle.wjs_store.specs.Naming.{Naming}
@@ -10,8 +10,8 @@ use Rattle.wjs_store.specs.State.{World, State, Reply, read, write, list, found,
 use Rattle.wjs_store.specs.Reached.{IsReached}
 use Rattle.wjs_store.proofs.States.{find_each}
 use Rattle.wjs_store.proofs.Marks.{marks_read, marks_list}
-use Rattle.wjs_store.proofs.Writes.{world_is, same_self, found_id, by_bool, no_parent_of, not_older, has_head, has_tail, reached_write, reached_sprout, has_at, has_after_write, has_settle, write_id}
-use Rattle.wjs_store.proofs.Commits.{at_head, find_head, find_tail, local_find, find_at_here, find_at_other, find_write_here, below_stops, entries_ids, objects_ids, reached1, state3, fx3, fy3, same_some}
+use Rattle.wjs_store.proofs.Writes.{world_is, same_self, found_id, by_bool, no_parent_of, not_older, has_tail, reached_sprout, has_at, has_after_write, has_settle, write_id}
+use Rattle.wjs_store.proofs.Commits.{at_head, find_tail, local_find, find_at_here, find_at_other, find_write_here, below_stops, entries_ids, objects_ids, fx3, fy3, same_some}
 use Rattle.wjs_store.proofs.Replays.{Entry, Holds, Further, further_same, further_then, further_below, holds_further, holds_read, holds_list, holds_write, holds_nothing, some_of}
 use Rattle.wjs_store.proofs.CommitReplays.{settled, holds_settled}
 

@@ -16,3 +16,4 @@ pub mod Invariant
 pub mod HistoryLaws
 pub mod HistoryLists
 pub mod Refused
+pub mod Contents

@@ -3,7 +3,7 @@ use Rattle.std.proofs.Common.{◌≡◌, ◌≢◌, refl, Option, None, Some, co
 use Rattle.std.specs.Option.{option_map_or, is_none}
 use Rattle.wjs_base.specs.declared.ids.WorldId.{WorldId}
 use Rattle.wjs_store.specs.Naming.{Naming}
-use Rattle.wjs_store.specs.State.{World, State, Verdict, verdict_in, verdict_at, with_parent, fault_in, settle, after_commit, moved, no_parent, differs}
+use Rattle.wjs_store.specs.State.{World, State, verdict_in, verdict_at, with_parent, fault_in, settle, after_commit, moved, no_parent, differs}
 
 module _ {K V : Type 0} {n : Naming K V} (F : State n) where
   refused_by : (o : Option (World n × World n)) → option_map_or (λ (e : World n × World n). verdict_in e.0 e.1) o no_parent ≢ moved → option_map_or (λ (e : World n × World n). cond (is_none (fault_in e.0 e.1)) (settle e.0 e.1.id F) F) o F ≡ F

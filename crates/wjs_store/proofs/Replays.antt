@@ -1,11 +1,11 @@
 -- What a world's history says of it: replayed on any map that meets the world's check, it answers as recorded, and ends in that map with the world's own contents at its written slots.
-use Rattle.std.proofs.Common.{◌≡◌, Bool, true, false, cond, not, ◌&&◌, ◌||◌, List, [], ◌∷◌, ◌++◌, refl, ap, sym, ◌∙◌, subst, fold, filter, map as each, Option, None, Some, is_some}
+use Rattle.std.proofs.Common.{◌≡◌, Bool, true, false, cond, not, ◌&&◌, ◌||◌, List, [], ◌∷◌, ◌++◌, refl, ap, sym, ◌∙◌, Option, None, Some, is_some}
 use Rattle.std.specs.Option.{option_map}
 use Rattle.std.specs.Ordering.{eq_by_cmp, is_eq}
 use Rattle.std.specs.Cmp.{tied_itself}
 use Rattle.std.specs.FinMap as map
 use Rattle.std.specs.FinMap.{FinMap}
-use Rattle.std.proofs.lemmas.Bool.{true≢false, false≢true, and_parts, or_right, or_left}
+use Rattle.std.proofs.lemmas.Bool.{true≢false, false≢true, or_right, or_left}
 use Rattle.wjs_base.specs.declared.ids.WorldId.{WorldId}
 use Rattle.wjs_base.specs.declared.ids.ObjId.{ObjId}
 use Rattle.wjs_base.specs.Order.{obj_cmp, obj_total}
@@ -13,8 +13,8 @@ use Rattle.wjs_base.specs.Same.{object_Decides}
 use Rattle.wjs_store.specs.Naming.{Naming}
 use Rattle.wjs_store.specs.State.{World, Act, Reply, read, write, list, found, wrote, listed, put, same_object, is_touched, has_row, read_in, write_in, read_all, close_in, list_in, slots_in}
 use Rattle.wjs_store.specs.Replay.{plain_reply, plain_after}
-use Rattle.wjs_store.proofs.Marks.{Local, MarksOf, contains_insert, key_is, none_some, or_case, closed_only, marks_read, marks_list, touched_read}
-use Rattle.wjs_store.proofs.Writes.{by_bool, by_one, or_false, get_put, no_parent_of, local_write}
+use Rattle.wjs_store.proofs.Marks.{Local, MarksOf, contains_insert, key_is, none_some, closed_only, marks_read, marks_list, touched_read}
+use Rattle.wjs_store.proofs.Writes.{by_bool, by_one, or_false, get_put}
 use Rattle.wjs_store.proofs.Ascending.{same_listed}
 
 pub some_of : {P A : Type 0} (o : Option A) → is_some o ≡ true → ((a : A) → o ≡ Some a → P) → P

@@ -1,6 +1,6 @@
 -- Actions done one after another.
 use Rattle.std.proofs.lemmas.List.{take_more, append_assoc, append-nil}
-use Rattle.std.proofs.Common.{◌≡◌, ℕ, ◌+◌, ◌<◌, length, take, get_or, true, false, cond, List, [], ◌∷◌, ◌++◌, map as each, refl, ap, sym, ◌∙◌, subst, not, Option, None, Some, IsTrue}
+use Rattle.std.proofs.Common.{◌≡◌, ℕ, ◌+◌, ◌<◌, length, take, get_or, false, cond, List, [], ◌∷◌, ◌++◌, map as each, refl, ap, sym, ◌∙◌, subst, not, Option, None, Some, IsTrue}
 use Rattle.std.specs.Option.{option_map}
 use Rattle.wjs_base.specs.declared.ids.ObjId.{ObjId}
 use Rattle.wjs_base.specs.declared.ids.WorldId.{WorldId}
@@ -10,7 +10,7 @@ use Rattle.wjs_base.specs.declared.values.Content.{Content}
 use Rattle.wjs_base.specs.declared.values.Content.TheVariants.{Absent, Present}
 use Rattle.wjs_store.specs.declared.action.Action.{Action}
 use Rattle.wjs_store.specs.declared.action.Answer.{Answer}
-use Rattle.wjs_store.specs.declared.action.Answer.TheVariants.{NoWorld, Listed}
+use Rattle.wjs_store.specs.declared.action.Answer.TheVariants.{NoWorld}
 use Rattle.wjs_store.specs.declared.store.Verdict.{Verdict}
 use Rattle.wjs_store.specs.declared.store.Verdict.TheVariants.{Moved, Disagrees, NoParent}
 use Rattle.wjs_store.specs.State.{world_of, has_world, answer_to, after}

@@ -1,5 +1,5 @@
 -- Lists of actions.
-use Rattle.std.specs.Prelude.{◌≡◌, not, cond, List, [], ◌∷◌, ◌++◌, map as each, Bool, Option, None, Some, IsTrue}
+use Rattle.std.specs.Prelude.{◌≡◌, not, cond, List, [], ◌∷◌, ◌++◌, map as each, Bool, IsTrue}
 use Rattle.std.specs.Option.{option_map}
 use Rattle.wjs_base.specs.declared.values.Slot.{Slot}
 use Rattle.wjs_store.specs.declared.action.Action.{Action}

@@ -1,6 +1,6 @@
 -- The full-copy machine: each world holds all slots, and a change is copied at once to all who see it.
 -- The rules are this language's profile of "Worlds: Controlling the Scope of Side Effects" (Warth, Ohshima, Kaehler, Kay; ECOOP 2011).
-use Rattle.std.specs.Prelude.{◌≡◌, ℕ, ◌+◌, Bool, true, false, not, cond, ◌&&◌, ◌||◌, ◌==◌, List, [], ◌∷◌, ◌++◌, map as each, filter, fold, Option, None, Some, is_some, is_none, unwrap_or}
+use Rattle.std.specs.Prelude.{ℕ, ◌+◌, Bool, true, false, not, cond, ◌&&◌, ◌||◌, ◌==◌, List, [], ◌∷◌, ◌++◌, map as each, filter, fold, Option, None, Some, is_some, is_none, unwrap_or}
 use Rattle.std.specs.Option.{option_map, option_map_or, option_and_then}
 use Rattle.std.specs.declared.cmp.Ordering.{Ordering}
 use Rattle.std.specs.Ordering.{is_lt}

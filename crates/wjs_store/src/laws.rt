@@ -1,5 +1,5 @@
 //! Laws of the machine of worlds, each the contract of a function that does nothing.
-ghost use Rattle.wjs_store.specs.Laws.{BelowIsByPath, ReachedStays, RefusedChangesNothing};
+ghost use Rattle.wjs_store.specs.Laws.{BelowIsByPath, ReachedStays, RefusedChangesNothing, LooksKeepContents, WritesSetContents, SproutsCopyContents, OwnViewHolds};
 
 /// The worlds that a write reaches are those from which a path of parents leads up to the world that is written in, on
 /// which every world, the last left out, is untouched at the slot.
@@ -17,4 +17,24 @@ pub fn reached_states_stay_reached()
 /// A commit that answers Disagrees or NoParent changes no slot and no mark of any world.
 pub fn refused_commit_changes_nothing()
     ensures { RefusedChangesNothing }
+{}
+
+/// A read and a listing change no content of any world.
+pub fn looks_keep_contents()
+    ensures { LooksKeepContents }
+{}
+
+/// A write sets its slot in its world and in the worlds below, and changes no other content of any world.
+pub fn writes_set_contents()
+    ensures { WritesSetContents }
+{}
+
+/// A child has its parent's contents, and the other worlds keep theirs.
+pub fn sprouts_copy_contents()
+    ensures { SproutsCopyContents }
+{}
+
+/// What a store promises of an action under every view that it admits afterwards holds under its own view.
+pub fn own_view_holds()
+    ensures { OwnViewHolds }
 {}

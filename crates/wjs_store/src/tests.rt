@@ -234,3 +234,29 @@ fn a_world_that_is_not_there_is_told(rt: HostRuntime) -> Result<(), Fail> {
     ];
     expect(&rt, rt.alloc(), &actions, &answers, &[])
 }
+
+#[test]
+fn marks_are_counted(rt: HostRuntime) -> Result<(), Fail> {
+    let s = slot(1);
+    let mut store = FullStore::new(rt.alloc())?;
+    let first = store.first();
+    assert_eq!(rt; first, FIRST);
+    assert!(rt; store.has_world(first));
+    let one = store.sprout(first, 0, true)?;
+    assert!(rt; store.has_world(one));
+    store.write(one, s, YES)?;
+    let names = store.list(one, OBJECT)?;
+    assert!(rt; names.len() == 1);
+    assert_eq!(rt; names.at(0), s.name);
+    assert!(rt; store.has_world(one));
+    let marks = Counts {
+        reads: 1,
+        writes: 1,
+        closed: 1,
+    };
+    assert_eq!(rt; store.counts(one), marks);
+    assert_eq!(rt; store.parent(one), Some(first));
+    assert_eq!(rt; store.commit(one)?, Verdict::Moved);
+    assert!(rt; !store.is_spent());
+    Ok(())
+}

@@ -16,11 +16,12 @@ fn get<S: WorldStore>(
     inherited: Slot,
 ) -> Result<Content, OutOfMemory>
     requires { IsTrue (has_world (worlds (S.meaning store.old)) world) }
-    ensures { IfOk result (λ content. (v : View) → IsTrue ((S.meaning store.new).admits v) →
+    ensures content { IfOk result (λ content. (v : View) → IsTrue ((S.meaning store.new).admits v) →
         let F = (S.meaning store.old).full v in
-        let G = after_read F world own in
-        cond (is_some (content_at F world own)) (content_at F world own, G) (content_at G world inherited, after_read G world inherited)
-        ≡ (content_of content, (S.meaning store.new).full v)) }
+        content_of content ≡ cond (is_some (content_at F world own)) (content_at F world own) (content_at (after_read F world own) world inherited)) }
+    ensures worlds { OnOk result ((v : View) → IsTrue ((S.meaning store.new).admits v) →
+        let F = (S.meaning store.old).full v in
+        (S.meaning store.new).full v ≡ cond (is_some (content_at F world own)) (after_read F world own) (after_read (after_read F world own) world inherited)) }
 {
     match store.read(world, own)? {
         Content::Present(value) => Ok(Content::Present(value)),
@@ -61,6 +62,7 @@ fn two_slots_are_exchanged(rt: HostRuntime) -> Result<(), Fail> {
     assert!(rt; store.has_world(first));
     store.write(first, a, Content::Present(Value::Null))?;
     swap(&mut store, first, a, b)?;
+    assert!(rt; store.has_world(first));
     assert_eq!(rt; store.read(first, a)?, Content::Absent);
     assert_eq!(rt;
         get(&mut store, first, a, b)?,

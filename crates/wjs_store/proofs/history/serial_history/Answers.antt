@@ -1,8 +1,7 @@
 use Rattle.std.proofs.Common.{◌≡◌, ◌+◌, ◌<◌, ap, sym, ◌∙◌, subst, length, arith, drop}
 use Rattle.std.proofs.lemmas.List.{drop_all}
 use Rattle.wjs_store.specs.Fixed.{fresh}
-use Rattle.wjs_store.specs.Run.{answers_in}
-use Rattle.wjs_store.specs.History.{places_of, first_world, histories_from, no_histories, serial_places, IsSerial}
+use Rattle.wjs_store.specs.History.{places_of, first_world, histories_from, serial_places, IsSerial}
 use Rattle.wjs_store.proofs.HistoryLists.{length-answers, noted_more}
 use Rattle.wjs_store.proofs.HistoryLaws.{serial_law}
 use Rattle.wjs_store.proofs.history.serial_history.Goals as goal

@@ -1,4 +1,4 @@
-use Rattle.std.proofs.Common.{◌≡◌, true, ◌∷◌, [], refl, ap, sym, ◌∙◌, subst}
+use Rattle.std.proofs.Common.{◌≡◌, true, ◌∷◌, [], refl, ap, sym, subst}
 use Rattle.wjs_store.specs.declared.action.Action.{Action}
 use Rattle.wjs_store.specs.declared.action.Action.TheVariants.{Read, Write, List as ListOf, Sprout, Commit}
 use Rattle.wjs_store.specs.declared.action.Answer.TheVariants.{Found, Wrote, Listed, Sprouted, Committed}

@@ -1,4 +1,4 @@
-use Rattle.std.proofs.Common.{◌≡◌, ◌++◌, ◌∷◌, [], List, take, ◌+◌, cond, refl, ap, sym, ◌∙◌, subst}
+use Rattle.std.proofs.Common.{◌≡◌, ◌++◌, ◌∷◌, [], List, take, ◌+◌, cond, ap, sym, ◌∙◌, subst}
 use Rattle.wjs_store.specs.declared.action.Answer.{Answer}
 use Rattle.wjs_store.specs.Run.{Runs}
 use Rattle.wjs_store.proofs.Trees.{ok_of}
