@@ -9,3 +9,4 @@ pub mod Written
 pub mod Steps
 pub mod Underway
 pub mod Attempts
+pub mod Dues

@@ -19,6 +19,12 @@ pub fn one_due()
 {
 }
 
+/// For any words and bytes something is due: it can't be that nothing is.
+pub fn some_due()
+    ensures { (words : List (List ℕ)) (bytes : List ℕ) → ¬ ((due : Due) → ¬ (IsDue words bytes due)) }
+{
+}
+
 /// Where no count of faults rose, a run ends with all that is due, or memory ran out.
 pub fn completeness()
     ensures { (due : Due) (source out err : Stream) (status : Status) → EndsBy due source out err status → IsComplete due source out err status }
