@@ -1,5 +1,5 @@
 -- The first character tells the kinds of piece that may begin with it.
-use Rattle.std.proofs.Common.{◌≡◌, ℕ, ◌+◌, ◌<◌, ◌≤◌, ◌⊎◌, inl, inr, Bool, true, false, not, cond, ◌||◌, ◌&&◌, ◌==◌, refl, subst, sym, ◌∙◌, ap, arith, List, Option, Some, get_or, if◌then◌else◌}
+use Rattle.std.proofs.Common.{◌≡◌, ℕ, ◌<◌, ◌⊎◌, inl, inr, Bool, true, false, not, ◌||◌, ◌&&◌, ◌==◌, refl, ◌∙◌, ap, arith, List, Some, get_or, if◌then◌else◌}
 use Rattle.std.proofs.lemmas.Bool.Decides.{nat_tests}
 use Rattle.std.specs.Prelude.{slice_get}
 use Rattle.std.specs.Int.{is_in_range}
@@ -15,8 +15,8 @@ use Rattle.wjs_lexer.specs.declared.characters.Kind.{Kind}
 use Rattle.wjs_lexer.specs.declared.characters.Kind.TheVariants as kinds
 use Rattle.wjs_lexer.specs.declared.numbers.Base.{Base}
 use Rattle.wjs_lexer.specs.declared.numbers.Base.TheVariants as bases
-use Rattle.wjs_lexer.specs.Characters.{is_blank, is_line_end, starts_name, is_decimal, kind_of}
-use Rattle.wjs_lexer.specs.Places.{passes}
+use Rattle.wjs_lexer.specs.Characters.{is_blank, is_line_end, starts_name, is_decimal}
+use Rattle.wjs_lexer.specs.KindSteps.{kind_of}
 use Rattle.wjs_lexer.specs.Signs.{Spells}
 use Rattle.wjs_lexer.specs.Numbers.{IsZero, IsNumeral, is_bound_to_number}
 use Rattle.wjs_lexer.specs.Strings.{is_quote}

@@ -1,6 +1,5 @@
 -- A text has one reading.
-use Rattle.std.proofs.Common.{◌≡◌, ℕ, ◌+◌, ◌<◌, ◌≤◌, ◌⊎◌, inl, inr, Bool, true, false, ◌||◌, refl, subst, sym, ◌∙◌, ap, arith, List, [], ◌∷◌, Option, Some, None, length}
-use Rattle.std.specs.Prelude.{slice_get}
+use Rattle.std.proofs.Common.{◌≡◌, ℕ, ◌<◌, ◌⊎◌, inl, inr, Bool, true, false, ◌||◌, refl, subst, sym, ◌∙◌, ap, arith, List, ◌∷◌, length}
 use Rattle.std.proofs.lemmas.Option.{slice_get_past}
 use Rattle.wjs_lexer.specs.Places.{byte_at, line_at}
 use Rattle.wjs_lexer.specs.Pieces.{Piece, PieceAt, NoPieceAt}

@@ -1,5 +1,5 @@
 -- What was read is the number that stands there, or none stands there.
-use Rattle.std.proofs.Common.{◌≡◌, ℕ, ◌+◌, ◌-◌, ◌*◌, ◌^◌, ◌<◌, ◌≤◌, ◌⊎◌, inl, inr, Bool, true, false, ◌||◌, ◌==◌, refl, subst, sym, ◌∙◌, ap, arith, List, [], ◌∷◌, ◌++◌, Option, Some, None, length, take, drop}
+use Rattle.std.proofs.Common.{◌≡◌, ℕ, ◌+◌, ◌-◌, ◌*◌, ◌^◌, ◌<◌, ◌≤◌, ◌⊎◌, inl, inr, Bool, true, false, ◌||◌, ◌==◌, refl, subst, sym, ◌∙◌, ap, arith, List, Option, Some, None, drop}
 use Rattle.std.specs.Prelude.{slice_get, slice_range, if◌then◌else◌}
 use Rattle.std.specs.Int.{is_in_range}
 use Rattle.std.specs.Char.{is_digit, digit_value}
@@ -12,14 +12,13 @@ use Rattle.std.proofs.lemmas.List.{take-take}
 use Rattle.unicode_ident.proofs.Computing.{unicode_ident}
 use Rattle.wjs_lexer.specs.declared.numbers.Base.{Base}
 use Rattle.wjs_lexer.specs.declared.numbers.Base.TheVariants as bases
-use Rattle.wjs_lexer.specs.declared.characters.Kind.{Kind}
 use Rattle.wjs_lexer.specs.declared.characters.Kind.TheVariants as kinds
-use Rattle.wjs_lexer.specs.Characters.{starts_name, is_decimal, kind_of}
+use Rattle.wjs_lexer.specs.Characters.{starts_name, is_decimal}
 use Rattle.wjs_lexer.specs.Places.{AllPass, passes}
 use Rattle.wjs_lexer.specs.Numbers.{radix, digits_from, is_x, Opens, IsNumeral, IsZero, is_bound_to_number, IsNumber}
-use Rattle.wjs_lexer.specs.Pieces.{Piece, space, line_end, line_comment, block_comment, word, key, sign, number, text, StandsAt, PieceAt, NoPieceAt}
+use Rattle.wjs_lexer.specs.Pieces.{Piece, number, StandsAt, PieceAt, NoPieceAt}
 use Rattle.wjs_lexer.specs.Cursors.{digit_here, DigitsEnd, TooBig}
-use Rattle.wjs_lexer.proofs.Ranges.{range_none, range_more, pass_more, clash, passes_at, passed, same_char}
+use Rattle.wjs_lexer.proofs.Ranges.{range_none, range_more, pass_more, clash, same_char}
 use Rattle.wjs_lexer.proofs.KindLemmas.{fits, fits_kind, digit_kind, hex_bound}
 
 -- a digit that stands at a place

@@ -1,16 +1,15 @@
 -- The tokens so far, and one more piece.
-use Rattle.std.proofs.Common.{◌≡◌, ℕ, ◌+◌, ◌<◌, ◌≤◌, ◌^◌, ◌*◌, ◌⊎◌, inl, inr, Bool, true, false, ◌||◌, ◌==◌, refl, subst, sym, ◌∙◌, ap, arith, List, [], ◌∷◌, ◌++◌, Option, Some, None, length, get_or, append_assoc, length-append, if◌then◌else◌}
+use Rattle.std.proofs.Common.{◌≡◌, ℕ, ◌+◌, ◌<◌, ◌≤◌, ◌^◌, ◌⊎◌, inl, inr, Bool, true, false, ◌||◌, ◌==◌, refl, subst, sym, ◌∙◌, ap, arith, List, [], ◌∷◌, ◌++◌, Option, Some, None, length, get_or, append_assoc, length-append, if◌then◌else◌}
 use Rattle.std.proofs.lemmas.Bool.Decides.{nat_tests}
 use Rattle.std.proofs.Math.ListN.{get_or-append}
 use Rattle.std.specs.Prelude.{slice_get}
 use Rattle.std.proofs.lemmas.List.{append-nil}
 use Rattle.std.proofs.lemmas.Option.{slice_get_within, slice_get-get_or, get_or_from_slice_get}
-use Rattle.wjs_base.specs.Text.{Table, Units, Denotes, Grows}
+use Rattle.wjs_base.specs.Text.{Table, Denotes, Grows}
 use Rattle.wjs_base.specs.declared.ids.TextId.{TextId}
 use Rattle.wjs_tree.specs.declared.tokens.Token.{Token}
 use Rattle.wjs_tree.specs.declared.tokens.Token.TheVariants as tokens
 use Rattle.wjs_tree.specs.declared.tokens.Tok.{Tok}
-use Rattle.wjs_tree.specs.declared.signs.Sign.{Sign}
 use Rattle.wjs_tree.specs.Signs.{spelling}
 use Rattle.wjs_lexer.specs.declared.cursor.Cursor.{Cursor}
 use Rattle.wjs_lexer.specs.declared.numbers.Base.{Base}
@@ -19,15 +18,14 @@ use Rattle.wjs_lexer.specs.Places.{passes, byte_at, line_at}
 use Rattle.wjs_lexer.specs.Numbers.{digits_from, IsZero, IsNumeral}
 use Rattle.wjs_lexer.specs.Strings.{Body, close, more}
 use Rattle.wjs_lexer.specs.Pieces.{Piece, space, line_end, line_comment, block_comment, word, key, sign, number, text, StandsAt, PieceAt, NoPieceAt}
-use Rattle.wjs_lexer.specs.Readings.{Placed, is_token, has_line, placed_at, Reads, done, skipping, taking, AreTokens, StopsAt}
+use Rattle.wjs_lexer.specs.Readings.{Placed, is_token, has_line, placed_at, Reads, done, skipping, taking, StopsAt}
 use Rattle.wjs_lexer.specs.Cursors.{IsPlaced}
 use Rattle.wjs_lexer.specs.Lexing.{Means, IsTok, AreToks, start}
 use Rattle.wjs_lexer.specs.declared.lexing.LexFault.{LexFault}
 use Rattle.wjs_lexer.specs.declared.lexing.LexFault.TheVariants as faults
 use Rattle.wjs_lexer.specs.declared.lexing.Step.{Step}
 use Rattle.wjs_lexer.specs.declared.lexing.Step.TheVariants as steps
-use Rattle.wjs_lexer.specs.Steps.{Lexes, StopsHere, Takes, Skips, Goes, StepFault, ReadFault}
-use Rattle.wjs_lexer.proofs.Parts.{part_sized}
+use Rattle.wjs_lexer.specs.Steps.{Lexes, Takes, Skips, Goes, StepFault, ReadFault}
 use Rattle.wjs_lexer.proofs.SlashFound.{spells_length}
 use Rattle.wjs_lexer.proofs.SignsAhead.{positive}
 

@@ -1,10 +1,8 @@
 -- A part of a string literal is within the text, and has no more units than bytes.
-use Rattle.std.proofs.Common.{◌≡◌, ℕ, zero, suc, ◌+◌, ◌-◌, ◌<◌, ◌≤◌, ◌⊎◌, inl, inr, Bool, true, false, not, cond, ◌&&◌, ◌||◌, ◌==◌, refl, subst, sym, ◌∙◌, ap, arith, List, [], ◌∷◌, ◌++◌, Option, Some, None, length, take, drop, length-drop, add-one, get_or}
+use Rattle.std.proofs.Common.{◌≡◌, ℕ, zero, suc, ◌+◌, ◌-◌, ◌<◌, ◌≤◌, ◌⊎◌, inl, inr, Bool, true, false, cond, ◌&&◌, ◌||◌, ◌==◌, refl, subst, ◌∙◌, ap, arith, List, [], ◌∷◌, Option, Some, None, length, drop, length-drop, get_or}
 use Rattle.std.specs.Prelude.{slice_get, slice_range, nat_lt, if◌then◌else◌}
-use Rattle.std.specs.Char.{is_digit, len_utf8}
+use Rattle.std.specs.Char.{len_utf8}
 use Rattle.std.specs.Char.Escape.{encode_utf16}
-use Rattle.std.specs.List.{list_all}
-use Rattle.std.specs.Str.Parse.{digits_value}
 use Rattle.std.proofs.lemmas.Bool.{and_parts}
 use Rattle.std.proofs.lemmas.Bool.Decides.{nat_tests}
 use Rattle.std.proofs.lemmas.List.{length-take}

@@ -1,5 +1,5 @@
 -- A step of the cursor.
-use Rattle.std.proofs.Common.{◌≡◌, ℕ, suc, ◌+◌, ◌<◌, ◌≤◌, ◌^◌, ◌*◌, Some, refl, sym, ◌∙◌, ap, arith, List, length, add-one, rules, slice_get, get_or}
+use Rattle.std.proofs.Common.{◌≡◌, ℕ, ◌+◌, ◌<◌, ◌≤◌, Some, refl, sym, ◌∙◌, ap, arith, List, length, add-one, slice_get}
 use Rattle.std.specs.Char.{len_utf8}
 use Rattle.wjs_lexer.specs.declared.cursor.Cursor.{Cursor}
 use Rattle.wjs_lexer.specs.Places.{byte_at, line_at, line_step, bytes_of}

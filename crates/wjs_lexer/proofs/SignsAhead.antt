@@ -1,10 +1,9 @@
 -- The longest sign is reached character by character, since what begins a sign is a sign.
-use Rattle.std.proofs.Common.{◌≡◌, ℕ, ◌+◌, ◌<◌, ◌≤◌, ◌⊎◌, inl, inr, Bool, true, false, cond, ◌==◌, refl, subst, sym, ◌∙◌, ap, arith, List, [], ◌∷◌, ◌++◌, Option, Some, None, length, if◌then◌else◌, get_or}
+use Rattle.std.proofs.Common.{◌≡◌, ℕ, ◌+◌, ◌<◌, ◌⊎◌, inl, inr, Bool, true, false, cond, ◌==◌, refl, subst, arith, List, [], ◌∷◌, ◌++◌, Option, Some, None, length}
 use Rattle.std.specs.Prelude.{slice_get}
 use Rattle.std.proofs.lemmas.Bool.Decides.{nat_tests}
 use Rattle.wjs_tree.specs.declared.signs.Sign.{Sign}
 use Rattle.wjs_tree.specs.declared.signs.Sign.TheVariants as signs
-use Rattle.wjs_lexer.specs.Places.{passes}
 use Rattle.wjs_tree.specs.Signs.{spelling}
 use Rattle.wjs_lexer.specs.Signs.{Spells}
 use Rattle.wjs_lexer.specs.SignSteps.{sign_of, longer, with_equals, with_plus, with_minus, with_less, with_greater, with_and, with_or}

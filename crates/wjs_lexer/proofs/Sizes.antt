@@ -1,8 +1,7 @@
 -- A piece of a short text has a short text's units.
-use Rattle.std.proofs.Common.{◌≡◌, ℕ, zero, suc, ◌+◌, ◌-◌, ◌<◌, ◌≤◌, ◌^◌, ◌⊎◌, inl, inr, Bool, true, false, refl, subst, sym, ◌∙◌, ap, arith, List, [], ◌∷◌, ◌++◌, Option, Some, None, length, take, drop, get_or, length-append, add-one}
-use Rattle.std.specs.Prelude.{slice_get, slice_range}
+use Rattle.std.proofs.Common.{◌≡◌, ℕ, zero, suc, ◌+◌, ◌-◌, ◌<◌, ◌≤◌, ◌^◌, refl, sym, ◌∙◌, ap, arith, List, [], ◌∷◌, ◌++◌, length, take, drop, get_or, length-append, add-one}
+use Rattle.std.specs.Prelude.{slice_range}
 use Rattle.std.specs.List.{flat_map}
-use Rattle.std.specs.Str.{encode_utf8_all}
 use Rattle.std.specs.Char.{len_utf8}
 use Rattle.std.specs.Char.Escape.{encode_utf16}
 use Rattle.std.proofs.Math.Utf8.{encode, encodes}
@@ -10,12 +9,11 @@ use Rattle.std.proofs.lemmas.Str.{encodes-append, length-encode}
 use Rattle.std.proofs.lemmas.List.{take_more, take_all, take-append-drop}
 use Rattle.std.proofs.lemmas.Option.{slice_get_within, slice_get-get_or}
 use Rattle.wjs_base.specs.Text.{longest}
-use Rattle.wjs_lexer.specs.declared.strings.Part.{Part}
 use Rattle.wjs_lexer.specs.Places.{byte_at, bytes_of}
 use Rattle.wjs_lexer.specs.Strings.{Body, close, more, units_of, IsText}
 use Rattle.wjs_lexer.specs.Pieces.{Piece, space, line_end, line_comment, block_comment, word, key, sign, number, text, StandsAt}
 use Rattle.wjs_lexer.specs.Steps.{IsShort, Fitting}
-use Rattle.wjs_lexer.proofs.Parts.{byte_up, utf16_le, part_sized, Sized}
+use Rattle.wjs_lexer.proofs.Parts.{byte_up, utf16_le, part_sized}
 
 add_nothing : (a b : ℕ) → a ≡ b → a + 0 ≡ b
 add_nothing a b e = omega (arith, e)

@@ -1,5 +1,5 @@
 -- What was read is the comment or the sign that stands there, or none stands there.
-use Rattle.std.proofs.Common.{◌≡◌, ℕ, ◌+◌, ◌-◌, ◌<◌, ◌≤◌, ◌⊎◌, inl, inr, Bool, true, false, not, ◌||◌, ◌==◌, refl, subst, sym, ◌∙◌, ap, arith, List, [], ◌∷◌, ◌++◌, Option, Some, None, length, get_or, append_assoc}
+use Rattle.std.proofs.Common.{◌≡◌, ℕ, ◌+◌, ◌<◌, ◌≤◌, ◌⊎◌, inl, inr, Bool, true, false, not, ◌||◌, ◌==◌, refl, subst, sym, ◌∙◌, ap, arith, List, [], ◌∷◌, Option, Some, None, length, get_or}
 use Rattle.std.specs.Prelude.{slice_get, slice_range}
 use Rattle.std.specs.List.{list_any}
 use Rattle.std.proofs.lemmas.Bool.{cases_order}
@@ -8,15 +8,15 @@ use Rattle.std.proofs.lemmas.List.Folds.{list_any-append}
 use Rattle.wjs_tree.specs.declared.signs.Sign.{Sign}
 use Rattle.wjs_tree.specs.declared.signs.Sign.TheVariants as signs
 use Rattle.wjs_tree.specs.Signs.{spelling}
-use Rattle.wjs_lexer.specs.declared.characters.Kind.{Kind}
 use Rattle.wjs_lexer.specs.declared.characters.Kind.TheVariants as kinds
-use Rattle.wjs_lexer.specs.Characters.{is_line_end, kind_of}
+use Rattle.wjs_lexer.specs.Characters.{is_line_end}
+use Rattle.wjs_lexer.specs.KindSteps.{kind_of}
 use Rattle.wjs_lexer.specs.Places.{AllPass, passes}
 use Rattle.wjs_lexer.specs.Comments.{LineComment, BlockComment, Closes}
 use Rattle.wjs_lexer.specs.Signs.{Spells, is_bound_to, IsSign}
 use Rattle.wjs_lexer.specs.SignSteps.{sign_of}
 use Rattle.wjs_lexer.specs.Cursors.{BeginsSign}
-use Rattle.wjs_lexer.specs.Pieces.{Piece, space, line_end, line_comment, block_comment, word, key, sign, number, text, StandsAt, PieceAt, NoPieceAt}
+use Rattle.wjs_lexer.specs.Pieces.{Piece, line_comment, block_comment, sign, StandsAt, PieceAt, NoPieceAt}
 use Rattle.wjs_lexer.proofs.Ranges.{clash, same_char, range_none, range_more}
 use Rattle.wjs_lexer.proofs.KindLemmas.{fits, fits_kind, slash_kind, sign_first}
 use Rattle.wjs_lexer.proofs.SignsAhead.{Longest, read, bind, reads_spelling, grown, positive}

@@ -1,16 +1,15 @@
 -- White space and line terminators; and nothing stands at the end.
-use Rattle.std.proofs.Common.{◌≡◌, ℕ, ◌+◌, ◌<◌, ◌⊎◌, inl, inr, Bool, true, false, refl, sym, ◌∙◌, List, [], ◌∷◌, Option, Some, None, length, arith}
+use Rattle.std.proofs.Common.{◌≡◌, ℕ, ◌+◌, ◌<◌, ◌⊎◌, inl, inr, Bool, true, refl, sym, ◌∙◌, List, [], ◌∷◌, Option, Some, None, length, arith}
 use Rattle.std.specs.Prelude.{slice_get}
-use Rattle.wjs_tree.specs.declared.signs.Sign.{Sign}
 use Rattle.wjs_tree.specs.Signs.{spelling}
-use Rattle.wjs_lexer.specs.declared.characters.Kind.{Kind}
 use Rattle.wjs_lexer.specs.declared.characters.Kind.TheVariants as kinds
 use Rattle.wjs_lexer.specs.declared.numbers.Base.{Base}
 use Rattle.wjs_lexer.specs.declared.numbers.Base.TheVariants as bases
-use Rattle.wjs_lexer.specs.Characters.{is_blank, is_line_end, starts_name, kind_of}
+use Rattle.wjs_lexer.specs.Characters.{is_blank, is_line_end, starts_name}
+use Rattle.wjs_lexer.specs.KindSteps.{kind_of}
 use Rattle.wjs_lexer.specs.Places.{passes}
 use Rattle.wjs_lexer.specs.Numbers.{IsZero, IsNumeral}
-use Rattle.wjs_lexer.specs.Signs.{Spells, IsSign}
+use Rattle.wjs_lexer.specs.Signs.{Spells}
 use Rattle.wjs_lexer.specs.Pieces.{Piece, space, line_end, line_comment, block_comment, word, key, sign, number, text, StandsAt, PieceAt, NoPieceAt}
 use Rattle.wjs_lexer.proofs.Ranges.{passes_at}
 use Rattle.wjs_lexer.proofs.KindLemmas.{fits, fits_kind, blank_of, line_of}

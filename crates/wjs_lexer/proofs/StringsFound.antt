@@ -1,14 +1,13 @@
 -- What was read is the string literal that stands there, or none stands there.
-use Rattle.std.proofs.Common.{◌≡◌, ℕ, ◌+◌, ◌-◌, ◌<◌, ◌≤◌, ◌⊎◌, inl, inr, Bool, true, false, not, ◌||◌, ◌==◌, refl, subst, sym, ◌∙◌, ap, arith, List, [], ◌∷◌, ◌++◌, Option, Some, None, length, get_or, append_assoc}
+use Rattle.std.proofs.Common.{◌≡◌, ℕ, ◌+◌, inr, Bool, true, false, ◌||◌, ◌==◌, refl, subst, sym, ◌∙◌, ap, arith, List, [], ◌++◌, Option, Some, None, append_assoc}
 use Rattle.std.specs.Prelude.{slice_get, if◌then◌else◌}
 use Rattle.std.proofs.lemmas.List.{append-nil}
 use Rattle.std.proofs.lemmas.Bool.Decides.{nat_tests}
 use Rattle.wjs_lexer.specs.declared.strings.Part.{Part}
-use Rattle.wjs_lexer.specs.declared.characters.Kind.{Kind}
 use Rattle.wjs_lexer.specs.declared.characters.Kind.TheVariants as kinds
-use Rattle.wjs_lexer.specs.Characters.{is_line_end, kind_of}
-use Rattle.wjs_lexer.specs.Strings.{part_of, part_at, units_of, escape_at, Body, close, more, is_quote, IsText}
-use Rattle.wjs_lexer.specs.Pieces.{Piece, space, line_end, line_comment, block_comment, word, key, sign, number, text, StandsAt, PieceAt, NoPieceAt}
+use Rattle.wjs_lexer.specs.Characters.{is_line_end}
+use Rattle.wjs_lexer.specs.Strings.{part_of, part_at, units_of, Body, close, more, is_quote, IsText}
+use Rattle.wjs_lexer.specs.Pieces.{Piece, text, StandsAt, PieceAt, NoPieceAt}
 use Rattle.wjs_lexer.proofs.Ranges.{same_char}
 use Rattle.wjs_lexer.proofs.KindLemmas.{fits, fits_kind, quote_kind}
 

@@ -1,5 +1,5 @@
 -- Facts at a place of the same text.
-use Rattle.std.proofs.Common.{◌≡◌, ℕ, ◌+◌, ◌<◌, ◌≤◌, Bool, refl, subst, sym, ◌∙◌, ap, arith, List, Option, Some, None, length, get_or}
+use Rattle.std.proofs.Common.{◌≡◌, ℕ, ◌≤◌, Bool, subst, sym, ◌∙◌, ap, arith, List, Some, None}
 use Rattle.std.specs.Prelude.{slice_get}
 use Rattle.std.proofs.lemmas.Option.{slice_get_within, slice_get-get_or}
 use Rattle.wjs_lexer.specs.Places.{passes}

@@ -1,18 +1,18 @@
 -- What was read is the identifier or the reserved word that stands there.
-use Rattle.std.proofs.Common.{◌≡◌, ℕ, ◌+◌, ◌<◌, ◌≤◌, ◌⊎◌, inl, inr, Bool, true, false, refl, subst, sym, ◌∙◌, ap, arith, List, Option, Some, None}
+use Rattle.std.proofs.Common.{◌≡◌, ℕ, ◌+◌, ◌<◌, ◌⊎◌, inl, inr, true, false, refl, sym, ◌∙◌, ap, arith, List, Option, Some, None}
 use Rattle.std.specs.Prelude.{slice_get, slice_range}
 use Rattle.std.specs.List.{flat_map}
 use Rattle.std.specs.Char.Escape.{encode_utf16}
 use Rattle.std.proofs.lemmas.Bool.{cases_order}
 use Rattle.wjs_tree.specs.declared.keys.Key.{Key}
 use Rattle.wjs_tree.specs.Keys.{spelling}
-use Rattle.wjs_lexer.specs.declared.characters.Kind.{Kind}
 use Rattle.wjs_lexer.specs.declared.characters.Kind.TheVariants as kinds
-use Rattle.wjs_lexer.specs.Characters.{starts_name, continues_name, kind_of}
+use Rattle.wjs_lexer.specs.Characters.{starts_name, continues_name}
+use Rattle.wjs_lexer.specs.KindSteps.{kind_of}
 use Rattle.wjs_lexer.specs.Places.{AllPass, passes}
 use Rattle.wjs_lexer.specs.Words.{Name, IsWord, IsKey}
-use Rattle.wjs_lexer.specs.Pieces.{Piece, space, line_end, line_comment, block_comment, word, key, sign, number, text, StandsAt, PieceAt}
-use Rattle.wjs_lexer.proofs.Ranges.{clash, passed}
+use Rattle.wjs_lexer.specs.Pieces.{Piece, word, key, StandsAt, PieceAt}
+use Rattle.wjs_lexer.proofs.Ranges.{clash}
 use Rattle.wjs_lexer.proofs.KindLemmas.{fits, fits_kind, letter_kind}
 use Rattle.wjs_lexer.proofs.KeysFound.{spelled_once}
 

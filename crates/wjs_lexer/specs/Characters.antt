@@ -1,9 +1,7 @@
 -- The kinds of characters. A text is a list of characters, each by its code point.
-use Rattle.std.specs.Prelude.{ℕ, Bool, true, false, ◌||◌, ◌==◌, if◌then◌else◌}
+use Rattle.std.specs.Prelude.{ℕ, Bool, ◌||◌, ◌==◌}
 use Rattle.std.specs.Int.{is_in_range}
 use Rattle.unicode_ident.specs.Ident.{is_xid_start, is_xid_continue}
-use Rattle.wjs_lexer.specs.declared.characters.Kind.{Kind}
-use Rattle.wjs_lexer.specs.declared.characters.Kind.TheVariants as kinds
 
 -- white space: TAB, VT, FF, the space and the spaces of Unicode (ECMA-262, 3rd edition, section
 -- 7.2)
@@ -25,9 +23,3 @@ continues_name c = (c == 36) || is_xid_continue c
 -- `0` to `9`
 abbrev pub is_decimal : ℕ → Bool
 is_decimal c = is_in_range 48 57 c
-
--- the kind of a character, which tells the kinds of piece that may begin with it
-abbrev pub kind_of : ℕ → Kind
-kind_of c =
-    if is_blank c then kinds.Space else (if is_line_end c then kinds.LineEnd else (if starts_name c then kinds.Letter else (if is_decimal c then kinds.Digit else (
-    if c == 47 then kinds.Slash else (if (c == 34) || (c == 39) then kinds.Quote else kinds.Mark)))))

@@ -1,5 +1,5 @@
 -- Comments (ECMA-262, 3rd edition, section 7.4).
-use Rattle.std.specs.Prelude.{◌≡◌, ℕ, ◌+◌, ◌<◌, ◌≤◌, Bool, true, false, not, List, Option, Some, slice_get, slice_range}
+use Rattle.std.specs.Prelude.{◌≡◌, ℕ, ◌+◌, ◌<◌, ◌≤◌, Bool, false, not, List, Some, slice_get, slice_range}
 use Rattle.std.specs.List.{list_any}
 use Rattle.wjs_lexer.specs.Characters.{is_line_end}
 use Rattle.wjs_lexer.specs.Places.{passes, AllPass}

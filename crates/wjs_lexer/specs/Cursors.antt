@@ -1,9 +1,8 @@
 -- What the readers of pieces promise of a cursor.
-use Rattle.std.specs.Prelude.{◌≡◌, ℕ, ◌+◌, ◌*◌, ◌^◌, ◌<◌, ◌≤◌, ◌⊎◌, Bool, true, false, not, List, Option, Some, None, length, slice_get, slice_range}
+use Rattle.std.specs.Prelude.{◌≡◌, ℕ, ◌+◌, ◌*◌, ◌^◌, ◌<◌, ◌≤◌, ◌⊎◌, Bool, false, not, List, Option, Some, None, length, slice_get, slice_range}
 use Rattle.std.specs.Char.{is_digit, digit_value}
 use Rattle.std.specs.Str.Parse.{digits_value}
 use Rattle.std.specs.Prelude.{if◌then◌else◌}
-use Rattle.wjs_tree.specs.declared.keys.Key.{Key}
 use Rattle.wjs_lexer.specs.declared.cursor.Cursor.{Cursor}
 use Rattle.wjs_lexer.specs.declared.numbers.Base.{Base}
 use Rattle.wjs_lexer.specs.declared.pieces.Scanned.{Scanned}
@@ -12,7 +11,8 @@ use Rattle.wjs_tree.specs.declared.signs.Sign.{Sign}
 use Rattle.wjs_lexer.specs.declared.characters.Kind.TheVariants as kinds
 use Rattle.wjs_lexer.specs.SignSteps.{sign_of}
 use Rattle.wjs_lexer.specs.Comments.{Closes, BlockComment}
-use Rattle.wjs_lexer.specs.Characters.{is_line_end, continues_name, kind_of}
+use Rattle.wjs_lexer.specs.Characters.{is_line_end, continues_name}
+use Rattle.wjs_lexer.specs.KindSteps.{kind_of}
 use Rattle.wjs_lexer.specs.Places.{passes, AllPass, byte_at, line_at}
 use Rattle.wjs_lexer.specs.Numbers.{radix}
 use Rattle.wjs_lexer.specs.Pieces.{Piece, space, line_end, line_comment, block_comment, word, key, sign, number, text, PieceAt, NoPieceAt}

@@ -1,14 +1,14 @@
 -- Tokens by content, and what a script's bytes give.
-use Rattle.std.specs.Prelude.{◌≡◌, ℕ, ◌^◌, ◌<◌, ◌≤◌, Bool, true, false, ◌==◌, List, [], ◌∷◌, Option, Some, None, pos, length, slice_get, if◌then◌else◌}
+use Rattle.std.specs.Prelude.{◌≡◌, ℕ, ◌==◌, List, [], ◌∷◌, Some, pos, slice_get, if◌then◌else◌}
 use Rattle.std.specs.Str.{IsUtf8, IsValidUpTo, chars}
-use Rattle.wjs_base.specs.Text.{Table, Denotes, longest}
+use Rattle.wjs_base.specs.Text.{Table, Denotes}
 use Rattle.wjs_tree.specs.declared.tokens.Token.{Token}
 use Rattle.wjs_tree.specs.declared.tokens.Token.TheVariants as tokens
 use Rattle.wjs_tree.specs.declared.tokens.Tok.{Tok}
 use Rattle.wjs_lexer.specs.declared.lexing.LexFault.{LexFault}
 use Rattle.wjs_lexer.specs.declared.lexing.LexFault.TheVariants as faults
 use Rattle.wjs_lexer.specs.Places.{passes}
-use Rattle.wjs_lexer.specs.Pieces.{Piece, space, line_end, line_comment, block_comment, word, key, sign, number, text}
+use Rattle.wjs_lexer.specs.Pieces.{Piece, word, key, sign, number, text}
 use Rattle.wjs_lexer.specs.Readings.{Placed, AreTokens, StopsAt}
 
 -- the token is this piece: its key, its sign, its number, or the number that its units have in the

@@ -10,6 +10,7 @@ pub mod Pieces
 pub mod Readings
 pub mod Cursors
 pub mod KeySteps
+pub mod KindSteps
 pub mod Lexing
 pub mod Steps
 pub mod Laws

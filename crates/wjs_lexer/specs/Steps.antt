@@ -10,7 +10,7 @@ use Rattle.wjs_lexer.specs.declared.lexing.LexFault.TheVariants as faults
 use Rattle.wjs_lexer.specs.declared.lexing.Step.{Step}
 use Rattle.wjs_lexer.specs.declared.lexing.Step.TheVariants as steps
 use Rattle.wjs_lexer.specs.Places.{byte_at, line_at}
-use Rattle.wjs_lexer.specs.Pieces.{Piece, space, line_end, line_comment, block_comment, word, key, sign, number, text, PieceAt, NoPieceAt}
+use Rattle.wjs_lexer.specs.Pieces.{Piece, word, number, text, PieceAt, NoPieceAt}
 use Rattle.wjs_lexer.specs.Readings.{Placed, is_token, has_line, AreTokens, StopsAt}
 use Rattle.wjs_lexer.specs.Cursors.{IsPlaced}
 use Rattle.wjs_lexer.specs.Lexing.{Means, AreToks, start, IsNoText}

@@ -1,6 +1,7 @@
 //! The kinds of characters.
 ghost use Rattle.std.specs.Prelude.{◌≡◌};
-ghost use Rattle.wjs_lexer.specs.Characters.{is_blank, is_line_end, starts_name, continues_name, kind_of};
+ghost use Rattle.wjs_lexer.specs.Characters.{is_blank, is_line_end, starts_name, continues_name};
+ghost use Rattle.wjs_lexer.specs.KindSteps.{kind_of};
 
 /// The kind of a character, which tells the kinds of piece that may begin with it.
 #[derive(Clone, Copy, Debug, PartialEq, Eq)]

@@ -3,7 +3,7 @@ ghost use Rattle.std.specs.Prelude.{◌≡◌, ◌<◌, ℕ, List, Some, slice_g
 ghost use Rattle.wjs_lexer.specs.SignSteps.{sign_of, longer, with_equals, with_plus, with_minus, with_less, with_greater, with_and, with_or};
 ghost use Rattle.wjs_lexer.specs.Signs.{is_bound_to};
 ghost use Rattle.wjs_lexer.specs.Places.{passes};
-ghost use Rattle.wjs_lexer.specs.Characters.{kind_of};
+ghost use Rattle.wjs_lexer.specs.KindSteps.{kind_of};
 ghost use Rattle.wjs_lexer.specs.declared.characters.Kind.TheVariants.{Mark};
 ghost use Rattle.wjs_lexer.specs.Cursors.{IsPlaced, ReadsPiece, BeginsSign};
 

@@ -1,12 +1,10 @@
-use Rattle.std.proofs.Common.{◌≡◌, List, ℕ, ◌<◌, ◌≤◌, ◌^◌, Result, Ok, Err, IfOk, IfErr, sym, ◌∙◌, refl, ap, arith, subst, length}
-use Rattle.std.specs.Str.{chars, IsUtf8, encode_utf8_all}
-use Rattle.std.proofs.Math.Utf8.{encodes}
+use Rattle.std.proofs.Common.{◌≡◌, List, ℕ, ◌≤◌, ◌^◌, Result, Ok, Err, IfOk, IfErr, sym, ◌∙◌, ap, arith, subst, length}
+use Rattle.std.specs.Str.{chars, IsUtf8}
 use Rattle.std.proofs.lemmas.Str.{chars_from_encodes}
 use Rattle.wjs_base.specs.Text.{Table}
 use Rattle.wjs_tree.specs.declared.tokens.Tok.{Tok}
 use Rattle.wjs_lexer.specs.declared.lexing.LexFault.{LexFault}
 use Rattle.wjs_lexer.specs.declared.lexing.LexFault.TheVariants as faults
-use Rattle.wjs_lexer.specs.Places.{byte_at}
 use Rattle.wjs_lexer.specs.Lexing.{HasTokens, HasFault, start}
 use Rattle.wjs_lexer.specs.Steps.{IsShort, AreChars, Lexes, ReadFault}
 use Rattle.wjs_lexer.proofs.Sizes.{bytes_all}

@@ -1,6 +1,4 @@
-use Rattle.std.proofs.Common.{◌≡◌, List, ℕ, ◌<◌, ◌≤◌, ◌||◌, false, sym, ◌∙◌, refl, ap, arith, subst, length}
-use Rattle.wjs_lexer.specs.Places.{byte_at, line_at}
-use Rattle.wjs_lexer.specs.Readings.{is_token}
+use Rattle.std.proofs.Common.{List, ℕ, ◌∙◌, ap, arith, length}
 use Rattle.wjs_lexer.specs.Lexing.{start}
 use Rattle.wjs_lexer.proofs.Sizes.{short_length}
 use Rattle.wjs_lexer.proofs.Onward.{finished, forward, grown, takes_on, skips_on, fault_of, as_takes, as_skips}

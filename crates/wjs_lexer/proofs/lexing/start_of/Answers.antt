@@ -1,4 +1,4 @@
-use Rattle.std.proofs.Common.{refl, sym}
+use Rattle.std.proofs.Common.{refl}
 use Rattle.wjs_lexer.proofs.Onward.{start_placed, starts_none}
 use Rattle.wjs_lexer.proofs.lexing.start_of.Goals as goal
 

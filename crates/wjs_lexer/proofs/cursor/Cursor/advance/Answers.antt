@@ -1,4 +1,4 @@
-use Rattle.std.proofs.Common.{refl, get_or, arith}
+use Rattle.std.proofs.Common.{refl, get_or}
 use Rattle.std.proofs.lemmas.Option.{slice_get-get_or}
 use Rattle.wjs_lexer.proofs.Places.{advanced}
 use Rattle.wjs_lexer.proofs.cursor.Cursor.advance.Goals as goal

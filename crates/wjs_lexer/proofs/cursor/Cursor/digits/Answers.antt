@@ -1,5 +1,4 @@
-use Rattle.std.proofs.Common.{◌≡◌, ℕ, ◌+◌, ◌*◌, ◌<◌, ◌≤◌, ◌^◌, Some, List, refl, sym, ap, ◌∙◌, subst, arith}
-use Rattle.std.specs.Prelude.{slice_get}
+use Rattle.std.proofs.Common.{◌≡◌, ℕ, ◌+◌, ◌*◌, refl, ◌∙◌, arith}
 use Rattle.std.specs.Char.{is_digit, digit_value}
 use Rattle.std.proofs.lemmas.Option.{slice_get_within}
 use Rattle.wjs_lexer.specs.Numbers.{radix}

@@ -1,5 +1,5 @@
-use Rattle.std.proofs.Common.{◌≡◌, ℕ, ◌<◌, List, sym, ◌∙◌, arith}
-use Rattle.wjs_lexer.specs.Numbers.{digits_from, is_bound_to_number}
+use Rattle.std.proofs.Common.{sym, ◌∙◌, arith}
+use Rattle.wjs_lexer.specs.Numbers.{is_bound_to_number}
 use Rattle.wjs_lexer.specs.Cursors.{DigitsEnd, TooBig}
 use Rattle.wjs_lexer.proofs.Texts.{behind, moved}
 use Rattle.wjs_lexer.proofs.NumbersFound.{numeral_found, numeral_bound, numeral_empty, numeral_big}

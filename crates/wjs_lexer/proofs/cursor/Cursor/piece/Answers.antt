@@ -1,4 +1,4 @@
-use Rattle.std.proofs.Common.{◌≡◌, refl, sym}
+use Rattle.std.proofs.Common.{sym}
 use Rattle.wjs_lexer.proofs.SpacesFound.{space_found, line_end_found}
 use Rattle.wjs_lexer.proofs.cursor.Cursor.piece.Goals as goal
 

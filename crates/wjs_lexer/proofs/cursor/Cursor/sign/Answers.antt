@@ -1,9 +1,7 @@
-use Rattle.std.proofs.Common.{◌≡◌, Some, None, refl, sym, ap, ◌∙◌, subst, arith, List, ℕ}
+use Rattle.std.proofs.Common.{Some, None, sym, ◌∙◌}
 use Rattle.std.proofs.lemmas.Option.{slice_get_within}
-use Rattle.std.specs.Prelude.{slice_get}
-use Rattle.wjs_tree.specs.Signs.{spelling}
-use Rattle.wjs_lexer.specs.Signs.{Spells, is_bound_to}
-use Rattle.wjs_lexer.proofs.SignsAhead.{Ahead, Stops, ahead_begin, ahead_more, ahead_end, spelled_more, spelled_first, stops_at, stops_past}
+use Rattle.wjs_lexer.specs.Signs.{is_bound_to}
+use Rattle.wjs_lexer.proofs.SignsAhead.{Stops, ahead_begin, ahead_more, ahead_end, spelled_more, spelled_first, stops_at, stops_past}
 use Rattle.wjs_lexer.proofs.Ranges.{here}
 use Rattle.wjs_lexer.proofs.Texts.{behind}
 use Rattle.wjs_lexer.proofs.SlashFound.{sign_found, sign_bound}

@@ -1,4 +1,4 @@
-use Rattle.std.proofs.Common.{refl, sym, inr}
+use Rattle.std.proofs.Common.{refl, inr}
 use Rattle.wjs_lexer.proofs.KindLemmas.{slash_kind}
 use Rattle.wjs_lexer.proofs.SlashFound.{line_found, block_found, unclosed}
 use Rattle.wjs_lexer.proofs.cursor.Cursor.slash.Goals as goal

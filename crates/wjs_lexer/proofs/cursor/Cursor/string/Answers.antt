@@ -1,10 +1,9 @@
-use Rattle.std.proofs.Common.{◌≡◌, ℕ, ◌+◌, ◌<◌, ◌≤◌, Some, None, List, refl, sym, ap, ◌∙◌, subst, arith, length}
-use Rattle.std.specs.Prelude.{slice_get}
+use Rattle.std.proofs.Common.{ℕ, ◌+◌, List, sym, ap, ◌∙◌, arith, length}
 use Rattle.std.proofs.lemmas.Option.{slice_get_within}
 use Rattle.wjs_lexer.specs.Strings.{part_at}
 use Rattle.wjs_lexer.proofs.Texts.{some_at}
 use Rattle.wjs_lexer.proofs.Parts.{part_sized}
-use Rattle.wjs_lexer.proofs.StringsFound.{open_begin, open_more, text_found, text_missing}
+use Rattle.wjs_lexer.proofs.StringsFound.{open_more, text_found, text_missing}
 use Rattle.wjs_lexer.proofs.cursor.Cursor.string.Goals as goal
 
 pub advance_by-requires-clause-more : goal.advance_by-requires-clause-more

@@ -1,8 +1,7 @@
-use Rattle.std.proofs.Common.{◌≡◌, refl, sym, ◌∙◌, ap, subst, List, [], ◌++◌, ℕ}
+use Rattle.std.proofs.Common.{◌≡◌, sym, ◌∙◌, ap, List, [], ◌++◌, ℕ}
 use Rattle.std.specs.Prelude.{slice_range}
 use Rattle.std.specs.List.{flat_map}
 use Rattle.std.specs.Char.Escape.{encode_utf16}
-use Rattle.wjs_tree.specs.Keys.{spelling}
 use Rattle.wjs_lexer.proofs.WordsFound.{word_found, key_found}
 use Rattle.wjs_lexer.proofs.cursor.Cursor.word.Goals as goal
 

@@ -1,5 +1,4 @@
 use Rattle.std.proofs.Common.{sym, ◌∙◌}
-use Rattle.wjs_lexer.specs.Places.{passes}
 use Rattle.wjs_lexer.specs.Numbers.{is_bound_to_number}
 use Rattle.wjs_lexer.proofs.NumbersFound.{zero_found, zero_bound}
 use Rattle.wjs_lexer.proofs.Texts.{behind}
