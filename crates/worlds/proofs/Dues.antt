@@ -12,6 +12,7 @@ due_always words bytes none = fault one
   where
     fault : (length words ≡ 1 → ⊥) → ⊥
     fault count = none (refusal [] Usage (codes "usage: worlds")) (usage (record { count = count; is = refl }))
+
     inside : length words ≡ 1 → length bytes ≤ most_bytes → ⊥
     inside count within =
         none (refusal bytes Refused (codes "not built"))
@@ -21,5 +22,6 @@ due_always words bytes none = fault one
           none = λ ss script. none (record { taken = bytes; out = output start ss; err = []; status = Done }) (runs (record { count = count; within = within; statements = ss; script = script; is = refl }));
           is = refl;
         }))
+
     one : length words ≡ 1 → ⊥
     one count = ⊎_elim (λ more. none _ (too_long (record { count = count; more = more; is = refl }))) (λ within. inside count within) (cases_lt most_bytes (length bytes))

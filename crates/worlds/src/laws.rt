@@ -20,8 +20,7 @@ pub fn one_due()
 /// For any words and bytes something is due: it can't be that nothing is.
 pub fn some_due()
     ensures { (words : List (List ℕ)) (bytes : List ℕ) → ¬ ((due : Due) → ¬ (IsDue words bytes due)) }
-{
-}
+{}
 
 /// Where no count of faults rose, a run ends with all that is due, or memory ran out.
 pub fn completeness()
