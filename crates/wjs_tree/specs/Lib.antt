@@ -1,2 +1,13 @@
 pub mod Keys
 pub mod Signs
+pub mod Operators
+pub mod Trees
+pub mod Levels
+pub mod Height
+pub mod Ends
+pub mod Spelling
+pub mod Jumps
+pub mod Formed
+pub mod Shows
+pub mod Children
+pub mod Facts

@@ -1,10 +1,21 @@
-//! Tokens of a script.
+//! Tokens and trees of a script.
 #![tactic(auto)]
 
+mod facts;
 mod keys;
+mod node;
+mod nodes;
+mod operators;
+mod sequence;
 mod signs;
 mod tokens;
 
 pub use keys::Key;
+pub use node::{
+    Clause, Declarator, End, ForInit, Handler, Node, NodeId, Property, PropertyKey, Spelt,
+};
+pub use nodes::{Nodes, Program};
+pub use operators::{AssignOperator, BinaryOperator, PrefixOperator, UpdateOperator};
+pub use sequence::Sequence;
 pub use signs::Sign;
 pub use tokens::{Tok, Token};

@@ -1,0 +1,376 @@
+//! Primary expressions (ECMA-262, 3rd edition, section 11.1, and functions by section 13).
+ghost use Rattle.std.specs.Prelude.{◌≡◌, ◌≤◌, ◌<◌, ◌+◌, ◌-◌, Bool, false, Some, length};
+ghost use Rattle.wjs_tree.specs.Children.{ChildrenBelow};
+ghost use Rattle.wjs_tree.specs.Ends.{HasSign, HasKey};
+ghost use Rattle.wjs_tree.specs.Shows.{Keeps};
+ghost use Rattle.wjs_tree.specs.declared.signs.Sign.TheVariants as signs;
+ghost use Rattle.wjs_tree.specs.declared.keys.Key.TheVariants as keys;
+ghost use Rattle.wjs_parse_expr.specs.Answers.{Answers, Adds, FunctionAnswers, ItemsAnswers, PropertiesAnswers, ValueAnswers, PartEnds, ItemsEnds, PropertiesEnds, ValueEnds, FunctionEnds, from};
+ghost use Rattle.wjs_parse_expr.specs.Reserved.{kind_of};
+ghost use Rattle.wjs_parse_expr.specs.Table.{Holds};
+
+use crate::expr::{assignment, comma};
+use crate::functions::Functions;
+use crate::look::{has_sign, property_at, token_at};
+use crate::parts::{ListedItems, ListedProperties, Part, push_last};
+use std::alloc::Global;
+use wjs_base::OutOfMemory;
+use wjs_tree::{Key, Node, NodeId, Nodes, Property, PropertyKey, Sequence, Sign, Tok, Token};
+
+/// What a reserved word is as an expression.
+#[derive(Clone, Copy, Debug)]
+enum Reserved {
+    This,
+    ThisWorld,
+    Null,
+    Bool(bool),
+    /// It begins a function.
+    Function,
+    /// It is none.
+    Other,
+}
+
+fn kind_of(key: Key) -> Reserved
+    ensures { result ≡ kind_of key }
+{
+    match key {
+        Key::This => Reserved::This,
+        Key::ThisWorld => Reserved::ThisWorld,
+        Key::Null => Reserved::Null,
+        Key::True => Reserved::Bool(true),
+        Key::False => Reserved::Bool(false),
+        Key::Function => Reserved::Function,
+        _ => Reserved::Other,
+    }
+}
+
+/// A name, a literal, a function, or what stands in brackets.
+#[cycle(expression)]
+pub fn primary(
+    alloc: Global,
+    toks: &[Tok],
+    at: usize,
+    no_in: bool,
+    room: u64,
+    functions: &Functions,
+    nodes: &mut Nodes,
+) -> Result<Option<Part>, OutOfMemory>
+    requires held { Holds toks.now functions.now at room nodes.old }
+    ensures keeps { Keeps nodes.old nodes.new }
+    ensures ends { PartEnds toks.now at nodes.new result }
+    ensures answer { Answers (from toks.now functions.now nodes.old at) toks.now 18 no_in room at nodes.new result }
+{
+    if room == 0 {
+        return Ok(None);
+    }
+    if has_sign(toks, at, Sign::OpenParen) {
+        return parens(alloc, toks, at, no_in, room, functions, nodes);
+    }
+    if has_sign(toks, at, Sign::OpenBracket) {
+        return array(alloc, toks, at, no_in, room, functions, nodes);
+    }
+    if has_sign(toks, at, Sign::OpenBrace) {
+        return object(alloc, toks, at, no_in, room, functions, nodes);
+    }
+    match token_at(toks, at) {
+        Some(Token::Word(text)) => leaf(nodes, Node::Name(text), at + 1, true),
+        Some(Token::Number(value)) => leaf(nodes, Node::Number(value), at + 1, false),
+        Some(Token::Text(text)) => leaf(nodes, Node::Text(text), at + 1, false),
+        Some(Token::Key(key)) => keyed(toks, at, key, no_in, room, functions, nodes),
+        Some(Token::Sign(_)) => Ok(None),
+        None => Ok(None),
+    }
+}
+
+fn leaf(
+    nodes: &mut Nodes,
+    node: Node,
+    next: usize,
+    is_target: bool,
+) -> Result<Option<Part>, OutOfMemory>
+    requires { ChildrenBelow (length nodes.old) node }
+    ensures keeps { Keeps nodes.old nodes.new }
+    ensures adds { Adds nodes.new node next is_target result }
+{
+    let node = nodes.add(node)?;
+    Ok(Some(Part {
+        node,
+        next,
+        is_target,
+    }))
+}
+
+/// A reserved word that is an expression, or begins a function.
+fn keyed(
+    toks: &[Tok],
+    at: usize,
+    key: Key,
+    no_in: bool,
+    room: u64,
+    functions: &Functions,
+    nodes: &mut Nodes,
+) -> Result<Option<Part>, OutOfMemory>
+    requires held { Holds toks.now functions.now at room nodes.old }
+    requires below { 0 < room }
+    requires key { HasKey toks.now at key }
+    ensures keeps { Keeps nodes.old nodes.new }
+    ensures ends { PartEnds toks.now at nodes.new result }
+    ensures answer { Answers (from toks.now functions.now nodes.old at) toks.now 18 no_in room at nodes.new result }
+{
+    match kind_of(key) {
+        Reserved::This => leaf(nodes, Node::This, at + 1, false),
+        Reserved::ThisWorld => leaf(nodes, Node::ThisWorld, at + 1, false),
+        Reserved::Null => leaf(nodes, Node::Null, at + 1, false),
+        Reserved::Bool(b) => leaf(nodes, Node::Bool(b), at + 1, false),
+        Reserved::Function => Ok(function(toks, at, no_in, room, functions, nodes)),
+        Reserved::Other => Ok(None),
+    }
+}
+
+/// The function that is read already at the place.
+fn function(
+    toks: &[Tok],
+    at: usize,
+    no_in: bool,
+    room: u64,
+    functions: &Functions,
+    nodes: &Nodes,
+) -> Option<Part>
+    requires held { Holds toks.now functions.now at room nodes.now }
+    requires key { HasKey toks.now at keys.Function }
+    ensures ends { FunctionEnds toks.now at nodes.now result }
+    ensures answer { FunctionAnswers (from toks.now functions.now nodes.now at) toks.now no_in room at nodes.now result }
+{
+    let Some((node, next)) = functions.at(at) else {
+        return None;
+    };
+    if nodes.height(node) > room {
+        return None;
+    }
+    Some(Part {
+        node,
+        next,
+        is_target: false,
+    })
+}
+
+/// An expression in parentheses.
+#[cycle(expression)]
+fn parens(
+    alloc: Global,
+    toks: &[Tok],
+    at: usize,
+    no_in: bool,
+    room: u64,
+    functions: &Functions,
+    nodes: &mut Nodes,
+) -> Result<Option<Part>, OutOfMemory>
+    requires held { Holds toks.now functions.now at room nodes.old }
+    requires below { 0 < room }
+    requires sign { HasSign toks.now at signs.OpenParen }
+    ensures keeps { Keeps nodes.old nodes.new }
+    ensures ends { PartEnds toks.now at nodes.new result }
+    ensures answer { Answers (from toks.now functions.now nodes.old at) toks.now 18 no_in room at nodes.new result }
+{
+    let Some(inner) = comma(alloc, toks, at + 1, false, room - 1, functions, nodes)? else {
+        return Ok(None);
+    };
+    if !has_sign(toks, inner.next, Sign::CloseParen) {
+        return Ok(None);
+    }
+    let node = nodes.add(Node::Paren(inner.node))?;
+    Ok(Some(Part {
+        node,
+        next: inner.next + 1,
+        is_target: inner.is_target,
+    }))
+}
+
+/// An array literal.
+#[cycle(expression)]
+fn array(
+    alloc: Global,
+    toks: &[Tok],
+    at: usize,
+    no_in: bool,
+    room: u64,
+    functions: &Functions,
+    nodes: &mut Nodes,
+) -> Result<Option<Part>, OutOfMemory>
+    requires held { Holds toks.now functions.now at room nodes.old }
+    requires below { 0 < room }
+    requires sign { HasSign toks.now at signs.OpenBracket }
+    ensures keeps { Keeps nodes.old nodes.new }
+    ensures ends { PartEnds toks.now at nodes.new result }
+    ensures answer { Answers (from toks.now functions.now nodes.old at) toks.now 18 no_in room at nodes.new result }
+{
+    let Some(found) = items(alloc, toks, at + 1, room, functions, nodes)? else {
+        return Ok(None);
+    };
+    let next = found.next + 1;
+    let node = nodes.add(Node::ArrayLit(found.list, found.tail))?;
+    Ok(Some(Part {
+        node,
+        next,
+        is_target: false,
+    }))
+}
+
+/// Items up to the closing bracket.
+#[cycle(expression)]
+fn items(
+    alloc: Global,
+    toks: &[Tok],
+    at: usize,
+    room: u64,
+    functions: &Functions,
+    nodes: &mut Nodes,
+) -> Result<Option<ListedItems>, OutOfMemory>
+    requires below { 0 < room }
+    requires held { Holds toks.now functions.now at room nodes.old }
+    ensures keeps { Keeps nodes.old nodes.new }
+    ensures ends { ItemsEnds toks.now at nodes.new result }
+    ensures answer { ItemsAnswers (from toks.now functions.now nodes.old at) toks.now room at nodes.new result }
+{
+    let mut list: Vec<Option<NodeId>> = Vec::new(alloc);
+    let mut tail = false;
+    let mut place = at;
+    while !has_sign(toks, place, Sign::CloseBracket) {
+        if has_sign(toks, place, Sign::Comma) {
+            push_last(&mut list, None)?;
+            tail = false;
+            place += 1;
+        } else {
+            let Some(item) = assignment(alloc, toks, place, false, room - 1, functions, nodes)?
+            else {
+                return Ok(None);
+            };
+            push_last(&mut list, Some(item.node))?;
+            if has_sign(toks, item.next, Sign::CloseBracket) {
+                return Ok(Some(ListedItems {
+                    list: Sequence::from_vec(list),
+                    tail: false,
+                    next: item.next,
+                }));
+            }
+            if !has_sign(toks, item.next, Sign::Comma) {
+                return Ok(None);
+            }
+            tail = true;
+            place = item.next + 1;
+        }
+    }
+    Ok(Some(ListedItems {
+        list: Sequence::from_vec(list),
+        tail,
+        next: place,
+    }))
+}
+
+/// An object literal.
+#[cycle(expression)]
+fn object(
+    alloc: Global,
+    toks: &[Tok],
+    at: usize,
+    no_in: bool,
+    room: u64,
+    functions: &Functions,
+    nodes: &mut Nodes,
+) -> Result<Option<Part>, OutOfMemory>
+    requires held { Holds toks.now functions.now at room nodes.old }
+    requires below { 0 < room }
+    requires sign { HasSign toks.now at signs.OpenBrace }
+    ensures keeps { Keeps nodes.old nodes.new }
+    ensures ends { PartEnds toks.now at nodes.new result }
+    ensures answer { Answers (from toks.now functions.now nodes.old at) toks.now 18 no_in room at nodes.new result }
+{
+    let Some(found) = properties(alloc, toks, at + 1, room, functions, nodes)? else {
+        return Ok(None);
+    };
+    let next = found.next + 1;
+    let node = nodes.add(Node::ObjectLit(found.list, found.comma))?;
+    Ok(Some(Part {
+        node,
+        next,
+        is_target: false,
+    }))
+}
+
+/// Properties up to the closing brace.
+#[cycle(expression)]
+fn properties(
+    alloc: Global,
+    toks: &[Tok],
+    at: usize,
+    room: u64,
+    functions: &Functions,
+    nodes: &mut Nodes,
+) -> Result<Option<ListedProperties>, OutOfMemory>
+    requires below { 0 < room }
+    requires held { Holds toks.now functions.now at room nodes.old }
+    ensures keeps { Keeps nodes.old nodes.new }
+    ensures ends { PropertiesEnds toks.now at nodes.new result }
+    ensures answer { PropertiesAnswers (from toks.now functions.now nodes.old at) toks.now room at nodes.new result }
+{
+    let mut list: Vec<Property> = Vec::new(alloc);
+    let mut behind = false;
+    let mut place = at;
+    while !has_sign(toks, place, Sign::CloseBrace) {
+        let Some((key, value)) = property(alloc, toks, place, room, functions, nodes)? else {
+            return Ok(None);
+        };
+        push_last(
+            &mut list,
+            Property {
+                key,
+                value: value.node,
+            },
+        )?;
+        if has_sign(toks, value.next, Sign::CloseBrace) {
+            return Ok(Some(ListedProperties {
+                list: Sequence::from_vec(list),
+                comma: false,
+                next: value.next,
+            }));
+        }
+        if !has_sign(toks, value.next, Sign::Comma) {
+            return Ok(None);
+        }
+        behind = true;
+        place = value.next + 1;
+    }
+    Ok(Some(ListedProperties {
+        list: Sequence::from_vec(list),
+        comma: behind,
+        next: place,
+    }))
+}
+
+/// A name, a colon and a value.
+#[cycle(expression)]
+fn property(
+    alloc: Global,
+    toks: &[Tok],
+    at: usize,
+    room: u64,
+    functions: &Functions,
+    nodes: &mut Nodes,
+) -> Result<Option<(PropertyKey, Part)>, OutOfMemory>
+    requires below { 0 < room }
+    requires held { Holds toks.now functions.now at room nodes.old }
+    ensures keeps { Keeps nodes.old nodes.new }
+    ensures ends { ValueEnds toks.now at nodes.new result }
+    ensures answer { ValueAnswers (from toks.now functions.now nodes.old (at + 2)) toks.now room at nodes.new result }
+{
+    let Some(key) = property_at(toks, at) else {
+        return Ok(None);
+    };
+    if !has_sign(toks, at + 1, Sign::Colon) {
+        return Ok(None);
+    }
+    let Some(value) = assignment(alloc, toks, at + 2, false, room - 1, functions, nodes)? else {
+        return Ok(None);
+    };
+    Ok(Some((key, value)))
+}

@@ -1,0 +1,15 @@
+use Rattle.std.proofs.Common.{◌≡◌, [], ◌∷◌, ◌++◌, List, length, sym, ap, subst, ◌∙◌}
+use Rattle.wjs_tree.specs.declared.node.Node.{Node}
+use Rattle.wjs_tree.specs.declared.node.NodeId.{NodeId}
+use Rattle.wjs_tree.specs.Shows.{Has, Keeps}
+use Rattle.wjs_tree.proofs.Adding.{get-last, keeps_added}
+use Rattle.wjs_tree.proofs.Kept.{keeps_self}
+use Rattle.wjs_tree.proofs.nodes.Nodes.add.Goals as goal
+
+pub returns-clause-has : goal.returns-clause-has
+returns-clause-has c =
+    let e = c.in_ok-id.ensures in
+    rw (e.added, e.ok) (get-last c.args.self.now c.args.node)
+
+pub returns-clause-keeps : goal.returns-clause-keeps
+returns-clause-keeps c = rw c.in_ok-id.ensures.added (keeps_added c.args.self.now c.args.node)
