@@ -17,4 +17,3 @@ invariant_of-self-in-Ok-push c =
     let small : c.facts_of-facts.result.height ≤ length c.self.inside.facts.items + 1 = subst (λ (z : List Facts). c.facts_of-facts.result.height ≤ length z + 1) value c.facts_of-facts.ensures.low in
     rw (c.in-Ok-push.ensures.items, c.in-Ok.ensures.items)
     (added c.self.inside.list.items c.self.inside.facts.items c.self.invariant c.args.node c.facts_of-facts.result below right small)
-
