@@ -1,0 +1,34 @@
+use Rattle.std.proofs.Common.{◌≡◌, rules, ◌<◌, length, refl, sym, ap, ◌∙◌, subst, Some, None, Option, IfSome, get_or}
+use Rattle.wjs_base.specs.declared.values.Slot.{Slot}
+use Rattle.wjs_store.specs.Naming.{plain}
+use Rattle.wjs_store.specs.State.{World, fault_in}
+use Rattle.wjs_overlay.specs.declared.layer.Layer.{Layer}
+use Rattle.wjs_overlay.specs.Sparse.{full_of}
+use Rattle.wjs_store.proofs.Tables.{slice_get_at}
+use Rattle.wjs_overlay.proofs.Looks.{below_at, above_at}
+use Rattle.wjs_overlay.proofs.CommitLaws.{no_above, parent_there, faulty, passes}
+use Rattle.wjs_overlay.proofs.calls.commit_slots.Goals as goal
+
+pub offset_bounds-layers-world : goal.offset_bounds-layers-world
+offset_bounds-layers-world g c = let l : c.args.world.place < length c.args.layers.now = (below_at c.args.layers.now c.args.world c.requires.sparse c.requires.there) in search rules
+
+pub bounds-layers-world : goal.bounds-layers-world
+bounds-layers-world g c = (below_at c.args.layers.now c.args.world c.requires.sparse c.requires.there)
+
+pub fault-requires : goal.fault-requires
+fault-requires g c = record { sparse = c.requires.sparse; there = c.requires.there; parent = (above_at c.args.layers.now c.requires.sparse c.args.world c.requires.there (get_or c.args.layers.now c.args.world.place c.index-layers-world.result) (slice_get_at c.args.layers.now c.args.world.place c.index-layers-world.result (below_at c.args.layers.now c.args.world c.requires.sparse c.requires.there)) c.in-Some.above c.in-Some.is).0; up = parent_there c.args.layers.now c.requires.sparse c.args.world c.requires.there (get_or c.args.layers.now c.args.world.place c.index-layers-world.result) (slice_get_at c.args.layers.now c.args.world.place c.index-layers-world.result (below_at c.args.layers.now c.args.world c.requires.sparse c.requires.there)) c.in-Some.above c.in-Some.is }
+
+pub returns-in-None-clause-verdict : goal.returns-in-None-clause-verdict
+returns-in-None-clause-verdict g c = (no_above c.args.layers.now c.requires.sparse c.args.world c.requires.there (get_or c.args.layers.now c.args.world.place c.index-layers-world.result) (slice_get_at c.args.layers.now c.args.world.place c.index-layers-world.result (below_at c.args.layers.now c.args.world c.requires.sparse c.requires.there)) c.in-None.is).0
+
+pub returns-in-None-clause-after : goal.returns-in-None-clause-after
+returns-in-None-clause-after g c = (no_above c.args.layers.now c.requires.sparse c.args.world c.requires.there (get_or c.args.layers.now c.args.world.place c.index-layers-world.result) (slice_get_at c.args.layers.now c.args.world.place c.index-layers-world.result (below_at c.args.layers.now c.args.world c.requires.sparse c.requires.there)) c.in-None.is).1
+
+pub returns-in-Some-fault-clause-verdict : goal.returns-in-Some-fault-clause-verdict
+returns-in-Some-fault-clause-verdict g c = (faulty c.args.layers.now c.requires.sparse c.args.world c.requires.there (get_or c.args.layers.now c.args.world.place c.index-layers-world.result) (slice_get_at c.args.layers.now c.args.world.place c.index-layers-world.result (below_at c.args.layers.now c.args.world c.requires.sparse c.requires.there)) c.in-Some.above c.in-Some.is c.in-Some-fault.slot (λ x y fx fy. c.in-Some-fault.ensures.fault x y fx fy)).0
+
+pub returns-in-Some-fault-clause-after : goal.returns-in-Some-fault-clause-after
+returns-in-Some-fault-clause-after g c = (faulty c.args.layers.now c.requires.sparse c.args.world c.requires.there (get_or c.args.layers.now c.args.world.place c.index-layers-world.result) (slice_get_at c.args.layers.now c.args.world.place c.index-layers-world.result (below_at c.args.layers.now c.args.world c.requires.sparse c.requires.there)) c.in-Some.above c.in-Some.is c.in-Some-fault.slot (λ x y fx fy. c.in-Some-fault.ensures.fault x y fx fy)).1
+
+pub returns-in_ok-settle-in-None-fault-clause-verdict : goal.returns-in_ok-settle-in-None-fault-clause-verdict
+returns-in_ok-settle-in-None-fault-clause-verdict g c = passes c.args.layers.now c.requires.sparse c.args.world c.requires.there (get_or c.args.layers.now c.args.world.place c.index-layers-world.result) (slice_get_at c.args.layers.now c.args.world.place c.index-layers-world.result (below_at c.args.layers.now c.args.world c.requires.sparse c.requires.there)) c.in-Some.above c.in-Some.is (λ x y fx fy. c.in-None-fault.ensures.fault x y fx fy)

@@ -1,0 +1,19 @@
+use Rattle.std.proofs.Common.{◌≡◌, true, false, not, ◌&&◌, Some}
+use Rattle.std.specs.FinMap as map
+use Rattle.wjs_base.specs.declared.ids.ObjId.{ObjId}
+use Rattle.wjs_base.specs.declared.values.Slot.{Slot}
+use Rattle.wjs_store.specs.Naming.{plain}
+use Rattle.wjs_store.specs.State.{World, find_world}
+use Rattle.wjs_overlay.specs.Sparse.{full_of}
+use Rattle.wjs_overlay.specs.Check.{is_unseen, object_before}
+use Rattle.wjs_overlay.specs.Cursor.{count_passing}
+use Rattle.wjs_overlay.proofs.check.fault_in_closed.Given as goal
+
+abbrev pub invariant-objects : goal.invariant-objects
+invariant-objects g l = record {
+  there : (o : ObjId) → l.next ≡ Some o → map.contains_key l.layer.closed o ≡ true;
+  before : (x y : World plain) → find_world (full_of l.layers) l.fn.world.world ≡ Some x → find_world (full_of l.layers) l.above.world ≡ Some y → (t : Slot) → object_before t.object l.next ≡ true → (map.contains_key x.closed t.object && is_unseen x y t) ≡ false;
+}
+
+abbrev pub decreases-objects : goal.decreases-objects
+decreases-objects g l = count_passing (λ o. not (object_before o l.next)) (map.keys l.layer.closed)

@@ -1,0 +1,40 @@
+use Rattle.std.proofs.Common.{◌≡◌, rules, ◌<◌, length, refl, sym, ap, ◌∙◌, subst, arith, true, false, is_some, IfSome, OnOk, slice_get, set, Some}
+use Rattle.std.proofs.lemmas.Bool.{not-true, not-false}
+use Rattle.wjs_overlay.specs.declared.layer.Layer.{Layer}
+use Rattle.wjs_store.specs.State.{put, after_write, write_in}
+use Rattle.wjs_store.specs.Shown.{content_of}
+use Rattle.wjs_overlay.specs.Look.{Puts}
+use Rattle.wjs_overlay.specs.Sparse.{StandFor, full_of}
+use Rattle.wjs_overlay.proofs.Places.{slice_read, some_is, slice_some}
+use Rattle.wjs_overlay.proofs.Looks.{above_at, depth_above, below_at}
+use Rattle.wjs_overlay.proofs.WriteLaws.{before_kept, before_closed, before_plain, before_strict, before_nowhere, puts_first, puts_marked, write_by}
+use Rattle.wjs_overlay.proofs.layers.read_before.Goals as goal
+
+pub offset_bounds-layers-world : goal.offset_bounds-layers-world
+offset_bounds-layers-world g c = let l : c.args.world.place < length c.args.layers.now = (below_at c.args.layers.now c.args.world c.requires.sparse c.requires.there) in search rules
+
+pub bounds-layers-world : goal.bounds-layers-world
+bounds-layers-world g c = (below_at c.args.layers.now c.args.world c.requires.sparse c.requires.there)
+
+pub content-requires-clause-there : goal.content-requires-clause-there
+content-requires-clause-there g c = (above_at c.args.layers.now c.requires.sparse c.args.world c.requires.there c.index-layers-world.result (slice_read c.args.layers.now c.args.world.place c.index-layers-world.result c.index-layers-world.is (below_at c.args.layers.now c.args.world c.requires.sparse c.requires.there)) c.in-Untouched.above c.in-Untouched.ensures.seen.2).0
+
+pub returns-in-Kept-clause-read : goal.returns-in-Kept-clause-read
+returns-in-Kept-clause-read g c = λ x f. before_kept c.args.layers.now c.requires.sparse c.args.world c.requires.there c.index-layers-world.result (slice_read c.args.layers.now c.args.world.place c.index-layers-world.result c.index-layers-world.is (below_at c.args.layers.now c.args.world c.requires.sparse c.requires.there)) c.args.slot (subst (λ o. IfSome o (λ (r : Layer). is_some r.above ≡ true)) (slice_read c.args.layers.now c.args.world.place c.index-layers-world.result c.index-layers-world.is (below_at c.args.layers.now c.args.world c.requires.sparse c.requires.there)) c.requires.parent) x f c.in-Kept.row c.in-Kept.ensures.seen
+
+pub returns-in-Closed-clause-read : goal.returns-in-Closed-clause-read
+returns-in-Closed-clause-read g c = λ x f. before_closed c.args.layers.now c.requires.sparse c.args.world c.requires.there c.index-layers-world.result (slice_read c.args.layers.now c.args.world.place c.index-layers-world.result c.index-layers-world.is (below_at c.args.layers.now c.args.world c.requires.sparse c.requires.there)) c.args.slot (subst (λ o. IfSome o (λ (r : Layer). is_some r.above ≡ true)) (slice_read c.args.layers.now c.args.world.place c.index-layers-world.result c.index-layers-world.is (below_at c.args.layers.now c.args.world c.requires.sparse c.requires.there)) c.requires.parent) x f c.in-Closed.ensures.seen
+
+pub returns-in-Nowhere-clause-read : goal.returns-in-Nowhere-clause-read
+returns-in-Nowhere-clause-read g c = λ x f. before_nowhere c.args.layers.now c.requires.sparse c.args.world c.requires.there c.index-layers-world.result (slice_read c.args.layers.now c.args.world.place c.index-layers-world.result c.index-layers-world.is (below_at c.args.layers.now c.args.world c.requires.sparse c.requires.there)) c.args.slot (subst (λ o. IfSome o (λ (r : Layer). is_some r.above ≡ true)) (slice_read c.args.layers.now c.args.world.place c.index-layers-world.result c.index-layers-world.is (below_at c.args.layers.now c.args.world c.requires.sparse c.requires.there)) c.requires.parent) x f c.in-Nowhere.ensures.seen
+
+pub returns-then-not-layer-clause-read : goal.returns-then-not-layer-clause-read
+returns-then-not-layer-clause-read g c = λ x f. before_plain c.args.layers.now c.requires.sparse c.args.world c.requires.there c.index-layers-world.result (slice_read c.args.layers.now c.args.world.place c.index-layers-world.result c.index-layers-world.is (below_at c.args.layers.now c.args.world c.requires.sparse c.requires.there)) c.args.slot (subst (λ o. IfSome o (λ (r : Layer). is_some r.above ≡ true)) (slice_read c.args.layers.now c.args.world.place c.index-layers-world.result c.index-layers-world.is (below_at c.args.layers.now c.args.world c.requires.sparse c.requires.there)) c.requires.parent) x f c.in-Untouched.above c.in-Untouched.ensures.seen c.if-not-layer.true
+
+pub returns-else-not-layer-clause-read : goal.returns-else-not-layer-clause-read
+returns-else-not-layer-clause-read g c = λ x f. before_strict c.args.layers.now c.requires.sparse c.args.world c.requires.there c.index-layers-world.result (slice_read c.args.layers.now c.args.world.place c.index-layers-world.result c.index-layers-world.is (below_at c.args.layers.now c.args.world c.requires.sparse c.requires.there)) c.args.slot (subst (λ o. IfSome o (λ (r : Layer). is_some r.above ≡ true)) (slice_read c.args.layers.now c.args.world.place c.index-layers-world.result c.index-layers-world.is (below_at c.args.layers.now c.args.world c.requires.sparse c.requires.there)) c.requires.parent) x f c.in-Untouched.above c.content.result c.in-Untouched.ensures.seen c.if-not-layer.false c.content.ensures.content
+
+pub returns-else-not-layer-clause-steps : goal.returns-else-not-layer-clause-steps
+returns-else-not-layer-clause-steps g c =
+    let d = depth_above c.args.layers.now c.requires.sparse c.args.world c.requires.there c.index-layers-world.result (slice_read c.args.layers.now c.args.world.place c.index-layers-world.result c.index-layers-world.is (below_at c.args.layers.now c.args.world c.requires.sparse c.requires.there)) c.in-Untouched.above c.in-Untouched.ensures.seen.2 in
+    omega (arith, d, c.look_at.ensures.steps, c.content.ensures.steps)

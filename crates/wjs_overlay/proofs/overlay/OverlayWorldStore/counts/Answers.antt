@@ -1,0 +1,31 @@
+use Rattle.std.proofs.Common.{◌≡◌, ℕ, ◌<◌, ◌+◌, length, refl, sym, ap, ◌∙◌, subst, arith, Some, None, IsTrue, ◌&&◌, ◌==◌, true, false, is_some}
+use Rattle.std.specs.Option.{option_map}
+use Rattle.std.specs.FinMap as map
+use Rattle.wjs_base.specs.declared.ids.WorldId.{WorldId}
+use Rattle.wjs_store.specs.Shown.{content_of, slots_of, verdict_of, first_of}
+use Rattle.wjs_store.specs.State.{has_world, parent_of, content_at, slots_at, verdict_at, next_id, read, write, list, sprout, commit, found, wrote, listed, sprouted, committed, after_read, after_write, after_list, after_sprout, after_commit}
+use Rattle.wjs_overlay.specs.declared.layer.Spot.{Spot}
+use Rattle.wjs_overlay.specs.declared.layer.Layer.{Layer}
+use Rattle.wjs_overlay.specs.Sparse.{full_of, place_of}
+use Rattle.wjs_overlay.specs.Store.{worlds_of, IsStore, first_id}
+use Rattle.wjs_overlay.proofs.Places.{place_find, slice_read}
+use Rattle.wjs_overlay.proofs.Looks.{below_at}
+use Rattle.wjs_overlay.proofs.StoreLaws.{store_after, store_sprout, ids_read, ids_write, ids_list, ids_commit, answers_store, first_stand, first_store, first_layer, first_at, parent_at, spent_has, spent_parent, is_some_of}
+use Rattle.std.proofs.Common.{get_or}
+use Rattle.wjs_store.specs.Shown.{Counts}
+use Rattle.wjs_overlay.proofs.MarkLaws.{counts_at}
+use Rattle.wjs_overlay.proofs.StoreLaws.{spent_counts}
+use Rattle.wjs_overlay.proofs.overlay.OverlayWorldStore.counts.Goals as goal
+
+pub returns-then-self : goal.returns-then-self
+returns-then-self c = spent_counts c.args.self.now.spent c.args.self.now.layers.items c.args.world c.if-self.true c.requires
+
+pub index-requires : goal.index-requires
+index-requires c = let l : c.spot-at.result.place < length c.args.self.now.layers.items = (below_at c.args.self.now.layers.items c.spot-at.result (c.args.self.now.kept c.if-self.false).sparse c.spot-at.ensures.at) in omega (arith, c.args.self.now.layers.ok)
+
+pub returns : goal.returns
+returns c =
+    let r = c.index.result.now in
+    let s = slice_read c.args.self.now.layers.items c.spot-at.result.place r c.index.ensures (below_at c.args.self.now.layers.items c.spot-at.result (c.args.self.now.kept c.if-self.false).sparse c.spot-at.ensures.at) in
+    let k = counts_at c.args.self.now.layers.items (c.args.self.now.kept c.if-self.false).sparse c.spot-at.result c.spot-at.ensures.at r s c.count_marks.result c.count_marks.ensures.reads c.count_marks.ensures.writes c.count_marks.ensures.closed in
+    subst (λ b. Counts (worlds_of b c.args.self.now.layers.items) c.args.world c.count_marks.result) (sym c.if-self.false) (subst (λ w. Counts (full_of c.args.self.now.layers.items) w c.count_marks.result) c.spot-at.ensures.world k)

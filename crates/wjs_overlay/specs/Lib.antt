@@ -1,0 +1,10 @@
+pub mod Codes
+pub mod Sparse
+pub mod Look
+pub mod Cursor
+pub mod Least
+pub mod Moves
+pub mod Check
+pub mod Store
+pub mod Sound
+pub mod Marks

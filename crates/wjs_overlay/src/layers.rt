@@ -1,0 +1,425 @@
+//! The layers of all worlds, in the order of sprouting.
+ghost use Rattle.std.specs.Prelude.{◌≡◌, ◌+◌, ◌*◌, ◌<◌, ◌≤◌, length, OnOk, IfOk, IfSome, is_some, true, cond, Some, slice_get, slice_set};
+ghost use Rattle.std.specs.Option.{option_map};
+ghost use Rattle.wjs_store.specs.Naming.{plain};
+ghost use Rattle.wjs_store.specs.State.{World, find_world, content_at, put, write_in, next_id, after_read, after_write, after_sprout, after_list, after_commit, at_world, clear_marks, close_in, fault_in, slots_at};
+ghost use Rattle.std.specs.Prelude.{None};
+ghost use Rattle.std.specs.FinMap as map;
+ghost use Rattle.wjs_store.specs.State.{State};
+ghost use Rattle.wjs_overlay.specs.Sparse.{place_of};
+ghost use Rattle.wjs_overlay.specs.Moves.{handed_rows, ReadsAgree, written_rows, closed_all};
+ghost use Rattle.wjs_overlay.specs.Sparse.{AreKept, after_reads, now_of};
+ghost use Rattle.wjs_store.specs.Shown.{content_of};
+ghost use Rattle.wjs_base.specs.declared.values.Slot.{Slot};
+ghost use Rattle.wjs_overlay.specs.declared.layer.Layer.{Layer};
+ghost use Rattle.wjs_overlay.specs.Cursor.{IsNextSlot, lesser_of, with_present};
+ghost use Rattle.wjs_overlay.specs.Look.{Puts, read_after, first_row_of};
+ghost use Rattle.wjs_overlay.specs.Sparse.{IsSparse, IsAt, StandFor, full_of, depth_of};
+
+use crate::layer::{
+    Layer, Look, Spot, clear, close_all, close_layer, hand_reads, look_at, next_row, put,
+};
+use crate::maps::{ObjectSet, Row, SlotRows, SlotSet};
+use std::alloc::Global;
+use std::sync::ledger::Ledger;
+use wjs_base::{Content, ObjId, OutOfMemory, Slot, WorldId};
+use wjs_rows::Steps;
+
+/// What a slot holds in a world: what the nearest row upward says, and nothing past a closed object.
+pub fn content<L: Ledger>(
+    layers: &[Layer],
+    world: Spot,
+    slot: Slot,
+    steps: &mut Steps<L>,
+) -> Content
+    requires sparse { IsSparse layers.now }
+    requires there { IsAt layers.now world }
+    ensures content { content_of result ≡ content_at (full_of layers.now) world.world slot }
+    ensures steps { steps.new ≤ steps.old + (2 * depth_of (full_of layers.now) world.world + 2) }
+{
+    let mut at = world;
+    'up: loop {
+        let layer = &layers[at.place];
+        if let Some(row) = layer.rows.get(slot, steps) {
+            return row.now;
+        }
+        if layer.closed.has(slot.object, steps) {
+            return Content::Absent;
+        }
+        match layer.above {
+            None => return Content::Absent,
+            Some(above) => at = above,
+        }
+    }
+}
+
+/// Puts a row into a world, or takes it out.
+fn put_row<L: Ledger>(
+    layers: &mut [Layer],
+    world: Spot,
+    slot: Slot,
+    row: Option<Row>,
+    steps: &mut Steps<L>,
+) -> Result<(), OutOfMemory>
+    requires { world.place < length layers.old }
+    ensures ok { OnOk result (IfSome (slice_get layers.old world.place) (λ (r : Layer). layers.new ≡ slice_set layers.old world.place (record r { rows = put r.rows slot row }))) }
+    ensures step { steps.new ≡ steps.old + 1 }
+{
+    let layer = &mut layers[world.place];
+    put(layer, slot, row, steps)
+}
+
+/// What a slot holds in a world, which is recorded there where the slot was untouched.
+pub fn read<L: Ledger>(
+    layers: &mut [Layer],
+    world: Spot,
+    slot: Slot,
+    steps: &mut Steps<L>,
+) -> Result<Content, OutOfMemory>
+    requires sparse { IsSparse layers.old }
+    requires there { IsAt layers.old world }
+    ensures found { IfOk result (λ found. content_of found ≡ content_at (full_of layers.old) world.world slot) }
+    ensures after { OnOk result (StandFor layers.new (after_read (full_of layers.old) world.world slot)) }
+    ensures steps { steps.new ≤ steps.old + (2 * depth_of (full_of layers.old) world.world + 3) }
+{
+    match look_at(&layers[world.place], slot, steps) {
+        Look::Kept(row) => Ok(row.now),
+        Look::Closed => Ok(Content::Absent),
+        Look::Nowhere => Ok(Content::Absent),
+        Look::Untouched(above) => {
+            let found = content(layers, above, slot, steps);
+            let row = Row {
+                read: Some(found),
+                now: found,
+                written: false,
+            };
+            put_row(layers, world, slot, Some(row), steps)?;
+            Ok(found)
+        }
+    }
+}
+
+/// The row of a slot in the first world, where it is present.
+fn first_row(content: Content) -> Option<Row>
+    ensures { result ≡ first_row_of content }
+{
+    match content {
+        Content::Absent => None,
+        Content::Present(value) => Some(Row {
+            read: None,
+            now: Content::Present(value),
+            written: false,
+        }),
+    }
+}
+
+/// The recorded read that a slot has in a world with a parent once it is written there.
+fn read_before<L: Ledger>(
+    layers: &[Layer],
+    world: Spot,
+    slot: Slot,
+    steps: &mut Steps<L>,
+) -> Option<Content>
+    requires sparse { IsSparse layers.now }
+    requires there { IsAt layers.now world }
+    requires parent { IfSome (slice_get layers.now world.place) (λ (r : Layer). is_some r.above ≡ true) }
+    ensures read { (x : World plain) → find_world (full_of layers.now) world.world ≡ Some x → option_map content_of result ≡ read_after x slot }
+    ensures steps { steps.new ≤ steps.old + (2 * depth_of (full_of layers.now) world.world + 2) }
+{
+    let layer = &layers[world.place];
+    match look_at(layer, slot, steps) {
+        Look::Kept(row) => row.read,
+        Look::Closed => Some(Content::Absent),
+        Look::Untouched(above) => {
+            if !layer.strict {
+                return None;
+            }
+            Some(content(layers, above, slot, steps))
+        }
+        Look::Nowhere => None,
+    }
+}
+
+/// The row that a write leaves in a world; none where it leaves nothing in the first world.
+fn written_row<L: Ledger>(
+    layers: &[Layer],
+    world: Spot,
+    slot: Slot,
+    content: Content,
+    steps: &mut Steps<L>,
+) -> Option<Row>
+    requires sparse { IsSparse layers.now }
+    requires there { IsAt layers.now world }
+    ensures row { (r : Layer) (x : World plain) → slice_get layers.now world.place ≡ Some r → find_world (full_of layers.now) world.world ≡ Some x → Puts r slot result x (write_in slot (content_of content) x) }
+    ensures steps { steps.new ≤ steps.old + (2 * depth_of (full_of layers.now) world.world + 2) }
+{
+    let layer = &layers[world.place];
+    match layer.above {
+        None => first_row(content),
+        Some(_) => Some(Row {
+            read: read_before(layers, world, slot, steps),
+            now: content,
+            written: true,
+        }),
+    }
+}
+
+/// Sets a slot in a world. The descendants that are untouched at the slot have no row there, and hold it too.
+pub fn write<L: Ledger>(
+    layers: &mut [Layer],
+    world: Spot,
+    slot: Slot,
+    content: Content,
+    steps: &mut Steps<L>,
+) -> Result<(), OutOfMemory>
+    requires sparse { IsSparse layers.old }
+    requires there { IsAt layers.old world }
+    ensures after { OnOk result (StandFor layers.new (after_write (full_of layers.old) world.world slot (content_of content))) }
+    ensures steps { steps.new ≤ steps.old + (2 * depth_of (full_of layers.old) world.world + 3) }
+{
+    let row = written_row(layers, world, slot, content, steps);
+    put_row(layers, world, slot, row, steps)
+}
+
+/// Puts a child of a world last. It has no rows: it holds what its parent holds.
+pub fn sprout(
+    alloc: Global,
+    layers: &mut Vec<Layer>,
+    world: Spot,
+    id: WorldId,
+    strict: bool,
+) -> Result<(), OutOfMemory>
+    requires sparse { IsSparse layers.old.items }
+    requires there { IsAt layers.old.items world }
+    requires next { id ≡ next_id (full_of layers.old.items) id.owner }
+    ensures after { OnOk result (StandFor layers.new.items (after_sprout (full_of layers.old.items) world.world id.owner strict)) }
+{
+    let child = Layer {
+        id,
+        above: Some(world),
+        strict,
+        rows: SlotRows::new(alloc),
+        closed: ObjectSet::new(alloc),
+    };
+    if layers.push(child).is_err() {
+        return Err(OutOfMemory);
+    }
+    Ok(())
+}
+
+/// The lesser of two slots.
+pub fn lesser(a: Option<Slot>, b: Option<Slot>) -> Option<Slot>
+    ensures { result ≡ lesser_of a b }
+{
+    match (a, b) {
+        (None, _) => b,
+        (Some(_), None) => a,
+        (Some(first), Some(second)) => { if first < second { a } else { b } }
+    }
+}
+
+/// A slot of an object after those that were passed, before which the world holds nothing of the object.
+pub fn next_slot<L: Ledger>(
+    layers: &[Layer],
+    world: Spot,
+    object: ObjId,
+    passed: Option<Slot>,
+    steps: &mut Steps<L>,
+) -> Option<Slot>
+    requires sparse { IsSparse layers.now }
+    requires there { IsAt layers.now world }
+    requires on { IfSome passed (λ (s : Slot). s.object ≡ object) }
+    ensures next { IsNextSlot layers.now (full_of layers.now) world.world object passed result }
+    ensures steps { steps.new ≤ steps.old + (depth_of (full_of layers.now) world.world + 1) }
+{
+    let mut at = world;
+    let mut least = None;
+    'up: loop {
+        let layer = &layers[at.place];
+        least = lesser(least, next_row(layer, object, passed, steps));
+        match layer.above {
+            None => return least,
+            Some(above) => at = above,
+        }
+    }
+}
+
+/// The present slots of an object in a world, in order.
+fn present<L: Ledger>(
+    alloc: Global,
+    layers: &[Layer],
+    world: Spot,
+    object: ObjId,
+    steps: &mut Steps<L>,
+) -> Result<Vec<Slot>, OutOfMemory>
+    requires sparse { IsSparse layers.now }
+    requires there { IsAt layers.now world }
+    ensures slots { IfOk result (λ slots. slots.items ≡ slots_at (full_of layers.now) world.world object) }
+{
+    let mut found = SlotSet::new(alloc);
+    let mut passed = None;
+    'slots: while let Some(slot) = next_slot(layers, world, object, passed, steps) {
+        keep_present(&mut found, content(layers, world, slot, steps), slot)?;
+        passed = Some(slot);
+    }
+    found.slots(alloc)
+}
+
+/// Keeps a slot that is present.
+fn keep_present(found: &mut SlotSet, content: Content, slot: Slot) -> Result<(), OutOfMemory>
+    ensures { OnOk result (found.new ≡ with_present found.old (content_of content) slot) }
+{
+    match content {
+        Content::Absent => Ok(()),
+        Content::Present(_) => found.insert(slot),
+    }
+}
+
+/// Reads slots in a world, one after another.
+fn read_all<L: Ledger>(
+    layers: &mut [Layer],
+    world: Spot,
+    slots: &[Slot],
+    steps: &mut Steps<L>,
+) -> Result<(), OutOfMemory>
+    requires sparse { IsSparse layers.old }
+    requires there { IsAt layers.old world }
+    ensures after { OnOk result (StandFor layers.new (after_reads world.world slots.now (full_of layers.old))) }
+    ensures there { OnOk result (IsAt layers.new world) }
+{
+    for slot in slots {
+        read(layers, world, *slot, steps)?;
+    }
+    Ok(())
+}
+
+/// Marks an object as listed, in a world with a parent.
+fn close<L: Ledger>(
+    layers: &mut [Layer],
+    world: Spot,
+    object: ObjId,
+    steps: &mut Steps<L>,
+) -> Result<(), OutOfMemory>
+    requires sparse { IsSparse layers.old }
+    requires there { IsAt layers.old world }
+    ensures kept { OnOk result (AreKept layers.new (at_world world.world (close_in object) (full_of layers.old))) }
+    ensures step { steps.new ≤ steps.old + 1 }
+{
+    let layer = &mut layers[world.place];
+    close_layer(layer, object, steps)
+}
+
+/// Lists an object in a world: its present slots are read there, in order, and the object is marked.
+pub fn list<L: Ledger>(
+    alloc: Global,
+    layers: &mut [Layer],
+    world: Spot,
+    object: ObjId,
+    steps: &mut Steps<L>,
+) -> Result<Vec<Slot>, OutOfMemory>
+    requires sparse { IsSparse layers.old }
+    requires there { IsAt layers.old world }
+    ensures slots { IfOk result (λ slots. slots.items ≡ slots_at (full_of layers.old) world.world object) }
+    ensures after { OnOk result (StandFor layers.new (after_list (full_of layers.old) world.world object)) }
+{
+    let slots = present(alloc, layers, world, object, steps)?;
+    read_all(layers, world, slots.as_slice(), steps)?;
+    close(layers, world, object, steps)?;
+    Ok(slots)
+}
+
+/// Records a child's reads in a world.
+fn hand_to<L: Ledger>(
+    layers: &mut [Layer],
+    world: Spot,
+    rows: &[(Slot, Row)],
+    steps: &mut Steps<L>,
+) -> Result<(), OutOfMemory>
+    requires { world.place < length layers.old }
+    ensures kept { OnOk result ((F : State plain) → AreKept layers.old F → place_of F world.world ≡ Some world.place → ((y : World plain) → find_world F world.world ≡ Some y → ReadsAgree rows.now y) → AreKept layers.new (at_world world.world (handed_rows rows.now) F)) }
+{
+    let layer = &mut layers[world.place];
+    hand_reads(layer, rows, steps)
+}
+
+/// Marks objects as listed in a world.
+fn close_to<L: Ledger>(
+    layers: &mut [Layer],
+    world: Spot,
+    objects: &[ObjId],
+    steps: &mut Steps<L>,
+) -> Result<(), OutOfMemory>
+    requires { world.place < length layers.old }
+    ensures kept { OnOk result ((F : State plain) → AreKept layers.old F → place_of F world.world ≡ Some world.place → AreKept layers.new (at_world world.world (closed_all objects.now) F)) }
+{
+    let layer = &mut layers[world.place];
+    close_all(layer, objects, steps)
+}
+
+/// Empties the marks of a world with a parent.
+fn clear_in(alloc: Global, layers: &mut [Layer], world: Spot)
+    requires { world.place < length layers.old }
+    ensures kept { (F : State plain) → AreKept layers.old F → place_of F world.world ≡ Some world.place → ((x : World plain) → find_world F world.world ≡ Some x → is_some x.parent ≡ true) → AreKept layers.new (at_world world.world clear_marks F) }
+{
+    let layer = &mut layers[world.place];
+    clear(alloc, layer);
+}
+
+/// Writes the written rows of a child into a world.
+fn write_rows<L: Ledger>(
+    layers: &mut [Layer],
+    world: Spot,
+    rows: &[(Slot, Row)],
+    steps: &mut Steps<L>,
+) -> Result<(), OutOfMemory>
+    requires sparse { IsSparse layers.old }
+    requires there { IsAt layers.old world }
+    ensures after { OnOk result (StandFor layers.new (written_rows world.world rows.now (full_of layers.old))) }
+{
+    for (slot, row) in rows {
+        write_row(layers, world, *slot, *row, steps)?;
+    }
+    Ok(())
+}
+
+/// Writes a row of a child into a world, if it is a written one.
+fn write_row<L: Ledger>(
+    layers: &mut [Layer],
+    world: Spot,
+    slot: Slot,
+    row: Row,
+    steps: &mut Steps<L>,
+) -> Result<(), OutOfMemory>
+    requires sparse { IsSparse layers.old }
+    requires there { IsAt layers.old world }
+    ensures after { OnOk result (StandFor layers.new (cond row.written (after_write (full_of layers.old) world.world slot (now_of row)) (full_of layers.old))) }
+{
+    if !row.written {
+        return Ok(());
+    }
+    write(layers, world, slot, row.now, steps)
+}
+
+/// Moves what a world touched into its parent, where its check passes.
+pub fn settle<L: Ledger>(
+    alloc: Global,
+    layers: &mut [Layer],
+    world: Spot,
+    above: Spot,
+    steps: &mut Steps<L>,
+) -> Result<(), OutOfMemory>
+    requires sparse { IsSparse layers.old }
+    requires there { IsAt layers.old world }
+    requires up { IfSome (slice_get layers.old world.place) (λ (r : Layer). r.above ≡ Some above) }
+    requires agrees { (x y : World plain) → find_world (full_of layers.old) world.world ≡ Some x → find_world (full_of layers.old) above.world ≡ Some y → fault_in x y ≡ None }
+    ensures after { OnOk result (StandFor layers.new (after_commit (full_of layers.old) world.world)) }
+{
+    let layer = &layers[world.place];
+    let rows = layer.rows.entries(alloc, steps)?;
+    let objects = layer.closed.objects(alloc, steps)?;
+    hand_to(layers, above, rows.as_slice(), steps)?;
+    write_rows(layers, above, rows.as_slice(), steps)?;
+    close_to(layers, above, objects.as_slice(), steps)?;
+    clear_in(alloc, layers, world);
+    Ok(())
+}

@@ -1,0 +1,46 @@
+//! The sizes of a world's marks.
+ghost use Rattle.std.specs.Prelude.{◌≡◌, ◌<◌, if◌then◌else◌};
+ghost use Rattle.std.specs.FinMap as map;
+ghost use Rattle.wjs_overlay.specs.Marks.{reads_in, writes_in};
+
+use crate::layer::Layer;
+use crate::maps::least_slot;
+use std::sync::ledger::{Blank, Ledger};
+use wjs_rows::Steps;
+use wjs_store::Counts;
+
+/// 1 where it holds.
+fn one_if(holds: bool) -> u64
+    ensures { result ≡ (if holds then 1 else 0) }
+{
+    if holds { 1 } else { 0 }
+}
+
+/// How many recorded reads, written slots and listed objects a layer has.
+pub fn count_marks<L: Ledger>(layer: &Layer, blank: Blank) -> Counts
+    requires name { blank.name ≡ L.name }
+    requires parts { blank.parts ≡ L.parts }
+    requires some { 0 < blank.parts }
+    ensures reads { result.reads ≡ reads_in (map.entries layer.now.rows) }
+    ensures writes { result.writes ≡ writes_in (map.entries layer.now.rows) }
+    ensures closed { result.closed ≡ map.len layer.now.closed }
+{
+    let mut steps = Steps::<L>::new(blank);
+    let total = layer.rows.len();
+    let mut seen = 0usize;
+    let mut reads = 0u64;
+    let mut writes = 0u64;
+    let mut next = layer.rows.next_from(least_slot(), &mut steps);
+    'marks: while let Some((slot, row)) = next {
+        prove!(seen < total);
+        reads += one_if(row.read.is_some());
+        writes += one_if(row.written);
+        seen += 1;
+        next = layer.rows.next_after(slot, &mut steps);
+    }
+    Counts {
+        reads,
+        writes,
+        closed: layer.closed.len() as u64,
+    }
+}

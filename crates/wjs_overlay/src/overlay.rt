@@ -1,0 +1,287 @@
+//! The store of sparse worlds.
+ghost use Rattle.std.specs.Prelude.{◌≡◌, false, IfOk, IsTrue};
+ghost use Rattle.wjs_overlay.specs.Store.{IsStore, store_prop, first_id};
+
+use crate::layer::{Layer, Spot};
+use crate::maps::{ObjectSet, SlotRows};
+use crate::marks::count_marks;
+use crate::numbers::{Owners, Places};
+use crate::{calls, layers, uncounted};
+use std::alloc::Global;
+use std::marker::Brand;
+use std::sync::ledger::{Blank, Ledger};
+use wjs_base::{Content, Names, ObjId, OutOfMemory, Slot, WorldId};
+use wjs_rows::Steps;
+use wjs_store::{Counts, Verdict, WorldStore};
+
+/// Worlds of which only what was touched is kept: a row for each slot that was read or written in a world, and the
+/// objects that were listed there. The first world's rows are its present slots.
+///
+/// A store that ran out of memory is spent, and has the first world alone.
+#[derive(Drop)]
+pub struct Overlay {
+    alloc: Global,
+    layers: Vec<Layer>,
+    places: Places,
+    owners: Owners,
+    spent: bool,
+    ghost kept: { spent ≡ false → IsStore layers.items places owners } by { store_prop spent layers.items places owners },
+}
+
+/// The number of the first world.
+fn first_world() -> WorldId
+    ensures { result ≡ first_id }
+{
+    WorldId {
+        owner: 0,
+        serial: 0,
+    }
+}
+
+impl Overlay {
+    ghost use Rattle.std.specs.Prelude.{◌≡◌, ◌+◌, ◌*◌, ◌≤◌, false, IfOk, IsTrue};
+    ghost use Rattle.wjs_store.specs.Fixed.{fixed, fresh};
+    ghost use Rattle.wjs_store.specs.Meaning.{Answers, worlds};
+    ghost use Rattle.wjs_store.specs.State.{has_world, read, write, list, sprout, commit, found, wrote, listed, sprouted, committed};
+    ghost use Rattle.wjs_store.specs.Shown.{content_of, slots_of, verdict_of};
+    ghost use Rattle.wjs_overlay.specs.Sparse.{IsAt, full_of, depth_of};
+    ghost use Rattle.wjs_overlay.specs.Store.{check_of};
+    ghost use Rattle.std.specs.Prelude.{IsSome};
+    ghost use Rattle.wjs_store.specs.State.{parent_of};
+
+    /// A store with the first world alone.
+    pub fn new(alloc: Global) -> Result<Overlay, OutOfMemory>
+        ensures { IfOk result (λ store. ⟦<Overlay as WorldStore>⟧.meaning store ≡ fixed fresh false) }
+    {
+        let mut layers = Vec::new(alloc);
+        let mut places = Places::new(alloc);
+        let mut owners = Owners::new(alloc);
+        let first = Layer {
+            id: first_world(),
+            above: None,
+            strict: false,
+            rows: SlotRows::new(alloc),
+            closed: ObjectSet::new(alloc),
+        };
+        places.insert(first_world(), 0)?;
+        owners.insert(0, 1)?;
+        if layers.push(first).is_err() {
+            return Err(OutOfMemory);
+        }
+        Ok(Overlay {
+            alloc,
+            layers,
+            places,
+            owners,
+            spent: false,
+        })
+    }
+
+    /// A world by its number, and its place.
+    fn spot(&self, world: WorldId) -> Spot
+        requires live { self.now.spent ≡ false }
+        requires there { IsTrue (has_world (full_of self.now.layers.items) world) }
+        ensures at { IsAt self.now.layers.items result }
+        ensures world { result.world ≡ world }
+    {
+        Spot {
+            world,
+            place: self.places.get(world).unwrap(),
+        }
+    }
+
+    /// `read`, in at most twice the depth and 3 steps.
+    pub fn read_counted<L: Ledger>(
+        &mut self,
+        world: WorldId,
+        slot: Slot,
+        steps: &mut Steps<L>,
+    ) -> Result<Content, OutOfMemory>
+        requires { IsTrue (has_world (worlds (⟦<Overlay as WorldStore>⟧.meaning self.old)) world) }
+        ensures answers { Answers (⟦<Overlay as WorldStore>⟧.meaning self.old) (read world slot) (λ content. found (content_of content)) result (⟦<Overlay as WorldStore>⟧.meaning self.new) }
+        ensures steps { steps.new ≤ steps.old + (2 * depth_of (worlds (⟦<Overlay as WorldStore>⟧.meaning self.old)) world + 3) }
+    {
+        if self.spent {
+            return Err(OutOfMemory);
+        }
+        let at = self.spot(world);
+        self.spent = true;
+        let answer = calls::read(&mut self.layers, at, slot, steps)?;
+        self.spent = false;
+        Ok(answer)
+    }
+
+    /// `write`, in at most twice the depth and 7 steps.
+    pub fn write_counted<L: Ledger>(
+        &mut self,
+        world: WorldId,
+        slot: Slot,
+        content: Content,
+        steps: &mut Steps<L>,
+    ) -> Result<(), OutOfMemory>
+        requires { IsTrue (has_world (worlds (⟦<Overlay as WorldStore>⟧.meaning self.old)) world) }
+        ensures answers { Answers (⟦<Overlay as WorldStore>⟧.meaning self.old) (write world slot (content_of content)) (λ _. wrote) result (⟦<Overlay as WorldStore>⟧.meaning self.new) }
+        ensures steps { steps.new ≤ steps.old + (2 * depth_of (worlds (⟦<Overlay as WorldStore>⟧.meaning self.old)) world + 7) }
+    {
+        if self.spent {
+            return Err(OutOfMemory);
+        }
+        let at = self.spot(world);
+        self.spent = true;
+        calls::write(&mut self.layers, at, slot, content, steps)?;
+        self.spent = false;
+        Ok(())
+    }
+
+    /// `list`, with its steps.
+    pub(crate) fn list_counted<L: Ledger>(
+        &mut self,
+        world: WorldId,
+        object: ObjId,
+        steps: &mut Steps<L>,
+    ) -> Result<Names, OutOfMemory>
+        requires { IsTrue (has_world (worlds (⟦<Overlay as WorldStore>⟧.meaning self.old)) world) }
+        ensures answers { Answers (⟦<Overlay as WorldStore>⟧.meaning self.old) (list world object) (λ names. listed (slots_of object names)) result (⟦<Overlay as WorldStore>⟧.meaning self.new) }
+    {
+        if self.spent {
+            return Err(OutOfMemory);
+        }
+        let at = self.spot(world);
+        self.spent = true;
+        let answer = calls::list(self.alloc, &mut self.layers, at, object, steps)?;
+        self.spent = false;
+        Ok(answer)
+    }
+
+    /// `commit`, with its steps.
+    pub fn commit_counted<L: Ledger>(
+        &mut self,
+        world: WorldId,
+        steps: &mut Steps<L>,
+    ) -> Result<Verdict, OutOfMemory>
+        requires { IsTrue (has_world (worlds (⟦<Overlay as WorldStore>⟧.meaning self.old)) world) }
+        ensures answers { Answers (⟦<Overlay as WorldStore>⟧.meaning self.old) (commit world) (λ verdict. committed (verdict_of verdict)) result (⟦<Overlay as WorldStore>⟧.meaning self.new) }
+    {
+        if self.spent {
+            return Err(OutOfMemory);
+        }
+        let at = self.spot(world);
+        self.spent = true;
+        let answer = calls::commit(self.alloc, &mut self.layers, at, steps)?;
+        self.spent = false;
+        Ok(answer)
+    }
+
+    /// `sprout`, which takes no step.
+    pub fn sprout_counted<L: Ledger>(
+        &mut self,
+        world: WorldId,
+        owner: u32,
+        strict: bool,
+        _steps: &mut Steps<L>,
+    ) -> Result<WorldId, OutOfMemory>
+        requires { IsTrue (has_world (worlds (⟦<Overlay as WorldStore>⟧.meaning self.old)) world) }
+        ensures answers { Answers (⟦<Overlay as WorldStore>⟧.meaning self.old) (sprout world owner strict) (λ child. sprouted child) result (⟦<Overlay as WorldStore>⟧.meaning self.new) }
+        ensures steps { _steps.new ≤ _steps.old + 2 }
+    {
+        if self.spent {
+            return Err(OutOfMemory);
+        }
+        let at = self.spot(world);
+        let serial = self.owners.count(owner);
+        let child = WorldId { owner, serial };
+        let place = self.layers.len();
+        self.spent = true;
+        layers::sprout(self.alloc, &mut self.layers, at, child, strict)?;
+        self.places.insert(child, place)?;
+        let Some(next) = serial.checked_add(1) else {
+            return Err(OutOfMemory);
+        };
+        self.owners.insert(owner, next)?;
+        self.spent = false;
+        Ok(child)
+    }
+
+    /// The least slot that fails the check of a world that has a parent; None exactly where the check passes.
+    pub fn commit_check(&self, world: WorldId) -> Option<Slot>
+        requires live { (⟦<Overlay as WorldStore>⟧.meaning self.now).spent ≡ false }
+        requires there { IsTrue (has_world (worlds (⟦<Overlay as WorldStore>⟧.meaning self.now)) world) }
+        requires parent { IsSome (parent_of (worlds (⟦<Overlay as WorldStore>⟧.meaning self.now)) world) }
+        ensures { result ≡ check_of (worlds (⟦<Overlay as WorldStore>⟧.meaning self.now)) world }
+    {
+        let at = self.spot(world);
+        calls::check_in::<Brand>(self.layers.as_slice(), at, Blank::new(1))
+    }
+}
+
+impl WorldStore for Overlay {
+    ghost use Rattle.wjs_store.specs.Fixed.{fixed};
+    ghost use Rattle.wjs_overlay.specs.Store.{worlds_of};
+    ghost use Rattle.wjs_overlay.specs.Sound.{sound_store};
+
+    ghost meaning = { λ s. fixed (worlds_of s.spent s.layers.items) s.spent };
+
+    ghost sound = { λ s h. sound_store s.spent s.layers.items s.places s.owners s.kept h };
+
+    fn first(&self) -> WorldId {
+        if self.spent {
+            return first_world();
+        }
+        self.layers[0].id
+    }
+
+    fn has_world(&self, world: WorldId) -> bool {
+        if self.spent {
+            return world.owner == 0 && world.serial == 0;
+        }
+        self.places.get(world).is_some()
+    }
+
+    fn is_spent(&self) -> bool {
+        self.spent
+    }
+
+    fn read(&mut self, world: WorldId, slot: Slot) -> Result<Content, OutOfMemory> {
+        uncounted::read_uncounted::<Brand>(self, world, slot, Blank::new(1))
+    }
+
+    fn write(&mut self, world: WorldId, slot: Slot, content: Content) -> Result<(), OutOfMemory> {
+        uncounted::write_uncounted::<Brand>(self, world, slot, content, Blank::new(1))
+    }
+
+    fn list(&mut self, world: WorldId, object: ObjId) -> Result<Names, OutOfMemory> {
+        uncounted::list_uncounted::<Brand>(self, world, object, Blank::new(1))
+    }
+
+    fn sprout(&mut self, world: WorldId, owner: u32, strict: bool) -> Result<WorldId, OutOfMemory> {
+        uncounted::sprout_uncounted::<Brand>(self, world, owner, strict, Blank::new(1))
+    }
+
+    fn commit(&mut self, world: WorldId) -> Result<Verdict, OutOfMemory> {
+        uncounted::commit_uncounted::<Brand>(self, world, Blank::new(1))
+    }
+
+    fn parent(&self, world: WorldId) -> Option<WorldId> {
+        if self.spent {
+            return None;
+        }
+        let at = self.spot(world);
+        let layer = &self.layers[at.place];
+        match layer.above {
+            None => None,
+            Some(above) => Some(above.world),
+        }
+    }
+
+    fn counts(&self, world: WorldId) -> Counts {
+        if self.spent {
+            return Counts {
+                reads: 0,
+                writes: 0,
+                closed: 0,
+            };
+        }
+        let at = self.spot(world);
+        count_marks::<Brand>(&self.layers[at.place], Blank::new(1))
+    }
+}

@@ -1,0 +1,97 @@
+//! The calls of the store of sparse worlds whose steps nobody counts.
+ghost use Rattle.std.specs.Prelude.{◌≡◌, ◌<◌, IsTrue};
+ghost use Rattle.wjs_store.specs.Meaning.{Answers, worlds};
+ghost use Rattle.wjs_store.specs.State.{has_world, read, write, list, sprout, commit, found, wrote, listed, sprouted, committed};
+ghost use Rattle.wjs_store.specs.Shown.{content_of, slots_of, verdict_of};
+
+use crate::overlay::Overlay;
+use std::sync::ledger::{Blank, Ledger};
+use wjs_base::{Content, Names, ObjId, OutOfMemory, Slot, WorldId};
+use wjs_rows::Steps;
+use wjs_store::{Verdict, WorldStore};
+
+/// `read`, whose steps nobody counts.
+pub fn read_uncounted<L: Ledger>(
+    store: &mut Overlay,
+    world: WorldId,
+    slot: Slot,
+    blank: Blank,
+) -> Result<Content, OutOfMemory>
+    requires name { blank.name ≡ L.name }
+    requires parts { blank.parts ≡ L.parts }
+    requires some { 0 < blank.parts }
+    requires there { IsTrue (has_world (worlds (⟦<Overlay as WorldStore>⟧.meaning store.old)) world) }
+    ensures { Answers (⟦<Overlay as WorldStore>⟧.meaning store.old) (read world slot) (λ content. found (content_of content)) result (⟦<Overlay as WorldStore>⟧.meaning store.new) }
+{
+    let mut steps = Steps::<L>::new(blank);
+    store.read_counted(world, slot, &mut steps)
+}
+
+/// `write`, whose steps nobody counts.
+pub fn write_uncounted<L: Ledger>(
+    store: &mut Overlay,
+    world: WorldId,
+    slot: Slot,
+    content: Content,
+    blank: Blank,
+) -> Result<(), OutOfMemory>
+    requires name { blank.name ≡ L.name }
+    requires parts { blank.parts ≡ L.parts }
+    requires some { 0 < blank.parts }
+    requires there { IsTrue (has_world (worlds (⟦<Overlay as WorldStore>⟧.meaning store.old)) world) }
+    ensures { Answers (⟦<Overlay as WorldStore>⟧.meaning store.old) (write world slot (content_of content)) (λ _. wrote) result (⟦<Overlay as WorldStore>⟧.meaning store.new) }
+{
+    let mut steps = Steps::<L>::new(blank);
+    store.write_counted(world, slot, content, &mut steps)
+}
+
+/// `list`, whose steps nobody counts.
+pub fn list_uncounted<L: Ledger>(
+    store: &mut Overlay,
+    world: WorldId,
+    object: ObjId,
+    blank: Blank,
+) -> Result<Names, OutOfMemory>
+    requires name { blank.name ≡ L.name }
+    requires parts { blank.parts ≡ L.parts }
+    requires some { 0 < blank.parts }
+    requires there { IsTrue (has_world (worlds (⟦<Overlay as WorldStore>⟧.meaning store.old)) world) }
+    ensures { Answers (⟦<Overlay as WorldStore>⟧.meaning store.old) (list world object) (λ names. listed (slots_of object names)) result (⟦<Overlay as WorldStore>⟧.meaning store.new) }
+{
+    let mut steps = Steps::<L>::new(blank);
+    store.list_counted(world, object, &mut steps)
+}
+
+/// `sprout`, whose steps nobody counts.
+pub fn sprout_uncounted<L: Ledger>(
+    store: &mut Overlay,
+    world: WorldId,
+    owner: u32,
+    strict: bool,
+    blank: Blank,
+) -> Result<WorldId, OutOfMemory>
+    requires name { blank.name ≡ L.name }
+    requires parts { blank.parts ≡ L.parts }
+    requires some { 0 < blank.parts }
+    requires there { IsTrue (has_world (worlds (⟦<Overlay as WorldStore>⟧.meaning store.old)) world) }
+    ensures { Answers (⟦<Overlay as WorldStore>⟧.meaning store.old) (sprout world owner strict) (λ child. sprouted child) result (⟦<Overlay as WorldStore>⟧.meaning store.new) }
+{
+    let mut steps = Steps::<L>::new(blank);
+    store.sprout_counted(world, owner, strict, &mut steps)
+}
+
+/// `commit`, whose steps nobody counts.
+pub fn commit_uncounted<L: Ledger>(
+    store: &mut Overlay,
+    world: WorldId,
+    blank: Blank,
+) -> Result<Verdict, OutOfMemory>
+    requires name { blank.name ≡ L.name }
+    requires parts { blank.parts ≡ L.parts }
+    requires some { 0 < blank.parts }
+    requires there { IsTrue (has_world (worlds (⟦<Overlay as WorldStore>⟧.meaning store.old)) world) }
+    ensures { Answers (⟦<Overlay as WorldStore>⟧.meaning store.old) (commit world) (λ verdict. committed (verdict_of verdict)) result (⟦<Overlay as WorldStore>⟧.meaning store.new) }
+{
+    let mut steps = Steps::<L>::new(blank);
+    store.commit_counted(world, &mut steps)
+}
