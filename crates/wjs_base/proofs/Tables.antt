@@ -1,8 +1,7 @@
 -- The keys of a set of owned texts, as a table of texts.
-use Rattle.std.proofs.Common.{◌≡◌, ℕ, ◌^◌, ◌<◌, ◌≤◌, Bool, true, false, List, [], ◌∷◌, ◌++◌, Some, length, map, append-nil, get_or, slice_get, position, cond, ◌⊎◌, ⊎_elim, inl, inr, refl, sym, ap, subst, ◌∙◌, true≢false, Fits, w16, Vec, Global}
+use Rattle.std.proofs.Common.{◌≡◌, ℕ, ◌^◌, ◌<◌, ◌≤◌, Bool, true, false, List, [], ◌∷◌, ◌++◌, Some, length, map, append-nil, get_or, slice_get, cond, ◌⊎◌, ⊎_elim, inl, inr, refl, sym, ap, subst, ◌∙◌, true≢false, Fits, w16, Vec, Global}
 use Rattle.std.proofs.lemmas.List.{length-map, map-append}
 use Rattle.std.proofs.lemmas.Option.{slice_get-map, slice_get-get_or, slice_get_within}
-use Rattle.std.proofs.lemmas.List.Quantifiers.{position-Some}
 use Rattle.std.proofs.lemmas.List.Elements.{All-push, All-from_get_or}
 use Rattle.std.proofs.lemmas.Map.Keys.{apart_from_distinct}
 use Rattle.std.proofs.lemmas.Bool.{cases_order}
@@ -24,15 +23,6 @@ contents keys = map (λ text. text.items) keys
 -- what the set takes for one text
 abbrev pub same : Owned → Owned → Bool
 same x y = pointwise nat_eq x.items y.items
-
--- where a key that passes stands, its units stand in the table
-pub found : (units : List ℕ) (keys : List Owned) (i : ℕ) → position (λ k. pointwise nat_eq units k.items) keys ≡ Some i → slice_get (contents keys) i ≡ Some units
-found units [] i at = cc
-found units (k ∷ ks) i at =
-    let p = position-Some (λ (k : Owned). pointwise nat_eq units k.items) (k ∷ ks) i k at in
-    let e : get_or (k ∷ ks) i k ≡ get_or (k ∷ ks) i k = refl in
-    slice_get-map (λ (text : Owned). text.items) (k ∷ ks) i ∙ ap (option_map (λ (text : Owned). text.items)) (slice_get-get_or (k ∷ ks) i k p.0)
-    ∙ ap Some (sym ((bytes_decides units (get_or (k ∷ ks) i k).items).0 p.1))
 
 -- a key's units stand in the table where the key does
 pub at_place : (keys : List Owned) (i : ℕ) (k : Owned) → slice_get keys i ≡ Some k → slice_get (contents keys) i ≡ Some k.items

@@ -53,8 +53,8 @@ impl Texts {
 
     /// The number of the text of these code units, which is put last where it is new.
     ///
-    /// `TooLong` comes exactly where there are more than 16,777,216. A text that is there is found by one look-up, and nothing
-    /// is copied; a new one takes two look-ups, since the set of texts has no entry by a borrowed key.
+    /// `TooLong` comes exactly where there are more than 16,777,216. The units are copied once and hashed once, whether they are
+    /// there or not: to look first would spare the copy of a text that is there, and hash each new one twice.
     pub fn intern(&mut self, units: &[u16]) -> Result<TextId, TextFault>
         ensures ok { IfOk result (Interns self.old self.new units.now) }
         ensures too_long { IsErrOf result TextFault.TooLong ↔ (longest < length units.now) }
@@ -65,9 +65,6 @@ impl Texts {
         let texts = &self.texts;
         if units.len() > LONGEST_TEXT {
             return Err(TextFault::TooLong);
-        }
-        if let Some(place) = texts.get_index_of(units) {
-            return Ok(TextId(place as u64));
         }
         let Ok(text) = Vec::from_slice(*texts.allocator(), units) else {
             return Err(TextFault::OutOfMemory);
