@@ -25,7 +25,7 @@ row_touched : {K V : Type 0} {n : Naming K V} (x : World n) (s : K) → has_row 
 row_touched {n = n} x s h = or_left (has_row x s) (map.contains_key x.closed (n.object s)) h
 
 module _ {K V : Type 0} {n : Naming K V} where
-  hand_on_written : (es : List (K × Option V)) (z : World n) → (hand_on es z).written ≡ z.written
+  pub hand_on_written : (es : List (K × Option V)) (z : World n) → (hand_on es z).written ≡ z.written
   hand_on_written [] z = refl
   hand_on_written (e ∷ es) z = hand_on_written es (hand_one z e) ∙ by_one (is_touched z e.0) (λ (v : World n). v.written ≡ z.written) refl refl
 
@@ -46,7 +46,7 @@ module _ {K V : Type 0} {n : Naming K V} where
   objects_written : (os : List ObjId) (z : World n) → (hand_objects os z).written ≡ z.written
   objects_written os z = by_one (is_some z.parent) (λ (v : World n). v.written ≡ z.written) (close_on_written os z) refl
 
-  close_on_closed : (os : List ObjId) (z : World n) (o : ObjId) → map.contains_key (close_on os z).closed o ≡ (list_any (eq_by_cmp obj_cmp o) os || map.contains_key z.closed o)
+  pub close_on_closed : (os : List ObjId) (z : World n) (o : ObjId) → map.contains_key (close_on os z).closed o ≡ (list_any (eq_by_cmp obj_cmp o) os || map.contains_key z.closed o)
   close_on_closed [] z o = refl
   close_on_closed (a ∷ os) z o =
       close_on_closed os (record z { closed = map.insert z.closed a tt }) o
@@ -96,7 +96,7 @@ module _ {K V A : Type 0} (n : Naming K V) (shown : Reply K V → A) where
     abbrev pub settled : World n
     settled = hand_objects (map.keys x.closed) (writes_on (moves x) (hand_entries (reads_of x) y))
 
-    settled_parent : settled.parent ≡ y.parent
+    pub settled_parent : settled.parent ≡ y.parent
     settled_parent = objects_parents (map.keys x.closed) wrote_on ∙ parent_on (moves x) handed ∙ entries_parents (reads_of x) y
 
     settled_copy : (t : K) → map.get settled.copy t ≡ cond (map.contains_key x.written t) (map.get x.copy t) (map.get y.copy t)
@@ -105,7 +105,7 @@ module _ {K V A : Type 0} (n : Naming K V) (shown : Reply K V → A) where
         ∙ copy2 F x y h fx up fy ok t
         ∙ ap (λ b. cond b (map.get x.copy t) (map.get y.copy t)) (sym (map.contains_key-keys x.written t))
 
-    settled_written : (t : K) → is_some y.parent ≡ true → map.contains_key settled.written t ≡ (map.contains_key x.written t || map.contains_key y.written t)
+    pub settled_written : (t : K) → is_some y.parent ≡ true → map.contains_key settled.written t ≡ (map.contains_key x.written t || map.contains_key y.written t)
     settled_written t p =
         ap (λ w. map.contains_key w t) (objects_written (map.keys x.closed) wrote_on)
         ∙ written_on (map.get x.copy) (map.keys x.written) handed t (ap is_some (entries_parents (reads_of x) y) ∙ p)

@@ -253,7 +253,7 @@ module _ {K V : Type 0} {n : Naming K V} where
       (λ e. or_left (map.contains_key (write_in s c y).first t) (map.contains_key (write_in s c y).written t) (contains_stays n.total (is_some y.parent && (not (has_row y s) && (map.contains_key y.closed (n.object s) || y.strict))) y.first s (map.get y.copy s) t e))
       (λ e. or_right (map.contains_key (write_in s c y).first t) (map.contains_key (write_in s c y).written t) (contains_stays n.total (is_some y.parent) y.written s tt t e))
 
-  row_new : (s : K) (c : Option V) (y : World n) (t : K) → is_some y.parent ≡ true → eq_by_cmp n.cmp t s ≡ true → has_row (write_in s c y) t ≡ true
+  pub row_new : (s : K) (c : Option V) (y : World n) (t : K) → is_some y.parent ≡ true → eq_by_cmp n.cmp t s ≡ true → has_row (write_in s c y) t ≡ true
   row_new s c y t p e = or_right (map.contains_key (write_in s c y).first t) (map.contains_key (write_in s c y).written t)
       (ap (λ b. map.contains_key (cond b (map.insert y.written s tt) y.written) t) p ∙ contains_insert n.total y.written s tt t ∙ ap (λ b. b || map.contains_key y.written t) e)
 
@@ -440,7 +440,7 @@ module _ {K V : Type 0} {n : Naming K V} (F : State n) (x y : World n) (h : IsRe
   recorded : K → Option V
   recorded s = unwrap_or (map.get x.first s) None
 
-  recorded_is : (s : K) → list_any (eq_by_cmp n.cmp s) (map.keys x.first) ≡ true → unwrap_or (map.get x.first s) None ≡ map.get y.copy s
+  pub recorded_is : (s : K) → list_any (eq_by_cmp n.cmp s) (map.keys x.first) ≡ true → unwrap_or (map.get x.first s) None ≡ map.get y.copy s
   recorded_is s q = unwrap_is (map.get x.first s) (map.get y.copy s) (map.contains_key-keys x.first s ∙ q) (λ c e. agree_read x y s c (ok s) e)
 
   abbrev pub y1 : World n

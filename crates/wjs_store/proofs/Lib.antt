@@ -17,3 +17,6 @@ pub mod HistoryLaws
 pub mod HistoryLists
 pub mod Refused
 pub mod Contents
+pub mod Moved
+pub mod MovedMarks
+pub mod MarksLaw

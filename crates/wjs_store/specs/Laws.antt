@@ -1,12 +1,14 @@
 -- Laws of the machine, each promised by a public function.
-use Rattle.std.specs.Prelude.{◌≡◌, ◌≢◌, ◌↔◌, ℕ, Bool, cond, ◌&&◌, ◌||◌, Option, IsTrue}
+use Rattle.std.specs.Prelude.{◌≡◌, ◌≢◌, ◌↔◌, ℕ, Bool, cond, ◌&&◌, ◌||◌, Option, Some, IsTrue}
 use Rattle.std.specs.Ordering.{eq_by_cmp}
 use Rattle.wjs_base.specs.declared.ids.WorldId.{WorldId}
 use Rattle.wjs_base.specs.declared.ids.ObjId.{ObjId}
 use Rattle.wjs_base.specs.declared.values.Slot.{Slot}
 use Rattle.wjs_base.specs.declared.values.Value.{Value}
 use Rattle.wjs_base.specs.Order.{slot_cmp}
-use Rattle.wjs_store.specs.State.{is_below, same_world, has_world, content_at, next_id, verdict_at, after_read, after_write, after_list, after_sprout, after_commit, answer_to, after, moved}
+use Rattle.wjs_store.specs.State.{is_below, same_world, has_world, parent_of, content_at, next_id, verdict_at, after_read, after_write, after_list, after_sprout, after_commit, answer_to, after, moved}
+use Rattle.wjs_store.specs.Marked.{is_written}
+use Rattle.wjs_store.specs.MarksMoved.{MarksMoved}
 use Rattle.wjs_store.specs.Path.{Leads}
 use Rattle.wjs_store.specs.Reached.{IsReached}
 use Rattle.wjs_store.specs.Fixed.{fresh}
@@ -35,6 +37,14 @@ WritesSetContents = (F : Worlds) (w : WorldId) (s : Slot) (c : Option Value) (i 
 -- a child has its parent's contents, and the other worlds keep theirs
 abbrev pub SproutsCopyContents : Type 0
 SproutsCopyContents = (F : Worlds) (w : WorldId) (owner : ℕ) (strict : Bool) (i : WorldId) (t : Slot) → IsTrue (has_world F w) → content_at (after_sprout F w owner strict) i t ≡ cond (same_world (next_id F owner) i) (content_at F w t) (content_at F i t)
+
+-- a commit of w that moved, into its parent p: of a slot that is written in w, p and the worlds below p hold what w holds; every other content is what it was, w's own contents too
+abbrev pub CommitsMoveContents : Type 0
+CommitsMoveContents = (F : Worlds) (w p : WorldId) → verdict_at F w ≡ moved → parent_of F w ≡ Some p → (i : WorldId) (t : Slot) → (content_at (after_commit F w) i t ≡ cond (is_written F w t && (same_world i p || is_below p t F i)) (content_at F w t) (content_at F i t)) × (content_at (after_commit F w) w t ≡ content_at F w t)
+
+-- the marks that such a commit leaves
+abbrev pub CommitsMoveMarks : Type 0
+CommitsMoveMarks = (F : Worlds) → IsReached F → (w p : WorldId) → verdict_at F w ≡ moved → parent_of F w ≡ Some p → MarksMoved F w p (after_commit F w)
 
 -- what a store promises holds under its own view
 abbrev pub OwnViewHolds : Type 0

@@ -7,6 +7,8 @@ pub mod Fixed
 pub mod FixedLaws
 pub mod Kept
 pub mod Maps
+pub mod Marked
+pub mod MarksMoved
 pub mod Path
 pub mod Rows
 pub mod Run

@@ -20,9 +20,9 @@ pub use action::{Action, Answer};
 pub use full::FullStore;
 pub use history::serial_history;
 pub use laws::{
-    looks_keep_contents, own_view_holds, reached_states_stay_reached,
-    refused_commit_changes_nothing, sprouts_copy_contents, write_reaches_by_path,
-    writes_set_contents,
+    commits_move_contents, commits_move_marks, looks_keep_contents, own_view_holds,
+    reached_states_stay_reached, refused_commit_changes_nothing, sprouts_copy_contents,
+    write_reaches_by_path, writes_set_contents,
 };
 pub use run::run_actions;
 pub use store::{Counts, Verdict, WorldStore};

@@ -163,9 +163,9 @@ fn strict_worlds_record_what_they_write_over(rt: HostRuntime) -> Result<(), Fail
     let s = slot(1);
     let one = child(1);
     let null = Content::Present(Value::Null);
-    for (above, verdict, history) in [
-        (NO, Verdict::Disagrees(s), [0, 3].as_slice()),
-        (YES, Verdict::Moved, [0, 3, 2].as_slice()),
+    for (above, verdict, left, history) in [
+        (NO, Verdict::Disagrees(s), NO, [0, 3, 5].as_slice()),
+        (YES, Verdict::Moved, null, [0, 3, 2, 5].as_slice()),
     ] {
         let actions = [
             write(FIRST, s, YES),
@@ -173,6 +173,7 @@ fn strict_worlds_record_what_they_write_over(rt: HostRuntime) -> Result<(), Fail
             write(one, s, null),
             write(FIRST, s, above),
             commit(one),
+            read(FIRST, s),
         ];
         let answers = [
             Answer::Wrote,
@@ -180,6 +181,7 @@ fn strict_worlds_record_what_they_write_over(rt: HostRuntime) -> Result<(), Fail
             Answer::Wrote,
             Answer::Wrote,
             Answer::Committed(verdict),
+            Answer::Found(left),
         ];
         expect(&rt, rt.alloc(), &actions, &answers, history)?;
     }
