@@ -1,12 +1,10 @@
 -- The walks of a check.
-use Rattle.std.proofs.Common.{◌≡◌, ℕ, ◌+◌, ◌≤◌, Bool, true, false, cond, not, ◌&&◌, ◌||◌, List, Option, None, Some, is_some, slice_get, refl, ap, sym, ◌∙◌, subst}
+use Rattle.std.proofs.Common.{◌≡◌, Bool, true, false, not, ◌&&◌, List, Option, None, Some, is_some, slice_get, refl, ap, sym, ◌∙◌}
 use Rattle.std.specs.declared.cmp.Ordering.{Ordering}
 use Rattle.std.specs.declared.cmp.Ordering.TheVariants.{Less, Equal, Greater}
 use Rattle.std.specs.Ordering.{is_lt, ordering_then, ordering_reverse}
-use Rattle.std.specs.Option.{option_map, option_map_or, option_and_then}
+use Rattle.std.specs.Option.{option_map_or, option_and_then}
 use Rattle.std.specs.FinMap as map
-use Rattle.std.specs.FinMap.{FinMap}
-use Rattle.std.specs.Map.{lookup_entry, lookup_key}
 use Rattle.std.proofs.lemmas.Bool.{true≢false, false≢true, and_parts}
 use Rattle.wjs_base.specs.declared.ids.ObjId.{ObjId}
 use Rattle.wjs_base.specs.declared.ids.WorldId.{WorldId}
@@ -15,14 +13,14 @@ use Rattle.wjs_base.specs.Order.{slot_cmp, slot_total, slot_exact, obj_cmp, obj_
 use Rattle.wjs_base.specs.Same.{same_value, object_Decides}
 use Rattle.wjs_rows.specs.Order.{is_after}
 use Rattle.wjs_store.specs.Naming.{plain}
-use Rattle.wjs_store.specs.State.{World, State, find_world, content_at, same_content, same_object, has_row}
+use Rattle.wjs_store.specs.State.{World, find_world, content_at, same_content, same_object, has_row}
 use Rattle.wjs_store.proofs.Writes.{by_bool}
 use Rattle.wjs_overlay.specs.declared.maps.Row.{Row}
 use Rattle.wjs_overlay.specs.declared.layer.Spot.{Spot}
 use Rattle.wjs_overlay.specs.declared.layer.Layer.{Layer}
-use Rattle.wjs_overlay.specs.Sparse.{read_of, full_of, Keeps, AreKept, IsSparse, IsAt}
+use Rattle.wjs_overlay.specs.Sparse.{read_of, full_of, Keeps, IsSparse, IsAt}
 use Rattle.wjs_overlay.specs.Check.{IsLeast, differs, is_unseen, object_before}
-use Rattle.wjs_overlay.specs.Cursor.{is_before, is_prior, to_come, IsNextSlot}
+use Rattle.wjs_overlay.specs.Cursor.{is_before, to_come, IsNextSlot}
 use Rattle.wjs_overlay.proofs.Places.{some_is, no_none}
 use Rattle.wjs_overlay.proofs.Full.{by_option, row_none, row_some}
 use Rattle.wjs_overlay.proofs.HandLaws.{above_some}
@@ -78,7 +76,7 @@ module _ (layers : List Layer) (h : IsSparse layers) (at : Spot) (here : IsAt la
     unseen_absent : (t : Slot) → content_at (full_of layers) above t ≡ None → is_unseen x y t ≡ false
     unseen_absent t e = ap (λ o. is_some o && not (has_row x t)) (sym (holds_y t) ∙ e)
 
-    module _ (o : ObjId) (passed : Option Slot) (slot : Slot) (n : IsNextSlot layers (full_of layers) above o passed (Some slot)) (before : (t : Slot) → t.object ≡ o → to_come passed t ≡ false → is_unseen x y t ≡ false) where
+    module _ (o : ObjId) (passed : Option Slot) (slot : Slot) (n : IsNextSlot (full_of layers) above o passed (Some slot)) (before : (t : Slot) → t.object ≡ o → to_come passed t ≡ false → is_unseen x y t ≡ false) where
       earlier : (t : Slot) → t.object ≡ o → is_lt (slot_cmp t slot) ≡ true → is_unseen x y t ≡ false
       earlier t e l = by_bool (to_come passed t)
           (λ c. unseen_absent t (n.least t e c l))
@@ -99,7 +97,7 @@ module _ (layers : List Layer) (h : IsSparse layers) (at : Spot) (here : IsAt la
           (λ l. absurd (true≢false (sym l ∙ c)))
 
     -- no slot of the object fails
-    pub object_all : (o : ObjId) (passed : Option Slot) → IsNextSlot layers (full_of layers) above o passed None → ((t : Slot) → t.object ≡ o → to_come passed t ≡ false → is_unseen x y t ≡ false) → IsLeast (λ (t : Slot). same_object t.object o && is_unseen x y t) None
+    pub object_all : (o : ObjId) (passed : Option Slot) → IsNextSlot (full_of layers) above o passed None → ((t : Slot) → t.object ≡ o → to_come passed t ≡ false → is_unseen x y t ≡ false) → IsLeast (λ (t : Slot). same_object t.object o && is_unseen x y t) None
     object_all o passed n before = record {
       passes = λ q z. no_none q z;
       before = λ t l. by_bool (same_object t.object o)

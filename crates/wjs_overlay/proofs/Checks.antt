@@ -1,27 +1,26 @@
 -- The least slot that fails.
-use Rattle.std.proofs.Common.{◌≡◌, Bool, true, false, cond, not, ◌&&◌, ◌||◌, List, [], ◌∷◌, ◌++◌, Option, None, Some, is_some, ◌⊎◌, inl, inr, ⊎_elim, filter, fold, MatchOption, refl, ap, sym, ◌∙◌, subst}
+use Rattle.std.proofs.Common.{◌≡◌, Bool, true, false, cond, ◌&&◌, ◌||◌, List, [], ◌∷◌, ◌++◌, Option, None, Some, is_some, ◌⊎◌, inl, inr, ⊎_elim, filter, fold, refl, ap, sym, ◌∙◌}
 use Rattle.std.specs.declared.cmp.Ordering.{Ordering}
 use Rattle.std.specs.declared.cmp.Ordering.TheVariants.{Less, Equal, Greater}
-use Rattle.std.specs.Ordering.{is_lt, eq_by_cmp, is_eq, ordering_then, ordering_reverse}
-use Rattle.std.specs.Option.{option_map, option_map_or, option_and_then}
+use Rattle.std.specs.Ordering.{is_lt, eq_by_cmp, is_eq, ordering_reverse}
+use Rattle.std.specs.Option.{option_map, option_map_or}
 use Rattle.std.specs.Cmp.{tied_itself}
 use Rattle.std.specs.FinMap as map
-use Rattle.std.specs.FinMap.{FinMap}
 use Rattle.std.specs.List.{list_any}
-use Rattle.std.proofs.lemmas.Bool.{true≢false, false≢true, and_parts, true_from_ne_false}
+use Rattle.std.proofs.lemmas.Bool.{true≢false, false≢true, and_parts}
 use Rattle.wjs_base.specs.declared.values.Slot.{Slot}
 use Rattle.wjs_base.specs.Order.{slot_cmp, slot_total, slot_exact}
 use Rattle.wjs_store.specs.Naming.{plain}
-use Rattle.wjs_store.specs.State.{World, fails, fault_in, least, lesser}
+use Rattle.wjs_store.specs.State.{World, fails, fault_in, lesser}
 use Rattle.wjs_store.proofs.Marks.{key_is, or_case, any_filter}
-use Rattle.wjs_store.proofs.Writes.{by_bool, or_false, by_one}
+use Rattle.wjs_store.proofs.Writes.{by_bool}
 use Rattle.wjs_store.proofs.Commits.{no_fault}
 use Rattle.wjs_overlay.specs.declared.maps.Row.{Row}
 use Rattle.wjs_overlay.specs.Check.{IsLeast, differs, is_unseen}
 use Rattle.wjs_overlay.specs.Cursor.{is_before, lesser_of}
 use Rattle.wjs_overlay.proofs.Places.{some_is, no_none}
 use Rattle.wjs_overlay.proofs.Full.{by_option}
-use Rattle.wjs_overlay.proofs.Cursors.{not_back, not_self, lt_trans}
+use Rattle.wjs_overlay.proofs.Cursors.{not_self, lt_trans}
 use Rattle.wjs_overlay.proofs.Scans.{lesser_from, before_both}
 
 -- the slot of an entry

@@ -1,5 +1,5 @@
 -- A commit, by its verdict.
-use Rattle.std.proofs.Common.{◌≡◌, true, false, List, [], map as each, Option, None, Some, is_some, slice_get, refl, ap, sym, ◌∙◌, subst}
+use Rattle.std.proofs.Common.{◌≡◌, true, List, [], map as each, Option, None, Some, is_some, slice_get, ap, sym, ◌∙◌}
 use Rattle.std.specs.Option.{option_map, option_map_or, option_and_then}
 use Rattle.std.specs.FinMap as map
 use Rattle.wjs_base.specs.declared.ids.ObjId.{ObjId}
@@ -11,10 +11,9 @@ use Rattle.wjs_base.specs.declared.values.Slot.{Slot}
 use Rattle.wjs_store.specs.Naming.{plain}
 use Rattle.wjs_store.specs.State.{World, State, find_world, with_parent, fault_in, verdict_at, after_commit, no_parent, moved, differs, slots_at, slots_in}
 use Rattle.wjs_store.proofs.Tables.{pair_root, pair_found, commit_alone, commit_fault, commit_moves}
-use Rattle.wjs_store.proofs.Writes.{found_id}
 use Rattle.wjs_overlay.specs.declared.layer.Spot.{Spot}
 use Rattle.wjs_overlay.specs.declared.layer.Layer.{Layer}
-use Rattle.wjs_overlay.specs.Sparse.{full_of, Keeps, AreKept, IsSparse, IsAt, StandFor}
+use Rattle.wjs_overlay.specs.Sparse.{full_of, IsSparse, IsAt, StandFor}
 use Rattle.wjs_overlay.specs.Store.{check_of}
 use Rattle.wjs_overlay.proofs.Looks.{world_at, keeps_at, parent_is, found_at, above_at}
 

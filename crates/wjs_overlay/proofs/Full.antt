@@ -1,10 +1,9 @@
 -- Rows that are exactly the marks of a reached state stand for it.
-use Rattle.std.proofs.Common.{◌≡◌, ℕ, ◌<◌, ◌≤◌, ◌+◌, Bool, true, false, cond, not, ◌||◌, List, [], ◌∷◌, ◌++◌, length, refl, ap, sym, ◌∙◌, subst, fold, take, get_or, map as each, Option, None, Some, is_some, slice_get, suc, zero, arith}
+use Rattle.std.proofs.Common.{◌≡◌, ℕ, ◌<◌, ◌≤◌, ◌+◌, Bool, true, false, cond, not, ◌||◌, List, [], ◌∷◌, ◌++◌, length, refl, ap, sym, ◌∙◌, take, get_or, Option, None, Some, is_some, slice_get, suc, zero, arith}
 use Rattle.std.specs.Option.{option_map, option_map_or, option_and_then}
 use Rattle.std.specs.Ordering.{eq_by_cmp}
 use Rattle.std.specs.FinMap as map
 use Rattle.std.specs.FinMap.{FinMap}
-use Rattle.std.proofs.lemmas.Bool.{true≢false, false≢true}
 use Rattle.std.proofs.lemmas.List.{take_more, take_all}
 use Rattle.std.proofs.lemmas.List.Sums.{fold_push}
 use Rattle.wjs_base.specs.declared.ids.WorldId.{WorldId}
@@ -12,15 +11,15 @@ use Rattle.wjs_base.specs.declared.values.Slot.{Slot}
 use Rattle.wjs_base.specs.declared.values.Value.{Value}
 use Rattle.wjs_base.specs.Order.{slot_cmp, slot_total, slot_exact, obj_cmp}
 use Rattle.wjs_store.specs.Naming.{plain}
-use Rattle.wjs_store.specs.State.{World, State, KeySet, find_world, has_world, same_world, put, has_row, is_touched, content_at}
+use Rattle.wjs_store.specs.State.{World, State, KeySet, find_world, has_row, is_touched, content_at}
 use Rattle.wjs_store.specs.Reached.{Fits, IsReached}
 use Rattle.wjs_store.specs.Shown.{content_of}
-use Rattle.wjs_store.proofs.Writes.{by_bool, same_self, get_put, get_none, or_false, no_parent_of}
+use Rattle.wjs_store.proofs.Writes.{by_bool, same_self, get_put}
 use Rattle.wjs_overlay.specs.declared.maps.Row.{Row}
 use Rattle.wjs_overlay.specs.declared.layer.Spot.{Spot}
 use Rattle.wjs_overlay.specs.declared.layer.Layer.{Layer}
 use Rattle.wjs_overlay.specs.Sparse.{now_of, read_of, mark_of, laid, unclosed, copy_at, copy_of, world_of, full_of, place_of, Keeps, AreKept}
-use Rattle.wjs_overlay.proofs.Places.{some_is, no_none, place_head, place_older, find_top, find_older, place_below, slice_some}
+use Rattle.wjs_overlay.proofs.Places.{some_is, no_none, place_head, place_older, find_top, find_older, slice_some}
 
 -- ---- maps made of rows
 

@@ -1,7 +1,7 @@
 -- What is handed to a layer is handed to its world.
-use Rattle.std.proofs.Common.{◌≡◌, ℕ, ◌+◌, ◌<◌, Bool, true, false, cond, not, ◌||◌, List, [], ◌∷◌, ◌++◌, length, take, get_or, Option, None, Some, is_some, slice_get, fold, refl, ap, sym, ◌∙◌, subst}
+use Rattle.std.proofs.Common.{◌≡◌, ℕ, ◌+◌, ◌<◌, Bool, true, false, cond, ◌||◌, List, [], ◌∷◌, length, take, get_or, Option, None, Some, is_some, fold, refl, ap, sym, ◌∙◌, subst}
 use Rattle.std.specs.Option.{option_map, option_and_then}
-use Rattle.std.specs.Ordering.{eq_by_cmp, is_eq}
+use Rattle.std.specs.Ordering.{is_eq}
 use Rattle.std.specs.Cmp.{tied_itself}
 use Rattle.std.specs.FinMap as map
 use Rattle.std.proofs.lemmas.Bool.{true≢false, false≢true}
@@ -14,14 +14,14 @@ use Rattle.wjs_base.specs.declared.values.Content.{Content}
 use Rattle.wjs_base.specs.Order.{slot_cmp, slot_total}
 use Rattle.wjs_store.specs.Naming.{plain}
 use Rattle.wjs_store.specs.Shown.{content_of}
-use Rattle.wjs_store.specs.State.{World, is_touched, has_row, close_in, put, clear_marks}
-use Rattle.wjs_store.proofs.Writes.{by_bool, or_false}
+use Rattle.wjs_store.specs.State.{World, is_touched, close_in, put, clear_marks}
+use Rattle.wjs_store.proofs.Writes.{or_false}
 use Rattle.wjs_overlay.specs.declared.maps.Row.{Row}
 use Rattle.wjs_overlay.specs.declared.layer.Spot.{Spot}
 use Rattle.wjs_overlay.specs.declared.layer.Layer.{Layer}
 use Rattle.wjs_overlay.specs.Look.{Puts, closed_layer}
-use Rattle.wjs_overlay.specs.Moves.{handed_by, handed, handed_rows, ReadsAgree, closed_all, cleared}
-use Rattle.wjs_overlay.specs.Sparse.{now_of, read_of, mark_of, Keeps}
+use Rattle.wjs_overlay.specs.Moves.{handed_by, handed, handed_rows, closed_all, cleared}
+use Rattle.wjs_overlay.specs.Sparse.{read_of, mark_of, Keeps}
 use Rattle.wjs_overlay.proofs.Places.{some_is, no_none}
 use Rattle.wjs_overlay.proofs.Full.{by_option, row_some, row_none, closed_same}
 use Rattle.wjs_overlay.proofs.Puts.{keeps_put}

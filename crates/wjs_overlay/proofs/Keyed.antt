@@ -1,8 +1,8 @@
 -- The next entry of a map.
-use Rattle.std.proofs.Common.{◌≡◌, ℕ, ◌+◌, ◌≤◌, Bool, true, false, cond, not, List, Option, None, Some, is_some, MatchOption, map as each, refl, ap, sym, ◌∙◌, subst}
+use Rattle.std.proofs.Common.{◌≡◌, ◌+◌, ◌≤◌, Bool, true, false, not, Option, None, Some, is_some, MatchOption, refl, ap, sym, ◌∙◌, subst}
 use Rattle.std.specs.declared.cmp.Ordering.{Ordering}
 use Rattle.std.specs.declared.cmp.Ordering.TheVariants.{Less, Equal, Greater}
-use Rattle.std.specs.Ordering.{is_lt, eq_by_cmp, ordering_reverse}
+use Rattle.std.specs.Ordering.{is_lt, ordering_reverse}
 use Rattle.std.specs.Option.{option_map}
 use Rattle.std.specs.Cmp.{IsTotalOrder}
 use Rattle.std.specs.FinMap as map
@@ -15,7 +15,7 @@ use Rattle.wjs_overlay.specs.Cursor.{is_prior, count_passing}
 use Rattle.wjs_overlay.proofs.Places.{some_is, no_none}
 use Rattle.wjs_overlay.proofs.Full.{by_option}
 use Rattle.wjs_overlay.proofs.Counts.{count_lt}
-use Rattle.wjs_overlay.proofs.Cursors.{first_is, not_self, not_back, lt_trans}
+use Rattle.wjs_overlay.proofs.Cursors.{first_is, not_self, lt_trans}
 
 -- the key of an entry
 abbrev pub key_of : {K V : Type 0} → Option (K × V) → Option K
@@ -40,11 +40,11 @@ module _ {K V : Type 0} {R : K → K → Ordering} (total : IsTotalOrder R) (exa
   found_is p d e = subst (Found m p) (sym e) (found_of p (lookup_entry p (map.entries m)) (first_is total exact p m))
 
   -- what comes before one comes before the next
-  prior_next : (k t : K) (d : Option (K × V)) → Found m (is_after R k) d → is_lt (R t k) ≡ true → is_prior R t (key_of d) ≡ true
+  pub prior_next : (k t : K) (d : Option (K × V)) → Found m (is_after R k) d → is_lt (R t k) ≡ true → is_prior R t (key_of d) ≡ true
   prior_next k t None f h = refl
   prior_next k t (Some e) f h = lt_trans total t k e.0 h (f.passes e refl)
 
-  self_prior : (k : K) (d : Option (K × V)) → Found m (is_after R k) d → is_prior R k (key_of d) ≡ true
+  pub self_prior : (k : K) (d : Option (K × V)) → Found m (is_after R k) d → is_prior R k (key_of d) ≡ true
   self_prior k None f = refl
   self_prior k (Some e) f = f.passes e refl
 

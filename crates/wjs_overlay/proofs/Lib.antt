@@ -21,3 +21,8 @@ pub mod CheckLoops
 pub mod CommitLaws
 pub mod StoreLaws
 pub mod MarkLaws
+pub mod Works
+pub mod Lefts
+pub mod Depths
+pub mod Moving
+pub mod Written

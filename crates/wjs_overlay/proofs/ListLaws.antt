@@ -1,23 +1,22 @@
 -- A listing: the reads of an object's present slots, and its mark.
-use Rattle.std.proofs.Common.{◌≡◌, ℕ, Bool, true, false, cond, List, [], ◌∷◌, Option, None, Some, is_some, slice_get, get_or, set, drop, length, ◌+◌, ◌<◌, map as each, fold, refl, ap, sym, ◌∙◌, subst}
-use Rattle.std.specs.Option.{option_map, option_map_or, option_and_then}
+use Rattle.std.proofs.Common.{◌≡◌, ℕ, Bool, true, false, cond, List, [], ◌∷◌, Some, is_some, slice_get, get_or, set, drop, length, ◌+◌, ◌<◌, map as each, refl, ap, sym, ◌∙◌, subst}
+use Rattle.std.specs.Option.{option_map, option_map_or}
 use Rattle.std.specs.FinMap as map
 use Rattle.std.proofs.lemmas.List.{drop_more}
-use Rattle.std.proofs.lemmas.Bool.{true≢false, false≢true}
 use Rattle.wjs_base.specs.declared.ids.ObjId.{ObjId}
 use Rattle.wjs_base.specs.declared.ids.WorldId.{WorldId}
 use Rattle.wjs_base.specs.declared.values.Slot.{Slot}
 use Rattle.wjs_store.specs.Naming.{plain}
-use Rattle.wjs_store.specs.State.{World, State, find_world, has_world, same_world, read_in, read_all, close_in, list_in, slots_in, slots_at, after_read, after_list, at_world}
+use Rattle.wjs_store.specs.State.{World, State, find_world, same_world, read_in, read_all, close_in, list_in, slots_in, slots_at, after_read, after_list, at_world}
 use Rattle.wjs_store.specs.Reached.{IsReached}
 use Rattle.wjs_store.proofs.Keeps.{reached_list}
-use Rattle.wjs_store.proofs.Marks.{marks_read, marks_at, marks_list}
-use Rattle.wjs_store.proofs.Writes.{by_bool, same_self, world_is, found_id, not_older}
+use Rattle.wjs_store.proofs.Marks.{marks_read, marks_at}
+use Rattle.wjs_store.proofs.Writes.{by_bool, same_self, world_is, not_older}
 use Rattle.wjs_overlay.specs.declared.layer.Spot.{Spot}
 use Rattle.wjs_overlay.specs.declared.layer.Layer.{Layer}
 use Rattle.wjs_overlay.specs.Look.{closed_layer}
 use Rattle.wjs_overlay.specs.Sparse.{full_of, place_of, Keeps, AreKept, IsSparse, IsAt, StandFor, after_reads}
-use Rattle.wjs_overlay.proofs.Places.{some_is, no_none, find_top, find_rest, place_each}
+use Rattle.wjs_overlay.proofs.Places.{some_is, find_top, find_rest, place_each}
 use Rattle.wjs_overlay.proofs.Full.{by_option}
 use Rattle.wjs_overlay.proofs.Changes.{kept_set}
 use Rattle.wjs_overlay.proofs.Puts.{stand_by, at_one, at_other}

@@ -1,16 +1,14 @@
 -- The list of a map's entries, seen as a finite map.
-use Rattle.std.proofs.Common.{◌≡◌, cond, List, [], ◌∷◌, Option, None, Some, refl, ap, sym, ◌∙◌, OnOk, Result, Ok, Err, Bool, true, false, is_some}
-use Rattle.std.specs.List.Sorted.{IsStrictlySortedBy}
+use Rattle.std.proofs.Common.{◌≡◌, cond, List, [], ◌∷◌, Option, None, Some, refl, ap, sym, ◌∙◌, Bool, true, false, is_some}
 use Rattle.std.specs.declared.cmp.Ordering.{Ordering}
 use Rattle.std.specs.Ordering.{eq_by_cmp}
 use Rattle.std.specs.Cmp.{IsTotalOrder, eq_by_cmp_equiv}
 use Rattle.std.specs.FinMap as map
 use Rattle.std.specs.FinMap.{IsAntisymmetric}
-use Rattle.std.specs.Map.{lookup, lookup_entry, lookup_key, keys_of}
+use Rattle.std.specs.Map.{lookup, lookup_entry, lookup_key}
 use Rattle.std.specs.Option.{option_map, option_copied}
 use Rattle.std.specs.Borrow.{Bor}
 use Rattle.std.specs.BTreeMap.{is_at}
-use Rattle.wjs_store.proofs.Trees.{entries_tree}
 
 pub find_lookup : {K V : Type 0} (R : K → K → Ordering) (es : List (K × V)) (q : K) → map.find R q es ≡ lookup (is_at (R q)) es
 find_lookup R [] q = refl

@@ -1,19 +1,19 @@
 -- What a slot holds in a world, by the nearest row.
-use Rattle.std.proofs.Common.{◌≡◌, ℕ, ◌<◌, ◌+◌, Bool, true, false, cond, not, ◌||◌, List, [], ◌∷◌, length, refl, ap, sym, ◌∙◌, subst, Option, None, Some, is_some, slice_get, suc, zero, arith}
+use Rattle.std.proofs.Common.{◌≡◌, ℕ, ◌<◌, ◌+◌, true, false, cond, List, [], ◌∷◌, length, refl, ap, sym, ◌∙◌, None, Some, is_some, slice_get, arith}
 use Rattle.std.specs.Option.{option_map, option_map_or, option_and_then}
 use Rattle.std.specs.FinMap as map
-use Rattle.std.proofs.lemmas.Bool.{true≢false, false≢true}
+use Rattle.std.proofs.lemmas.Bool.{false≢true}
 use Rattle.wjs_base.specs.declared.ids.WorldId.{WorldId}
 use Rattle.wjs_base.specs.declared.values.Slot.{Slot}
 use Rattle.wjs_store.specs.Naming.{plain}
-use Rattle.wjs_store.specs.State.{World, State, find_world, has_world, same_world, is_touched, content_at}
+use Rattle.wjs_store.specs.State.{World, State, find_world, same_world, content_at}
 use Rattle.wjs_store.specs.Reached.{IsReached}
-use Rattle.wjs_store.proofs.Writes.{by_bool, not_older, has_tail}
+use Rattle.wjs_store.proofs.Writes.{by_bool, not_older}
 use Rattle.wjs_store.proofs.Commits.{local_find, inherits_find, parent_there}
 use Rattle.wjs_overlay.specs.declared.maps.Row.{Row}
 use Rattle.wjs_overlay.specs.declared.layer.Spot.{Spot}
 use Rattle.wjs_overlay.specs.declared.layer.Layer.{Layer}
-use Rattle.wjs_overlay.specs.Sparse.{now_of, place_of, full_of, depth_of, Keeps, AreKept, IsSparse, IsAt}
+use Rattle.wjs_overlay.specs.Sparse.{now_of, place_of, full_of, depth_of, Keeps, IsSparse, IsAt}
 use Rattle.wjs_overlay.proofs.Places.{some_is, no_none, place_find, place_below, find_top, find_rest}
 use Rattle.wjs_overlay.proofs.Full.{row_none, closed_same, untouched, by_option}
 

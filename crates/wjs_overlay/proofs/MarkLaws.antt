@@ -1,14 +1,12 @@
 -- The sizes of marks, from the rows.
-use Rattle.std.proofs.Common.{◌≡◌, ℕ, ◌+◌, ◌≤◌, Bool, true, false, cond, List, [], ◌∷◌, ◌++◌, length, Option, None, Some, is_some, filter, map as each, slice_get, refl, ap, sym, ◌∙◌, subst, arith, suc, zero}
+use Rattle.std.proofs.Common.{◌≡◌, ℕ, ◌+◌, ◌≤◌, Bool, true, false, cond, List, [], ◌∷◌, ◌++◌, length, Option, None, Some, is_some, filter, map as each, slice_get, refl, ap, sym, ◌∙◌, arith, suc, zero}
 use Rattle.std.specs.Option.{option_map, option_and_then}
 use Rattle.std.specs.FinMap as map
 use Rattle.std.specs.FinMap.{FinMap}
-use Rattle.wjs_base.specs.declared.ids.WorldId.{WorldId}
 use Rattle.wjs_base.specs.declared.values.Slot.{Slot}
 use Rattle.wjs_base.specs.Order.{slot_cmp}
 use Rattle.wjs_store.specs.Naming.{plain}
-use Rattle.wjs_store.specs.State.{World, State, find_world}
-use Rattle.wjs_store.specs.Fixed.{fresh}
+use Rattle.wjs_store.specs.State.{World}
 use Rattle.wjs_store.specs.Shown.{content_of, counts_of, Counts}
 use Rattle.wjs_store.specs.declared.store.Counts.{Counts as Numbers}
 use Rattle.wjs_overlay.specs.declared.maps.Row.{Row}

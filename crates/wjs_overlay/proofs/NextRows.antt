@@ -1,5 +1,5 @@
 -- The next row of an object.
-use Rattle.std.proofs.Common.{◌≡◌, ℕ, arith, Bool, true, false, cond, List, [], ◌∷◌, Option, None, Some, is_some, MatchOption, refl, ap, sym, ◌∙◌, subst}
+use Rattle.std.proofs.Common.{◌≡◌, ℕ, arith, Bool, true, false, cond, Option, None, Some, is_some, MatchOption, refl, ap, sym, ◌∙◌, subst}
 use Rattle.std.specs.declared.cmp.Ordering.{Ordering}
 use Rattle.std.specs.declared.cmp.Ordering.TheVariants.{Less, Equal, Greater}
 use Rattle.std.specs.Ordering.{is_lt, is_le, nat_cmp, ordering_then}
@@ -19,7 +19,7 @@ use Rattle.wjs_rows.specs.Order.{is_from, is_after}
 use Rattle.wjs_store.specs.State.{same_object}
 use Rattle.wjs_store.proofs.Writes.{by_bool}
 use Rattle.wjs_overlay.specs.declared.maps.Row.{Row}
-use Rattle.wjs_overlay.specs.Cursor.{to_come, is_before, least_slot_of, on_object_of, IsNextRow}
+use Rattle.wjs_overlay.specs.Cursor.{to_come, least_slot_of, on_object_of, IsNextRow}
 use Rattle.wjs_overlay.proofs.Places.{some_is, no_none}
 use Rattle.wjs_overlay.proofs.Full.{by_option}
 use Rattle.wjs_overlay.proofs.Cursors.{first_is}

@@ -1,13 +1,11 @@
 -- Worlds by their places.
-use Rattle.std.proofs.Common.{◌≡◌, ℕ, ◌<◌, ◌≤◌, ◌+◌, Bool, true, false, cond, List, [], ◌∷◌, ◌++◌, length, refl, ap, sym, ◌∙◌, subst, map as each, Option, None, Some, is_some, slice_get, get_or, set, suc, zero, arith}
-use Rattle.std.specs.Option.{option_map, option_map_or, option_and_then}
-use Rattle.std.proofs.lemmas.Bool.{true≢false, false≢true}
+use Rattle.std.proofs.Common.{◌≡◌, ℕ, ◌<◌, true, false, cond, List, [], ◌∷◌, ◌++◌, length, refl, ap, sym, ◌∙◌, map as each, None, Some, is_some, slice_get, get_or, set, suc, zero, arith}
 use Rattle.wjs_base.specs.declared.ids.WorldId.{WorldId}
 use Rattle.wjs_store.specs.Naming.{plain}
 use Rattle.wjs_store.specs.State.{World, State, find_world, has_world, same_world}
 use Rattle.wjs_store.specs.Reached.{IsReached}
-use Rattle.wjs_store.proofs.States.{find_each, length_each}
-use Rattle.wjs_store.proofs.Writes.{by_bool, same_self, world_is, not_older}
+use Rattle.wjs_store.proofs.States.{length_each}
+use Rattle.wjs_store.proofs.Writes.{by_bool, world_is, not_older}
 use Rattle.wjs_store.proofs.Tables.{slice_get_at}
 use Rattle.wjs_overlay.specs.Sparse.{place_of}
 

@@ -1,10 +1,8 @@
 -- One row of a layer is put in or taken out.
-use Rattle.std.proofs.Common.{◌≡◌, ℕ, ◌<◌, ◌+◌, Bool, true, false, cond, not, ◌||◌, List, [], ◌∷◌, length, refl, ap, sym, ◌∙◌, subst, Option, None, Some, is_some, slice_get, set, map as each, zero, suc}
-use Rattle.std.specs.Option.{option_map, option_map_or, option_and_then}
+use Rattle.std.proofs.Common.{◌≡◌, ℕ, true, false, cond, List, [], ◌∷◌, refl, ap, sym, ◌∙◌, subst, Option, Some, slice_get, set, zero, suc}
+use Rattle.std.specs.Option.{option_and_then}
 use Rattle.std.specs.Ordering.{eq_by_cmp}
 use Rattle.std.specs.FinMap as map
-use Rattle.std.proofs.lemmas.Bool.{true≢false, false≢true}
-use Rattle.std.proofs.lemmas.List.{set-get_or}
 use Rattle.wjs_base.specs.declared.ids.WorldId.{WorldId}
 use Rattle.wjs_base.specs.declared.values.Slot.{Slot}
 use Rattle.wjs_base.specs.Order.{slot_cmp, slot_total, slot_exact}
@@ -14,9 +12,8 @@ use Rattle.wjs_store.specs.Reached.{IsReached}
 use Rattle.wjs_store.proofs.Marks.{key_is}
 use Rattle.wjs_store.proofs.Writes.{by_bool, same_self, get_put, found_id}
 use Rattle.wjs_overlay.specs.declared.maps.Row.{Row}
-use Rattle.wjs_overlay.specs.declared.layer.Spot.{Spot}
 use Rattle.wjs_overlay.specs.declared.layer.Layer.{Layer}
-use Rattle.wjs_overlay.specs.Sparse.{now_of, read_of, mark_of, place_of, full_of, Keeps, AreKept, IsSparse, StandFor}
+use Rattle.wjs_overlay.specs.Sparse.{now_of, read_of, mark_of, Keeps, AreKept, StandFor}
 use Rattle.wjs_overlay.specs.Look.{Puts}
 use Rattle.wjs_overlay.proofs.Full.{full_is}
 

@@ -1,31 +1,27 @@
 -- A read of a slot.
-use Rattle.std.proofs.Common.{◌≡◌, ℕ, ◌<◌, ◌+◌, Bool, true, false, cond, not, ◌&&◌, ◌||◌, List, [], ◌∷◌, length, refl, ap, sym, ◌∙◌, subst, Option, None, Some, is_some, slice_get, set, map as each}
+use Rattle.std.proofs.Common.{◌≡◌, Bool, true, false, cond, not, ◌&&◌, ◌||◌, List, refl, ap, sym, ◌∙◌, subst, None, Some, is_some, slice_get, set, map as each}
 use Rattle.std.specs.Option.{option_map, option_and_then}
-use Rattle.std.specs.Ordering.{eq_by_cmp, is_eq}
+use Rattle.std.specs.Ordering.{is_eq}
 use Rattle.std.specs.Cmp.{tied_itself}
 use Rattle.std.specs.FinMap as map
 use Rattle.std.proofs.lemmas.Bool.{true≢false, false≢true}
-use Rattle.wjs_base.specs.declared.ids.WorldId.{WorldId}
 use Rattle.wjs_base.specs.declared.values.Slot.{Slot}
 use Rattle.wjs_base.specs.declared.values.Content.{Content}
-use Rattle.wjs_base.specs.Order.{slot_cmp, slot_total}
+use Rattle.wjs_base.specs.Order.{slot_total}
 use Rattle.wjs_store.specs.Naming.{plain}
 use Rattle.wjs_store.specs.Shown.{content_of}
-use Rattle.wjs_store.specs.State.{World, State, find_world, same_world, is_touched, read_in, after_read, put, content_at}
-use Rattle.wjs_store.specs.Reached.{IsReached}
+use Rattle.wjs_store.specs.State.{World, State, same_world, is_touched, read_in, after_read, put, content_at}
 use Rattle.wjs_store.proofs.Keeps.{reached_read}
 use Rattle.wjs_store.proofs.Marks.{marks_read, marks_at}
-use Rattle.wjs_store.proofs.Writes.{by_bool}
 use Rattle.wjs_overlay.specs.declared.maps.Row.{Row}
 use Rattle.wjs_overlay.specs.declared.layer.Spot.{Spot}
 use Rattle.wjs_overlay.specs.declared.layer.Layer.{Layer}
-use Rattle.wjs_overlay.specs.declared.layer.Look.{Look}
 use Rattle.wjs_overlay.specs.declared.layer.Look.TheVariants.{Kept, Closed, Untouched, Nowhere}
 use Rattle.wjs_overlay.specs.Look.{Looked}
-use Rattle.wjs_overlay.specs.Sparse.{now_of, read_of, mark_of, full_of, Keeps, AreKept, IsSparse, IsAt, StandFor}
-use Rattle.wjs_overlay.proofs.Full.{untouched, row_of, row_some, row_none, closed_same, is_marked, by_option}
+use Rattle.wjs_overlay.specs.Sparse.{mark_of, full_of, Keeps, IsSparse, IsAt, StandFor}
+use Rattle.wjs_overlay.proofs.Full.{untouched, row_some, row_none, closed_same, by_option}
 use Rattle.wjs_overlay.proofs.Changes.{kept_set}
-use Rattle.wjs_overlay.proofs.Looks.{world_at, keeps_at, holds, parent_is, content_above, content_row, content_closed, content_first, below_at}
+use Rattle.wjs_overlay.proofs.Looks.{world_at, keeps_at, holds, parent_is, content_above}
 use Rattle.wjs_overlay.specs.Look.{Puts}
 use Rattle.wjs_overlay.proofs.Puts.{keeps_put, stand_by, at_one, at_other, set_same}
 

@@ -1,14 +1,13 @@
 -- The slots of an object in a world, one after another.
-use Rattle.std.proofs.Common.{◌≡◌, ℕ, ◌+◌, ◌<◌, ◌≤◌, Bool, true, false, cond, not, ◌&&◌, ◌||◌, List, [], ◌∷◌, Option, None, Some, is_some, ◌⊎◌, inl, inr, ⊎_elim, length, slice_get, filter, refl, ap, sym, ◌∙◌, subst, arith, suc, zero}
+use Rattle.std.proofs.Common.{◌≡◌, ◌+◌, ◌≤◌, Bool, true, false, cond, not, ◌&&◌, ◌||◌, List, [], ◌∷◌, Option, None, Some, is_some, ◌⊎◌, inl, inr, ⊎_elim, slice_get, filter, refl, ap, sym, ◌∙◌, subst, arith}
 use Rattle.std.specs.declared.cmp.Ordering.{Ordering}
 use Rattle.std.specs.declared.cmp.Ordering.TheVariants.{Less, Equal, Greater}
 use Rattle.std.specs.Ordering.{is_lt, eq_by_cmp, is_eq, ordering_reverse}
 use Rattle.std.specs.Cmp.{tied_itself}
 use Rattle.std.specs.List.{list_any}
-use Rattle.std.specs.Option.{option_map, option_map_or, option_and_then}
+use Rattle.std.specs.Option.{option_map_or, option_and_then}
 use Rattle.std.specs.FinMap as map
-use Rattle.std.specs.FinMap.{FinMap}
-use Rattle.std.proofs.lemmas.Bool.{true≢false, false≢true}
+use Rattle.std.proofs.lemmas.Bool.{true≢false, false≢true, and_parts}
 use Rattle.wjs_base.specs.declared.ids.ObjId.{ObjId}
 use Rattle.wjs_base.specs.declared.ids.WorldId.{WorldId}
 use Rattle.wjs_base.specs.declared.values.Slot.{Slot}
@@ -20,16 +19,16 @@ use Rattle.wjs_store.specs.State.{World, State, KeySet, find_world, content_at, 
 use Rattle.wjs_store.proofs.Ascending.{same_listed}
 use Rattle.wjs_store.proofs.Marks.{key_is, contains_insert}
 use Rattle.wjs_store.proofs.Writes.{by_bool}
-use Rattle.wjs_overlay.specs.declared.maps.Row.{Row}
 use Rattle.wjs_overlay.specs.declared.layer.Spot.{Spot}
 use Rattle.wjs_overlay.specs.declared.layer.Layer.{Layer}
 use Rattle.wjs_overlay.specs.Sparse.{full_of, IsSparse, IsAt}
-use Rattle.wjs_overlay.specs.Cursor.{to_come, is_before, lesser_of, count_passing, rows_left, with_present, IsNextRow, IsNextSlot}
-use Rattle.wjs_overlay.proofs.Places.{some_is, no_none}
+use Rattle.wjs_overlay.specs.Cursor.{to_come, comes_on, is_before, lesser_of, with_present, IsNextRow, IsNextSlot}
+use Rattle.wjs_overlay.specs.Work.{kept_from}
+use Rattle.wjs_overlay.proofs.Places.{no_none}
 use Rattle.wjs_overlay.proofs.Full.{by_option}
-use Rattle.wjs_overlay.proofs.Cursors.{not_back, not_self, lt_trans}
-use Rattle.wjs_overlay.proofs.Counts.{count_le, count_lt}
-use Rattle.wjs_overlay.proofs.Looks.{content_closed, content_first, content_above}
+use Rattle.wjs_overlay.proofs.Cursors.{not_self, lt_trans}
+use Rattle.wjs_overlay.proofs.Looks.{world_at, keeps_at, parent_is, content_closed, content_first, content_above}
+use Rattle.wjs_overlay.proofs.Works.{kept_two, kept_here, kept_up, row_counted}
 
 -- ---- the lesser of two
 
@@ -58,11 +57,12 @@ before_both (Some a) (Some b) s h = by_bool (is_lt (slot_cmp a b))
 pub record Scan (layers : List Layer) (w : WorldId) (o : ObjId) (passed least : Option Slot) (at : WorldId) : Type 0 where
   pub on : (s : Slot) → least ≡ Some s → s.object ≡ o
   pub later : (s : Slot) → least ≡ Some s → to_come passed s ≡ true
-  pub kept : (s : Slot) → least ≡ Some s → (i : ℕ) × (r : Layer) × (slice_get layers i ≡ Some r) × (is_some (map.get r.rows s) ≡ true)
+  pub kept : (s : Slot) → least ≡ Some s → 1 ≤ kept_from (eq_by_cmp slot_cmp s) (full_of layers) w
+  pub among : (p : Slot → Bool) → kept_from p (full_of layers) at ≤ kept_from p (full_of layers) w
   pub flow : (s : Slot) → s.object ≡ o → to_come passed s ≡ true → is_before s least ≡ true → is_some (content_at (full_of layers) w s) ≡ true → is_some (content_at (full_of layers) at s) ≡ true
 
 pub scan_start : (layers : List Layer) (w : WorldId) (o : ObjId) (passed : Option Slot) → Scan layers w o passed None w
-scan_start layers w o passed = record { on = λ s h. no_none s h; later = λ s h. no_none s h; kept = λ s h. no_none s h; flow = λ s e t b h. h }
+scan_start layers w o passed = record { on = λ s h. no_none s h; later = λ s h. no_none s h; kept = λ s h. no_none s h; among = λ p. omega arith; flow = λ s e t b h. h }
 
 module _ (layers : List Layer) (h : IsSparse layers) (w : WorldId) (o : ObjId) (passed least : Option Slot) (at : Spot) (here : IsAt layers at) (r : Layer) (s : slice_get layers at.place ≡ Some r) (n : Option Slot) (x : IsNextRow r.rows o passed n) (k : Scan layers w o passed least at.world) where
   on2 : (q : Slot) → lesser_of least n ≡ Some q → q.object ≡ o
@@ -71,8 +71,16 @@ module _ (layers : List Layer) (h : IsSparse layers) (w : WorldId) (o : ObjId) (
   later2 : (q : Slot) → lesser_of least n ≡ Some q → to_come passed q ≡ true
   later2 q e = ⊎_elim (k.later q) (x.later q) (lesser_from least n q e)
 
-  kept2 : (q : Slot) → lesser_of least n ≡ Some q → (i : ℕ) × (r : Layer) × (slice_get layers i ≡ Some r) × (is_some (map.get r.rows q) ≡ true)
-  kept2 q e = ⊎_elim (k.kept q) (λ z. (at.place, r, s, x.there q z)) (lesser_from least n q e)
+  kept_here_too : (q : Slot) → n ≡ Some q → 1 ≤ kept_from (eq_by_cmp slot_cmp q) (full_of layers) w
+  kept_here_too q z =
+      let v = world_at layers h at here r s in
+      let a = row_counted r v.0 (keeps_at layers h at here r s) q (x.there q z) in
+      let b = kept_here (eq_by_cmp slot_cmp q) (full_of layers) at.world v.0 v.1 in
+      let d = k.among (eq_by_cmp slot_cmp q) in
+      omega (arith, a, b, d)
+
+  kept2 : (q : Slot) → lesser_of least n ≡ Some q → 1 ≤ kept_from (eq_by_cmp slot_cmp q) (full_of layers) w
+  kept2 q e = ⊎_elim (k.kept q) (kept_here_too q) (lesser_from least n q e)
 
   row_gone : (q : Slot) → q.object ≡ o → to_come passed q ≡ true → is_before q (lesser_of least n) ≡ true → map.get r.rows q ≡ None
   row_gone q e t b = x.least q e t (before_both least n q b).1
@@ -85,6 +93,11 @@ module _ (layers : List Layer) (h : IsSparse layers) (w : WorldId) (o : ObjId) (
     on = on2;
     later = later2;
     kept = kept2;
+    among = λ p.
+        let v = world_at layers h at here r s in
+        let b = kept_up p (full_of layers) at.world a.world v.0 h.reached v.1 (parent_is layers h at here r s a u) in
+        let d = k.among p in
+        omega (arith, b, d);
     flow = λ q e t b z.
         let g = row_gone q e t b in
         by_bool (map.contains_key r.closed q.object)
@@ -92,7 +105,7 @@ module _ (layers : List Layer) (h : IsSparse layers) (w : WorldId) (o : ObjId) (
         (λ c. sym (ap is_some (content_above layers h at here r s q a g c u)) ∙ here_flow q e t b z);
   }
 
-  pub scan_end : r.above ≡ None → IsNextSlot layers (full_of layers) w o passed (lesser_of least n)
+  pub scan_end : r.above ≡ None → IsNextSlot (full_of layers) w o passed (lesser_of least n)
   scan_end u = record {
     on = on2;
     later = later2;
@@ -103,29 +116,24 @@ module _ (layers : List Layer) (h : IsSparse layers) (w : WorldId) (o : ObjId) (
 
 -- ---- fewer are left
 
+and_no : (b : Bool) → (b && false) ≡ false
+and_no true = refl
+and_no false = refl
+
 -- what is after a later slot is after an earlier one
-to_come_on : (passed : Option Slot) (c s : Slot) → to_come passed c ≡ true → to_come (Some c) s ≡ true → to_come passed s ≡ true
+pub to_come_on : (passed : Option Slot) (c s : Slot) → to_come passed c ≡ true → to_come (Some c) s ≡ true → to_come passed s ≡ true
 to_come_on None c s h k = refl
 to_come_on (Some p) c s h k = lt_trans slot_total p c s h k
 
-left_le : (passed : Option Slot) (c : Slot) (layers : List Layer) → to_come passed c ≡ true → rows_left (Some c) layers ≤ rows_left passed layers
-left_le passed c [] h = omega arith
-left_le passed c (r ∷ rs) h =
-    let a : count_passing (to_come (Some c)) (map.keys r.rows) ≤ count_passing (to_come passed) (map.keys r.rows) = count_le (to_come passed) (to_come (Some c)) (map.keys r.rows) (λ s. to_come_on passed c s h) in
-    let b : rows_left (Some c) rs ≤ rows_left passed rs = left_le passed c rs h in
-    omega arith
-
-pub left_lt : (passed : Option Slot) (c : Slot) (layers : List Layer) (i : ℕ) (r : Layer) → to_come passed c ≡ true → slice_get layers i ≡ Some r → is_some (map.get r.rows c) ≡ true → rows_left (Some c) layers + 1 ≤ rows_left passed layers
-left_lt passed c [] i r h s g = no_none r s
-left_lt passed c (q ∷ qs) zero r h s g =
-    let is : q ≡ r = some_is q r s in
-    let a : count_passing (to_come (Some c)) (map.keys q.rows) + 1 ≤ count_passing (to_come passed) (map.keys q.rows) = count_lt slot_exact (to_come passed) (to_come (Some c)) (map.keys q.rows) c (λ s. to_come_on passed c s h) (sym (map.contains_key-keys q.rows c) ∙ ap (λ (l : Layer). is_some (map.get l.rows c)) is ∙ g) h (not_self slot_total c) in
-    let b : rows_left (Some c) qs ≤ rows_left passed qs = left_le passed c qs h in
-    omega arith
-left_lt passed c (q ∷ qs) (suc i) r h s g =
-    let a : count_passing (to_come (Some c)) (map.keys q.rows) ≤ count_passing (to_come passed) (map.keys q.rows) = count_le (to_come passed) (to_come (Some c)) (map.keys q.rows) (λ s. to_come_on passed c s h) in
-    let b : rows_left (Some c) qs + 1 ≤ rows_left passed qs = left_lt passed c qs i r h s g in
-    omega arith
+pub left_lt : (F : State plain) (w : WorldId) (o : ObjId) (passed : Option Slot) (c : Slot) → c.object ≡ o → to_come passed c ≡ true → 1 ≤ kept_from (eq_by_cmp slot_cmp c) F w → kept_from (comes_on o (Some c)) F w + 1 ≤ kept_from (comes_on o passed) F w
+left_lt F w o passed c on h k =
+    let here : (same_object c.object o && to_come passed c) ≡ true = ap (λ b. b && to_come passed c) ((object_Decides c.object o).1 on) ∙ h in
+    let two = kept_two (eq_by_cmp slot_cmp c) (comes_on o (Some c)) (comes_on o passed)
+    (λ s e. ap (comes_on o passed) (sym (key_is slot_exact c s e)) ∙ here)
+    (λ s e. let p = and_parts (same_object s.object o) (to_come (Some c) s) e in ap (λ b. b && to_come passed s) p.0 ∙ to_come_on passed c s h p.1)
+    (λ s e. ap (comes_on o (Some c)) (sym (key_is slot_exact c s e)) ∙ ap (λ b. same_object c.object o && b) (not_self slot_total c) ∙ and_no (same_object c.object o))
+    F w in
+    omega (arith, two, k)
 
 -- ---- the present slots
 
@@ -133,14 +141,10 @@ left_lt passed c (q ∷ qs) (suc i) r h s g =
 abbrev pub Found : KeySet slot_cmp → State plain → WorldId → ObjId → Option Slot → Type 0
 Found found F w o passed = (s : Slot) → map.contains_key found s ≡ (same_object s.object o && (not (to_come passed s) && is_some (content_at F w s)))
 
-and_no : (b : Bool) → (b && false) ≡ false
-and_no true = refl
-and_no false = refl
-
 pub found_none : (F : State plain) (w : WorldId) (o : ObjId) → Found map.empty F w o None
 found_none F w o s = ap is_some (map.get-empty slot_cmp s) ∙ sym (and_no (same_object s.object o))
 
-module _ (layers : List Layer) (F : State plain) (w : WorldId) (o : ObjId) (passed : Option Slot) (c : Slot) (n : IsNextSlot layers F w o passed (Some c)) (found : KeySet slot_cmp) (f : Found found F w o passed) where
+module _ (F : State plain) (w : WorldId) (o : ObjId) (passed : Option Slot) (c : Slot) (n : IsNextSlot F w o passed (Some c)) (found : KeySet slot_cmp) (f : Found found F w o passed) where
   not_yet : map.contains_key found c ≡ false
   not_yet = f c ∙ ap (λ b. same_object c.object o && (not b && is_some (content_at F w c))) (n.later c refl) ∙ and_no (same_object c.object o)
 
@@ -187,8 +191,8 @@ module _ (layers : List Layer) (F : State plain) (w : WorldId) (o : ObjId) (pass
       (λ v e. subst (λ d. Found (with_present found d c) F w o (Some c)) (sym e) (found_present v e))
 
 -- nothing more is to come
-pub found_all : (layers : List Layer) (F : State plain) (w : WorldId) (o : ObjId) (passed : Option Slot) (found : KeySet slot_cmp) → IsNextSlot layers F w o passed None → Found found F w o passed → (s : Slot) → map.contains_key found s ≡ (same_object s.object o && is_some (content_at F w s))
-found_all layers F w o passed found n f s = f s ∙ by_bool (same_object s.object o)
+pub found_all : (F : State plain) (w : WorldId) (o : ObjId) (passed : Option Slot) (found : KeySet slot_cmp) → IsNextSlot F w o passed None → Found found F w o passed → (s : Slot) → map.contains_key found s ≡ (same_object s.object o && is_some (content_at F w s))
+found_all F w o passed found n f s = f s ∙ by_bool (same_object s.object o)
     (λ y. ap (λ b. b && (not (to_come passed s) && is_some (content_at F w s))) y
     ∙ by_bool (to_come passed s)
     (λ t. let z : content_at F w s ≡ None = n.least s ((object_Decides s.object o).0 y) t refl in

@@ -1,10 +1,9 @@
 -- The parts of a commit, one after another.
-use Rattle.std.proofs.Common.{◌≡◌, ℕ, ◌+◌, ◌<◌, Bool, true, false, cond, not, ◌&&◌, ◌||◌, T, List, [], ◌∷◌, length, drop, get_or, Option, None, Some, is_some, unwrap_or, slice_get, set, map as each, filter, fold, refl, ap, sym, ◌∙◌, subst, suc, zero}
-use Rattle.std.specs.declared.cmp.Ordering.{Ordering}
+use Rattle.std.proofs.Common.{◌≡◌, ℕ, ◌+◌, ◌<◌, Bool, true, false, cond, ◌&&◌, ◌||◌, T, List, [], ◌∷◌, length, drop, get_or, Option, None, Some, is_some, unwrap_or, slice_get, map as each, filter, fold, refl, ap, sym, ◌∙◌, subst, suc, zero}
 use Rattle.std.specs.Ordering.{is_lt, eq_by_cmp, is_eq}
-use Rattle.std.specs.Cmp.{tied_itself, IsTotalOrder}
+use Rattle.std.specs.Cmp.{tied_itself}
 use Rattle.std.specs.List.{list_any}
-use Rattle.std.specs.Option.{option_map, option_map_or, option_and_then}
+use Rattle.std.specs.Option.{option_map, option_and_then}
 use Rattle.std.specs.FinMap as map
 use Rattle.std.specs.FinMap.{FinMap}
 use Rattle.std.specs.FinMap.Entries.{below_all, is_sorted}
@@ -16,12 +15,11 @@ use Rattle.wjs_base.specs.declared.values.Slot.{Slot}
 use Rattle.wjs_base.specs.declared.values.Value.{Value}
 use Rattle.wjs_base.specs.Order.{slot_cmp, slot_total, slot_exact}
 use Rattle.wjs_store.specs.Naming.{plain}
-use Rattle.wjs_store.specs.State.{World, State, find_world, same_world, is_touched, close_in, after_write, write_at, write_all, moves, reads_of, hand_entries, hand_objects, clear_marks, at_world, settle, fails, fault_in, after_commit}
-use Rattle.wjs_store.specs.Reached.{IsReached}
+use Rattle.wjs_store.specs.State.{World, State, find_world, same_world, is_touched, after_write, write_at, write_all, moves, reads_of, hand_entries, hand_objects, clear_marks, at_world, settle, fails, fault_in, after_commit}
 use Rattle.wjs_store.proofs.Ascending.{same_listed}
 use Rattle.wjs_store.proofs.Marks.{key_is}
 use Rattle.wjs_store.proofs.Writes.{by_bool, found_id, write_id}
-use Rattle.wjs_store.proofs.Commits.{agree_read, no_fault, reached1, reached_settle, fx3, fy1}
+use Rattle.wjs_store.proofs.Commits.{agree_read, no_fault, reached1, reached_settle, fx3}
 use Rattle.wjs_store.proofs.Tables.{pair_found, commit_moves}
 use Rattle.wjs_overlay.specs.declared.maps.Row.{Row}
 use Rattle.wjs_overlay.specs.declared.layer.Spot.{Spot}

@@ -1,19 +1,16 @@
 -- A sprout.
-use Rattle.std.proofs.Common.{◌≡◌, ℕ, Bool, true, false, cond, ◌||◌, List, [], ◌∷◌, ◌++◌, length, refl, ap, sym, ◌∙◌, subst, Option, None, Some, is_some, slice_get}
-use Rattle.std.specs.Option.{option_map, option_map_or, option_and_then}
+use Rattle.std.proofs.Common.{◌≡◌, ℕ, Bool, List, [], ◌∷◌, ◌++◌, refl, ap, sym, ◌∙◌, subst, Some}
+use Rattle.std.specs.Option.{option_map_or, option_and_then}
 use Rattle.std.specs.FinMap as map
-use Rattle.std.proofs.lemmas.Bool.{true≢false, false≢true}
 use Rattle.wjs_base.specs.declared.ids.WorldId.{WorldId}
-use Rattle.wjs_base.specs.declared.values.Slot.{Slot}
 use Rattle.wjs_base.specs.Order.{slot_cmp}
 use Rattle.wjs_store.specs.Naming.{plain}
 use Rattle.wjs_store.specs.State.{World, State, find_world, child_of, next_id, after_sprout}
 use Rattle.wjs_store.specs.Reached.{IsReached}
 use Rattle.wjs_store.proofs.Writes.{found_id, reached_sprout}
-use Rattle.wjs_overlay.specs.declared.maps.Row.{Row}
 use Rattle.wjs_overlay.specs.declared.layer.Spot.{Spot}
 use Rattle.wjs_overlay.specs.declared.layer.Layer.{Layer}
-use Rattle.wjs_overlay.specs.Sparse.{now_of, read_of, mark_of, place_of, full_of, Keeps, AreKept, IsSparse, IsAt, StandFor}
+use Rattle.wjs_overlay.specs.Sparse.{read_of, mark_of, place_of, full_of, Keeps, IsSparse, IsAt, StandFor}
 use Rattle.wjs_overlay.proofs.Places.{some_is, no_none}
 use Rattle.wjs_overlay.proofs.Changes.{kept_push}
 use Rattle.wjs_overlay.proofs.Looks.{found_at}

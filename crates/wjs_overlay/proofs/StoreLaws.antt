@@ -1,5 +1,5 @@
 -- What each call keeps.
-use Rattle.std.proofs.Common.{◌≡◌, ℕ, ◌+◌, ◌<◌, Bool, true, false, cond, not, ◌==◌, List, [], ◌∷◌, ◌++◌, length, Option, None, Some, is_some, is_none, unwrap_or, map as each, refl, ap, sym, ◌∙◌, subst, arith, suc}
+use Rattle.std.proofs.Common.{◌≡◌, ℕ, ◌+◌, ◌<◌, Bool, true, false, cond, not, ◌==◌, List, [], ◌∷◌, length, Option, None, Some, is_some, is_none, unwrap_or, map as each, refl, ap, sym, ◌∙◌, subst, arith, suc}
 use Rattle.std.specs.Option.{option_map, option_map_or, option_and_then}
 use Rattle.std.specs.Ordering.{eq_by_cmp, is_eq, nat_cmp}
 use Rattle.std.specs.Cmp.{tied_itself, nat_cmp_total}
@@ -30,9 +30,9 @@ use Rattle.wjs_store.proofs.FixedStore.{answers_full}
 use Rattle.wjs_store.proofs.Commits.{reached_fresh}
 use Rattle.wjs_store.proofs.Writes.{found_id}
 use Rattle.wjs_overlay.specs.declared.layer.Spot.{Spot}
-use Rattle.wjs_overlay.specs.Sparse.{Keeps, IsAt, now_of, read_of, mark_of}
+use Rattle.wjs_overlay.specs.Sparse.{Keeps, IsAt, read_of, mark_of}
 use Rattle.wjs_overlay.specs.Store.{worlds_of, first_id}
-use Rattle.wjs_overlay.proofs.Places.{some_is, no_none, place_none, place_head, place_older}
+use Rattle.wjs_overlay.proofs.Places.{no_none, place_none, place_head, place_older}
 use Rattle.wjs_overlay.proofs.Changes.{kept_push}
 use Rattle.wjs_overlay.proofs.Looks.{found_at, world_at, keeps_at}
 use Rattle.wjs_overlay.proofs.Puts.{stand_by}

@@ -1,5 +1,5 @@
 -- A write of a slot.
-use Rattle.std.proofs.Common.{◌≡◌, ℕ, ◌<◌, ◌+◌, Bool, true, false, cond, not, ◌&&◌, ◌||◌, List, [], ◌∷◌, length, refl, ap, sym, ◌∙◌, subst, Option, None, Some, is_some, IfSome, slice_get, set, map as each}
+use Rattle.std.proofs.Common.{◌≡◌, Bool, true, false, cond, not, ◌&&◌, ◌||◌, List, [], ◌∷◌, refl, ap, sym, ◌∙◌, subst, Option, None, Some, is_some, slice_get, set, map as each}
 use Rattle.std.specs.Option.{option_map, option_map_or, option_and_then}
 use Rattle.std.specs.Ordering.{eq_by_cmp, is_eq}
 use Rattle.std.specs.Cmp.{tied_itself}
@@ -16,21 +16,19 @@ use Rattle.wjs_store.specs.Naming.{plain}
 use Rattle.wjs_store.specs.Shown.{content_of}
 use Rattle.wjs_store.specs.State.{World, State, find_world, same_world, is_touched, is_below, has_row, write_in, write_at, after_write, put, content_at}
 use Rattle.wjs_store.specs.Reached.{IsReached}
-use Rattle.wjs_store.proofs.Keeps.{reached_after}
 use Rattle.wjs_store.proofs.Marks.{key_is}
-use Rattle.wjs_store.proofs.Writes.{by_bool, write_id, get_put, get_none, found_id, same_self, no_parent_of, reached_write, or_false}
+use Rattle.wjs_store.proofs.Writes.{by_bool, write_id, get_put, get_none, found_id, same_self, reached_write, or_false}
 use Rattle.wjs_store.proofs.Commits.{local_find}
 use Rattle.wjs_overlay.specs.declared.maps.Row.{Row}
 use Rattle.wjs_overlay.specs.declared.layer.Spot.{Spot}
 use Rattle.wjs_overlay.specs.declared.layer.Layer.{Layer}
-use Rattle.wjs_overlay.specs.declared.layer.Look.{Look}
 use Rattle.wjs_overlay.specs.declared.layer.Look.TheVariants.{Kept, Closed, Untouched, Nowhere}
 use Rattle.wjs_overlay.specs.Look.{Looked, Puts, read_after, first_row_of}
-use Rattle.wjs_overlay.specs.Sparse.{now_of, read_of, mark_of, full_of, Keeps, AreKept, IsSparse, IsAt, StandFor}
+use Rattle.wjs_overlay.specs.Sparse.{now_of, read_of, mark_of, full_of, Keeps, IsSparse, IsAt, StandFor}
 use Rattle.wjs_overlay.proofs.Places.{some_is, no_none, find_top, find_rest}
-use Rattle.wjs_overlay.proofs.Full.{untouched, row_of, row_some, row_none, closed_same, is_marked, by_option}
+use Rattle.wjs_overlay.proofs.Full.{row_some, row_none, closed_same, by_option}
 use Rattle.wjs_overlay.proofs.Changes.{kept_set}
-use Rattle.wjs_overlay.proofs.Looks.{world_at, keeps_at, holds, parent_is, content_above}
+use Rattle.wjs_overlay.proofs.Looks.{content_above}
 use Rattle.wjs_overlay.proofs.Puts.{keeps_put, stand_by}
 
 -- ---- below

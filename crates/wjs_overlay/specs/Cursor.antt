@@ -1,7 +1,7 @@
 -- Slots in their order, one after another.
-use Rattle.std.specs.Prelude.{◌≡◌, ℕ, ◌+◌, Bool, true, false, cond, List, [], ◌∷◌, Option, None, Some, is_some, slice_get}
+use Rattle.std.specs.Prelude.{◌≡◌, ℕ, ◌+◌, ◌≤◌, Bool, true, cond, ◌&&◌, List, [], ◌∷◌, Option, None, Some, is_some}
 use Rattle.std.specs.declared.cmp.Ordering.{Ordering}
-use Rattle.std.specs.Ordering.{is_lt}
+use Rattle.std.specs.Ordering.{is_lt, eq_by_cmp}
 use Rattle.std.specs.FinMap as map
 use Rattle.std.specs.FinMap.{FinMap}
 use Rattle.wjs_base.specs.declared.ids.ObjId.{ObjId}
@@ -13,7 +13,7 @@ use Rattle.wjs_base.specs.Order.{slot_cmp}
 use Rattle.wjs_store.specs.Naming.{plain}
 use Rattle.wjs_store.specs.State.{State, KeySet, content_at, same_object}
 use Rattle.wjs_overlay.specs.declared.maps.Row.{Row}
-use Rattle.wjs_overlay.specs.declared.layer.Layer.{Layer}
+use Rattle.wjs_overlay.specs.Work.{kept_from}
 
 -- the least slot of an object
 abbrev pub least_slot_of : ObjId → Slot
@@ -48,10 +48,9 @@ lesser_of None b = b
 lesser_of (Some a) None = Some a
 lesser_of (Some a) (Some b) = cond (is_lt (slot_cmp a b)) (Some a) (Some b)
 
--- how many rows are still to come, in all worlds
-abbrev pub rows_left : Option Slot → List Layer → ℕ
-rows_left passed [] = 0
-rows_left passed (r ∷ rs) = count_passing (to_come passed) (map.keys r.rows) + rows_left passed rs
+-- the slots of an object that are still to come
+abbrev pub comes_on : ObjId → Option Slot → Slot → Bool
+comes_on o passed s = same_object s.object o && to_come passed s
 
 -- the least slot of an object that has a row, among those to come
 pub record IsNextRow (rows : FinMap slot_cmp Row) (o : ObjId) (passed next : Option Slot) : Type 0 where
@@ -61,10 +60,10 @@ pub record IsNextRow (rows : FinMap slot_cmp Row) (o : ObjId) (passed next : Opt
   pub least : (s : Slot) → s.object ≡ o → to_come passed s ≡ true → is_before s next ≡ true → map.get rows s ≡ None
 
 -- a slot of an object to come, before which the world holds nothing of the object
-pub record IsNextSlot (layers : List Layer) (F : State plain) (w : WorldId) (o : ObjId) (passed next : Option Slot) : Type 0 where
+pub record IsNextSlot (F : State plain) (w : WorldId) (o : ObjId) (passed next : Option Slot) : Type 0 where
   pub on : (s : Slot) → next ≡ Some s → s.object ≡ o
   pub later : (s : Slot) → next ≡ Some s → to_come passed s ≡ true
-  pub kept : (s : Slot) → next ≡ Some s → (i : ℕ) × (r : Layer) × (slice_get layers i ≡ Some r) × (is_some (map.get r.rows s) ≡ true)
+  pub kept : (s : Slot) → next ≡ Some s → 1 ≤ kept_from (eq_by_cmp slot_cmp s) F w
   pub least : (s : Slot) → s.object ≡ o → to_come passed s ≡ true → is_before s next ≡ true → content_at F w s ≡ None
 
 -- a slot that is present is among those found

@@ -1,6 +1,7 @@
 pub mod Codes
 pub mod Sparse
 pub mod Look
+pub mod Work
 pub mod Cursor
 pub mod Least
 pub mod Moves

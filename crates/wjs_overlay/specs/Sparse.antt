@@ -1,5 +1,5 @@
 -- What the rows of the worlds stand for.
-use Rattle.std.specs.Prelude.{◌≡◌, ℕ, ◌+◌, ◌<◌, Bool, true, not, cond, ◌||◌, List, [], ◌∷◌, length, fold, Option, None, Some, is_some, slice_get}
+use Rattle.std.specs.Prelude.{◌≡◌, ℕ, ◌+◌, ◌<◌, true, not, cond, ◌||◌, List, [], ◌∷◌, length, fold, Option, None, Some, is_some, slice_get}
 use Rattle.std.specs.Option.{option_map, option_map_or, option_and_then}
 use Rattle.std.specs.FinMap as map
 use Rattle.std.specs.FinMap.{FinMap}

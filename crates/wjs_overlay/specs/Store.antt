@@ -1,6 +1,6 @@
 -- What the store keeps.
-use Rattle.std.specs.Prelude.{◌≡◌, ℕ, ◌<◌, Bool, true, false, cond, List, length, unwrap_or}
-use Rattle.std.specs.Coded.{Coded-set, coded_option, coded_ℕ, coded_bool}
+use Rattle.std.specs.Prelude.{◌≡◌, ℕ, ◌<◌, Bool, false, cond, List, length, unwrap_or}
+use Rattle.std.specs.Coded.{Coded-set, coded_option, coded_ℕ}
 use Rattle.std.specs.Ordering.{nat_cmp}
 use Rattle.std.specs.Option.{option_and_then}
 use Rattle.std.specs.FinMap as map

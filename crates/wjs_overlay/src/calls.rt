@@ -6,6 +6,7 @@ ghost use Rattle.wjs_overlay.specs.Sparse.{IsSparse, IsAt, StandFor, full_of, de
 ghost use Rattle.wjs_base.specs.declared.values.Slot.{Slot};
 ghost use Rattle.std.specs.Prelude.{map as each, ◌<◌};
 ghost use Rattle.wjs_overlay.specs.Store.{check_of};
+ghost use Rattle.wjs_overlay.specs.Work.{rows_of, closed_of, rows_above};
 
 use crate::check::fault;
 use crate::layer::{Layer, Spot};
@@ -107,6 +108,7 @@ fn commit_slots<L: Ledger>(
     requires there { IsAt layers.old world }
     ensures verdict { IfOk result (λ verdict. verdict_of verdict ≡ verdict_at (full_of layers.old) world.world) }
     ensures after { OnOk result (StandFor layers.new (after_commit (full_of layers.old) world.world)) }
+    ensures steps { steps.new ≤ steps.old + (rows_of (full_of layers.old) world.world + closed_of (full_of layers.old) world.world + rows_above (full_of layers.old) world.world + 1) * (4 * depth_of (full_of layers.old) world.world + 20) }
 {
     let layer = &layers[world.place];
     match layer.above {
@@ -133,6 +135,7 @@ pub fn commit<L: Ledger>(
     ensures verdict { IfOk result (λ verdict. verdict_of verdict ≡ verdict_at (full_of layers.old.items) world.world) }
     ensures after { OnOk result (StandFor layers.new.items (after_commit (full_of layers.old.items) world.world)) }
     ensures len { length layers.new.items ≡ length layers.old.items }
+    ensures steps { steps.new ≤ steps.old + (rows_of (full_of layers.old.items) world.world + closed_of (full_of layers.old.items) world.world + rows_above (full_of layers.old.items) world.world + 1) * (4 * depth_of (full_of layers.old.items) world.world + 20) }
 {
     commit_slots(alloc, layers.as_mut_slice(), world, steps)
 }

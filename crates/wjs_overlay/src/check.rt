@@ -1,5 +1,5 @@
 //! The check of a world against its parent.
-ghost use Rattle.std.specs.Prelude.{◌≡◌, ◌&&◌, ◌<◌, not, true, false, length, Some, is_some, slice_get};
+ghost use Rattle.std.specs.Prelude.{◌≡◌, ◌+◌, ◌*◌, ◌&&◌, ◌<◌, ◌≤◌, not, true, false, length, Some, None, is_some, slice_get};
 ghost use Rattle.std.specs.Option.{option_map_or};
 ghost use Rattle.std.specs.FinMap as map;
 ghost use Rattle.wjs_base.specs.Same.{same_value};
@@ -8,7 +8,9 @@ ghost use Rattle.wjs_store.specs.State.{World, find_world, content_at, same_cont
 ghost use Rattle.wjs_store.specs.Shown.{content_of};
 ghost use Rattle.wjs_base.specs.declared.values.Slot.{Slot};
 ghost use Rattle.wjs_overlay.specs.declared.layer.Layer.{Layer};
-ghost use Rattle.wjs_overlay.specs.Sparse.{IsSparse, IsAt, full_of, read_of};
+ghost use Rattle.wjs_overlay.specs.Sparse.{IsSparse, IsAt, full_of, depth_of, read_of};
+ghost use Rattle.wjs_overlay.specs.Work.{row_slots, kept_from};
+ghost use Rattle.wjs_overlay.specs.Cursor.{comes_on};
 ghost use Rattle.wjs_overlay.specs.Check.{IsLeast, differs, is_unseen};
 
 use crate::layer::{Layer, Spot};
@@ -40,6 +42,7 @@ fn row_differs<L: Ledger>(
     requires sparse { IsSparse layers.now }
     requires there { IsAt layers.now above }
     ensures differs { result ≡ option_map_or (λ c. not (same_content same_value c (content_at (full_of layers.now) above.world slot))) (read_of row) false }
+    ensures steps { steps.new ≤ steps.old + (2 * depth_of (full_of layers.now) above.world + 2) }
 {
     match row.read {
         None => false,
@@ -58,6 +61,7 @@ fn fault_in_reads<L: Ledger>(
     requires there { IsAt layers.now world }
     requires parent { IsAt layers.now above }
     ensures least { (x y : World plain) → find_world (full_of layers.now) world.world ≡ Some x → find_world (full_of layers.now) above.world ≡ Some y → IsLeast (differs x y) result }
+    ensures steps { (x : World plain) → find_world (full_of layers.now) world.world ≡ Some x → is_some x.parent ≡ true → steps.new ≤ steps.old + (length (row_slots x) * (2 * depth_of (full_of layers.now) above.world + 3) + 1) }
 {
     let layer = &layers[world.place];
     let mut next = layer.rows.next_from(least_slot(), steps);
@@ -81,6 +85,7 @@ fn slot_unseen<L: Ledger>(
     requires sparse { IsSparse layers.now }
     requires there { IsAt layers.now above }
     ensures unseen { result ≡ (is_some (content_at (full_of layers.now) above.world slot) && not (is_some (map.get layer.now.rows slot))) }
+    ensures steps { steps.new ≤ steps.old + (2 * depth_of (full_of layers.now) above.world + 3) }
 {
     match content(layers, above, slot, steps) {
         Content::Absent => false,
@@ -101,6 +106,7 @@ fn fault_on_object<L: Ledger>(
     requires parent { IsAt layers.now above }
     requires up { (x : World plain) → find_world (full_of layers.now) world.world ≡ Some x → is_some x.parent ≡ true }
     ensures least { (x y : World plain) → find_world (full_of layers.now) world.world ≡ Some x → find_world (full_of layers.now) above.world ≡ Some y → IsLeast (λ (s : Slot). same_object s.object object && is_unseen x y s) result }
+    ensures steps { steps.new ≤ steps.old + (kept_from (comes_on object None) (full_of layers.now) above.world * (3 * depth_of (full_of layers.now) above.world + 4) + (depth_of (full_of layers.now) above.world + 1)) }
 {
     let layer = &layers[world.place];
     let mut passed = None;
@@ -125,6 +131,7 @@ fn fault_in_closed<L: Ledger>(
     requires parent { IsAt layers.now above }
     requires up { (x : World plain) → find_world (full_of layers.now) world.world ≡ Some x → is_some x.parent ≡ true }
     ensures least { (x y : World plain) → find_world (full_of layers.now) world.world ≡ Some x → find_world (full_of layers.now) above.world ≡ Some y → IsLeast (λ (s : Slot). map.contains_key x.closed s.object && is_unseen x y s) result }
+    ensures steps { (x : World plain) → find_world (full_of layers.now) world.world ≡ Some x → steps.new ≤ steps.old + (map.len x.closed * (depth_of (full_of layers.now) above.world + 2) + kept_from (λ (s : Slot). map.contains_key x.closed s.object) (full_of layers.now) above.world * (3 * depth_of (full_of layers.now) above.world + 4) + 1) }
 {
     let layer = &layers[world.place];
     let mut next = layer.closed.next_from(least_object(), steps);
@@ -149,6 +156,7 @@ pub fn fault<L: Ledger>(
     requires parent { IsAt layers.now above }
     requires up { (x : World plain) → find_world (full_of layers.now) world.world ≡ Some x → is_some x.parent ≡ true }
     ensures fault { (x y : World plain) → find_world (full_of layers.now) world.world ≡ Some x → find_world (full_of layers.now) above.world ≡ Some y → result ≡ fault_in x y }
+    ensures steps { (x : World plain) → find_world (full_of layers.now) world.world ≡ Some x → steps.new ≤ steps.old + (length (row_slots x) * (2 * depth_of (full_of layers.now) above.world + 3) + map.len x.closed * (depth_of (full_of layers.now) above.world + 2) + kept_from (λ (s : Slot). map.contains_key x.closed s.object) (full_of layers.now) above.world * (3 * depth_of (full_of layers.now) above.world + 4) + 2) }
 {
     let read = fault_in_reads(layers, world, above, steps);
     let listed = fault_in_closed(layers, world, above, steps);

@@ -1,5 +1,5 @@
 //! A world, and its rows.
-ghost use Rattle.std.specs.Prelude.{◌≡◌, ◌+◌, ◌≤◌, OnOk};
+ghost use Rattle.std.specs.Prelude.{◌≡◌, ◌+◌, ◌*◌, ◌≤◌, length, OnOk};
 ghost use Rattle.wjs_store.specs.State.{put};
 ghost use Rattle.wjs_overlay.specs.Look.{Looked, closed_layer};
 ghost use Rattle.wjs_overlay.specs.Cursor.{IsNextRow, least_slot_of, on_object_of};
@@ -185,6 +185,7 @@ pub fn hand_reads<L: Ledger>(
     steps: &mut Steps<L>,
 ) -> Result<(), OutOfMemory>
     ensures kept { OnOk result ((layer.new.above ≡ layer.old.above) × ((y : World plain) → Keeps layer.old y → ReadsAgree rows.now y → Keeps layer.new (handed_rows rows.now y))) }
+    ensures steps { steps.new ≤ steps.old + 3 * length rows.now }
 {
     if layer.above.is_none() {
         return Ok(());
@@ -202,6 +203,7 @@ pub fn close_all<L: Ledger>(
     steps: &mut Steps<L>,
 ) -> Result<(), OutOfMemory>
     ensures kept { OnOk result ((layer.new.above ≡ layer.old.above) × ((y : World plain) → Keeps layer.old y → Keeps layer.new (closed_all objects.now y))) }
+    ensures steps { steps.new ≤ steps.old + length objects.now }
 {
     for object in objects {
         close_layer(layer, *object, steps)?;

@@ -13,6 +13,7 @@ ghost use Rattle.wjs_store.specs.Shown.{content_of};
 ghost use Rattle.wjs_base.specs.declared.values.Slot.{Slot};
 ghost use Rattle.wjs_overlay.specs.declared.layer.Layer.{Layer};
 ghost use Rattle.wjs_overlay.specs.Cursor.{IsNextSlot, lesser_of, with_present};
+ghost use Rattle.wjs_overlay.specs.Work.{row_slots};
 ghost use Rattle.wjs_overlay.specs.Look.{Puts, read_after, first_row_of};
 ghost use Rattle.wjs_overlay.specs.Sparse.{IsSparse, IsAt, StandFor, full_of, depth_of};
 
@@ -229,7 +230,7 @@ pub fn next_slot<L: Ledger>(
     requires sparse { IsSparse layers.now }
     requires there { IsAt layers.now world }
     requires on { IfSome passed (λ (s : Slot). s.object ≡ object) }
-    ensures next { IsNextSlot layers.now (full_of layers.now) world.world object passed result }
+    ensures next { IsNextSlot (full_of layers.now) world.world object passed result }
     ensures steps { steps.new ≤ steps.old + (depth_of (full_of layers.now) world.world + 1) }
 {
     let mut at = world;
@@ -337,6 +338,7 @@ fn hand_to<L: Ledger>(
 ) -> Result<(), OutOfMemory>
     requires { world.place < length layers.old }
     ensures kept { OnOk result ((F : State plain) → AreKept layers.old F → place_of F world.world ≡ Some world.place → ((y : World plain) → find_world F world.world ≡ Some y → ReadsAgree rows.now y) → AreKept layers.new (at_world world.world (handed_rows rows.now) F)) }
+    ensures steps { steps.new ≤ steps.old + 3 * length rows.now }
 {
     let layer = &mut layers[world.place];
     hand_reads(layer, rows, steps)
@@ -351,6 +353,7 @@ fn close_to<L: Ledger>(
 ) -> Result<(), OutOfMemory>
     requires { world.place < length layers.old }
     ensures kept { OnOk result ((F : State plain) → AreKept layers.old F → place_of F world.world ≡ Some world.place → AreKept layers.new (at_world world.world (closed_all objects.now) F)) }
+    ensures steps { steps.new ≤ steps.old + length objects.now }
 {
     let layer = &mut layers[world.place];
     close_all(layer, objects, steps)
@@ -375,6 +378,7 @@ fn write_rows<L: Ledger>(
     requires sparse { IsSparse layers.old }
     requires there { IsAt layers.old world }
     ensures after { OnOk result (StandFor layers.new (written_rows world.world rows.now (full_of layers.old))) }
+    ensures steps { steps.new ≤ steps.old + length rows.now * (2 * depth_of (full_of layers.old) world.world + 3) }
 {
     for (slot, row) in rows {
         write_row(layers, world, *slot, *row, steps)?;
@@ -393,6 +397,7 @@ fn write_row<L: Ledger>(
     requires sparse { IsSparse layers.old }
     requires there { IsAt layers.old world }
     ensures after { OnOk result (StandFor layers.new (cond row.written (after_write (full_of layers.old) world.world slot (now_of row)) (full_of layers.old))) }
+    ensures steps { steps.new ≤ steps.old + (2 * depth_of (full_of layers.old) world.world + 3) }
 {
     if !row.written {
         return Ok(());
@@ -413,6 +418,7 @@ pub fn settle<L: Ledger>(
     requires up { IfSome (slice_get layers.old world.place) (λ (r : Layer). r.above ≡ Some above) }
     requires agrees { (x y : World plain) → find_world (full_of layers.old) world.world ≡ Some x → find_world (full_of layers.old) above.world ≡ Some y → fault_in x y ≡ None }
     ensures after { OnOk result (StandFor layers.new (after_commit (full_of layers.old) world.world)) }
+    ensures steps { (x : World plain) → find_world (full_of layers.old) world.world ≡ Some x → steps.new ≤ steps.old + (length (row_slots x) * (2 * depth_of (full_of layers.old) above.world + 7) + map.len x.closed * 2 + 2) }
 {
     let layer = &layers[world.place];
     let rows = layer.rows.entries(alloc, steps)?;

@@ -1,11 +1,17 @@
-//! The sizes of a world's marks.
+//! The marks of a world: how many there are, and its written slots one after another.
 ghost use Rattle.std.specs.Prelude.{◌≡◌, ◌<◌, if◌then◌else◌};
 ghost use Rattle.std.specs.FinMap as map;
-ghost use Rattle.wjs_overlay.specs.Marks.{reads_in, writes_in};
+ghost use Rattle.std.specs.Prelude.{◌&&◌};
+ghost use Rattle.std.specs.Map.{lookup_entry};
+ghost use Rattle.wjs_base.specs.declared.values.Slot.{Slot};
+ghost use Rattle.wjs_overlay.specs.Check.{IsLeast};
+ghost use Rattle.wjs_overlay.specs.Cursor.{to_come};
+ghost use Rattle.wjs_overlay.specs.Marks.{reads_in, writes_in, has_written};
 
 use crate::layer::Layer;
-use crate::maps::least_slot;
+use crate::maps::{Row, least_slot};
 use std::sync::ledger::{Blank, Ledger};
+use wjs_base::Slot;
 use wjs_rows::Steps;
 use wjs_store::Counts;
 
@@ -43,4 +49,36 @@ pub fn count_marks<L: Ledger>(layer: &Layer, blank: Blank) -> Counts
         writes,
         closed: layer.closed.len() as u64,
     }
+}
+
+/// The least row after the slots that were passed.
+fn row_after<L: Ledger>(
+    layer: &Layer,
+    passed: Option<Slot>,
+    steps: &mut Steps<L>,
+) -> Option<(Slot, Row)>
+    ensures { result ≡ lookup_entry (to_come passed) (map.entries layer.now.rows) }
+{
+    match passed {
+        None => layer.rows.next_from(least_slot(), steps),
+        Some(slot) => layer.rows.next_after(slot, steps),
+    }
+}
+
+/// The least written slot of a layer after a slot, or the least of all.
+pub fn next_written<L: Ledger>(layer: &Layer, after: Option<Slot>, blank: Blank) -> Option<Slot>
+    requires name { blank.name ≡ L.name }
+    requires parts { blank.parts ≡ L.parts }
+    requires some { 0 < blank.parts }
+    ensures { IsLeast (λ (s : Slot). has_written layer.now.rows s && to_come after s) result }
+{
+    let mut steps = Steps::<L>::new(blank);
+    let mut passed = after;
+    'rows: while let Some((slot, row)) = row_after(layer, passed, &mut steps) {
+        if row.written {
+            return Some(slot);
+        }
+        passed = Some(slot);
+    }
+    None
 }

@@ -6,7 +6,7 @@ use crate::layer::{Layer, Spot};
 use crate::maps::{ObjectSet, SlotRows};
 use crate::marks::count_marks;
 use crate::numbers::{Owners, Places};
-use crate::{calls, layers, uncounted};
+use crate::{calls, layers, marks, uncounted};
 use std::alloc::Global;
 use std::marker::Brand;
 use std::sync::ledger::{Blank, Ledger};
@@ -46,7 +46,12 @@ impl Overlay {
     ghost use Rattle.wjs_store.specs.Shown.{content_of, slots_of, verdict_of};
     ghost use Rattle.wjs_overlay.specs.Sparse.{IsAt, full_of, depth_of};
     ghost use Rattle.wjs_overlay.specs.Store.{check_of};
-    ghost use Rattle.std.specs.Prelude.{IsSome};
+    ghost use Rattle.wjs_overlay.specs.Work.{rows_of, closed_of, rows_above};
+    ghost use Rattle.std.specs.Prelude.{IsSome, ◌&&◌};
+    ghost use Rattle.wjs_base.specs.declared.values.Slot.{Slot};
+    ghost use Rattle.wjs_overlay.specs.Check.{IsLeast};
+    ghost use Rattle.wjs_overlay.specs.Cursor.{to_come};
+    ghost use Rattle.wjs_overlay.specs.Marks.{is_written};
     ghost use Rattle.wjs_store.specs.State.{parent_of};
 
     /// A store with the first world alone.
@@ -153,7 +158,10 @@ impl Overlay {
         Ok(answer)
     }
 
-    /// `commit`, with its steps.
+    /// `commit`, in at most `(R + C + A + 1) * (4 * depth + 20)` steps, taken as the call begins: `depth` is the number
+    /// of worlds above, `R` the number of slots that were read or written in the world, `C` the number of its listed
+    /// objects, and `A` the number of rows on these objects in all worlds above, where the first world's rows are its
+    /// present slots.
     pub fn commit_counted<L: Ledger>(
         &mut self,
         world: WorldId,
@@ -161,6 +169,7 @@ impl Overlay {
     ) -> Result<Verdict, OutOfMemory>
         requires { IsTrue (has_world (worlds (⟦<Overlay as WorldStore>⟧.meaning self.old)) world) }
         ensures answers { Answers (⟦<Overlay as WorldStore>⟧.meaning self.old) (commit world) (λ verdict. committed (verdict_of verdict)) result (⟦<Overlay as WorldStore>⟧.meaning self.new) }
+        ensures steps { let F = worlds (⟦<Overlay as WorldStore>⟧.meaning self.old) in steps.new ≤ steps.old + (rows_of F world + closed_of F world + rows_above F world + 1) * (4 * depth_of F world + 20) }
     {
         if self.spent {
             return Err(OutOfMemory);
@@ -211,6 +220,17 @@ impl Overlay {
     {
         let at = self.spot(world);
         calls::check_in::<Brand>(self.layers.as_slice(), at, Blank::new(1))
+    }
+
+    /// The least slot that was written in a world and stands after the slot given, or the least of all; None exactly
+    /// where there is none.
+    pub fn next_written(&self, world: WorldId, after: Option<Slot>) -> Option<Slot>
+        requires live { (⟦<Overlay as WorldStore>⟧.meaning self.now).spent ≡ false }
+        requires there { IsTrue (has_world (worlds (⟦<Overlay as WorldStore>⟧.meaning self.now)) world) }
+        ensures { IsLeast (λ (s : Slot). is_written (worlds (⟦<Overlay as WorldStore>⟧.meaning self.now)) world s && to_come after s) result }
+    {
+        let at = self.spot(world);
+        marks::next_written::<Brand>(&self.layers[at.place], after, Blank::new(1))
     }
 }
 

@@ -1,12 +1,8 @@
-use Rattle.std.proofs.Common.{◌≡◌, rules, ◌<◌, length, refl, sym, ap, ◌∙◌, subst, Some, None, Option, IfSome, get_or}
-use Rattle.wjs_base.specs.declared.values.Slot.{Slot}
-use Rattle.wjs_store.specs.Naming.{plain}
-use Rattle.wjs_store.specs.State.{World, fault_in}
-use Rattle.wjs_overlay.specs.declared.layer.Layer.{Layer}
-use Rattle.wjs_overlay.specs.Sparse.{full_of}
+use Rattle.std.proofs.Common.{rules, ◌<◌, length, get_or}
 use Rattle.wjs_store.proofs.Tables.{slice_get_at}
 use Rattle.wjs_overlay.proofs.Looks.{below_at, above_at}
 use Rattle.wjs_overlay.proofs.CommitLaws.{no_above, parent_there, faulty, passes}
+use Rattle.wjs_overlay.proofs.Depths.{checked_within, moved_within}
 use Rattle.wjs_overlay.proofs.calls.commit_slots.Goals as goal
 
 pub offset_bounds-layers-world : goal.offset_bounds-layers-world
@@ -32,3 +28,12 @@ returns-in-Some-fault-clause-after g c = (faulty c.args.layers.now c.requires.sp
 
 pub returns-in_ok-settle-in-None-fault-clause-verdict : goal.returns-in_ok-settle-in-None-fault-clause-verdict
 returns-in_ok-settle-in-None-fault-clause-verdict g c = passes c.args.layers.now c.requires.sparse c.args.world c.requires.there (get_or c.args.layers.now c.args.world.place c.index-layers-world.result) (slice_get_at c.args.layers.now c.args.world.place c.index-layers-world.result (below_at c.args.layers.now c.args.world c.requires.sparse c.requires.there)) c.in-Some.above c.in-Some.is (λ x y fx fy. c.in-None-fault.ensures.fault x y fx fy)
+
+pub returns-in-Some-fault-clause-steps : goal.returns-in-Some-fault-clause-steps
+returns-in-Some-fault-clause-steps g c = checked_within c.args.layers.now c.requires.sparse c.args.world c.requires.there (get_or c.args.layers.now c.args.world.place c.index-layers-world.result) (slice_get_at c.args.layers.now c.args.world.place c.index-layers-world.result (below_at c.args.layers.now c.args.world c.requires.sparse c.requires.there)) c.in-Some.above c.in-Some.is c.args.steps.now c.fault.new.steps (λ x fx. c.fault.ensures.steps x fx)
+
+pub returns-in_err-settle-in-None-fault-clause-steps : goal.returns-in_err-settle-in-None-fault-clause-steps
+returns-in_err-settle-in-None-fault-clause-steps g c = moved_within c.args.layers.now c.requires.sparse c.args.world c.requires.there (get_or c.args.layers.now c.args.world.place c.index-layers-world.result) (slice_get_at c.args.layers.now c.args.world.place c.index-layers-world.result (below_at c.args.layers.now c.args.world c.requires.sparse c.requires.there)) c.in-Some.above c.in-Some.is c.args.steps.now c.fault.new.steps c.settle.new.steps (λ x fx. c.fault.ensures.steps x fx) (λ x fx. c.settle.ensures.steps x fx)
+
+pub returns-in_ok-settle-in-None-fault-clause-steps : goal.returns-in_ok-settle-in-None-fault-clause-steps
+returns-in_ok-settle-in-None-fault-clause-steps g c = moved_within c.args.layers.now c.requires.sparse c.args.world c.requires.there (get_or c.args.layers.now c.args.world.place c.index-layers-world.result) (slice_get_at c.args.layers.now c.args.world.place c.index-layers-world.result (below_at c.args.layers.now c.args.world c.requires.sparse c.requires.there)) c.in-Some.above c.in-Some.is c.args.steps.now c.fault.new.steps c.settle.new.steps (λ x fx. c.fault.ensures.steps x fx) (λ x fx. c.settle.ensures.steps x fx)

@@ -1,4 +1,4 @@
-use Rattle.std.proofs.Common.{sym, ap, ◌∙◌, map as each}
+use Rattle.std.proofs.Common.{ap, ◌∙◌, map as each}
 use Rattle.std.proofs.lemmas.Result.{IfOk-weaker}
 use Rattle.wjs_base.specs.declared.values.Slot.{Slot}
 use Rattle.wjs_store.specs.Shown.{slots_of}

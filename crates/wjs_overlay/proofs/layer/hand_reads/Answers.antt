@@ -1,4 +1,4 @@
-use Rattle.std.proofs.Common.{◌≡◌, ◌+◌, ◌++◌, ◌∷◌, [], ◌<◌, length, take, get_or, fold, sym, ap, ◌∙◌, subst, is_some, arith}
+use Rattle.std.proofs.Common.{◌≡◌, ◌+◌, ◌++◌, ◌∷◌, [], ◌<◌, length, take, fold, sym, ap, ◌∙◌, subst, is_some, arith}
 use Rattle.std.specs.FinMap as map
 use Rattle.std.proofs.lemmas.List.{take_more}
 use Rattle.std.proofs.lemmas.List.Sums.{fold_push}
@@ -11,6 +11,7 @@ use Rattle.wjs_overlay.proofs.layer.hand_reads.Goals as goal
 pub loop-slot-preserved : goal.loop-slot-preserved
 loop-slot-preserved g c = record {
   above = c.in_ok-hand_read.ensures.kept.0 ∙ c.loop-slot.invariant.above;
+  cost = omega (arith, c.loop-slot.invariant.cost, c.hand_read.ensures.steps);
   kept = λ y k p a.
       let rows = c.args.rows.now in
       let i = c.loop-slot.slot-index in

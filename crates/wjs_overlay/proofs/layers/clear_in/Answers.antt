@@ -1,11 +1,10 @@
-use Rattle.std.proofs.Common.{◌≡◌, refl, sym, ap, ◌∙◌, subst, set, get_or}
-use Rattle.std.proofs.lemmas.Result.{on_ok_weaker}
+use Rattle.std.proofs.Common.{refl, sym, subst, set, get_or}
 use Rattle.wjs_store.specs.State.{at_world, clear_marks}
 use Rattle.wjs_store.proofs.Tables.{slice_get_at}
-use Rattle.wjs_overlay.specs.Moves.{handed_rows, closed_all, cleared}
+use Rattle.wjs_overlay.specs.Moves.{cleared}
 use Rattle.wjs_overlay.specs.Sparse.{AreKept}
 use Rattle.wjs_overlay.proofs.ListLaws.{kept_at}
-use Rattle.wjs_overlay.proofs.HandLaws.{keeps_cleared, rows_id, closes_id}
+use Rattle.wjs_overlay.proofs.HandLaws.{keeps_cleared}
 use Rattle.wjs_overlay.proofs.layers.clear_in.Goals as goal
 
 pub returns : goal.returns

@@ -1,4 +1,4 @@
-use Rattle.std.proofs.Common.{◌≡◌, ap, sym, ◌∙◌, subst}
+use Rattle.std.proofs.Common.{ap, ◌∙◌, subst}
 use Rattle.wjs_store.specs.State.{at_world, close_in}
 use Rattle.wjs_overlay.specs.Sparse.{AreKept, full_of, after_reads}
 use Rattle.wjs_overlay.proofs.Looks.{found_at}

@@ -1,4 +1,4 @@
-use Rattle.std.proofs.Common.{sym, ap, ◌∙◌, subst, refl, arith}
+use Rattle.std.proofs.Common.{sym, subst, arith}
 use Rattle.wjs_overlay.specs.Sparse.{full_of}
 use Rattle.wjs_overlay.specs.Cursor.{IsNextSlot}
 use Rattle.wjs_overlay.proofs.Places.{slice_read}
@@ -10,7 +10,7 @@ pub up-init : goal.up-init
 up-init g c = record { there = c.requires.there; bound = below_at c.args.layers.now c.args.world c.requires.sparse c.requires.there; scan = scan_start c.args.layers.now c.args.world.world c.args.object c.args.passed; cost = omega arith }
 
 pub returns-in-None-clause-next : goal.returns-in-None-clause-next
-returns-in-None-clause-next g c = subst (IsNextSlot c.args.layers.now (full_of c.args.layers.now) c.args.world.world c.args.object c.args.passed) (sym c.lesser-least.ensures) (scan_end c.args.layers.now c.requires.sparse c.args.world.world c.args.object c.args.passed c.up.least c.up.at c.up.invariant.there c.index-layers-at.result (slice_read c.args.layers.now c.up.at.place c.index-layers-at.result c.index-layers-at.is c.up.invariant.bound) c.next_row.result c.next_row.ensures.next c.up.invariant.scan c.in-None.is)
+returns-in-None-clause-next g c = subst (IsNextSlot (full_of c.args.layers.now) c.args.world.world c.args.object c.args.passed) (sym c.lesser-least.ensures) (scan_end c.args.layers.now c.requires.sparse c.args.world.world c.args.object c.args.passed c.up.least c.up.at c.up.invariant.there c.index-layers-at.result (slice_read c.args.layers.now c.up.at.place c.index-layers-at.result c.index-layers-at.is c.up.invariant.bound) c.next_row.result c.next_row.ensures.next c.up.invariant.scan c.in-None.is)
 
 pub up-smaller : goal.up-smaller
 up-smaller g c = (above_at c.args.layers.now c.requires.sparse c.up.at c.up.invariant.there c.index-layers-at.result (slice_read c.args.layers.now c.up.at.place c.index-layers-at.result c.index-layers-at.is c.up.invariant.bound) c.in-Some.above c.in-Some.is).1

@@ -1,7 +1,8 @@
 use Rattle.std.proofs.Common.{◌≡◌, IfSome}
 use Rattle.wjs_base.specs.declared.values.Slot.{Slot}
 use Rattle.wjs_overlay.specs.Sparse.{full_of}
-use Rattle.wjs_overlay.specs.Cursor.{rows_left}
+use Rattle.wjs_overlay.specs.Cursor.{comes_on}
+use Rattle.wjs_overlay.specs.Work.{kept_from}
 use Rattle.wjs_overlay.proofs.Scans.{Found}
 use Rattle.wjs_overlay.proofs.layers.present.Given as goal
 
@@ -12,4 +13,4 @@ invariant-slots g l = record {
 }
 
 abbrev pub decreases-slots : goal.decreases-slots
-decreases-slots g l = rows_left l.passed l.layers
+decreases-slots g l = kept_from (comes_on l.object l.passed) (full_of l.layers) l.world.world

@@ -1,4 +1,4 @@
-use Rattle.std.proofs.Common.{◌≡◌, rules, ◌<◌, length, refl, sym, ap, ◌∙◌, subst, arith, IfSome, OnOk, slice_get, get_or, set, Some, false}
+use Rattle.std.proofs.Common.{◌≡◌, rules, ◌<◌, length, sym, ◌∙◌, subst, arith, IfSome, get_or, set, Some, false}
 use Rattle.wjs_overlay.specs.declared.layer.Layer.{Layer}
 use Rattle.wjs_store.specs.State.{put, after_read}
 use Rattle.wjs_overlay.specs.Sparse.{StandFor, full_of}

@@ -1,4 +1,4 @@
-use Rattle.std.proofs.Common.{◌≡◌, ap, ◌∙◌, arith}
+use Rattle.std.proofs.Common.{ap, ◌∙◌, arith}
 use Rattle.wjs_overlay.specs.Sparse.{full_of, place_of}
 use Rattle.wjs_overlay.proofs.ListLaws.{reads_more, read_places}
 use Rattle.wjs_overlay.proofs.layers.read_all.Goals as goal

@@ -1,13 +1,8 @@
-use Rattle.std.proofs.Common.{◌≡◌, rules, ◌<◌, length, refl, sym, ap, ◌∙◌, subst, arith, true, false, is_some, IfSome, OnOk, slice_get, set, Some}
-use Rattle.std.proofs.lemmas.Bool.{not-true, not-false}
+use Rattle.std.proofs.Common.{◌≡◌, rules, ◌<◌, length, subst, arith, true, is_some, IfSome}
 use Rattle.wjs_overlay.specs.declared.layer.Layer.{Layer}
-use Rattle.wjs_store.specs.State.{put, after_write, write_in}
-use Rattle.wjs_store.specs.Shown.{content_of}
-use Rattle.wjs_overlay.specs.Look.{Puts}
-use Rattle.wjs_overlay.specs.Sparse.{StandFor, full_of}
-use Rattle.wjs_overlay.proofs.Places.{slice_read, some_is, slice_some}
+use Rattle.wjs_overlay.proofs.Places.{slice_read}
 use Rattle.wjs_overlay.proofs.Looks.{above_at, depth_above, below_at}
-use Rattle.wjs_overlay.proofs.WriteLaws.{before_kept, before_closed, before_plain, before_strict, before_nowhere, puts_first, puts_marked, write_by}
+use Rattle.wjs_overlay.proofs.WriteLaws.{before_kept, before_closed, before_plain, before_strict, before_nowhere}
 use Rattle.wjs_overlay.proofs.layers.read_before.Goals as goal
 
 pub offset_bounds-layers-world : goal.offset_bounds-layers-world

@@ -1,4 +1,4 @@
-use Rattle.std.proofs.Common.{◌≡◌, ◌++◌, ◌∷◌, [], refl, sym, ap, ◌∙◌, subst, is_ok, cond, Some}
+use Rattle.std.proofs.Common.{◌≡◌, ◌++◌, ◌∷◌, [], sym, ap, ◌∙◌, subst, cond, Some}
 use Rattle.wjs_store.proofs.Trees.{ok_of}
 use Rattle.wjs_store.specs.State.{after_sprout}
 use Rattle.wjs_overlay.specs.declared.layer.Layer.{Layer}

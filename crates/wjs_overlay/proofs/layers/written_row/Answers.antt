@@ -1,13 +1,12 @@
-use Rattle.std.proofs.Common.{◌≡◌, rules, ◌<◌, length, refl, sym, ap, ◌∙◌, subst, arith, true, false, is_some, IfSome, OnOk, slice_get, set, Some}
-use Rattle.std.proofs.lemmas.Bool.{not-true, not-false}
+use Rattle.std.proofs.Common.{◌≡◌, rules, ◌<◌, length, sym, ap, ◌∙◌, subst, true, is_some, IfSome}
 use Rattle.wjs_overlay.specs.declared.layer.Layer.{Layer}
-use Rattle.wjs_store.specs.State.{put, after_write, write_in}
+use Rattle.wjs_store.specs.State.{write_in}
 use Rattle.wjs_store.specs.Shown.{content_of}
 use Rattle.wjs_overlay.specs.Look.{Puts}
-use Rattle.wjs_overlay.specs.Sparse.{StandFor, full_of}
-use Rattle.wjs_overlay.proofs.Places.{slice_read, some_is, slice_some}
-use Rattle.wjs_overlay.proofs.Looks.{above_at, depth_above, below_at}
-use Rattle.wjs_overlay.proofs.WriteLaws.{before_kept, before_closed, before_plain, before_strict, before_nowhere, puts_first, puts_marked, write_by}
+use Rattle.wjs_overlay.specs.Sparse.{full_of}
+use Rattle.wjs_overlay.proofs.Places.{slice_read, some_is}
+use Rattle.wjs_overlay.proofs.Looks.{below_at}
+use Rattle.wjs_overlay.proofs.WriteLaws.{puts_first, puts_marked}
 use Rattle.wjs_overlay.proofs.layers.written_row.Goals as goal
 
 pub offset_bounds-layers-world : goal.offset_bounds-layers-world

@@ -1,4 +1,4 @@
-use Rattle.std.proofs.Common.{sym, ap, ◌∙◌}
+use Rattle.std.proofs.Common.{ap, ◌∙◌}
 use Rattle.std.specs.FinMap as map
 use Rattle.wjs_base.specs.Order.{slot_total, slot_exact}
 use Rattle.wjs_overlay.proofs.Lists.{remove_list}
