@@ -11,7 +11,7 @@ use Rattle.wjs_tree.specs.Formed.{WellFormed}
 use Rattle.wjs_parse_expr.specs.Readings.{Reading, Continues}
 use Rattle.wjs_tree.specs.Ends.{token_at, HasSign}
 use Rattle.wjs_tree.specs.Shows.{Keeps}
-use Rattle.wjs_parse_expr.specs.Answers.{Finds, Grows, Steps}
+use Rattle.wjs_parse_expr.specs.Answers.{Finds, Begun, Grows, Steps}
 use Rattle.wjs_parse_expr.specs.Steps.{CondStep, AssignStep}
 use Rattle.wjs_parse_expr.proofs.Reach.{assign_reach, binary_bounds}
 use Rattle.wjs_tree.specs.Operators.{assign_token}
@@ -152,38 +152,38 @@ module _ (o : Origin) (toks : List Tok) (no_in : Bool) (room i : ℕ) (old new :
       stays o toks no_in room i 3 1 (RightStep toks no_in room) (right_step toks no_in room i) old new left k f
       (λ y' f' s. no_choice_no_assignment toks no_in room f.tree left.next y' f' (no_choice y' f') (λ h. no_assign h y' f') s.kind)
 
-  first_choice : (f : Finds o toks 3 no_in room i old left) (p : Part) (g : Grows (CondStep toks no_in room) (Continues toks 1 no_in) old new left p) → HasSign toks left.next signs.Question
+  first_choice : (f : Finds o toks 3 no_in room i old left) (p : Part) (g : Grows o.functions (CondStep toks no_in room) (Continues toks 1 no_in) old new left p) → HasSign toks left.next signs.Question
       → (t' : Expr) (n' : ℕ) → CondStep toks no_in room f.tree left.next t' n' ⊎ ((is_target f.tree ≡ true) × AssignStep toks no_in room f.tree left.next t' n')
       → ((t' ≡ g.whole f.tree) × (n' ≡ p.next)) ⊎ ((n' < p.next) × Continues toks 1 no_in t' n')
   first_choice f p g q t' n' (inl s) = g.first f.tree t' n' s
   first_choice f p g q t' n' (inr (isTarget, s)) = absurd (not_both toks no_in room f.tree left.next t' n' q s)
 
-  pub with_choice : Finds o toks 3 no_in room i old left → Keeps old new → HasSign toks left.next signs.Question
-      → (found : Option Part) → Steps (CondStep toks no_in room) (Continues toks 1 no_in) old new left (Ok found)
+  pub with_choice : Begun o.functions o old left.next → Finds o toks 3 no_in room i old left → Keeps old new → HasSign toks left.next signs.Question
+      → (found : Option Part) → Steps o.functions (CondStep toks no_in room) (Continues toks 1 no_in) old new left (Ok found)
       → (r : Part) → r ≡ unwrap_or found left → Finds o toks 1 no_in room i new r
-  with_choice f k q None none r e =
+  with_choice b f k q None none r e =
       subst (λ (p : Part). Finds o toks 1 no_in room i new p) (sym e)
       (is_operand f k (λ y' f' s. none f.tree y' f' s) (λ h y' f' s. not_both toks no_in room f.tree left.next y' f' q s))
-  with_choice f k q (Some p) g r e =
+  with_choice b f k q (Some p) g r e =
       subst (λ (p : Part). Finds o toks 1 no_in room i new p) (sym e)
       (goes o toks no_in room i 3 1 (RightStep toks no_in room) (right_step toks no_in room i) old new left p f (g.whole f.tree)
-      (g.part o f.tree f.part) (record { kind = inl (g.step f.tree) }) (λ t' n' s. first_choice f p g q t' n' s.kind))
+      (g.part o f.tree b f.part) (record { kind = inl (g.step f.tree) }) (λ t' n' s. first_choice f p g q t' n' s.kind))
 
-  first_assignment : (f : Finds o toks 3 no_in room i old left) (p : Part) (g : Grows (AssignStep toks no_in room) (Continues toks 1 no_in) old new left p) → (HasSign toks left.next signs.Question → ⊥)
+  first_assignment : (f : Finds o toks 3 no_in room i old left) (p : Part) (g : Grows o.functions (AssignStep toks no_in room) (Continues toks 1 no_in) old new left p) → (HasSign toks left.next signs.Question → ⊥)
       → (t' : Expr) (n' : ℕ) → CondStep toks no_in room f.tree left.next t' n' ⊎ ((is_target f.tree ≡ true) × AssignStep toks no_in room f.tree left.next t' n')
       → ((t' ≡ g.whole f.tree) × (n' ≡ p.next)) ⊎ ((n' < p.next) × Continues toks 1 no_in t' n')
   first_assignment f p g q t' n' (inl s) = absurd (q s.sign)
   first_assignment f p g q t' n' (inr (isTarget, s)) = g.first f.tree t' n' s
 
-  pub with_assignment : Finds o toks 3 no_in room i old left → Keeps old new → (HasSign toks left.next signs.Question → ⊥) → left.is_target ≡ true
-      → (found : Option Part) → Steps (AssignStep toks no_in room) (Continues toks 1 no_in) old new left (Ok found)
+  pub with_assignment : Begun o.functions o old left.next → Finds o toks 3 no_in room i old left → Keeps old new → (HasSign toks left.next signs.Question → ⊥) → left.is_target ≡ true
+      → (found : Option Part) → Steps o.functions (AssignStep toks no_in room) (Continues toks 1 no_in) old new left (Ok found)
       → (r : Part) → r ≡ unwrap_or found left → Finds o toks 1 no_in room i new r
-  with_assignment f k q isTarget None none r e =
+  with_assignment b f k q isTarget None none r e =
       subst (λ (p : Part). Finds o toks 1 no_in room i new p) (sym e) (is_operand f k (λ y' f' s. q s.sign) (λ h y' f' s. none f.tree y' f' s))
-  with_assignment f k q isTarget (Some p) g r e =
+  with_assignment b f k q isTarget (Some p) g r e =
       subst (λ (p : Part). Finds o toks 1 no_in room i new p) (sym e)
       (goes o toks no_in room i 3 1 (RightStep toks no_in room) (right_step toks no_in room i) old new left p f (g.whole f.tree)
-      (g.part o f.tree f.part) (record { kind = inr (sym f.part.is_target ∙ isTarget, g.step f.tree) }) (λ t' n' s. first_assignment f p g q t' n' s.kind))
+      (g.part o f.tree b f.part) (record { kind = inr (sym f.part.is_target ∙ isTarget, g.step f.tree) }) (λ t' n' s. first_assignment f p g q t' n' s.kind))
 
   pub no_target : (f : Finds o toks 3 no_in room i old left) → Keeps old new → (HasSign toks left.next signs.Question → ⊥) → left.is_target ≡ false → Finds o toks 1 no_in room i new left
   no_target f k q not = is_operand f k (λ y' f' s. q s.sign) (λ h y' f' s. absurd (let e = f.part.is_target in cc))

@@ -1,5 +1,5 @@
 -- Functions that are read already.
-use Rattle.std.proofs.Common.{◌≡◌, ℕ, ◌+◌, ◌<◌, ◌≤◌, inl, length, Bool, true, false, List, [], ◌∷◌, ◌++◌, Option, Some, None, refl, ap, arith}
+use Rattle.std.proofs.Common.{◌≡◌, ℕ, ◌+◌, ◌<◌, ◌≤◌, inl, length, Bool, true, false, List, [], ◌∷◌, ◌++◌, Option, Some, None, refl, ap, subst, arith}
 use Rattle.std.specs.Prelude.{IsSome}
 use Rattle.wjs_tree.specs.declared.tokens.Token.TheVariants as tokens
 use Rattle.wjs_tree.specs.declared.signs.Sign.TheVariants as signs
@@ -8,7 +8,7 @@ use Rattle.wjs_tree.specs.declared.tokens.Tok.{Tok}
 use Rattle.wjs_tree.specs.declared.node.Node.{Node}
 use Rattle.wjs_tree.specs.declared.node.NodeId.{NodeId}
 use Rattle.wjs_tree.specs.Trees.{Expr, Function}
-use Rattle.wjs_tree.specs.Levels.{level, is_target}
+use Rattle.wjs_tree.specs.Levels.{is_target}
 use Rattle.wjs_tree.specs.Height.{height}
 use Rattle.wjs_tree.specs.Formed.{WellFormed}
 use Rattle.wjs_tree.specs.Ends.{HasKey}
@@ -21,23 +21,40 @@ use Rattle.wjs_tree.proofs.Forward.{forward}
 use Rattle.wjs_parse_expr.specs.declared.functions.Functions.{Functions}
 use Rattle.wjs_parse_expr.specs.declared.parts.Part.{Part}
 use Rattle.wjs_parse_expr.specs.Readings.{Reading, FunctionReading, is_function}
-use Rattle.wjs_parse_expr.specs.Table.{entry_at, IsEntry, Holds}
+use Rattle.wjs_parse_expr.specs.Table.{entry_at, IsEntry, AreEntriesApart, Holds}
+use Rattle.wjs_tree.specs.Used.{IsUsed}
+use Rattle.wjs_tree.proofs.OneUse.{same_use}
+use Rattle.wjs_parse_expr.proofs.Owning.{own_entry}
 use Rattle.std.specs.declared.result.Result.{Result}
 use Rattle.std.specs.declared.result.Result.TheVariants.{Ok, Err}
 use Rattle.std.proofs.lemmas.Option.{slice_get_within}
 use Rattle.wjs_base.specs.declared.ids.OutOfMemory.{OutOfMemory}
-use Rattle.wjs_parse_expr.specs.Answers.{Origin, Nothing, Finds, Adds, PartEnds}
+use Rattle.wjs_parse_expr.specs.Answers.{from, Nothing, Finds, Adds, PartEnds}
 use Rattle.wjs_parse_expr.proofs.Readings.{token_within, shows_within}
 use Rattle.wjs_parse_expr.proofs.Primaries.{closed}
 
 pub entry_kept : (toks : List Tok) (a b : List Node) (p : ℕ) (node : NodeId) (next : ℕ) → Keeps a b → IsEntry toks a p node next → IsEntry toks b p node next
-entry_kept toks a b p node next k e = record { tree = e.tree; used = e.used; shows = kept a b k e.tree node e.used e.shows; reading = e.reading; only = e.only }
+entry_kept toks a b p node next k e = record { tree = e.tree; used = e.used; shows = kept a b k e.tree node e.used e.shows; once = e.once; reading = e.reading; only = e.only }
+
+-- what an entry is made of is what it was made of before
+entry_same : (toks : List Tok) (functions : Functions) (at room : ℕ) (a b : List Node) (h : Holds toks functions at room a) → Keeps a b → (p : ℕ) (node : NodeId) (next : ℕ) (e : entry_at functions p ≡ Some (node, next))
+    → (t : Expr) (us : List ℕ) → Shows b t node us → us ≡ (h.entries p node next e).used
+entry_same toks functions at room a b h k p node next e t us s =
+    let f = h.entries p node next e in same_use b t f.tree node us f.used s (kept a b k f.tree node f.used f.shows)
+
+entries_apart : (toks : List Tok) (functions : Functions) (at room : ℕ) (a b : List Node) → Holds toks functions at room a → Keeps a b → AreEntriesApart functions b
+entries_apart toks functions at room a b h k p q node node' next next' e e' le t u us vs s z n x y =
+    let f = h.entries p node next e in
+    let g = h.entries q node' next' e' in
+    h.apart p q node node' next next' e e' le f.tree g.tree f.used g.used f.shows g.shows n
+    (subst (λ w. IsUsed w n) (entry_same toks functions at room a b h k p node next e t us s) x) (subst (λ w. IsUsed w n) (entry_same toks functions at room a b h k q node' next' e' u vs z) y)
 
 -- what holds of the functions holds at later places, of lower trees and of more nodes
 pub held : (toks : List Tok) (functions : Functions) (at at' room room' : ℕ) (a b : List Node) → Holds toks functions at room a → Keeps a b → at ≤ at' → room' ≤ room → Holds toks functions at' room' b
 held toks functions at at' room room' a b h k le lo = record {
   entries = λ p node next e. entry_kept toks a b p node next k (h.entries p node next e);
   complete = λ p u m q r. h.complete p u m (omega arith) r;
+  apart = λ p q node node' next next' e e' le t u us vs s z. entries_apart toks functions at room a b h k p q node node' next next' e e' le t u us vs s z;
   low = (let l = h.low in omega arith);
 }
 
@@ -60,15 +77,15 @@ as_function toks functions no_in at room ns h key u m r =
     let is : is_function u ≡ true = closed toks no_in room at _ key u m r in
     record { is = is; reading = record { level = r.level; formed = function_formed no_in false u is r.formed; height = (let q = r.height in let l = h.low in omega arith); stands = r.stands } }
 
-pub function_found : (o : Origin) (toks : List Tok) (functions : Functions) (no_in : Bool) (at room : ℕ) (ns : List Node) (node : NodeId) (next tall : ℕ) → Holds toks functions at room ns → HasKey toks at keys.Function
+pub function_found : (toks : List Tok) (functions : Functions) (no_in : Bool) (at room : ℕ) (ns : List Node) (node : NodeId) (next tall : ℕ) → Holds toks functions at room ns → HasKey toks at keys.Function
     → entry_at functions at ≡ Some (node, next) → ((t : Expr) (used : List ℕ) → Shows ns t node used → tall ≡ height t) → tall ≤ room
-    → Finds o toks 18 no_in room at ns (record { node = node; next = next; is_target = false })
-function_found o toks functions no_in at room ns node next tall h key e heights low =
+    → Finds (from toks functions ns at) toks 18 no_in room at ns (record { node = node; next = next; is_target = false })
+function_found toks functions no_in at room ns node next tall h key e heights low =
     let f = h.entries at node next e in
     let t : tall ≡ height f.tree = heights f.tree f.used f.shows in
     record {
       tree = f.tree;
-      part = record { used = f.used; shows = f.shows; is_target = function_target f.tree f.reading.is };
+      part = record { used = f.used; shows = f.shows; own = own_entry functions ns at node next f.tree f.used e f.shows f.once; is_target = function_target f.tree f.reading.is };
       best = record {
         reading = record { level = f.reading.reading.level; formed = function_formed false no_in f.tree f.reading.is f.reading.reading.formed; height = omega arith; stands = f.reading.reading.stands };
         longest = λ u m r. inl (f.only u m (as_function toks functions no_in at room ns h key u m r));
@@ -104,10 +121,10 @@ entry_ends toks functions at room ns node next h e =
     (forward toks f.tree at next f.reading.reading.stands, function_within toks f.tree at next f.reading.is f.reading.reading.stands, shows_within ns f.tree node f.used f.shows)
 
 -- where a leaf ends, and that its node is there
-pub leaf_ends : (toks : List Tok) (i : ℕ) (ns : List Node) (node : Node) (target : Bool) → i < length toks → (r : Result (Option Part) OutOfMemory) → Adds ns node (i + 1) target r → PartEnds toks i ns r
-leaf_ends toks i ns node target lt (Ok (Some p)) a = let q = a.1 in (omega arith, omega arith, slice_get_within ns p.node.0 node a.0)
-leaf_ends toks i ns node target lt (Ok None) a = tt
-leaf_ends toks i ns node target lt (Err e) a = tt
+pub leaf_ends : (toks : List Tok) (i : ℕ) (old ns : List Node) (node : Node) (target : Bool) → i < length toks → (r : Result (Option Part) OutOfMemory) → Adds old ns node (i + 1) target r → PartEnds toks i ns r
+leaf_ends toks i old ns node target lt (Ok (Some p)) a = let q = a.1 in (omega arith, omega arith, slice_get_within ns p.node.0 node a.0)
+leaf_ends toks i old ns node target lt (Ok None) a = tt
+leaf_ends toks i old ns node target lt (Err e) a = tt
 
 -- nodes of a list stay there where nodes are added, and one more is put last
 pub below_more : (n m : ℕ) (list : List NodeId) → n ≤ m → AreBelow n list → AreBelow m list
@@ -134,6 +151,7 @@ properties_last_below n m (x ∷ rest) p le lt h = ((let q = h.0 in omega arith)
 pub empty_holds : (toks : List Tok) (functions : Functions) (at : ℕ) (ns : List Node) → ((p : ℕ) → entry_at functions p ≡ None) → ((i : ℕ) → HasKey toks i keys.Function → ⊥) → Holds toks functions at 200 ns
 empty_holds toks functions at ns none no_key = record {
   entries = λ p node next e. absurd (let q = none p in cc);
+  apart = λ p q node node' next next' e f le t u us vs s z. absurd (let h = none p in cc);
   complete = λ p u m le r. absurd (no_key p (function_key u p m r.is r.reading.stands));
   low = omega arith;
 }

@@ -7,8 +7,7 @@ use Rattle.wjs_tree.specs.declared.tokens.Tok.{Tok}
 use Rattle.wjs_tree.specs.declared.node.Node.{Node}
 use Rattle.wjs_tree.specs.declared.node.NodeId.{NodeId}
 use Rattle.wjs_tree.specs.Trees.{Expr, Arguments, NoArgument, Argument, Items, NoItem, Hole, Item, LastItem}
-use Rattle.wjs_tree.specs.Height.{height, arguments_height, items_height}
-use Rattle.wjs_tree.specs.Levels.{level}
+use Rattle.wjs_tree.specs.Height.{arguments_height, items_height}
 use Rattle.wjs_tree.specs.Formed.{ArgumentsFormed, ItemsFormed}
 use Rattle.wjs_tree.specs.Ends.{token_at, HasSign}
 use Rattle.wjs_tree.specs.Spelling.{Stands, ArgumentsStand, MoreArgumentsStand, ItemsStand}
@@ -20,6 +19,9 @@ use Rattle.wjs_parse_expr.specs.declared.parts.ListedItems.{ListedItems}
 use Rattle.wjs_parse_expr.specs.Reach.{reach, sign_reach}
 use Rattle.wjs_parse_expr.specs.Readings.{Reading, Continues}
 use Rattle.wjs_parse_expr.specs.Steps.{Listing, ItemsListing}
+use Rattle.std.proofs.lemmas.List.{append-nil}
+use Rattle.wjs_parse_expr.specs.Table.{Owns}
+use Rattle.wjs_parse_expr.proofs.Owning.{own_none, own_later}
 use Rattle.wjs_parse_expr.specs.Answers.{Origin, Finds, Lists, FindsItems}
 use Rattle.wjs_parse_expr.proofs.Unaries.{never_begins}
 use Rattle.wjs_parse_expr.proofs.Suffixes.{two_signs}
@@ -47,6 +49,7 @@ pub record Gathered (o : Origin) (toks : List Tok) (room at : ℕ) (ns : List No
   pub wrap : Arguments → Arguments
   pub used : List ℕ
   pub show : (ns' : List Node) → Keeps ns ns' → (rest : Arguments) (more : List NodeId) (vs : List ℕ) → ArgumentsShow ns' rest more vs → ArgumentsShow ns' (wrap rest) (list ++ more) (used ++ vs)
+  pub own : Owns o.functions o.start ns o.at place used
   pub formed : (rest : Arguments) → ArgumentsFormed rest → ArgumentsFormed (wrap rest)
   pub height : (rest : Arguments) → arguments_height rest + 1 ≤ room → arguments_height (wrap rest) + 1 ≤ room
   pub whole : (u : Expr) (rest : Arguments) (m k : ℕ) → Stands toks u place m → MoreArgumentsStand toks rest m k → ArgumentsStand toks (wrap (Argument u rest)) at k
@@ -73,6 +76,7 @@ module _ (o q : Origin) (toks : List Tok) (room at : ℕ) where
     wrap = λ rest. rest;
     used = [];
     show = λ ns' k rest more vs h. subst (λ (z : List NodeId). ArgumentsShow ns' rest (z ++ more) vs) (sym e) h;
+    own = own_none o.functions o.start ns o.at at;
     formed = λ rest f. f;
     height = λ rest h. h;
     whole = λ u rest m k s r. (m, s, r);
@@ -93,13 +97,15 @@ module _ (o q : Origin) (toks : List Tok) (room at : ℕ) where
       absurd (let z : HasSign toks item.next signs.Comma = subst (λ (z : ℕ). HasSign toks z signs.Comma) s.1 r.1 in cc)
 
   -- the list is closed
-  pub ends : (o' : Origin) (ns : List Node) (list : List NodeId) (place : ℕ) (ns' : List Node) (item : Part) (p : Listed) → 0 < room → Gathered o toks room at ns list place → Keeps ns ns' → Finds q toks 1 false (room - 1) place ns' item
-      → HasSign toks item.next signs.CloseParen → p.list ≡ list ++ item.node ∷ [] → p.next ≡ item.next → Lists o' toks room at ns' p
-  ends o' ns list place ns' item p below l k f close made next = record {
+  pub ends : (ns : List Node) (list : List NodeId) (place : ℕ) (ns' : List Node) (item : Part) (p : Listed) → 0 < room → Gathered o toks room at ns list place → Keeps ns ns' → (f : Finds q toks 1 false (room - 1) place ns' item) → ((us : List ℕ) → Owns o.functions o.start ns o.at place us → Owns q.functions q.start ns' q.at item.next f.part.used → Owns o.functions o.start ns' o.at item.next (us ++ f.part.used))
+      → HasSign toks item.next signs.CloseParen → p.list ≡ list ++ item.node ∷ [] → p.next ≡ item.next → Lists o toks room at ns' p
+  ends ns list place ns' item p below l k f grow close made next = record {
     trees = l.wrap (Argument f.tree NoArgument);
     used = l.used ++ (f.part.used ++ []);
     show = subst (λ (z : List NodeId). ArgumentsShow ns' (l.wrap (Argument f.tree NoArgument)) z (l.used ++ (f.part.used ++ []))) (sym made)
         (l.show ns' k (Argument f.tree NoArgument) (item.node ∷ []) (f.part.used ++ []) (item.node, [], f.part.used, [], refl, refl, f.part.shows, (refl, refl)));
+    own = subst (λ z. Owns o.functions o.start ns' o.at z (l.used ++ (f.part.used ++ []))) (sym next)
+        (subst (λ z. Owns o.functions o.start ns' o.at item.next (l.used ++ z)) (sym (append-nil f.part.used)) (grow l.used l.own f.part.own));
     listing = record {
       formed = l.formed (Argument f.tree NoArgument) (f.best.reading.level, f.best.reading.formed, tt);
       height = l.height (Argument f.tree NoArgument) (let h = f.best.reading.height in omega arith);
@@ -147,15 +153,16 @@ module _ (o q : Origin) (toks : List Tok) (room at : ℕ) where
   )
 
   -- one more argument and a comma
-  pub one_more_item : (ns : List Node) (list : List NodeId) (place : ℕ) (ns' : List Node) (item : Part) (list' : List NodeId) → 0 < room → Gathered o toks room at ns list place → Keeps ns ns' → Finds q toks 1 false (room - 1) place ns' item
+  pub one_more_item : (ns : List Node) (list : List NodeId) (place : ℕ) (ns' : List Node) (item : Part) (list' : List NodeId) → 0 < room → Gathered o toks room at ns list place → Keeps ns ns' → (f : Finds q toks 1 false (room - 1) place ns' item) → ((us : List ℕ) → Owns o.functions o.start ns o.at place us → Owns q.functions q.start ns' q.at item.next f.part.used → Owns o.functions o.start ns' o.at item.next (us ++ f.part.used))
       → HasSign toks item.next signs.Comma → list' ≡ list ++ item.node ∷ [] → Gathered o toks room at ns' list' (item.next + 1)
-  one_more_item ns list place ns' item list' below l k f comma made = record {
+  one_more_item ns list place ns' item list' below l k f grow comma made = record {
     wrap = λ rest. l.wrap (Argument f.tree rest);
     used = l.used ++ f.part.used;
     show = λ ns2 k2 rest more vs h.
         subst (λ (z : List NodeId). ArgumentsShow ns2 (l.wrap (Argument f.tree rest)) (z ++ more) ((l.used ++ f.part.used) ++ vs)) (sym made)
         (rw (append_assoc, append_assoc)
         (l.show ns2 (keeps_both ns ns' ns2 k k2) (Argument f.tree rest) (item.node ∷ more) (f.part.used ++ vs) (item.node, more, f.part.used, vs, refl, refl, kept ns' ns2 k2 f.tree item.node f.part.used f.part.shows, h)));
+    own = own_later o.functions o.start ns' ns' o.at item.next (item.next + 1) (l.used ++ f.part.used) (keeps_self ns') (omega arith) (grow l.used l.own f.part.own);
     formed = λ rest g. l.formed (Argument f.tree rest) (f.best.reading.level, f.best.reading.formed, g);
     height = λ rest h. l.height (Argument f.tree rest) (let z = f.best.reading.height in omega arith);
     whole = λ u rest m z s r. l.whole f.tree (Argument u rest) item.next z f.best.reading.stands (m, comma, s, r);
@@ -171,6 +178,7 @@ empty o toks room at ns p below e next close = record {
   trees = NoArgument;
   used = [];
   show = (e, refl);
+  own = own_none o.functions o.start ns o.at p.next;
   listing = record { formed = tt; height = omega arith; stands = next; closed = subst (λ (z : ℕ). HasSign toks z signs.CloseParen) (sym next) close };
   only = λ us m g. one us m g;
 }
@@ -190,6 +198,7 @@ pub record GatheredItems (o : Origin) (toks : List Tok) (room at : ℕ) (ns : Li
   pub wrap : Items → Items
   pub used : List ℕ
   pub show : (ns' : List Node) → Keeps ns ns' → (rest : Items) (more : List (Option NodeId)) (vs : List ℕ) → ItemsShow ns' rest more vs → ItemsShow ns' (wrap rest) (list ++ more) (used ++ vs)
+  pub own : Owns o.functions o.start ns o.at place used
   pub formed : (rest : Items) → ItemsFormed rest → ItemsFormed (wrap rest)
   pub height : (rest : Items) → items_height rest + 1 ≤ room → items_height (wrap rest) + 1 ≤ room
   pub whole : (rest : Items) (k : ℕ) → ItemsStand toks rest place k → ItemsStand toks (wrap rest) at k
@@ -209,6 +218,7 @@ module _ (o q : Origin) (toks : List Tok) (room at : ℕ) where
     wrap = λ rest. rest;
     used = [];
     show = λ ns' k rest more vs h. subst (λ (z : List (Option NodeId)). ItemsShow ns' rest (z ++ more) vs) (sym e) h;
+    own = own_none o.functions o.start ns o.at at;
     formed = λ rest f. f;
     height = λ rest h. h;
     whole = λ rest k s. s;
@@ -224,12 +234,13 @@ module _ (o q : Origin) (toks : List Tok) (room at : ℕ) where
   close_here place close (LastItem e) k g = absurd (never_begins toks e place k (tokens.Sign signs.CloseBracket) g.stands close refl)
 
   -- the bracket closes before another item
-  pub items_close : (o' : Origin) (ns : List Node) (list : List (Option NodeId)) (tail : Bool) (place : ℕ) (p : ListedItems) → 0 < room → GatheredItems o toks room at ns list tail place
-      → HasSign toks place signs.CloseBracket → p.list ≡ list → p.tail ≡ tail → p.next ≡ place → FindsItems o' toks room at ns p
-  items_close o' ns list tail place p below l close made tails next = record {
+  pub items_close : (ns : List Node) (list : List (Option NodeId)) (tail : Bool) (place : ℕ) (p : ListedItems) → 0 < room → GatheredItems o toks room at ns list tail place
+      → HasSign toks place signs.CloseBracket → p.list ≡ list → p.tail ≡ tail → p.next ≡ place → FindsItems o toks room at ns p
+  items_close ns list tail place p below l close made tails next = record {
     trees = l.wrap NoItem;
     used = l.used ++ [];
     show = subst (λ (z : List (Option NodeId)). ItemsShow ns (l.wrap NoItem) z (l.used ++ [])) (append_nil list ∙ sym made) (l.show ns (keeps_self ns) NoItem [] [] (refl, refl));
+    own = subst (λ z. Owns o.functions o.start ns o.at z (l.used ++ [])) (sym next) (subst (λ z. Owns o.functions o.start ns o.at place z) (sym (append-nil l.used)) l.own);
     tail = tails ∙ sym l.tail_none;
     listing = record {
       formed = l.formed NoItem tt;
@@ -261,6 +272,7 @@ module _ (o q : Origin) (toks : List Tok) (room at : ℕ) where
     used = l.used;
     show = λ ns2 k2 rest more vs h.
         subst (λ (z : List (Option NodeId)). ItemsShow ns2 (l.wrap (Hole rest)) (z ++ more) (l.used ++ vs)) (sym made) (rw append_assoc (l.show ns2 k2 (Hole rest) (None ∷ more) vs (more, refl, h)));
+    own = own_later o.functions o.start ns ns o.at place (place + 1) l.used (keeps_self ns) (omega arith) l.own;
     formed = λ rest g. l.formed (Hole rest) g;
     height = λ rest h. l.height (Hole rest) h;
     whole = λ rest k s. l.whole (Hole rest) k (comma, s);
@@ -307,12 +319,14 @@ module _ (o q : Origin) (toks : List Tok) (room at : ℕ) where
     closed_last wrap us rest k close e (inr c) = (e ∙ ap wrap c.0, c.1)
 
     -- the bracket closes behind the item
-    pub items_last : (o' : Origin) (ns : List Node) (list : List (Option NodeId)) (tail : Bool) (p : ListedItems) → 0 < room → GatheredItems o toks room at ns list tail place → Keeps ns ns'
-        → HasSign toks item.next signs.CloseBracket → p.list ≡ list ++ Some item.node ∷ [] → p.tail ≡ false → p.next ≡ item.next → FindsItems o' toks room at ns' p
-    items_last o' ns list tail p below l k close made tails next = record {
+    pub items_last : (ns : List Node) (list : List (Option NodeId)) (tail : Bool) (p : ListedItems) → 0 < room → GatheredItems o toks room at ns list tail place → Keeps ns ns'
+        → ((us : List ℕ) → Owns o.functions o.start ns o.at place us → Owns q.functions q.start ns' q.at item.next f.part.used → Owns o.functions o.start ns' o.at item.next (us ++ f.part.used))
+        → HasSign toks item.next signs.CloseBracket → p.list ≡ list ++ Some item.node ∷ [] → p.tail ≡ false → p.next ≡ item.next → FindsItems o toks room at ns' p
+    items_last ns list tail p below l k grow close made tails next = record {
       trees = l.wrap (LastItem f.tree);
       used = l.used ++ f.part.used;
       show = subst (λ (z : List (Option NodeId)). ItemsShow ns' (l.wrap (LastItem f.tree)) z (l.used ++ f.part.used)) (sym made) (l.show ns' k (LastItem f.tree) (Some item.node ∷ []) f.part.used (item.node, refl, f.part.shows));
+      own = subst (λ z. Owns o.functions o.start ns' o.at z (l.used ++ f.part.used)) (sym next) (grow l.used l.own f.part.own);
       tail = tails ∙ sym (l.tail_more (LastItem f.tree) refl);
       listing = record {
         formed = l.formed (LastItem f.tree) (f.best.reading.level, f.best.reading.formed);
@@ -343,14 +357,16 @@ module _ (o q : Origin) (toks : List Tok) (room at : ℕ) where
 
     -- one more item and its comma
     pub items_more : (ns : List Node) (list : List (Option NodeId)) (tail : Bool) (list' : List (Option NodeId)) → GatheredItems o toks room at ns list tail place → Keeps ns ns'
+        → ((us : List ℕ) → Owns o.functions o.start ns o.at place us → Owns q.functions q.start ns' q.at item.next f.part.used → Owns o.functions o.start ns' o.at item.next (us ++ f.part.used))
         → HasSign toks item.next signs.Comma → list' ≡ list ++ Some item.node ∷ [] → GatheredItems o toks room at ns' list' true (item.next + 1)
-    items_more ns list tail list' l k comma made = record {
+    items_more ns list tail list' l k grow comma made = record {
       wrap = λ rest. l.wrap (Item f.tree rest);
       used = l.used ++ f.part.used;
       show = λ ns2 k2 rest more vs h.
           subst (λ (z : List (Option NodeId)). ItemsShow ns2 (l.wrap (Item f.tree rest)) (z ++ more) ((l.used ++ f.part.used) ++ vs)) (sym made)
           (rw (append_assoc, append_assoc)
           (l.show ns2 (keeps_both ns ns' ns2 k k2) (Item f.tree rest) (Some item.node ∷ more) (f.part.used ++ vs) (item.node, more, f.part.used, vs, refl, refl, kept ns' ns2 k2 f.tree item.node f.part.used f.part.shows, h)));
+      own = own_later o.functions o.start ns' ns' o.at item.next (item.next + 1) (l.used ++ f.part.used) (keeps_self ns') (omega arith) (grow l.used l.own f.part.own);
       formed = λ rest g. l.formed (Item f.tree rest) (f.best.reading.level, f.best.reading.formed, g);
       height = λ rest h. l.height (Item f.tree rest) (let z = f.best.reading.height in omega arith);
       whole = λ rest z s. l.whole (Item f.tree rest) z (item.next, f.best.reading.stands, comma, s);

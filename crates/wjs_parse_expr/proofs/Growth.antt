@@ -1,12 +1,12 @@
 -- A left part that a loop lets grow.
-use Rattle.std.proofs.Common.{ℕ, ◌<◌, ◌⊎◌, inl, inr, Bool, List, ◌≤◌, arith}
+use Rattle.std.proofs.Common.{ℕ, ◌<◌, Bool, List, ◌≤◌, arith}
 use Rattle.wjs_tree.specs.declared.tokens.Tok.{Tok}
 use Rattle.wjs_tree.specs.declared.node.Node.{Node}
 use Rattle.wjs_parse_expr.specs.declared.parts.Part.{Part}
 use Rattle.wjs_tree.specs.Trees.{Expr}
 use Rattle.wjs_parse_expr.specs.Readings.{Reading, Continues}
 use Rattle.wjs_tree.specs.Shows.{Keeps}
-use Rattle.wjs_parse_expr.specs.Answers.{Origin, IsPart, Finds, Grows}
+use Rattle.wjs_parse_expr.specs.Answers.{Origin, IsPart, Finds, Begun, Grows}
 use Rattle.wjs_parse_expr.proofs.Chain.{Chain, Ahead, Apart, begin, go_on, finish}
 use Rattle.wjs_parse_expr.proofs.Readings.{part_kept}
 
@@ -42,12 +42,12 @@ module _ (o : Origin) (toks : List Tok) (no_in : Bool) (room i base least : ℕ)
     ahead = begin S (λ t n. Reading toks least no_in room i t n) (Continues toks least no_in) (Continues toks base no_in) (λ t n. Reading toks base no_in room i t n) f.tree left.next apart loop.parts f.best.longest;
   }
 
-  pub at_step : (old new : List Node) (left p : Part) → Growing o toks no_in room i base least S old left → Grows S (Continues toks base no_in) old new left p → Growing o toks no_in room i base least S new p
-  at_step old new left p g s =
+  pub at_step : (old new : List Node) (left p : Part) → Begun o.functions o old left.next → Growing o toks no_in room i base least S old left → Grows o.functions S (Continues toks base no_in) old new left p → Growing o toks no_in room i base least S new p
+  at_step old new left p b g s =
       let step = s.step g.tree in
       record {
         tree = s.whole g.tree;
-        part = s.part o g.tree g.part;
+        part = s.part o g.tree b g.part;
         reading = loop.grows g.tree left.next (s.whole g.tree) p.next g.reading step;
         ahead = go_on S (λ t n. Reading toks least no_in room i t n) (Continues toks least no_in) (Continues toks base no_in) g.tree left.next (s.whole g.tree) p.next apart
             (loop.forward g.tree left.next (s.whole g.tree) p.next step) (loop.starts g.tree left.next (s.whole g.tree) p.next g.reading step) (s.first g.tree) g.ahead;
@@ -66,16 +66,3 @@ module _ (o : Origin) (toks : List Tok) (no_in : Bool) (room i base least : ℕ)
   -- where nothing is read further in, nothing is read
   pub nothing : ((u : Expr) (m : ℕ) → Reading toks base no_in room i u m → ⊥) → (u : Expr) (m : ℕ) → Reading toks least no_in room i u m → ⊥
   nothing none u m r = let p = loop.parts u m r in none p.0 p.1 p.2
-
--- a step after which nothing continues
-pub narrow : (S : Expr → ℕ → Expr → ℕ → Type 0) (D D' : Expr → ℕ → Type 0) (old new : List Node) (left p : Part) → ((t : Expr) (n : ℕ) → D t n → D' t n) → Grows S D old new left p → Grows S D' old new left p
-narrow S D D' old new left p weaken g = record {
-  whole = g.whole;
-  part = g.part;
-  step = g.step;
-  first = λ y y' f' s. narrow_one (g.first y y' f' s);
-}
-  where
-    narrow_one : {X Y : Type 0} {t : Expr} {n : ℕ} → X ⊎ (Y × D t n) → X ⊎ (Y × D' t n)
-    narrow_one (inl x) = inl x
-    narrow_one (inr y) = inr (y.0, weaken _ _ y.1)

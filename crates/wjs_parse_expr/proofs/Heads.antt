@@ -16,11 +16,15 @@ use Rattle.wjs_parse_expr.specs.Readings.{edge, Reading, Continues}
 use Rattle.wjs_tree.specs.Formed.{WellFormed}
 use Rattle.wjs_tree.specs.Ends.{token_at, HasSign, HasKey}
 use Rattle.wjs_tree.specs.Shows.{Keeps, Has}
-use Rattle.wjs_parse_expr.specs.Answers.{Nothing, IsPart, Finds, Lists, Grows, FindsHead, FindsChain}
+use Rattle.wjs_parse_expr.specs.Answers.{Nothing, IsPart, Finds, Lists, Begun, Grows, FindsHead, FindsChain}
 use Rattle.wjs_parse_expr.specs.Steps.{SuffixStep, DotStep, AtStep, CallStep, Listing, chain_level, InChain, IsHead}
-use Rattle.wjs_tree.proofs.Kept.{kept, arguments_kept}
+use Rattle.wjs_tree.proofs.Kept.{kept, arguments_kept, keeps_both, keeps_self}
 use Rattle.wjs_parse_expr.proofs.Reach.{binary_bounds, reach_max}
-use Rattle.wjs_parse_expr.specs.Answers.{Origin}
+use Rattle.wjs_parse_expr.specs.Answers.{Origin, from}
+use Rattle.std.proofs.lemmas.Option.{slice_get_within}
+use Rattle.wjs_parse_expr.specs.declared.functions.Functions.{Functions}
+use Rattle.wjs_parse_expr.specs.Table.{Holds}
+use Rattle.wjs_parse_expr.proofs.Owning.{own_wide, own_top, own_under}
 use Rattle.wjs_parse_expr.proofs.Readings.{edge_high, same_token, lower, token_within, height_positive, part_kept}
 use Rattle.wjs_tree.proofs.Forward.{forward, arguments_forward}
 use Rattle.wjs_tree.specs.declared.keys.Key.{Key}
@@ -253,13 +257,13 @@ module _ (o : Origin) (toks : List Tok) (calls no_in : Bool) (room i : ℕ) wher
   not_ahead y y' f f' k n (inl s) = inl s
   not_ahead y y' f f' k n (inr l) = absurd l.1
 
-  unfoldable pub chain_step : (old new : List Node) (left p : Part) → Chaining o toks calls no_in room i old left → Grows (SuffixStep toks calls room) (λ y n. ⊥) old new left p → Chaining o toks calls no_in room i new p
-  chain_step old new left p g s =
+  unfoldable pub chain_step : (old new : List Node) (left p : Part) → Begun o.functions o old left.next → Chaining o toks calls no_in room i old left → Grows o.functions (SuffixStep toks calls room) (λ y n. ⊥) old new left p → Chaining o toks calls no_in room i new p
+  chain_step old new left p b g s =
       let one = s.step g.tree in
       let next = suffix_grows toks calls no_in room i g.tree left.next (s.whole g.tree) p.next one.below g.high g.reading one.kind in
       record {
         tree = s.whole g.tree;
-        part = s.part o g.tree g.part;
+        part = s.part o g.tree b g.part;
         reading = next.0;
         high = next.1;
         ahead = go_on (ChainStep toks calls room) (InClass toks calls no_in room i) (ContinuesChain toks calls no_in) (ContinuesHead toks no_in) g.tree left.next (s.whole g.tree) p.next apart
@@ -436,7 +440,7 @@ forms toks no_in room i (Call e x) m key r h = absurd (no_call h)
     no_call (inr l) = cc
 forms toks no_in room i u m key r h = absurd (let l = r.level in omega arith)
 
-module _ (co ao o : Origin) (toks : List Tok) (no_in : Bool) (room i : ℕ) where
+module _ (functions : Functions) (start : List Node) (toks : List Tok) (no_in : Bool) (room i : ℕ) where
   new_none : (none : (u : Expr) (m : ℕ) → Reading toks 15 no_in (room - 1) (i + 1) u m → InChain false u → ⊥) (u : Expr) (m : ℕ) → BareForm toks no_in room i u m ⊎ WithForm toks no_in room i u m → ⊥
   new_none none u m (inl b) = none b.made m b.reading b.chain
   new_none none u m (inr w) = none w.made w.bracket w.reading (inl w.high)
@@ -460,7 +464,7 @@ module _ (co ao o : Origin) (toks : List Tok) (no_in : Bool) (room i : ℕ) wher
   made_bare t n u m b (inl s) = inl (let a = b.is in let q = s.0 in cc, s.1)
   made_bare t n u m b (inr l) = inr (l.0, (subst (λ (z : Expr). is_bare z ≡ true) (sym b.is) refl, let k = l.1.0 in let q = b.reading.level in omega arith))
 
-  bare_longest : (ns : List Node) (callee : Head) (f : FindsChain co toks false no_in (room - 1) (i + 1) ns callee)
+  bare_longest : (ns : List Node) (callee : Head) (f : FindsChain (from toks functions start (i + 1)) toks false no_in (room - 1) (i + 1) ns callee)
       → (callee.is_bare ≡ false → HasSign toks callee.part.next signs.OpenParen → (us : Arguments) (m : ℕ) → Listing toks room (callee.part.next + 1) us m → ⊥)
       → (u : Expr) (m : ℕ) → BareForm toks no_in room i u m ⊎ WithForm toks no_in room i u m → ((u ≡ NewBare f.tree) × (m ≡ callee.part.next)) ⊎ ((m < callee.part.next) × ContinuesHead toks no_in u m)
   bare_longest ns callee f none u m (inl b) = made_bare f.tree callee.part.next u m b (f.best.longest b.made m b.reading b.chain)
@@ -469,15 +473,17 @@ module _ (co ao o : Origin) (toks : List Tok) (no_in : Bool) (room i : ℕ) wher
       none (f.is_bare ∙ not_bare f.tree (let h = w.high in let q : level w.made ≡ level f.tree = ap level s.0 in omega arith))
       (subst (λ (z : ℕ). HasSign toks z signs.OpenParen) s.1 w.sign) w.arguments w.close (subst (λ (z : ℕ). Listing toks room (z + 1) w.arguments w.close) s.1 w.listing))
 
-  pub created_bare : (old given new : List Node) (callee : Head) (node : NodeId) → HasKey toks i keys.New → 0 < room → FindsChain co toks false no_in (room - 1) (i + 1) old callee → Keeps old given → Keeps given new
+  pub created_bare : (place tall : ℕ) → Holds toks functions place tall start → (old given new : List Node) (callee : Head) (node : NodeId) → HasKey toks i keys.New → 0 < room → FindsChain (from toks functions start (i + 1)) toks false no_in (room - 1) (i + 1) old callee → Keeps start old → Keeps old given → Keeps given new
       → (callee.is_bare ≡ false → HasSign toks callee.part.next signs.OpenParen → (us : Arguments) (m : ℕ) → Listing toks room (callee.part.next + 1) us m → ⊥)
-      → Has new node (nodes.NewBare callee.part.node)
-      → FindsHead o toks no_in room i new (record { part = record { node = node; next = callee.part.next; is_target = false }; is_bare = true })
-  created_bare old given new callee node key below f k l none has = record {
+      → Has new node (nodes.NewBare callee.part.node) → node.0 ≡ length given
+      → FindsHead (from toks functions start i) toks no_in room i new (record { part = record { node = node; next = callee.part.next; is_target = false }; is_bare = true })
+  created_bare place tall held old given new callee node key below f ks k l none has fresh = record {
     tree = NewBare f.tree;
     part = record {
       used = node.0 ∷ f.part.used;
       shows = (callee.part.node, f.part.used, has, refl, kept given new l f.tree callee.part.node f.part.used (kept old given k f.tree callee.part.node f.part.used f.part.shows));
+      own = own_top toks functions start place tall held given new i callee.part.next callee.part.next node f.part.used (keeps_both start old given ks k) l fresh (slice_get_within new node.0 _ has) (omega arith)
+          (own_wide functions start old given (i + 1) i callee.part.next callee.part.next f.part.used k (omega arith) (omega arith) f.part.own);
       is_target = refl;
     };
     is_bare = refl;
@@ -503,7 +509,7 @@ module _ (co ao o : Origin) (toks : List Tok) (no_in : Bool) (room i : ℕ) wher
   with_bare t n e u m xs sign lt b (inr l) =
       inr ((let q = l.0 in omega arith), (subst (λ (z : Expr). is_bare z ≡ true) (sym b.is) refl, let k = l.1.0 in let q = b.reading.level in omega arith))
 
-  with_longest : (ns ns' : List Node) (callee : Head) (f : FindsChain co toks false no_in (room - 1) (i + 1) ns callee) (items : Listed) (l : Lists ao toks room (callee.part.next + 1) ns' items) → HasSign toks callee.part.next signs.OpenParen
+  with_longest : (ns ns' : List Node) (callee : Head) (f : FindsChain (from toks functions start (i + 1)) toks false no_in (room - 1) (i + 1) ns callee) (items : Listed) (l : Lists (from toks functions ns (callee.part.next + 1)) toks room (callee.part.next + 1) ns' items) → HasSign toks callee.part.next signs.OpenParen
       → (u : Expr) (m : ℕ) → BareForm toks no_in room i u m ⊎ WithForm toks no_in room i u m → ((u ≡ NewWith f.tree l.trees) × (m ≡ items.next + 1)) ⊎ ((m < items.next + 1) × ContinuesHead toks no_in u m)
   with_longest ns ns' callee f items l sign u m (inl b) =
       with_bare f.tree callee.part.next (items.next + 1) u m l.trees sign (let h = arguments_forward toks l.trees (callee.part.next + 1) items.next l.listing.stands in omega arith) b (f.best.longest b.made m b.reading b.chain)
@@ -512,11 +518,11 @@ module _ (co ao o : Origin) (toks : List Tok) (no_in : Bool) (room i : ℕ) wher
       let o = l.only w.arguments w.close (subst (λ (z : ℕ). Listing toks room (z + 1) w.arguments w.close) s.1 w.listing) in
       inl ((let a = w.is in let b = s.0 in let c = o.0 in cc), w.ends ∙ ap (λ z. z + 1) o.1)
 
-  pub created_with : (old given new : List Node) (callee : Head) (items : Listed) (node : NodeId) → HasKey toks i keys.New → 0 < room → FindsChain co toks false no_in (room - 1) (i + 1) old callee → Keeps old given → Keeps given new
-      → (callee.is_bare ≡ false) × HasSign toks callee.part.next signs.OpenParen × Lists ao toks room (callee.part.next + 1) given items
-      → Has new node (nodes.NewWith callee.part.node items.list)
-      → FindsHead o toks no_in room i new (record { part = record { node = node; next = items.next + 1; is_target = false }; is_bare = false })
-  created_with old given new callee items node key below f k l g has = record {
+  pub created_with : (place tall : ℕ) → Holds toks functions place tall start → (old given new : List Node) (callee : Head) (items : Listed) (node : NodeId) → HasKey toks i keys.New → 0 < room → FindsChain (from toks functions start (i + 1)) toks false no_in (room - 1) (i + 1) old callee → Keeps start old → Keeps old given → Keeps given new
+      → (callee.is_bare ≡ false) × HasSign toks callee.part.next signs.OpenParen × Lists (from toks functions old (callee.part.next + 1)) toks room (callee.part.next + 1) given items
+      → Has new node (nodes.NewWith callee.part.node items.list) → node.0 ≡ length given
+      → FindsHead (from toks functions start i) toks no_in room i new (record { part = record { node = node; next = items.next + 1; is_target = false }; is_bare = false })
+  created_with place tall held old given new callee items node key below f ks k l g has fresh = record {
     tree = NewWith f.tree g.2.trees;
     part = record {
       used = node.0 ∷ (f.part.used ++ g.2.used);
@@ -530,6 +536,11 @@ module _ (co ao o : Origin) (toks : List Tok) (no_in : Bool) (room i : ℕ) wher
         kept given new l f.tree callee.part.node f.part.used (kept old given k f.tree callee.part.node f.part.used f.part.shows),
         arguments_kept given new l g.2.trees items.list g.2.used g.2.show,
       );
+      own =
+          (let h = arguments_forward toks g.2.trees (callee.part.next + 1) items.next g.2.listing.stands in
+          let h' = forward toks f.tree (i + 1) callee.part.next f.best.reading.stands in
+          own_under toks functions start place tall held old given new i callee.part.next (callee.part.next + 1) items.next (items.next + 1) node f.part.used g.2.used ks k l fresh (slice_get_within new node.0 _ has)
+          (omega arith) (omega arith) (omega arith) (omega arith) (own_wide functions start old old (i + 1) i callee.part.next callee.part.next f.part.used (keeps_self old) (omega arith) (omega arith) f.part.own) g.2.own);
       is_target = refl;
     };
     is_bare = refl;

@@ -1,5 +1,6 @@
 pub mod Reach
 pub mod Readings
+pub mod Owning
 pub mod Chain
 pub mod Growth
 pub mod OneStep
@@ -16,3 +17,5 @@ pub mod Gathering
 pub mod Properties
 pub mod Primaries
 pub mod Entries
+pub mod Adding
+mod OneFunction

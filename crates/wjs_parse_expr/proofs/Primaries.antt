@@ -1,5 +1,5 @@
 -- Primary expressions.
-use Rattle.std.proofs.Common.{◌≡◌, ℕ, ◌+◌, ◌-◌, ◌<◌, ◌⊎◌, inl, inr, Bool, true, false, List, [], ◌∷◌, Option, Some, None, refl, sym, ap, ◌∙◌, subst, arith}
+use Rattle.std.proofs.Common.{◌≡◌, ℕ, ◌+◌, ◌-◌, ◌<◌, ◌⊎◌, inl, inr, Bool, true, false, List, [], ◌∷◌, Option, length, Some, None, refl, sym, ap, ◌∙◌, subst, arith}
 use Rattle.std.specs.declared.result.Result.{Result}
 use Rattle.std.specs.declared.result.Result.TheVariants.{Ok, Err}
 use Rattle.wjs_base.specs.declared.ids.TextId.{TextId}
@@ -16,10 +16,10 @@ use Rattle.wjs_tree.specs.declared.node.Node.{Node}
 use Rattle.wjs_tree.specs.declared.node.Node.TheVariants as nodes
 use Rattle.wjs_tree.specs.declared.node.NodeId.{NodeId}
 use Rattle.wjs_tree.specs.Trees.{Expr, Items, Properties, Name, Number, Text, This, ThisWorld, Null, Boolean, Paren, ArrayLit, ObjectLit, Function, Binary}
-use Rattle.wjs_tree.specs.Levels.{level, is_target}
+use Rattle.wjs_tree.specs.Levels.{is_target}
 use Rattle.wjs_tree.specs.Ends.{token_at, HasSign, HasKey}
 use Rattle.wjs_tree.specs.Shows.{Shows, Keeps, Has}
-use Rattle.wjs_tree.proofs.Kept.{kept, items_kept, properties_kept}
+use Rattle.wjs_tree.proofs.Kept.{kept, keeps_self, items_kept, properties_kept}
 use Rattle.wjs_parse_expr.specs.declared.parts.Part.{Part}
 use Rattle.wjs_parse_expr.specs.declared.parts.ListedItems.{ListedItems}
 use Rattle.wjs_parse_expr.specs.declared.parts.ListedProperties.{ListedProperties}
@@ -28,7 +28,11 @@ use Rattle.wjs_parse_expr.specs.Reserved.{kind_of}
 use Rattle.wjs_parse_expr.specs.Reach.{reach}
 use Rattle.wjs_parse_expr.specs.Readings.{Reading, Continues, is_function}
 use Rattle.wjs_parse_expr.specs.Steps.{ItemsListing, PropertiesListing}
-use Rattle.wjs_parse_expr.specs.Answers.{Origin, Nothing, Finds, Answers, Adds, FindsItems, FindsProperties}
+use Rattle.std.proofs.lemmas.Option.{slice_get_within}
+use Rattle.wjs_parse_expr.specs.declared.functions.Functions.{Functions}
+use Rattle.wjs_parse_expr.specs.Table.{Holds}
+use Rattle.wjs_parse_expr.proofs.Owning.{own_leaf, own_wide, own_top}
+use Rattle.wjs_parse_expr.specs.Answers.{Origin, from, Nothing, Finds, Answers, Adds, FindsItems, FindsProperties}
 use Rattle.wjs_parse_expr.proofs.Reach.{binary_bounds}
 use Rattle.wjs_parse_expr.proofs.Readings.{same_token, height_positive}
 
@@ -77,52 +81,52 @@ module _ (toks : List Tok) (no_in : Bool) (room i : ℕ) (x : Token) (e : token_
 pub no_room : (toks : List Tok) (no_in : Bool) (room i : ℕ) → room ≡ 0 → Nothing toks 18 no_in room i
 no_room toks no_in room i z = record { none = λ u m r. (let h = height_positive u in let k = r.height in omega arith) }
 
-pub leaf_found : (o : Origin) (toks : List Tok) (no_in : Bool) (room i : ℕ) (ns : List Node) (t : Expr) (node : Node) (target : Bool)
+pub leaf_found : (functions : Functions) (old : List Node) (toks : List Tok) (no_in : Bool) (room i : ℕ) (ns : List Node) (t : Expr) (node : Node) (target : Bool)
     → Reading toks 18 no_in room i t (i + 1) → ((p : NodeId) → Has ns p node → Shows ns t p (p.0 ∷ [])) → target ≡ is_target t
     → ((u : Expr) (m : ℕ) → Reading toks 18 no_in room i u m → (u ≡ t) × (m ≡ i + 1))
-    → (r : Result (Option Part) OutOfMemory) → Adds ns node (i + 1) target r → Answers o toks 18 no_in room i ns r
-leaf_found o toks no_in room i ns t node target reading shows is only (Ok (Some p)) a = record {
+    → (r : Result (Option Part) OutOfMemory) → Adds old ns node (i + 1) target r → Answers (from toks functions old i) toks 18 no_in room i ns r
+leaf_found functions old toks no_in room i ns t node target reading shows is only (Ok (Some p)) a = record {
   tree = t;
-  part = record { used = p.node.0 ∷ []; shows = shows p.node a.0; is_target = a.2 ∙ is };
+  part = record { used = p.node.0 ∷ []; shows = shows p.node a.0; own = own_leaf functions old ns i p.next p.node a.3 (slice_get_within ns p.node.0 _ a.0); is_target = a.2 ∙ is };
   best = record {
     reading = subst (λ (z : ℕ). Reading toks 18 no_in room i t z) (sym a.1) reading;
     longest = λ u m r. (let c = only u m r in inl (c.0, c.1 ∙ sym a.1));
   };
 }
-leaf_found o toks no_in room i ns t node target reading shows is only (Ok None) a = absurd a
-leaf_found o toks no_in room i ns t node target reading shows is only (Err d) a = tt
+leaf_found functions old toks no_in room i ns t node target reading shows is only (Ok None) a = absurd a
+leaf_found functions old toks no_in room i ns t node target reading shows is only (Err d) a = tt
 
 -- the key that spells a truth value
 abbrev pub of_bool : Bool → Key
 of_bool true = keys.True
 of_bool false = keys.False
 
-module _ (o : Origin) (toks : List Tok) (no_in : Bool) (room i : ℕ) (ns : List Node) (below : 0 < room) where
-  pub name_found : (x : TextId) → token_at toks i ≡ Some (tokens.Word x) → (r : Result (Option Part) OutOfMemory) → Adds ns (nodes.Name x) (i + 1) true r → Answers o toks 18 no_in room i ns r
-  name_found x e = leaf_found o toks no_in room i ns (Name x) (nodes.Name x) true (record { level = omega arith; formed = tt; height = omega arith; stands = (e, refl) }) (λ p h. (h, refl)) refl (λ u m r. closed toks no_in room i _ e u m r)
+module _ (functions : Functions) (old : List Node) (toks : List Tok) (no_in : Bool) (room i : ℕ) (ns : List Node) (below : 0 < room) where
+  pub name_found : (x : TextId) → token_at toks i ≡ Some (tokens.Word x) → (r : Result (Option Part) OutOfMemory) → Adds old ns (nodes.Name x) (i + 1) true r → Answers (from toks functions old i) toks 18 no_in room i ns r
+  name_found x e = leaf_found functions old toks no_in room i ns (Name x) (nodes.Name x) true (record { level = omega arith; formed = tt; height = omega arith; stands = (e, refl) }) (λ p h. (h, refl)) refl (λ u m r. closed toks no_in room i _ e u m r)
 
-  pub number_found : (k : Whole) → token_at toks i ≡ Some (tokens.Number k) → (r : Result (Option Part) OutOfMemory) → Adds ns (nodes.Number k) (i + 1) false r → Answers o toks 18 no_in room i ns r
-  number_found x e = leaf_found o toks no_in room i ns (Number x) (nodes.Number x) false (record { level = omega arith; formed = tt; height = omega arith; stands = (e, refl) }) (λ p h. (h, refl)) refl (λ u m r. closed toks no_in room i _ e u m r)
+  pub number_found : (k : Whole) → token_at toks i ≡ Some (tokens.Number k) → (r : Result (Option Part) OutOfMemory) → Adds old ns (nodes.Number k) (i + 1) false r → Answers (from toks functions old i) toks 18 no_in room i ns r
+  number_found x e = leaf_found functions old toks no_in room i ns (Number x) (nodes.Number x) false (record { level = omega arith; formed = tt; height = omega arith; stands = (e, refl) }) (λ p h. (h, refl)) refl (λ u m r. closed toks no_in room i _ e u m r)
 
-  pub text_found : (x : TextId) → token_at toks i ≡ Some (tokens.Text x) → (r : Result (Option Part) OutOfMemory) → Adds ns (nodes.Text x) (i + 1) false r → Answers o toks 18 no_in room i ns r
-  text_found x e = leaf_found o toks no_in room i ns (Text x) (nodes.Text x) false (record { level = omega arith; formed = tt; height = omega arith; stands = (e, refl) }) (λ p h. (h, refl)) refl (λ u m r. closed toks no_in room i _ e u m r)
+  pub text_found : (x : TextId) → token_at toks i ≡ Some (tokens.Text x) → (r : Result (Option Part) OutOfMemory) → Adds old ns (nodes.Text x) (i + 1) false r → Answers (from toks functions old i) toks 18 no_in room i ns r
+  text_found x e = leaf_found functions old toks no_in room i ns (Text x) (nodes.Text x) false (record { level = omega arith; formed = tt; height = omega arith; stands = (e, refl) }) (λ p h. (h, refl)) refl (λ u m r. closed toks no_in room i _ e u m r)
 
-  pub this_found : HasKey toks i keys.This → (r : Result (Option Part) OutOfMemory) → Adds ns nodes.This (i + 1) false r → Answers o toks 18 no_in room i ns r
-  this_found e = leaf_found o toks no_in room i ns This nodes.This false (record { level = omega arith; formed = tt; height = omega arith; stands = (e, refl) }) (λ p h. (h, refl)) refl (λ u m r. closed toks no_in room i _ e u m r)
+  pub this_found : HasKey toks i keys.This → (r : Result (Option Part) OutOfMemory) → Adds old ns nodes.This (i + 1) false r → Answers (from toks functions old i) toks 18 no_in room i ns r
+  this_found e = leaf_found functions old toks no_in room i ns This nodes.This false (record { level = omega arith; formed = tt; height = omega arith; stands = (e, refl) }) (λ p h. (h, refl)) refl (λ u m r. closed toks no_in room i _ e u m r)
 
-  pub world_found : HasKey toks i keys.ThisWorld → (r : Result (Option Part) OutOfMemory) → Adds ns nodes.ThisWorld (i + 1) false r → Answers o toks 18 no_in room i ns r
-  world_found e = leaf_found o toks no_in room i ns ThisWorld nodes.ThisWorld false (record { level = omega arith; formed = tt; height = omega arith; stands = (e, refl) }) (λ p h. (h, refl)) refl (λ u m r. closed toks no_in room i _ e u m r)
+  pub world_found : HasKey toks i keys.ThisWorld → (r : Result (Option Part) OutOfMemory) → Adds old ns nodes.ThisWorld (i + 1) false r → Answers (from toks functions old i) toks 18 no_in room i ns r
+  world_found e = leaf_found functions old toks no_in room i ns ThisWorld nodes.ThisWorld false (record { level = omega arith; formed = tt; height = omega arith; stands = (e, refl) }) (λ p h. (h, refl)) refl (λ u m r. closed toks no_in room i _ e u m r)
 
-  pub null_found : HasKey toks i keys.Null → (r : Result (Option Part) OutOfMemory) → Adds ns nodes.Null (i + 1) false r → Answers o toks 18 no_in room i ns r
-  null_found e = leaf_found o toks no_in room i ns Null nodes.Null false (record { level = omega arith; formed = tt; height = omega arith; stands = (e, refl) }) (λ p h. (h, refl)) refl (λ u m r. closed toks no_in room i _ e u m r)
+  pub null_found : HasKey toks i keys.Null → (r : Result (Option Part) OutOfMemory) → Adds old ns nodes.Null (i + 1) false r → Answers (from toks functions old i) toks 18 no_in room i ns r
+  null_found e = leaf_found functions old toks no_in room i ns Null nodes.Null false (record { level = omega arith; formed = tt; height = omega arith; stands = (e, refl) }) (λ p h. (h, refl)) refl (λ u m r. closed toks no_in room i _ e u m r)
 
-  true_found : HasKey toks i keys.True → (r : Result (Option Part) OutOfMemory) → Adds ns (nodes.Bool true) (i + 1) false r → Answers o toks 18 no_in room i ns r
-  true_found e = leaf_found o toks no_in room i ns (Boolean true) (nodes.Bool true) false (record { level = omega arith; formed = tt; height = omega arith; stands = (e, refl) }) (λ p h. (h, refl)) refl (λ u m r. closed toks no_in room i _ e u m r)
+  true_found : HasKey toks i keys.True → (r : Result (Option Part) OutOfMemory) → Adds old ns (nodes.Bool true) (i + 1) false r → Answers (from toks functions old i) toks 18 no_in room i ns r
+  true_found e = leaf_found functions old toks no_in room i ns (Boolean true) (nodes.Bool true) false (record { level = omega arith; formed = tt; height = omega arith; stands = (e, refl) }) (λ p h. (h, refl)) refl (λ u m r. closed toks no_in room i _ e u m r)
 
-  false_found : HasKey toks i keys.False → (r : Result (Option Part) OutOfMemory) → Adds ns (nodes.Bool false) (i + 1) false r → Answers o toks 18 no_in room i ns r
-  false_found e = leaf_found o toks no_in room i ns (Boolean false) (nodes.Bool false) false (record { level = omega arith; formed = tt; height = omega arith; stands = (e, refl) }) (λ p h. (h, refl)) refl (λ u m r. closed toks no_in room i _ e u m r)
+  false_found : HasKey toks i keys.False → (r : Result (Option Part) OutOfMemory) → Adds old ns (nodes.Bool false) (i + 1) false r → Answers (from toks functions old i) toks 18 no_in room i ns r
+  false_found e = leaf_found functions old toks no_in room i ns (Boolean false) (nodes.Bool false) false (record { level = omega arith; formed = tt; height = omega arith; stands = (e, refl) }) (λ p h. (h, refl)) refl (λ u m r. closed toks no_in room i _ e u m r)
 
-  pub bool_found : (b : Bool) → HasKey toks i (of_bool b) → (r : Result (Option Part) OutOfMemory) → Adds ns (nodes.Bool b) (i + 1) false r → Answers o toks 18 no_in room i ns r
+  pub bool_found : (b : Bool) → HasKey toks i (of_bool b) → (r : Result (Option Part) OutOfMemory) → Adds old ns (nodes.Bool b) (i + 1) false r → Answers (from toks functions old i) toks 18 no_in room i ns r
   bool_found true e = true_found e
   bool_found false e = false_found e
 
@@ -181,12 +185,18 @@ inside : (toks : List Tok) (u e y : Expr) (m f k : ℕ) → u ≡ Paren e → Ha
 inside toks u e y m f k q c n (inl s) = ((let a = s.0 in cc), n ∙ ap (λ z. z + 1) s.1, subst (λ (z : ℕ). HasSign toks z signs.CloseParen) s.1 c)
 inside toks u e y m f k q c n (inr l) = absurd (let h : reach false (token_at toks m) ≡ 0 = ap (reach false) c in let z = l.1.0 in omega arith)
 
-pub parens_found : (o' o : Origin) (toks : List Tok) (no_in : Bool) (room i : ℕ) (old new : List Node) (p : Part) (node : NodeId) → HasSign toks i signs.OpenParen → 0 < room
-    → Finds o' toks 0 false (room - 1) (i + 1) old p → HasSign toks p.next signs.CloseParen → Keeps old new → Has new node (nodes.Paren p.node)
-    → Finds o toks 18 no_in room i new (record { node = node; next = p.next + 1; is_target = p.is_target })
-parens_found o' o toks no_in room i old new p node bracket below f close k has = record {
+pub parens_found : (functions : Functions) (start : List Node) (place tall : ℕ) (toks : List Tok) (no_in : Bool) (room i : ℕ) (old new : List Node) (p : Part) (node : NodeId) → Holds toks functions place tall start → HasSign toks i signs.OpenParen → 0 < room
+    → Finds (from toks functions start (i + 1)) toks 0 false (room - 1) (i + 1) old p → HasSign toks p.next signs.CloseParen → Keeps start old → Keeps old new → Has new node (nodes.Paren p.node) → node.0 ≡ length old
+    → Finds (from toks functions start i) toks 18 no_in room i new (record { node = node; next = p.next + 1; is_target = p.is_target })
+parens_found functions start place tall toks no_in room i old new p node held bracket below f close ks k has fresh = record {
   tree = Paren f.tree;
-  part = record { used = node.0 ∷ f.part.used; shows = (p.node, f.part.used, has, refl, kept old new k f.tree p.node f.part.used f.part.shows); is_target = f.part.is_target };
+  part = record {
+    used = node.0 ∷ f.part.used;
+    shows = (p.node, f.part.used, has, refl, kept old new k f.tree p.node f.part.used f.part.shows);
+    own = own_top toks functions start place tall held old new i p.next (p.next + 1) node f.part.used ks k fresh (slice_get_within new node.0 _ has) (omega arith)
+        (own_wide functions start old old (i + 1) i p.next p.next f.part.used (keeps_self old) (omega arith) (omega arith) f.part.own);
+    is_target = f.part.is_target;
+  };
   best = record {
     reading = record {
       level = omega arith;
@@ -208,14 +218,16 @@ parens_bare o toks no_in room i old p bracket f not = record {
 }
 
 -- an array literal
-pub array_found : (o' o : Origin) (toks : List Tok) (no_in : Bool) (room i : ℕ) (old new : List Node) (p : ListedItems) (node : NodeId) → HasSign toks i signs.OpenBracket
-    → FindsItems o' toks room (i + 1) old p → Keeps old new → Has new node (nodes.ArrayLit p.list p.tail)
-    → Finds o toks 18 no_in room i new (record { node = node; next = p.next + 1; is_target = false })
-array_found o' o toks no_in room i old new p node bracket f k has = record {
+pub array_found : (functions : Functions) (start : List Node) (place tall : ℕ) (toks : List Tok) (no_in : Bool) (room i : ℕ) (old new : List Node) (p : ListedItems) (node : NodeId) → Holds toks functions place tall start → HasSign toks i signs.OpenBracket
+    → FindsItems (from toks functions start (i + 1)) toks room (i + 1) old p → Keeps start old → Keeps old new → Has new node (nodes.ArrayLit p.list p.tail) → node.0 ≡ length old
+    → Finds (from toks functions start i) toks 18 no_in room i new (record { node = node; next = p.next + 1; is_target = false })
+array_found functions start place tall toks no_in room i old new p node held bracket f ks k has fresh = record {
   tree = ArrayLit f.trees;
   part = record {
     used = node.0 ∷ f.used;
     shows = (p.list, f.used, subst (λ (z : Bool). Has new node (nodes.ArrayLit p.list z)) f.tail has, refl, items_kept old new k f.trees p.list f.used f.show);
+    own = own_top toks functions start place tall held old new i p.next (p.next + 1) node f.used ks k fresh (slice_get_within new node.0 _ has) (omega arith)
+        (own_wide functions start old old (i + 1) i p.next p.next f.used (keeps_self old) (omega arith) (omega arith) f.own);
     is_target = refl;
   };
   best = record {
@@ -233,14 +245,16 @@ pub array_nothing : (toks : List Tok) (no_in : Bool) (room i : ℕ) → HasSign 
 array_nothing toks no_in room i bracket f = record { none = λ u m r. (let c = closed toks no_in room i _ bracket u m r in f c.0 c.1 c.3) }
 
 -- an object literal
-pub object_found : (o' o : Origin) (toks : List Tok) (no_in : Bool) (room i : ℕ) (old new : List Node) (p : ListedProperties) (node : NodeId) → HasSign toks i signs.OpenBrace
-    → FindsProperties o' toks room (i + 1) old p → Keeps old new → Has new node (nodes.ObjectLit p.list p.comma)
-    → Finds o toks 18 no_in room i new (record { node = node; next = p.next + 1; is_target = false })
-object_found o' o toks no_in room i old new p node bracket f k has = record {
+pub object_found : (functions : Functions) (start : List Node) (place tall : ℕ) (toks : List Tok) (no_in : Bool) (room i : ℕ) (old new : List Node) (p : ListedProperties) (node : NodeId) → Holds toks functions place tall start → HasSign toks i signs.OpenBrace
+    → FindsProperties (from toks functions start (i + 1)) toks room (i + 1) old p → Keeps start old → Keeps old new → Has new node (nodes.ObjectLit p.list p.comma) → node.0 ≡ length old
+    → Finds (from toks functions start i) toks 18 no_in room i new (record { node = node; next = p.next + 1; is_target = false })
+object_found functions start place tall toks no_in room i old new p node held bracket f ks k has fresh = record {
   tree = ObjectLit f.trees;
   part = record {
     used = node.0 ∷ f.used;
     shows = (p.list, f.used, subst (λ (z : Bool). Has new node (nodes.ObjectLit p.list z)) f.comma has, refl, properties_kept old new k f.trees p.list f.used f.show);
+    own = own_top toks functions start place tall held old new i p.next (p.next + 1) node f.used ks k fresh (slice_get_within new node.0 _ has) (omega arith)
+        (own_wide functions start old old (i + 1) i p.next p.next f.used (keeps_self old) (omega arith) (omega arith) f.own);
     is_target = refl;
   };
   best = record {

@@ -7,13 +7,11 @@ use Rattle.wjs_tree.specs.declared.signs.Sign.TheVariants as signs
 use Rattle.wjs_tree.specs.declared.tokens.Tok.{Tok}
 use Rattle.wjs_tree.specs.declared.node.Node.{Node}
 use Rattle.wjs_tree.specs.declared.node.Property.{Property as Pair}
-use Rattle.wjs_tree.specs.declared.node.Spelt.{Spelt}
 use Rattle.wjs_tree.specs.declared.node.Spelt.TheVariants as spelts
 use Rattle.wjs_tree.specs.declared.node.PropertyKey.{PropertyKey}
 use Rattle.wjs_tree.specs.declared.node.PropertyKey.TheVariants as property_keys
 use Rattle.wjs_tree.specs.Trees.{Expr, Properties, NoProperty, Property, LastProperty}
-use Rattle.wjs_tree.specs.Height.{height, properties_height}
-use Rattle.wjs_tree.specs.Levels.{level}
+use Rattle.wjs_tree.specs.Height.{properties_height}
 use Rattle.wjs_tree.specs.Formed.{PropertiesFormed}
 use Rattle.wjs_tree.specs.Ends.{HasSign, HasToken}
 use Rattle.wjs_tree.specs.Spelling.{PropertiesStand, property_token}
@@ -23,6 +21,8 @@ use Rattle.wjs_parse_expr.specs.declared.parts.Part.{Part}
 use Rattle.wjs_parse_expr.specs.declared.parts.ListedProperties.{ListedProperties}
 use Rattle.wjs_parse_expr.specs.Readings.{Reading}
 use Rattle.wjs_parse_expr.specs.Steps.{PropertiesListing}
+use Rattle.wjs_parse_expr.specs.Table.{Owns}
+use Rattle.wjs_parse_expr.proofs.Owning.{own_none, own_later}
 use Rattle.wjs_parse_expr.specs.Answers.{Origin, FindsProperties, FindsValue}
 use Rattle.wjs_parse_expr.proofs.Suffixes.{two_signs}
 use Rattle.wjs_parse_expr.proofs.Gathering.{same_element}
@@ -61,6 +61,7 @@ pub record GatheredProperties (o : Origin) (toks : List Tok) (room at : ℕ) (ns
   pub wrap : Properties → Properties
   pub used : List ℕ
   pub show : (ns' : List Node) → Keeps ns ns' → (rest : Properties) (more : List Pair) (vs : List ℕ) → PropertiesShow ns' rest more vs → PropertiesShow ns' (wrap rest) (list ++ more) (used ++ vs)
+  pub own : Owns o.functions o.start ns o.at place used
   pub formed : (rest : Properties) → PropertiesFormed rest → PropertiesFormed (wrap rest)
   pub height : (rest : Properties) → properties_height rest + 1 ≤ room → properties_height (wrap rest) + 1 ≤ room
   pub whole : (rest : Properties) (k : ℕ) → PropertiesStand toks rest place k → PropertiesStand toks (wrap rest) at k
@@ -83,6 +84,7 @@ module _ (o : Origin) (toks : List Tok) (room at : ℕ) where
     wrap = λ rest. rest;
     used = [];
     show = λ ns' k rest more vs h. subst (λ (z : List Pair). PropertiesShow ns' rest (z ++ more) vs) (sym e) h;
+    own = own_none o.functions o.start ns o.at at;
     formed = λ rest f. f;
     height = λ rest h. h;
     whole = λ rest k s. s;
@@ -97,12 +99,13 @@ module _ (o : Origin) (toks : List Tok) (room at : ℕ) where
   close_here place close (LastProperty key e) k g = absurd (no_sign_key _ signs.CloseBrace key close g.stands.0)
 
   -- the brace closes before another property
-  pub properties_close : (o' : Origin) (ns : List Node) (list : List Pair) (comma : Bool) (place : ℕ) (p : ListedProperties) → 0 < room → GatheredProperties o toks room at ns list comma place
-      → HasSign toks place signs.CloseBrace → p.list ≡ list → p.comma ≡ comma → p.next ≡ place → FindsProperties o' toks room at ns p
-  properties_close o' ns list comma place p below l close made commas next = record {
+  pub properties_close : (ns : List Node) (list : List Pair) (comma : Bool) (place : ℕ) (p : ListedProperties) → 0 < room → GatheredProperties o toks room at ns list comma place
+      → HasSign toks place signs.CloseBrace → p.list ≡ list → p.comma ≡ comma → p.next ≡ place → FindsProperties o toks room at ns p
+  properties_close ns list comma place p below l close made commas next = record {
     trees = l.wrap NoProperty;
     used = l.used ++ [];
     show = subst (λ (z : List Pair). PropertiesShow ns (l.wrap NoProperty) z (l.used ++ [])) (append_nil list ∙ sym made) (l.show ns (keeps_self ns) NoProperty [] [] (refl, refl));
+    own = subst (λ z. Owns o.functions o.start ns o.at z (l.used ++ [])) (sym next) (subst (λ z. Owns o.functions o.start ns o.at place z) (sym (append_nil l.used)) l.own);
     comma = commas ∙ sym l.comma_none;
     listing = record {
       formed = l.formed NoProperty tt;
@@ -156,13 +159,15 @@ module _ (o : Origin) (toks : List Tok) (room at : ℕ) where
     closed_last wrap us rest k close e (inr c) = (e ∙ ap wrap c.0, c.1)
 
     -- the brace closes behind the property
-    pub properties_last : (o' : Origin) (ns : List Node) (list : List Pair) (comma : Bool) (p : ListedProperties) → 0 < room → GatheredProperties o toks room at ns list comma place → Keeps ns ns'
-        → HasSign toks item.next signs.CloseBrace → p.list ≡ list ++ record { key = key; value = item.node } ∷ [] → p.comma ≡ false → p.next ≡ item.next → FindsProperties o' toks room at ns' p
-    properties_last o' ns list comma p below l k close made commas next = record {
+    pub properties_last : (ns : List Node) (list : List Pair) (comma : Bool) (p : ListedProperties) → 0 < room → GatheredProperties o toks room at ns list comma place → Keeps ns ns'
+        → ((us : List ℕ) → Owns o.functions o.start ns o.at place us → Owns q.functions q.start ns' q.at item.next f.value.part.used → Owns o.functions o.start ns' o.at item.next (us ++ f.value.part.used))
+        → HasSign toks item.next signs.CloseBrace → p.list ≡ list ++ record { key = key; value = item.node } ∷ [] → p.comma ≡ false → p.next ≡ item.next → FindsProperties o toks room at ns' p
+    properties_last ns list comma p below l k grow close made commas next = record {
       trees = l.wrap (LastProperty key f.value.tree);
       used = l.used ++ f.value.part.used;
       show = subst (λ (z : List Pair). PropertiesShow ns' (l.wrap (LastProperty key f.value.tree)) z (l.used ++ f.value.part.used)) (sym made)
           (l.show ns' k (LastProperty key f.value.tree) (record { key = key; value = item.node } ∷ []) f.value.part.used (item.node, refl, f.value.part.shows));
+      own = subst (λ z. Owns o.functions o.start ns' o.at z (l.used ++ f.value.part.used)) (sym next) (grow l.used l.own f.value.part.own);
       comma = commas ∙ sym (l.comma_more (LastProperty key f.value.tree) refl);
       listing = record {
         formed = l.formed (LastProperty key f.value.tree) (f.value.best.reading.level, f.value.best.reading.formed);
@@ -191,8 +196,9 @@ module _ (o : Origin) (toks : List Tok) (room at : ℕ) where
 
     -- one more property and its comma
     pub properties_more : (ns : List Node) (list : List Pair) (behind : Bool) (list' : List Pair) → GatheredProperties o toks room at ns list behind place → Keeps ns ns'
+        → ((us : List ℕ) → Owns o.functions o.start ns o.at place us → Owns q.functions q.start ns' q.at item.next f.value.part.used → Owns o.functions o.start ns' o.at item.next (us ++ f.value.part.used))
         → HasSign toks item.next signs.Comma → list' ≡ list ++ record { key = key; value = item.node } ∷ [] → GatheredProperties o toks room at ns' list' true (item.next + 1)
-    properties_more ns list behind list' l k comma made = record {
+    properties_more ns list behind list' l k grow comma made = record {
       wrap = λ rest. l.wrap (Property key f.value.tree rest);
       used = l.used ++ f.value.part.used;
       show = λ ns2 k2 rest more vs h.
@@ -200,6 +206,7 @@ module _ (o : Origin) (toks : List Tok) (room at : ℕ) where
           (rw (append_assoc, append_assoc)
           (l.show ns2 (keeps_both ns ns' ns2 k k2) (Property key f.value.tree rest) (record { key = key; value = item.node } ∷ more) (f.value.part.used ++ vs)
           (item.node, more, f.value.part.used, vs, refl, refl, kept ns' ns2 k2 f.value.tree item.node f.value.part.used f.value.part.shows, h)));
+      own = own_later o.functions o.start ns' ns' o.at item.next (item.next + 1) (l.used ++ f.value.part.used) (keeps_self ns') (omega arith) (grow l.used l.own f.value.part.own);
       formed = λ rest g. l.formed (Property key f.value.tree rest) (f.value.best.reading.level, f.value.best.reading.formed, g);
       height = λ rest h. l.height (Property key f.value.tree rest) (let q = f.value.best.reading.height in omega arith);
       whole = λ rest z s. l.whole (Property key f.value.tree rest) z (item.next, f.name, f.colon, f.value.best.reading.stands, comma, s);

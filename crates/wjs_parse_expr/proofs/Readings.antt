@@ -17,6 +17,7 @@ use Rattle.wjs_tree.proofs.Kept.{kept}
 use Rattle.wjs_parse_expr.specs.declared.parts.Part.{Part}
 use Rattle.wjs_parse_expr.specs.Readings.{Reading, edge}
 use Rattle.wjs_parse_expr.specs.Answers.{Origin, IsPart}
+use Rattle.wjs_parse_expr.proofs.Owning.{own_later}
 use Rattle.wjs_parse_expr.proofs.Reach.{binary_bounds}
 
 pub lower : (toks : List Tok) (least least' : ℕ) (no_in : Bool) (room i : ℕ) (t : Expr) (n : ℕ) → least' ≤ least → Reading toks least no_in room i t n → Reading toks least' no_in room i t n
@@ -69,7 +70,12 @@ edge_high no_in (Comma a b) h w = absurd (omega arith)
 edge_high no_in _ h w = refl
 
 pub part_kept : (o : Origin) (old new : List Node) → Keeps old new → (p : Part) (t : Expr) → IsPart o old p t → IsPart o new p t
-part_kept o old new k p t s = record { used = s.used; shows = kept old new k t p.node s.used s.shows; is_target = s.is_target }
+part_kept o old new k p t s = record {
+  used = s.used;
+  shows = kept old new k t p.node s.used s.shows;
+  own = own_later o.functions o.start old new o.at p.next p.next s.used k (omega arith) s.own;
+  is_target = s.is_target;
+}
 
 -- a node that stands for a tree is there
 pub shows_within : (ns : List Node) (t : Expr) (i : NodeId) (used : List ℕ) → Shows ns t i used → i.0 < length ns

@@ -1,5 +1,5 @@
 -- What is found behind the base of a name, an index or a call.
-use Rattle.std.proofs.Common.{◌≡◌, ℕ, ◌+◌, ◌-◌, ◌<◌, ◌⊎◌, inl, inr, Bool, true, false, List, ◌∷◌, ◌++◌, Option, Some, None, refl, ap, ◌∙◌, arith}
+use Rattle.std.proofs.Common.{◌≡◌, ℕ, ◌+◌, ◌-◌, ◌<◌, ◌⊎◌, inl, inr, Bool, true, false, List, ◌∷◌, ◌++◌, Option, Some, None, refl, ap, ◌∙◌, arith, length}
 use Rattle.wjs_tree.specs.declared.tokens.Token.{Token}
 use Rattle.wjs_tree.specs.declared.tokens.Token.TheVariants as tokens
 use Rattle.wjs_tree.specs.declared.node.Spelt.{Spelt}
@@ -20,7 +20,11 @@ use Rattle.wjs_parse_expr.specs.Reach.{reach}
 use Rattle.wjs_parse_expr.specs.Readings.{Reading}
 use Rattle.wjs_tree.specs.Ends.{token_at, HasSign}
 use Rattle.wjs_tree.specs.Shows.{Keeps, Has}
-use Rattle.wjs_parse_expr.specs.Answers.{Best, Finds, Lists, Grows}
+use Rattle.std.proofs.lemmas.Option.{slice_get_within}
+use Rattle.wjs_tree.proofs.Forward.{forward, arguments_forward}
+use Rattle.wjs_parse_expr.specs.declared.functions.Functions.{Functions}
+use Rattle.wjs_parse_expr.specs.Answers.{Best, Finds, Lists, Grows, from}
+use Rattle.wjs_parse_expr.proofs.Owning.{own_left, own_pair}
 use Rattle.wjs_parse_expr.specs.Steps.{SuffixStep, DotStep, AtStep, CallStep}
 use Rattle.wjs_parse_expr.specs.Readings.{Continues}
 use Rattle.wjs_tree.proofs.Kept.{kept, arguments_kept}
@@ -52,13 +56,18 @@ dot_first toks calls room f name y y' f' sign word (inl d) = inl (let a = d.is i
 dot_first toks calls room f name y y' f' sign word (inr (inl d)) = absurd (let e : signs.Dot ≡ signs.OpenBracket = two_signs _ signs.Dot signs.OpenBracket sign d.sign in cc)
 dot_first toks calls room f name y y' f' sign word (inr (inr d)) = absurd (let e : signs.Dot ≡ signs.OpenParen = two_signs _ signs.Dot signs.OpenParen sign d.1.sign in cc)
 
-pub dot_grows : (toks : List Tok) (calls : Bool) (room : ℕ) (left : Part) (name : Spelt) (node : NodeId) (a c : List Node)
+pub dot_grows : (toks : List Tok) (calls : Bool) (room : ℕ) (functions : Functions) (left : Part) (name : Spelt) (node : NodeId) (a c : List Node)
     → HasSign toks left.next signs.Dot → token_at toks (left.next + 1) ≡ Some (spelt_token name) → 0 < room
-    → Keeps a c → Has c node (nodes.Dot left.node name)
-    → Grows (SuffixStep toks calls room) (λ y p. ⊥) a c left (record { node = node; next = left.next + 2; is_target = true })
-dot_grows toks calls room left name node a c sign word below k has = record {
+    → Keeps a c → Has c node (nodes.Dot left.node name) → node.0 ≡ length a
+    → Grows functions (SuffixStep toks calls room) (λ y p. ⊥) a c left (record { node = node; next = left.next + 2; is_target = true })
+dot_grows toks calls room functions left name node a c sign word below k has fresh = record {
   whole = λ y. Dot y name;
-  part = λ q y s. record { used = node.0 ∷ s.used; shows = (left.node, s.used, has, refl, kept a c k y left.node s.used s.shows); is_target = refl };
+  part = λ q y z s. record {
+    used = node.0 ∷ s.used;
+    shows = (left.node, s.used, has, refl, kept a c k y left.node s.used s.shows);
+    own = own_left functions q a left.next z c (left.next + 2) node s.used k fresh (slice_get_within c node.0 _ has) (omega arith) s.own;
+    is_target = refl;
+  };
   step = λ y. record { below = below; kind = inl (record { name = name; is = refl; sign = sign; word = word; ends = refl }) };
   first = λ y y' f' s. dot_first toks calls room left.next name y y' f' sign word s.kind;
 }
@@ -75,15 +84,16 @@ at_first toks calls room f next place y y' f' sign close best (inr (inl d)) = sa
     same (inl e) = inl (let a = d.is in let b = e.0 in cc, d.ends ∙ ap (λ n. n + 1) e.1)
     same (inr l) = absurd (let h : reach false (token_at toks d.close) ≡ 0 = ap (reach false) d.close_sign in omega (arith, l.1.0))
 
-pub at_grows : (toks : List Tok) (calls : Bool) (room : ℕ) (o : Origin) (left place : Part) (node : NodeId) (a b c : List Node)
+pub at_grows : (toks : List Tok) (calls : Bool) (room : ℕ) (functions : Functions) (left place : Part) (node : NodeId) (a b c : List Node)
     → HasSign toks left.next signs.OpenBracket → HasSign toks place.next signs.CloseBracket → 0 < room
-    → Keeps a b → Keeps b c → Finds o toks 0 false (room - 1) (left.next + 1) b place → Has c node (nodes.At left.node place.node)
-    → Grows (SuffixStep toks calls room) (λ y p. ⊥) a c left (record { node = node; next = place.next + 1; is_target = true })
-at_grows toks calls room o left place node a b c sign close below k l f has = record {
+    → Keeps a b → Keeps b c → Finds (from toks functions a (left.next + 1)) toks 0 false (room - 1) (left.next + 1) b place → Has c node (nodes.At left.node place.node) → node.0 ≡ length b
+    → Grows functions (SuffixStep toks calls room) (λ y p. ⊥) a c left (record { node = node; next = place.next + 1; is_target = true })
+at_grows toks calls room functions left place node a b c sign close below k l f has fresh = record {
   whole = λ y. At y f.tree;
-  part = λ q y s. record {
+  part = λ q y z s. record {
     used = node.0 ∷ (s.used ++ f.part.used);
     shows = (left.node, place.node, s.used, f.part.used, has, refl, kept a c (keeps_both a b c k l) y left.node s.used s.shows, kept b c l f.tree place.node f.part.used f.part.shows);
+    own = (let h = forward toks f.tree (left.next + 1) place.next f.best.reading.stands in own_pair functions q a left.next z b c (left.next + 1) place.next (place.next + 1) node s.used f.part.used k l fresh (slice_get_within c node.0 _ has) (omega arith) (omega arith) (omega arith) s.own f.part.own);
     is_target = refl;
   };
   step = λ y. record {
@@ -103,22 +113,23 @@ call_first toks calls room f o ns items l y y' f' sign (inr (inr d)) =
     let e = l.only d.1.arguments d.1.close d.1.listing in
     inl (let a = d.1.is in let b = e.0 in cc, d.1.ends ∙ ap (λ n. n + 1) e.1)
 
-pub call_grows : (toks : List Tok) (calls : Bool) (room : ℕ) (o : Origin) (left : Part) (items : Listed) (node : NodeId) (a b c : List Node)
+pub call_grows : (toks : List Tok) (calls : Bool) (room : ℕ) (functions : Functions) (left : Part) (items : Listed) (node : NodeId) (a b c : List Node)
     → calls ≡ true → HasSign toks left.next signs.OpenParen → 0 < room
-    → Keeps a b → Keeps b c → Lists o toks room (left.next + 1) b items → Has c node (nodes.Call left.node items.list)
-    → Grows (SuffixStep toks calls room) (λ y p. ⊥) a c left (record { node = node; next = items.next + 1; is_target = false })
-call_grows toks calls room o left items node a b c yes_calls sign below k l f has = record {
+    → Keeps a b → Keeps b c → Lists (from toks functions a (left.next + 1)) toks room (left.next + 1) b items → Has c node (nodes.Call left.node items.list) → node.0 ≡ length b
+    → Grows functions (SuffixStep toks calls room) (λ y p. ⊥) a c left (record { node = node; next = items.next + 1; is_target = false })
+call_grows toks calls room functions left items node a b c yes_calls sign below k l f has fresh = record {
   whole = λ y. Call y f.trees;
-  part = λ q y s. record {
+  part = λ q y z s. record {
     used = node.0 ∷ (s.used ++ f.used);
     shows = (left.node, items.list, s.used, f.used, has, refl, kept a c (keeps_both a b c k l) y left.node s.used s.shows, arguments_kept b c l f.trees items.list f.used f.show);
+    own = (let h = arguments_forward toks f.trees (left.next + 1) items.next f.listing.stands in own_pair functions q a left.next z b c (left.next + 1) items.next (items.next + 1) node s.used f.used k l fresh (slice_get_within c node.0 _ has) (omega arith) (omega arith) (omega arith) s.own f.own);
     is_target = refl;
   };
   step = λ y. record {
     below = below;
     kind = inr (inr (yes_calls, record { arguments = f.trees; close = items.next; is = refl; sign = sign; listing = f.listing; ends = refl }));
   };
-  first = λ y y' f' s. call_first toks calls room left.next o b items f y y' f' sign s.kind;
+  first = λ y y' f' s. call_first toks calls room left.next (from toks functions a (left.next + 1)) b items f y y' f' sign s.kind;
 }
 
 -- no index is read

@@ -9,7 +9,7 @@ use Rattle.wjs_tree.specs.Levels.{is_bare, is_target}
 use Rattle.wjs_parse_expr.specs.Readings.{Reading}
 use Rattle.wjs_tree.specs.Ends.{token_at}
 use Rattle.wjs_tree.specs.Shows.{Keeps}
-use Rattle.wjs_parse_expr.specs.Answers.{IsPart, Grows, FindsHead, TargetAnswers}
+use Rattle.wjs_parse_expr.specs.Answers.{IsPart, Begun, Grows, FindsHead, TargetAnswers}
 use Rattle.wjs_parse_expr.specs.Steps.{SuffixStep, IsHead}
 use Rattle.wjs_parse_expr.proofs.Readings.{part_kept}
 use Rattle.wjs_parse_expr.specs.Answers.{Origin, EndsAt}
@@ -91,7 +91,7 @@ module _ (q : Origin) (toks : List Tok) (no_in : Bool) (room i : ℕ) where
   }
 
   -- past the next step
-  onward : (old new : List Node) (left p : Part) (g : Grows (SuffixStep toks true room) (λ y n. ⊥) old new left p) (y : Expr) (u : Expr) (m : ℕ) → Beyond toks room u m y left.next → Chain (ChainStep toks true room) u m (g.whole y) p.next
+  onward : (old new : List Node) (left p : Part) (g : Grows q.functions (SuffixStep toks true room) (λ y n. ⊥) old new left p) (y : Expr) (u : Expr) (m : ℕ) → Beyond toks room u m y left.next → Chain (ChainStep toks true room) u m (g.whole y) p.next
   onward old new left p g y u m b = move (g.first y b.next b.place b.first.1)
     where
       move : ((b.next ≡ g.whole y) × (b.place ≡ p.next)) ⊎ ((b.place < p.next) × ⊥) → Chain (ChainStep toks true room) u m (g.whole y) p.next
@@ -109,16 +109,16 @@ module _ (q : Origin) (toks : List Tok) (no_in : Bool) (room i : ℕ) where
   later z f f1 lt c (inl e) = ((let a = e in omega arith), subst (λ (q : ℕ). 15 < reach no_in (token_at toks q)) (sym e) c)
   later z f f1 lt c (inr e) = ((let a = e.0 in omega arith), e.1)
 
-  next_last : (old new : List Node) (left p : Part) (g : Chaining q toks true no_in room i old left) (s : Grows (SuffixStep toks true room) (λ y n. ⊥) old new left p) → Keeps old new
-      → (last : Option Part) → LastIs q toks no_in room i old last g.tree left.next → (b : Bool) → p.is_target ≡ b
-      → LastIs q toks no_in room i new (if b then Some p else last) (s.whole g.tree) p.next
+  next_last : (old new : List Node) (left p : Part) (b : Begun q.functions q old left.next) (g : Chaining q toks true no_in room i old left) (s : Grows q.functions (SuffixStep toks true room) (λ y n. ⊥) old new left p) → Keeps old new
+      → (last : Option Part) → LastIs q toks no_in room i old last g.tree left.next → (t : Bool) → p.is_target ≡ t
+      → LastIs q toks no_in room i new (if t then Some p else last) (s.whole g.tree) p.next
   unfolding chain_step
-  next_last old new left p g s k None l true is =
-      is_last new p (chain_step q toks true no_in room i old new left p g s) is (λ u m r t. or_beyond (s.whole g.tree) p.next u m (onward old new left p s g.tree u m (l u m r t)))
-  next_last old new left p g s k None l false is =
-      λ u m r t. must_beyond (s.whole g.tree) p.next u m (let a = (s.part q g.tree g.part).is_target in cc) t (onward old new left p s g.tree u m (l u m r t))
-  next_last old new left p g s k (Some z) l true is =
-      is_last new p (chain_step q toks true no_in room i old new left p g s) is (λ u m r t. one u m (l.all u m r t))
+  next_last old new left p b g s k None l true is =
+      is_last new p (chain_step q toks true no_in room i old new left p b g s) is (λ u m r t. or_beyond (s.whole g.tree) p.next u m (onward old new left p s g.tree u m (l u m r t)))
+  next_last old new left p b g s k None l false is =
+      λ u m r t. must_beyond (s.whole g.tree) p.next u m (let a = (s.part q g.tree b g.part).is_target in cc) t (onward old new left p s g.tree u m (l u m r t))
+  next_last old new left p b g s k (Some z) l true is =
+      is_last new p (chain_step q toks true no_in room i old new left p b g s) is (λ u m r t. one u m (l.all u m r t))
     where
       stp : SuffixStep toks true room g.tree left.next (s.whole g.tree) p.next
       stp = s.step g.tree
@@ -133,7 +133,7 @@ module _ (q : Origin) (toks : List Tok) (no_in : Bool) (room i : ℕ) where
           → (((u ≡ s.whole g.tree) × (m ≡ p.next)) ⊎ ((m < p.next) × (15 < reach no_in (token_at toks m)))) ⊎ Beyond toks room u m (s.whole g.tree) p.next
       one u m (inl a) = inl (earlier l.tree u z.next left.next p.next m lt c l.place a)
       one u m (inr b) = or_beyond (s.whole g.tree) p.next u m (onward old new left p s g.tree u m b)
-  next_last old new left p g s k (Some z) l false is = record {
+  next_last old new left p b g s k (Some z) l false is = record {
     tree = l.tree;
     part = part_kept q old new k z l.tree l.part;
     target = l.target;
@@ -152,19 +152,19 @@ module _ (q : Origin) (toks : List Tok) (no_in : Bool) (room i : ℕ) where
       c = let r = suffix_reach toks true no_in room g.tree left.next (s.whole g.tree) p.next stp.kind in omega arith
 
       other : is_target (s.whole g.tree) ≡ false
-      other = let a = (s.part q g.tree g.part).is_target in cc
+      other = let a = (s.part q g.tree b g.part).is_target in cc
 
       one : (u : Expr) (m : ℕ) → is_target u ≡ true → (((u ≡ l.tree) × (m ≡ z.next)) ⊎ ((m < z.next) × (15 < reach no_in (token_at toks m)))) ⊎ Beyond toks room u m g.tree left.next
           → (((u ≡ l.tree) × (m ≡ z.next)) ⊎ ((m < z.next) × (15 < reach no_in (token_at toks m)))) ⊎ Beyond toks room u m (s.whole g.tree) p.next
       one u m t (inl a) = inl a
       one u m t (inr b) = inr (must_beyond (s.whole g.tree) p.next u m other t (onward old new left p s g.tree u m b))
 
-  pub target_step : (old new : List Node) (left p : Part) (last o : Option Part) → Keeps old new → Targeting q toks no_in room i old left last → Grows (SuffixStep toks true room) (λ y n. ⊥) old new left p
+  pub target_step : (old new : List Node) (left p : Part) (last o : Option Part) → Begun q.functions q old left.next → Keeps old new → Targeting q toks no_in room i old left last → Grows q.functions (SuffixStep toks true room) (λ y n. ⊥) old new left p
       → o ≡ (if p.is_target then Some p else last) → Targeting q toks no_in room i new p o
   unfolding chain_step
-  target_step old new left p last o k g s e = record {
-    chain = chain_step q toks true no_in room i old new left p g.chain s;
-    last_is = subst (λ (z : Option Part). LastIs q toks no_in room i new z (s.whole g.chain.tree) p.next) (sym e) (next_last old new left p g.chain s k last g.last_is p.is_target refl);
+  target_step old new left p last o b k g s e = record {
+    chain = chain_step q toks true no_in room i old new left p b g.chain s;
+    last_is = subst (λ (z : Option Part). LastIs q toks no_in room i new z (s.whole g.chain.tree) p.next) (sym e) (next_last old new left p b g.chain s k last g.last_is p.is_target refl);
   }
 
   pub target_end : (old new : List Node) (left : Part) → Keeps old new → ((y y' : Expr) (f' : ℕ) → SuffixStep toks true room y left.next y' f' → ⊥) → (last : Option Part) → Targeting q toks no_in room i old left last → TargetAnswers q toks no_in room i new (Ok last)

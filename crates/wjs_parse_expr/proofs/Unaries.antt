@@ -1,5 +1,5 @@
 -- Operators behind a is_target and before an operand.
-use Rattle.std.proofs.Common.{◌≡◌, ℕ, ◌+◌, ◌-◌, ◌<◌, ◌≤◌, ◌⊎◌, inl, inr, Bool, true, false, List, ◌∷◌, Option, Some, None, refl, sym, ap, ◌∙◌, subst, arith}
+use Rattle.std.proofs.Common.{◌≡◌, ℕ, ◌+◌, ◌-◌, ◌<◌, ◌≤◌, ◌⊎◌, inl, inr, Bool, true, false, List, ◌∷◌, Option, Some, None, refl, sym, ap, ◌∙◌, subst, arith, length}
 use Rattle.std.specs.Prelude.{slice_get}
 use Rattle.wjs_tree.specs.declared.tokens.Token.{Token}
 use Rattle.wjs_tree.specs.declared.tokens.Token.TheVariants as tokens
@@ -17,7 +17,7 @@ use Rattle.wjs_tree.specs.Formed.{WellFormed}
 use Rattle.wjs_tree.specs.Spelling.{Stands}
 use Rattle.wjs_tree.specs.Ends.{token_at, is_joined}
 use Rattle.wjs_tree.specs.Shows.{Keeps, Has}
-use Rattle.wjs_parse_expr.specs.Answers.{Nothing, Finds, Answers, FindsOperand, OperandAnswers, TargetAnswers}
+use Rattle.wjs_parse_expr.specs.Answers.{Nothing, Finds, Begun, from, Answers, FindsOperand, OperandAnswers, TargetAnswers}
 use Rattle.wjs_tree.proofs.Kept.{kept, keeps_self}
 use Rattle.wjs_parse_expr.proofs.Reach.{binary_bounds, reach_max, update_reach, same_update_token, same_prefix_token}
 use Rattle.wjs_tree.specs.declared.operators.UpdateOperator.{UpdateOperator}
@@ -27,6 +27,10 @@ use Rattle.wjs_tree.specs.Operators.{update_token, prefix_token, prefix_of, is_u
 use Rattle.std.specs.Prelude.{is_some}
 use Rattle.wjs_parse_expr.proofs.Beginnings.{can_begin}
 use Rattle.wjs_parse_expr.specs.Answers.{Origin}
+use Rattle.std.proofs.lemmas.Option.{slice_get_within}
+use Rattle.wjs_parse_expr.specs.declared.functions.Functions.{Functions}
+use Rattle.wjs_parse_expr.specs.Table.{Holds}
+use Rattle.wjs_parse_expr.proofs.Owning.{own_wide, own_top, own_left}
 use Rattle.wjs_parse_expr.proofs.Readings.{edge_high, same_token, lower}
 use Rattle.wjs_tree.specs.declared.keys.Key.TheVariants as keys
 use Rattle.wjs_parse_expr.proofs.Assignments.{target_level}
@@ -106,12 +110,17 @@ no_postfix o toks no_in room i ns left f none =
     stays o toks no_in room i 15 14 (PostfixStep toks) (postfix_step toks no_in room i) ns ns left (keeps_self ns) f
     (λ y' f' s. none (f.part.is_target ∙ s.target) s.op s.sign s.joined)
 
-pub with_postfix : (o : Origin) (toks : List Tok) (no_in : Bool) (room i : ℕ) (old new : List Node) (left : Part) (op : UpdateOperator) (node : NodeId) → (f : Finds o toks 15 no_in room i old left) → Keeps old new
-    → token_at toks left.next ≡ Some (update_token op) → left.is_target ≡ true → is_joined (slice_get toks left.next) ≡ true → Has new node (nodes.Postfix left.node op)
+pub with_postfix : (o : Origin) (toks : List Tok) (no_in : Bool) (room i : ℕ) (old new : List Node) (left : Part) (op : UpdateOperator) (node : NodeId) → Begun o.functions o old left.next → (f : Finds o toks 15 no_in room i old left) → Keeps old new
+    → token_at toks left.next ≡ Some (update_token op) → left.is_target ≡ true → is_joined (slice_get toks left.next) ≡ true → Has new node (nodes.Postfix left.node op) → node.0 ≡ length old
     → Finds o toks 14 no_in room i new (record { node = node; next = left.next + 1; is_target = false })
-with_postfix o toks no_in room i old new left op node f k sign isTarget joined has =
+with_postfix o toks no_in room i old new left op node b f k sign isTarget joined has fresh =
     goes o toks no_in room i 15 14 (PostfixStep toks) (postfix_step toks no_in room i) old new left (record { node = node; next = left.next + 1; is_target = false }) f (Postfix f.tree op)
-    (record { used = node.0 ∷ f.part.used; shows = (left.node, f.part.used, has, refl, kept old new k f.tree left.node f.part.used f.part.shows); is_target = refl })
+    (record {
+      used = node.0 ∷ f.part.used;
+      shows = (left.node, f.part.used, has, refl, kept old new k f.tree left.node f.part.used f.part.shows);
+      own = own_left o.functions o old left.next b new (left.next + 1) node f.part.used k fresh (slice_get_within new node.0 _ has) (omega arith) f.part.own;
+      is_target = refl;
+    })
     (record { op = op; is = refl; target = sym f.part.is_target ∙ isTarget; sign = sign; joined = joined; ends = refl })
     (λ t' n' s. inl (let e : s.op ≡ op = same_update_token _ s.op op s.sign sign in let a = s.is in cc, s.ends))
 
@@ -249,13 +258,19 @@ prefix_same : (toks : List Tok) (no_in : Bool) (op : PrefixOperator) (u e y : Ex
 prefix_same toks no_in op u e y m f q (inl s) = inl (let a = s.0 in cc, s.1)
 prefix_same toks no_in op u e y m f q (inr l) = inr (l.0, (l.1.0, (let z : edge u ≡ edge e = ap edge q in let w = l.1.1 in omega arith), l.1.2))
 
-pub prefix_found : (o p : Origin) (toks : List Tok) (no_in : Bool) (room i : ℕ) (op : PrefixOperator) (old new : List Node) (part : Part) (node : NodeId) → token_at toks i ≡ Some (prefix_token op) → 0 < room
-    → FindsOperand o op toks no_in (room - 1) (i + 1) old part → Keeps old new → Has new node (nodes.Prefix op part.node)
-    → Finds p toks 13 no_in room i new (record { node = node; next = part.next; is_target = false })
+pub prefix_found : (functions : Functions) (start : List Node) (place tall : ℕ) (toks : List Tok) (no_in : Bool) (room i : ℕ) (op : PrefixOperator) (old new : List Node) (part : Part) (node : NodeId) → Holds toks functions place tall start → token_at toks i ≡ Some (prefix_token op) → 0 < room
+    → FindsOperand (from toks functions start (i + 1)) op toks no_in (room - 1) (i + 1) old part → Keeps start old → Keeps old new → Has new node (nodes.Prefix op part.node) → node.0 ≡ length old
+    → Finds (from toks functions start i) toks 13 no_in room i new (record { node = node; next = part.next; is_target = false })
 unfolding Behind
-prefix_found o p toks no_in room i op old new part node e below f k has = record {
+prefix_found functions start place tall toks no_in room i op old new part node held e below f ks k has fresh = record {
   tree = Prefix op f.tree;
-  part = record { used = node.0 ∷ f.part.used; shows = (part.node, f.part.used, has, refl, kept old new k f.tree part.node f.part.used f.part.shows); is_target = refl };
+  part = record {
+    used = node.0 ∷ f.part.used;
+    shows = (part.node, f.part.used, has, refl, kept old new k f.tree part.node f.part.used f.part.shows);
+    own = own_top toks functions start place tall held old new i part.next part.next node f.part.used ks k fresh (slice_get_within new node.0 _ has) (omega arith)
+        (own_wide functions start old old (i + 1) i part.next part.next f.part.used (keeps_self old) (omega arith) (omega arith) f.part.own);
+    is_target = refl;
+  };
   best = record {
     reading = record {
       level = omega arith;

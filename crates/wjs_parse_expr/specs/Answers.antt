@@ -18,7 +18,7 @@ use Rattle.wjs_tree.specs.Levels.{level, is_target, is_bare}
 use Rattle.wjs_tree.specs.Children.{AreBelow, ItemsBelow, PropertiesBelow}
 use Rattle.wjs_tree.specs.Ends.{token_at, HasToken, HasSign, IsJoined}
 use Rattle.wjs_tree.specs.Spelling.{spelt_token, property_token}
-use Rattle.wjs_tree.specs.Shows.{Has, Shows, ArgumentsShow, ItemsShow, PropertiesShow, has_tail, has_comma}
+use Rattle.wjs_tree.specs.Shows.{Has, Shows, ArgumentsShow, ItemsShow, PropertiesShow, has_tail, has_comma, Keeps}
 use Rattle.wjs_parse_expr.specs.declared.functions.Functions.{Functions}
 use Rattle.wjs_parse_expr.specs.declared.found.Found.{Found}
 use Rattle.wjs_parse_expr.specs.declared.found.ParseFault.{ParseFault}
@@ -30,6 +30,7 @@ use Rattle.wjs_parse_expr.specs.declared.parts.ListedItems.{ListedItems}
 use Rattle.wjs_parse_expr.specs.declared.parts.ListedProperties.{ListedProperties}
 use Rattle.wjs_parse_expr.specs.Reach.{reach}
 use Rattle.wjs_parse_expr.specs.Readings.{Reading, Continues}
+use Rattle.wjs_parse_expr.specs.Table.{Holds, Owns}
 use Rattle.wjs_parse_expr.specs.Steps.{Listing, ItemsListing, PropertiesListing, chain_level, InChain, IsHead}
 
 -- where a reading began: the tokens, the functions, the nodes that were there, and the place
@@ -51,10 +52,11 @@ pub record Best (toks : List Tok) (least : ℕ) (no_in : Bool) (room i : ℕ) (t
 pub record Nothing (toks : List Tok) (least : ℕ) (no_in : Bool) (room i : ℕ) : Type 0 where
   pub none : (u : Expr) (m : ℕ) → Reading toks least no_in room i u m → ⊥
 
--- the part is the tree
+-- the part is the tree, made of nodes of its own
 pub record IsPart (o : Origin) (ns : List Node) (p : Part) (t : Expr) : Type 0 where
   pub used : List ℕ
   pub shows : Shows ns t p.node used
+  pub own : Owns o.functions o.start ns o.at p.next used
   pub is_target : p.is_target ≡ is_target t
 
 pub record Finds (o : Origin) (toks : List Tok) (least : ℕ) (no_in : Bool) (room i : ℕ) (ns : List Node) (p : Part) : Type 0 where
@@ -77,23 +79,33 @@ pub record BestChain (toks : List Tok) (calls no_in : Bool) (room i : ℕ) (t : 
   pub chain : InChain calls t
   pub longest : (u : Expr) (m : ℕ) → Reading toks 15 no_in room i u m → InChain calls u → ((u ≡ t) × (m ≡ n)) ⊎ ((m < n) × Continues toks (min (level u) (chain_level calls)) no_in u m)
 
--- what one step from the left part finds
-pub record Grows (S : Expr → ℕ → Expr → ℕ → Type 0) (D : Expr → ℕ → Type 0) (old new : List Node) (left : Part) (p : Part) : Type 0 where
+-- where a part began, as a step behind it sees it
+pub record Begun (functions : Functions) (o : Origin) (ns : List Node) (next : ℕ) : Type 0 where
+  pub place : ℕ
+  pub room : ℕ
+  pub same : functions ≡ o.functions
+  pub held : Holds o.toks o.functions place room o.start
+  pub keeps : Keeps o.start ns
+  pub before : o.at ≤ next
+
+-- What one step from the left part finds. A part of its own grows to one of its own.
+pub record Grows (functions : Functions) (S : Expr → ℕ → Expr → ℕ → Type 0) (D : Expr → ℕ → Type 0) (old new : List Node) (left : Part) (p : Part) : Type 0 where
   pub whole : Expr → Expr
-  pub part : (o : Origin) (y : Expr) → IsPart o old left y → IsPart o new p (whole y)
+  pub part : (o : Origin) (y : Expr) → Begun functions o old left.next → IsPart o old left y → IsPart o new p (whole y)
   pub step : (y : Expr) → S y left.next (whole y) p.next
   pub first : (y y' : Expr) (f' : ℕ) → S y left.next y' f' → ((y' ≡ whole y) × (f' ≡ p.next)) ⊎ ((f' < p.next) × D y' f')
 
-abbrev pub Steps : (Expr → ℕ → Expr → ℕ → Type 0) → (Expr → ℕ → Type 0) → List Node → List Node → Part → Result (Option Part) OutOfMemory → Type 0
-Steps S D old new left (Ok (Some p)) = Grows S D old new left p
-Steps S D old new left (Ok None) = (y y' : Expr) (f' : ℕ) → S y left.next y' f' → ⊥
-Steps S D old new left (Err e) = Unit {0}
+abbrev pub Steps : Functions → (Expr → ℕ → Expr → ℕ → Type 0) → (Expr → ℕ → Type 0) → List Node → List Node → Part → Result (Option Part) OutOfMemory → Type 0
+Steps functions S D old new left (Ok (Some p)) = Grows functions S D old new left p
+Steps functions S D old new left (Ok None) = (y y' : Expr) (f' : ℕ) → S y left.next y' f' → ⊥
+Steps functions S D old new left (Err e) = Unit {0}
 
 -- the arguments up to the closing parenthesis, which are the only ones
 pub record Lists (o : Origin) (toks : List Tok) (room i : ℕ) (ns : List Node) (p : Listed) : Type 0 where
   pub trees : Arguments
   pub used : List ℕ
   pub show : ArgumentsShow ns trees p.list used
+  pub own : Owns o.functions o.start ns o.at p.next used
   pub listing : Listing toks room i trees p.next
   pub only : (us : Arguments) (m : ℕ) → Listing toks room i us m → (us ≡ trees) × (m ≡ p.next)
 
@@ -107,6 +119,7 @@ pub record FindsItems (o : Origin) (toks : List Tok) (room i : ℕ) (ns : List N
   pub trees : TreeItems
   pub used : List ℕ
   pub show : ItemsShow ns trees p.list used
+  pub own : Owns o.functions o.start ns o.at p.next used
   pub tail : p.tail ≡ has_tail trees
   pub listing : ItemsListing toks room i trees p.next
   pub only : (us : TreeItems) (m : ℕ) → ItemsListing toks room i us m → (us ≡ trees) × (m ≡ p.next)
@@ -121,6 +134,7 @@ pub record FindsProperties (o : Origin) (toks : List Tok) (room i : ℕ) (ns : L
   pub trees : TreeProperties
   pub used : List ℕ
   pub show : PropertiesShow ns trees p.list used
+  pub own : Owns o.functions o.start ns o.at p.next used
   pub comma : p.comma ≡ has_comma trees
   pub listing : PropertiesListing toks room i trees p.next
   pub only : (us : TreeProperties) (m : ℕ) → PropertiesListing toks room i us m → (us ≡ trees) × (m ≡ p.next)
@@ -142,16 +156,18 @@ ValueAnswers o toks room i ns (Ok None) = (key : PropertyKey) (u : Expr) (m : �
 ValueAnswers o toks room i ns (Err e) = Unit {0}
 
 -- one node that was added
-abbrev pub Adds : List Node → Node → ℕ → Bool → Result (Option Part) OutOfMemory → Type 0
-Adds ns node next target (Ok (Some p)) = Has ns p.node node × (p.next ≡ next) × (p.is_target ≡ target)
-Adds ns node next target (Ok None) = ⊥
-Adds ns node next target (Err e) = Unit {0}
+abbrev pub Adds : List Node → List Node → Node → ℕ → Bool → Result (Option Part) OutOfMemory → Type 0
+Adds old new node next target (Ok (Some p)) = Has new p.node node × (p.next ≡ next) × (p.is_target ≡ target) × (p.node.0 ≡ length old)
+Adds old new node next target (Ok None) = ⊥
+Adds old new node next target (Err e) = Unit {0}
 
--- The longest expression from the place, and the only one that the tokens up to its end spell.
-pub record IsLongest (toks : List Tok) (no_in : Bool) (i : ℕ) (ns : List Node) (p : Found) : Type 0 where
+-- The longest expression from the place, and the only one that the tokens up to its end spell. No node stands at two places
+-- of its tree, and each is new or one of an entry within its tokens.
+pub record IsLongest (toks : List Tok) (functions : Functions) (no_in : Bool) (i : ℕ) (old new : List Node) (p : Found) : Type 0 where
   pub tree : Expr
   pub used : List ℕ
-  pub shows : Shows ns tree p.node used
+  pub shows : Shows new tree p.node used
+  pub own : Owns functions old new i p.next used
   pub reading : Reading toks 0 no_in 200 i tree p.next
   pub longest : (u : Expr) (m : ℕ) → Reading toks 0 no_in 200 i u m → m ≤ p.next
   pub only : (u : Expr) → Reading toks 0 no_in 200 i u p.next → u ≡ tree
@@ -162,9 +178,9 @@ abbrev pub NotThere : List Tok → Bool → ℕ → ParseFault → Type 0
 NotThere toks no_in i faults.NotAScript = (u : Expr) (m : ℕ) → Reading toks 0 no_in 200 i u m → ⊥
 NotThere toks no_in i faults.OutOfMemory = Unit {0}
 
-abbrev pub IsExpression : List Tok → Bool → ℕ → List Node → Result Found ParseFault → Type 0
-IsExpression toks no_in i ns (Ok p) = IsLongest toks no_in i ns p
-IsExpression toks no_in i ns (Err e) = NotThere toks no_in i e
+abbrev pub IsExpression : List Tok → Functions → Bool → ℕ → List Node → List Node → Result Found ParseFault → Type 0
+IsExpression toks functions no_in i old new (Ok p) = IsLongest toks functions no_in i old new p
+IsExpression toks functions no_in i old new (Err e) = NotThere toks no_in i e
 
 pub record FindsHead (o : Origin) (toks : List Tok) (no_in : Bool) (room i : ℕ) (ns : List Node) (h : Head) : Type 0 where
   pub tree : Expr

@@ -19,7 +19,8 @@ use wjs_tree::{Node, Nodes, PrefixOperator, Sign, Tok};
 
 /// The longest well-formed expression that begins at the place, and no other tree spells its tokens; NotAScript exactly
 /// where none begins there. Where `no_in` is true, no operator `in` stands outside brackets in it. Functions are taken
-/// from `functions`. The nodes that were there stay.
+/// from `functions`. The nodes that were there stay. No node stands at two places of the tree, and each node of it is new
+/// or belongs to an entry of `functions` within its tokens.
 pub fn expression(
     alloc: Global,
     toks: &[Tok],
@@ -31,7 +32,7 @@ pub fn expression(
     requires { Holds toks.now functions.now at 200 nodes.old }
     ensures keeps { Keeps nodes.old nodes.new }
     ensures ends { IfOk result (λ p. (at < p.next) × (p.next ≤ length toks.now) × (p.node.0 < length nodes.new)) }
-    ensures answer { IsExpression toks.now no_in at nodes.new result }
+    ensures answer { IsExpression toks.now functions.now no_in at nodes.old nodes.new result }
 {
     match comma(alloc, toks, at, no_in, 200, functions, nodes) {
         Ok(Some(part)) => Ok(Found {
@@ -84,7 +85,7 @@ fn after_comma(
     requires there { left.node.0 < length nodes.old }
     ensures keeps { Keeps nodes.old nodes.new }
     ensures ends { PartEnds toks.now left.next nodes.new result }
-    ensures answer { Steps (CommaStep toks.now no_in room) (Continues toks.now 1 no_in) nodes.old nodes.new left result }
+    ensures answer { Steps functions.now (CommaStep toks.now no_in room) (Continues toks.now 1 no_in) nodes.old nodes.new left result }
 {
     if room == 0 || !has_sign(toks, left.next, Sign::Comma) {
         return Ok(None);
@@ -156,7 +157,7 @@ fn choice(
     requires sign { HasSign toks.now left.next signs.Question }
     ensures keeps { Keeps nodes.old nodes.new }
     ensures ends { PartEnds toks.now left.next nodes.new result }
-    ensures answer { Steps (CondStep toks.now no_in room) (Continues toks.now 1 no_in) nodes.old nodes.new left result }
+    ensures answer { Steps functions.now (CondStep toks.now no_in room) (Continues toks.now 1 no_in) nodes.old nodes.new left result }
 {
     if room == 0 {
         return Ok(None);
@@ -202,7 +203,7 @@ fn assigned(
     requires there { left.node.0 < length nodes.old }
     ensures keeps { Keeps nodes.old nodes.new }
     ensures ends { PartEnds toks.now left.next nodes.new result }
-    ensures answer { Steps (AssignStep toks.now no_in room) (Continues toks.now 1 no_in) nodes.old nodes.new left result }
+    ensures answer { Steps functions.now (AssignStep toks.now no_in room) (Continues toks.now 1 no_in) nodes.old nodes.new left result }
 {
     let Some(op) = assign_at(toks, left.next) else {
         return Ok(None);
@@ -279,7 +280,7 @@ fn operation(
     requires there { left.node.0 < length nodes.old }
     ensures keeps { Keeps nodes.old nodes.new }
     ensures ends { PartEnds toks.now left.next nodes.new result }
-    ensures answer { Steps (BinaryStep toks.now level no_in room) (Continues toks.now (level + 1) no_in) nodes.old nodes.new left result }
+    ensures answer { Steps functions.now (BinaryStep toks.now level no_in room) (Continues toks.now (level + 1) no_in) nodes.old nodes.new left result }
 {
     let Some(op) = binary_at(toks, left.next, no_in) else {
         return Ok(None);

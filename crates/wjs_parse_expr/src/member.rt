@@ -7,6 +7,7 @@ ghost use Rattle.wjs_tree.specs.declared.keys.Key.TheVariants as keys;
 ghost use Rattle.wjs_parse_expr.specs.Steps.{SuffixStep};
 ghost use Rattle.wjs_parse_expr.specs.Answers.{Steps, ListAnswers, HeadAnswers, ChainAnswers, Given, TargetAnswers, PartEnds, HeadEnds, ListEnds, from};
 ghost use Rattle.wjs_parse_expr.specs.Table.{Holds};
+ghost use Rattle.wjs_parse_expr.specs.declared.functions.Functions.{Functions};
 
 use crate::expr::{assignment, comma};
 use crate::functions::Functions;
@@ -213,7 +214,7 @@ fn suffix(
     requires there { left.node.0 < length nodes.old }
     ensures keeps { Keeps nodes.old nodes.new }
     ensures ends { PartEnds toks.now left.next nodes.new result }
-    ensures answer { Steps (SuffixStep toks.now calls room) (λ y p. ⊥) nodes.old nodes.new left result }
+    ensures answer { Steps functions.now (SuffixStep toks.now calls room) (λ y p. ⊥) nodes.old nodes.new left result }
 {
     if room == 0 {
         return Ok(None);
@@ -243,7 +244,7 @@ fn named(
     requires sign { HasSign toks.now left.next signs.Dot }
     ensures keeps { Keeps nodes.old nodes.new }
     ensures ends { PartEnds toks.now left.next nodes.new result }
-    ensures answer { Steps (SuffixStep toks.now calls room) (λ y p. ⊥) nodes.old nodes.new left result }
+    ensures answer { (functions : Functions) → Steps functions (SuffixStep toks.now calls room) (λ y p. ⊥) nodes.old nodes.new left result }
 {
     let Some(name) = spelt_at(toks, left.next + 1) else {
         return Ok(None);
@@ -273,7 +274,7 @@ fn indexed(
     requires sign { HasSign toks.now left.next signs.OpenBracket }
     ensures keeps { Keeps nodes.old nodes.new }
     ensures ends { PartEnds toks.now left.next nodes.new result }
-    ensures answer { Steps (SuffixStep toks.now calls room) (λ y p. ⊥) nodes.old nodes.new left result }
+    ensures answer { Steps functions.now (SuffixStep toks.now calls room) (λ y p. ⊥) nodes.old nodes.new left result }
 {
     let Some(place) = comma(
         alloc,
@@ -315,7 +316,7 @@ fn called(
     requires sign { HasSign toks.now left.next signs.OpenParen }
     ensures keeps { Keeps nodes.old nodes.new }
     ensures ends { PartEnds toks.now left.next nodes.new result }
-    ensures answer { Steps (SuffixStep toks.now calls room) (λ y p. ⊥) nodes.old nodes.new left result }
+    ensures answer { Steps functions.now (SuffixStep toks.now calls room) (λ y p. ⊥) nodes.old nodes.new left result }
 {
     if !calls {
         return Ok(None);

@@ -90,7 +90,7 @@ fn leaf(
 ) -> Result<Option<Part>, OutOfMemory>
     requires { ChildrenBelow (length nodes.old) node }
     ensures keeps { Keeps nodes.old nodes.new }
-    ensures adds { Adds nodes.new node next is_target result }
+    ensures adds { Adds nodes.old nodes.new node next is_target result }
 {
     let node = nodes.add(node)?;
     Ok(Some(Part {

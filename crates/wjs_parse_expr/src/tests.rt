@@ -1,11 +1,12 @@
-ghost use Rattle.std.specs.Prelude.{ℕ, IsTrue};
-ghost use Rattle.wjs_tree.specs.Ends.{HasKey};
+ghost use Rattle.std.specs.Prelude.{◌≡◌, ◌+◌, ℕ, IsTrue};
+ghost use Rattle.wjs_tree.specs.Ends.{HasKey, HasSign};
 ghost use Rattle.wjs_tree.specs.declared.keys.Key.TheVariants as keys;
+ghost use Rattle.wjs_tree.specs.declared.signs.Sign.TheVariants as signs;
 
-use crate::{Found, Functions, ParseFault, expression, has_key};
+use crate::{Found, Functions, ParseFault, expression, has_key, has_sign};
 use std::test::Fail;
 use wjs_base::{TextId, Whole};
-use wjs_tree::{Key, Node, Nodes, Sign, Tok, Token};
+use wjs_tree::{Key, Node, NodeId, Nodes, Sequence, Sign, Tok, Token};
 
 /// The tokens that a line of pieces spells: a letter is a name, a digit a number, `'` a text, `\` a line end, and a sign or
 /// a reserved word what it is.
@@ -55,6 +56,7 @@ fn key(piece: &str) -> Option<Key> {
         "null" => Some(Key::Null),
         "true" => Some(Key::True),
         "instanceof" => Some(Key::Instanceof),
+        "function" => Some(Key::Function),
         _ => None,
     }
 }
@@ -140,6 +142,7 @@ fn form(node: &Node) -> &'static str {
         Node::Cond(_, _, _) => "Cond",
         Node::Assign(_, _, _) => "Assign",
         Node::Comma(_, _) => "Comma",
+        Node::Function(_, _, _) => "Function",
         _ => "other",
     }
 }
@@ -197,6 +200,48 @@ fn finds_the_longest(rt: HostRuntime) -> Result<(), Fail> {
 }
 
 #[test]
+fn keeps_to_the_levels(rt: HostRuntime) -> Result<(), Fail> {
+    let rows = [
+        ("a || b && c == d", "Binary", 7),
+        ("a + b = c", "Binary", 3),
+        ("- a = b", "Prefix", 2),
+        ("- a ++", "Prefix", 3),
+        ("a ++ = b", "Postfix", 2),
+        ("a , b = c , d", "Comma", 7),
+        ("a = b += c", "Assign", 5),
+        ("a ? b = c : d = e", "Cond", 9),
+        ("a ? b : c ? d : e", "Cond", 9),
+        ("a ? b , c : d", "Name", 1),
+        ("( a , b ) = c", "Paren", 5),
+        ("( ( a ) ) ++", "Postfix", 6),
+        ("( a + b ) ++", "Paren", 5),
+        ("a [ b , c ]", "At", 6),
+        ("a [ ]", "Name", 1),
+        ("a ( b , c ) [ d ] . e", "Dot", 11),
+        ("a . 1", "Name", 1),
+        ("new a . b", "NewBare", 4),
+        ("new ( a ( ) ) . b", "NewBare", 8),
+        ("new a ( ) . b = c", "Assign", 8),
+        ("delete a . b", "Prefix", 4),
+        ("a instanceof b in c", "Binary", 5),
+        ("a \\ ( b )", "Call", 4),
+        ("a \\ = b", "Assign", 3),
+        ("( )", "none", 0),
+        ("( a", "none", 0),
+        ("[ a", "none", 0),
+        ("{ a : }", "none", 0),
+        ("in a", "none", 0),
+        ("if", "none", 0),
+    ];
+    for (line, want, next) in rows {
+        let (got, end) = found(&rt, line, false)?;
+        assert_eq!(rt; got, want, "in {line}");
+        assert_eq!(rt; end, next, "in {line}");
+    }
+    Ok(())
+}
+
+#[test]
 fn leaves_in_out(rt: HostRuntime) -> Result<(), Fail> {
     let rows = [
         ("a in b", "Name", 1),
@@ -208,6 +253,80 @@ fn leaves_in_out(rt: HostRuntime) -> Result<(), Fail> {
     ];
     for (line, want, next) in rows {
         let (got, end) = found(&rt, line, true)?;
+        assert_eq!(rt; got, want, "in {line}");
+        assert_eq!(rt; end, next, "in {line}");
+    }
+    Ok(())
+}
+
+/// Whether no function begins at another place.
+fn is_alone(toks: &[Tok], place: usize) -> bool
+    ensures { IsTrue result → (i : ℕ) → HasKey toks.now i keys.Function → i ≡ place }
+{
+    for i in 0..toks.len() {
+        if has_key(toks, i, Key::Function) && i != place {
+            return false;
+        }
+    }
+    true
+}
+
+/// Whether `function ( ) { }` stands at the place.
+fn is_empty_function(toks: &[Tok], place: usize) -> bool
+    ensures key { IsTrue result → HasKey toks.now place keys.Function }
+    ensures paren { IsTrue result → HasSign toks.now (place + 1) signs.OpenParen }
+    ensures close { IsTrue result → HasSign toks.now (place + 2) signs.CloseParen }
+    ensures brace { IsTrue result → HasSign toks.now (place + 3) signs.OpenBrace }
+    ensures end { IsTrue result → HasSign toks.now (place + 4) signs.CloseBrace }
+{
+    place < 1000
+        && has_key(toks, place, Key::Function)
+        && has_sign(toks, place + 1, Sign::OpenParen)
+        && has_sign(toks, place + 2, Sign::CloseParen)
+        && has_sign(toks, place + 3, Sign::OpenBrace)
+        && has_sign(toks, place + 4, Sign::CloseBrace)
+}
+
+/// The form of the expression that begins a line whose only function, an empty one, begins at the place, the place after
+/// the expression.
+fn found_with(rt: &HostRuntime, line: &str, place: usize) -> Result<(&'static str, usize), Fail> {
+    let list = tokens(rt, line)?;
+    let toks = list.as_slice();
+    if !is_empty_function(toks, place) || !is_alone(toks, place) {
+        return Ok(("no function", 0));
+    }
+    let mut nodes = Nodes::new(rt.alloc());
+    let node = nodes.add(Node::Function(
+        None,
+        Sequence::from_vec(Vec::new(rt.alloc())),
+        Sequence::from_vec(Vec::new(rt.alloc())),
+    ))?;
+    let mut functions = Functions::new(rt.alloc());
+    functions.add(place, node, place + 5)?;
+    match expression(rt.alloc(), toks, 0, false, &functions, &mut nodes) {
+        Ok(found) => Ok((form(nodes.node(found.node)), found.next)),
+        Err(ParseFault::NotAScript) => Ok(("none", 0)),
+        Err(ParseFault::OutOfMemory) => Ok(("no memory", 0)),
+    }
+}
+
+#[test]
+fn takes_functions_from_the_table(rt: HostRuntime) -> Result<(), Fail> {
+    let rows = [
+        ("function ( ) { }", 0, "Function", 5),
+        ("function ( ) { } ( a )", 0, "Call", 8),
+        ("function ( ) { } . a = b", 0, "Assign", 9),
+        ("function ( ) { } = a", 0, "Function", 5),
+        ("a = function ( ) { } , b", 2, "Comma", 9),
+        ("( function ( ) { } ) ( )", 1, "Call", 9),
+        ("new function ( ) { }", 1, "NewBare", 6),
+        ("{ a : function ( ) { } , }", 3, "ObjectLit,", 10),
+        ("[ function ( ) { } ]", 1, "ArrayLit", 7),
+        ("a . b + function ( ) { }", 4, "Binary", 9),
+        ("a \\ function ( ) { }", 1, "Name", 1),
+    ];
+    for (line, place, want, next) in rows {
+        let (got, end) = found_with(&rt, line, place)?;
         assert_eq!(rt; got, want, "in {line}");
         assert_eq!(rt; end, next, "in {line}");
     }

@@ -1,10 +1,9 @@
 -- The heights that are kept beside nodes are those of the trees that they stand for.
-use Rattle.std.specs.Prelude.{◌≡◌, ℕ, suc, Bool, false, ◌+◌, ◌<◌, ◌≤◌, max, List, [], ◌∷◌, take, length, Option, Some, None, unwrap_or, slice_get}
+use Rattle.std.specs.Prelude.{◌≡◌, ℕ, false, ◌<◌, List, take, Option, unwrap_or}
 use Rattle.std.proofs.Common.{ap, subst, sym, ◌∙◌, arith}
 use Rattle.std.proofs.lemmas.Option.{unwrap_or-slice_get}
 use Rattle.std.proofs.lemmas.List.{get_or-take}
 use Rattle.wjs_tree.specs.declared.node.Node.{Node}
-use Rattle.wjs_tree.specs.declared.node.Node.TheVariants as nodes
 use Rattle.wjs_tree.specs.declared.node.NodeId.{NodeId}
 use Rattle.wjs_tree.specs.declared.node.Property.{Property as Pair}
 use Rattle.wjs_tree.specs.declared.node.Declarator.{Declarator}
@@ -14,7 +13,7 @@ use Rattle.wjs_tree.specs.declared.facts.Facts.{Facts}
 use Rattle.wjs_tree.specs.Trees.{Expr, Optional, Arguments, Items, Properties, Variables, Init, Stmt, Stmts, Clauses, Elements, Name, Number, Text, This, ThisWorld, Null, Boolean, Paren, ArrayLit, ObjectLit, Function, Dot, At, Call, NewWith, NewBare, Postfix, Prefix, Binary, Cond, Assign, Comma, Absent, Present, NoArgument, Argument, NoItem, Hole, Item, LastItem, NoProperty, Property, LastProperty, NoVariable, Variable, NoInit, InitExpr, InitVar, Block, Var, Empty, ExprStmt, If, IfElse, DoWhile, While, For, ForIn, ForVarIn, Continue, Break, Return, Throw, Label, Switch, TryCatch, TryFinally, TryBoth, Within, NoStmt, MoreStmts, NoClause, Case, Default, NoElement, Statement, FunctionDecl}
 use Rattle.wjs_tree.specs.Children.{ChildrenBelow, AreBelow, OptionBelow, ItemsBelow, PropertiesBelow, DeclaratorsBelow, ClausesBelow, InitBelow}
 use Rattle.wjs_tree.specs.Height.{height, optional_height, arguments_height, items_height, properties_height, variables_height, init_height, stmt_height, stmts_height, clauses_height, elements_height}
-use Rattle.wjs_tree.specs.Facts.{fact_at, highest, height_at, option_height as facts_option_height, list_height, declarators_height, init_height as facts_init_height, clause_height, AreFacts, IsKept, AreKept}
+use Rattle.wjs_tree.specs.Facts.{fact_at, highest, height_at, option_height as facts_option_height, list_height, declarators_height, init_height as facts_init_height, clause_height, AreFacts, AreKept}
 use Rattle.wjs_tree.specs.Shows.{Shows, OptionalShows, ArgumentsShow, ItemsShow, PropertiesShow, VariablesShow, InitShows, StmtShows, StmtsShow, ClausesShow, ElementsShow, Has}
 
 -- the facts of a node come from those before it, where its children stand

@@ -1,5 +1,5 @@
 -- The greatest height of a list, which a loop finds.
-use Rattle.std.proofs.Common.{◌≡◌, ℕ, suc, ◌+◌, ◌<◌, ◌≤◌, max, List, [], ◌∷◌, length, drop, get_or, refl, sym, ap, ◌∙◌, subst, arith, add-one, drop-cons}
+use Rattle.std.proofs.Common.{◌≡◌, ℕ, suc, ◌+◌, ◌<◌, max, List, ◌∷◌, length, drop, get_or, sym, ap, ◌∙◌, subst, arith, add-one, drop-cons}
 use Rattle.wjs_tree.specs.Facts.{highest}
 
 -- an element and what stands behind it

@@ -1,5 +1,5 @@
 -- Trees stay where nodes are added.
-use Rattle.std.specs.Prelude.{ℕ, ◌≤◌, List, Option, length, slice_get}
+use Rattle.std.specs.Prelude.{ℕ, List, Option}
 use Rattle.std.proofs.Common.{arith}
 use Rattle.wjs_tree.specs.declared.node.Node.{Node}
 use Rattle.wjs_tree.specs.declared.node.NodeId.{NodeId}

@@ -1,4 +1,8 @@
+pub mod Using
 pub mod Kept
+pub mod Within
+pub mod Uses
+pub mod OneUse
 pub mod Highest
 pub mod Heights
 pub mod Tests

@@ -1,5 +1,5 @@
 -- The other facts that are kept beside nodes of expressions are those of the trees that they stand for.
-use Rattle.std.specs.Prelude.{◌≡◌, ℕ, ◌<◌, min, List}
+use Rattle.std.specs.Prelude.{◌≡◌, ℕ, min, List}
 use Rattle.std.proofs.Common.{ap, ◌∙◌}
 use Rattle.wjs_tree.specs.declared.node.Node.{Node}
 use Rattle.wjs_tree.specs.declared.node.NodeId.{NodeId}

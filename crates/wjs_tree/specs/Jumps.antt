@@ -1,7 +1,7 @@
 -- Where jumps and labels may stand (ECMA-262, 3rd edition, sections 12.7 to 12.9, 12.11 and 12.12).
 use Rattle.std.specs.Prelude.{◌≡◌, ℕ, suc, ◌≤◌, ◌⊎◌, Bool, true, false, List, [], ◌∷◌, Option, Some, None, Contains}
 use Rattle.wjs_base.specs.declared.ids.TextId.{TextId}
-use Rattle.wjs_tree.specs.Trees.{Stmt, Stmts, Clauses, Elements, Block, Var, Empty, ExprStmt, If, IfElse, DoWhile, While, For, ForIn, ForVarIn, Continue, Break, Return, Throw, Label, Switch, TryCatch, TryFinally, TryBoth, Within, NoStmt, MoreStmts, NoClause, Case, Default, NoElement, Statement, FunctionDecl}
+use Rattle.wjs_tree.specs.Trees.{Stmt, Stmts, Clauses, Elements, Block, If, IfElse, DoWhile, While, For, ForIn, ForVarIn, Continue, Break, Return, Label, Switch, TryCatch, TryFinally, TryBoth, Within, NoStmt, MoreStmts, NoClause, Case, Default, NoElement, Statement, FunctionDecl}
 
 -- what stands around a statement in one body
 pub record Around : Type 0 where

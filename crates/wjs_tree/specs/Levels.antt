@@ -1,7 +1,7 @@
 -- What an expression is by its outermost form: how tightly it binds, whether it may be assigned to, and how it begins and ends.
 use Rattle.std.specs.Prelude.{ℕ, Bool, true, false, min}
 use Rattle.wjs_tree.specs.Operators.{binary_level}
-use Rattle.wjs_tree.specs.Trees.{Expr, Name, Number, Text, This, ThisWorld, Null, Boolean, Paren, ArrayLit, ObjectLit, Function, Dot, At, Call, NewWith, NewBare, Postfix, Prefix, Binary, Cond, Assign, Comma}
+use Rattle.wjs_tree.specs.Trees.{Expr, Name, Paren, ObjectLit, Function, Dot, At, Call, NewWith, NewBare, Postfix, Prefix, Binary, Cond, Assign, Comma}
 
 -- How tightly a form binds, as its nonterminal in the grammar: 18 for a primary expression, 17 for a member expression,
 -- 16 for a call, 15 for `new` without arguments, 14 for a postfix expression, 13 for a unary one, 12 to 3 for the binary

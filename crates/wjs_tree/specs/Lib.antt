@@ -9,5 +9,6 @@ pub mod Spelling
 pub mod Jumps
 pub mod Formed
 pub mod Shows
+pub mod Used
 pub mod Children
 pub mod Facts

@@ -1,5 +1,5 @@
 -- Which tokens spell a tree (ECMA-262, 3rd edition, sections 11 to 14).
-use Rattle.std.specs.Prelude.{◌≡◌, ℕ, ◌+◌, Bool, true, false, List, [], ◌∷◌, Option, Some, None}
+use Rattle.std.specs.Prelude.{◌≡◌, ℕ, ◌+◌, true, false, List, [], ◌∷◌, Option, Some, None}
 use Rattle.wjs_base.specs.declared.ids.TextId.{TextId}
 use Rattle.wjs_tree.specs.declared.tokens.Tok.{Tok}
 use Rattle.wjs_tree.specs.declared.tokens.Token.{Token}
@@ -10,7 +10,6 @@ use Rattle.wjs_tree.specs.declared.node.Spelt.{Spelt}
 use Rattle.wjs_tree.specs.declared.node.Spelt.TheVariants as spelts
 use Rattle.wjs_tree.specs.declared.node.PropertyKey.{PropertyKey}
 use Rattle.wjs_tree.specs.declared.node.PropertyKey.TheVariants as property_keys
-use Rattle.wjs_tree.specs.declared.node.End.{End}
 use Rattle.wjs_tree.specs.Operators.{update_token, prefix_token, binary_token, assign_token}
 use Rattle.wjs_tree.specs.Trees.{Expr, Optional, Arguments, Items, Properties, Variables, Init, Stmt, Stmts, Clauses, Elements, Name, Number, Text, This, ThisWorld, Null, Boolean, Paren, ArrayLit, ObjectLit, Function, Dot, At, Call, NewWith, NewBare, Postfix, Prefix, Binary, Cond, Assign, Comma, Absent, Present, NoArgument, Argument, NoItem, Hole, Item, LastItem, NoProperty, Property, LastProperty, NoVariable, Variable, NoInit, InitExpr, InitVar, Block, Var, Empty, ExprStmt, If, IfElse, DoWhile, While, For, ForIn, ForVarIn, Continue, Break, Return, Throw, Label, Switch, TryCatch, TryFinally, TryBoth, Within, NoStmt, MoreStmts, NoClause, Case, Default, NoElement, Statement, FunctionDecl}
 use Rattle.wjs_tree.specs.Levels.{ends_in_update}

@@ -1,5 +1,5 @@
 -- Trees by forms and parts (ECMA-262, 3rd edition, sections 11 to 14).
-use Rattle.std.specs.Prelude.{ℕ, Bool, List, Option}
+use Rattle.std.specs.Prelude.{Bool, List, Option}
 use Rattle.wjs_base.specs.declared.ids.TextId.{TextId}
 use Rattle.wjs_base.specs.declared.number.Whole.{Whole}
 use Rattle.wjs_tree.specs.declared.node.End.{End}

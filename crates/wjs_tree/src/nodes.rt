@@ -88,7 +88,8 @@ impl Nodes {
     /// The node of a number that is there.
     pub fn node(&self, id: NodeId) -> &Node
         requires { id.0 < length self.now }
-        ensures { slice_get self.now id.0 ≡ Some result.now }
+        ensures there { slice_get self.now id.0 ≡ Some result.now }
+        ensures below { ChildrenBelow id.0 result.now }
     {
         &self.list[id.0 as usize]
     }

@@ -1,29 +1,28 @@
-use Rattle.std.proofs.Common.{◌≡◌, ◌+◌, ◌-◌, ◌<◌, ◌≤◌, true, false, Some, None, [], ◌∷◌, ◌++◌, length, rules, refl, sym, ap, ◌∙◌, subst, arith}
+use Rattle.std.proofs.Common.{◌≡◌, ◌+◌, ◌-◌, ◌<◌, ◌≤◌, false, Some, None, length, rules, refl, sym, ◌∙◌, subst, arith}
 use Rattle.wjs_tree.specs.declared.tokens.Token.TheVariants as tokens
 use Rattle.wjs_tree.specs.declared.signs.Sign.TheVariants as signs
 use Rattle.wjs_tree.specs.declared.keys.Key.TheVariants as keys
 use Rattle.wjs_tree.specs.declared.node.Node.TheVariants as nodes
-use Rattle.wjs_tree.specs.Operators.{binary_token, binary_level, assign_token, prefix_token, update_token}
-use Rattle.wjs_tree.specs.Ends.{token_at, HasSign}
-use Rattle.wjs_tree.specs.Spelling.{property_token}
+use Rattle.wjs_tree.specs.Operators.{prefix_token, update_token}
+use Rattle.wjs_tree.specs.Ends.{HasSign}
 use Rattle.wjs_tree.proofs.Kept.{keeps_both, keeps_self}
-use Rattle.wjs_tree.proofs.Forward.{forward}
 use Rattle.wjs_parse_expr.specs.Steps.{BinaryStep, CommaStep}
 use Rattle.wjs_parse_expr.specs.Answers.{from, Answers}
 use Rattle.wjs_parse_expr.proofs.Readings.{token_within, not_false, not_true}
+use Rattle.wjs_parse_expr.proofs.Owning.{begun, own_both}
 use Rattle.wjs_parse_expr.proofs.Growth.{at_begin, at_step, at_end, nothing}
 use Rattle.wjs_parse_expr.proofs.Loops.{binary_loop, comma_loop}
-use Rattle.wjs_parse_expr.proofs.Operations.{operation_grows, after_comma_grows, assigned_grows, choice_grows, no_colon, no_second}
+use Rattle.wjs_parse_expr.proofs.Operations.{operation_grows, after_comma_grows, assigned_grows, choice_grows}
 use Rattle.wjs_parse_expr.proofs.Suffixes.{at_grows, call_grows, no_index}
 use Rattle.wjs_parse_expr.proofs.OneStep.{no_reading}
 use Rattle.wjs_parse_expr.proofs.Assignments.{RightStep, right_step, with_choice, with_assignment, no_target}
-use Rattle.wjs_parse_expr.proofs.Unaries.{either_postfix, PostfixStep, postfix_step, no_postfix, with_postfix, none_begins, prefix_no_room, prefix_none, prefix_found, plain_operand, target_operand}
-use Rattle.wjs_parse_expr.proofs.Heads.{chain_begin, chain_step, chain_end, chain_bare, chain_none, chain_found, chain_nothing, created_none, created_no_room, created_bare, created_with, suffix_forward, plain_head, plain_none}
+use Rattle.wjs_parse_expr.proofs.Unaries.{either_postfix, PostfixStep, postfix_step, no_postfix, with_postfix, prefix_no_room, prefix_none, prefix_found, plain_operand, target_operand}
+use Rattle.wjs_parse_expr.proofs.Heads.{chain_begin, chain_step, chain_end, chain_bare, chain_none, chain_found, chain_nothing, created_none, created_no_room, created_bare, created_with, plain_head, plain_none}
 use Rattle.wjs_parse_expr.proofs.Targets.{target_begin, target_step, target_end, no_target_bare, no_target_none, last_ends}
-use Rattle.wjs_parse_expr.proofs.Gathering.{start, ends, no_item, no_sign, one_more_item, empty, items_start, items_close, items_hole, items_none, items_last, items_neither, items_more}
-use Rattle.wjs_parse_expr.proofs.Properties.{properties_start, properties_close, properties_none, properties_last, properties_neither, properties_more, no_sign_key}
-use Rattle.wjs_parse_expr.proofs.Primaries.{no_opening, no_room, name_found, number_found, text_found, parens_found, parens_nothing, parens_bare, array_found, array_nothing, object_found, object_nothing}
-use Rattle.wjs_parse_expr.proofs.Entries.{held, leaf_ends, below_more, below_last, items_last_below, properties_last_below}
+use Rattle.wjs_parse_expr.proofs.Gathering.{start, ends, no_item, no_sign, one_more_item, empty, items_start, items_close, items_hole, items_last, items_neither, items_more}
+use Rattle.wjs_parse_expr.proofs.Properties.{properties_start, properties_close, properties_last, properties_neither, properties_more}
+use Rattle.wjs_parse_expr.proofs.Primaries.{name_found, number_found, text_found, parens_found, parens_nothing, parens_bare, array_found, object_found}
+use Rattle.wjs_parse_expr.proofs.Entries.{held, leaf_ends, below_last, items_last_below, properties_last_below}
 use Rattle.wjs_parse_expr.proofs.+expression.Goals as goal
 
 pub expr::binary-loop-longer-init : goal.expr::binary-loop-longer-init
@@ -40,7 +39,7 @@ expr::binary-loop-longer-preserved t c =
     let b = c.loop-longer.invariant.2 in
     let lo : 3 ≤ c.args.level = c.requires.low in
     let hi : c.args.level ≤ 12 = omega arith in
-    (at_step (from c.args.toks.now c.args.functions.now c.args.nodes.now c.args.at) c.args.toks.now c.args.no_in c.args.room c.args.at (c.args.level + 1) c.args.level (BinaryStep c.args.toks.now c.args.level c.args.no_in c.args.room) (binary_loop c.args.toks.now c.args.no_in c.args.room c.args.at c.args.level lo hi) c.loop-longer.nodes c.operation.new.nodes c.loop-longer.left c.in-Some-2.longer c.loop-longer.invariant.0 f, keeps_both _ _ _ c.loop-longer.invariant.1 c.in_ok-longer.ensures.keeps, ((let x = e.0 in let y = b.0 in omega arith), e.1, e.2))
+    (at_step (from c.args.toks.now c.args.functions.now c.args.nodes.now c.args.at) c.args.toks.now c.args.no_in c.args.room c.args.at (c.args.level + 1) c.args.level (BinaryStep c.args.toks.now c.args.level c.args.no_in c.args.room) (binary_loop c.args.toks.now c.args.no_in c.args.room c.args.at c.args.level lo hi) c.loop-longer.nodes c.operation.new.nodes c.loop-longer.left c.in-Some-2.longer (begun c.args.toks.now c.args.functions.now c.args.nodes.now c.loop-longer.nodes c.args.at c.loop-longer.left.next c.args.at c.args.room c.requires.held c.loop-longer.invariant.1 (let x = b.0 in omega arith)) c.loop-longer.invariant.0 f, keeps_both _ _ _ c.loop-longer.invariant.1 c.in_ok-longer.ensures.keeps, ((let x = e.0 in let y = b.0 in omega arith), e.1, e.2))
 
 pub expr::binary-loop-longer-smaller : goal.expr::binary-loop-longer-smaller
 expr::binary-loop-longer-smaller t c = let e = rw c.in-Some-2.is at c.in_ok-longer.ensures.ends in let x = e.0 in let y = e.1 in omega arith
@@ -63,7 +62,7 @@ pub expr::operation-returns-clause-answer : goal.expr::operation-returns-clause-
 expr::operation-returns-clause-answer t c =
     let f = rw c.in-Some-2.is at c.in_ok-right.ensures.answer in
     let w = c.in-Some.ensures in
-    operation_grows c.args.toks.now c.args.level c.args.no_in c.args.room (from c.args.toks.now c.args.functions.now c.args.nodes.now (c.args.left.next + 1)) c.args.left c.in-Some-2.right c.in-Some.op c.in_ok-node.node c.args.nodes.now c.binary.new.nodes c.add.new.self w.0 w.1 (omega (arith, c.level.ensures)) (omega arith) c.in_ok-right.ensures.keeps c.in_ok-node.ensures.keeps f c.in_ok-node.ensures.has
+    operation_grows c.args.toks.now c.args.level c.args.no_in c.args.room c.args.functions.now c.args.left c.in-Some-2.right c.in-Some.op c.in_ok-node.node c.args.nodes.now c.binary.new.nodes c.add.new.self w.0 w.1 (omega (arith, c.level.ensures)) (omega arith) c.in_ok-right.ensures.keeps c.in_ok-node.ensures.keeps f c.in_ok-node.ensures.has c.in_ok-node.ensures.ok
 
 pub expr::comma-loop-longer-init : goal.expr::comma-loop-longer-init
 expr::comma-loop-longer-init t c =
@@ -75,7 +74,7 @@ expr::comma-loop-longer-preserved t c =
     let f = rw c.in-Some-2.is at c.in_ok-longer.ensures.answer in
     let e = rw c.in-Some-2.is at c.in_ok-longer.ensures.ends in
     let b = c.loop-longer.invariant.2 in
-    (at_step (from c.args.toks.now c.args.functions.now c.args.nodes.now c.args.at) c.args.toks.now c.args.no_in c.args.room c.args.at 1 0 (CommaStep c.args.toks.now c.args.no_in c.args.room) (comma_loop c.args.toks.now c.args.no_in c.args.room c.args.at) c.loop-longer.nodes c.after_comma.new.nodes c.loop-longer.left c.in-Some-2.longer c.loop-longer.invariant.0 f, keeps_both _ _ _ c.loop-longer.invariant.1 c.in_ok-longer.ensures.keeps, ((let x = e.0 in let y = b.0 in omega arith), e.1, e.2))
+    (at_step (from c.args.toks.now c.args.functions.now c.args.nodes.now c.args.at) c.args.toks.now c.args.no_in c.args.room c.args.at 1 0 (CommaStep c.args.toks.now c.args.no_in c.args.room) (comma_loop c.args.toks.now c.args.no_in c.args.room c.args.at) c.loop-longer.nodes c.after_comma.new.nodes c.loop-longer.left c.in-Some-2.longer (begun c.args.toks.now c.args.functions.now c.args.nodes.now c.loop-longer.nodes c.args.at c.loop-longer.left.next c.args.at c.args.room c.requires.held c.loop-longer.invariant.1 (let x = b.0 in omega arith)) c.loop-longer.invariant.0 f, keeps_both _ _ _ c.loop-longer.invariant.1 c.in_ok-longer.ensures.keeps, ((let x = e.0 in let y = b.0 in omega arith), e.1, e.2))
 
 pub expr::comma-loop-longer-smaller : goal.expr::comma-loop-longer-smaller
 expr::comma-loop-longer-smaller t c = let e = rw c.in-Some-2.is at c.in_ok-longer.ensures.ends in let x = e.0 in let y = e.1 in omega arith
@@ -94,30 +93,30 @@ pub expr::after_comma-returns-clause-answer : goal.expr::after_comma-returns-cla
 expr::after_comma-returns-clause-answer t c =
     let f = rw c.in-Some.is at c.in_ok-right.ensures.answer in
     let s : HasSign c.args.toks.now c.args.left.next signs.Comma = c.has_sign.ensures.0 c.if-not-has_sign.false in
-    after_comma_grows c.args.toks.now c.args.no_in c.args.room (from c.args.toks.now c.args.functions.now c.args.nodes.now (c.args.left.next + 1)) c.args.left c.in-Some.right c.in_ok-node.node c.args.nodes.now c.assignment.new.nodes c.add.new.self s (omega arith) c.in_ok-right.ensures.keeps c.in_ok-node.ensures.keeps f c.in_ok-node.ensures.has
+    after_comma_grows c.args.toks.now c.args.no_in c.args.room c.args.functions.now c.args.left c.in-Some.right c.in_ok-node.node c.args.nodes.now c.assignment.new.nodes c.add.new.self s (omega arith) c.in_ok-right.ensures.keeps c.in_ok-node.ensures.keeps f c.in_ok-node.ensures.has c.in_ok-node.ensures.ok
 
 pub expr::assigned-returns-clause-answer : goal.expr::assigned-returns-clause-answer
 expr::assigned-returns-clause-answer t c =
     let f = rw c.in-Some-2.is at c.in_ok-value.ensures.answer in
-    assigned_grows c.args.toks.now c.args.no_in c.args.room (from c.args.toks.now c.args.functions.now c.args.nodes.now (c.args.left.next + 1)) c.args.left c.in-Some-2.value c.in-Some.op c.in_ok-node.node c.args.nodes.now c.assignment.new.nodes c.add.new.self c.in-Some.ensures (omega arith) c.in_ok-value.ensures.keeps c.in_ok-node.ensures.keeps f c.in_ok-node.ensures.has
+    assigned_grows c.args.toks.now c.args.no_in c.args.room c.args.functions.now c.args.left c.in-Some-2.value c.in-Some.op c.in_ok-node.node c.args.nodes.now c.assignment.new.nodes c.add.new.self c.in-Some.ensures (omega arith) c.in_ok-value.ensures.keeps c.in_ok-node.ensures.keeps f c.in_ok-node.ensures.has c.in_ok-node.ensures.ok
 
 pub expr::choice-returns-clause-answer : goal.expr::choice-returns-clause-answer
 expr::choice-returns-clause-answer t c =
     let f = rw c.in-Some.is at c.in_ok-yes.ensures.answer in
     let g = rw c.in-Some-2.is at c.in_ok-no.ensures.answer in
     let s : HasSign c.args.toks.now c.in-Some.yes.next signs.Colon = c.has_sign.ensures.0 c.if-not-has_sign.false in
-    choice_grows c.args.toks.now c.args.no_in c.args.room (from c.args.toks.now c.args.functions.now c.args.nodes.now (c.args.left.next + 1)) (from c.args.toks.now c.args.functions.now c.assignment.new.nodes (c.in-Some.yes.next + 1)) c.args.left c.in-Some.yes c.in-Some-2.no c.in_ok-node.node c.args.nodes.now c.assignment.new.nodes c.assignment-2.new.nodes c.add.new.self c.requires.sign s (omega arith) c.in_ok-yes.ensures.keeps c.in_ok-no.ensures.keeps c.in_ok-node.ensures.keeps f g c.in_ok-node.ensures.has
+    choice_grows c.args.toks.now c.args.no_in c.args.room c.args.left.next c.args.room c.args.functions.now c.args.left c.in-Some.yes c.in-Some-2.no c.in_ok-node.node c.args.nodes.now c.assignment.new.nodes c.assignment-2.new.nodes c.add.new.self c.requires.held c.requires.sign s (omega arith) c.in_ok-yes.ensures.keeps c.in_ok-no.ensures.keeps c.in_ok-node.ensures.keeps f g c.in_ok-node.ensures.has c.in_ok-node.ensures.ok
 
 pub member::indexed-returns-clause-answer : goal.member::indexed-returns-clause-answer
 member::indexed-returns-clause-answer t c =
     let f = rw c.in-Some.is at c.in_ok-place.ensures.answer in
     let s : HasSign c.args.toks.now c.in-Some.place.next signs.CloseBracket = c.has_sign.ensures.0 c.if-not-has_sign.false in
-    at_grows c.args.toks.now c.args.calls c.args.room (from c.args.toks.now c.args.functions.now c.args.nodes.now (c.args.left.next + 1)) c.args.left c.in-Some.place c.in_ok-node.node c.args.nodes.now c.comma.new.nodes c.add.new.self c.requires.sign s c.requires.below c.in_ok-place.ensures.keeps c.in_ok-node.ensures.keeps f c.in_ok-node.ensures.has
+    at_grows c.args.toks.now c.args.calls c.args.room c.args.functions.now c.args.left c.in-Some.place c.in_ok-node.node c.args.nodes.now c.comma.new.nodes c.add.new.self c.requires.sign s c.requires.below c.in_ok-place.ensures.keeps c.in_ok-node.ensures.keeps f c.in_ok-node.ensures.has c.in_ok-node.ensures.ok
 
 pub member::called-returns-clause-answer : goal.member::called-returns-clause-answer
 member::called-returns-clause-answer t c =
     let f = rw c.in-Some.is at c.in_ok-items.ensures.answer in
-    call_grows c.args.toks.now c.args.calls c.args.room (from c.args.toks.now c.args.functions.now c.args.nodes.now (c.args.left.next + 1)) c.args.left c.in-Some.items c.in_ok-node.node c.args.nodes.now c.arguments.new.nodes c.add.new.self c.if-not-calls.false c.requires.sign c.requires.below c.in_ok-items.ensures.keeps c.in_ok-node.ensures.keeps f c.in_ok-node.ensures.has
+    call_grows c.args.toks.now c.args.calls c.args.room c.args.functions.now c.args.left c.in-Some.items c.in_ok-node.node c.args.nodes.now c.arguments.new.nodes c.add.new.self c.if-not-calls.false c.requires.sign c.requires.below c.in_ok-items.ensures.keeps c.in_ok-node.ensures.keeps f c.in_ok-node.ensures.has c.in_ok-node.ensures.ok
 
 pub expr::assignment-returns-in_default-clause-answer : goal.expr::assignment-returns-in_default-clause-answer
 expr::assignment-returns-in_default-clause-answer t c =
@@ -127,12 +126,14 @@ expr::assignment-returns-in_default-clause-answer t c =
 pub expr::assignment-returns-then-has_sign-clause-answer : goal.expr::assignment-returns-then-has_sign-clause-answer
 expr::assignment-returns-then-has_sign-clause-answer t c =
     let f = rw c.in-Some.is at c.in_ok-left.ensures.answer in
-    with_choice (from c.args.toks.now c.args.functions.now c.args.nodes.now c.args.at) c.args.toks.now c.args.no_in c.args.room c.args.at c.binary.new.nodes c.choice.new.nodes c.in-Some.left f c.in_ok-longer.ensures.keeps (c.has_sign.ensures.0 c.if-has_sign.true) c.in_ok-longer.longer c.in_ok-longer.ensures.answer c.unwrap_or.result c.unwrap_or.ensures
+    let e = rw c.in-Some.is at c.in_ok-left.ensures.ends in
+    with_choice (from c.args.toks.now c.args.functions.now c.args.nodes.now c.args.at) c.args.toks.now c.args.no_in c.args.room c.args.at c.binary.new.nodes c.choice.new.nodes c.in-Some.left (begun c.args.toks.now c.args.functions.now c.args.nodes.now c.binary.new.nodes c.args.at c.in-Some.left.next c.args.at c.args.room c.requires.held c.in_ok-left.ensures.keeps (let x = e.0 in omega arith)) f c.in_ok-longer.ensures.keeps (c.has_sign.ensures.0 c.if-has_sign.true) c.in_ok-longer.longer c.in_ok-longer.ensures.answer c.unwrap_or.result c.unwrap_or.ensures
 
 pub expr::assignment-returns-clause-answer : goal.expr::assignment-returns-clause-answer
 expr::assignment-returns-clause-answer t c =
     let f = rw c.in-Some.is at c.in_ok-left.ensures.answer in
-    with_assignment (from c.args.toks.now c.args.functions.now c.args.nodes.now c.args.at) c.args.toks.now c.args.no_in c.args.room c.args.at c.binary.new.nodes c.assigned.new.nodes c.in-Some.left f c.in_ok-longer-2.ensures.keeps (λ h. absurd (let a = c.has_sign.ensures.1 h in let b = c.if-has_sign.false in cc)) (not_false _ c.if-not-left.false) c.in_ok-longer-2.longer c.in_ok-longer-2.ensures.answer c.unwrap_or-2.result c.unwrap_or-2.ensures
+    let e = rw c.in-Some.is at c.in_ok-left.ensures.ends in
+    with_assignment (from c.args.toks.now c.args.functions.now c.args.nodes.now c.args.at) c.args.toks.now c.args.no_in c.args.room c.args.at c.binary.new.nodes c.assigned.new.nodes c.in-Some.left (begun c.args.toks.now c.args.functions.now c.args.nodes.now c.binary.new.nodes c.args.at c.in-Some.left.next c.args.at c.args.room c.requires.held c.in_ok-left.ensures.keeps (let x = e.0 in omega arith)) f c.in_ok-longer-2.ensures.keeps (λ h. absurd (let a = c.has_sign.ensures.1 h in let b = c.if-has_sign.false in cc)) (not_false _ c.if-not-left.false) c.in_ok-longer-2.longer c.in_ok-longer-2.ensures.answer c.unwrap_or-2.result c.unwrap_or-2.ensures
 
 pub expr::assignment-returns-then-not-left-clause-answer : goal.expr::assignment-returns-then-not-left-clause-answer
 expr::assignment-returns-then-not-left-clause-answer t c =
@@ -157,7 +158,7 @@ expr::unary-returns-in_default-2-clause-answer t c =
 pub expr::unary-returns-clause-answer : goal.expr::unary-returns-clause-answer
 expr::unary-returns-clause-answer t c =
     let f = rw c.in-Some-2.is at c.in_ok-inner.ensures.answer in
-    prefix_found (from c.args.toks.now c.args.functions.now c.args.nodes.now (c.args.at + 1)) (from c.args.toks.now c.args.functions.now c.args.nodes.now c.args.at) c.args.toks.now c.args.no_in c.args.room c.args.at c.in-Some.op c.operand.new.nodes c.add.new.self c.in-Some-2.inner c.in_ok-node.node c.in-Some.ensures (omega arith) f c.in_ok-node.ensures.keeps c.in_ok-node.ensures.has
+    prefix_found c.args.functions.now c.args.nodes.now c.args.at c.args.room c.args.toks.now c.args.no_in c.args.room c.args.at c.in-Some.op c.operand.new.nodes c.add.new.self c.in-Some-2.inner c.in_ok-node.node c.requires.held c.in-Some.ensures (omega arith) f c.in_ok-inner.ensures.keeps c.in_ok-node.ensures.keeps c.in_ok-node.ensures.has c.in_ok-node.ensures.ok
 
 pub expr::operand-returns-then-is_update-clause-answer : goal.expr::operand-returns-then-is_update-clause-answer
 expr::operand-returns-then-is_update-clause-answer t c = target_operand (from c.args.toks.now c.args.functions.now c.args.nodes.now c.args.at) c.args.toks.now c.args.no_in c.args.room c.args.at c.args.op c.target.new.nodes (sym c.is_update.ensures ∙ c.if-is_update.true) c.target.result c.target.ensures.answer
@@ -183,8 +184,9 @@ expr::postfix-returns-in_default-update_at-clause-answer t c =
 pub expr::postfix-returns-clause-answer : goal.expr::postfix-returns-clause-answer
 expr::postfix-returns-clause-answer t c =
     let f = rw c.in-Some.is at c.in_ok-head.ensures.answer in
+    let e = rw c.in-Some.is at c.in_ok-head.ensures.ends in
     let w = c.in-Some-update_at.ensures in
-    with_postfix (from c.args.toks.now c.args.functions.now c.args.nodes.now c.args.at) c.args.toks.now c.args.no_in c.args.room c.args.at c.chain.new.nodes c.add.new.self c.in-Some.head.part c.in-Some-update_at.op c.in_ok-node.node (chain_found (from c.args.toks.now c.args.functions.now c.args.nodes.now c.args.at) c.args.toks.now c.args.no_in c.args.room c.args.at c.chain.new.nodes c.in-Some.head f) c.in_ok-node.ensures.keeps w.0 (not_false _ c.if-not-left.false) w.1 c.in_ok-node.ensures.has
+    with_postfix (from c.args.toks.now c.args.functions.now c.args.nodes.now c.args.at) c.args.toks.now c.args.no_in c.args.room c.args.at c.chain.new.nodes c.add.new.self c.in-Some.head.part c.in-Some-update_at.op c.in_ok-node.node (begun c.args.toks.now c.args.functions.now c.args.nodes.now c.chain.new.nodes c.args.at c.in-Some.head.part.next c.args.at c.args.room c.requires.held c.in_ok-head.ensures.keeps (let x = e.0 in omega arith)) (chain_found (from c.args.toks.now c.args.functions.now c.args.nodes.now c.args.at) c.args.toks.now c.args.no_in c.args.room c.args.at c.chain.new.nodes c.in-Some.head f) c.in_ok-node.ensures.keeps w.0 (not_false _ c.if-not-left.false) w.1 c.in_ok-node.ensures.has c.in_ok-node.ensures.ok
 
 pub expr::postfix-overflow_add-result : goal.expr::postfix-overflow_add-result
 expr::postfix-overflow_add-result t c =
@@ -201,7 +203,7 @@ member::chain-loop-longer-preserved t c =
     let f = rw c.in-Some-2.is at c.in_ok-longer.ensures.answer in
     let e = rw c.in-Some-2.is at c.in_ok-longer.ensures.ends in
     let b = c.loop-longer.invariant.2 in
-    (chain_step (from c.args.toks.now c.args.functions.now c.args.nodes.now c.args.at) c.args.toks.now c.args.calls c.args.no_in c.args.room c.args.at c.loop-longer.nodes c.suffix.new.nodes c.loop-longer.left c.in-Some-2.longer c.loop-longer.invariant.0 f, keeps_both _ _ _ c.loop-longer.invariant.1 c.in_ok-longer.ensures.keeps, ((let x = e.0 in let y = b.0 in omega arith), e.1, e.2))
+    (chain_step (from c.args.toks.now c.args.functions.now c.args.nodes.now c.args.at) c.args.toks.now c.args.calls c.args.no_in c.args.room c.args.at c.loop-longer.nodes c.suffix.new.nodes c.loop-longer.left c.in-Some-2.longer (begun c.args.toks.now c.args.functions.now c.args.nodes.now c.loop-longer.nodes c.args.at c.loop-longer.left.next c.args.at c.args.room c.requires.held c.loop-longer.invariant.1 (let x = b.0 in omega arith)) c.loop-longer.invariant.0 f, keeps_both _ _ _ c.loop-longer.invariant.1 c.in_ok-longer.ensures.keeps, ((let x = e.0 in let y = b.0 in omega arith), e.1, e.2))
 
 pub member::chain-loop-longer-smaller : goal.member::chain-loop-longer-smaller
 member::chain-loop-longer-smaller t c = let e = rw c.in-Some-2.is at c.in_ok-longer.ensures.ends in let x = e.0 in let y = e.1 in omega arith
@@ -232,7 +234,7 @@ member::target-loop-longer-preserved t c =
     let f = rw c.in-Some-2.is at c.in_ok-longer.ensures.answer in
     let e = rw c.in-Some-2.is at c.in_ok-longer.ensures.ends in
     let b = c.loop-longer.invariant.2 in
-    (target_step (from c.args.toks.now c.args.functions.now c.args.nodes.now c.args.at) c.args.toks.now c.args.no_in c.args.room c.args.at c.loop-longer.nodes c.suffix.new.nodes c.loop-longer.left c.in-Some-2.longer c.loop-longer.last c.if_target-last-in-Some-2.result c.in_ok-longer.ensures.keeps c.loop-longer.invariant.0 f c.if_target-last-in-Some-2.ensures, keeps_both _ _ _ c.loop-longer.invariant.1 c.in_ok-longer.ensures.keeps, ((let x = e.0 in let y = b.0 in omega arith), e.1, e.2), last_ends c.args.toks.now c.args.at c.loop-longer.nodes c.suffix.new.nodes c.in-Some-2.longer c.loop-longer.last c.if_target-last-in-Some-2.result c.in_ok-longer.ensures.keeps.longer ((let x = e.0 in let y = b.0 in omega arith), e.1, e.2) c.loop-longer.invariant.3 c.if_target-last-in-Some-2.ensures)
+    (target_step (from c.args.toks.now c.args.functions.now c.args.nodes.now c.args.at) c.args.toks.now c.args.no_in c.args.room c.args.at c.loop-longer.nodes c.suffix.new.nodes c.loop-longer.left c.in-Some-2.longer c.loop-longer.last c.if_target-last-in-Some-2.result (begun c.args.toks.now c.args.functions.now c.args.nodes.now c.loop-longer.nodes c.args.at c.loop-longer.left.next c.args.at c.args.room c.requires.held c.loop-longer.invariant.1 (let x = b.0 in omega arith)) c.in_ok-longer.ensures.keeps c.loop-longer.invariant.0 f c.if_target-last-in-Some-2.ensures, keeps_both _ _ _ c.loop-longer.invariant.1 c.in_ok-longer.ensures.keeps, ((let x = e.0 in let y = b.0 in omega arith), e.1, e.2), last_ends c.args.toks.now c.args.at c.loop-longer.nodes c.suffix.new.nodes c.in-Some-2.longer c.loop-longer.last c.if_target-last-in-Some-2.result c.in_ok-longer.ensures.keeps.longer ((let x = e.0 in let y = b.0 in omega arith), e.1, e.2) c.loop-longer.invariant.3 c.if_target-last-in-Some-2.ensures)
 
 pub member::target-loop-longer-smaller : goal.member::target-loop-longer-smaller
 member::target-loop-longer-smaller t c = let e = rw c.in-Some-2.is at c.in_ok-longer.ensures.ends in let x = e.0 in let y = e.1 in omega arith
@@ -270,21 +272,21 @@ pub member::created-returns-clause-answer : goal.member::created-returns-clause-
 member::created-returns-clause-answer t c =
     let f = rw c.in-Some.is at c.in_ok-callee.ensures.answer in
     let g = rw c.in-Some-2.is at c.in_ok-items.ensures.answer in
-    created_with (from c.args.toks.now c.args.functions.now c.args.nodes.now (c.args.at + 1)) (from c.args.toks.now c.args.functions.now c.chain.new.nodes (c.in-Some.callee.part.next + 1)) (from c.args.toks.now c.args.functions.now c.args.nodes.now c.args.at) c.args.toks.now c.args.no_in c.args.room c.args.at c.chain.new.nodes c.given.new.nodes c.add-2.new.self c.in-Some.callee c.in-Some-2.items c.in_ok-node-2.node c.requires.key (omega arith) f c.in_ok-items.ensures.keeps c.in_ok-node-2.ensures.keeps g c.in_ok-node-2.ensures.has
+    created_with c.args.functions.now c.args.nodes.now c.args.toks.now c.args.no_in c.args.room c.args.at c.args.at c.args.room c.requires.held c.chain.new.nodes c.given.new.nodes c.add-2.new.self c.in-Some.callee c.in-Some-2.items c.in_ok-node-2.node c.requires.key (omega arith) f c.in_ok-callee.ensures.keeps c.in_ok-items.ensures.keeps c.in_ok-node-2.ensures.keeps g c.in_ok-node-2.ensures.has c.in_ok-node-2.ensures.ok
 
 pub member::created-returns-in_default-2-clause-answer : goal.member::created-returns-in_default-2-clause-answer
 member::created-returns-in_default-2-clause-answer t c =
     let f = rw c.in-Some.is at c.in_ok-callee.ensures.answer in
     let g = rw c.in_default-2.is at c.in_ok-items.ensures.answer in
-    created_bare (from c.args.toks.now c.args.functions.now c.args.nodes.now (c.args.at + 1)) (from c.args.toks.now c.args.functions.now c.chain.new.nodes (c.in-Some.callee.part.next + 1)) (from c.args.toks.now c.args.functions.now c.args.nodes.now c.args.at) c.args.toks.now c.args.no_in c.args.room c.args.at c.chain.new.nodes c.given.new.nodes c.add.new.self c.in-Some.callee c.in_ok-node.node c.requires.key (omega arith) f c.in_ok-items.ensures.keeps c.in_ok-node.ensures.keeps g c.in_ok-node.ensures.has
+    created_bare c.args.functions.now c.args.nodes.now c.args.toks.now c.args.no_in c.args.room c.args.at c.args.at c.args.room c.requires.held c.chain.new.nodes c.given.new.nodes c.add.new.self c.in-Some.callee c.in_ok-node.node c.requires.key (omega arith) f c.in_ok-callee.ensures.keeps c.in_ok-items.ensures.keeps c.in_ok-node.ensures.keeps g c.in_ok-node.ensures.has c.in_ok-node.ensures.ok
 
 pub member::created-returns-in_default-clause-answer : goal.member::created-returns-in_default-clause-answer
 member::created-returns-in_default-clause-answer t c =
     let f = rw c.in_default.is at c.in_ok-callee.ensures.answer in
-    created_none (from c.args.toks.now c.args.functions.now c.args.nodes.now c.args.at) (from c.args.toks.now c.args.functions.now c.args.nodes.now c.args.at) (from c.args.toks.now c.args.functions.now c.args.nodes.now c.args.at) c.args.toks.now c.args.no_in c.args.room c.args.at c.requires.key f
+    created_none c.args.functions.now c.args.nodes.now c.args.toks.now c.args.no_in c.args.room c.args.at c.requires.key f
 
 pub member::created-returns-then-room-eq0-clause-answer : goal.member::created-returns-then-room-eq0-clause-answer
-member::created-returns-then-room-eq0-clause-answer t c = created_no_room (from c.args.toks.now c.args.functions.now c.args.nodes.now c.args.at) (from c.args.toks.now c.args.functions.now c.args.nodes.now c.args.at) (from c.args.toks.now c.args.functions.now c.args.nodes.now c.args.at) c.args.toks.now c.args.no_in c.args.room c.args.at c.requires.key c.if-room-eq0.true
+member::created-returns-then-room-eq0-clause-answer t c = created_no_room c.args.functions.now c.args.nodes.now c.args.toks.now c.args.no_in c.args.room c.args.at c.requires.key c.if-room-eq0.true
 
 pub expr::after_comma-assignment-requires : goal.expr::after_comma-assignment-requires
 expr::after_comma-assignment-requires t c = (search rules, held c.args.toks.now c.args.functions.now c.args.left.next (c.args.left.next + 1) c.args.room (c.args.room - 1) c.args.nodes.now c.args.nodes.now c.requires.held (keeps_self c.args.nodes.now) (omega arith) (omega arith))
@@ -400,7 +402,7 @@ primary::parens-returns-clause-ends t c =
 pub primary::parens-returns-clause-answer : goal.primary::parens-returns-clause-answer
 primary::parens-returns-clause-answer t c =
     let f = rw c.in-Some.is at c.in_ok-inner.ensures.answer in
-    parens_found (from c.args.toks.now c.args.functions.now c.args.nodes.now (c.args.at + 1)) (from c.args.toks.now c.args.functions.now c.args.nodes.now c.args.at) c.args.toks.now c.args.no_in c.args.room c.args.at c.comma.new.nodes c.add.new.self c.in-Some.inner c.in_ok-node.node c.requires.sign c.requires.below f (c.has_sign.ensures.0 c.if-not-has_sign.false) c.in_ok-node.ensures.keeps c.in_ok-node.ensures.has
+    parens_found c.args.functions.now c.args.nodes.now c.args.at c.args.room c.args.toks.now c.args.no_in c.args.room c.args.at c.comma.new.nodes c.add.new.self c.in-Some.inner c.in_ok-node.node c.requires.held c.requires.sign c.requires.below f (c.has_sign.ensures.0 c.if-not-has_sign.false) c.in_ok-inner.ensures.keeps c.in_ok-node.ensures.keeps c.in_ok-node.ensures.has c.in_ok-node.ensures.ok
 
 pub primary::parens-returns-in_default-clause-answer : goal.primary::parens-returns-in_default-clause-answer
 primary::parens-returns-in_default-clause-answer t c =
@@ -424,7 +426,7 @@ member::arguments-loop-list-preserved t c =
     let e = rw c.in-Some.is at c.in_ok-item.ensures.ends in
     let x = e.0 in
     let b = c.loop-list.invariant.2 in
-    (one_more_item (from c.args.toks.now c.args.functions.now c.args.nodes.now c.args.at) (from c.args.toks.now c.args.functions.now c.loop-list.nodes c.loop-list.place) c.args.toks.now c.args.room c.args.at c.loop-list.nodes c.loop-list.list.items c.loop-list.place c.assignment.new.nodes c.in-Some.item c.push_last.new.list.items c.requires.below c.loop-list.invariant.0 c.in_ok-item.ensures.keeps f (c.has_sign-in-loop-list-2.ensures.0 c.if-not-has_sign.false) c.in_ok-push_last.ensures.ok, keeps_both _ _ _ c.loop-list.invariant.1 c.in_ok-item.ensures.keeps, (omega arith), rw c.in_ok-push_last.ensures.ok (below_last (length c.loop-list.nodes) (length c.assignment.new.nodes) c.loop-list.list.items c.in-Some.item.node c.in_ok-item.ensures.keeps.longer e.2 c.loop-list.invariant.3))
+    (one_more_item (from c.args.toks.now c.args.functions.now c.args.nodes.now c.args.at) (from c.args.toks.now c.args.functions.now c.loop-list.nodes c.loop-list.place) c.args.toks.now c.args.room c.args.at c.loop-list.nodes c.loop-list.list.items c.loop-list.place c.assignment.new.nodes c.in-Some.item c.push_last.new.list.items c.requires.below c.loop-list.invariant.0 c.in_ok-item.ensures.keeps f (λ us a d. own_both c.args.toks.now c.args.functions.now c.args.nodes.now c.args.at c.args.room c.requires.held c.loop-list.nodes c.assignment.new.nodes c.args.at c.loop-list.place c.loop-list.place c.in-Some.item.next us _ c.loop-list.invariant.1 c.in_ok-item.ensures.keeps (omega arith) (omega arith) (omega arith) a d) (c.has_sign-in-loop-list-2.ensures.0 c.if-not-has_sign.false) c.in_ok-push_last.ensures.ok, keeps_both _ _ _ c.loop-list.invariant.1 c.in_ok-item.ensures.keeps, (omega arith), rw c.in_ok-push_last.ensures.ok (below_last (length c.loop-list.nodes) (length c.assignment.new.nodes) c.loop-list.list.items c.in-Some.item.node c.in_ok-item.ensures.keeps.longer e.2 c.loop-list.invariant.3))
 
 pub member::arguments-assignment-requires : goal.member::arguments-assignment-requires
 member::arguments-assignment-requires t c =
@@ -444,7 +446,10 @@ member::arguments-loop-list-smaller t c =
 pub member::arguments-returns-then-has_sign-2-clause-answer : goal.member::arguments-returns-then-has_sign-2-clause-answer
 member::arguments-returns-then-has_sign-2-clause-answer t c =
     let f = rw c.in-Some.is at c.in_ok-item.ensures.answer in
-    ends (from c.args.toks.now c.args.functions.now c.args.nodes.now c.args.at) (from c.args.toks.now c.args.functions.now c.loop-list.nodes c.loop-list.place) c.args.toks.now c.args.room c.args.at (from c.args.toks.now c.args.functions.now c.args.nodes.now c.args.at) c.loop-list.nodes c.loop-list.list.items c.loop-list.place c.assignment.new.nodes c.in-Some.item _ c.requires.below c.loop-list.invariant.0 c.in_ok-item.ensures.keeps f (c.has_sign-in-loop-list.ensures.0 c.if-has_sign-2.true) (c.from_vec-then-has_sign-2.ensures ∙ c.in_ok-push_last.ensures.ok) refl
+    let e = rw c.in-Some.is at c.in_ok-item.ensures.ends in
+    let x = e.0 in
+    let b = c.loop-list.invariant.2 in
+    ends (from c.args.toks.now c.args.functions.now c.args.nodes.now c.args.at) (from c.args.toks.now c.args.functions.now c.loop-list.nodes c.loop-list.place) c.args.toks.now c.args.room c.args.at c.loop-list.nodes c.loop-list.list.items c.loop-list.place c.assignment.new.nodes c.in-Some.item _ c.requires.below c.loop-list.invariant.0 c.in_ok-item.ensures.keeps f (λ us a d. own_both c.args.toks.now c.args.functions.now c.args.nodes.now c.args.at c.args.room c.requires.held c.loop-list.nodes c.assignment.new.nodes c.args.at c.loop-list.place c.loop-list.place c.in-Some.item.next us _ c.loop-list.invariant.1 c.in_ok-item.ensures.keeps (omega arith) (omega arith) (omega arith) a d) (c.has_sign-in-loop-list.ensures.0 c.if-has_sign-2.true) (c.from_vec-then-has_sign-2.ensures ∙ c.in_ok-push_last.ensures.ok) refl
 
 pub member::arguments-returns-then-has_sign-2-clause-ends : goal.member::arguments-returns-then-has_sign-2-clause-ends
 member::arguments-returns-then-has_sign-2-clause-ends t c =
@@ -465,29 +470,29 @@ member::arguments-returns-then-not-has_sign-clause-answer t c =
     no_sign (from c.args.toks.now c.args.functions.now c.args.nodes.now c.args.at) (from c.args.toks.now c.args.functions.now c.loop-list.nodes c.loop-list.place) c.args.toks.now c.args.room c.args.at c.loop-list.nodes c.loop-list.list.items c.loop-list.place c.assignment.new.nodes c.in-Some.item c.loop-list.invariant.0 f (λ h. absurd (let a = c.has_sign-in-loop-list.ensures.1 h in let b = c.if-has_sign-2.false in cc)) (λ h. absurd (let a = c.has_sign-in-loop-list-2.ensures.1 h in let b = c.if-not-has_sign.true in cc))
 
 pub primary::primary-returns-in-Some-Word-clause-answer : goal.primary::primary-returns-in-Some-Word-clause-answer
-primary::primary-returns-in-Some-Word-clause-answer t c = name_found (from c.args.toks.now c.args.functions.now c.args.nodes.now c.args.at) c.args.toks.now c.args.no_in c.args.room c.args.at c.leaf.new.nodes (omega arith) c.in-Some-Word.text (let e = c.in-Some-Word.field-0-is in let g = c.in-Some-Word.is in let z = c.token_at.ensures in cc) c.leaf.result c.leaf.ensures.adds
+primary::primary-returns-in-Some-Word-clause-answer t c = name_found c.args.functions.now c.args.nodes.now c.args.toks.now c.args.no_in c.args.room c.args.at c.leaf.new.nodes (omega arith) c.in-Some-Word.text (let e = c.in-Some-Word.field-0-is in let g = c.in-Some-Word.is in let z = c.token_at.ensures in cc) c.leaf.result c.leaf.ensures.adds
 
 pub primary::primary-returns-in-Some-Number-clause-answer : goal.primary::primary-returns-in-Some-Number-clause-answer
-primary::primary-returns-in-Some-Number-clause-answer t c = number_found (from c.args.toks.now c.args.functions.now c.args.nodes.now c.args.at) c.args.toks.now c.args.no_in c.args.room c.args.at c.leaf-in-Some-Number.new.nodes (omega arith) c.in-Some-Number.value (let e = c.in-Some-Number.field-0-is in let g = c.in-Some-Number.is in let z = c.token_at.ensures in cc) c.leaf-in-Some-Number.result c.leaf-in-Some-Number.ensures.adds
+primary::primary-returns-in-Some-Number-clause-answer t c = number_found c.args.functions.now c.args.nodes.now c.args.toks.now c.args.no_in c.args.room c.args.at c.leaf-in-Some-Number.new.nodes (omega arith) c.in-Some-Number.value (let e = c.in-Some-Number.field-0-is in let g = c.in-Some-Number.is in let z = c.token_at.ensures in cc) c.leaf-in-Some-Number.result c.leaf-in-Some-Number.ensures.adds
 
 pub primary::primary-returns-in-Some-Number-clause-ends : goal.primary::primary-returns-in-Some-Number-clause-ends
-primary::primary-returns-in-Some-Number-clause-ends t c = leaf_ends c.args.toks.now c.args.at c.leaf-in-Some-Number.new.nodes (nodes.Number c.in-Some-Number.value) false (token_within c.args.toks.now c.args.at (tokens.Number c.in-Some-Number.value) (let e = c.in-Some-Number.field-0-is in let g = c.in-Some-Number.is in let z = c.token_at.ensures in cc)) c.leaf-in-Some-Number.result c.leaf-in-Some-Number.ensures.adds
+primary::primary-returns-in-Some-Number-clause-ends t c = leaf_ends c.args.toks.now c.args.at c.args.nodes.now c.leaf-in-Some-Number.new.nodes (nodes.Number c.in-Some-Number.value) false (token_within c.args.toks.now c.args.at (tokens.Number c.in-Some-Number.value) (let e = c.in-Some-Number.field-0-is in let g = c.in-Some-Number.is in let z = c.token_at.ensures in cc)) c.leaf-in-Some-Number.result c.leaf-in-Some-Number.ensures.adds
 
 pub primary::primary-returns-in-Some-Text-clause-answer : goal.primary::primary-returns-in-Some-Text-clause-answer
-primary::primary-returns-in-Some-Text-clause-answer t c = text_found (from c.args.toks.now c.args.functions.now c.args.nodes.now c.args.at) c.args.toks.now c.args.no_in c.args.room c.args.at c.leaf-in-Some-Text.new.nodes (omega arith) c.in-Some-Text.text (let e = c.in-Some-Text.field-0-is in let g = c.in-Some-Text.is in let z = c.token_at.ensures in cc) c.leaf-in-Some-Text.result c.leaf-in-Some-Text.ensures.adds
+primary::primary-returns-in-Some-Text-clause-answer t c = text_found c.args.functions.now c.args.nodes.now c.args.toks.now c.args.no_in c.args.room c.args.at c.leaf-in-Some-Text.new.nodes (omega arith) c.in-Some-Text.text (let e = c.in-Some-Text.field-0-is in let g = c.in-Some-Text.is in let z = c.token_at.ensures in cc) c.leaf-in-Some-Text.result c.leaf-in-Some-Text.ensures.adds
 
 pub primary::primary-returns-in-Some-Text-clause-ends : goal.primary::primary-returns-in-Some-Text-clause-ends
-primary::primary-returns-in-Some-Text-clause-ends t c = leaf_ends c.args.toks.now c.args.at c.leaf-in-Some-Text.new.nodes (nodes.Text c.in-Some-Text.text) false (token_within c.args.toks.now c.args.at (tokens.Text c.in-Some-Text.text) (let e = c.in-Some-Text.field-0-is in let g = c.in-Some-Text.is in let z = c.token_at.ensures in cc)) c.leaf-in-Some-Text.result c.leaf-in-Some-Text.ensures.adds
+primary::primary-returns-in-Some-Text-clause-ends t c = leaf_ends c.args.toks.now c.args.at c.args.nodes.now c.leaf-in-Some-Text.new.nodes (nodes.Text c.in-Some-Text.text) false (token_within c.args.toks.now c.args.at (tokens.Text c.in-Some-Text.text) (let e = c.in-Some-Text.field-0-is in let g = c.in-Some-Text.is in let z = c.token_at.ensures in cc)) c.leaf-in-Some-Text.result c.leaf-in-Some-Text.ensures.adds
 
 pub primary::array-returns-clause-answer : goal.primary::array-returns-clause-answer
 primary::array-returns-clause-answer t c =
     let f = rw c.in-Some.is at c.in_ok-found.ensures.answer in
-    array_found (from c.args.toks.now c.args.functions.now c.args.nodes.now (c.args.at + 1)) (from c.args.toks.now c.args.functions.now c.args.nodes.now c.args.at) c.args.toks.now c.args.no_in c.args.room c.args.at c.items.new.nodes c.add.new.self c.in-Some.found c.in_ok-node.node c.requires.sign f c.in_ok-node.ensures.keeps c.in_ok-node.ensures.has
+    array_found c.args.functions.now c.args.nodes.now c.args.at c.args.room c.args.toks.now c.args.no_in c.args.room c.args.at c.items.new.nodes c.add.new.self c.in-Some.found c.in_ok-node.node c.requires.held c.requires.sign f c.in_ok-found.ensures.keeps c.in_ok-node.ensures.keeps c.in_ok-node.ensures.has c.in_ok-node.ensures.ok
 
 pub primary::object-returns-clause-answer : goal.primary::object-returns-clause-answer
 primary::object-returns-clause-answer t c =
     let f = rw c.in-Some.is at c.in_ok-found.ensures.answer in
-    object_found (from c.args.toks.now c.args.functions.now c.args.nodes.now (c.args.at + 1)) (from c.args.toks.now c.args.functions.now c.args.nodes.now c.args.at) c.args.toks.now c.args.no_in c.args.room c.args.at c.properties.new.nodes c.add.new.self c.in-Some.found c.in_ok-node.node c.requires.sign f c.in_ok-node.ensures.keeps c.in_ok-node.ensures.has
+    object_found c.args.functions.now c.args.nodes.now c.args.at c.args.room c.args.toks.now c.args.no_in c.args.room c.args.at c.properties.new.nodes c.add.new.self c.in-Some.found c.in_ok-node.node c.requires.held c.requires.sign f c.in_ok-found.ensures.keeps c.in_ok-node.ensures.keeps c.in_ok-node.ensures.has c.in_ok-node.ensures.ok
 
 pub primary::items-loop-alloc-init : goal.primary::items-loop-alloc-init
 primary::items-loop-alloc-init t c = (items_start (from c.args.toks.now c.args.functions.now c.args.nodes.now c.args.at) (from c.args.toks.now c.args.functions.now c.args.nodes.now c.args.at) c.args.toks.now c.args.room c.args.at c.args.nodes.now c.new-list.result.items c.new-list.ensures.items, keeps_self _, (omega arith), rw c.new-list.ensures.items tt)
@@ -512,12 +517,15 @@ primary::items-loop-alloc-preserved t c =
     let e = rw c.in-Some.is at c.in_ok-item.ensures.ends in
     let x = e.0 in
     let b = c.loop-alloc.invariant.2 in
-    (items_more (from c.args.toks.now c.args.functions.now c.args.nodes.now c.args.at) (from c.args.toks.now c.args.functions.now c.loop-alloc.nodes c.loop-alloc.place) c.args.toks.now c.args.room c.args.at c.loop-alloc.place c.assignment.new.nodes c.in-Some.item f (λ h. absurd (let a = c.has_sign.ensures.1 h in let b = c.loop-alloc-test.true in cc)) (λ h. absurd (let a = c.has_sign-in-loop-alloc.ensures.1 h in let b = c.if-has_sign.false in cc)) c.loop-alloc.nodes c.loop-alloc.list.items c.loop-alloc.tail c.push_last-else-has_sign.new.list.items c.loop-alloc.invariant.0 c.in_ok-item.ensures.keeps (c.has_sign-else-has_sign-2.ensures.0 c.if-not-has_sign.false) c.in_ok-push_last-2.ensures.ok, keeps_both _ _ _ c.loop-alloc.invariant.1 c.in_ok-item.ensures.keeps, (omega arith), rw c.in_ok-push_last-2.ensures.ok (items_last_below (length c.loop-alloc.nodes) (length c.assignment.new.nodes) c.loop-alloc.list.items (Some c.in-Some.item.node) c.in_ok-item.ensures.keeps.longer e.2 c.loop-alloc.invariant.3))
+    (items_more (from c.args.toks.now c.args.functions.now c.args.nodes.now c.args.at) (from c.args.toks.now c.args.functions.now c.loop-alloc.nodes c.loop-alloc.place) c.args.toks.now c.args.room c.args.at c.loop-alloc.place c.assignment.new.nodes c.in-Some.item f (λ h. absurd (let a = c.has_sign.ensures.1 h in let b = c.loop-alloc-test.true in cc)) (λ h. absurd (let a = c.has_sign-in-loop-alloc.ensures.1 h in let b = c.if-has_sign.false in cc)) c.loop-alloc.nodes c.loop-alloc.list.items c.loop-alloc.tail c.push_last-else-has_sign.new.list.items c.loop-alloc.invariant.0 c.in_ok-item.ensures.keeps (λ us a d. own_both c.args.toks.now c.args.functions.now c.args.nodes.now c.args.at c.args.room c.requires.held c.loop-alloc.nodes c.assignment.new.nodes c.args.at c.loop-alloc.place c.loop-alloc.place c.in-Some.item.next us _ c.loop-alloc.invariant.1 c.in_ok-item.ensures.keeps (omega arith) (omega arith) (omega arith) a d) (c.has_sign-else-has_sign-2.ensures.0 c.if-not-has_sign.false) c.in_ok-push_last-2.ensures.ok, keeps_both _ _ _ c.loop-alloc.invariant.1 c.in_ok-item.ensures.keeps, (omega arith), rw c.in_ok-push_last-2.ensures.ok (items_last_below (length c.loop-alloc.nodes) (length c.assignment.new.nodes) c.loop-alloc.list.items (Some c.in-Some.item.node) c.in_ok-item.ensures.keeps.longer e.2 c.loop-alloc.invariant.3))
 
 pub primary::items-returns-then-has_sign-2-clause-answer : goal.primary::items-returns-then-has_sign-2-clause-answer
 primary::items-returns-then-has_sign-2-clause-answer t c =
     let f = rw c.in-Some.is at c.in_ok-item.ensures.answer in
-    items_last (from c.args.toks.now c.args.functions.now c.args.nodes.now c.args.at) (from c.args.toks.now c.args.functions.now c.loop-alloc.nodes c.loop-alloc.place) c.args.toks.now c.args.room c.args.at c.loop-alloc.place c.assignment.new.nodes c.in-Some.item f (λ h. absurd (let a = c.has_sign.ensures.1 h in let b = c.loop-alloc-test.true in cc)) (λ h. absurd (let a = c.has_sign-in-loop-alloc.ensures.1 h in let b = c.if-has_sign.false in cc)) (from c.args.toks.now c.args.functions.now c.args.nodes.now c.args.at) c.loop-alloc.nodes c.loop-alloc.list.items c.loop-alloc.tail _ c.requires.below c.loop-alloc.invariant.0 c.in_ok-item.ensures.keeps (c.has_sign-else-has_sign.ensures.0 c.if-has_sign-2.true) (c.from_vec.ensures ∙ c.in_ok-push_last-2.ensures.ok) refl refl
+    let e = rw c.in-Some.is at c.in_ok-item.ensures.ends in
+    let x = e.0 in
+    let b = c.loop-alloc.invariant.2 in
+    items_last (from c.args.toks.now c.args.functions.now c.args.nodes.now c.args.at) (from c.args.toks.now c.args.functions.now c.loop-alloc.nodes c.loop-alloc.place) c.args.toks.now c.args.room c.args.at c.loop-alloc.place c.assignment.new.nodes c.in-Some.item f (λ h. absurd (let a = c.has_sign.ensures.1 h in let b = c.loop-alloc-test.true in cc)) (λ h. absurd (let a = c.has_sign-in-loop-alloc.ensures.1 h in let b = c.if-has_sign.false in cc)) c.loop-alloc.nodes c.loop-alloc.list.items c.loop-alloc.tail _ c.requires.below c.loop-alloc.invariant.0 c.in_ok-item.ensures.keeps (λ us a d. own_both c.args.toks.now c.args.functions.now c.args.nodes.now c.args.at c.args.room c.requires.held c.loop-alloc.nodes c.assignment.new.nodes c.args.at c.loop-alloc.place c.loop-alloc.place c.in-Some.item.next us _ c.loop-alloc.invariant.1 c.in_ok-item.ensures.keeps (omega arith) (omega arith) (omega arith) a d) (c.has_sign-else-has_sign.ensures.0 c.if-has_sign-2.true) (c.from_vec.ensures ∙ c.in_ok-push_last-2.ensures.ok) refl refl
 
 pub primary::items-returns-then-has_sign-2-clause-ends : goal.primary::items-returns-then-has_sign-2-clause-ends
 primary::items-returns-then-has_sign-2-clause-ends t c =
@@ -533,7 +541,7 @@ primary::items-returns-then-not-has_sign-clause-answer t c =
     items_neither (from c.args.toks.now c.args.functions.now c.args.nodes.now c.args.at) (from c.args.toks.now c.args.functions.now c.loop-alloc.nodes c.loop-alloc.place) c.args.toks.now c.args.room c.args.at c.loop-alloc.place c.assignment.new.nodes c.in-Some.item f (λ h. absurd (let a = c.has_sign.ensures.1 h in let b = c.loop-alloc-test.true in cc)) (λ h. absurd (let a = c.has_sign-in-loop-alloc.ensures.1 h in let b = c.if-has_sign.false in cc)) c.loop-alloc.nodes c.loop-alloc.list.items c.loop-alloc.tail c.loop-alloc.invariant.0 (λ h. absurd (let a = c.has_sign-else-has_sign.ensures.1 h in let b = c.if-has_sign-2.false in cc)) (λ h. absurd (let a = c.has_sign-else-has_sign-2.ensures.1 h in let b = c.if-not-has_sign.true in cc))
 
 pub primary::items-returns-clause-answer : goal.primary::items-returns-clause-answer
-primary::items-returns-clause-answer t c = items_close (from c.args.toks.now c.args.functions.now c.args.nodes.now c.args.at) (from c.args.toks.now c.args.functions.now c.args.nodes.now c.args.at) c.args.toks.now c.args.room c.args.at (from c.args.toks.now c.args.functions.now c.args.nodes.now c.args.at) c.loop-alloc.nodes c.loop-alloc.list.items c.loop-alloc.tail c.loop-alloc.place _ c.requires.below c.loop-alloc.invariant.0 (c.has_sign.ensures.0 c.loop-alloc-test.false) c.from_vec-2.ensures refl refl
+primary::items-returns-clause-answer t c = items_close (from c.args.toks.now c.args.functions.now c.args.nodes.now c.args.at) (from c.args.toks.now c.args.functions.now c.args.nodes.now c.args.at) c.args.toks.now c.args.room c.args.at c.loop-alloc.nodes c.loop-alloc.list.items c.loop-alloc.tail c.loop-alloc.place _ c.requires.below c.loop-alloc.invariant.0 (c.has_sign.ensures.0 c.loop-alloc-test.false) c.from_vec-2.ensures refl refl
 
 pub primary::items-returns-clause-ends : goal.primary::items-returns-clause-ends
 primary::items-returns-clause-ends t c =
@@ -554,7 +562,7 @@ primary::properties-loop-alloc-preserved t c =
     let e = rw c.in-Some.is at c.in_ok-key.ensures.ends in
     let x = e.0 in
     let b = c.loop-alloc.invariant.2 in
-    (properties_more (from c.args.toks.now c.args.functions.now c.args.nodes.now c.args.at) c.args.toks.now c.args.room c.args.at (from c.args.toks.now c.args.functions.now c.loop-alloc.nodes (c.loop-alloc.place + 2)) c.loop-alloc.place c.property.new.nodes c.in-Some.key c.in-Some.value f (λ h. absurd (let a = c.has_sign.ensures.1 h in let b = c.loop-alloc-test.true in cc)) c.loop-alloc.nodes c.loop-alloc.list.items c.loop-alloc.behind c.push_last.new.list.items c.loop-alloc.invariant.0 c.in_ok-key.ensures.keeps (c.has_sign-in-loop-alloc-2.ensures.0 c.if-not-has_sign.false) c.in_ok-push_last.ensures.ok, keeps_both _ _ _ c.loop-alloc.invariant.1 c.in_ok-key.ensures.keeps, (omega arith), rw c.in_ok-push_last.ensures.ok (properties_last_below (length c.loop-alloc.nodes) (length c.property.new.nodes) c.loop-alloc.list.items (record { key = c.in-Some.key; value = c.in-Some.value.node }) c.in_ok-key.ensures.keeps.longer e.2 c.loop-alloc.invariant.3))
+    (properties_more (from c.args.toks.now c.args.functions.now c.args.nodes.now c.args.at) c.args.toks.now c.args.room c.args.at (from c.args.toks.now c.args.functions.now c.loop-alloc.nodes (c.loop-alloc.place + 2)) c.loop-alloc.place c.property.new.nodes c.in-Some.key c.in-Some.value f (λ h. absurd (let a = c.has_sign.ensures.1 h in let b = c.loop-alloc-test.true in cc)) c.loop-alloc.nodes c.loop-alloc.list.items c.loop-alloc.behind c.push_last.new.list.items c.loop-alloc.invariant.0 c.in_ok-key.ensures.keeps (λ us a d. own_both c.args.toks.now c.args.functions.now c.args.nodes.now c.args.at c.args.room c.requires.held c.loop-alloc.nodes c.property.new.nodes c.args.at c.loop-alloc.place (c.loop-alloc.place + 2) c.in-Some.value.next us _ c.loop-alloc.invariant.1 c.in_ok-key.ensures.keeps (omega arith) (omega arith) (omega arith) a d) (c.has_sign-in-loop-alloc-2.ensures.0 c.if-not-has_sign.false) c.in_ok-push_last.ensures.ok, keeps_both _ _ _ c.loop-alloc.invariant.1 c.in_ok-key.ensures.keeps, (omega arith), rw c.in_ok-push_last.ensures.ok (properties_last_below (length c.loop-alloc.nodes) (length c.property.new.nodes) c.loop-alloc.list.items (record { key = c.in-Some.key; value = c.in-Some.value.node }) c.in_ok-key.ensures.keeps.longer e.2 c.loop-alloc.invariant.3))
 
 pub primary::properties-loop-alloc-smaller : goal.primary::properties-loop-alloc-smaller
 primary::properties-loop-alloc-smaller t c =
@@ -565,7 +573,10 @@ primary::properties-loop-alloc-smaller t c =
 pub primary::properties-returns-then-has_sign-clause-answer : goal.primary::properties-returns-then-has_sign-clause-answer
 primary::properties-returns-then-has_sign-clause-answer t c =
     let f = rw c.in-Some.is at c.in_ok-key.ensures.answer in
-    properties_last (from c.args.toks.now c.args.functions.now c.args.nodes.now c.args.at) c.args.toks.now c.args.room c.args.at (from c.args.toks.now c.args.functions.now c.loop-alloc.nodes (c.loop-alloc.place + 2)) c.loop-alloc.place c.property.new.nodes c.in-Some.key c.in-Some.value f (λ h. absurd (let a = c.has_sign.ensures.1 h in let b = c.loop-alloc-test.true in cc)) (from c.args.toks.now c.args.functions.now c.args.nodes.now c.args.at) c.loop-alloc.nodes c.loop-alloc.list.items c.loop-alloc.behind _ c.requires.below c.loop-alloc.invariant.0 c.in_ok-key.ensures.keeps (c.has_sign-in-loop-alloc.ensures.0 c.if-has_sign.true) (c.from_vec.ensures ∙ c.in_ok-push_last.ensures.ok) refl refl
+    let e = rw c.in-Some.is at c.in_ok-key.ensures.ends in
+    let x = e.0 in
+    let b = c.loop-alloc.invariant.2 in
+    properties_last (from c.args.toks.now c.args.functions.now c.args.nodes.now c.args.at) c.args.toks.now c.args.room c.args.at (from c.args.toks.now c.args.functions.now c.loop-alloc.nodes (c.loop-alloc.place + 2)) c.loop-alloc.place c.property.new.nodes c.in-Some.key c.in-Some.value f (λ h. absurd (let a = c.has_sign.ensures.1 h in let b = c.loop-alloc-test.true in cc)) c.loop-alloc.nodes c.loop-alloc.list.items c.loop-alloc.behind _ c.requires.below c.loop-alloc.invariant.0 c.in_ok-key.ensures.keeps (λ us a d. own_both c.args.toks.now c.args.functions.now c.args.nodes.now c.args.at c.args.room c.requires.held c.loop-alloc.nodes c.property.new.nodes c.args.at c.loop-alloc.place (c.loop-alloc.place + 2) c.in-Some.value.next us _ c.loop-alloc.invariant.1 c.in_ok-key.ensures.keeps (omega arith) (omega arith) (omega arith) a d) (c.has_sign-in-loop-alloc.ensures.0 c.if-has_sign.true) (c.from_vec.ensures ∙ c.in_ok-push_last.ensures.ok) refl refl
 
 pub primary::properties-returns-then-has_sign-clause-ends : goal.primary::properties-returns-then-has_sign-clause-ends
 primary::properties-returns-then-has_sign-clause-ends t c =
@@ -581,9 +592,12 @@ primary::properties-returns-then-not-has_sign-clause-answer t c =
     properties_neither (from c.args.toks.now c.args.functions.now c.args.nodes.now c.args.at) c.args.toks.now c.args.room c.args.at (from c.args.toks.now c.args.functions.now c.loop-alloc.nodes (c.loop-alloc.place + 2)) c.loop-alloc.place c.property.new.nodes c.in-Some.key c.in-Some.value f (λ h. absurd (let a = c.has_sign.ensures.1 h in let b = c.loop-alloc-test.true in cc)) c.loop-alloc.nodes c.loop-alloc.list.items c.loop-alloc.behind c.loop-alloc.invariant.0 (λ h. absurd (let a = c.has_sign-in-loop-alloc.ensures.1 h in let b = c.if-has_sign.false in cc)) (λ h. absurd (let a = c.has_sign-in-loop-alloc-2.ensures.1 h in let b = c.if-not-has_sign.true in cc))
 
 pub primary::properties-returns-clause-answer : goal.primary::properties-returns-clause-answer
-primary::properties-returns-clause-answer t c = properties_close (from c.args.toks.now c.args.functions.now c.args.nodes.now c.args.at) c.args.toks.now c.args.room c.args.at (from c.args.toks.now c.args.functions.now c.args.nodes.now c.args.at) c.loop-alloc.nodes c.loop-alloc.list.items c.loop-alloc.behind c.loop-alloc.place _ c.requires.below c.loop-alloc.invariant.0 (c.has_sign.ensures.0 c.loop-alloc-test.false) c.from_vec-2.ensures refl refl
+primary::properties-returns-clause-answer t c = properties_close (from c.args.toks.now c.args.functions.now c.args.nodes.now c.args.at) c.args.toks.now c.args.room c.args.at c.loop-alloc.nodes c.loop-alloc.list.items c.loop-alloc.behind c.loop-alloc.place _ c.requires.below c.loop-alloc.invariant.0 (c.has_sign.ensures.0 c.loop-alloc-test.false) c.from_vec-2.ensures refl refl
 
 pub primary::properties-returns-clause-ends : goal.primary::properties-returns-clause-ends
 primary::properties-returns-clause-ends t c =
     let w = token_within c.args.toks.now c.loop-alloc.place (tokens.Sign signs.CloseBrace) (c.has_sign.ensures.0 c.loop-alloc-test.false) in
     (c.loop-alloc.invariant.2, w, rw c.from_vec-2.ensures c.loop-alloc.invariant.3)
+
+pub member::suffix-returns-in-Some-Sign-Dot-clause-answer : goal.member::suffix-returns-in-Some-Sign-Dot-clause-answer
+member::suffix-returns-in-Some-Sign-Dot-clause-answer t c = c.named.ensures.answer c.args.functions.now

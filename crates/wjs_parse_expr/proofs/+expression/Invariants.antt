@@ -1,4 +1,4 @@
-use Rattle.std.proofs.Common.{◌+◌, ◌-◌, ◌*◌, ◌<◌, ◌≤◌, length}
+use Rattle.std.proofs.Common.{◌+◌, ◌-◌, ◌*◌, ◌≤◌, length}
 use Rattle.wjs_tree.specs.Children.{AreBelow, ItemsBelow, PropertiesBelow}
 use Rattle.wjs_tree.specs.Shows.{Keeps}
 use Rattle.wjs_parse_expr.specs.Steps.{BinaryStep, CommaStep}

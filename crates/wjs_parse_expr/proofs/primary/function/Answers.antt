@@ -1,5 +1,4 @@
 use Rattle.std.proofs.Common.{sym, ◌∙◌, arith}
-use Rattle.wjs_parse_expr.specs.Answers.{from}
 use Rattle.wjs_parse_expr.proofs.Entries.{function_found, function_high, function_none, entry_ends}
 use Rattle.wjs_parse_expr.proofs.primary.function.Goals as goal
 
@@ -15,7 +14,7 @@ returns-clause-ends c = entry_ends c.args.toks.now c.args.functions.now c.args.a
 
 pub returns-clause-answer : goal.returns-clause-answer
 returns-clause-answer c =
-    function_found (from c.args.toks.now c.args.functions.now c.args.nodes.now c.args.at) c.args.toks.now c.args.functions.now c.args.no_in c.args.at c.args.room c.args.nodes.now c.in-Some.node c.in-Some.next c.height.result c.requires.held c.requires.key (sym c.at.ensures ∙ c.in-Some.is) c.height.ensures.expr (omega arith)
+    function_found c.args.toks.now c.args.functions.now c.args.no_in c.args.at c.args.room c.args.nodes.now c.in-Some.node c.in-Some.next c.height.result c.requires.held c.requires.key (sym c.at.ensures ∙ c.in-Some.is) c.height.ensures.expr (omega arith)
 
 pub returns-in_default-clause-answer : goal.returns-in_default-clause-answer
 returns-in_default-clause-answer c = function_none c.args.toks.now c.args.functions.now c.args.no_in c.args.at c.args.room c.args.nodes.now c.requires.held c.requires.key (sym c.at.ensures ∙ c.in_default.is)

@@ -1,8 +1,6 @@
 use Rattle.std.proofs.Common.{◌≡◌, ◌≤◌, max, length, drop}
 use Rattle.wjs_tree.specs.Children.{ClausesBelow}
 use Rattle.wjs_tree.specs.Facts.{highest, clause_height}
-use Rattle.wjs_tree.specs.declared.node.Property.{Property}
-use Rattle.wjs_tree.specs.declared.node.Declarator.{Declarator}
 use Rattle.wjs_tree.proofs.facts.clauses_height.Given as goal
 
 abbrev pub invariant-loop-clause : goal.invariant-loop-clause

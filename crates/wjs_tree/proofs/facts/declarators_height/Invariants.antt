@@ -1,7 +1,6 @@
 use Rattle.std.proofs.Common.{◌≡◌, ◌≤◌, max, length, drop}
 use Rattle.wjs_tree.specs.Children.{DeclaratorsBelow}
 use Rattle.wjs_tree.specs.Facts.{highest, option_height}
-use Rattle.wjs_tree.specs.declared.node.Property.{Property}
 use Rattle.wjs_tree.specs.declared.node.Declarator.{Declarator}
 use Rattle.wjs_tree.proofs.facts.declarators_height.Given as goal
 

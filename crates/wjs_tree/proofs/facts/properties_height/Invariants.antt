@@ -2,7 +2,6 @@ use Rattle.std.proofs.Common.{◌≡◌, ◌≤◌, max, length, drop}
 use Rattle.wjs_tree.specs.Children.{PropertiesBelow}
 use Rattle.wjs_tree.specs.Facts.{highest, height_at}
 use Rattle.wjs_tree.specs.declared.node.Property.{Property}
-use Rattle.wjs_tree.specs.declared.node.Declarator.{Declarator}
 use Rattle.wjs_tree.proofs.facts.properties_height.Given as goal
 
 abbrev pub invariant-loop-property : goal.invariant-loop-property

@@ -1,9 +1,4 @@
-use Rattle.std.proofs.Common.{◌≡◌, [], ◌∷◌, ◌++◌, List, length, sym, ap, subst, ◌∙◌}
-use Rattle.wjs_tree.specs.declared.node.Node.{Node}
-use Rattle.wjs_tree.specs.declared.node.NodeId.{NodeId}
-use Rattle.wjs_tree.specs.Shows.{Has, Keeps}
 use Rattle.wjs_tree.proofs.Adding.{get-last, keeps_added}
-use Rattle.wjs_tree.proofs.Kept.{keeps_self}
 use Rattle.wjs_tree.proofs.nodes.Nodes.add.Goals as goal
 
 pub returns-clause-has : goal.returns-clause-has

@@ -1,7 +1,6 @@
-use Rattle.std.proofs.Common.{◌≡◌, ◌<◌, List, max, length, sym, ap, subst, ◌∙◌, arith}
+use Rattle.std.proofs.Common.{◌<◌, List, max, length, sym, ap, subst, ◌∙◌, arith}
 use Rattle.wjs_tree.specs.declared.node.Node.{Node}
 use Rattle.wjs_tree.specs.declared.facts.Facts.{Facts}
-use Rattle.wjs_tree.specs.Facts.{fact_at}
 use Rattle.wjs_tree.specs.Shows.{Shows, StmtShows, IsBody}
 use Rattle.wjs_tree.proofs.Adding.{read}
 use Rattle.wjs_tree.proofs.Heights.{of_node, height_is, stmt_height_is, elements_height_is}

@@ -1,7 +1,7 @@
-use Rattle.std.proofs.Common.{◌≡◌, ◌+◌, ◌≤◌, List, length, sym, ap, subst, ◌∙◌, arith}
+use Rattle.std.proofs.Common.{◌+◌, ◌≤◌, List, length, sym, subst}
 use Rattle.wjs_tree.specs.declared.facts.Facts.{Facts}
 use Rattle.wjs_tree.specs.Children.{ChildrenBelow}
-use Rattle.wjs_tree.specs.Facts.{IsLow, AreFacts, AreKept}
+use Rattle.wjs_tree.specs.Facts.{IsLow, AreFacts}
 use Rattle.wjs_tree.proofs.Adding.{low, added}
 use Rattle.wjs_tree.proofs.nodes.Nodes.put.Goals as goal
 
