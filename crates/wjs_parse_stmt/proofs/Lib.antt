@@ -1,0 +1,15 @@
+pub mod Bounds
+pub mod Ending
+pub mod Starts
+pub mod Forms
+pub mod Expressions
+pub mod Simple
+pub mod Chaining
+pub mod Declaring
+pub mod Blocks
+pub mod Arms
+pub mod Branching
+pub mod Nested
+pub mod Trying
+pub mod Looping
+pub mod Declarations

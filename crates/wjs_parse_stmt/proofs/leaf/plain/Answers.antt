@@ -1,0 +1,22 @@
+use Rattle.std.proofs.Common.{◌+◌, ◌<◌, ◌≤◌, arith}
+use Rattle.wjs_parse_stmt.proofs.Simple.{plain_found, plain_none}
+use Rattle.wjs_parse_stmt.proofs.leaf.plain.Goals as goal
+
+pub returns-in_default-clause-answer : goal.returns-in_default-clause-answer
+returns-in_default-clause-answer c =
+    let f = rw c.in_default.is at c.in_ok-value.ensures.answer in
+    plain_none c.args.toks.now c.args.room c.args.at c.requires.kind f
+
+pub returns-clause-ends : goal.returns-clause-ends
+returns-clause-ends c =
+    let e = rw c.in-Some.is at c.in_ok-value.ensures.ends in
+    let x = e.0 in
+    let y = e.1 in
+    let k = c.in_ok-node.ensures.ok in
+    let n = c.in_ok-node.ensures.longer in
+    (omega arith, omega arith, omega arith)
+
+pub returns-clause-answer : goal.returns-clause-answer
+returns-clause-answer c =
+    let f = rw c.in-Some.is at c.in_ok-value.ensures.answer in
+    plain_found c.args.toks.now c.args.room c.args.at c.value.new.nodes c.add.new.self c.in-Some.value c.in_ok-node.node c.requires.below c.requires.kind f c.in_ok-node.ensures.keeps c.in_ok-node.ensures.has

@@ -1,0 +1,36 @@
+use Rattle.std.proofs.Common.{◌+◌, ◌<◌, ◌≤◌, length, not, arith, rules, sym, ◌∙◌}
+use Rattle.wjs_tree.specs.declared.tokens.Token.TheVariants as tokens
+use Rattle.wjs_tree.specs.declared.keys.Key.TheVariants as keys
+use Rattle.wjs_tree.specs.Ends.{Complete}
+use Rattle.wjs_parse_expr.proofs.Readings.{token_within, not_true, not_false}
+use Rattle.wjs_parse_stmt.specs.declared.kind.Kind.TheVariants as kinds
+use Rattle.wjs_parse_stmt.proofs.Bounds.{ends_within}
+use Rattle.wjs_parse_stmt.proofs.Forms.{told}
+use Rattle.wjs_parse_stmt.proofs.Simple.{throw_found, throw_none, throw_apart}
+use Rattle.wjs_parse_stmt.proofs.leaf.thrown.Goals as goal
+
+pub returns-then-not-is_joined-clause-answer : goal.returns-then-not-is_joined-clause-answer
+returns-then-not-is_joined-clause-answer c = throw_apart c.args.toks.now c.args.room c.args.at c.requires.kind (sym c.is_joined.ensures ∙ c.if-not-is_joined.true)
+
+pub overflow_add-at-2 : goal.overflow_add-at-2
+overflow_add-at-2 c =
+    let h : c.args.at < length c.args.toks.now = token_within c.args.toks.now c.args.at (tokens.Key keys.Throw) (told c.args.toks.now c.args.at kinds.Throw c.requires.kind) in search rules
+
+pub returns-in_default-clause-answer : goal.returns-in_default-clause-answer
+returns-in_default-clause-answer c =
+    let f = rw c.in_default.is at c.in_ok-value.ensures.answer in
+    throw_none c.args.toks.now c.args.room c.args.at c.requires.kind f
+
+pub returns-clause-ends : goal.returns-clause-ends
+returns-clause-ends c =
+    let e = rw c.in-Some.is at c.in_ok-value.ensures.ends in
+    let x = e.0 in
+    let y = e.1 in
+    let k = c.in_ok-node.ensures.ok in
+    let n = c.in_ok-node.ensures.longer in
+    (omega arith, omega arith, omega arith)
+
+pub returns-clause-answer : goal.returns-clause-answer
+returns-clause-answer c =
+    let f = rw c.in-Some.is at c.in_ok-value.ensures.answer in
+    throw_found c.args.toks.now c.args.room c.args.at c.value.new.nodes c.add.new.self c.in-Some.value c.in_ok-node.node c.requires.below c.requires.kind (sym c.is_joined.ensures ∙ c.if-not-is_joined.false) f c.in_ok-node.ensures.keeps c.in_ok-node.ensures.has

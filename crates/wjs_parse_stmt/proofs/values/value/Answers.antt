@@ -1,0 +1,23 @@
+use Rattle.std.proofs.Common.{arith}
+use Rattle.wjs_tree.proofs.Forward.{ends_forward}
+use Rattle.wjs_parse_expr.specs.Answers.{from}
+use Rattle.wjs_tree.specs.Ends.{InExpr}
+use Rattle.wjs_parse_stmt.proofs.Expressions.{value_found, value_open}
+use Rattle.wjs_parse_stmt.proofs.Bounds.{ends_within}
+use Rattle.wjs_parse_stmt.proofs.values.value.Goals as goal
+
+pub returns-in_default-end_at-clause-answer : goal.returns-in_default-end_at-clause-answer
+returns-in_default-end_at-clause-answer c =
+    let f = rw c.in-Some.is at c.in_ok-value.ensures.answer in
+    value_open (from c.args.toks.now c.args.functions.now c.args.nodes.now c.args.at) c.args.toks.now c.args.room c.args.at c.comma.new.nodes c.in-Some.value f c.ends_in_update.result c.ends_in_update.ensures c.in_default-end_at.ensures
+
+pub returns-clause-ends : goal.returns-clause-ends
+returns-clause-ends c =
+    let e = rw c.in-Some.is at c.in_ok-value.ensures.ends in
+    let w = ends_within c.args.toks.now (InExpr c.ends_in_update.result) c.in-Some-end_at.ended.end c.in-Some.value.next c.in-Some-end_at.ended.next e.1 c.in-Some-end_at.ensures in
+    ((let x = e.0 in let y = w.0 in omega arith), w.1, e.2)
+
+pub returns-clause-answer : goal.returns-clause-answer
+returns-clause-answer c =
+    let f = rw c.in-Some.is at c.in_ok-value.ensures.answer in
+    value_found (from c.args.toks.now c.args.functions.now c.args.nodes.now c.args.at) c.args.toks.now c.args.room c.args.at c.comma.new.nodes c.in-Some.value f c.ends_in_update.result c.in-Some-end_at.ended c.ends_in_update.ensures c.in-Some-end_at.ensures

@@ -1,0 +1,6 @@
+pub mod Kinds
+pub mod Readings
+pub mod Answers
+pub mod Lists
+pub mod Branches
+pub mod Chains

@@ -1,0 +1,129 @@
+//! What readers of statements hand to each other.
+
+ghost use Rattle.std.specs.Prelude.{◌≡◌, ◌++◌, ◌∷◌, [], OnOk, OnErr};
+
+use wjs_base::OutOfMemory;
+use wjs_tree::{Clause, Declarator, End, Handler, NodeId, Sequence};
+
+/// A statement, the place after it, and whether an `else` there would belong to an `if` in it.
+#[derive(Clone, Copy, Debug)]
+pub struct Piece {
+    pub node: NodeId,
+    pub next: usize,
+    pub is_open: bool,
+}
+
+/// A node, and the place after its tokens.
+#[derive(Clone, Copy, Debug)]
+pub struct Spot {
+    pub node: NodeId,
+    pub next: usize,
+}
+
+/// The end of a statement, and the place after it.
+#[derive(Clone, Copy, Debug)]
+pub struct Ended {
+    pub end: End,
+    pub next: usize,
+}
+
+/// An expression with the end of its statement, and the place after it.
+#[derive(Clone, Copy, Debug)]
+pub struct Valued {
+    pub node: NodeId,
+    pub end: End,
+    pub next: usize,
+}
+
+/// An expression or nothing, and the place after it.
+#[derive(Clone, Copy, Debug)]
+pub struct Maybe {
+    pub node: Option<NodeId>,
+    pub next: usize,
+}
+
+/// What a statement ends in before its end.
+#[derive(Clone, Copy, Debug)]
+pub enum Stop {
+    /// Nothing continues it.
+    Complete,
+    /// The name of a variable without initialiser.
+    InName,
+    /// An expression, whose last token may be `++` or `--`.
+    InExpr(bool),
+}
+
+/// Both parts of the header of a `for` behind its first, and the statement with the place after it.
+#[derive(Clone, Copy, Debug)]
+pub struct Rest {
+    pub test: Option<NodeId>,
+    pub update: Option<NodeId>,
+    pub node: NodeId,
+    pub next: usize,
+    pub is_open: bool,
+}
+
+/// A variable, the place after it, and what it ends in.
+#[derive(Clone, Copy, Debug)]
+pub struct Declared {
+    pub declarator: Declarator,
+    pub next: usize,
+    pub stop: Stop,
+}
+
+/// An `if` without what stands behind `else`: the test, the statement, the place after it, and whether an `else` there
+/// would belong to an `if` in the statement.
+#[derive(Clone, Copy, Debug)]
+pub struct Branch {
+    pub test: NodeId,
+    pub body: NodeId,
+    pub next: usize,
+    pub is_open: bool,
+}
+
+/// The name and the block of a `catch`, and the place after it.
+#[derive(Clone, Copy, Debug)]
+pub struct Handled {
+    pub handler: Handler,
+    pub next: usize,
+}
+
+/// A clause of a `switch`, and the place after it.
+#[derive(Debug, Drop)]
+pub struct Arm {
+    pub clause: Clause,
+    pub next: usize,
+}
+
+/// Statements or elements, and the place of the token that closes them.
+#[derive(Debug, Drop)]
+pub struct Listed {
+    pub list: Sequence<NodeId>,
+    pub next: usize,
+}
+
+/// Variables, the place after them, and what they end in.
+#[derive(Debug, Drop)]
+pub struct ListedVariables {
+    pub list: Sequence<Declarator>,
+    pub next: usize,
+    pub stop: Stop,
+}
+
+/// The clauses of a `switch`, and the place of the brace that closes them.
+#[derive(Debug, Drop)]
+pub struct ListedClauses {
+    pub list: Sequence<Clause>,
+    pub next: usize,
+}
+
+/// Puts an element last; after a refusal the list is as it was.
+pub fn push_last<T: Drop>(list: &mut Vec<T>, item: T) -> Result<(), OutOfMemory>
+    ensures ok { OnOk result (list.new.items ≡ list.old.items ++ item ∷ []) }
+    ensures err { OnErr result (list.new.items ≡ list.old.items) }
+{
+    match list.push(item) {
+        Ok(()) => Ok(()),
+        Err(_) => Err(OutOfMemory),
+    }
+}

@@ -1,0 +1,179 @@
+//! Statements (ECMA-262, 3rd edition, section 12).
+ghost use Rattle.std.specs.Prelude.{◌≡◌, ◌+◌, ◌-◌, ◌<◌, ◌≤◌, length, IsTrue, is_some};
+ghost use Rattle.wjs_tree.specs.Ends.{HasKey};
+ghost use Rattle.wjs_tree.specs.declared.keys.Key.TheVariants as keys;
+ghost use Rattle.wjs_tree.specs.Shows.{Keeps};
+ghost use Rattle.wjs_parse_expr.specs.Table.{Holds};
+ghost use Rattle.wjs_parse_stmt.specs.declared.kind.Kind.TheVariants as kinds;
+ghost use Rattle.wjs_parse_stmt.specs.Answers.{KindIs, StmtAnswers, PieceEnds};
+
+use crate::branch::{cases, conditional, trial};
+use crate::iteration::{counted, repeated, until};
+use crate::kind::{Kind, kind_at};
+use crate::leaf::{broken, continued, declared, empty, plain, returned, thrown};
+use crate::lists::block;
+use crate::parts::Piece;
+use crate::values::up_to;
+use std::alloc::Global;
+use wjs_base::{OutOfMemory, TextId};
+use wjs_parse_expr::{Functions, has_key};
+use wjs_tree::{Key, Node, Nodes, Sign, Tok};
+
+/// The statement from the place of at most the height `room`: any other that is read there could be longer. None exactly
+/// where none is read there, but such that could be longer.
+#[cycle(statement)]
+pub fn statement(
+    alloc: Global,
+    toks: &[Tok],
+    at: usize,
+    room: u64,
+    functions: &Functions,
+    nodes: &mut Nodes,
+) -> Result<Option<Piece>, OutOfMemory>
+    requires held { Holds toks.now functions.now at room nodes.old }
+    ensures keeps { Keeps nodes.old nodes.new }
+    ensures ends { PieceEnds toks.now at nodes.new result }
+    ensures answer { StmtAnswers toks.now room at nodes.new result }
+{
+    if room == 0 {
+        return Ok(None);
+    }
+    if has_key(toks, at, Key::If) {
+        return conditional(alloc, toks, at, room, functions, nodes);
+    }
+    other(alloc, toks, at, room, functions, nodes)
+}
+
+/// The statement from the place, by its kind, where it is no `if`.
+#[cycle(statement)]
+pub fn other(
+    alloc: Global,
+    toks: &[Tok],
+    at: usize,
+    room: u64,
+    functions: &Functions,
+    nodes: &mut Nodes,
+) -> Result<Option<Piece>, OutOfMemory>
+    requires held { Holds toks.now functions.now at room nodes.old }
+    requires below { 0 < room }
+    requires no_if { HasKey toks.now at keys.If → ⊥ }
+    ensures keeps { Keeps nodes.old nodes.new }
+    ensures ends { PieceEnds toks.now at nodes.new result }
+    ensures answer { StmtAnswers toks.now room at nodes.new result }
+{
+    match kind_at(toks, at) {
+        Kind::Block => braced(alloc, toks, at, room, functions, nodes),
+        Kind::Variables => declared(alloc, toks, at, room, functions, nodes),
+        Kind::Empty => empty(toks, at, room, nodes),
+        Kind::If => Ok(None),
+        Kind::Do => until(alloc, toks, at, room, functions, nodes),
+        Kind::While => repeated(alloc, toks, at, room, functions, nodes),
+        Kind::For => counted(alloc, toks, at, room, functions, nodes),
+        Kind::Continue => continued(toks, at, room, nodes),
+        Kind::Break => broken(toks, at, room, nodes),
+        Kind::Return => returned(alloc, toks, at, room, functions, nodes),
+        Kind::Throw => thrown(alloc, toks, at, room, functions, nodes),
+        Kind::Label(text) => labelled(alloc, toks, at, text, room, functions, nodes),
+        Kind::Switch => cases(alloc, toks, at, room, functions, nodes),
+        Kind::Try => trial(alloc, toks, at, room, functions, nodes),
+        Kind::Within => within(alloc, toks, at, room, functions, nodes),
+        Kind::Nothing => Ok(None),
+        Kind::Plain => plain(alloc, toks, at, room, functions, nodes),
+    }
+}
+
+/// A statement in braces.
+#[cycle(statement)]
+fn braced(
+    alloc: Global,
+    toks: &[Tok],
+    at: usize,
+    room: u64,
+    functions: &Functions,
+    nodes: &mut Nodes,
+) -> Result<Option<Piece>, OutOfMemory>
+    requires held { Holds toks.now functions.now at room nodes.old }
+    requires below { 0 < room }
+    requires kind { KindIs toks.now at kinds.Block }
+    ensures keeps { Keeps nodes.old nodes.new }
+    ensures ends { PieceEnds toks.now at nodes.new result }
+    ensures answer { StmtAnswers toks.now room at nodes.new result }
+{
+    let Some(found) = block(alloc, toks, at, room, functions, nodes)? else {
+        return Ok(None);
+    };
+    Ok(Some(Piece {
+        node: found.node,
+        next: found.next,
+        is_open: false,
+    }))
+}
+
+/// A statement behind a label.
+#[cycle(statement)]
+fn labelled(
+    alloc: Global,
+    toks: &[Tok],
+    at: usize,
+    text: TextId,
+    room: u64,
+    functions: &Functions,
+    nodes: &mut Nodes,
+) -> Result<Option<Piece>, OutOfMemory>
+    requires held { Holds toks.now functions.now at room nodes.old }
+    requires below { 0 < room }
+    requires kind { KindIs toks.now at (kinds.Label text) }
+    ensures keeps { Keeps nodes.old nodes.new }
+    ensures ends { PieceEnds toks.now at nodes.new result }
+    ensures answer { StmtAnswers toks.now room at nodes.new result }
+{
+    let Some(body) = statement(alloc, toks, at + 2, room - 1, functions, nodes)? else {
+        return Ok(None);
+    };
+    let node = nodes.add(Node::Label(text, body.node))?;
+    Ok(Some(Piece {
+        node,
+        next: body.next,
+        is_open: body.is_open,
+    }))
+}
+
+/// `in`, an expression, and the block that runs in its world.
+#[cycle(statement)]
+fn within(
+    alloc: Global,
+    toks: &[Tok],
+    at: usize,
+    room: u64,
+    functions: &Functions,
+    nodes: &mut Nodes,
+) -> Result<Option<Piece>, OutOfMemory>
+    requires held { Holds toks.now functions.now at room nodes.old }
+    requires below { 0 < room }
+    requires kind { KindIs toks.now at kinds.Within }
+    ensures keeps { Keeps nodes.old nodes.new }
+    ensures ends { PieceEnds toks.now at nodes.new result }
+    ensures answer { StmtAnswers toks.now room at nodes.new result }
+{
+    let Some(world) = up_to(
+        alloc,
+        toks,
+        at + 1,
+        Sign::OpenBrace,
+        room - 1,
+        functions,
+        nodes,
+    )?
+    else {
+        return Ok(None);
+    };
+    let Some(body) = block(alloc, toks, world.next, room - 1, functions, nodes)? else {
+        return Ok(None);
+    };
+    let node = nodes.add(Node::Within(world.node, body.node))?;
+    Ok(Some(Piece {
+        node,
+        next: body.next,
+        is_open: false,
+    }))
+}
