@@ -1,0 +1,6 @@
+pub mod Forms
+pub mod Labels
+pub mod Walks
+pub mod Lists
+pub mod Steps
+pub mod Loops

@@ -1,0 +1,3 @@
+pub mod Around
+pub mod Forms
+pub mod Answers
