@@ -1,0 +1,6 @@
+pub mod Items
+pub mod Declarations
+pub mod Naming
+pub mod Functions
+pub mod Programs
+pub mod Table

@@ -1,0 +1,52 @@
+-- The table of functions for the one who reads them from the last to the first.
+use Rattle.std.proofs.Common.{◌≡◌, ℕ, ◌+◌, ◌<◌, ◌≤◌, ◌⊎◌, ⊎_elim, true, List, Option, Some, None, ◌==◌, if◌then◌else◌, subst, sym, arith}
+use Rattle.std.proofs.lemmas.Bool.{cases_lt}
+use Rattle.wjs_tree.specs.declared.keys.Key.TheVariants as keys
+use Rattle.wjs_tree.specs.declared.tokens.Tok.{Tok}
+use Rattle.wjs_tree.specs.declared.node.Node.{Node}
+use Rattle.wjs_tree.specs.declared.node.NodeId.{NodeId}
+use Rattle.wjs_tree.specs.Trees.{Expr, Function}
+use Rattle.wjs_tree.specs.Ends.{HasKey}
+use Rattle.wjs_tree.specs.Spelling.{Stands}
+use Rattle.wjs_tree.specs.Shows.{Shows, Keeps}
+use Rattle.wjs_tree.specs.Used.{AreApart}
+use Rattle.wjs_tree.proofs.OneUse.{same_use}
+use Rattle.wjs_parse_expr.specs.declared.functions.Functions.{Functions}
+use Rattle.wjs_parse_expr.specs.declared.found.Found.{Found}
+use Rattle.wjs_parse_expr.specs.Readings.{FunctionReading, is_function}
+use Rattle.wjs_parse_expr.specs.Table.{entry_at, IsEntry, Holds, Owns}
+use Rattle.wjs_parse_expr.proofs.Entries.{held}
+use Rattle.wjs_parse_expr.proofs.Adding.{own_apart, added_holds}
+use Rattle.wjs_parse.specs.Answers.{FindsFunction}
+
+-- A place where no function is read needs no entry.
+pub holds_before : (toks : List Tok) (functions : Functions) (place room : ℕ) (ns : List Node) → ((u : Expr) (m : ℕ) → FunctionReading toks place u m → ⊥) → Holds toks functions (place + 1) room ns → Holds toks functions place room ns
+holds_before toks functions place room ns none h = record {
+  entries = h.entries;
+  complete = λ p u m le r. ⊎_elim (λ lt. h.complete p u m (omega arith) r) (λ ge. absurd (none u m (subst (λ (z : ℕ). FunctionReading toks z u m) (let e : p ≡ place = omega arith in e) r))) (cases_lt place p);
+  apart = h.apart;
+  low = h.low;
+}
+
+-- where its key doesn't stand, no function is read
+pub keyless : (toks : List Tok) (place : ℕ) → (HasKey toks place keys.Function → ⊥) → (u : Expr) (m : ℕ) → FunctionReading toks place u m → ⊥
+keyless toks place nay u m r = nay (key u r.is r.reading.stands)
+  where
+    key : (u : Expr) → is_function u ≡ true → Stands toks u place m → HasKey toks place keys.Function
+    key (Function x y z) h s = s.3
+    key _ h s = cc
+
+-- A function that is read, and made of nodes of its own, joins the table, which then holds from its place on.
+pub holds_with : (toks : List Tok) (old new : Functions) (place : ℕ) (start ns : List Node) (p : Found) → Holds toks old (place + 1) 200 start → Keeps start ns
+    → ((q : ℕ) (node : NodeId) (ends : ℕ) → entry_at old q ≡ Some (node, ends) → place < q) → ((q : ℕ) → entry_at new q ≡ (if place == q then Some (p.node, p.next) else entry_at old q))
+    → (f : FindsFunction toks place ns p) → Owns old start ns (place + 1) p.next f.used → Holds toks new place 200 ns
+holds_with toks old new place start ns p h k later put f own =
+    added_holds toks old new place p.next 200 ns p.node (held toks old (place + 1) (place + 1) 200 200 start ns h k (omega arith) (omega arith)) later put entry behind
+  where
+    entry : IsEntry toks ns place p.node p.next
+    entry = record { tree = f.tree; used = f.used; shows = f.shows; once = own.once; reading = f.reading; only = f.only }
+
+    behind : (q : ℕ) (node' : NodeId) (ends : ℕ) → entry_at old q ≡ Some (node', ends) → p.next ≤ q → (t u : Expr) (us vs : List ℕ) → Shows ns t p.node us → Shows ns u node' vs → AreApart us vs
+    behind q node' ends e le t u us vs s z =
+        let a : AreApart f.used vs = own_apart toks old (place + 1) 200 start ns h k (place + 1) p.next f.used own q node' ends e le u vs z in
+        subst (λ (w : List ℕ). AreApart w vs) (sym (same_use ns t f.tree p.node us f.used s f.shows)) a

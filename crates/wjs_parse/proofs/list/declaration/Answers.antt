@@ -1,0 +1,38 @@
+use Rattle.std.proofs.Common.{◌+◌, ◌<◌, ◌≤◌, length, sym, ◌∙◌, arith}
+use Rattle.wjs_tree.proofs.Kept.{keeps_self}
+use Rattle.wjs_parse_expr.proofs.Entries.{entry_ends}
+use Rattle.wjs_parse.proofs.Declarations.{declared_nowhere, declared_high, declared_unnamed, declared_found}
+use Rattle.wjs_parse.proofs.list.declaration.Goals as goal
+
+pub height-requires : goal.height-requires
+height-requires c = (entry_ends c.args.toks.now c.args.functions.now c.args.at c.args.room c.args.nodes.now c.in-Some.function c.in-Some.next c.requires.held (sym c.at.ensures ∙ c.in-Some.is)).2
+
+pub returns-in_default-clause-answer : goal.returns-in_default-clause-answer
+returns-in_default-clause-answer c = declared_nowhere c.args.toks.now c.args.functions.now c.args.room c.args.at c.args.nodes.now c.requires.held c.requires.key (sym c.at.ensures ∙ c.in_default.is)
+
+pub returns-then-height-room-clause-answer : goal.returns-then-height-room-clause-answer
+returns-then-height-room-clause-answer c =
+    declared_high c.args.toks.now c.args.functions.now c.args.room c.args.at c.args.nodes.now c.requires.held c.requires.key c.in-Some.function c.in-Some.next (sym c.at.ensures ∙ c.in-Some.is) c.height.result c.height.ensures.expr (omega arith)
+
+pub declared-requires : goal.declared-requires
+declared-requires c = record { there = (entry_ends c.args.toks.now c.args.functions.now c.args.at c.args.room c.args.nodes.now c.in-Some.function c.in-Some.next c.requires.held (sym c.at.ensures ∙ c.in-Some.is)).2 }
+
+pub returns-in_default-2-clause-answer : goal.returns-in_default-2-clause-answer
+returns-in_default-2-clause-answer c =
+    let g = rw c.in_default-2.is at c.in_ok-made.ensures.answer in
+    declared_unnamed c.args.toks.now c.args.functions.now c.args.room c.args.at c.args.nodes.now c.requires.held c.requires.key c.in-Some.function c.in-Some.next (sym c.at.ensures ∙ c.in-Some.is) g
+
+pub add-requires : goal.add-requires
+add-requires c = rw c.in-Some-2.is at c.in_ok-made.ensures.below
+
+pub returns-clause-ends : goal.returns-clause-ends
+returns-clause-ends c =
+    let e = entry_ends c.args.toks.now c.args.functions.now c.args.at c.args.room c.args.nodes.now c.in-Some.function c.in-Some.next c.requires.held (sym c.at.ensures ∙ c.in-Some.is) in
+    let k = c.in_ok-node.ensures.ok in
+    let n = c.in_ok-node.ensures.longer in
+    (e.0, e.1, omega arith)
+
+pub returns-clause-answer : goal.returns-clause-answer
+returns-clause-answer c =
+    let d = rw c.in-Some-2.is at c.in_ok-made.ensures.answer in
+    declared_found c.args.toks.now c.args.functions.now c.args.room c.args.at c.args.nodes.now c.requires.held c.requires.key c.in-Some.function c.in-Some.next (sym c.at.ensures ∙ c.in-Some.is) c.height.result c.height.ensures.expr (omega arith) c.in-Some-2.made d c.add.new.self c.in_ok-node.node c.in_ok-node.ensures.keeps c.in_ok-node.ensures.has

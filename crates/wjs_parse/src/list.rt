@@ -1,0 +1,123 @@
+//! Elements of programs and functions: statements, and functions with names (ECMA-262, 3rd edition, sections 13 and 14).
+ghost use Rattle.std.specs.Prelude.{◌≡◌, ◌<◌, length, IfOk};
+ghost use Rattle.wjs_tree.specs.Ends.{HasKey};
+ghost use Rattle.wjs_tree.specs.Shows.{Keeps};
+ghost use Rattle.wjs_tree.specs.declared.keys.Key.TheVariants as keys;
+ghost use Rattle.wjs_parse_expr.specs.Table.{Holds};
+ghost use Rattle.wjs_parse_stmt.specs.Answers.{ListEnds};
+ghost use Rattle.wjs_parse.specs.Answers.{ElementsAnswers, ElementAnswers, DeclaredAnswers, DeclaredBelow, FoundEnds};
+
+use std::alloc::Global;
+use wjs_base::OutOfMemory;
+use wjs_parse_expr::{Found, Functions, has_key};
+use wjs_parse_stmt::{Listed, is_closed, push_last, statement};
+use wjs_tree::{Key, Node, NodeId, Nodes, Sequence, Tok};
+
+/// The elements from the place up to a token that closes them, of at most the height `room`: no others are read there.
+/// None exactly where none are.
+pub fn elements(
+    alloc: Global,
+    toks: &[Tok],
+    at: usize,
+    room: u64,
+    functions: &Functions,
+    nodes: &mut Nodes,
+) -> Result<Option<Listed>, OutOfMemory>
+    requires held { Holds toks.now functions.now at room nodes.old }
+    ensures keeps { Keeps nodes.old nodes.new }
+    ensures ends { ListEnds toks.now at nodes.new result }
+    ensures answer { ElementsAnswers toks.now room at nodes.new result }
+{
+    let mut list: Vec<NodeId> = Vec::new(alloc);
+    let mut place = at;
+    while !is_closed(toks, place) {
+        let Some(item) = element(alloc, toks, place, room, functions, nodes)? else {
+            return Ok(None);
+        };
+        push_last(&mut list, item.node)?;
+        place = item.next;
+    }
+    Ok(Some(Listed {
+        list: Sequence::from_vec(list),
+        next: place,
+    }))
+}
+
+/// An element.
+fn element(
+    alloc: Global,
+    toks: &[Tok],
+    at: usize,
+    room: u64,
+    functions: &Functions,
+    nodes: &mut Nodes,
+) -> Result<Option<Found>, OutOfMemory>
+    requires held { Holds toks.now functions.now at room nodes.old }
+    ensures keeps { Keeps nodes.old nodes.new }
+    ensures ends { FoundEnds toks.now at nodes.new result }
+    ensures answer { ElementAnswers toks.now room at nodes.new result }
+{
+    if has_key(toks, at, Key::Function) {
+        return declaration(alloc, toks, at, room, functions, nodes);
+    }
+    let Some(found) = statement(alloc, toks, at, room, functions, nodes)? else {
+        return Ok(None);
+    };
+    Ok(Some(Found {
+        node: found.node,
+        next: found.next,
+    }))
+}
+
+/// The function that is read already at the place, as an element.
+fn declaration(
+    alloc: Global,
+    toks: &[Tok],
+    at: usize,
+    room: u64,
+    functions: &Functions,
+    nodes: &mut Nodes,
+) -> Result<Option<Found>, OutOfMemory>
+    requires held { Holds toks.now functions.now at room nodes.old }
+    requires key { HasKey toks.now at keys.Function }
+    ensures keeps { Keeps nodes.old nodes.new }
+    ensures ends { FoundEnds toks.now at nodes.new result }
+    ensures answer { ElementAnswers toks.now room at nodes.new result }
+{
+    let Some((function, next)) = functions.at(at) else {
+        return Ok(None);
+    };
+    if nodes.height(function) > room {
+        return Ok(None);
+    }
+    let Some(made) = declared(alloc, nodes, function)? else {
+        return Ok(None);
+    };
+    let node = nodes.add(made)?;
+    Ok(Some(Found { node, next }))
+}
+
+/// The element with the name, the formals and the body of a function; none exactly where it has no name.
+fn declared(alloc: Global, nodes: &Nodes, function: NodeId) -> Result<Option<Node>, OutOfMemory>
+    requires there { function.0 < length nodes.now }
+    ensures below { DeclaredBelow (length nodes.now) result }
+    ensures answer { DeclaredAnswers nodes.now function result }
+{
+    match nodes.node(function) {
+        Node::Function(Some(name), formals, body) => Ok(Some(Node::FunctionDecl(
+            *name,
+            copied(alloc, formals)?,
+            copied(alloc, body)?,
+        ))),
+        _ => Ok(None),
+    }
+}
+
+fn copied<T: Copy + Drop>(alloc: Global, list: &Sequence<T>) -> Result<Sequence<T>, OutOfMemory>
+    ensures { IfOk result (λ copy. copy ≡ list.now) }
+{
+    match Vec::from_slice(alloc, list.as_slice()) {
+        Ok(items) => Ok(Sequence::from_vec(items)),
+        Err(_) => Err(OutOfMemory),
+    }
+}
