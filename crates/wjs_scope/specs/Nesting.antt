@@ -1,0 +1,114 @@
+-- The scopes around each node of a script (ECMA-262, 3rd edition, sections 10.1.4, 12.14 and 13).
+use Rattle.std.specs.Prelude.{◌≡◌, ◌⊎◌, List, [], ◌∷◌, ◌++◌, map, Option, Some, None}
+use Rattle.wjs_base.specs.declared.ids.TextId.{TextId}
+use Rattle.wjs_tree.specs.declared.node.Node.{Node}
+use Rattle.wjs_tree.specs.declared.node.NodeId.{NodeId}
+use Rattle.wjs_tree.specs.declared.node.Node.TheVariants as nodes
+use Rattle.wjs_tree.specs.declared.node.Property.{Property}
+use Rattle.wjs_tree.specs.declared.node.Declarator.{Declarator}
+use Rattle.wjs_tree.specs.declared.node.ForInit.{ForInit}
+use Rattle.wjs_tree.specs.declared.node.ForInit.TheVariants as inits
+use Rattle.wjs_tree.specs.declared.node.Clause.{Clause}
+use Rattle.wjs_tree.specs.declared.node.Handler.{Handler}
+use Rattle.wjs_tree.specs.Trees.{Elements}
+use Rattle.wjs_tree.specs.Shows.{Has}
+use Rattle.wjs_scope.specs.Declarations.{elements_of}
+use Rattle.wjs_scope.specs.Forms.{AreElements}
+use Rattle.wjs_scope.specs.Scopes.{Scope, in_function}
+
+-- where a part of a node stands: in the scopes around the node, in a `catch` of this name, or in the body of a function
+pub data Side : Type 0 where
+  Around : Side
+  Caught : TextId → Side
+  Inside : Side
+
+abbrev pub option_part : Option NodeId → List NodeId
+option_part None = []
+option_part (Some i) = i ∷ []
+
+abbrev pub item_parts : List (Option NodeId) → List NodeId
+item_parts [] = []
+item_parts (o ∷ more) = option_part o ++ item_parts more
+
+abbrev pub property_parts : List Property → List NodeId
+property_parts [] = []
+property_parts (p ∷ more) = p.value ∷ property_parts more
+
+abbrev pub initialisers : List Declarator → List NodeId
+initialisers [] = []
+initialisers (d ∷ more) = option_part d.value ++ initialisers more
+
+abbrev pub init_parts : ForInit → List NodeId
+init_parts inits.Nothing = []
+init_parts (inits.Expr a) = a ∷ []
+init_parts (inits.Var list) = initialisers list
+
+abbrev pub clause_part : Clause → List NodeId
+clause_part c = option_part c.test ++ c.body
+
+abbrev pub clause_parts : List Clause → List NodeId
+clause_parts [] = []
+clause_parts (c ∷ more) = clause_part c ++ clause_parts more
+
+-- the parts of a node that is neither a function nor a `try`
+abbrev pub plain_parts : Node → List NodeId
+plain_parts (nodes.Paren a) = a ∷ []
+plain_parts (nodes.ArrayLit items tail) = item_parts items
+plain_parts (nodes.ObjectLit properties comma) = property_parts properties
+plain_parts (nodes.Dot a x) = a ∷ []
+plain_parts (nodes.At a b) = a ∷ b ∷ []
+plain_parts (nodes.Call a list) = a ∷ list
+plain_parts (nodes.NewWith a list) = a ∷ list
+plain_parts (nodes.NewBare a) = a ∷ []
+plain_parts (nodes.Postfix a op) = a ∷ []
+plain_parts (nodes.Prefix op a) = a ∷ []
+plain_parts (nodes.Binary a op b) = a ∷ b ∷ []
+plain_parts (nodes.Cond a b c) = a ∷ b ∷ c ∷ []
+plain_parts (nodes.Assign a op b) = a ∷ b ∷ []
+plain_parts (nodes.Comma a b) = a ∷ b ∷ []
+plain_parts (nodes.Block list) = list
+plain_parts (nodes.Var list end) = initialisers list
+plain_parts (nodes.Expr a end) = a ∷ []
+plain_parts (nodes.If a b o) = a ∷ b ∷ option_part o
+plain_parts (nodes.DoWhile a b end) = a ∷ b ∷ []
+plain_parts (nodes.While a b) = a ∷ b ∷ []
+plain_parts (nodes.For init o p a) = init_parts init ++ (option_part o ++ (option_part p ++ a ∷ []))
+plain_parts (nodes.ForIn a b c) = a ∷ b ∷ c ∷ []
+plain_parts (nodes.ForVarIn x a b) = a ∷ b ∷ []
+plain_parts (nodes.Return o end) = option_part o
+plain_parts (nodes.Throw a end) = a ∷ []
+plain_parts (nodes.Label x a) = a ∷ []
+plain_parts (nodes.Switch a list) = a ∷ clause_parts list
+plain_parts (nodes.Within a b) = a ∷ b ∷ []
+plain_parts (nodes.Program list) = list
+plain_parts _ = []
+
+abbrev pub on_side : Side → List NodeId → List (NodeId × Side)
+on_side side list = map (λ (i : NodeId). (i, side)) list
+
+abbrev pub caught_part : Option Handler → List (NodeId × Side)
+caught_part None = []
+caught_part (Some h) = (h.block, Caught h.name) ∷ []
+
+-- the parts of a node and where they stand, in the order in which they are spelled
+abbrev pub parts : Node → List (NodeId × Side)
+parts (nodes.Function name formals list) = on_side Inside list
+parts (nodes.FunctionDecl x formals list) = on_side Inside list
+parts (nodes.Try b handler last) = (b, Around) ∷ (caught_part handler ++ on_side Around (option_part last))
+parts n = on_side Around (plain_parts n)
+
+abbrev pub IsAmong : {T : Type 0} → List T → T → Type 0
+IsAmong [] x = ⊥
+IsAmong (y ∷ more) x = (x ≡ y) ⊎ IsAmong more x
+
+-- of a node's parts that stand there, the scopes around are these
+abbrev pub Enters : List Node → Option TextId → Node → Side → List Scope → List Scope → Type 0
+Enters ns arguments node Around scopes inner = inner ≡ scopes
+Enters ns arguments node (Caught x) scopes inner = inner ≡ (x ∷ []) ∷ scopes
+Enters ns arguments node Inside scopes inner = (body : Elements) × AreElements ns body (elements_of node) × (inner ≡ in_function ns arguments node body scopes)
+
+-- The way leads from a node, around which these scopes are, part by part to a node around which those are.
+abbrev pub Leads : List Node → Option TextId → NodeId → List Scope → List (NodeId × Side) → NodeId → List Scope → Type 0
+Leads ns arguments i scopes [] j found = (j ≡ i) × (found ≡ scopes)
+Leads ns arguments i scopes (part ∷ way) j found =
+    (node : Node) × (inner : List Scope) × Has ns i node × IsAmong (parts node) part × Enters ns arguments node part.1 scopes inner × Leads ns arguments part.0 inner way j found

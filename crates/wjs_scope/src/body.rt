@@ -1,0 +1,117 @@
+//! The declarations of a body.
+ghost use Rattle.std.specs.Prelude.{◌≡◌, ◌<◌, length, slice_get, IfOk, OnOk};
+ghost use Rattle.wjs_tree.specs.declared.node.Node.{Node};
+ghost use Rattle.wjs_tree.specs.Trees.{Elements};
+ghost use Rattle.wjs_tree.specs.Shows.{Has};
+ghost use Rattle.wjs_scope.specs.Declarations.{is_declaration, formals_of, elements_of, functions_among, variables};
+ghost use Rattle.wjs_scope.specs.Forms.{AreElements};
+ghost use Rattle.wjs_scope.specs.Answers.{BodyThere, ElementsThere, ElementThere, ElementAdds};
+
+use crate::declarations::Declared;
+use crate::names::Names;
+use crate::walk::statement;
+use std::alloc::Global;
+use wjs_base::{OutOfMemory, TextId};
+use wjs_tree::{Node, NodeId, Nodes, Sequence};
+
+/// What the body of a script or a function declares.
+pub fn declared(alloc: Global, nodes: &Nodes, body: NodeId) -> Result<Declared, OutOfMemory>
+    requires { BodyThere nodes.now body }
+    ensures formals { IfOk result (λ d. (node : Node) → Has nodes.now body node → d.formals ≡ formals_of node) }
+    ensures functions { IfOk result (λ d. (node : Node) → Has nodes.now body node → d.functions ≡ functions_among nodes.now (elements_of node)) }
+    ensures vars { IfOk result (λ d. (node : Node) (t : Elements) → Has nodes.now body node → AreElements nodes.now t (elements_of node) → d.vars ≡ variables t) }
+{
+    match nodes.node(body) {
+        Node::Program(elements) => of_body(alloc, nodes, &[], elements.as_slice()),
+        Node::Function(_, formals, elements) => of_body(
+            alloc,
+            nodes,
+            formals.as_slice(),
+            elements.as_slice(),
+        ),
+        Node::FunctionDecl(_, formals, elements) => of_body(
+            alloc,
+            nodes,
+            formals.as_slice(),
+            elements.as_slice(),
+        ),
+        _ => unreachable!(),
+    }
+}
+
+fn of_body(
+    alloc: Global,
+    nodes: &Nodes,
+    formals: &[TextId],
+    elements: &[NodeId],
+) -> Result<Declared, OutOfMemory>
+    requires { ElementsThere nodes.now 200 elements.now }
+    ensures formals { IfOk result (λ d. d.formals ≡ formals.now) }
+    ensures functions { IfOk result (λ d. d.functions ≡ functions_among nodes.now elements.now) }
+    ensures vars { IfOk result (λ d. (t : Elements) → AreElements nodes.now t elements.now → d.vars ≡ variables t) }
+{
+    let Ok(formals) = Vec::from_slice(alloc, formals) else {
+        return Err(OutOfMemory);
+    };
+    let functions = functions_of(alloc, nodes, elements)?;
+    let vars = variables_of(alloc, nodes, elements)?;
+    Ok(Declared {
+        formals: Sequence::from_vec(formals),
+        functions,
+        vars,
+    })
+}
+
+fn functions_of(
+    alloc: Global,
+    nodes: &Nodes,
+    elements: &[NodeId],
+) -> Result<Sequence<NodeId>, OutOfMemory>
+    requires { ElementsThere nodes.now 200 elements.now }
+    ensures { IfOk result (λ list. list ≡ functions_among nodes.now elements.now) }
+{
+    let mut functions = Vec::new(alloc);
+    for element in elements {
+        if is_function(nodes, *element) {
+            let Ok(()) = functions.push(*element) else {
+                return Err(OutOfMemory);
+            };
+        }
+    }
+    Ok(Sequence::from_vec(functions))
+}
+
+fn is_function(nodes: &Nodes, id: NodeId) -> bool
+    requires { id.0 < length nodes.now }
+    ensures { result ≡ is_declaration (slice_get nodes.now id.0) }
+{
+    match nodes.node(id) {
+        Node::FunctionDecl(_, _, _) => true,
+        _ => false,
+    }
+}
+
+fn variables_of(
+    alloc: Global,
+    nodes: &Nodes,
+    elements: &[NodeId],
+) -> Result<Sequence<TextId>, OutOfMemory>
+    requires { ElementsThere nodes.now 200 elements.now }
+    ensures { IfOk result (λ list. (t : Elements) → AreElements nodes.now t elements.now → list ≡ variables t) }
+{
+    let mut vars = Names::new(alloc);
+    for element in elements {
+        element_names(nodes, *element, &mut vars)?;
+    }
+    vars.to_sequence(alloc)
+}
+
+fn element_names(nodes: &Nodes, id: NodeId, vars: &mut Names) -> Result<(), OutOfMemory>
+    requires { ElementThere nodes.now 200 id }
+    ensures { OnOk result (ElementAdds nodes.now id vars.old vars.new) }
+{
+    match nodes.node(id) {
+        Node::FunctionDecl(_, _, _) => Ok(()),
+        _ => statement(nodes, id, 200, vars),
+    }
+}
