@@ -1,0 +1,4 @@
+pub mod Trees
+pub mod Owners
+pub mod Made
+pub mod Walks

@@ -1,0 +1,217 @@
+//! The arena: objects, fixed once made.
+ghost use Rattle.std.specs.Prelude.{◌≡◌, ◌↔◌, ◌<◌, ◌+◌, max, OnOk, OnErr, IfOk, IfSome, IfNone, IsTrue, Some, None};
+ghost use Rattle.std.specs.FinMap as map;
+ghost use Rattle.wjs_base.specs.declared.ids.ObjId.{ObjId};
+ghost use Rattle.wjs_arena.specs.Entries.{has, IsThere, IsArena, Keeps, created, entry_over, next_number, world_of, depth_of};
+ghost use Rattle.wjs_arena.specs.Chains.{fixed, flags, flags_in};
+ghost use Rattle.wjs_arena.specs.Kept.{with_world, without_world};
+
+use crate::entry::Entry;
+use crate::object::{Flags, Object};
+use crate::rows::Rows;
+use crate::worlds::Worlds;
+use std::alloc::Global;
+use std::marker::Model;
+use wjs_base::{Name, ObjId, OutOfMemory, Value, WorldId};
+
+/// All objects, seen as a finite map from their numbers. An object is fixed once it is made, after its prototype and its
+/// scope; an owner's objects have the serials from 0 on; and at most one object stands for a world.
+#[derive(Drop)]
+pub struct Arena {
+    rows: Rows,
+    worlds: Worlds,
+}
+
+impl Model for Arena {
+    ghost use Rattle.std.specs.FinMap as map;
+    ghost use Rattle.wjs_arena.specs.Entries.{Objects};
+    ghost use Rattle.wjs_arena.specs.Codes.{coded_object, coded_entry};
+    ghost use Rattle.wjs_arena.specs.Kept.{IsKept};
+
+    ghost Value = { Objects };
+
+    ghost coded = { map.code coded_object coded_entry };
+
+    ghost view = { λ a. a.rows };
+
+    ghost invariant = { λ a. IsKept a.rows a.worlds };
+}
+
+impl Arena {
+    /// No objects.
+    pub fn new(alloc: Global) -> Arena
+        ensures empty { result ≡ map.empty }
+        ensures arena { IsArena result }
+    {
+        Arena {
+            rows: Rows::new(alloc),
+            worlds: Worlds::new(alloc),
+        }
+    }
+
+    /// Makes an object of an owner, whose prototype and scope are there and whose world no object stands for, and gives its
+    /// number: the owner's next. After a refusal nothing has changed.
+    pub fn create(&mut self, owner: u32, object: Object) -> Result<ObjId, OutOfMemory>
+        requires prototype { IsThere self.old object.prototype }
+        requires scope { IsThere self.old object.scope }
+        requires world { IfSome object.world (λ world. (o : ObjId) → ¬ (world_of self.old o ≡ Some world)) }
+        ensures number { IfOk result (λ id. id ≡ next_number self.old owner) }
+        ensures created { OnOk result (self.new ≡ created self.old owner object) }
+        ensures err { OnErr result (self.new ≡ self.old) }
+        ensures arena { IsArena self.new }
+
+        // What follows for who makes objects.
+        ensures there { IfOk result (λ id. map.get self.new id ≡ Some (entry_over self.old object)) }
+        ensures keeps { Keeps self.old self.new }
+    {
+        let id = self.next_number(owner);
+        let world = object.world;
+        let Some(depth) = self.depth_over(&object) else {
+            return Err(OutOfMemory);
+        };
+        let entry = Entry { object, depth };
+        put(&mut self.rows, &mut self.worlds, id, world, entry)?;
+        Ok(id)
+    }
+
+    /// Whether there is an object of this number.
+    pub fn has(&self, id: ObjId) -> bool
+        ensures has { result ≡ has self.now id }
+        ensures arena { IsArena self.now }
+    {
+        self.rows.has(id)
+    }
+
+    /// The object of a number that is there.
+    pub fn object(&self, id: ObjId) -> &Object
+        requires { IsTrue (has self.now id) }
+        ensures object { IfSome (map.get self.now id) (λ entry. result.now ≡ entry.object) }
+        ensures arena { IsArena self.now }
+    {
+        &self.rows.at(id).object
+    }
+
+    /// The value of a fixed property, which no world changes; None exactly where the object has none of this name.
+    pub fn fixed(&self, id: ObjId, name: Name) -> Option<Value>
+        requires { IsTrue (has self.now id) }
+        ensures fixed { result ≡ fixed self.now id name }
+        ensures arena { IsArena self.now }
+    {
+        self.rows.at(id).object.fixed.get(name)
+    }
+
+    /// The attributes of a name: a fixed property is hidden and kept, and others are as the object lists them.
+    pub fn flags(&self, id: ObjId, name: Name) -> Flags
+        requires { IsTrue (has self.now id) }
+        ensures { result ≡ flags self.now id name }
+    {
+        flags_of(&self.rows.at(id).object, name)
+    }
+
+    /// The object that stands for a world; None exactly where none does.
+    pub fn world_object(&self, world: WorldId) -> Option<ObjId>
+        ensures found { IfSome result (λ id. world_of self.now id ≡ Some world) }
+        ensures none { IfNone result ((id : ObjId) → ¬ (world_of self.now id ≡ Some world)) }
+        ensures arena { IsArena self.now }
+    {
+        let _rows = &self.rows;
+        self.worlds.get(world)
+    }
+
+    /// The number that the owner's next object gets.
+    pub fn next_number(&self, owner: u32) -> ObjId
+        ensures number { result ≡ next_number self.now owner }
+        ensures arena { IsArena self.now }
+    {
+        ObjId {
+            owner,
+            serial: self.rows.len(owner),
+        }
+    }
+
+    fn depth_of(&self, id: Option<ObjId>) -> u64
+        requires { IsThere self.now id }
+        ensures { result ≡ depth_of self.now id }
+    {
+        match id {
+            None => 0,
+            Some(id) => self.rows.at(id).depth,
+        }
+    }
+
+    /// One more than the depths of the prototype and the scope. No list in memory is so long that there is none.
+    fn depth_over(&self, object: &Object) -> Option<u64>
+        requires prototype { IsThere self.now object.now.prototype }
+        requires scope { IsThere self.now object.now.scope }
+        ensures { IfSome result (λ depth. depth ≡ max (depth_of self.now object.now.prototype) (depth_of self.now object.now.scope) + 1) }
+    {
+        let prototype = self.depth_of(object.prototype);
+        let scope = self.depth_of(object.scope);
+        prototype.max(scope).checked_add(1)
+    }
+}
+
+/// The attributes of a name of an object.
+fn flags_of(object: &Object, name: Name) -> Flags
+    ensures { result ≡ flags_in object.now name }
+{
+    if object.fixed.get(name).is_some() {
+        return Flags {
+            hidden: true,
+            kept: true,
+        };
+    }
+    let listed = object.flags.get(name).unwrap_or(Flags {
+        hidden: false,
+        kept: false,
+    });
+    Flags {
+        hidden: listed.hidden,
+        kept: object.all_kept || listed.kept,
+    }
+}
+
+/// Puts an object at its owner's next number, and under its world; after a refusal nothing has changed.
+fn put(
+    rows: &mut Rows,
+    worlds: &mut Worlds,
+    id: ObjId,
+    world: Option<WorldId>,
+    entry: Entry,
+) -> Result<(), OutOfMemory>
+    requires next { id ≡ next_number rows.old id.owner }
+    requires world { IfSome world (λ w. map.get worlds.old w ≡ None) }
+    ensures rows { OnOk result (rows.new ≡ map.insert rows.old id entry) }
+    ensures worlds { OnOk result (worlds.new ≡ with_world worlds.old world id) }
+    ensures serials { OnOk result ((id : ObjId) → IsTrue (has rows.new id) ↔ (id.serial < (next_number rows.new id.owner).serial)) }
+    ensures rows_err { OnErr result (rows.new ≡ rows.old) }
+    ensures worlds_err { OnErr result (worlds.new ≡ worlds.old) }
+{
+    note(worlds, world, id)?;
+    match rows.push(id.owner, entry) {
+        Ok(()) => Ok(()),
+        Err(_) => {
+            forget(worlds, world);
+            Err(OutOfMemory)
+        }
+    }
+}
+
+fn note(worlds: &mut Worlds, world: Option<WorldId>, id: ObjId) -> Result<(), OutOfMemory>
+    ensures ok { OnOk result (worlds.new ≡ with_world worlds.old world id) }
+    ensures err { OnErr result (worlds.new ≡ worlds.old) }
+{
+    match world {
+        None => Ok(()),
+        Some(world) => worlds.insert(world, id),
+    }
+}
+
+fn forget(worlds: &mut Worlds, world: Option<WorldId>)
+    ensures { worlds.new ≡ without_world worlds.old world }
+{
+    match world {
+        None => {}
+        Some(world) => worlds.remove(world),
+    }
+}

@@ -1,0 +1,20 @@
+//! Objects as they are in all worlds: what is fixed when they are made, in an arena that only grows.
+#![tactic(auto)]
+
+mod arena;
+mod chain;
+mod class;
+mod entry;
+mod native;
+mod object;
+mod rows;
+mod under;
+mod worlds;
+
+pub use arena::Arena;
+pub use chain::Chain;
+pub use class::Class;
+pub use entry::Entry;
+pub use native::Native;
+pub use object::{Code, Flags, Object};
+pub use under::Under;
