@@ -1,0 +1,10 @@
+pub mod Known
+pub mod Growth
+pub mod Listings
+pub mod PlanLaws
+pub mod Carrying
+pub mod Same
+pub mod ArenaMaps
+pub mod Fixed
+pub mod ArenaGrowth
+pub mod WorldObjects

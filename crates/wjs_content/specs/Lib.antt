@@ -1,0 +1,11 @@
+pub mod Values
+pub mod Names
+pub mod Plans
+pub mod Objects
+pub mod Indices
+pub mod Tables
+pub mod Telling
+pub mod Worlds
+pub mod Carried
+pub mod Laws
+pub mod ArenaLaws
