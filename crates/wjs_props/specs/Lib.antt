@@ -1,0 +1,4 @@
+pub mod Properties
+pub mod Heap
+pub mod Means
+pub mod HeapLaws

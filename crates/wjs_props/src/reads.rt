@@ -1,0 +1,67 @@
+//! Reading and testing properties.
+ghost use Rattle.std.specs.Prelude.{◌≡◌, IfOk, IsTrue};
+ghost use Rattle.wjs_base.specs.Spelling.{IsName};
+ghost use Rattle.wjs_store.specs.State.{has_world};
+ghost use Rattle.wjs_store.specs.Meaning.{worlds};
+ghost use Rattle.wjs_store.specs.Shown.{content_of};
+ghost use Rattle.wjs_arena.specs.Entries.{has};
+ghost use Rattle.wjs_content.specs.Tables.{name_in, content_in, arena_in};
+ghost use Rattle.wjs_props.specs.Heap.{IsHeap, HasContent, Performs};
+ghost use Rattle.wjs_props.specs.Means.{parts};
+ghost use Rattle.wjs_props.specs.Properties as plan;
+
+use crate::deeds::read;
+use crate::heap::Heap;
+use wjs_base::{Content, Name, ObjId, OutOfMemory, Slot, WorldId};
+use wjs_store::WorldStore;
+
+/// What the object or its nearest prototype that has the name holds there in the world (ECMA-262, 3rd edition, section
+/// 8.6.2.1): along the prototypes an object's fixed property before its slot. Each slot that it visits is read.
+pub fn get<S: WorldStore>(
+    heap: &mut Heap<S>,
+    world: WorldId,
+    object: ObjId,
+    name: Name,
+) -> Result<Content, OutOfMemory>
+    requires heap { IsHeap (parts S.meaning heap.old) }
+    requires world { IsTrue (has_world (worlds (S.meaning heap.old.store)) world) }
+    requires object { IsTrue (has heap.old.arena object) }
+    requires name { IsName heap.old.texts name }
+    ensures gets { IfOk result (λ found. Performs world (λ t. plan.get (arena_in t heap.old.arena) object (name_in t name)) (λ t. content_in t found) (parts S.meaning heap.old) (parts S.meaning heap.new)) }
+    ensures found { IfOk result (λ found. HasContent heap.new.texts heap.new.arena (content_of found)) }
+{
+    let mut at = object;
+    'up: loop {
+        if let Some(value) = heap.arena.fixed(at, name) {
+            return Ok(Content::Present(value));
+        }
+        let found = read(heap, world, Slot { object: at, name })?;
+        if let Content::Present(_) = found {
+            return Ok(found);
+        }
+        match heap.arena.object(at).prototype {
+            None => return Ok(Content::Absent),
+            Some(prototype) => at = prototype,
+        }
+    }
+}
+
+/// Whether `get` finds something; it makes the same reads.
+pub fn has<S: WorldStore>(
+    heap: &mut Heap<S>,
+    world: WorldId,
+    object: ObjId,
+    name: Name,
+) -> Result<bool, OutOfMemory>
+    requires heap { IsHeap (parts S.meaning heap.old) }
+    requires world { IsTrue (has_world (worlds (S.meaning heap.old.store)) world) }
+    requires object { IsTrue (has heap.old.arena object) }
+    requires name { IsName heap.old.texts name }
+    ensures { IfOk result (λ answer. Performs world (λ t. plan.has (arena_in t heap.old.arena) object (name_in t name)) (λ t. answer) (parts S.meaning heap.old) (parts S.meaning heap.new)) }
+{
+    let found = get(heap, world, object, name)?;
+    Ok(match found {
+        Content::Absent => false,
+        Content::Present(_) => true,
+    })
+}
