@@ -1,0 +1,98 @@
+-- The first objects by number, and the objects that primitives and classes stand for.
+use Rattle.std.specs.Prelude.{ℕ, List, [], ◌∷◌, Some, codes, length}
+use Rattle.wjs_base.specs.declared.ids.ObjId.{ObjId}
+use Rattle.wjs_base.specs.declared.ids.WorldId.{WorldId}
+use Rattle.wjs_arena.specs.declared.class.Class.{Class}
+use Rattle.wjs_arena.specs.declared.class.Class.TheVariants as class
+use Rattle.wjs_content.specs.Values.{Text, Value, Boolean, Number, String, whole}
+use Rattle.wjs_content.specs.Names.{length_name}
+use Rattle.wjs_content.specs.Objects.{Internals, object_of}
+
+-- an object of owner 0
+abbrev pub builtin : ℕ → ObjId
+builtin n = record { owner = 0; serial = n }
+
+abbrev pub object_prototype : ObjId
+object_prototype = builtin 0
+
+abbrev pub function_prototype : ObjId
+function_prototype = builtin 1
+
+abbrev pub global_object : ObjId
+global_object = builtin 2
+
+abbrev pub array_prototype : ObjId
+array_prototype = builtin 3
+
+abbrev pub string_prototype : ObjId
+string_prototype = builtin 4
+
+abbrev pub number_prototype : ObjId
+number_prototype = builtin 5
+
+abbrev pub boolean_prototype : ObjId
+boolean_prototype = builtin 6
+
+abbrev pub world_prototype : ObjId
+world_prototype = builtin 7
+
+abbrev pub error_prototype : ObjId
+error_prototype = builtin 8
+
+abbrev pub type_error_prototype : ObjId
+type_error_prototype = builtin 9
+
+abbrev pub range_error_prototype : ObjId
+range_error_prototype = builtin 10
+
+abbrev pub reference_error_prototype : ObjId
+reference_error_prototype = builtin 11
+
+abbrev pub math_object : ObjId
+math_object = builtin 12
+
+abbrev pub first_world_object : ObjId
+first_world_object = builtin 13
+
+abbrev pub first_world : WorldId
+first_world = record { owner = 0; serial = 0 }
+
+-- ---- primitives and their objects
+
+-- the prototype object of a primitive's class
+abbrev pub class_prototype : Value → ObjId
+class_prototype (String t) = string_prototype
+class_prototype (Number x) = number_prototype
+class_prototype (Boolean b) = boolean_prototype
+class_prototype _ = object_prototype
+
+-- the class of its wrapper
+abbrev pub wrapper_class : Value → Class
+wrapper_class (String t) = class.Text
+wrapper_class (Number x) = class.Number
+wrapper_class (Boolean b) = class.Bool
+wrapper_class _ = class.Plain
+
+-- a text's fixed `length` (15.5.5.1)
+abbrev pub fixed_length : Value → List (Text × Value)
+fixed_length (String t) = (length_name, whole (length t)) ∷ []
+fixed_length _ = []
+
+-- a wrapper of a primitive (15.5.2.1, 15.6.2.1, 15.7.2.1)
+abbrev pub wrapper_of : Value → Internals
+wrapper_of v = record (object_of (wrapper_class v) (Some (class_prototype v))) { primitive = v; fixed = fixed_length v }
+
+-- the shown name of a class
+abbrev pub shown_class : Class → Text
+shown_class class.Plain = codes "Object"
+shown_class class.Arguments = codes "Object"
+shown_class class.Global = codes "Object"
+shown_class class.Text = codes "String"
+shown_class class.Bool = codes "Boolean"
+shown_class class.Fault = codes "Error"
+shown_class class.Function = codes "Function"
+shown_class class.Array = codes "Array"
+shown_class class.Number = codes "Number"
+shown_class class.World = codes "World"
+shown_class class.Math = codes "Math"
+shown_class class.Scope = codes "Scope"
