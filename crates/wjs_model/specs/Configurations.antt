@@ -1,0 +1,110 @@
+-- What a configuration of the code means under a table of texts and a view of its store, and what a call on it keeps.
+use Rattle.std.specs.Prelude.{◌≡◌, ℕ, suc, ◌<◌, Bool, true, false, List, [], map as each, None, Some, is_some, unwrap_or, IsTrue}
+use Rattle.std.specs.FinMap as map
+use Rattle.wjs_base.specs.declared.ids.ObjId.{ObjId}
+use Rattle.wjs_base.specs.Text.{Table, Grows}
+use Rattle.wjs_store.specs.Meaning.{Meaning, View}
+use Rattle.wjs_arena.specs.Entries.{Entry}
+use Rattle.wjs_content.specs.Tables.{value_in, arena_in}
+use Rattle.wjs_content.specs.Worlds.{worlds_in, told_by, KnowsWorlds}
+use Rattle.wjs_meaning.specs.Trees.{Tree}
+use Rattle.wjs_meaning.specs.Deeds.{St}
+use Rattle.wjs_meaning.specs.Programs.{Ending, Done, Threw, StepsSpent}
+use Rattle.wjs_model.specs.declared.config.Config.{Config}
+use Rattle.wjs_model.specs.declared.config.State.{State}
+use Rattle.wjs_model.specs.declared.config.State.TheVariants as states
+use Rattle.wjs_model.specs.Contents.{Frame, Run, frame_in}
+use Rattle.wjs_model.specs.Rest.{rest_of, turns_of}
+
+-- ---- what is left to do
+
+-- where the configuration goes on what its frames have left to do, and else its ending
+abbrev pub rest_by : Table → State → Run → List Frame → St → ℕ → Ending × St
+rest_by texts states.Running run frames st n = rest_of run frames st n
+rest_by texts states.Done run frames st n = (Done, st)
+rest_by texts (states.Threw v) run frames st n = (Threw (value_in texts v), st)
+rest_by texts states.StepsSpent run frames st n = (StepsSpent, st)
+
+abbrev pub turns_by : State → Run → List Frame → St → ℕ
+turns_by states.Running run frames st = turns_of run frames st
+turns_by _ run frames st = 0
+
+-- the actions that were done, where the store tells them
+abbrev pub seen : Bool → Ending × St → Ending × St
+seen true r = r
+seen false r = (r.0, record r.1 { done = [] })
+
+-- by what the store means, and the trees that the units are under a table
+module _ {S U : Type 0} (meaning : S → Meaning) (trees : Table → List U → List Tree) where
+  abbrev pub run_in : Table → Config S U → Run
+  run_in texts c = record { trees = trees texts c.units.items; global = c.global; owner = c.owner }
+
+  -- the worlds under the view, the objects, the output that has not gone out, and the actions that the store tells
+  abbrev pub state_in : Table → View → Config S U → St
+  state_in texts view c = record {
+    full = worlds_in texts ((meaning c.heap.store).full view);
+    arena = arena_in texts c.heap.arena;
+    out = c.pending.items;
+    done = unwrap_or (told_by texts (meaning c.heap.store).told) [];
+  }
+
+  abbrev pub frames_in : Table → Config S U → List Frame
+  frames_in texts c = each (frame_in texts) c.frames
+
+  -- whether the store tells the actions
+  abbrev pub tells : Config S U → Bool
+  tells c = is_some (meaning c.heap.store).told
+
+  -- the output still to come, the ending and the final state, with so many steps left; the actions in it are those that the store tells
+  abbrev pub rest : Table → View → Config S U → ℕ → Ending × St
+  rest texts view c n = seen (tells c) (rest_by texts c.state (run_in texts c) (frames_in texts c) (state_in texts view c) n)
+
+  -- the turns before the next step that is due, or the end
+  abbrev pub turns : Table → View → Config S U → ℕ
+  turns texts view c = turns_by c.state (run_in texts c) (frames_in texts c) (state_in texts view c)
+
+  -- ---- what a call on a configuration keeps
+
+  -- the units, the global object, the world and the owner; the numbers of texts; the objects, to which the owner's may be added; the store's own view and its surroundings
+  pub record Stays (old new : Config S U) : Type 0 where
+    pub units : new.units ≡ old.units
+    pub global : new.global ≡ old.global
+    pub world : new.world ≡ old.world
+    pub owner : new.owner ≡ old.owner
+    pub texts : Grows old.heap.texts new.heap.texts
+    pub objects : (o : ObjId) (e : Entry) → map.get old.heap.arena o ≡ Some e → map.get new.heap.arena o ≡ Some e
+    pub made : (o : ObjId) (e : Entry) → map.get old.heap.arena o ≡ None → map.get new.heap.arena o ≡ Some e → o.owner ≡ old.owner
+    pub own : (meaning new.heap.store).own ≡ (meaning old.heap.store).own
+    pub around : (meaning new.heap.store).around ≡ (meaning old.heap.store).around
+    pub narrows : (v : View) → IsTrue ((meaning new.heap.store).admits v) → IsTrue ((meaning old.heap.store).admits v)
+
+  -- under each table that has grown from the new one, and each view that is admitted afterwards and whose slots the old table knows, what is left to do with some steps is what was left with others
+  abbrev pub RestIs : Config S U → Config S U → (ℕ → ℕ) → Type 0
+  RestIs old new before = (t : Table) → Grows new.heap.texts t → (v : View) → IsTrue ((meaning new.heap.store).admits v) → KnowsWorlds old.heap.texts ((meaning old.heap.store).full v) → (n : ℕ) → rest t v old (before n) ≡ rest t v new n
+
+  -- a turn that takes no step: under each such view there are fewer turns left before the next
+  pub record Quiet (old new : Config S U) : Type 0 where
+    pub stays : Stays old new
+    pub left : new.left ≡ old.left
+    pub kept : RestIs old new (λ n. n)
+    pub falls : (t : Table) → Grows new.heap.texts t → (v : View) → IsTrue ((meaning new.heap.store).admits v) → KnowsWorlds old.heap.texts ((meaning old.heap.store).full v) → turns t v new < turns t v old
+    pub alive : ¬ (new.state ≡ states.StepsSpent)
+
+  -- a turn that takes a step
+  pub record Stepped (old new : Config S U) : Type 0 where
+    pub stays : Stays old new
+    pub left : old.left ≡ suc new.left
+    pub kept : RestIs old new suc
+    pub alive : ¬ (new.state ≡ states.StepsSpent)
+
+  -- a turn that finds a step due and none left, and changes nothing else
+  pub record Stopped (old new : Config S U) : Type 0 where
+    pub left : old.left ≡ 0
+    pub same : new ≡ record old { state = states.StepsSpent }
+    pub due : (t : Table) → Grows new.heap.texts t → (v : View) → rest t v old 0 ≡ (StepsSpent, state_in t v old)
+
+  -- what each turn does
+  pub data Turned (old new : Config S U) : Type 0 where
+    quietly : Quiet old new → Turned old new
+    by_step : Stepped old new → Turned old new
+    stopped : Stopped old new → Turned old new

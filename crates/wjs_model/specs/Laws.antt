@@ -1,0 +1,49 @@
+-- Laws of what is left to do.
+use Rattle.std.specs.Prelude.{◌≡◌, ℕ, List, [], ◌∷◌, ◌++◌, Option, None, Some}
+use Rattle.wjs_content.specs.Values.{Object}
+use Rattle.wjs_meaning.specs.Builtins.{global_object, first_world}
+use Rattle.wjs_meaning.specs.Trees.{Tree, Program, node_at}
+use Rattle.wjs_meaning.specs.Deeds.{St, Completion, Ret}
+use Rattle.wjs_meaning.specs.Programs.{declared_names, machine}
+use Rattle.wjs_meaning.specs.Start.{start}
+use Rattle.wjs_model.specs.declared.frame.Form.TheVariants as form
+use Rattle.wjs_model.specs.Contents.{Frame, Moment, Due, Waiting, Given, Run}
+use Rattle.wjs_model.specs.Rest.{rest_of, rest_over, rest_top}
+
+-- the programs of a run from the start
+abbrev pub run_of : List Tree → Run
+run_of trees = record { trees = trees; global = global_object; owner = 0 }
+
+-- the body of the program of a number, which begins or waits for the one before it
+abbrev pub program_frame : ℕ → ℕ → Moment → Frame
+program_frame tree body moment = record { form = form.Body; tree = tree; node = body; place = 0; moment = moment; scope = global_object; this = Object global_object; world = first_world; held = [] }
+
+-- the frames of a run at its start: the library's body above the script's
+abbrev pub first_frames : Option Tree → Tree → List Frame
+first_frames None script = program_frame 0 script.body Due ∷ []
+first_frames (Some library) script = program_frame 1 script.body Waiting ∷ program_frame 0 library.body Due ∷ []
+
+abbrev pub trees_of : Option Tree → Tree → List Tree
+trees_of None script = script ∷ []
+trees_of (Some library) script = library ∷ script ∷ []
+
+-- the names that the script declares
+abbrev pub script_names : Option Tree → Tree → List (List ℕ)
+script_names None script = declared_names (script ∷ []) 0
+script_names (Some library) script = declared_names (library ∷ script ∷ []) 1
+
+-- the node of a tree's body holds a program's elements
+abbrev pub HasProgram : Tree → Type 0
+HasProgram tree = (elements : List ℕ) × (node_at tree tree.body ≡ Program elements)
+
+abbrev pub HasLibrary : Option Tree → Type 0
+HasLibrary None = Unit {0}
+HasLibrary (Some library) = HasProgram library
+
+-- what is left at the start is the whole run
+abbrev pub StartIsTheRun : Type 0
+StartIsTheRun = (library : Option Tree) (script : Tree) (budget : ℕ) → HasLibrary library → HasProgram script → rest_of (run_of (trees_of library script)) (first_frames library script) (start (script_names library script)) budget ≡ machine library script budget
+
+-- a frame that waited and was given a completion goes on as the frames below an end with that completion
+abbrev pub EndsGoDown : Type 0
+EndsGoDown = (run : Run) (fs : List Frame) (f : Frame) (c : Completion) (st : St) (n : ℕ) → rest_top run fs (Some (record f { moment = Given c })) st n ≡ rest_over run (Ret c) (fs ++ f ∷ []) st n

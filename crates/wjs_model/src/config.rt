@@ -1,0 +1,33 @@
+//! Configurations.
+
+use crate::frame::Frames;
+use wjs_base::{ObjId, Value, WorldId};
+use wjs_props::Heap;
+use wjs_store::WorldStore;
+
+/// Whether a configuration goes on.
+#[derive(Clone, Copy, Debug, PartialEq, Eq)]
+pub enum State {
+    Running,
+    Done,
+    Threw(Value),
+    StepsSpent,
+}
+
+/// A run at a moment, of programs that are given as units with the places of their names.
+#[derive(Drop)]
+pub struct Config<S: WorldStore, U> {
+    pub heap: Heap<S>,
+    pub units: Vec<U>,
+    pub frames: Frames,
+    pub global: ObjId,
+    /// The first world of the run.
+    pub world: WorldId,
+    /// Who makes its objects and worlds.
+    pub owner: u32,
+    /// Output that has not gone to the sink.
+    pub pending: Vec<u8>,
+    /// How many steps are left.
+    pub left: u64,
+    pub state: State,
+}

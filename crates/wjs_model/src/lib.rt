@@ -1,0 +1,13 @@
+//! Configurations of a run: frames that say what is left to do, in terms of the meaning.
+#![tactic(auto)]
+
+mod config;
+mod frame;
+mod laws;
+mod turn;
+
+pub use config::{Config, State};
+pub use frame::{Completion, Conversion, Form, Frame, Frames, Held, Items, Phase, Reference};
+pub use laws::{ends_go_down, start_is_the_run};
+pub use turn::Turn;
+pub use wjs_meaning::{LIBRARY, Trouble};
