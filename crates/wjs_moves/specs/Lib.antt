@@ -1,0 +1,5 @@
+pub mod Parts
+pub mod Keeping
+pub mod Taking
+pub mod Doing
+pub mod Holding

@@ -1,0 +1,44 @@
+//! The end of a node.
+ghost use Rattle.std.specs.Prelude.{◌≡◌, OnOk};
+ghost use Rattle.wjs_base.specs.Text.{Table};
+ghost use Rattle.wjs_meaning.specs.Deeds.{Ret};
+ghost use Rattle.wjs_model.specs.Contents.{completion_in};
+ghost use Rattle.wjs_moves.specs.Parts.{trees_in, ended};
+ghost use Rattle.wjs_moves.specs.Keeping.{Keeps};
+
+use crate::unit::Unit;
+use wjs_base::OutOfMemory;
+use wjs_model::{Completion, Config, Phase, State};
+use wjs_store::WorldStore;
+
+/// Ends what the frame that was taken off ran: the frame below goes on with the completion, or the run ends with it.
+pub fn finish<S: WorldStore, U: Unit>(
+    config: &mut Config<S, U>,
+    completion: Completion,
+) -> Result<(), OutOfMemory>
+    requires { config.old.state ≡ State.Running }
+    ensures { OnOk result ((t : Table) → Keeps S.meaning (trees_in U.tree) t 1 (Ret (completion_in t completion)) config.old config.new) }
+{
+    match config.frames.pop() {
+        None => {
+            config.state = ended(completion);
+            Ok(())
+        }
+        Some(frame) => {
+            let mut frame = frame;
+            frame.phase = Phase::Given(completion);
+            config.frames.push(frame)?;
+            Ok(())
+        }
+    }
+}
+
+/// How a run ends where no frame is left.
+fn ended(completion: Completion) -> State
+    ensures { result ≡ ended completion }
+{
+    match completion {
+        Completion::Throws(value) => State::Threw(value),
+        _ => State::Done,
+    }
+}

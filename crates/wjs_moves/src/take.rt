@@ -1,0 +1,79 @@
+//! The frame that a turn runs.
+ghost use Rattle.std.specs.Prelude.{◌≡◌, option_map, true, false};
+ghost use Rattle.wjs_model.specs.Frames.{last};
+ghost use Rattle.wjs_moves.specs.Parts.{trees_in};
+ghost use Rattle.wjs_moves.specs.Taking.{Takes, is_due};
+
+use crate::unit::Unit;
+use wjs_model::{Completion, Config, Frame, Phase, State};
+use wjs_store::WorldStore;
+
+/// What a turn finds on top.
+#[derive(Drop)]
+pub enum Top {
+    /// A step is due and none is left, or there is no frame: the turn is over.
+    Stops,
+    /// The frame begins, at its place; the step that was due is taken.
+    Begins(Frame),
+    /// The frame goes on with the completion that it waited for.
+    Given(Frame, Completion),
+}
+
+/// Takes the frame that runs off, with its step where one is due. Without a step left it only says so: nothing else changes.
+pub fn take_top<S: WorldStore, U: Unit>(config: &mut Config<S, U>) -> Top
+    requires { config.old.state ≡ State.Running }
+    ensures { Takes S.meaning (trees_in U.tree) config.old result config.new }
+{
+    if is_due(config.frames.phase()) {
+        take_due(config)
+    } else {
+        take_now(config)
+    }
+}
+
+/// Takes a frame whose step is due.
+fn take_due<S: WorldStore, U: Unit>(config: &mut Config<S, U>) -> Top
+    requires running { config.old.state ≡ State.Running }
+    requires due { is_due (option_map (λ f. f.phase) (last config.old.frames)) ≡ true }
+    ensures { Takes S.meaning (trees_in U.tree) config.old result config.new }
+{
+    if config.left == 0 {
+        config.state = State::StepsSpent;
+        return Top::Stops;
+    }
+    config.left -= 1;
+    match config.frames.pop() {
+        None => Top::Stops,
+        Some(frame) => Top::Begins(frame),
+    }
+}
+
+/// Takes a frame that needs no step; without a frame the run ends.
+fn take_now<S: WorldStore, U: Unit>(config: &mut Config<S, U>) -> Top
+    requires running { config.old.state ≡ State.Running }
+    requires due { is_due (option_map (λ f. f.phase) (last config.old.frames)) ≡ false }
+    ensures { Takes S.meaning (trees_in U.tree) config.old result config.new }
+{
+    match config.frames.pop() {
+        None => {
+            config.state = State::Done;
+            Top::Stops
+        }
+        Some(frame) => match frame.phase {
+            Phase::Given(completion) => Top::Given(frame, completion),
+            Phase::Waiting => Top::Given(frame, Completion::Normal),
+            Phase::Ready => Top::Begins(frame),
+            Phase::Due => Top::Begins(frame),
+        },
+    }
+}
+
+/// Whether a step is due.
+fn is_due(phase: Option<Phase>) -> bool
+    ensures { result ≡ is_due phase }
+{
+    match phase {
+        Some(Phase::Due) => true,
+        _ => false,
+    }
+}
