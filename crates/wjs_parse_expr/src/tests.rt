@@ -101,6 +101,24 @@ fn has_no_function(toks: &[Tok]) -> bool
     true
 }
 
+/// The form of what a found Dot stands over.
+fn base(rt: &HostRuntime, line: &str) -> Result<&'static str, Fail> {
+    let list = tokens(rt, line)?;
+    let toks = list.as_slice();
+    let mut nodes = Nodes::new(rt.alloc());
+    let functions = Functions::new(rt.alloc());
+    if !has_no_function(toks) {
+        return Ok("function");
+    }
+    match expression(rt.alloc(), toks, 0, false, &functions, &mut nodes) {
+        Ok(found) => Ok(match nodes.node(found.node) {
+            Node::Dot(under, _) => form(nodes.node(*under)),
+            _ => "no Dot",
+        }),
+        Err(_) => Ok("none"),
+    }
+}
+
 /// The form of a found expression and the place after it, or none.
 fn found(rt: &HostRuntime, line: &str, no_in: bool) -> Result<(&'static str, usize), Fail> {
     let list = tokens(rt, line)?;
@@ -149,6 +167,7 @@ fn form(node: &Node) -> &'static str {
 
 #[test]
 fn finds_the_longest(rt: HostRuntime) -> Result<(), Fail> {
+    assert_eq!(rt; base(&rt, "new a . b ( c ) . d")?, "NewWith");
     let rows = [
         ("a = b ? c : d , e", "Comma", 9),
         ("new a . b ( c ) . d", "Dot", 9),
