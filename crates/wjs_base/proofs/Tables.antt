@@ -1,13 +1,16 @@
 -- The keys of a set of owned texts, as a table of texts.
-use Rattle.std.proofs.Common.{◌≡◌, ℕ, ◌^◌, ◌<◌, ◌≤◌, Bool, true, false, List, [], ◌∷◌, ◌++◌, Some, length, map, append-nil, get_or, slice_get, cond, ◌⊎◌, ⊎_elim, inl, inr, refl, sym, ap, subst, ◌∙◌, true≢false, Fits, w16, Vec, Global}
+use Rattle.std.proofs.Common.{◌≡◌, ℕ, ◌^◌, ◌<◌, ◌≤◌, Bool, true, false, List, [], ◌∷◌, ◌++◌, Some, None, length, map, append-nil, get_or, slice_get, position, cond, ◌⊎◌, ⊎_elim, inl, inr, refl, sym, ap, subst, ◌∙◌, true≢false, arith, Fits, w16, Vec, Global}
 use Rattle.std.proofs.lemmas.List.{length-map, map-append}
 use Rattle.std.proofs.lemmas.Option.{slice_get-map, slice_get-get_or, slice_get_within}
+use Rattle.std.proofs.lemmas.Grind.{common_steps}
+use Rattle.std.proofs.lemmas.List.Quantifiers.{position-Some}
+use Rattle.std.proofs.lemmas.List.Sums.{fails_before_first}
 use Rattle.std.proofs.lemmas.List.Elements.{All-push, All-from_get_or}
 use Rattle.std.proofs.lemmas.Map.Keys.{apart_from_distinct}
 use Rattle.std.proofs.lemmas.Bool.{cases_order}
 use Rattle.std.specs.Cmp.Lexicographic.{pointwise, bytes_decides}
 use Rattle.std.specs.Prelude.{nat_eq, All}
-use Rattle.std.specs.List.{IsDistinct, list_any}
+use Rattle.std.specs.List.{IsDistinct, list_any, position_or_len}
 use Rattle.std.specs.Option.{option_map}
 use Rattle.std.proofs.Math.Facts.{Fits-lt-pow}
 use Rattle.indexmap.specs.IndexSet.{insert_key}
@@ -40,6 +43,24 @@ units_at keys units i d at =
     let below : i < length keys = rw length-map at within in
     let e : slice_get (contents keys) i ≡ Some (get_or keys i d).items = slice_get-map items keys i ∙ ap (option_map items) (slice_get-get_or keys i d below) in
     (below, cc)
+
+-- where a key that passes stands, its units stand in the table
+pub found : (units : List ℕ) (keys : List Owned) (i : ℕ) → position (λ k. pointwise nat_eq units k.items) keys ≡ Some i → slice_get (contents keys) i ≡ Some units
+found units [] i at = cc
+found units (k ∷ ks) i at =
+    let p = position-Some (λ (k : Owned). pointwise nat_eq units k.items) (k ∷ ks) i k at in
+    at_place (k ∷ ks) i (get_or (k ∷ ks) i k) (slice_get-get_or (k ∷ ks) i k p.0) ∙ ap Some (sym ((bytes_decides units (get_or (k ∷ ks) i k).items).0 p.1))
+
+-- where none passes, no text of the table has the units
+pub not_found : (units : List ℕ) (keys : List Owned) → position (λ k. pointwise nat_eq units k.items) keys ≡ None → (i : ℕ) → slice_get (contents keys) i ≡ Some units → ⊥
+not_found units [] none i at = cc
+not_found units (k ∷ ks) none i at =
+    let test : Owned → Bool = λ key. pointwise nat_eq units key.items in
+    let x = units_at (k ∷ ks) units i k at in
+    let far : length (k ∷ ks) ≤ position_or_len test (k ∷ ks) = grind (arith, common_steps) in
+    let no = fails_before_first test (k ∷ ks) i k (omega (arith, x.0, far)) in
+    let yes = (bytes_decides units (get_or (k ∷ ks) i k).items).1 (sym x.1) in
+    true≢false (sym yes ∙ no)
 
 -- two keys of one content do not stand at two places
 not_before : (keys : List Owned) → IsDistinct same keys → (units : List ℕ) (i j : ℕ) → slice_get (contents keys) i ≡ Some units → slice_get (contents keys) j ≡ Some units → i < j → ⊥

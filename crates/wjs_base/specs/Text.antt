@@ -1,5 +1,5 @@
 -- Texts, and the table that numbers them: a text is known by its place in a list of different texts.
-use Rattle.std.specs.Prelude.{◌≡◌, ℕ, ◌^◌, ◌<◌, ◌≤◌, ◌⊎◌, List, [], ◌∷◌, ◌++◌, Some, length, slice_get, All}
+use Rattle.std.specs.Prelude.{◌≡◌, ℕ, ◌^◌, ◌<◌, ◌≤◌, ◌⊎◌, List, [], ◌∷◌, ◌++◌, Option, None, Some, length, slice_get, All}
 use Rattle.wjs_base.specs.declared.ids.TextId.{TextId}
 
 -- a text is a list of code units (ECMA-262, 3rd edition, section 8.4)
@@ -25,6 +25,11 @@ Has texts id = id.0 < length texts
 -- the number stands for these units
 abbrev pub Denotes : Table → TextId → Units → Type 0
 Denotes texts id units = slice_get texts id.0 ≡ Some units
+
+-- the number of these units; none exactly where no text of the table has them
+abbrev pub Finds : Table → Units → Option TextId → Type 0
+Finds texts units (Some id) = Denotes texts id units
+Finds texts units None = (id : TextId) → ¬ (Denotes texts id units)
 
 -- the table holds texts, each of them once: equal content has equal number
 pub record IsTable (texts : Table) : Type 0 where

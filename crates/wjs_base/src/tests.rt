@@ -134,6 +134,7 @@ fn indices_are_texts(rt: HostRuntime) -> Result<(), Fail> {
         let mut texts = Texts::new(rt.alloc())?;
         let id = texts.text_of(Name::Index(*index))?;
         let units = units_of_utf8(rt.alloc(), text.as_bytes())?;
+        assert_eq!(rt; texts.find(&units), Some(id), "of {text:?}");
         assert_eq!(rt; texts.intern(&units)?, id, "of {text:?}");
     }
     Ok(())
@@ -145,6 +146,7 @@ fn texts_keep_their_numbers(rt: HostRuntime) -> Result<(), Fail> {
     let a = texts.intern(&[0x61])?;
     let empty = texts.intern(&[])?;
     assert_ne!(rt; a, empty);
+    assert_eq!(rt; texts.find(&[0x62]), None);
     assert_eq!(rt; texts.intern(&[0x61])?, a);
     assert_eq!(rt; texts.intern(&[])?, empty);
     Ok(())

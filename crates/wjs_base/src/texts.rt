@@ -1,6 +1,6 @@
 //! The table of interned texts.
 ghost use Rattle.std.specs.Prelude.{◌≡◌, ◌+◌, ◌<◌, ◌≤◌, ◌↔◌, ◌++◌, [], length, IfOk, OnOk, OnErr, IsErrOf};
-ghost use Rattle.wjs_base.specs.Text.{Denotes, Grows, Has, Interns, IsTable, IsText, Units, longest};
+ghost use Rattle.wjs_base.specs.Text.{Denotes, Finds, Grows, Has, Interns, IsTable, IsText, Units, longest};
 
 use crate::ids::{OutOfMemory, TextId};
 use indexmap::IndexSet;
@@ -72,6 +72,16 @@ impl Texts {
         match self.put(text) {
             Ok(id) => Ok(id),
             Err(OutOfMemory) => Err(TextFault::OutOfMemory),
+        }
+    }
+
+    /// The number of the text of these code units; None exactly where no text of the table has them. It copies nothing.
+    pub fn find(&self, units: &[u16]) -> Option<TextId>
+        ensures { Finds self.now units.now result }
+    {
+        match self.texts.get_index_of(units) {
+            Some(place) => Some(TextId(place as u64)),
+            None => None,
         }
     }
 
