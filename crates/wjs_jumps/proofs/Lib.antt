@@ -1,4 +1,3 @@
-pub mod Forms
 pub mod Labels
 pub mod Walks
 pub mod Lists

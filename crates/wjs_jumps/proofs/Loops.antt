@@ -10,7 +10,7 @@ use Rattle.wjs_tree.specs.declared.node.ForInit.{ForInit}
 use Rattle.wjs_tree.specs.Trees.{Stmt, DoWhile, While, For, ForIn, ForVarIn, Label}
 use Rattle.wjs_tree.specs.Shows.{Has, StmtShows}
 use Rattle.wjs_tree.specs.Jumps.{is_loop}
-use Rattle.wjs_jumps.specs.Forms.{IsPart, HasForm}
+use Rattle.wjs_walk.specs.Forms.{IsPart, HasForm}
 
 pub label_there : (ns : List Node) (x : TextId) (y : NodeId) (t : Stmt) → HasForm ns (nodes.Label x y) t → (s : Stmt) × IsPart ns s y
 label_there ns x y t f = (f.0, f.2)

@@ -1,34 +1,15 @@
 -- What the answers say of the trees that nodes stand for.
-use Rattle.std.specs.Prelude.{ℕ, suc, ◌⊎◌, Contains, ◌≤◌, ◌↔◌, Bool, IsTrue, List, Option, Some, None}
+use Rattle.std.specs.Prelude.{Contains, ◌≤◌, ◌↔◌, Bool, IsTrue, List, Option, Some, None}
 use Rattle.wjs_base.specs.declared.ids.TextId.{TextId}
 use Rattle.wjs_tree.specs.declared.node.Node.{Node}
 use Rattle.wjs_tree.specs.declared.node.NodeId.{NodeId}
 use Rattle.wjs_tree.specs.declared.node.Clause.{Clause}
 use Rattle.wjs_tree.specs.Trees.{Stmt, Stmts, Clauses, Elements}
-use Rattle.wjs_tree.specs.Height.{stmt_height, stmts_height, clauses_height, elements_height}
 use Rattle.wjs_tree.specs.declared.node.Node.TheVariants as nodes
 use Rattle.wjs_tree.specs.Shows.{Has}
 use Rattle.wjs_tree.specs.Jumps.{Around, in_switch, in_label, default_count, JumpsRight, AllJumpRight, ClausesJumpRight, ElementsJumpRight}
-use Rattle.wjs_jumps.specs.Forms.{IsPart, AreParts, AreClauses, AreElements, HasForm}
-
--- the node stands for a statement of at most this height
-abbrev pub StmtThere : List Node → ℕ → NodeId → Type 0
-StmtThere ns room i = (t : Stmt) × IsPart ns t i × (stmt_height t ≤ room)
-
--- if there is a node, it stands for one
-abbrev pub OptionThere : List Node → ℕ → Option NodeId → Type 0
-OptionThere ns room None = Unit {0}
-OptionThere ns room (Some i) = StmtThere ns room i
-
-abbrev pub StmtsThere : List Node → ℕ → List NodeId → Type 0
-StmtsThere ns room list = (t : Stmts) × AreParts ns t list × (stmts_height t ≤ room)
-
-abbrev pub ClausesThere : List Node → ℕ → List Clause → Type 0
-ClausesThere ns room list = (t : Clauses) × AreClauses ns t list × (clauses_height t ≤ room)
-
--- the nodes stand for the elements of a body of at most this height
-abbrev pub ElementsThere : List Node → ℕ → List NodeId → Type 0
-ElementsThere ns room list = (t : Elements) × AreElements ns t list × (elements_height t ≤ room)
+use Rattle.wjs_walk.specs.Forms.{IsPart, AreParts, AreClauses, AreElements, HasForm}
+pub use Rattle.wjs_walk.specs.There.{ElementsThere}
 
 -- the answer is whether the jumps of the statement have where to go
 abbrev pub StmtAnswer : List Node → Around → NodeId → Bool → Type 0
@@ -50,18 +31,10 @@ LabelAnswer ns a x i b = (t : Stmt) → IsPart ns t i → IsTrue b ↔ ((¬ Cont
 abbrev pub SwitchAnswer : List Node → Around → List Clause → Bool → Type 0
 SwitchAnswer ns a list b = (t : Clauses) → AreClauses ns t list → IsTrue b ↔ ((default_count t ≤ 1) × ClausesJumpRight (in_switch a) t)
 
--- the node stands for an element: a statement of at most this height, or a function
-abbrev pub ElementThere : List Node → ℕ → NodeId → Type 0
-ElementThere ns room i = StmtThere ns room i ⊎ ((x : TextId) × (formals : List TextId) × (body : List NodeId) × Has ns i (nodes.FunctionDecl x formals body))
-
 -- the answer is whether the jumps of an element have where to go; a function has none of this body
 pub record ElementAnswer (ns : List Node) (a : Around) (i : NodeId) (b : Bool) : Type 0 where
   pub statement : StmtAnswer ns a i b
   pub function : (x : TextId) (formals : List TextId) (body : List NodeId) → Has ns i (nodes.FunctionDecl x formals body) → IsTrue b
-
--- the node is no `if`
-abbrev pub IsNoIf : List Node → NodeId → Type 0
-IsNoIf ns i = (a b : NodeId) (o : Option NodeId) → Has ns i (nodes.If a b o) → ⊥
 
 -- the answer is whether the jumps of a body have where to go
 abbrev pub ElementsAnswer : List Node → Around → List NodeId → Bool → Type 0
@@ -70,7 +43,3 @@ ElementsAnswer ns a list b = (t : Elements) → AreElements ns t list → IsTrue
 -- the answer is whether the jumps of a form have where to go
 abbrev pub FormAnswer : List Node → Around → Node → Bool → Type 0
 FormAnswer ns a n b = (t : Stmt) → HasForm ns n t → IsTrue b ↔ JumpsRight a t
-
--- the form stands for a statement of at most this height, its statements being lower
-abbrev pub FormThere : List Node → ℕ → Node → Type 0
-FormThere ns room n = (t : Stmt) × HasForm ns n t × (stmt_height t ≤ suc room)

@@ -1,3 +1,3 @@
-pub mod Around
 pub mod Forms
+pub mod Around
 pub mod Answers

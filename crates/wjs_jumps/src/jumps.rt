@@ -4,8 +4,9 @@ ghost use Rattle.wjs_tree.specs.declared.node.Node.TheVariants as forms;
 ghost use Rattle.wjs_tree.specs.Trees.{Stmt};
 ghost use Rattle.wjs_tree.specs.Jumps.{outermost, is_loop};
 ghost use Rattle.wjs_jumps.specs.Around.{around_of};
-ghost use Rattle.wjs_jumps.specs.Forms.{IsPart};
-ghost use Rattle.wjs_jumps.specs.Answers.{StmtThere, OptionThere, StmtsThere, ClausesThere, ElementThere, ElementsThere, FormThere, IsNoIf, StmtAnswer, OptionAnswer, StmtsAnswer, LabelAnswer, SwitchAnswer, ElementAnswer, ElementsAnswer, FormAnswer};
+ghost use Rattle.wjs_walk.specs.Forms.{IsPart};
+ghost use Rattle.wjs_walk.specs.There.{StmtThere, OptionThere, StmtsThere, ClausesThere, ElementThere, ElementsThere, FormThere, IsNoIf};
+ghost use Rattle.wjs_jumps.specs.Answers.{StmtAnswer, OptionAnswer, StmtsAnswer, LabelAnswer, SwitchAnswer, ElementAnswer, ElementsAnswer, FormAnswer};
 
 use crate::around::{Around, Labels, can_break, can_continue, has_label};
 use wjs_base::TextId;

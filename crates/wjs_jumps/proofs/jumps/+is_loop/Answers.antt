@@ -1,9 +1,9 @@
 use Rattle.std.proofs.Common.{subst, arith}
 use Rattle.wjs_tree.specs.declared.node.Node.{Node}
 use Rattle.wjs_tree.specs.Children.{ChildrenBelow}
-use Rattle.wjs_jumps.specs.Forms.{HasForm}
-use Rattle.wjs_jumps.proofs.Forms.{form_of}
-use Rattle.wjs_jumps.proofs.Steps.{within}
+use Rattle.wjs_walk.specs.Forms.{HasForm}
+use Rattle.wjs_walk.proofs.Forms.{form_of}
+use Rattle.wjs_walk.proofs.Steps.{within}
 use Rattle.wjs_jumps.proofs.Loops.{label_there, label_loop, do_loop, while_loop, for_loop, for_in_loop, for_var_loop, no_loop}
 use Rattle.wjs_jumps.proofs.jumps.+is_loop.Goals as goal
 

@@ -4,9 +4,11 @@ use Rattle.wjs_tree.specs.declared.node.Node.TheVariants as forms
 use Rattle.wjs_tree.specs.declared.node.Clause.{Clause}
 use Rattle.wjs_tree.specs.Jumps.{in_switch}
 use Rattle.wjs_jumps.specs.Around.{around_of}
-use Rattle.wjs_jumps.specs.Answers.{StmtThere, StmtsThere, ClausesThere, OptionThere, StmtAnswer, OptionAnswer, StmtsAnswer}
+use Rattle.wjs_walk.specs.There.{StmtThere, StmtsThere, ClausesThere, OptionThere}
+use Rattle.wjs_jumps.specs.Answers.{StmtAnswer, OptionAnswer, StmtsAnswer}
 use Rattle.wjs_jumps.proofs.Lists.{stmts_here, stmts_on, stmts_wrong, stmts_done, clauses_here, clauses_on, clauses_wrong, clauses_done}
-use Rattle.wjs_jumps.proofs.Steps.{within, room_for, formed, answered, block_low, do_low, do_right, while_low, while_right, for_low, for_right, for_in_low, for_in_right, for_var_low, for_var_right, label_low, label_right, switch_low, world_low, world_right, try_low, try_body_wrong, try_handler_wrong, try_right, switch_wrong, switch_clauses, StmtWalk, walk_answer, walk_on, if_low, if_wrong, if_right}
+use Rattle.wjs_walk.proofs.Steps.{within, room_for, formed, block_low, do_low, while_low, for_low, for_in_low, for_var_low, label_low, switch_low, world_low, try_low, if_low}
+use Rattle.wjs_jumps.proofs.Steps.{answered, do_right, while_right, for_right, for_in_right, for_var_right, label_right, world_right, try_body_wrong, try_handler_wrong, try_right, switch_wrong, switch_clauses, StmtWalk, walk_answer, walk_on, if_wrong, if_right}
 use Rattle.wjs_jumps.proofs.jumps.+jumps.Goals as goal
 
 pub form-node-requires : goal.form-node-requires

@@ -1,6 +1,6 @@
 use Rattle.std.proofs.Common.{inl, inr}
 use Rattle.std.proofs.lemmas.Option.{slice_get_within}
-use Rattle.wjs_jumps.proofs.Steps.{within}
+use Rattle.wjs_walk.proofs.Steps.{within}
 use Rattle.wjs_jumps.proofs.jumps.element_is_right.Goals as goal
 
 pub node-requires : goal.node-requires

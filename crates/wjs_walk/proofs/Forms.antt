@@ -6,18 +6,18 @@ use Rattle.wjs_tree.specs.declared.node.NodeId.{NodeId}
 use Rattle.wjs_tree.specs.declared.node.Node.TheVariants as nodes
 use Rattle.wjs_tree.specs.Trees.{Stmt, Block, Var, Empty, ExprStmt, If, IfElse, DoWhile, While, For, ForIn, ForVarIn, Continue, Break, Return, Throw, Label, Switch, TryCatch, TryFinally, TryBoth, Within}
 use Rattle.wjs_tree.specs.Shows.{Has, StmtShows}
-use Rattle.wjs_jumps.specs.Forms.{HasForm}
+use Rattle.wjs_walk.specs.Forms.{HasForm}
 
 pub form_of : (ns : List Node) (i : NodeId) (n : Node) → Has ns i n → (t : Stmt) (used : List ℕ) → StmtShows ns t i used → HasForm ns n t
 form_of ns i n has (Block body) used h = let has_it = h.2 in let same : nodes.Block h.0 ≡ n = cc in subst (λ (m : Node). HasForm ns m (Block body)) same (body, refl, (h.1, h.4))
-form_of ns i n has (Var vs end) used h = let has_it = h.2 in let same : nodes.Var h.0 end ≡ n = cc in subst (λ (m : Node). HasForm ns m (Var vs end)) same (vs, refl)
+form_of ns i n has (Var vs end) used h = let has_it = h.2 in let same : nodes.Var h.0 end ≡ n = cc in subst (λ (m : Node). HasForm ns m (Var vs end)) same (vs, refl, (h.1, h.4))
 form_of ns i n has Empty used h = let has_it = h.0 in let same : nodes.Empty ≡ n = cc in subst (λ (m : Node). HasForm ns m Empty) same refl
 form_of ns i n has (ExprStmt e end) used h = let has_it = h.2 in let same : nodes.Expr h.0 end ≡ n = cc in subst (λ (m : Node). HasForm ns m (ExprStmt e end)) same (e, refl)
 form_of ns i n has (If e s) used h = let has_it = h.4 in let same : nodes.If h.0 h.1 None ≡ n = cc in subst (λ (m : Node). HasForm ns m (If e s)) same (e, s, refl, (h.3, h.7))
 form_of ns i n has (IfElse e s u) used h = let has_it = h.6 in let same : nodes.If h.0 h.1 (Some h.2) ≡ n = cc in subst (λ (m : Node). HasForm ns m (IfElse e s u)) same (e, s, u, refl, (h.4, h.9), (h.5, h.10))
 form_of ns i n has (DoWhile s e end) used h = let has_it = h.4 in let same : nodes.DoWhile h.0 h.1 end ≡ n = cc in subst (λ (m : Node). HasForm ns m (DoWhile s e end)) same (s, e, refl, (h.2, h.6))
 form_of ns i n has (While e s) used h = let has_it = h.4 in let same : nodes.While h.0 h.1 ≡ n = cc in subst (λ (m : Node). HasForm ns m (While e s)) same (e, s, refl, (h.3, h.7))
-form_of ns i n has (For init test update s) used h = let has_it = h.8 in let same : nodes.For h.0 h.1 h.2 h.3 ≡ n = cc in subst (λ (m : Node). HasForm ns m (For init test update s)) same (init, test, update, s, refl, (h.7, h.13))
+form_of ns i n has (For init test update s) used h = let has_it = h.8 in let same : nodes.For h.0 h.1 h.2 h.3 ≡ n = cc in subst (λ (m : Node). HasForm ns m (For init test update s)) same (init, test, update, s, refl, (h.4, h.10), (h.7, h.13))
 form_of ns i n has (ForIn r e s) used h = let has_it = h.6 in let same : nodes.ForIn h.0 h.1 h.2 ≡ n = cc in subst (λ (m : Node). HasForm ns m (ForIn r e s)) same (r, e, s, refl, (h.5, h.10))
 form_of ns i n has (ForVarIn x e s) used h = let has_it = h.4 in let same : nodes.ForVarIn x h.0 h.1 ≡ n = cc in subst (λ (m : Node). HasForm ns m (ForVarIn x e s)) same (e, s, refl, (h.3, h.7))
 form_of ns i n has (Continue label end) used h = let has_it = h.0 in let same : nodes.Continue label end ≡ n = cc in subst (λ (m : Node). HasForm ns m (Continue label end)) same refl

@@ -1,0 +1,4 @@
+pub mod Forms
+pub mod Walks
+pub mod Lists
+pub mod Steps
