@@ -1,5 +1,5 @@
 -- What the walk does to the names, of the trees that nodes stand for.
-use Rattle.std.specs.Prelude.{◌≡◌, ℕ, suc, true, ◌≤◌, ◌⊎◌, List, map, Option, Some, None}
+use Rattle.std.specs.Prelude.{◌≡◌, true, List, map, Option, Some, None}
 use Rattle.wjs_base.specs.declared.ids.TextId.{TextId}
 use Rattle.wjs_tree.specs.declared.node.Node.{Node}
 use Rattle.wjs_tree.specs.declared.node.NodeId.{NodeId}
@@ -9,45 +9,14 @@ use Rattle.wjs_tree.specs.declared.node.ForInit.{ForInit}
 use Rattle.wjs_tree.specs.declared.node.ForInit.TheVariants as inits
 use Rattle.wjs_tree.specs.declared.node.Node.TheVariants as nodes
 use Rattle.wjs_tree.specs.Trees.{Stmt, Stmts, Clauses, Elements}
-use Rattle.wjs_tree.specs.Height.{stmt_height, stmts_height, clauses_height, elements_height}
 use Rattle.wjs_tree.specs.Shows.{Has}
 use Rattle.wjs_scope.specs.Declarations.{names_declared, all_declared, clauses_declared, elements_declared, with_names, is_body, elements_of}
-use Rattle.wjs_scope.specs.Forms.{IsPart, AreParts, AreClauses, AreElements, HasForm}
-
--- the node stands for a statement of at most this height
-abbrev pub StmtThere : List Node → ℕ → NodeId → Type 0
-StmtThere ns room i = (t : Stmt) × IsPart ns t i × (stmt_height t ≤ room)
-
--- if there is a node, it stands for one
-abbrev pub OptionThere : List Node → ℕ → Option NodeId → Type 0
-OptionThere ns room None = Unit {0}
-OptionThere ns room (Some i) = StmtThere ns room i
-
-abbrev pub StmtsThere : List Node → ℕ → List NodeId → Type 0
-StmtsThere ns room list = (t : Stmts) × AreParts ns t list × (stmts_height t ≤ room)
-
-abbrev pub ClausesThere : List Node → ℕ → List Clause → Type 0
-ClausesThere ns room list = (t : Clauses) × AreClauses ns t list × (clauses_height t ≤ room)
-
--- the nodes stand for the elements of a body of at most this height
-abbrev pub ElementsThere : List Node → ℕ → List NodeId → Type 0
-ElementsThere ns room list = (t : Elements) × AreElements ns t list × (elements_height t ≤ room)
-
--- the node stands for an element: a statement of at most this height, or a function
-abbrev pub ElementThere : List Node → ℕ → NodeId → Type 0
-ElementThere ns room i = StmtThere ns room i ⊎ ((x : TextId) × (formals : List TextId) × (body : List NodeId) × Has ns i (nodes.FunctionDecl x formals body))
+use Rattle.wjs_walk.specs.Forms.{IsPart, AreParts, AreClauses, AreElements, HasForm}
+use Rattle.wjs_walk.specs.There.{ElementsThere}
 
 -- the node is a body's, of a script or a function, whose height is at most 200
 abbrev pub BodyThere : List Node → NodeId → Type 0
 BodyThere ns i = (node : Node) × Has ns i node × (is_body node ≡ true) × ElementsThere ns 200 (elements_of node)
-
--- the form stands for a statement of at most this height, its statements being lower
-abbrev pub FormThere : List Node → ℕ → Node → Type 0
-FormThere ns room n = (t : Stmt) × HasForm ns n t × (stmt_height t ≤ suc room)
-
--- the node is no `if`
-abbrev pub IsNoIf : List Node → NodeId → Type 0
-IsNoIf ns i = (a b : NodeId) (o : Option NodeId) → Has ns i (nodes.If a b o) → ⊥
 
 -- to the names v the statement adds what it declares, which gives w
 abbrev pub StmtAdds : List Node → NodeId → List TextId → List TextId → Type 0

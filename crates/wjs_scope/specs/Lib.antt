@@ -1,7 +1,9 @@
 pub mod Declarations
-pub mod Forms
 pub mod Answers
 pub mod Scopes
 pub mod Nesting
 pub mod Marks
 pub mod Levels
+pub mod Places
+pub mod Visits
+pub mod Contents

@@ -13,7 +13,7 @@ use Rattle.wjs_tree.specs.declared.node.Handler.{Handler}
 use Rattle.wjs_tree.specs.Trees.{Elements}
 use Rattle.wjs_tree.specs.Shows.{Has}
 use Rattle.wjs_scope.specs.Declarations.{elements_of}
-use Rattle.wjs_scope.specs.Forms.{AreElements}
+use Rattle.wjs_walk.specs.Forms.{AreElements}
 use Rattle.wjs_scope.specs.Scopes.{Scope, in_function}
 
 -- where a part of a node stands: in the scopes around the node, in a `catch` of this name, or in the body of a function
@@ -112,3 +112,16 @@ abbrev pub Leads : List Node → Option TextId → NodeId → List Scope → Lis
 Leads ns arguments i scopes [] j found = (j ≡ i) × (found ≡ scopes)
 Leads ns arguments i scopes (part ∷ way) j found =
     (node : Node) × (inner : List Scope) × Has ns i node × IsAmong (parts node) part × Enters ns arguments node part.1 scopes inner × Leads ns arguments part.0 inner way j found
+
+-- around the node of the script stand these scopes, the nearest first; around its body stands none
+abbrev pub StandsAmong : List Node → Option TextId → NodeId → NodeId → List Scope → Type 0
+StandsAmong ns arguments body i scopes = (way : List (NodeId × Side)) × Leads ns arguments body [] way i scopes
+
+-- the way leads from a node part by part to a node, whatever the scopes
+abbrev pub LeadsTo : List Node → NodeId → List (NodeId × Side) → NodeId → Type 0
+LeadsTo ns i [] j = j ≡ i
+LeadsTo ns i (part ∷ way) j = (node : Node) × Has ns i node × IsAmong (parts node) part × LeadsTo ns part.0 way j
+
+-- the node is one of those that the tree of another is made of
+abbrev pub StandsIn : List Node → NodeId → NodeId → Type 0
+StandsIn ns i j = (way : List (NodeId × Side)) × LeadsTo ns i way j

@@ -8,7 +8,7 @@ use Rattle.wjs_tree.specs.declared.node.Node.TheVariants as nodes
 use Rattle.wjs_tree.specs.Trees.{Elements}
 use Rattle.wjs_scope.specs.declared.place.Place.{Place}
 use Rattle.wjs_scope.specs.declared.place.Place.TheVariants.{Local, Global}
-use Rattle.wjs_scope.specs.Declarations.{variables, with_names, formals_of, elements_of, functions_among}
+use Rattle.wjs_scope.specs.Declarations.{variables, with_names, formals_of, elements_of}
 
 -- a scope, by its names
 abbrev pub Scope : Type 0
@@ -34,7 +34,7 @@ abbrev pub declared_name : Option Node → List TextId
 declared_name (Some (nodes.FunctionDecl x formals list)) = x ∷ []
 declared_name _ = []
 
--- the names of functions that are declared (section 13)
+-- the names of the functions that are declared among elements (section 13)
 abbrev pub function_names : List Node → List NodeId → List TextId
 function_names ns [] = []
 function_names ns (i ∷ more) = declared_name (slice_get ns i.0) ++ function_names ns more
@@ -55,5 +55,4 @@ with_own_name (Some x) around = (x ∷ []) ∷ around
 
 -- the scopes in the body of a function that stands among others
 abbrev pub in_function : List Node → Option TextId → Node → Elements → List Scope → List Scope
-in_function ns arguments node body around =
-    function_scope arguments (formals_of node) (function_names ns (functions_among ns (elements_of node))) (variables body) ∷ with_own_name (own_name node) around
+in_function ns arguments node body around = function_scope arguments (formals_of node) (function_names ns (elements_of node)) (variables body) ∷ with_own_name (own_name node) around

@@ -3,9 +3,11 @@ ghost use Rattle.std.specs.Prelude.{◌≡◌, ◌<◌, length, slice_get, IfOk,
 ghost use Rattle.wjs_tree.specs.declared.node.Node.{Node};
 ghost use Rattle.wjs_tree.specs.Trees.{Elements};
 ghost use Rattle.wjs_tree.specs.Shows.{Has};
-ghost use Rattle.wjs_scope.specs.Declarations.{is_declaration, formals_of, elements_of, functions_among, variables};
-ghost use Rattle.wjs_scope.specs.Forms.{AreElements};
-ghost use Rattle.wjs_scope.specs.Answers.{BodyThere, ElementsThere, ElementThere, ElementAdds};
+ghost use Rattle.wjs_scope.specs.Declarations.{is_declaration, formals_of, elements_of, functions_among, variables, with_names};
+ghost use Rattle.wjs_scope.specs.Scopes.{declared_name, function_names, function_scope};
+ghost use Rattle.wjs_walk.specs.Forms.{AreElements};
+ghost use Rattle.wjs_walk.specs.There.{ElementsThere, ElementThere};
+ghost use Rattle.wjs_scope.specs.Answers.{BodyThere, ElementAdds};
 
 use crate::declarations::Declared;
 use crate::names::Names;
@@ -113,5 +115,45 @@ fn element_names(nodes: &Nodes, id: NodeId, vars: &mut Names) -> Result<(), OutO
     match nodes.node(id) {
         Node::FunctionDecl(_, _, _) => Ok(()),
         _ => statement(nodes, id, 200, vars),
+    }
+}
+
+/// The names of the scope of a function: `arguments`, its formals, its functions and its variables.
+pub fn body_names(
+    alloc: Global,
+    arguments: Option<TextId>,
+    formals: &[TextId],
+    nodes: &Nodes,
+    elements: &[NodeId],
+) -> Result<Names, OutOfMemory>
+    requires { ElementsThere nodes.now 200 elements.now }
+    ensures { IfOk result (λ names. (t : Elements) → AreElements nodes.now t elements.now → names ≡ function_scope arguments formals.now (function_names nodes.now elements.now) (variables t)) }
+{
+    let vars = variables_of(alloc, nodes, elements)?;
+    let mut names = Names::new(alloc);
+    names.add_option(arguments)?;
+    names.add_all(formals)?;
+    add_functions(nodes, elements, &mut names)?;
+    names.add_all(vars.as_slice())?;
+    Ok(names)
+}
+
+fn add_functions(nodes: &Nodes, elements: &[NodeId], names: &mut Names) -> Result<(), OutOfMemory>
+    requires { ElementsThere nodes.now 200 elements.now }
+    ensures { OnOk result (names.new ≡ with_names names.old (function_names nodes.now elements.now)) }
+{
+    for element in elements {
+        add_function(nodes, *element, names)?;
+    }
+    Ok(())
+}
+
+fn add_function(nodes: &Nodes, id: NodeId, names: &mut Names) -> Result<(), OutOfMemory>
+    requires { id.0 < length nodes.now }
+    ensures { OnOk result (names.new ≡ with_names names.old (declared_name (slice_get nodes.now id.0))) }
+{
+    match nodes.node(id) {
+        Node::FunctionDecl(name, _, _) => names.add(*name),
+        _ => Ok(()),
     }
 }

@@ -1,12 +1,13 @@
 //! The scopes of a script.
 ghost use Rattle.std.specs.Prelude.{List, ◌≡◌, [], ◌∷◌, IfOk};
 ghost use Rattle.wjs_scope.specs.Scopes.{Scope, resolve};
-ghost use Rattle.wjs_scope.specs.Levels.{Nests, IsNest, Opens};
+ghost use Rattle.wjs_scope.specs.Levels.{Nests, IsNest, Opens, OpensOwn, OpensCaught};
 
 use crate::names::Names;
 use crate::place::Place;
 use std::alloc::Global;
 use wjs_base::{OutOfMemory, TextId};
+use wjs_tree::Handler;
 
 /// A scope, and the number of the one around it. Scopes are counted from 1; 0 stands for none.
 #[derive(Drop)]
@@ -57,4 +58,36 @@ pub fn open_one(
     let mut names = Names::new(alloc);
     names.add(name)?;
     open(levels, names, at)
+}
+
+/// Opens the scope of a function expression's name, if it has one.
+pub fn open_own(
+    alloc: Global,
+    levels: &mut Vec<Level>,
+    name: Option<TextId>,
+    at: u64,
+) -> Result<u64, OutOfMemory>
+    requires { IsNest levels.old.items at }
+    ensures { IfOk result (λ inner. OpensOwn levels.old.items levels.new.items at inner name) }
+{
+    match name {
+        Some(x) => open_one(alloc, levels, x, at),
+        None => Ok(at),
+    }
+}
+
+/// Opens the scope of the name of a `catch`, if there is one.
+pub fn open_caught(
+    alloc: Global,
+    levels: &mut Vec<Level>,
+    handler: Option<Handler>,
+    at: u64,
+) -> Result<u64, OutOfMemory>
+    requires { IsNest levels.old.items at }
+    ensures { IfOk result (λ inner. OpensCaught levels.old.items levels.new.items at inner handler) }
+{
+    match handler {
+        Some(h) => open_one(alloc, levels, h.name, at),
+        None => Ok(at),
+    }
 }

@@ -1,7 +1,7 @@
 //! Names, each once.
 ghost use Rattle.std.specs.Prelude.{◌≡◌, [], IfOk, OnOk};
 ghost use Rattle.wjs_scope.specs.Declarations.{with_name, with_names};
-ghost use Rattle.wjs_scope.specs.Scopes.{is_in};
+ghost use Rattle.wjs_scope.specs.Scopes.{is_in, some_name};
 
 use indexmap::IndexSet;
 use std::alloc::Global;
@@ -53,6 +53,16 @@ impl Names {
             self.add(*name)?;
         }
         Ok(())
+    }
+
+    /// Puts the name, if there is one, last, unless it is there.
+    pub fn add_option(&mut self, name: Option<TextId>) -> Result<(), OutOfMemory>
+        ensures { OnOk result (self.new ≡ with_names self.old (some_name name)) }
+    {
+        match name {
+            Some(x) => self.add(x),
+            None => Ok(()),
+        }
     }
 
     /// Whether a name is there.
