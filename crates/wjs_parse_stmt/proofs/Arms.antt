@@ -1,7 +1,6 @@
 -- Clauses of a `switch`.
-use Rattle.std.proofs.Common.{◌≡◌, ℕ, ◌+◌, ◌-◌, ◌<◌, ◌≤◌, ◌⊎◌, inl, inr, Bool, true, false, List, [], ◌∷◌, ◌++◌, Option, Some, None, refl, sym, ap, ◌∙◌, subst, arith, append_assoc}
+use Rattle.std.proofs.Common.{◌≡◌, ℕ, ◌+◌, ◌-◌, ◌<◌, ◌≤◌, true, false, List, [], ◌∷◌, ◌++◌, Option, Some, None, refl, sym, ap, ◌∙◌, subst, arith, append_assoc}
 use Rattle.wjs_tree.specs.declared.tokens.Token.{Token}
-use Rattle.wjs_tree.specs.declared.tokens.Token.TheVariants as tokens
 use Rattle.wjs_tree.specs.declared.signs.Sign.TheVariants as signs
 use Rattle.wjs_tree.specs.declared.keys.Key.TheVariants as keys
 use Rattle.wjs_tree.specs.declared.tokens.Tok.{Tok}
@@ -9,15 +8,14 @@ use Rattle.wjs_tree.specs.declared.node.Node.{Node}
 use Rattle.wjs_tree.specs.declared.node.Node.TheVariants as nodes
 use Rattle.wjs_tree.specs.declared.node.NodeId.{NodeId}
 use Rattle.wjs_tree.specs.declared.node.Clause.{Clause}
-use Rattle.wjs_tree.specs.Trees.{Expr, Optional, Absent, Present, Stmt, IfElse, Switch, Stmts, NoStmt, MoreStmts, Clauses, NoClause, Case, Default}
-use Rattle.wjs_tree.specs.Height.{height, optional_height, stmts_height, clauses_height}
-use Rattle.wjs_tree.specs.Formed.{OptionalFormed, StmtsFormed, ClausesFormed}
+use Rattle.wjs_tree.specs.Trees.{Expr, Optional, Absent, Present, Stmt, Switch, Stmts, Clauses, NoClause, Case, Default}
+use Rattle.wjs_tree.specs.Height.{stmts_height, clauses_height}
+use Rattle.wjs_tree.specs.Formed.{StmtsFormed, ClausesFormed}
 use Rattle.wjs_tree.specs.Children.{OptionBelow, AreBelow, ClausesBelow}
 use Rattle.wjs_tree.specs.Ends.{token_at, HasToken, HasSign, HasKey}
 use Rattle.wjs_tree.specs.Spelling.{Stands, StmtsStand, ClausesStand}
-use Rattle.wjs_tree.specs.Shows.{Has, Shows, OptionalShows, StmtsShow, ClausesShow, Keeps}
+use Rattle.wjs_tree.specs.Shows.{Has, OptionalShows, StmtsShow, ClausesShow, Keeps}
 use Rattle.wjs_tree.proofs.Kept.{kept, optional_kept, stmts_kept, clauses_kept, keeps_self, keeps_both}
-use Rattle.wjs_parse_expr.specs.Readings.{Reading}
 use Rattle.wjs_parse_expr.proofs.Readings.{same_token}
 use Rattle.wjs_parse_stmt.specs.declared.kind.Kind.TheVariants as kinds
 use Rattle.wjs_parse_stmt.specs.declared.parts.Spot.{Spot}

@@ -1,17 +1,16 @@
 -- Statements one behind another, and blocks.
-use Rattle.std.proofs.Common.{◌≡◌, ℕ, ◌+◌, ◌-◌, ◌<◌, ◌≤◌, ◌⊎◌, inl, inr, Bool, true, false, List, [], ◌∷◌, ◌++◌, Option, Some, None, refl, sym, ap, ◌∙◌, subst, arith, append_assoc}
-use Rattle.wjs_tree.specs.declared.tokens.Token.TheVariants as tokens
+use Rattle.std.proofs.Common.{◌≡◌, ℕ, ◌+◌, ◌-◌, ◌<◌, ◌≤◌, true, false, List, [], ◌∷◌, ◌++◌, refl, sym, ap, ◌∙◌, subst, arith, append_assoc}
 use Rattle.wjs_tree.specs.declared.signs.Sign.TheVariants as signs
 use Rattle.wjs_tree.specs.declared.tokens.Tok.{Tok}
 use Rattle.wjs_tree.specs.declared.node.Node.{Node}
 use Rattle.wjs_tree.specs.declared.node.Node.TheVariants as nodes
 use Rattle.wjs_tree.specs.declared.node.NodeId.{NodeId}
-use Rattle.wjs_tree.specs.Trees.{Stmt, Stmts, NoStmt, MoreStmts, Block, IfElse}
-use Rattle.wjs_tree.specs.Height.{stmt_height, stmts_height}
-use Rattle.wjs_tree.specs.Formed.{StmtFormed, StmtsFormed}
+use Rattle.wjs_tree.specs.Trees.{Stmt, Stmts, NoStmt, MoreStmts, Block}
+use Rattle.wjs_tree.specs.Height.{stmts_height}
+use Rattle.wjs_tree.specs.Formed.{StmtsFormed}
 use Rattle.wjs_tree.specs.Ends.{token_at, HasSign}
-use Rattle.wjs_tree.specs.Spelling.{StmtStands, StmtsStand}
-use Rattle.wjs_tree.specs.Shows.{Has, StmtShows, StmtsShow, Keeps}
+use Rattle.wjs_tree.specs.Spelling.{StmtsStand}
+use Rattle.wjs_tree.specs.Shows.{Has, StmtsShow, Keeps}
 use Rattle.wjs_tree.proofs.Kept.{stmt_kept, stmts_kept, keeps_self, keeps_both}
 use Rattle.wjs_parse_stmt.specs.declared.kind.Kind.TheVariants as kinds
 use Rattle.wjs_parse_stmt.specs.declared.parts.Piece.{Piece}
@@ -20,7 +19,7 @@ use Rattle.wjs_parse_stmt.specs.declared.parts.Listed.{Listed}
 use Rattle.wjs_parse_stmt.specs.Kinds.{kind_of_stmt}
 use Rattle.wjs_parse_stmt.specs.Readings.{StmtReading, Stops, StmtsForm, BlockForm, is_closer}
 use Rattle.wjs_parse_stmt.specs.Answers.{KindIs, FindsStmt, FindsStmts, FindsBlock}
-use Rattle.wjs_parse_stmt.proofs.Forms.{told, of_kind, starting, no_start, start_stops, close_stops}
+use Rattle.wjs_parse_stmt.proofs.Forms.{of_kind, starting, no_start, start_stops, close_stops}
 
 -- The statements before a place are read, and each list goes through them.
 pub record Gathered (toks : List Tok) (room at : ℕ) (ns : List Node) (list : List NodeId) (place : ℕ) : Type 0 where

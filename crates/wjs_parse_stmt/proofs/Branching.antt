@@ -1,6 +1,5 @@
 -- `if`, with all that stands behind its `else`s.
-use Rattle.std.proofs.Common.{◌≡◌, ℕ, ◌+◌, ◌-◌, ◌<◌, ◌≤◌, ◌⊎◌, inl, inr, Bool, true, false, List, [], ◌∷◌, ◌++◌, Option, Some, None, refl, sym, ap, ◌∙◌, subst, arith}
-use Rattle.wjs_tree.specs.declared.tokens.Token.{Token}
+use Rattle.std.proofs.Common.{◌≡◌, ℕ, ◌+◌, ◌-◌, ◌<◌, ◌⊎◌, inl, inr, true, false, List, [], ◌∷◌, ◌++◌, None, refl, sym, ap, ◌∙◌, subst, arith}
 use Rattle.wjs_tree.specs.declared.tokens.Token.TheVariants as tokens
 use Rattle.wjs_tree.specs.declared.signs.Sign.TheVariants as signs
 use Rattle.wjs_tree.specs.declared.keys.Key.TheVariants as keys
@@ -8,20 +7,18 @@ use Rattle.wjs_tree.specs.declared.tokens.Tok.{Tok}
 use Rattle.wjs_tree.specs.declared.node.Node.{Node}
 use Rattle.wjs_tree.specs.declared.node.Node.TheVariants as nodes
 use Rattle.wjs_tree.specs.declared.node.NodeId.{NodeId}
-use Rattle.wjs_tree.specs.Trees.{Expr, Stmt, Block, If, IfElse}
-use Rattle.wjs_tree.specs.Height.{height, stmt_height}
+use Rattle.wjs_tree.specs.Trees.{Expr, Stmt, If, IfElse}
 use Rattle.wjs_tree.specs.Formed.{is_open_if}
-use Rattle.wjs_tree.specs.Ends.{token_at, HasToken, HasSign, HasKey}
+use Rattle.wjs_tree.specs.Ends.{token_at, HasKey}
 use Rattle.wjs_tree.specs.Spelling.{Stands, StmtStands}
-use Rattle.wjs_tree.specs.Shows.{Has, Shows, StmtShows, Keeps}
-use Rattle.wjs_tree.proofs.Kept.{kept, stmt_kept, keeps_self, keeps_both}
-use Rattle.wjs_parse_expr.specs.Readings.{Reading}
+use Rattle.wjs_tree.specs.Shows.{Has, Keeps}
+use Rattle.wjs_tree.proofs.Kept.{kept, stmt_kept}
 use Rattle.wjs_parse_expr.proofs.Readings.{same_token}
 use Rattle.wjs_parse_stmt.specs.declared.kind.Kind.TheVariants as kinds
 use Rattle.wjs_parse_stmt.specs.declared.parts.Piece.{Piece}
 use Rattle.wjs_parse_stmt.specs.declared.parts.Spot.{Spot}
 use Rattle.wjs_parse_stmt.specs.declared.parts.Branch.{Branch}
-use Rattle.wjs_parse_stmt.specs.Kinds.{kind_of, key_kind, kind_of_stmt}
+use Rattle.wjs_parse_stmt.specs.Kinds.{kind_of, kind_of_stmt}
 use Rattle.wjs_parse_stmt.specs.Readings.{StmtReading, Stops, TestForm}
 use Rattle.wjs_parse_stmt.specs.Answers.{KindIs, FindsStmt, FindsExpr}
 use Rattle.wjs_parse_stmt.specs.Branches.{BranchForm, FindsBranch}

@@ -1,11 +1,11 @@
 -- `if`s behind each other's `else`s, which a loop makes from the last to the first.
-use Rattle.std.proofs.Common.{◌≡◌, ℕ, ◌+◌, ◌-◌, take, ◌<◌, ◌≤◌, List, [], ◌∷◌, ◌++◌, Option, Some, None, length, refl, sym, ap, ◌∙◌, subst, arith}
+use Rattle.std.proofs.Common.{◌≡◌, ℕ, ◌-◌, take, ◌<◌, ◌≤◌, List, [], ◌∷◌, ◌++◌, Some, refl, sym, ap, ◌∙◌, subst, arith}
 use Rattle.wjs_tree.specs.declared.node.Node.{Node}
 use Rattle.wjs_tree.specs.declared.node.Node.TheVariants as nodes
 use Rattle.wjs_tree.specs.declared.node.NodeId.{NodeId}
-use Rattle.wjs_tree.specs.Trees.{Expr, Stmt, IfElse}
+use Rattle.wjs_tree.specs.Trees.{Stmt, IfElse}
 use Rattle.wjs_tree.specs.Shows.{Has, Shows, StmtShows, Keeps}
-use Rattle.wjs_tree.proofs.Kept.{kept, stmt_kept, keeps_self, keeps_both}
+use Rattle.wjs_tree.proofs.Kept.{kept, stmt_kept}
 use Rattle.wjs_parse_stmt.specs.declared.parts.Branch.{Branch}
 use Rattle.wjs_parse_stmt.specs.Chains.{Head, chain, HeadsShow, BranchesBelow, IsChained}
 

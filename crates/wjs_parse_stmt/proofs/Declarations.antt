@@ -1,47 +1,30 @@
 -- `var`.
-use Rattle.std.proofs.Common.{◌≡◌, ℕ, ◌+◌, ◌-◌, ◌<◌, ◌≤◌, ◌⊎◌, inl, inr, Bool, true, false, List, [], ◌∷◌, ◌++◌, Option, Some, None, refl, sym, ap, ◌∙◌, subst, arith}
-use Rattle.wjs_base.specs.declared.ids.TextId.{TextId}
-use Rattle.wjs_tree.specs.declared.tokens.Token.{Token}
+use Rattle.std.proofs.Common.{◌≡◌, ℕ, ◌+◌, ◌-◌, ◌<◌, inl, inr, true, false, List, ◌∷◌, refl, sym, ap, subst, arith}
 use Rattle.wjs_tree.specs.declared.tokens.Token.TheVariants as tokens
 use Rattle.wjs_tree.specs.declared.signs.Sign.TheVariants as signs
-use Rattle.wjs_tree.specs.declared.keys.Key.TheVariants as keys
 use Rattle.wjs_tree.specs.declared.tokens.Tok.{Tok}
 use Rattle.wjs_tree.specs.declared.node.Node.{Node}
 use Rattle.wjs_tree.specs.declared.node.Node.TheVariants as nodes
 use Rattle.wjs_tree.specs.declared.node.NodeId.{NodeId}
-use Rattle.wjs_tree.specs.declared.node.Handler.{Handler}
 use Rattle.wjs_tree.specs.declared.node.End.{End}
-use Rattle.wjs_tree.specs.declared.node.ForInit.TheVariants as inits
-use Rattle.wjs_tree.specs.Trees.{Expr, Optional, Absent, Present, Variables, Init, NoInit, InitExpr, InitVar, Stmts, Stmt, Block, Var, Empty, ExprStmt, If, IfElse, DoWhile, While, For, ForIn, ForVarIn, Continue, Break, Return, Throw, Label, Switch, TryCatch, TryFinally, TryBoth, Within}
-use Rattle.wjs_tree.specs.Height.{height, stmt_height, stmts_height, optional_height, variables_height}
-use Rattle.wjs_tree.specs.Levels.{level, is_target}
-use Rattle.wjs_tree.specs.Formed.{WellFormed, is_open_if}
-use Rattle.wjs_tree.specs.Ends.{token_at, HasToken, HasSign, HasKey, Complete, Ends}
-use Rattle.wjs_tree.specs.Spelling.{Stands, StmtStands, StmtsStand, OptionalStands, VariablesStand}
-use Rattle.wjs_tree.specs.Shows.{Has, Shows, StmtShows, StmtsShow, OptionalShows, VariablesShow, Keeps}
-use Rattle.wjs_tree.proofs.Kept.{kept, stmt_kept, stmts_kept, optional_kept, variables_kept, keeps_self, keeps_both}
-use Rattle.wjs_parse_expr.specs.Readings.{Reading}
+use Rattle.wjs_tree.specs.Trees.{Optional, Absent, Present, Variables, Stmt, Var}
+use Rattle.wjs_tree.specs.Ends.{HasSign, Ends}
+use Rattle.wjs_tree.specs.Shows.{Has, Keeps}
+use Rattle.wjs_tree.proofs.Kept.{variables_kept}
 use Rattle.wjs_parse_expr.proofs.Readings.{same_token}
-use Rattle.wjs_parse_stmt.specs.declared.kind.Kind.{Kind}
 use Rattle.wjs_parse_stmt.specs.declared.kind.Kind.TheVariants as kinds
-use Rattle.wjs_parse_stmt.specs.declared.parts.Piece.{Piece}
-use Rattle.wjs_parse_stmt.specs.declared.parts.Spot.{Spot}
 use Rattle.wjs_parse_stmt.specs.declared.parts.Ended.{Ended}
-use Rattle.wjs_parse_stmt.specs.declared.parts.Maybe.{Maybe}
-use Rattle.wjs_parse_stmt.specs.declared.parts.Rest.{Rest}
-use Rattle.wjs_parse_stmt.specs.declared.parts.Handled.{Handled}
 use Rattle.wjs_parse_stmt.specs.declared.parts.ListedVariables.{ListedVariables}
-use Rattle.wjs_parse_stmt.specs.Kinds.{kind_of, kind_of_stmt}
-use Rattle.wjs_parse_stmt.specs.Readings.{StmtReading, Stops, TestForm, UpTo, MaybeForm, BlockForm, HandlerForm, RestForm, VariablesForm, ShutList}
-use Rattle.wjs_parse_stmt.specs.Answers.{KindIs, FindsStmt, FindsExpr, FindsMaybe, FindsBlock}
-use Rattle.wjs_parse_stmt.specs.Branches.{FindsRest, FindsHandler, FindsFirst}
+use Rattle.wjs_parse_stmt.specs.Kinds.{kind_of_stmt}
+use Rattle.wjs_parse_stmt.specs.Readings.{StmtReading, Stops, VariablesForm, ShutList}
+use Rattle.wjs_parse_stmt.specs.Answers.{KindIs, FindsStmt}
 use Rattle.wjs_parse_stmt.specs.Lists.{FindsVariables}
-use Rattle.wjs_parse_stmt.proofs.Forms.{told, of_kind, start_stops}
+use Rattle.wjs_parse_stmt.proofs.Forms.{told, of_kind}
 use Rattle.wjs_tree.specs.declared.signs.Sign.{Sign}
 use Rattle.wjs_tree.specs.Trees.{NoVariable, Variable}
 use Rattle.wjs_tree.specs.Levels.{ends_in_update}
 use Rattle.wjs_tree.specs.Ends.{Ending, InName, InExpr, CanInsert, continues}
-use Rattle.wjs_tree.specs.Formed.{AreSome, VariablesFormed}
+use Rattle.wjs_tree.specs.Formed.{AreSome}
 use Rattle.wjs_tree.specs.Spelling.{last_ending}
 use Rattle.wjs_tree.specs.declared.node.End.TheVariants as ends
 use Rattle.wjs_parse_stmt.specs.Readings.{ending_of, value_ending, last_value, Shut}

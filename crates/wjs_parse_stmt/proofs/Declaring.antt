@@ -1,32 +1,29 @@
 -- Variables, which a loop reads one by one.
-use Rattle.std.proofs.Common.{◌≡◌, ℕ, ◌+◌, ◌-◌, ◌<◌, ◌≤◌, ◌⊎◌, inl, inr, Bool, true, false, List, [], ◌∷◌, ◌++◌, Option, Some, None, refl, sym, ap, ◌∙◌, subst, arith, append_assoc}
+use Rattle.std.proofs.Common.{◌≡◌, ℕ, ◌+◌, ◌≤◌, Bool, List, [], ◌∷◌, ◌++◌, Option, Some, None, refl, sym, ap, ◌∙◌, subst, arith, append_assoc}
 use Rattle.wjs_base.specs.declared.ids.TextId.{TextId}
-use Rattle.wjs_tree.specs.declared.tokens.Token.{Token}
 use Rattle.wjs_tree.specs.declared.tokens.Token.TheVariants as tokens
-use Rattle.wjs_tree.specs.declared.signs.Sign.{Sign}
 use Rattle.wjs_tree.specs.declared.signs.Sign.TheVariants as signs
 use Rattle.wjs_tree.specs.declared.tokens.Tok.{Tok}
 use Rattle.wjs_tree.specs.declared.node.Node.{Node}
 use Rattle.wjs_tree.specs.declared.node.Declarator.{Declarator}
 use Rattle.wjs_tree.specs.Trees.{Expr, Optional, Absent, Present, Variables, NoVariable, Variable}
-use Rattle.wjs_tree.specs.Levels.{ends_in_update}
-use Rattle.wjs_tree.specs.Height.{height, variables_height, optional_height}
-use Rattle.wjs_tree.specs.Formed.{AreSome, VariablesFormed, InitialiserFormed}
+use Rattle.wjs_tree.specs.Height.{variables_height}
+use Rattle.wjs_tree.specs.Formed.{AreSome, VariablesFormed}
 use Rattle.wjs_tree.specs.Children.{OptionBelow, DeclaratorsBelow}
-use Rattle.wjs_tree.specs.Ends.{token_at, HasToken, HasSign, InName, InExpr, Ending}
+use Rattle.wjs_tree.specs.Ends.{token_at, HasToken, HasSign, InExpr}
 use Rattle.wjs_tree.specs.declared.node.NodeId.{NodeId}
 use Rattle.wjs_tree.specs.Spelling.{Stands, InitialiserStands, VariablesStand, MoreVariablesStand, last_ending}
-use Rattle.wjs_tree.specs.Shows.{OptionalShows, VariablesShow, Keeps}
-use Rattle.wjs_tree.proofs.Kept.{optional_kept, variables_kept, keeps_self, keeps_both}
+use Rattle.wjs_tree.specs.Shows.{VariablesShow, Keeps}
+use Rattle.wjs_tree.proofs.Kept.{optional_kept, keeps_self, keeps_both}
 use Rattle.wjs_parse_expr.specs.declared.parts.Part.{Part}
 use Rattle.wjs_parse_expr.specs.Reach.{reach}
-use Rattle.wjs_parse_expr.specs.Readings.{Reading, Continues}
+use Rattle.wjs_parse_expr.specs.Readings.{Reading}
 use Rattle.wjs_parse_expr.specs.Answers.{Origin, Finds, Nothing}
 use Rattle.wjs_parse_expr.proofs.Readings.{same_token}
 use Rattle.wjs_parse_stmt.specs.declared.parts.Declared.{Declared}
 use Rattle.wjs_parse_stmt.specs.declared.parts.ListedVariables.{ListedVariables}
 use Rattle.wjs_parse_stmt.specs.declared.parts.Stop.TheVariants as stops
-use Rattle.wjs_parse_stmt.specs.Readings.{ending_of, value_ending, update_before, VariableForm, VariablesForm, Shut, ShutList, last_value}
+use Rattle.wjs_parse_stmt.specs.Readings.{ending_of, value_ending, update_before, VariableForm, VariablesForm, Shut, ShutList}
 use Rattle.wjs_parse_stmt.specs.Lists.{FindsVariable, FindsVariables}
 use Rattle.wjs_parse_stmt.proofs.Ending.{same_expr, last_update}
 

@@ -1,6 +1,5 @@
 -- An expression before the end of its statement is the longest one.
-use Rattle.std.proofs.Common.{◌≡◌, ℕ, suc, ◌+◌, ◌-◌, ◌<◌, ◌≤◌, ◌⊎◌, inl, inr, Bool, true, false, not, ◌&&◌, ◌||◌, nat_le, cond, List, Option, Some, None, refl, sym, ap, ◌∙◌, subst, arith}
-use Rattle.std.proofs.lemmas.Bool.{eqb-true}
+use Rattle.std.proofs.Common.{◌≡◌, ℕ, ◌+◌, ◌-◌, ◌<◌, ◌≤◌, ◌⊎◌, inl, inr, Bool, true, false, not, ◌&&◌, ◌||◌, nat_le, cond, List, Some, refl, sym, ap, ◌∙◌, arith}
 use Rattle.std.specs.Prelude.{slice_get}
 use Rattle.wjs_tree.specs.declared.tokens.Token.{Token}
 use Rattle.wjs_tree.specs.declared.tokens.Token.TheVariants as tokens
@@ -20,9 +19,9 @@ use Rattle.wjs_tree.specs.Trees.{Expr, Name, Number, Text, This, ThisWorld, Null
 use Rattle.wjs_tree.specs.Levels.{level, is_bare, ends_in_update}
 use Rattle.wjs_tree.specs.Formed.{WellFormed}
 use Rattle.wjs_tree.specs.Spelling.{Stands, spelt_token}
-use Rattle.wjs_tree.specs.Ends.{token_at, HasToken, HasSign, is_joined, is_operator, is_suffix, continues, Ending, Complete, InName, InExpr, CanInsert, Offends, Ends}
+use Rattle.wjs_tree.specs.Ends.{token_at, HasSign, is_joined, is_operator, is_suffix, continues, Ending, InExpr, CanInsert, Offends, Ends}
 use Rattle.wjs_parse_expr.specs.Reach.{reach, token_reach, sign_reach, key_reach}
-use Rattle.wjs_parse_expr.specs.Readings.{Reading, Continues, edge}
+use Rattle.wjs_parse_expr.specs.Readings.{Continues, edge}
 use Rattle.wjs_parse_expr.proofs.Readings.{edge_high}
 use Rattle.wjs_parse_expr.proofs.Heads.{bare_level}
 use Rattle.wjs_parse_stmt.specs.Readings.{is_update_token, update_before}

@@ -1,26 +1,20 @@
 -- Expressions as parts of statements.
-use Rattle.std.proofs.Common.{◌≡◌, ℕ, ◌+◌, ◌-◌, ◌<◌, ◌≤◌, ◌⊎◌, inl, inr, Bool, true, false, List, [], Option, Some, None, refl, sym, ap, ◌∙◌, subst, arith}
+use Rattle.std.proofs.Common.{◌≡◌, ℕ, ◌+◌, Bool, false, List, [], Some, None, refl, sym, ap, ◌∙◌, subst, arith}
 use Rattle.wjs_tree.specs.declared.tokens.Token.TheVariants as tokens
 use Rattle.wjs_tree.specs.declared.signs.Sign.{Sign}
 use Rattle.wjs_tree.specs.declared.signs.Sign.TheVariants as signs
 use Rattle.wjs_tree.specs.declared.tokens.Tok.{Tok}
 use Rattle.wjs_tree.specs.declared.node.Node.{Node}
-use Rattle.wjs_tree.specs.declared.node.NodeId.{NodeId}
 use Rattle.wjs_tree.specs.declared.node.End.{End}
 use Rattle.wjs_tree.specs.Trees.{Expr, Optional, Absent, Present}
 use Rattle.wjs_tree.specs.Levels.{ends_in_update}
-use Rattle.wjs_tree.specs.Height.{optional_height}
-use Rattle.wjs_tree.specs.Ends.{token_at, HasSign, InExpr, Ends}
-use Rattle.wjs_tree.specs.Spelling.{Stands}
+use Rattle.wjs_tree.specs.Ends.{HasSign, InExpr, Ends}
 use Rattle.wjs_parse_expr.specs.declared.parts.Part.{Part}
 use Rattle.wjs_parse_expr.specs.Reach.{reach, sign_reach}
-use Rattle.wjs_parse_expr.specs.Readings.{Reading}
-use Rattle.wjs_parse_expr.specs.Answers.{Origin, Finds, Nothing}
+use Rattle.wjs_parse_expr.specs.Answers.{Origin, Finds}
 use Rattle.wjs_parse_expr.proofs.Beginnings.{can_begin}
 use Rattle.wjs_parse_expr.proofs.Unaries.{never_begins}
 use Rattle.wjs_parse_stmt.specs.declared.parts.Spot.{Spot}
-use Rattle.wjs_parse_stmt.specs.declared.parts.Maybe.{Maybe}
-use Rattle.wjs_parse_stmt.specs.declared.parts.Valued.{Valued}
 use Rattle.wjs_parse_stmt.specs.declared.parts.Ended.{Ended}
 use Rattle.wjs_parse_stmt.specs.Readings.{UpTo, TestForm, MaybeForm, ValueForm, update_before}
 use Rattle.wjs_parse_stmt.specs.Answers.{FindsExpr, FindsMaybe, FindsValue}

@@ -1,5 +1,5 @@
 -- A statement is of the kind that its first tokens tell.
-use Rattle.std.proofs.Common.{◌≡◌, ℕ, ◌+◌, ◌-◌, ◌<◌, ◌≤◌, ◌⊎◌, inl, inr, Bool, true, false, ◌||◌, List, Option, Some, None, refl, sym, ap, ◌∙◌, subst, arith}
+use Rattle.std.proofs.Common.{◌≡◌, ℕ, ◌+◌, Bool, true, false, ◌||◌, List, Option, Some, None, refl, sym, ap, ◌∙◌, subst, arith}
 use Rattle.wjs_base.specs.declared.ids.TextId.{TextId}
 use Rattle.wjs_tree.specs.declared.tokens.Token.{Token}
 use Rattle.wjs_tree.specs.declared.tokens.Token.TheVariants as tokens
@@ -12,7 +12,7 @@ use Rattle.wjs_tree.specs.declared.node.End.{End}
 use Rattle.wjs_tree.specs.declared.node.End.TheVariants as ends
 use Rattle.wjs_tree.specs.Trees.{Expr, Absent, Present, Stmt, Block, Var, Empty, ExprStmt, If, IfElse, DoWhile, While, For, ForIn, ForVarIn, Continue, Break, Return, Throw, Label, Switch, TryCatch, TryFinally, TryBoth, Within}
 use Rattle.wjs_tree.specs.Levels.{starts_with_brace, ends_in_update}
-use Rattle.wjs_tree.specs.Formed.{StmtFormed, is_open_if}
+use Rattle.wjs_tree.specs.Formed.{StmtFormed}
 use Rattle.wjs_tree.specs.Spelling.{Stands, StmtStands}
 use Rattle.wjs_tree.specs.Ends.{token_at, HasToken, HasSign, HasKey, InExpr, Ends}
 use Rattle.wjs_parse_expr.proofs.Beginnings.{can_begin}
@@ -22,7 +22,7 @@ use Rattle.wjs_parse_stmt.specs.declared.kind.Kind.TheVariants as kinds
 use Rattle.wjs_parse_stmt.specs.Kinds.{kind_of, key_kind, sign_kind, word_kind, colon_kind, kind_of_stmt}
 use Rattle.wjs_parse_stmt.specs.Readings.{StmtReading, Stops, is_closer}
 use Rattle.wjs_parse_stmt.specs.Answers.{KindIs}
-use Rattle.wjs_parse_stmt.proofs.Starts.{is_brace, Opening, opening, only_name, plain_token}
+use Rattle.wjs_parse_stmt.proofs.Starts.{opening, only_name, plain_token}
 
 -- before an end stands no colon
 no_colon : (toks : List Tok) (x : TextId) (e : Expr) (end : End) (i m n : ℕ) → HasToken toks i (tokens.Word x) → HasSign toks (i + 1) signs.Colon → Stands toks e i m → Ends toks (InExpr (ends_in_update e)) end m n → (HasSign toks n signs.Colon → ⊥) → ⊥

@@ -1,4 +1,8 @@
 pub mod Bounds
+pub mod Spans
+pub mod Making
+pub mod Listing
+pub mod Weaving
 pub mod Ending
 pub mod Starts
 pub mod Forms

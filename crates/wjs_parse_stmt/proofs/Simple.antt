@@ -1,5 +1,5 @@
 -- Statements without statements in them.
-use Rattle.std.proofs.Common.{◌≡◌, ℕ, suc, ◌+◌, ◌-◌, ◌<◌, ◌≤◌, ◌⊎◌, inl, inr, Bool, true, false, List, [], ◌∷◌, length, Option, Some, None, refl, sym, ap, ◌∙◌, subst, arith}
+use Rattle.std.proofs.Common.{◌≡◌, ℕ, ◌+◌, ◌-◌, ◌<◌, ◌≤◌, ◌⊎◌, inl, inr, true, false, List, [], ◌∷◌, length, Option, Some, None, refl, sym, ap, ◌∙◌, subst, arith}
 use Rattle.std.specs.Prelude.{slice_get}
 use Rattle.wjs_base.specs.declared.ids.TextId.{TextId}
 use Rattle.wjs_tree.specs.declared.tokens.Token.{Token}
@@ -14,21 +14,17 @@ use Rattle.wjs_tree.specs.declared.node.Node.TheVariants as nodes
 use Rattle.wjs_tree.specs.declared.node.NodeId.{NodeId}
 use Rattle.wjs_tree.specs.declared.node.End.{End}
 use Rattle.wjs_tree.specs.declared.node.End.TheVariants as ends
-use Rattle.wjs_tree.specs.Trees.{Expr, Optional, Absent, Present, Stmt, Block, Var, Empty, ExprStmt, If, IfElse, DoWhile, While, For, ForIn, ForVarIn, Continue, Break, Return, Throw, Label, Switch, TryCatch, TryFinally, TryBoth, Within}
-use Rattle.wjs_tree.specs.Levels.{starts_with_brace, ends_in_update}
+use Rattle.wjs_tree.specs.Trees.{Expr, Absent, Present, Stmt, Block, Empty, ExprStmt, IfElse, Continue, Break, Return, Throw}
+use Rattle.wjs_tree.specs.Levels.{starts_with_brace}
 use Rattle.wjs_tree.specs.Height.{stmt_height}
-use Rattle.wjs_tree.specs.Formed.{StmtFormed}
-use Rattle.wjs_tree.specs.Spelling.{Stands, StmtStands, LabelStands}
-use Rattle.wjs_tree.specs.Ends.{token_at, HasToken, HasSign, HasKey, IsJoined, is_joined, Ending, Complete, InExpr, CanInsert, Ends, continues}
+use Rattle.wjs_tree.specs.Spelling.{Stands, LabelStands}
+use Rattle.wjs_tree.specs.Ends.{token_at, HasToken, IsJoined, is_joined, Complete, CanInsert, Ends}
 use Rattle.wjs_tree.specs.Shows.{Keeps, Has}
 use Rattle.wjs_tree.proofs.Kept.{kept}
-use Rattle.wjs_parse_expr.specs.Readings.{Reading}
 use Rattle.wjs_parse_expr.proofs.Readings.{same_token, token_within}
-use Rattle.wjs_parse_expr.proofs.Unaries.{begins, never_begins}
+use Rattle.wjs_parse_expr.proofs.Unaries.{begins}
 use Rattle.wjs_parse_expr.proofs.Beginnings.{can_begin}
-use Rattle.wjs_parse_stmt.specs.declared.kind.Kind.{Kind}
 use Rattle.wjs_parse_stmt.specs.declared.kind.Kind.TheVariants as kinds
-use Rattle.wjs_parse_stmt.specs.declared.parts.Piece.{Piece}
 use Rattle.wjs_parse_stmt.specs.declared.parts.Valued.{Valued}
 use Rattle.wjs_parse_stmt.specs.declared.parts.Ended.{Ended}
 use Rattle.wjs_parse_stmt.specs.Kinds.{kind_of, kind_of_stmt}

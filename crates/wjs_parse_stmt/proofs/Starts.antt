@@ -1,5 +1,5 @@
 -- The tokens that begin statements.
-use Rattle.std.proofs.Common.{◌≡◌, ℕ, ◌+◌, ◌-◌, ◌<◌, ◌≤◌, ◌⊎◌, inl, inr, Bool, true, false, ◌||◌, List, Option, Some, None, refl, sym, ap, ◌∙◌, subst, arith}
+use Rattle.std.proofs.Common.{◌≡◌, ℕ, ◌+◌, Bool, true, false, List, Option, Some, None, refl, ap, ◌∙◌, subst}
 use Rattle.wjs_base.specs.declared.ids.TextId.{TextId}
 use Rattle.wjs_tree.specs.declared.tokens.Token.{Token}
 use Rattle.wjs_tree.specs.declared.tokens.Token.TheVariants as tokens
@@ -17,19 +17,14 @@ use Rattle.wjs_tree.specs.declared.operators.BinaryOperator.TheVariants as binar
 use Rattle.wjs_tree.specs.declared.operators.AssignOperator.{AssignOperator}
 use Rattle.wjs_tree.specs.declared.operators.AssignOperator.TheVariants as assigns
 use Rattle.wjs_tree.specs.Operators.{update_token, prefix_token, binary_token, assign_token}
-use Rattle.wjs_tree.specs.Trees.{Expr, Name, Number, Text, This, ThisWorld, Null, Boolean, Paren, ArrayLit, ObjectLit, Function, Dot, At, Call, NewWith, NewBare, Postfix, Prefix, Binary, Cond, Assign, Comma, Absent, Present, Stmt, Block, Var, Empty, ExprStmt, If, IfElse, DoWhile, While, For, ForIn, ForVarIn, Continue, Break, Return, Throw, Label, Switch, TryCatch, TryFinally, TryBoth, Within}
+use Rattle.wjs_tree.specs.Trees.{Expr, Name, Number, Text, This, ThisWorld, Null, Boolean, Paren, ArrayLit, ObjectLit, Function, Dot, At, Call, NewWith, NewBare, Postfix, Prefix, Binary, Cond, Assign, Comma}
 use Rattle.wjs_tree.specs.Levels.{starts_with_brace}
-use Rattle.wjs_tree.specs.Formed.{StmtFormed, is_open_if}
-use Rattle.wjs_tree.specs.Spelling.{Stands, StmtStands}
-use Rattle.wjs_tree.specs.Ends.{token_at, HasToken, HasSign, HasKey}
+use Rattle.wjs_tree.specs.Spelling.{Stands}
+use Rattle.wjs_tree.specs.Ends.{HasToken, HasSign}
 use Rattle.wjs_parse_expr.proofs.Beginnings.{can_begin}
-use Rattle.wjs_parse_expr.proofs.Unaries.{begins}
 use Rattle.wjs_parse_expr.proofs.Readings.{same_token}
-use Rattle.wjs_parse_stmt.specs.declared.kind.Kind.{Kind}
 use Rattle.wjs_parse_stmt.specs.declared.kind.Kind.TheVariants as kinds
-use Rattle.wjs_parse_stmt.specs.Kinds.{kind_of, key_kind, sign_kind, word_kind, colon_kind, kind_of_stmt}
-use Rattle.wjs_parse_stmt.specs.Readings.{StmtReading, Stops, is_closer}
-use Rattle.wjs_parse_stmt.specs.Answers.{KindIs}
+use Rattle.wjs_parse_stmt.specs.Kinds.{kind_of, key_kind, sign_kind, word_kind, colon_kind}
 
 -- `{` and `function`
 abbrev pub is_brace : Token → Bool

@@ -1,5 +1,5 @@
 -- What each reader of statements answers: the tree that it reads, and that no other is read there.
-use Rattle.std.specs.Prelude.{◌≡◌, ℕ, ◌+◌, ◌<◌, ◌≤◌, Bool, false, List, length, Option, Some, None}
+use Rattle.std.specs.Prelude.{◌≡◌, ℕ, ◌+◌, ◌<◌, ◌≤◌, List, length, Option, Some, None}
 use Rattle.std.specs.declared.result.Result.{Result}
 use Rattle.std.specs.declared.result.Result.TheVariants.{Ok, Err}
 use Rattle.wjs_base.specs.declared.ids.TextId.{TextId}
@@ -9,14 +9,12 @@ use Rattle.wjs_tree.specs.declared.tokens.Token.TheVariants as tokens
 use Rattle.wjs_tree.specs.declared.node.Node.{Node}
 use Rattle.wjs_tree.specs.declared.node.Node.TheVariants as nodes
 use Rattle.wjs_tree.specs.declared.node.NodeId.{NodeId}
-use Rattle.wjs_tree.specs.declared.node.Declarator.{Declarator}
-use Rattle.wjs_tree.specs.declared.node.Clause.{Clause}
 use Rattle.wjs_tree.specs.declared.node.End.{End}
-use Rattle.wjs_tree.specs.Trees.{Expr, Optional, Variables, Stmt, Stmts, Clauses, Elements}
+use Rattle.wjs_tree.specs.Trees.{Expr, Optional, Stmt, Stmts}
 use Rattle.wjs_tree.specs.Formed.{is_open_if}
-use Rattle.wjs_tree.specs.Children.{AreBelow, OptionBelow, DeclaratorsBelow, ClausesBelow}
+use Rattle.wjs_tree.specs.Children.{AreBelow, OptionBelow}
 use Rattle.wjs_tree.specs.Ends.{token_at, HasToken, IsJoined}
-use Rattle.wjs_tree.specs.Shows.{Has, Shows, OptionalShows, VariablesShow, StmtShows, StmtsShow, ClausesShow, ElementsShow}
+use Rattle.wjs_tree.specs.Shows.{Has, Shows, OptionalShows, StmtShows, StmtsShow}
 use Rattle.wjs_parse_stmt.specs.declared.kind.Kind.{Kind}
 use Rattle.wjs_parse_stmt.specs.declared.parts.Piece.{Piece}
 use Rattle.wjs_parse_stmt.specs.declared.parts.Spot.{Spot}

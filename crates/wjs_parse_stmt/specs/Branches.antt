@@ -1,11 +1,10 @@
 -- What readers of parts of `for`, `if`, `switch` and `try` answer.
-use Rattle.std.specs.Prelude.{◌≡◌, ℕ, ◌+◌, ◌<◌, ◌≤◌, Bool, true, List, length, Option, Some, None}
+use Rattle.std.specs.Prelude.{◌≡◌, ℕ, ◌+◌, ◌<◌, ◌≤◌, true, List, length, Option, Some, None}
 use Rattle.std.specs.declared.result.Result.{Result}
 use Rattle.std.specs.declared.result.Result.TheVariants.{Ok, Err}
 use Rattle.wjs_base.specs.declared.ids.TextId.{TextId}
 use Rattle.wjs_base.specs.declared.ids.OutOfMemory.{OutOfMemory}
 use Rattle.wjs_tree.specs.declared.tokens.Tok.{Tok}
-use Rattle.wjs_tree.specs.declared.keys.Key.TheVariants as keys
 use Rattle.wjs_tree.specs.declared.node.Node.{Node}
 use Rattle.wjs_tree.specs.declared.node.Node.TheVariants as nodes
 use Rattle.wjs_tree.specs.declared.node.NodeId.{NodeId}
@@ -13,7 +12,6 @@ use Rattle.wjs_tree.specs.Trees.{Expr, Optional, Stmt, Stmts, Clauses}
 use Rattle.wjs_tree.specs.Levels.{is_target}
 use Rattle.wjs_tree.specs.Formed.{is_open_if}
 use Rattle.wjs_tree.specs.Children.{OptionBelow, AreBelow, ClausesBelow}
-use Rattle.wjs_tree.specs.Ends.{HasKey}
 use Rattle.wjs_tree.specs.Shows.{Has, Shows, OptionalShows, StmtShows, StmtsShow, ClausesShow}
 use Rattle.wjs_parse_expr.specs.declared.parts.Part.{Part}
 use Rattle.wjs_parse_expr.specs.Answers.{Best}

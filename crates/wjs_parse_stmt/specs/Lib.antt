@@ -4,3 +4,4 @@ pub mod Answers
 pub mod Lists
 pub mod Branches
 pub mod Chains
+pub mod Made

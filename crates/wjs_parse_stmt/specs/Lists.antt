@@ -1,5 +1,5 @@
 -- What readers of lists in statements answer.
-use Rattle.std.specs.Prelude.{◌≡◌, ℕ, ◌+◌, ◌<◌, ◌≤◌, Bool, List, length, Option, Some, None}
+use Rattle.std.specs.Prelude.{◌≡◌, ℕ, ◌<◌, ◌≤◌, Bool, List, length, Option, Some, None}
 use Rattle.std.specs.declared.result.Result.{Result}
 use Rattle.std.specs.declared.result.Result.TheVariants.{Ok, Err}
 use Rattle.wjs_base.specs.declared.ids.TextId.{TextId}
@@ -7,7 +7,7 @@ use Rattle.wjs_base.specs.declared.ids.OutOfMemory.{OutOfMemory}
 use Rattle.wjs_tree.specs.declared.tokens.Tok.{Tok}
 use Rattle.wjs_tree.specs.declared.tokens.Token.TheVariants as tokens
 use Rattle.wjs_tree.specs.declared.node.Node.{Node}
-use Rattle.wjs_tree.specs.Trees.{Expr, Optional, Variables}
+use Rattle.wjs_tree.specs.Trees.{Optional, Variables}
 use Rattle.wjs_tree.specs.Children.{OptionBelow, DeclaratorsBelow}
 use Rattle.wjs_tree.specs.Ends.{HasToken}
 use Rattle.wjs_tree.specs.Spelling.{last_ending}

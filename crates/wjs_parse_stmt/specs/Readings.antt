@@ -1,5 +1,5 @@
 -- Statements and their parts that are read at a place.
-use Rattle.std.specs.Prelude.{◌≡◌, ℕ, ◌+◌, ◌-◌, ◌<◌, ◌≤◌, ◌⊎◌, Bool, true, false, List, Option, Some, None}
+use Rattle.std.specs.Prelude.{◌≡◌, ℕ, ◌+◌, ◌-◌, ◌≤◌, Bool, true, false, List, Option, Some, None}
 use Rattle.wjs_base.specs.declared.ids.TextId.{TextId}
 use Rattle.wjs_tree.specs.declared.tokens.Tok.{Tok}
 use Rattle.wjs_tree.specs.declared.tokens.Token.{Token}
@@ -10,7 +10,7 @@ use Rattle.wjs_tree.specs.declared.keys.Key.TheVariants as keys
 use Rattle.wjs_tree.specs.declared.node.End.{End}
 use Rattle.wjs_tree.specs.Trees.{Expr, Optional, Absent, Present, Variables, NoVariable, Variable, Stmt, Stmts, Clauses, Elements}
 use Rattle.wjs_tree.specs.Levels.{ends_in_update}
-use Rattle.wjs_tree.specs.Height.{height, optional_height, variables_height, stmt_height, stmts_height, clauses_height, elements_height}
+use Rattle.wjs_tree.specs.Height.{optional_height, variables_height, stmt_height, stmts_height, clauses_height, elements_height}
 use Rattle.wjs_tree.specs.Formed.{OptionalFormed, InitialiserFormed, VariablesFormed, AreSome, StmtFormed, StmtsFormed, ClausesFormed, ElementsFormed, is_open_if}
 use Rattle.wjs_tree.specs.Ends.{token_at, HasToken, HasSign, HasKey, Ending, Complete, InName, InExpr, Ends}
 use Rattle.wjs_tree.specs.Spelling.{OptionalStands, InitialiserStands, VariablesStand, StmtStands, StmtsStand, ClausesStand, ElementsStand}

@@ -8,6 +8,7 @@ ghost use Rattle.wjs_tree.specs.Ends.{HasKey};
 ghost use Rattle.wjs_tree.specs.declared.keys.Key.TheVariants as keys;
 ghost use Rattle.wjs_parse_stmt.specs.Answers.{KindIs, StmtAnswers, PieceEnds, FindsBlock, EndsBy};
 ghost use Rattle.wjs_parse_stmt.specs.Branches.{BranchAnswers, BranchEnds, HandlerAnswers, HandlerEnds, ArmAnswers, ArmEnds, ClausesAnswers, ClausesEnds};
+ghost use Rattle.wjs_parse_stmt.specs.Made.{StmtOwn, BranchOwn, ClausesOwn, ArmOwn, HandlerOwn, BehindBlock};
 
 use crate::chain::chained;
 use crate::lists::{block, statements};
@@ -36,6 +37,7 @@ pub fn conditional(
     ensures keeps { Keeps nodes.old nodes.new }
     ensures ends { PieceEnds toks.now at nodes.new result }
     ensures answer { StmtAnswers toks.now room at nodes.new result }
+    ensures own { StmtOwn functions.now nodes.old nodes.new at result }
 {
     let mut heads: Vec<Branch> = Vec::new(alloc);
     let mut place = at;
@@ -84,6 +86,7 @@ fn branch(
     ensures keeps { Keeps nodes.old nodes.new }
     ensures ends { BranchEnds toks.now at nodes.new result }
     ensures answer { BranchAnswers toks.now room at nodes.new result }
+    ensures own { BranchOwn functions.now nodes.old nodes.new at result }
 {
     let Some(test) = test(alloc, toks, at + 1, room, functions, nodes)? else {
         return Ok(None);
@@ -115,6 +118,7 @@ pub fn cases(
     ensures keeps { Keeps nodes.old nodes.new }
     ensures ends { PieceEnds toks.now at nodes.new result }
     ensures answer { StmtAnswers toks.now room at nodes.new result }
+    ensures own { StmtOwn functions.now nodes.old nodes.new at result }
 {
     let Some(test) = test(alloc, toks, at + 1, room - 1, functions, nodes)? else {
         return Ok(None);
@@ -148,6 +152,7 @@ fn clauses(
     ensures keeps { Keeps nodes.old nodes.new }
     ensures ends { ClausesEnds toks.now at nodes.new result }
     ensures answer { ClausesAnswers toks.now room at nodes.new result }
+    ensures own { ClausesOwn functions.now nodes.old nodes.new at result }
 {
     let mut list: Vec<Clause> = Vec::new(alloc);
     let mut place = at;
@@ -178,6 +183,7 @@ fn arm(
     ensures keeps { Keeps nodes.old nodes.new }
     ensures ends { ArmEnds toks.now at nodes.new result }
     ensures answer { ArmAnswers toks.now room at nodes.new result }
+    ensures own { ArmOwn functions.now nodes.old nodes.new at result }
 {
     let Some(head) = arm_head(alloc, toks, at, room, functions, nodes)? else {
         return Ok(None);
@@ -211,6 +217,7 @@ pub fn trial(
     ensures keeps { Keeps nodes.old nodes.new }
     ensures ends { PieceEnds toks.now at nodes.new result }
     ensures answer { StmtAnswers toks.now room at nodes.new result }
+    ensures own { StmtOwn functions.now nodes.old nodes.new at result }
 {
     let Some(body) = block(alloc, toks, at + 1, room - 1, functions, nodes)? else {
         return Ok(None);
@@ -252,6 +259,7 @@ fn caught(
     ensures keeps { Keeps nodes.old nodes.new }
     ensures ends { PieceEnds toks.now at nodes.new result }
     ensures answer { StmtAnswers toks.now room at nodes.new result }
+    ensures own { BehindBlock toks.now functions.now at room nodes.old (at + 1) body.node body.next nodes.new result }
 {
     let Some(found) = handler(alloc, toks, body.next, room - 1, functions, nodes)? else {
         return Ok(None);
@@ -290,6 +298,7 @@ fn handler(
     ensures keeps { Keeps nodes.old nodes.new }
     ensures ends { HandlerEnds toks.now at nodes.new result }
     ensures answer { HandlerAnswers toks.now room at nodes.new result }
+    ensures own { HandlerOwn functions.now nodes.old nodes.new at result }
 {
     if !has_sign(toks, at + 1, Sign::OpenParen) {
         return Ok(None);

@@ -2,6 +2,7 @@
 ghost use Rattle.std.specs.Prelude.{◌<◌, length, IfOk};
 ghost use Rattle.wjs_tree.specs.Shows.{Keeps};
 ghost use Rattle.wjs_parse_stmt.specs.Chains.{BranchesBelow, IsChained};
+ghost use Rattle.wjs_parse_stmt.specs.Made.{IsWoven};
 
 use crate::parts::Branch;
 use wjs_base::OutOfMemory;
@@ -14,6 +15,7 @@ pub fn chained(heads: Vec<Branch>, last: NodeId, nodes: &mut Nodes) -> Result<No
     ensures keeps { Keeps nodes.old nodes.new }
     ensures ends { IfOk result (λ id. id.0 < length nodes.new) }
     ensures answer { IfOk result (λ id. IsChained nodes.old heads.items last nodes.new id) }
+    ensures own { IfOk result (λ id. IsWoven nodes.old heads.items last nodes.new id) }
 {
     let mut left = heads;
     let mut node = last;

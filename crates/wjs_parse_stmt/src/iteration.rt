@@ -9,6 +9,7 @@ ghost use Rattle.wjs_tree.specs.declared.signs.Sign.TheVariants as signs;
 ghost use Rattle.wjs_tree.specs.declared.keys.Key.TheVariants as keys;
 ghost use Rattle.wjs_parse_stmt.specs.Answers.{KindIs, StmtAnswers, PieceEnds, EndsBy};
 ghost use Rattle.wjs_parse_stmt.specs.Branches.{FindsFirst, RestAnswers, RestEnds};
+ghost use Rattle.wjs_parse_stmt.specs.Made.{StmtOwn, RestOwn, BehindExpr};
 
 use crate::ends::end_at;
 use crate::parts::{Piece, Rest, Stop};
@@ -36,6 +37,7 @@ pub fn repeated(
     ensures keeps { Keeps nodes.old nodes.new }
     ensures ends { PieceEnds toks.now at nodes.new result }
     ensures answer { StmtAnswers toks.now room at nodes.new result }
+    ensures own { StmtOwn functions.now nodes.old nodes.new at result }
 {
     let Some(test) = test(alloc, toks, at + 1, room - 1, functions, nodes)? else {
         return Ok(None);
@@ -67,6 +69,7 @@ pub fn until(
     ensures keeps { Keeps nodes.old nodes.new }
     ensures ends { PieceEnds toks.now at nodes.new result }
     ensures answer { StmtAnswers toks.now room at nodes.new result }
+    ensures own { StmtOwn functions.now nodes.old nodes.new at result }
 {
     let Some(body) = statement(alloc, toks, at + 1, room - 1, functions, nodes)? else {
         return Ok(None);
@@ -104,6 +107,7 @@ pub fn counted(
     ensures keeps { Keeps nodes.old nodes.new }
     ensures ends { PieceEnds toks.now at nodes.new result }
     ensures answer { StmtAnswers toks.now room at nodes.new result }
+    ensures own { StmtOwn functions.now nodes.old nodes.new at result }
 {
     if !has_sign(toks, at + 1, Sign::OpenParen) {
         return Ok(None);
@@ -136,6 +140,7 @@ fn each_variable(
     ensures keeps { Keeps nodes.old nodes.new }
     ensures ends { PieceEnds toks.now at nodes.new result }
     ensures answer { StmtAnswers toks.now room at nodes.new result }
+    ensures own { StmtOwn functions.now nodes.old nodes.new at result }
 {
     let Some(name) = word_at(toks, at + 3) else {
         return Ok(None);
@@ -182,6 +187,7 @@ fn by_variables(
     ensures keeps { Keeps nodes.old nodes.new }
     ensures ends { PieceEnds toks.now at nodes.new result }
     ensures answer { StmtAnswers toks.now room at nodes.new result }
+    ensures own { StmtOwn functions.now nodes.old nodes.new at result }
 {
     let Some(first) = variables(alloc, toks, at + 3, true, room - 1, functions, nodes)? else {
         return Ok(None);
@@ -215,6 +221,7 @@ fn by_value(
     ensures keeps { Keeps nodes.old nodes.new }
     ensures ends { PieceEnds toks.now at nodes.new result }
     ensures answer { StmtAnswers toks.now room at nodes.new result }
+    ensures own { StmtOwn functions.now nodes.old nodes.new at result }
 {
     if has_sign(toks, at + 2, Sign::Semicolon) {
         return unstarted(alloc, toks, at, room, functions, nodes);
@@ -246,6 +253,7 @@ fn unstarted(
     ensures keeps { Keeps nodes.old nodes.new }
     ensures ends { PieceEnds toks.now at nodes.new result }
     ensures answer { StmtAnswers toks.now room at nodes.new result }
+    ensures own { StmtOwn functions.now nodes.old nodes.new at result }
 {
     let Some(rest) = rest(alloc, toks, at + 2, room - 1, functions, nodes)? else {
         return Ok(None);
@@ -281,6 +289,7 @@ fn started(
     ensures keeps { Keeps nodes.old nodes.new }
     ensures ends { PieceEnds toks.now at nodes.new result }
     ensures answer { StmtAnswers toks.now room at nodes.new result }
+    ensures own { BehindExpr toks.now functions.now at room nodes.old (at + 2) first.node first.next nodes.new result }
 {
     let Some(rest) = rest(alloc, toks, first.next, room - 1, functions, nodes)? else {
         return Ok(None);
@@ -315,6 +324,7 @@ fn each(
     ensures keeps { Keeps nodes.old nodes.new }
     ensures ends { PieceEnds toks.now at nodes.new result }
     ensures answer { StmtAnswers toks.now room at nodes.new result }
+    ensures own { BehindExpr toks.now functions.now at room nodes.old (at + 2) first.node first.next nodes.new result }
 {
     if !first.is_target {
         return Ok(None);
@@ -356,6 +366,7 @@ fn rest(
     ensures keeps { Keeps nodes.old nodes.new }
     ensures ends { RestEnds toks.now at nodes.new result }
     ensures answer { RestAnswers toks.now room at nodes.new result }
+    ensures own { RestOwn functions.now nodes.old nodes.new at result }
 {
     if !has_sign(toks, at, Sign::Semicolon) {
         return Ok(None);

@@ -4,6 +4,7 @@ ghost use Rattle.wjs_tree.specs.Shows.{Keeps};
 ghost use Rattle.wjs_parse_expr.specs.Table.{Holds};
 ghost use Rattle.wjs_parse_stmt.specs.declared.kind.Kind.TheVariants as kinds;
 ghost use Rattle.wjs_parse_stmt.specs.Answers.{KindIs, StmtAnswers, PieceEnds, LabelAnswers, behind_label};
+ghost use Rattle.wjs_parse_stmt.specs.Made.{StmtOwn, LeafOwn};
 
 use crate::ends::{end_at, is_joined};
 use crate::parts::{Piece, Stop};
@@ -26,6 +27,7 @@ pub fn empty(
     ensures keeps { Keeps nodes.old nodes.new }
     ensures ends { PieceEnds toks.now at nodes.new result }
     ensures answer { StmtAnswers toks.now room at nodes.new result }
+    ensures own { LeafOwn nodes.old nodes.new at result }
 {
     let node = nodes.add(Node::Empty)?;
     Ok(Some(Piece {
@@ -50,6 +52,7 @@ pub fn declared(
     ensures keeps { Keeps nodes.old nodes.new }
     ensures ends { PieceEnds toks.now at nodes.new result }
     ensures answer { StmtAnswers toks.now room at nodes.new result }
+    ensures own { StmtOwn functions.now nodes.old nodes.new at result }
 {
     let Some(found) = variables(alloc, toks, at + 1, false, room - 1, functions, nodes)? else {
         return Ok(None);
@@ -77,6 +80,7 @@ pub fn continued(
     ensures keeps { Keeps nodes.old nodes.new }
     ensures ends { PieceEnds toks.now at nodes.new result }
     ensures answer { StmtAnswers toks.now room at nodes.new result }
+    ensures own { LeafOwn nodes.old nodes.new at result }
 {
     let label = label_at(toks, at + 1);
     let place = behind_label(label, at + 1);
@@ -103,6 +107,7 @@ pub fn broken(
     ensures keeps { Keeps nodes.old nodes.new }
     ensures ends { PieceEnds toks.now at nodes.new result }
     ensures answer { StmtAnswers toks.now room at nodes.new result }
+    ensures own { LeafOwn nodes.old nodes.new at result }
 {
     let label = label_at(toks, at + 1);
     let place = behind_label(label, at + 1);
@@ -163,6 +168,7 @@ pub fn returned(
     ensures keeps { Keeps nodes.old nodes.new }
     ensures ends { PieceEnds toks.now at nodes.new result }
     ensures answer { StmtAnswers toks.now room at nodes.new result }
+    ensures own { StmtOwn functions.now nodes.old nodes.new at result }
 {
     if let Some(ended) = end_at(toks, at + 1, Stop::Complete) {
         let node = nodes.add(Node::Return(None, ended.end))?;
@@ -201,6 +207,7 @@ pub fn thrown(
     ensures keeps { Keeps nodes.old nodes.new }
     ensures ends { PieceEnds toks.now at nodes.new result }
     ensures answer { StmtAnswers toks.now room at nodes.new result }
+    ensures own { StmtOwn functions.now nodes.old nodes.new at result }
 {
     if !is_joined(toks, at + 1) {
         return Ok(None);
@@ -231,6 +238,7 @@ pub fn plain(
     ensures keeps { Keeps nodes.old nodes.new }
     ensures ends { PieceEnds toks.now at nodes.new result }
     ensures answer { StmtAnswers toks.now room at nodes.new result }
+    ensures own { StmtOwn functions.now nodes.old nodes.new at result }
 {
     let Some(value) = value(alloc, toks, at, room - 1, functions, nodes)? else {
         return Ok(None);

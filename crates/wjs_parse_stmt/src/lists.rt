@@ -3,6 +3,7 @@ ghost use Rattle.std.specs.Prelude.{◌≡◌};
 ghost use Rattle.wjs_tree.specs.Shows.{Keeps};
 ghost use Rattle.wjs_parse_expr.specs.Table.{Holds};
 ghost use Rattle.wjs_parse_stmt.specs.Answers.{BlockAnswers, SpotEnds, StmtsAnswers, ListEnds};
+ghost use Rattle.wjs_parse_stmt.specs.Made.{BlockOwn, StmtsOwn};
 
 use crate::ends::is_closed;
 use crate::parts::{Listed, Spot, push_last};
@@ -26,6 +27,7 @@ pub fn block(
     ensures keeps { Keeps nodes.old nodes.new }
     ensures ends { SpotEnds toks.now at nodes.new result }
     ensures answer { BlockAnswers toks.now room at nodes.new result }
+    ensures own { BlockOwn functions.now nodes.old nodes.new at result }
 {
     if room == 0 {
         return Ok(None);
@@ -58,6 +60,7 @@ pub fn statements(
     ensures keeps { Keeps nodes.old nodes.new }
     ensures ends { ListEnds toks.now at nodes.new result }
     ensures answer { StmtsAnswers toks.now room at nodes.new result }
+    ensures own { StmtsOwn functions.now nodes.old nodes.new at result }
 {
     let mut list: Vec<NodeId> = Vec::new(alloc);
     let mut place = at;

@@ -6,6 +6,7 @@ ghost use Rattle.wjs_tree.specs.Shows.{Keeps};
 ghost use Rattle.wjs_parse_expr.specs.Table.{Holds};
 ghost use Rattle.wjs_parse_stmt.specs.declared.kind.Kind.TheVariants as kinds;
 ghost use Rattle.wjs_parse_stmt.specs.Answers.{KindIs, StmtAnswers, PieceEnds};
+ghost use Rattle.wjs_parse_stmt.specs.Made.{StmtOwn};
 
 use crate::branch::{cases, conditional, trial};
 use crate::iteration::{counted, repeated, until};
@@ -20,7 +21,8 @@ use wjs_parse_expr::{Functions, has_key};
 use wjs_tree::{Key, Node, Nodes, Sign, Tok};
 
 /// The statement from the place of at most the height `room`: any other that is read there could be longer. None exactly
-/// where none is read there, but such that could be longer.
+/// where none is read there, but such that could be longer. No node stands at two places of it, and each is new or one of
+/// a function that was read before within its tokens.
 #[cycle(statement)]
 pub fn statement(
     alloc: Global,
@@ -34,6 +36,7 @@ pub fn statement(
     ensures keeps { Keeps nodes.old nodes.new }
     ensures ends { PieceEnds toks.now at nodes.new result }
     ensures answer { StmtAnswers toks.now room at nodes.new result }
+    ensures own { StmtOwn functions.now nodes.old nodes.new at result }
 {
     if room == 0 {
         return Ok(None);
@@ -60,6 +63,7 @@ pub fn other(
     ensures keeps { Keeps nodes.old nodes.new }
     ensures ends { PieceEnds toks.now at nodes.new result }
     ensures answer { StmtAnswers toks.now room at nodes.new result }
+    ensures own { StmtOwn functions.now nodes.old nodes.new at result }
 {
     match kind_at(toks, at) {
         Kind::Block => braced(alloc, toks, at, room, functions, nodes),
@@ -98,6 +102,7 @@ fn braced(
     ensures keeps { Keeps nodes.old nodes.new }
     ensures ends { PieceEnds toks.now at nodes.new result }
     ensures answer { StmtAnswers toks.now room at nodes.new result }
+    ensures own { StmtOwn functions.now nodes.old nodes.new at result }
 {
     let Some(found) = block(alloc, toks, at, room, functions, nodes)? else {
         return Ok(None);
@@ -126,6 +131,7 @@ fn labelled(
     ensures keeps { Keeps nodes.old nodes.new }
     ensures ends { PieceEnds toks.now at nodes.new result }
     ensures answer { StmtAnswers toks.now room at nodes.new result }
+    ensures own { StmtOwn functions.now nodes.old nodes.new at result }
 {
     let Some(body) = statement(alloc, toks, at + 2, room - 1, functions, nodes)? else {
         return Ok(None);
@@ -154,6 +160,7 @@ fn within(
     ensures keeps { Keeps nodes.old nodes.new }
     ensures ends { PieceEnds toks.now at nodes.new result }
     ensures answer { StmtAnswers toks.now room at nodes.new result }
+    ensures own { StmtOwn functions.now nodes.old nodes.new at result }
 {
     let Some(world) = up_to(
         alloc,

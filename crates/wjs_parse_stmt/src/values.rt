@@ -7,6 +7,7 @@ ghost use Rattle.wjs_parse_expr.proofs.Beginnings.{can_begin};
 ghost use Rattle.wjs_tree.specs.declared.tokens.Token.TheVariants as tokens;
 ghost use Rattle.wjs_parse_stmt.specs.Readings.{UpTo, TestForm, MaybeForm, ClauseHead};
 ghost use Rattle.wjs_parse_stmt.specs.Answers.{ExprAnswers, MaybeAnswers, ValueAnswers, SpotEnds, MaybeEnds, ValuedEnds};
+ghost use Rattle.wjs_parse_stmt.specs.Made.{ExprOwn, MaybeOwn, ValueOwn};
 
 use crate::ends::{end_at, ends_in_update};
 use crate::parts::{Maybe, Spot, Stop, Valued};
@@ -30,6 +31,7 @@ pub fn up_to(
     ensures keeps { Keeps nodes.old nodes.new }
     ensures ends { SpotEnds toks.now at nodes.new result }
     ensures answer { ExprAnswers (UpTo toks.now sign room at) nodes.new result }
+    ensures own { ExprOwn functions.now nodes.old nodes.new at result }
 {
     let Some(value) = comma(alloc, toks, at, false, room, functions, nodes)? else {
         return Ok(None);
@@ -56,6 +58,7 @@ pub fn test(
     ensures keeps { Keeps nodes.old nodes.new }
     ensures ends { SpotEnds toks.now at nodes.new result }
     ensures answer { ExprAnswers (TestForm toks.now room at) nodes.new result }
+    ensures own { ExprOwn functions.now nodes.old nodes.new at result }
 {
     if !has_sign(toks, at, Sign::OpenParen) {
         return Ok(None);
@@ -94,6 +97,7 @@ pub fn maybe(
     ensures keeps { Keeps nodes.old nodes.new }
     ensures ends { MaybeEnds toks.now at nodes.new result }
     ensures answer { MaybeAnswers (MaybeForm toks.now sign room at) nodes.new result }
+    ensures own { MaybeOwn functions.now nodes.old nodes.new at result }
 {
     if has_sign(toks, at, sign) {
         return Ok(Some(Maybe {
@@ -123,6 +127,7 @@ pub fn value(
     ensures keeps { Keeps nodes.old nodes.new }
     ensures ends { ValuedEnds toks.now at nodes.new result }
     ensures answer { ValueAnswers toks.now room at nodes.new result }
+    ensures own { ValueOwn functions.now nodes.old nodes.new at result }
 {
     let Some(value) = comma(alloc, toks, at, false, room, functions, nodes)? else {
         return Ok(None);
@@ -151,6 +156,7 @@ pub fn arm_head(
     ensures keeps { Keeps nodes.old nodes.new }
     ensures ends { MaybeEnds toks.now at nodes.new result }
     ensures answer { MaybeAnswers (ClauseHead toks.now room at) nodes.new result }
+    ensures own { MaybeOwn functions.now nodes.old nodes.new at result }
 {
     if has_key(toks, at, Key::Default) {
         if !has_sign(toks, at + 1, Sign::Colon) {

@@ -3,6 +3,7 @@ ghost use Rattle.std.specs.Prelude.{Bool};
 ghost use Rattle.wjs_tree.specs.Shows.{Keeps};
 ghost use Rattle.wjs_parse_expr.specs.Table.{Holds};
 ghost use Rattle.wjs_parse_stmt.specs.Lists.{VariablesAnswers, VariablesEnds, VariableAnswers, VariableEnds, WordAt};
+ghost use Rattle.wjs_parse_stmt.specs.Made.{VariablesOwn, VariableOwn};
 
 use crate::ends::ends_in_update;
 use crate::parts::{Declared, ListedVariables, Stop, push_last};
@@ -26,6 +27,7 @@ pub fn variables(
     ensures keeps { Keeps nodes.old nodes.new }
     ensures ends { VariablesEnds toks.now at nodes.new result }
     ensures answer { VariablesAnswers toks.now no_in room at nodes.new result }
+    ensures own { VariablesOwn functions.now nodes.old nodes.new at result }
 {
     let mut list: Vec<Declarator> = Vec::new(alloc);
     let Some(mut last) = variable(alloc, toks, at, no_in, room, functions, nodes)? else {
@@ -60,6 +62,7 @@ fn variable(
     ensures keeps { Keeps nodes.old nodes.new }
     ensures ends { VariableEnds toks.now at nodes.new result }
     ensures answer { VariableAnswers toks.now no_in room at nodes.new result }
+    ensures own { VariableOwn functions.now nodes.old nodes.new at result }
 {
     let Some(name) = word_at(toks, at) else {
         return Ok(None);

@@ -1,8 +1,8 @@
-use Rattle.std.proofs.Common.{◌≡◌, ◌+◌, ◌-◌, ◌*◌, ◌<◌, ◌≤◌, length, true, false, None, Some, refl, sym, ap, ◌∙◌, arith, rules, not}
+use Rattle.std.proofs.Common.{◌+◌, ◌-◌, ◌<◌, length, true, refl, sym, ◌∙◌, arith, rules}
 use Rattle.wjs_tree.specs.declared.tokens.Token.TheVariants as tokens
 use Rattle.wjs_tree.specs.declared.signs.Sign.TheVariants as signs
 use Rattle.wjs_tree.specs.declared.keys.Key.TheVariants as keys
-use Rattle.wjs_tree.specs.Ends.{HasToken, HasSign, HasKey, Complete}
+use Rattle.wjs_tree.specs.Ends.{Complete}
 use Rattle.wjs_tree.proofs.Kept.{keeps_self, keeps_both}
 use Rattle.wjs_parse_expr.specs.Answers.{from}
 use Rattle.wjs_parse_expr.proofs.Readings.{token_within, not_true, not_false}
@@ -19,6 +19,9 @@ use Rattle.wjs_parse_stmt.proofs.Declaring.{declarators_more}
 use Rattle.wjs_parse_stmt.proofs.Branching.{branch_found, branch_no_test, branch_no_body, if_none, if_found, if_open, link_start, link_none, link_found, link_more}
 use Rattle.wjs_parse_stmt.proofs.Arms.{head_ahead, arm_found, arm_headless, arm_bodiless, arms_start, arms_none, arms_more, arms_end, clauses_last, switch_no_test, switch_open, switch_none, switch_found}
 use Rattle.wjs_parse_stmt.proofs.Trying.{handler_found, handler_no_block, handler_unnamed, handler_unopened, handler_unclosed, try_no_block, try_bare, try_no_last, finally_found, try_no_handler, catch_found, both_no_last, both_found}
+use Rattle.wjs_parse_stmt.proofs.Making.{expr_found, block_wide, while_made, do_made, label_made, within_made, block_made, braced_made, rest_made, for_made, for_var_in_made, for_in_made, no_init, init_expr, init_var, branch_made, if_made, arm_made, switch_made, finally_made, catch_made, both_made}
+use Rattle.wjs_parse_stmt.proofs.Listing.{stmts_none, stmts_more, stmts_same, clauses_none, clauses_more, clauses_same}
+use Rattle.wjs_parse_stmt.proofs.Weaving.{heads_none, heads_more, chain_begun}
 use Rattle.wjs_parse_stmt.proofs.+statement.Goals as goal
 
 pub iteration::repeated-test-requires : goal.iteration::repeated-test-requires
@@ -218,7 +221,7 @@ lists::block-returns-clause-answer t c =
 
 pub lists::statements-loop-alloc-init : goal.lists::statements-loop-alloc-init
 lists::statements-loop-alloc-init t c =
-    (list_start c.args.toks.now c.args.room c.args.at c.args.nodes.now c.new-list.result.items c.new-list.ensures.items, keeps_self _, omega arith, rw c.new-list.ensures.items tt)
+    (list_start c.args.toks.now c.args.room c.args.at c.args.nodes.now c.new-list.result.items c.new-list.ensures.items, keeps_self _, omega arith, rw c.new-list.ensures.items tt, stmts_none c.args.functions.now c.args.nodes.now c.args.at c.new-list.result.items c.new-list.ensures.items)
 
 pub lists::statements-statement-requires : goal.lists::statements-statement-requires
 lists::statements-statement-requires t c =
@@ -237,7 +240,7 @@ lists::statements-loop-alloc-preserved t c =
     let y1 = e1.1 in
     let z1 = e1.2 in
     let i = c.loop-alloc.invariant.2 in
-    (list_more c.args.toks.now c.args.room c.args.at c.loop-alloc.nodes c.loop-alloc.list.items c.loop-alloc.place c.loop-alloc.invariant.0 (sym c.is_closed.ensures ∙ c.loop-alloc-test.true) c.statement.new.nodes c.in-Some.item c.push_last.new.list.items c.in_ok-item.ensures.keeps f c.in_ok-push_last.ensures.ok, keeps_both _ _ _ c.loop-alloc.invariant.1 c.in_ok-item.ensures.keeps, omega arith, rw c.in_ok-push_last.ensures.ok (below_last (length c.loop-alloc.nodes) (length c.statement.new.nodes) c.loop-alloc.list.items c.in-Some.item.node c.in_ok-item.ensures.keeps.longer e1.2 c.loop-alloc.invariant.3))
+    (list_more c.args.toks.now c.args.room c.args.at c.loop-alloc.nodes c.loop-alloc.list.items c.loop-alloc.place c.loop-alloc.invariant.0 (sym c.is_closed.ensures ∙ c.loop-alloc-test.true) c.statement.new.nodes c.in-Some.item c.push_last.new.list.items c.in_ok-item.ensures.keeps f c.in_ok-push_last.ensures.ok, keeps_both _ _ _ c.loop-alloc.invariant.1 c.in_ok-item.ensures.keeps, omega arith, rw c.in_ok-push_last.ensures.ok (below_last (length c.loop-alloc.nodes) (length c.statement.new.nodes) c.loop-alloc.list.items c.in-Some.item.node c.in_ok-item.ensures.keeps.longer e1.2 c.loop-alloc.invariant.3), stmts_more c.args.toks.now c.args.functions.now c.args.at c.args.room c.args.nodes.now c.requires.held c.loop-alloc.nodes c.statement.new.nodes c.args.at c.loop-alloc.place c.in-Some.item.next c.loop-alloc.list.items c.push_last.new.list.items c.in-Some.item.node c.loop-alloc.invariant.4 (rw c.in-Some.is at c.in_ok-item.ensures.own) c.in_ok-push_last.ensures.ok)
 
 pub lists::statements-loop-alloc-smaller : goal.lists::statements-loop-alloc-smaller
 lists::statements-loop-alloc-smaller t c =
@@ -574,7 +577,7 @@ branch::branch-returns-clause-answer t c =
 
 pub branch::conditional-loop-nodes-init : goal.branch::conditional-loop-nodes-init
 branch::conditional-loop-nodes-init t c =
-    (link_start c.args.toks.now c.args.room c.args.at c.args.nodes.now c.new-heads.result.items c.new-heads.ensures.items, keeps_self _, omega arith, rw c.new-heads.ensures.items tt)
+    (link_start c.args.toks.now c.args.room c.args.at c.args.nodes.now c.new-heads.result.items c.new-heads.ensures.items, keeps_self _, omega arith, rw c.new-heads.ensures.items tt, heads_none c.args.functions.now c.args.nodes.now c.args.at c.new-heads.result.items c.new-heads.ensures.items)
 
 pub branch::conditional-branch-alloc-requires : goal.branch::conditional-branch-alloc-requires
 branch::conditional-branch-alloc-requires t c =
@@ -626,7 +629,7 @@ branch::conditional-loop-nodes-preserved t c =
     let z1 = e1.2 in
     let y1b = e1.3 in
     let i = c.loop-nodes.invariant.2 in
-    (link_more c.args.toks.now c.args.room c.args.at c.loop-nodes.nodes c.loop-nodes.heads.items c.loop-nodes.place c.loop-nodes.invariant.0 c.branch-alloc.new.nodes c.in-Some.head c.push_last.new.list.items c.requires.below (c.has_key.ensures.0 c.loop-nodes-test.true) f c.in_ok-head.ensures.keeps (c.has_key-in-loop-nodes.ensures.0 c.if-not-has_key.false) c.if-head.false c.in_ok-push_last.ensures.ok, keeps_both _ _ _ c.loop-nodes.invariant.1 c.in_ok-head.ensures.keeps, omega arith, rw c.in_ok-push_last.ensures.ok (branches_last (length c.loop-nodes.nodes) (length c.branch-alloc.new.nodes) c.loop-nodes.heads.items c.in-Some.head c.in_ok-head.ensures.keeps.longer e1.2 e1.3 c.loop-nodes.invariant.3))
+    (link_more c.args.toks.now c.args.room c.args.at c.loop-nodes.nodes c.loop-nodes.heads.items c.loop-nodes.place c.loop-nodes.invariant.0 c.branch-alloc.new.nodes c.in-Some.head c.push_last.new.list.items c.requires.below (c.has_key.ensures.0 c.loop-nodes-test.true) f c.in_ok-head.ensures.keeps (c.has_key-in-loop-nodes.ensures.0 c.if-not-has_key.false) c.if-head.false c.in_ok-push_last.ensures.ok, keeps_both _ _ _ c.loop-nodes.invariant.1 c.in_ok-head.ensures.keeps, omega arith, rw c.in_ok-push_last.ensures.ok (branches_last (length c.loop-nodes.nodes) (length c.branch-alloc.new.nodes) c.loop-nodes.heads.items c.in-Some.head c.in_ok-head.ensures.keeps.longer e1.2 e1.3 c.loop-nodes.invariant.3), heads_more c.args.toks.now c.args.functions.now c.args.at c.args.room c.args.nodes.now c.requires.held c.loop-nodes.nodes c.branch-alloc.new.nodes c.args.at c.loop-nodes.place (c.in-Some.head.next + 1) c.loop-nodes.heads.items c.push_last.new.list.items c.in-Some.head c.loop-nodes.invariant.4 (omega arith) (rw c.in-Some.is at c.in_ok-head.ensures.own) c.in_ok-push_last.ensures.ok)
 
 pub branch::conditional-loop-nodes-smaller : goal.branch::conditional-loop-nodes-smaller
 branch::conditional-loop-nodes-smaller t c =
@@ -701,7 +704,7 @@ branch::arm-returns-clause-answer t c =
 
 pub branch::clauses-loop-alloc-init : goal.branch::clauses-loop-alloc-init
 branch::clauses-loop-alloc-init t c =
-    (arms_start c.args.toks.now c.args.room c.args.at c.args.nodes.now c.new-list.result.items c.new-list.ensures.items, keeps_self _, omega arith, rw c.new-list.ensures.items tt)
+    (arms_start c.args.toks.now c.args.room c.args.at c.args.nodes.now c.new-list.result.items c.new-list.ensures.items, keeps_self _, omega arith, rw c.new-list.ensures.items tt, clauses_none c.args.functions.now c.args.nodes.now c.args.at c.new-list.result.items c.new-list.ensures.items)
 
 pub branch::clauses-arm-requires : goal.branch::clauses-arm-requires
 branch::clauses-arm-requires t c =
@@ -721,7 +724,7 @@ branch::clauses-loop-alloc-preserved t c =
     let y1 = e1.1 in
     let z1 = e1.2 in
     let i = c.loop-alloc.invariant.2 in
-    (arms_more c.args.toks.now c.args.room c.args.at c.loop-alloc.nodes c.loop-alloc.list.items c.loop-alloc.place c.loop-alloc.invariant.0 (λ h. absurd (let a = c.has_sign.ensures.1 h in let b = c.loop-alloc-test.true in cc)) c.arm.new.nodes c.in-Some.item c.push_last.new.list.items c.in_ok-item.ensures.keeps f c.in_ok-push_last.ensures.ok, keeps_both _ _ _ c.loop-alloc.invariant.1 c.in_ok-item.ensures.keeps, omega arith, rw c.in_ok-push_last.ensures.ok (clauses_last (length c.loop-alloc.nodes) (length c.arm.new.nodes) c.loop-alloc.list.items c.in-Some.item.clause c.in_ok-item.ensures.keeps.longer e1.1 e1.2 c.loop-alloc.invariant.3))
+    (arms_more c.args.toks.now c.args.room c.args.at c.loop-alloc.nodes c.loop-alloc.list.items c.loop-alloc.place c.loop-alloc.invariant.0 (λ h. absurd (let a = c.has_sign.ensures.1 h in let b = c.loop-alloc-test.true in cc)) c.arm.new.nodes c.in-Some.item c.push_last.new.list.items c.in_ok-item.ensures.keeps f c.in_ok-push_last.ensures.ok, keeps_both _ _ _ c.loop-alloc.invariant.1 c.in_ok-item.ensures.keeps, omega arith, rw c.in_ok-push_last.ensures.ok (clauses_last (length c.loop-alloc.nodes) (length c.arm.new.nodes) c.loop-alloc.list.items c.in-Some.item.clause c.in_ok-item.ensures.keeps.longer e1.1 e1.2 c.loop-alloc.invariant.3), clauses_more c.args.toks.now c.args.functions.now c.args.at c.args.room c.args.nodes.now c.requires.held c.loop-alloc.nodes c.arm.new.nodes c.args.at c.loop-alloc.place c.in-Some.item.next c.loop-alloc.list.items c.push_last.new.list.items c.in-Some.item.clause c.loop-alloc.invariant.4 (rw c.in-Some.is at c.in_ok-item.ensures.own) c.in_ok-push_last.ensures.ok)
 
 pub branch::clauses-returns-clause-answer : goal.branch::clauses-returns-clause-answer
 branch::clauses-returns-clause-answer t c =
@@ -972,3 +975,163 @@ branch::arm-returns-clause-ends t c =
     let w = head_ahead c.args.toks.now c.args.room c.args.at c.arm_head.new.nodes c.in-Some.head f in
     let x = e2.0 in
     (omega arith, option_more _ _ _ c.in_ok-body.ensures.keeps.longer e1.2, e2.1)
+
+pub iteration::repeated-returns-clause-own : goal.iteration::repeated-returns-clause-own
+iteration::repeated-returns-clause-own t c =
+    let f = rw c.in-Some.is at c.in_ok-test.ensures.own in
+    let g = rw c.in-Some-2.is at c.in_ok-body.ensures.own in
+    while_made c.args.toks.now c.args.functions.now c.args.at c.args.room c.args.nodes.now c.requires.held c.test.new.nodes c.statement.new.nodes c.add.new.self c.args.at (c.args.at + 1) c.in-Some.test.next c.in-Some.test.next c.in-Some-2.body.next c.in-Some-2.body.next c.in_ok-node.node (omega arith) (omega arith) (omega arith) c.in-Some.test.node c.in-Some-2.body.node f g (record { has = c.in_ok-node.ensures.has; is = c.in_ok-node.ensures.ok; keeps = c.in_ok-node.ensures.keeps })
+
+pub iteration::until-returns-clause-own : goal.iteration::until-returns-clause-own
+iteration::until-returns-clause-own t c =
+    let f = rw c.in-Some.is at c.in_ok-body.ensures.own in
+    let g = rw c.in-Some-2.is at c.in_ok-test.ensures.own in
+    let e2 = rw c.in-Some-2.is at c.in_ok-test.ensures.ends in
+    let w = ends_within c.args.toks.now Complete c.in-Some-end_at.ended.end c.in-Some-2.test.next c.in-Some-end_at.ended.next e2.1 c.in-Some-end_at.ensures in
+    let w0 = w.0 in
+    do_made c.args.toks.now c.args.functions.now c.args.at c.args.room c.args.nodes.now c.requires.held c.statement.new.nodes c.test.new.nodes c.add.new.self c.args.at (c.args.at + 1) c.in-Some.body.next (c.in-Some.body.next + 1) c.in-Some-2.test.next c.in-Some-end_at.ended.next c.in_ok-node.node (omega arith) (omega arith) (omega arith) c.in-Some.body.node c.in-Some-2.test.node c.in-Some-end_at.ended.end f g (record { has = c.in_ok-node.ensures.has; is = c.in_ok-node.ensures.ok; keeps = c.in_ok-node.ensures.keeps })
+
+pub stmt::labelled-returns-clause-own : goal.stmt::labelled-returns-clause-own
+stmt::labelled-returns-clause-own t c =
+    let f = rw c.in-Some.is at c.in_ok-body.ensures.own in
+    label_made c.args.toks.now c.args.functions.now c.args.at c.args.room c.args.nodes.now c.requires.held c.statement.new.nodes c.add.new.self c.args.at (c.args.at + 2) c.in-Some.body.next c.in-Some.body.next c.in_ok-node.node (omega arith) (omega arith) c.args.text c.in-Some.body.node f (record { has = c.in_ok-node.ensures.has; is = c.in_ok-node.ensures.ok; keeps = c.in_ok-node.ensures.keeps })
+
+pub stmt::within-returns-clause-own : goal.stmt::within-returns-clause-own
+stmt::within-returns-clause-own t c =
+    let f = rw c.in-Some.is at c.in_ok-world.ensures.own in
+    let g = rw c.in-Some-2.is at c.in_ok-body.ensures.own in
+    within_made c.args.toks.now c.args.functions.now c.args.at c.args.room c.args.nodes.now c.requires.held c.up_to.new.nodes c.block.new.nodes c.add.new.self c.args.at (c.args.at + 1) c.in-Some.world.next c.in-Some.world.next c.in-Some-2.body.next c.in-Some-2.body.next c.in_ok-node.node (omega arith) (omega arith) (omega arith) c.in-Some.world.node c.in-Some-2.body.node f g (record { has = c.in_ok-node.ensures.has; is = c.in_ok-node.ensures.ok; keeps = c.in_ok-node.ensures.keeps })
+
+pub stmt::braced-returns-clause-own : goal.stmt::braced-returns-clause-own
+stmt::braced-returns-clause-own t c =
+    let f = rw c.in-Some.is at c.in_ok-found.ensures.own in
+    braced_made c.args.functions.now c.args.nodes.now c.block.new.nodes c.args.at c.in-Some.found.next c.in-Some.found.node f
+
+pub lists::block-returns-clause-own : goal.lists::block-returns-clause-own
+lists::block-returns-clause-own t c =
+    let f = rw c.in-Some.is at c.in_ok-found.ensures.own in
+    block_made c.args.toks.now c.args.functions.now c.args.at c.args.room c.args.nodes.now c.requires.held c.statements.new.nodes c.add.new.self c.args.at (c.args.at + 1) c.in-Some.found.next (c.in-Some.found.next + 1) c.in_ok-node.node (omega arith) (omega arith) c.in-Some.found.list f (record { has = c.in_ok-node.ensures.has; is = c.in_ok-node.ensures.ok; keeps = c.in_ok-node.ensures.keeps })
+
+pub lists::statements-returns-clause-own : goal.lists::statements-returns-clause-own
+lists::statements-returns-clause-own t c =
+    stmts_same c.args.functions.now c.args.nodes.now c.loop-alloc.nodes c.args.at c.loop-alloc.place c.loop-alloc.place c.loop-alloc.list.items _ c.loop-alloc.invariant.4 c.from_vec.ensures refl
+
+pub branch::clauses-returns-clause-own : goal.branch::clauses-returns-clause-own
+branch::clauses-returns-clause-own t c =
+    clauses_same c.args.functions.now c.args.nodes.now c.loop-alloc.nodes c.args.at c.loop-alloc.place c.loop-alloc.place c.loop-alloc.list.items _ c.loop-alloc.invariant.4 c.from_vec.ensures refl
+
+pub iteration::rest-returns-clause-own : goal.iteration::rest-returns-clause-own
+iteration::rest-returns-clause-own t c =
+    let f = rw c.in-Some.is at c.in_ok-test.ensures.own in
+    let g = rw c.in-Some-2.is at c.in_ok-update.ensures.own in
+    let e = rw c.in-Some-3.is at c.in_ok-body.ensures.own in
+    rest_made c.args.toks.now c.args.functions.now c.args.at c.args.room c.args.nodes.now c.requires.held c.maybe.new.nodes c.maybe-2.new.nodes c.statement.new.nodes c.args.at (c.args.at + 1) c.in-Some.test.next (c.in-Some.test.next + 1) c.in-Some-2.update.next (c.in-Some-2.update.next + 1) _ (omega arith) (omega arith) (omega arith) f g e
+
+pub iteration::each_variable-returns-clause-own : goal.iteration::each_variable-returns-clause-own
+iteration::each_variable-returns-clause-own t c =
+    let f = rw c.in-Some-2.is at c.in_ok-object.ensures.own in
+    let g = rw c.in-Some-3.is at c.in_ok-body.ensures.own in
+    for_var_in_made c.args.toks.now c.args.functions.now c.args.at c.args.room c.args.nodes.now c.requires.held c.up_to.new.nodes c.statement.new.nodes c.add.new.self c.args.at (c.args.at + 5) c.in-Some-2.object.next (c.in-Some-2.object.next + 1) c.in-Some-3.body.next c.in-Some-3.body.next c.in_ok-node.node (omega arith) (omega arith) (omega arith) c.in-Some.name c.in-Some-2.object.node c.in-Some-3.body.node f g (record { has = c.in_ok-node.ensures.has; is = c.in_ok-node.ensures.ok; keeps = c.in_ok-node.ensures.keeps })
+
+pub iteration::by_variables-returns-clause-own : goal.iteration::by_variables-returns-clause-own
+iteration::by_variables-returns-clause-own t c =
+    let f = rw c.in-Some.is at c.in_ok-first.ensures.own in
+    let g = rw c.in-Some-2.is at c.in_ok-rest.ensures.own in
+    for_made c.args.toks.now c.args.functions.now c.args.at c.args.room c.args.nodes.now c.requires.held c.variables.new.nodes c.rest.new.nodes c.add.new.self c.args.at (c.args.at + 3) c.in-Some.first.next c.in-Some.first.next c.in-Some-2.rest.next c.in-Some-2.rest.next c.in_ok-node.node (omega arith) (omega arith) (omega arith) _ c.in-Some-2.rest (init_var c.args.functions.now c.args.nodes.now c.variables.new.nodes (c.args.at + 3) c.in-Some.first.next c.in-Some.first.list f) refl g (record { has = c.in_ok-node.ensures.has; is = c.in_ok-node.ensures.ok; keeps = c.in_ok-node.ensures.keeps })
+
+pub iteration::unstarted-returns-clause-own : goal.iteration::unstarted-returns-clause-own
+iteration::unstarted-returns-clause-own t c =
+    let g = rw c.in-Some.is at c.in_ok-rest.ensures.own in
+    for_made c.args.toks.now c.args.functions.now c.args.at c.args.room c.args.nodes.now c.requires.held c.args.nodes.now c.rest.new.nodes c.add.new.self c.args.at (c.args.at + 2) (c.args.at + 2) (c.args.at + 2) c.in-Some.rest.next c.in-Some.rest.next c.in_ok-node.node (omega arith) (omega arith) (omega arith) _ c.in-Some.rest (no_init c.args.functions.now c.args.nodes.now (c.args.at + 2) (c.args.at + 2) (omega arith)) refl g (record { has = c.in_ok-node.ensures.has; is = c.in_ok-node.ensures.ok; keeps = c.in_ok-node.ensures.keeps })
+
+pub iteration::started-returns-clause-own : goal.iteration::started-returns-clause-own
+iteration::started-returns-clause-own t c =
+    let g = rw c.in-Some.is at c.in_ok-rest.ensures.own in
+    λ start h f. for_made c.args.toks.now c.args.functions.now c.args.at c.args.room start h c.args.nodes.now c.rest.new.nodes c.add.new.self c.args.at (c.args.at + 2) c.args.first.next c.args.first.next c.in-Some.rest.next c.in-Some.rest.next c.in_ok-node.node (omega arith) (omega arith) (omega arith) _ c.in-Some.rest (init_expr c.args.functions.now start c.args.nodes.now (c.args.at + 2) c.args.first.next c.args.first.node f) refl g (record { has = c.in_ok-node.ensures.has; is = c.in_ok-node.ensures.ok; keeps = c.in_ok-node.ensures.keeps })
+
+pub iteration::each-returns-clause-own : goal.iteration::each-returns-clause-own
+iteration::each-returns-clause-own t c =
+    let g = rw c.in-Some.is at c.in_ok-object.ensures.own in
+    let e = rw c.in-Some-2.is at c.in_ok-body.ensures.own in
+    λ start h f. for_in_made c.args.toks.now c.args.functions.now c.args.at c.args.room start h c.args.nodes.now c.up_to.new.nodes c.statement.new.nodes c.add.new.self c.args.at (c.args.at + 2) c.args.first.next (c.args.first.next + 1) c.in-Some.object.next (c.in-Some.object.next + 1) c.in-Some-2.body.next c.in-Some-2.body.next c.in_ok-node.node (omega arith) (omega arith) (omega arith) (omega arith) c.args.first.node c.in-Some.object.node c.in-Some-2.body.node f g e (record { has = c.in_ok-node.ensures.has; is = c.in_ok-node.ensures.ok; keeps = c.in_ok-node.ensures.keeps })
+
+pub iteration::by_value-returns-then-not-has_key-clause-own : goal.iteration::by_value-returns-then-not-has_key-clause-own
+iteration::by_value-returns-then-not-has_key-clause-own t c =
+    let f = rw c.in-Some.is at c.in_ok-first.ensures.answer in
+    let e = rw c.in-Some.is at c.in_ok-first.ensures.ends in
+    let e0 = e.0 in
+    c.started.ensures.own c.args.nodes.now c.requires.held (expr_found c.args.toks.now c.args.functions.now c.args.nodes.now c.comma.new.nodes (c.args.at + 2) 0 true (c.args.room - 1) c.in-Some.first f c.in_ok-first.ensures.keeps (omega arith))
+
+pub iteration::by_value-returns-clause-own : goal.iteration::by_value-returns-clause-own
+iteration::by_value-returns-clause-own t c =
+    let f = rw c.in-Some.is at c.in_ok-first.ensures.answer in
+    let e = rw c.in-Some.is at c.in_ok-first.ensures.ends in
+    let e0 = e.0 in
+    c.each.ensures.own c.args.nodes.now c.requires.held (expr_found c.args.toks.now c.args.functions.now c.args.nodes.now c.comma.new.nodes (c.args.at + 2) 0 true (c.args.room - 1) c.in-Some.first f c.in_ok-first.ensures.keeps (omega arith))
+
+pub branch::branch-returns-clause-own : goal.branch::branch-returns-clause-own
+branch::branch-returns-clause-own t c =
+    let f = rw c.in-Some.is at c.in_ok-test.ensures.own in
+    let g = rw c.in-Some-2.is at c.in_ok-body.ensures.own in
+    branch_made c.args.toks.now c.args.functions.now c.args.at c.args.room c.args.nodes.now c.requires.held c.test.new.nodes c.statement.new.nodes c.args.at (c.args.at + 1) c.in-Some.test.next c.in-Some.test.next _ (omega arith) (omega arith) f g
+
+pub branch::conditional-returns-then-not-has_key-clause-own : goal.branch::conditional-returns-then-not-has_key-clause-own
+branch::conditional-returns-then-not-has_key-clause-own t c =
+    let g = rw c.in-Some.is at c.in_ok-head.ensures.own in
+    let i = c.loop-nodes.invariant.2 in
+    let hh = held c.args.toks.now c.args.functions.now c.args.at c.loop-nodes.place c.args.room c.args.room c.args.nodes.now c.loop-nodes.nodes c.requires.held c.loop-nodes.invariant.1 (omega arith) (omega arith) in
+    let u = if_made c.args.toks.now c.args.functions.now c.loop-nodes.place c.args.room c.loop-nodes.nodes hh c.branch-alloc.new.nodes c.add.new.self c.loop-nodes.place c.in-Some.head.next c.in-Some.head c.in_ok-last.last (omega arith) g (record { has = c.in_ok-last.ensures.has; is = c.in_ok-last.ensures.ok; keeps = c.in_ok-last.ensures.keeps }) in
+    c.in_ok-node.ensures.own.made c.args.toks.now c.args.functions.now c.args.at c.args.room c.args.nodes.now c.args.at c.in-Some.head.next c.requires.held (chain_begun c.args.toks.now c.args.functions.now c.args.at c.args.room c.args.nodes.now c.requires.held c.loop-nodes.nodes c.add.new.self c.args.at c.loop-nodes.place c.in-Some.head.next c.loop-nodes.heads.items c.in_ok-last.last c.loop-nodes.invariant.4 u)
+
+pub branch::conditional-returns-clause-own : goal.branch::conditional-returns-clause-own
+branch::conditional-returns-clause-own t c =
+    let g = rw c.in-Some-2.is at c.in_ok-last-2.ensures.own in
+    c.in_ok-node-2.ensures.own.made c.args.toks.now c.args.functions.now c.args.at c.args.room c.args.nodes.now c.args.at c.in-Some-2.last.next c.requires.held (chain_begun c.args.toks.now c.args.functions.now c.args.at c.args.room c.args.nodes.now c.requires.held c.loop-nodes.nodes c.other.new.nodes c.args.at c.loop-nodes.place c.in-Some-2.last.next c.loop-nodes.heads.items c.in-Some-2.last.node c.loop-nodes.invariant.4 g)
+
+pub branch::arm-returns-clause-own : goal.branch::arm-returns-clause-own
+branch::arm-returns-clause-own t c =
+    let f = rw c.in-Some.is at c.in_ok-head.ensures.own in
+    let g = rw c.in-Some-2.is at c.in_ok-body.ensures.own in
+    arm_made c.args.toks.now c.args.functions.now c.args.at c.args.room c.args.nodes.now c.requires.held c.arm_head.new.nodes c.statements.new.nodes c.args.at c.args.at c.in-Some.head.next c.in-Some.head.next c.in-Some-2.body.next _ (omega arith) (omega arith) f g
+
+pub branch::cases-returns-clause-own : goal.branch::cases-returns-clause-own
+branch::cases-returns-clause-own t c =
+    let f = rw c.in-Some.is at c.in_ok-test.ensures.own in
+    let g = rw c.in-Some-2.is at c.in_ok-found.ensures.own in
+    switch_made c.args.toks.now c.args.functions.now c.args.at c.args.room c.args.nodes.now c.requires.held c.test.new.nodes c.clauses.new.nodes c.add.new.self c.args.at (c.args.at + 1) c.in-Some.test.next (c.in-Some.test.next + 1) c.in-Some-2.found.next (c.in-Some-2.found.next + 1) c.in_ok-node.node (omega arith) (omega arith) (omega arith) c.in-Some.test.node c.in-Some-2.found.list f g (record { has = c.in_ok-node.ensures.has; is = c.in_ok-node.ensures.ok; keeps = c.in_ok-node.ensures.keeps })
+
+pub branch::trial-returns-clause-own : goal.branch::trial-returns-clause-own
+branch::trial-returns-clause-own t c =
+    let f = rw c.in-Some.is at c.in_ok-body.ensures.own in
+    let g = rw c.in-Some-2.is at c.in_ok-last.ensures.own in
+    finally_made c.args.toks.now c.args.functions.now c.args.at c.args.room c.args.nodes.now c.requires.held c.block.new.nodes c.block-2.new.nodes c.add.new.self c.args.at (c.args.at + 1) c.in-Some.body.next (c.in-Some.body.next + 1) c.in-Some-2.last.next c.in-Some-2.last.next c.in_ok-node.node (omega arith) (omega arith) (omega arith) c.in-Some.body.node c.in-Some-2.last.node f g (record { has = c.in_ok-node.ensures.has; is = c.in_ok-node.ensures.ok; keeps = c.in_ok-node.ensures.keeps })
+
+pub branch::trial-returns-then-has_key-clause-own : goal.branch::trial-returns-then-has_key-clause-own
+branch::trial-returns-then-has_key-clause-own t c =
+    let f = rw c.in-Some.is at c.in_ok-body.ensures.own in
+    c.caught.ensures.own c.args.nodes.now c.requires.held f
+
+pub branch::caught-returns-then-not-has_key-clause-own : goal.branch::caught-returns-then-not-has_key-clause-own
+branch::caught-returns-then-not-has_key-clause-own t c =
+    let f = rw c.in-Some.is at c.in_ok-found.ensures.own in
+    λ start h b. catch_made c.args.toks.now c.args.functions.now c.args.at c.args.room start h c.args.nodes.now c.handler.new.nodes c.add.new.self c.args.at (c.args.at + 1) c.args.body.next c.args.body.next c.in-Some.found.next c.in-Some.found.next c.in_ok-node.node (omega arith) (omega arith) (omega arith) c.in-Some.found.handler.name c.args.body.node c.in-Some.found.handler.block b f (record { has = c.in_ok-node.ensures.has; is = c.in_ok-node.ensures.ok; keeps = c.in_ok-node.ensures.keeps })
+
+pub branch::caught-returns-clause-own : goal.branch::caught-returns-clause-own
+branch::caught-returns-clause-own t c =
+    let f = rw c.in-Some.is at c.in_ok-found.ensures.own in
+    let g = rw c.in-Some-2.is at c.in_ok-last.ensures.own in
+    λ start h b. both_made c.args.toks.now c.args.functions.now c.args.at c.args.room start h c.args.nodes.now c.handler.new.nodes c.block.new.nodes c.add-2.new.self c.args.at (c.args.at + 1) c.args.body.next c.args.body.next c.in-Some.found.next (c.in-Some.found.next + 1) c.in-Some-2.last.next c.in-Some-2.last.next c.in_ok-node-2.node (omega arith) (omega arith) (omega arith) (omega arith) c.in-Some.found.handler.name c.args.body.node c.in-Some.found.handler.block c.in-Some-2.last.node b f g (record { has = c.in_ok-node-2.ensures.has; is = c.in_ok-node-2.ensures.ok; keeps = c.in_ok-node-2.ensures.keeps })
+
+pub branch::handler-returns-clause-own : goal.branch::handler-returns-clause-own
+branch::handler-returns-clause-own t c =
+    let g = rw c.in-Some-2.is at c.in_ok-found.ensures.own in
+    block_wide c.args.functions.now c.args.nodes.now c.block.new.nodes (c.args.at + 4) c.args.at c.in-Some-2.found.next c.in-Some-2.found.next c.in-Some-2.found.node (omega arith) (omega arith) g
+
+pub stmt::other-returns-in-Empty-clause-own : goal.stmt::other-returns-in-Empty-clause-own
+stmt::other-returns-in-Empty-clause-own t c = c.empty.ensures.own c.args.functions.now
+
+pub stmt::other-returns-in-Continue-clause-own : goal.stmt::other-returns-in-Continue-clause-own
+stmt::other-returns-in-Continue-clause-own t c = c.continued.ensures.own c.args.functions.now
+
+pub stmt::other-returns-in-Break-clause-own : goal.stmt::other-returns-in-Break-clause-own
+stmt::other-returns-in-Break-clause-own t c = c.broken.ensures.own c.args.functions.now

@@ -1,7 +1,8 @@
-use Rattle.std.proofs.Common.{◌+◌, ◌-◌, ◌*◌, ◌<◌, ◌≤◌, length}
+use Rattle.std.proofs.Common.{◌+◌, ◌-◌, ◌*◌, ◌≤◌, length}
 use Rattle.wjs_tree.specs.Children.{AreBelow, ClausesBelow}
 use Rattle.wjs_tree.specs.Shows.{Keeps}
 use Rattle.wjs_parse_stmt.specs.Chains.{BranchesBelow}
+use Rattle.wjs_parse_stmt.specs.Made.{StmtsMade, ClausesMade, HeadsMade}
 use Rattle.wjs_parse_stmt.proofs.Blocks.{Gathered}
 use Rattle.wjs_parse_stmt.proofs.Arms.{GatheredArms}
 use Rattle.wjs_parse_stmt.proofs.Branching.{Linked}
@@ -83,19 +84,19 @@ abbrev pub decreases-branch::handler : goal.decreases-branch::handler
 decreases-branch::handler l = l.room * 20 + 8
 
 abbrev pub invariant-lists::statements-loop-alloc : goal.invariant-lists::statements-loop-alloc
-invariant-lists::statements-loop-alloc l = Gathered l.toks l.room l.at l.nodes l.list.items l.place × Keeps l.fn.nodes l.nodes × (l.at ≤ l.place) × AreBelow (length l.nodes) l.list.items
+invariant-lists::statements-loop-alloc l = Gathered l.toks l.room l.at l.nodes l.list.items l.place × Keeps l.fn.nodes l.nodes × (l.at ≤ l.place) × AreBelow (length l.nodes) l.list.items × StmtsMade l.functions l.fn.nodes l.nodes l.at l.list.items l.place
 
 abbrev pub decreases-lists::statements-loop-alloc : goal.decreases-lists::statements-loop-alloc
 decreases-lists::statements-loop-alloc l = length l.toks - l.place
 
 abbrev pub invariant-branch::clauses-loop-alloc : goal.invariant-branch::clauses-loop-alloc
-invariant-branch::clauses-loop-alloc l = GatheredArms l.toks l.room l.at l.nodes l.list.items l.place × Keeps l.fn.nodes l.nodes × (l.at ≤ l.place) × ClausesBelow (length l.nodes) l.list.items
+invariant-branch::clauses-loop-alloc l = GatheredArms l.toks l.room l.at l.nodes l.list.items l.place × Keeps l.fn.nodes l.nodes × (l.at ≤ l.place) × ClausesBelow (length l.nodes) l.list.items × ClausesMade l.functions l.fn.nodes l.nodes l.at l.list.items l.place
 
 abbrev pub decreases-branch::clauses-loop-alloc : goal.decreases-branch::clauses-loop-alloc
 decreases-branch::clauses-loop-alloc l = length l.toks - l.place
 
 abbrev pub invariant-branch::conditional-loop-nodes : goal.invariant-branch::conditional-loop-nodes
-invariant-branch::conditional-loop-nodes l = Linked l.toks l.room l.at l.nodes l.heads.items l.place × Keeps l.fn.nodes l.nodes × (l.at ≤ l.place) × BranchesBelow (length l.nodes) l.heads.items
+invariant-branch::conditional-loop-nodes l = Linked l.toks l.room l.at l.nodes l.heads.items l.place × Keeps l.fn.nodes l.nodes × (l.at ≤ l.place) × BranchesBelow (length l.nodes) l.heads.items × HeadsMade l.functions l.fn.nodes l.nodes l.at l.heads.items l.place
 
 abbrev pub decreases-branch::conditional-loop-nodes : goal.decreases-branch::conditional-loop-nodes
 decreases-branch::conditional-loop-nodes l = length l.toks - l.place

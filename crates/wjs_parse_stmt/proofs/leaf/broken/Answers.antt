@@ -1,13 +1,14 @@
-use Rattle.std.proofs.Common.{◌+◌, ◌<◌, ◌≤◌, length, not, arith, rules, sym, ◌∙◌}
+use Rattle.std.proofs.Common.{◌+◌, ◌<◌, length, arith}
 use Rattle.wjs_tree.specs.declared.tokens.Token.TheVariants as tokens
 use Rattle.wjs_tree.specs.declared.keys.Key.TheVariants as keys
 use Rattle.wjs_tree.specs.Ends.{Complete}
-use Rattle.wjs_parse_expr.proofs.Readings.{token_within, not_true, not_false}
+use Rattle.wjs_parse_expr.proofs.Readings.{token_within}
 use Rattle.wjs_parse_stmt.specs.declared.kind.Kind.TheVariants as kinds
 use Rattle.wjs_parse_stmt.proofs.Bounds.{ends_within}
 use Rattle.wjs_parse_stmt.proofs.Forms.{told}
 use Rattle.wjs_parse_stmt.specs.Answers.{behind_label}
 use Rattle.wjs_parse_stmt.proofs.Simple.{break_found, break_none, label_within}
+use Rattle.wjs_parse_stmt.proofs.Making.{break_made}
 use Rattle.wjs_parse_stmt.proofs.leaf.broken.Goals as goal
 
 pub returns-in_default-clause-answer : goal.returns-in_default-clause-answer
@@ -32,3 +33,9 @@ pub returns-clause-answer : goal.returns-clause-answer
 returns-clause-answer c =
     let d = rw c.behind_label-place.ensures at c.in-Some.ensures in
     break_found c.args.toks.now c.args.room c.args.at c.label_at-label.result c.label_at-label.ensures c.add.new.self c.in-Some.ended c.in_ok-node.node c.requires.below c.requires.kind d c.in_ok-node.ensures.has
+
+pub returns-clause-own : goal.returns-clause-own
+returns-clause-own c =
+    let e = returns-clause-ends c in
+    let e0 = e.0 in
+    λ functions. break_made functions c.args.nodes.now c.add.new.self c.args.at c.in-Some.ended.next c.in_ok-node.node c.label_at-label.result c.in-Some.ended.end (omega arith) (record { has = c.in_ok-node.ensures.has; is = c.in_ok-node.ensures.ok; keeps = c.in_ok-node.ensures.keeps })

@@ -1,13 +1,11 @@
-use Rattle.std.proofs.Common.{◌+◌, ◌<◌, ◌≤◌, length, not, arith, rules, sym, ◌∙◌}
+use Rattle.std.proofs.Common.{◌+◌, ◌<◌, length, arith}
 use Rattle.wjs_tree.specs.declared.tokens.Token.TheVariants as tokens
-use Rattle.wjs_tree.specs.declared.keys.Key.TheVariants as keys
-use Rattle.wjs_tree.specs.Ends.{Complete}
-use Rattle.wjs_parse_expr.proofs.Readings.{token_within, not_true, not_false}
+use Rattle.wjs_parse_expr.proofs.Readings.{token_within}
 use Rattle.wjs_parse_stmt.specs.declared.kind.Kind.TheVariants as kinds
-use Rattle.wjs_parse_stmt.proofs.Bounds.{ends_within}
 use Rattle.wjs_parse_stmt.proofs.Forms.{told}
 use Rattle.wjs_tree.specs.declared.signs.Sign.TheVariants as signs
 use Rattle.wjs_parse_stmt.proofs.Simple.{empty_found}
+use Rattle.wjs_parse_stmt.proofs.Making.{empty_made}
 use Rattle.wjs_parse_stmt.proofs.leaf.empty.Goals as goal
 
 pub returns-clause-ends : goal.returns-clause-ends
@@ -19,3 +17,8 @@ returns-clause-ends c =
 
 pub returns-clause-answer : goal.returns-clause-answer
 returns-clause-answer c = empty_found c.args.toks.now c.args.room c.args.at c.add.new.self c.in_ok-node.node c.requires.below c.requires.kind c.in_ok-node.ensures.has
+
+pub returns-clause-own : goal.returns-clause-own
+returns-clause-own c =
+    λ functions.
+    empty_made functions c.args.nodes.now c.add.new.self c.args.at (c.args.at + 1) c.in_ok-node.node (omega arith) (record { has = c.in_ok-node.ensures.has; is = c.in_ok-node.ensures.ok; keeps = c.in_ok-node.ensures.keeps })

@@ -1,5 +1,6 @@
-use Rattle.std.proofs.Common.{◌+◌, ◌<◌, ◌≤◌, arith}
+use Rattle.std.proofs.Common.{arith}
 use Rattle.wjs_parse_stmt.proofs.Simple.{plain_found, plain_none}
+use Rattle.wjs_parse_stmt.proofs.Making.{expr_stmt_made}
 use Rattle.wjs_parse_stmt.proofs.leaf.plain.Goals as goal
 
 pub returns-in_default-clause-answer : goal.returns-in_default-clause-answer
@@ -20,3 +21,8 @@ pub returns-clause-answer : goal.returns-clause-answer
 returns-clause-answer c =
     let f = rw c.in-Some.is at c.in_ok-value.ensures.answer in
     plain_found c.args.toks.now c.args.room c.args.at c.value.new.nodes c.add.new.self c.in-Some.value c.in_ok-node.node c.requires.below c.requires.kind f c.in_ok-node.ensures.keeps c.in_ok-node.ensures.has
+
+pub returns-clause-own : goal.returns-clause-own
+returns-clause-own c =
+    let f = rw c.in-Some.is at c.in_ok-value.ensures.own in
+    expr_stmt_made c.args.toks.now c.args.functions.now c.args.at c.args.room c.args.nodes.now c.requires.held c.value.new.nodes c.add.new.self c.args.at c.args.at c.in-Some.value.next c.in-Some.value.next c.in_ok-node.node (omega arith) (omega arith) c.in-Some.value.node c.in-Some.value.end f (record { has = c.in_ok-node.ensures.has; is = c.in_ok-node.ensures.ok; keeps = c.in_ok-node.ensures.keeps })

@@ -1,12 +1,13 @@
-use Rattle.std.proofs.Common.{◌+◌, ◌<◌, ◌≤◌, length, not, arith, rules, sym, ◌∙◌}
+use Rattle.std.proofs.Common.{◌+◌, ◌<◌, length, arith, rules, sym, ◌∙◌}
 use Rattle.wjs_tree.specs.declared.tokens.Token.TheVariants as tokens
 use Rattle.wjs_tree.specs.declared.keys.Key.TheVariants as keys
 use Rattle.wjs_tree.specs.Ends.{Complete}
-use Rattle.wjs_parse_expr.proofs.Readings.{token_within, not_true, not_false}
+use Rattle.wjs_parse_expr.proofs.Readings.{token_within}
 use Rattle.wjs_parse_stmt.specs.declared.kind.Kind.TheVariants as kinds
 use Rattle.wjs_parse_stmt.proofs.Bounds.{ends_within}
 use Rattle.wjs_parse_stmt.proofs.Forms.{told}
 use Rattle.wjs_parse_stmt.proofs.Simple.{bare_return, return_found, return_none}
+use Rattle.wjs_parse_stmt.proofs.Making.{bare_return_made, return_made}
 use Rattle.wjs_parse_stmt.proofs.leaf.returned.Goals as goal
 
 pub overflow_add-at-2 : goal.overflow_add-at-2
@@ -52,3 +53,14 @@ pub returns-clause-answer : goal.returns-clause-answer
 returns-clause-answer c =
     let f = rw c.in-Some-2.is at c.in_ok-value.ensures.answer in
     return_found c.args.toks.now c.args.room c.args.at c.value.new.nodes c.add-2.new.self c.in-Some-2.value c.in_ok-node-2.node c.requires.below c.requires.kind c.in_default.ensures (sym c.is_joined.ensures ∙ c.if-not-is_joined.false) f c.in_ok-node-2.ensures.keeps c.in_ok-node-2.ensures.has
+
+pub returns-in-Some-clause-own : goal.returns-in-Some-clause-own
+returns-in-Some-clause-own c =
+    let e = returns-in-Some-clause-ends c in
+    let e0 = e.0 in
+    bare_return_made c.args.functions.now c.args.nodes.now c.add.new.self c.args.at c.in-Some.ended.next c.in_ok-node.node c.in-Some.ended.end (omega arith) (record { has = c.in_ok-node.ensures.has; is = c.in_ok-node.ensures.ok; keeps = c.in_ok-node.ensures.keeps })
+
+pub returns-clause-own : goal.returns-clause-own
+returns-clause-own c =
+    let f = rw c.in-Some-2.is at c.in_ok-value.ensures.own in
+    return_made c.args.toks.now c.args.functions.now c.args.at c.args.room c.args.nodes.now c.requires.held c.value.new.nodes c.add-2.new.self c.args.at (c.args.at + 1) c.in-Some-2.value.next c.in-Some-2.value.next c.in_ok-node-2.node (omega arith) (omega arith) c.in-Some-2.value.node c.in-Some-2.value.end f (record { has = c.in_ok-node-2.ensures.has; is = c.in_ok-node-2.ensures.ok; keeps = c.in_ok-node-2.ensures.keeps })

@@ -1,12 +1,11 @@
-use Rattle.std.proofs.Common.{◌+◌, ◌<◌, ◌≤◌, length, not, arith, rules, sym, ◌∙◌}
+use Rattle.std.proofs.Common.{◌+◌, ◌<◌, length, arith, rules, sym, ◌∙◌}
 use Rattle.wjs_tree.specs.declared.tokens.Token.TheVariants as tokens
 use Rattle.wjs_tree.specs.declared.keys.Key.TheVariants as keys
-use Rattle.wjs_tree.specs.Ends.{Complete}
-use Rattle.wjs_parse_expr.proofs.Readings.{token_within, not_true, not_false}
+use Rattle.wjs_parse_expr.proofs.Readings.{token_within}
 use Rattle.wjs_parse_stmt.specs.declared.kind.Kind.TheVariants as kinds
-use Rattle.wjs_parse_stmt.proofs.Bounds.{ends_within}
 use Rattle.wjs_parse_stmt.proofs.Forms.{told}
 use Rattle.wjs_parse_stmt.proofs.Simple.{throw_found, throw_none, throw_apart}
+use Rattle.wjs_parse_stmt.proofs.Making.{throw_made}
 use Rattle.wjs_parse_stmt.proofs.leaf.thrown.Goals as goal
 
 pub returns-then-not-is_joined-clause-answer : goal.returns-then-not-is_joined-clause-answer
@@ -34,3 +33,8 @@ pub returns-clause-answer : goal.returns-clause-answer
 returns-clause-answer c =
     let f = rw c.in-Some.is at c.in_ok-value.ensures.answer in
     throw_found c.args.toks.now c.args.room c.args.at c.value.new.nodes c.add.new.self c.in-Some.value c.in_ok-node.node c.requires.below c.requires.kind (sym c.is_joined.ensures ∙ c.if-not-is_joined.false) f c.in_ok-node.ensures.keeps c.in_ok-node.ensures.has
+
+pub returns-clause-own : goal.returns-clause-own
+returns-clause-own c =
+    let f = rw c.in-Some.is at c.in_ok-value.ensures.own in
+    throw_made c.args.toks.now c.args.functions.now c.args.at c.args.room c.args.nodes.now c.requires.held c.value.new.nodes c.add.new.self c.args.at (c.args.at + 1) c.in-Some.value.next c.in-Some.value.next c.in_ok-node.node (omega arith) (omega arith) c.in-Some.value.node c.in-Some.value.end f (record { has = c.in_ok-node.ensures.has; is = c.in_ok-node.ensures.ok; keeps = c.in_ok-node.ensures.keeps })

@@ -1,4 +1,6 @@
 use Rattle.wjs_parse_stmt.proofs.Expressions.{maybe_absent, maybe_present, maybe_none}
+use Rattle.std.proofs.Common.{arith}
+use Rattle.wjs_parse_stmt.proofs.Making.{absent, present}
 use Rattle.wjs_parse_stmt.proofs.values.maybe.Goals as goal
 
 pub returns-then-has_sign-clause-answer : goal.returns-then-has_sign-clause-answer
@@ -13,3 +15,12 @@ pub returns-clause-answer : goal.returns-clause-answer
 returns-clause-answer c =
     let f = rw c.in-Some.is at c.in_ok-value.ensures.answer in
     maybe_present c.args.toks.now c.args.sign c.args.room c.args.at c.up_to.new.nodes c.in-Some.value (λ h. absurd (let a = c.has_sign.ensures.1 h in let b = c.if-has_sign.false in cc)) f
+
+pub returns-then-has_sign-clause-own : goal.returns-then-has_sign-clause-own
+returns-then-has_sign-clause-own c =
+    absent c.args.functions.now c.args.nodes.now c.args.at c.args.at (omega arith)
+
+pub returns-clause-own : goal.returns-clause-own
+returns-clause-own c =
+    let f = rw c.in-Some.is at c.in_ok-value.ensures.own in
+    present c.args.functions.now c.args.nodes.now c.up_to.new.nodes c.args.at c.args.at c.in-Some.value.next c.in-Some.value.next c.in-Some.value.node (omega arith) (omega arith) f

@@ -1,9 +1,10 @@
-use Rattle.std.proofs.Common.{◌+◌, ◌<◌, length, rules}
+use Rattle.std.proofs.Common.{◌+◌, ◌<◌, length, arith, rules}
 use Rattle.wjs_tree.specs.declared.tokens.Token.TheVariants as tokens
 use Rattle.wjs_tree.specs.declared.signs.Sign.TheVariants as signs
 use Rattle.wjs_parse_expr.specs.Answers.{from}
 use Rattle.wjs_parse_expr.proofs.Readings.{token_within}
 use Rattle.wjs_parse_stmt.proofs.Declaring.{bare_variable, value_variable, value_missing}
+use Rattle.wjs_parse_stmt.proofs.Making.{expr_found, absent, present}
 use Rattle.wjs_parse_stmt.proofs.variables.variable.Goals as goal
 
 pub returns-then-not-has_sign-clause-answer : goal.returns-then-not-has_sign-clause-answer
@@ -23,3 +24,15 @@ pub returns-clause-answer : goal.returns-clause-answer
 returns-clause-answer c =
     let f = rw c.in-Some-2.is at c.in_ok-value.ensures.answer in
     value_variable (from c.args.toks.now c.args.functions.now c.args.nodes.now (c.args.at + 2)) c.args.toks.now c.args.no_in c.args.room c.args.at c.assignment.new.nodes c.in-Some.name c.in-Some-2.value c.ends_in_update.result c.in-Some.ensures (c.has_sign.ensures.0 c.if-not-has_sign.false) f c.ends_in_update.ensures
+
+pub returns-then-not-has_sign-clause-own : goal.returns-then-not-has_sign-clause-own
+returns-then-not-has_sign-clause-own c =
+    absent c.args.functions.now c.args.nodes.now c.args.at (c.args.at + 1) (omega arith)
+
+pub returns-clause-own : goal.returns-clause-own
+returns-clause-own c =
+    let f = rw c.in-Some-2.is at c.in_ok-value.ensures.answer in
+    let e = rw c.in-Some-2.is at c.in_ok-value.ensures.ends in
+    let e0 = e.0 in
+    let g = expr_found c.args.toks.now c.args.functions.now c.args.nodes.now c.assignment.new.nodes (c.args.at + 2) 1 c.args.no_in c.args.room c.in-Some-2.value f c.in_ok-value.ensures.keeps (omega arith) in
+    present c.args.functions.now c.args.nodes.now c.assignment.new.nodes (c.args.at + 2) c.args.at c.in-Some-2.value.next c.in-Some-2.value.next c.in-Some-2.value.node (omega arith) (omega arith) g
