@@ -13,7 +13,6 @@ use Rattle.wjs_tree.specs.Ends.{token_at, HasKey}
 use Rattle.wjs_tree.specs.Shows.{Has, Shows, ElementsShow, Keeps}
 use Rattle.wjs_tree.proofs.Kept.{elements_kept}
 use Rattle.wjs_parse_expr.specs.declared.functions.Functions.{Functions}
-use Rattle.wjs_parse_expr.specs.declared.found.Found.{Found}
 use Rattle.wjs_parse_expr.specs.Readings.{FunctionReading, is_function}
 use Rattle.wjs_parse_expr.specs.Table.{entry_at, Holds}
 use Rattle.wjs_parse_stmt.specs.declared.parts.Piece.{Piece}
@@ -57,15 +56,15 @@ not_none None e h = cc
 not_none (Some x) e h = cc
 
 -- the parts of a function with a name
-shown : (ns : List Node) (t : Expr) (node : NodeId) (used : List ℕ) → is_function t ≡ true → Shows ns t node used → (x : TextId) (formals : List TextId) (list : List NodeId) → Has ns node (nodes.Function (Some x) formals list)
-    → (body : Elements) × (us : List ℕ) × (t ≡ Function (Some x) formals body) × ElementsShow ns body list us
+pub shown : (ns : List Node) (t : Expr) (node : NodeId) (used : List ℕ) → is_function t ≡ true → Shows ns t node used → (x : TextId) (formals : List TextId) (list : List NodeId) → Has ns node (nodes.Function (Some x) formals list)
+    → (body : Elements) × (us : List ℕ) × (t ≡ Function (Some x) formals body) × ElementsShow ns body list us × (used ≡ node.0 ∷ us)
 shown ns (Function name ys body) node used is h x formals list has =
     let a = h.2 in
     let e : nodes.Function name ys h.0 ≡ nodes.Function (Some x) formals list = cc in
     let p : name ≡ Some x = cc in
     let q : ys ≡ formals = cc in
     let r : h.0 ≡ list = cc in
-    (body, h.1, cc, subst (λ (z : List NodeId). ElementsShow ns body z h.1) r h.4)
+    (body, h.1, cc, subst (λ (z : List NodeId). ElementsShow ns body z h.1) r h.4, h.3)
 shown ns _ node used is h x formals list has = cc
 
 module _ (toks : List Tok) (functions : Functions) (room i : ℕ) (ns : List Node) (h : Holds toks functions i room ns) (key : HasKey toks i keys.Function) where

@@ -1,5 +1,5 @@
 -- Functions and their bodies.
-use Rattle.std.proofs.Common.{◌≡◌, ℕ, ◌+◌, ◌<◌, ◌≤◌, Bool, true, List, ◌∷◌, length, Option, Some, None, refl, sym, ap, ◌∙◌, subst, arith}
+use Rattle.std.proofs.Common.{◌≡◌, ℕ, ◌+◌, ◌≤◌, Bool, true, List, ◌∷◌, Option, refl, sym, ap, ◌∙◌, subst, arith}
 use Rattle.std.specs.Prelude.{◌↔◌, IsTrue}
 use Rattle.wjs_base.specs.declared.ids.TextId.{TextId}
 use Rattle.wjs_tree.specs.declared.signs.Sign.TheVariants as signs
@@ -8,7 +8,6 @@ use Rattle.wjs_tree.specs.declared.node.Node.{Node}
 use Rattle.wjs_tree.specs.declared.node.NodeId.{NodeId}
 use Rattle.wjs_tree.specs.declared.node.Node.TheVariants as nodes
 use Rattle.wjs_tree.specs.Trees.{Expr, Elements, Function}
-use Rattle.wjs_tree.specs.Height.{height}
 use Rattle.wjs_tree.specs.Jumps.{outermost, ElementsJumpRight}
 use Rattle.wjs_tree.specs.Ends.{HasSign}
 use Rattle.wjs_tree.specs.Spelling.{ElementsStand}
@@ -16,7 +15,6 @@ use Rattle.wjs_tree.specs.Shows.{Has, ElementsShow, Keeps}
 use Rattle.wjs_tree.proofs.Kept.{elements_kept}
 use Rattle.wjs_jumps.specs.Forms.{AreElements}
 use Rattle.wjs_jumps.specs.Answers.{ElementsThere, ElementsAnswer}
-use Rattle.wjs_parse_expr.specs.declared.found.Found.{Found}
 use Rattle.wjs_parse_expr.specs.Readings.{FunctionReading}
 use Rattle.wjs_parse_stmt.specs.declared.parts.Listed.{Listed}
 use Rattle.wjs_parse_stmt.specs.Readings.{ElementsForm, is_closer}

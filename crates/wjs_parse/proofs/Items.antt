@@ -1,5 +1,5 @@
 -- Elements one behind another.
-use Rattle.std.proofs.Common.{◌≡◌, ℕ, ◌+◌, ◌-◌, ◌<◌, ◌≤◌, Bool, true, false, List, [], ◌∷◌, ◌++◌, Option, Some, None, refl, sym, ap, ◌∙◌, subst, arith, append_assoc}
+use Rattle.std.proofs.Common.{◌≡◌, ℕ, ◌+◌, ◌≤◌, true, false, List, [], ◌∷◌, ◌++◌, Some, refl, sym, ap, ◌∙◌, subst, arith, append_assoc}
 use Rattle.wjs_base.specs.declared.ids.TextId.{TextId}
 use Rattle.wjs_tree.specs.declared.tokens.Token.TheVariants as tokens
 use Rattle.wjs_tree.specs.declared.signs.Sign.TheVariants as signs
@@ -36,7 +36,7 @@ append_nil [] = refl
 append_nil (x ∷ xs) = ap (λ z. x ∷ z) (append_nil xs)
 
 -- an element before others
-before_show : (ns : List Node) (e : Element) (a : NodeId) (us : List ℕ) → ElementShows ns e a us → (rest : Elements) (more : List NodeId) (vs : List ℕ) → ElementsShow ns rest more vs → ElementsShow ns (before e rest) (a ∷ more) (us ++ vs)
+pub before_show : (ns : List Node) (e : Element) (a : NodeId) (us : List ℕ) → ElementShows ns e a us → (rest : Elements) (more : List NodeId) (vs : List ℕ) → ElementsShow ns rest more vs → ElementsShow ns (before e rest) (a ∷ more) (us ++ vs)
 before_show ns (Plain s) a us h rest more vs r = (a, more, us, vs, refl, refl, h, r)
 before_show ns (Declared x formals body) a us h rest more vs r = (a, h.0, more, h.1, vs, refl, ap (λ z. z ++ vs) h.3, h.2, h.4, r)
 

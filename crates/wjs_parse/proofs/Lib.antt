@@ -1,5 +1,6 @@
 pub mod Items
 pub mod Declarations
+pub mod Making
 pub mod Naming
 pub mod Functions
 pub mod Programs

@@ -1,18 +1,18 @@
 -- Names, formals, and what stands before the body of a function.
-use Rattle.std.proofs.Common.{◌≡◌, ℕ, ◌+◌, ◌<◌, ◌≤◌, List, [], ◌∷◌, ◌++◌, Option, Some, None, refl, sym, ap, ◌∙◌, subst, arith, append_assoc}
+use Rattle.std.proofs.Common.{◌≡◌, ℕ, ◌+◌, List, [], ◌∷◌, ◌++◌, Option, Some, None, refl, sym, ap, ◌∙◌, subst, append_assoc}
 use Rattle.wjs_base.specs.declared.ids.TextId.{TextId}
 use Rattle.wjs_tree.specs.declared.tokens.Token.{Token}
 use Rattle.wjs_tree.specs.declared.tokens.Token.TheVariants as tokens
 use Rattle.wjs_tree.specs.declared.signs.Sign.TheVariants as signs
 use Rattle.wjs_tree.specs.declared.keys.Key.TheVariants as keys
 use Rattle.wjs_tree.specs.declared.tokens.Tok.{Tok}
-use Rattle.wjs_tree.specs.Ends.{token_at, HasToken, HasSign, HasKey}
+use Rattle.wjs_tree.specs.Ends.{HasToken, HasSign, HasKey}
 use Rattle.wjs_tree.specs.Spelling.{NameStands, FormalsStand, MoreFormalsStand}
 use Rattle.wjs_parse_expr.proofs.Readings.{same_token}
 use Rattle.wjs_parse.specs.declared.formals.ListedFormals.{ListedFormals}
 use Rattle.wjs_parse.specs.declared.formals.Head.{Head}
 use Rattle.wjs_parse.specs.Readings.{HeaderForm}
-use Rattle.wjs_parse.specs.Answers.{WordAnswers, NameAnswers, FindsFormals, FindsHeader}
+use Rattle.wjs_parse.specs.Answers.{NameAnswers, FindsFormals, FindsHeader}
 
 -- one token stands at a place
 clash : (toks : List Tok) (i j : ℕ) (a b : Token) → HasToken toks i a → HasToken toks j b → j ≡ i → a ≡ b

@@ -1,5 +1,5 @@
 -- Programs.
-use Rattle.std.proofs.Common.{◌≡◌, ℕ, ◌+◌, ◌<◌, ◌≤◌, Bool, false, List, length, Option, None, refl, sym, ap, ◌∙◌, subst, arith}
+use Rattle.std.proofs.Common.{◌≡◌, ℕ, false, List, ◌∷◌, length, None, sym, ap, subst, arith}
 use Rattle.std.specs.Option.{option_map}
 use Rattle.std.specs.Prelude.{slice_get}
 use Rattle.std.proofs.lemmas.Option.{slice_get_past}
@@ -7,17 +7,20 @@ use Rattle.wjs_tree.specs.declared.tokens.Tok.{Tok}
 use Rattle.wjs_tree.specs.declared.node.Node.{Node}
 use Rattle.wjs_tree.specs.declared.node.NodeId.{NodeId}
 use Rattle.wjs_tree.specs.declared.node.Node.TheVariants as nodes
-use Rattle.wjs_tree.specs.declared.nodes.Program.{Program}
 use Rattle.wjs_tree.specs.Trees.{Elements}
-use Rattle.wjs_tree.specs.Height.{elements_height}
 use Rattle.wjs_tree.specs.Jumps.{outermost, ElementsJumpRight}
 use Rattle.wjs_tree.specs.Ends.{token_at}
 use Rattle.wjs_tree.specs.Spelling.{ElementsStand}
-use Rattle.wjs_tree.specs.Shows.{Has, Keeps}
+use Rattle.wjs_tree.specs.Used.{IsOnce}
 use Rattle.wjs_tree.proofs.Kept.{elements_kept}
+use Rattle.wjs_tree.proofs.OneUse.{elements_one_use}
+use Rattle.wjs_tree.proofs.Within.{elements_within}
+use Rattle.wjs_parse_expr.specs.declared.functions.Functions.{Functions}
 use Rattle.wjs_parse_stmt.specs.declared.parts.Listed.{Listed}
 use Rattle.wjs_parse_stmt.specs.Readings.{ElementsForm, is_closer}
+use Rattle.wjs_parse_stmt.proofs.Spans.{Added}
 use Rattle.wjs_parse.specs.Readings.{ProgramReading}
+use Rattle.wjs_parse.specs.Made.{ElementsMade}
 use Rattle.wjs_parse.specs.Answers.{FindsElements, FindsProgram}
 
 nothing_last : (toks : List Tok) → token_at toks (length toks) ≡ None
@@ -40,10 +43,18 @@ module _ (toks : List Tok) where
     pub program_astray : (ElementsJumpRight (outermost false) f.trees → ⊥) → (u : Elements) → ProgramReading toks u → ⊥
     program_astray nay u r = nay (subst (λ (z : Elements). ElementsJumpRight (outermost false) z) (f.only u (length toks) (program_elements u r)).0 r.formed.jumps)
 
-    pub program_found : p.next ≡ length toks → ElementsJumpRight (outermost false) f.trees → (q : Program) → Keeps ns q.nodes → Has q.nodes q.body (nodes.Program p.list) → FindsProgram toks q
-    program_found end jumps q k has = record {
+    -- no node stands at two places of elements that are made of nodes of their own, nor the Program's node in them
+    program_once : (functions : Functions) (start : List Node) → ElementsMade functions start ns 0 p.list p.next → (n : ℕ) → n ≡ length ns → IsOnce (n ∷ f.used)
+    program_once functions start o n e =
+        let q : o.used ≡ f.used = elements_one_use ns o.trees p.list o.used o.shows f.trees f.used f.shows in
+        (λ h. (let w = elements_within ns f.trees p.list f.used f.shows n h in omega arith), subst (λ (z : List ℕ). IsOnce z) q o.span.own.once)
+
+    pub program_found : p.next ≡ length toks → ElementsJumpRight (outermost false) f.trees → (functions : Functions) (start : List Node) → ElementsMade functions start ns 0 p.list p.next
+        → (new : List Node) (id : NodeId) → Added ns new id (nodes.Program p.list) → FindsProgram toks new id
+    program_found end jumps functions start o new id d = record {
       tree = f.trees;
-      is = record { list = p.list; used = f.used; has = has; shows = elements_kept ns q.nodes k f.trees p.list f.used f.shows };
+      is = record { list = p.list; used = f.used; has = d.has; shows = elements_kept ns new d.keeps f.trees p.list f.used f.shows };
+      once = program_once functions start o id.0 d.is;
       reading = record {
         formed = record { formed = f.form.formed; jumps = jumps; height = (let h = f.form.height in omega arith) };
         stands = subst (λ (z : ℕ). ElementsStand toks f.trees 0 z) end f.form.stands;

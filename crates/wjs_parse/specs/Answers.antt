@@ -1,5 +1,5 @@
 -- What each reader answers: the tree that it reads, and that no other is read there.
-use Rattle.std.specs.Prelude.{◌≡◌, ℕ, ◌+◌, ◌<◌, ◌≤◌, List, length, Option, Some, None}
+use Rattle.std.specs.Prelude.{◌≡◌, ℕ, ◌<◌, ◌≤◌, List, ◌∷◌, length, Option, Some, None}
 use Rattle.std.specs.declared.result.Result.{Result}
 use Rattle.std.specs.declared.result.Result.TheVariants.{Ok, Err}
 use Rattle.wjs_base.specs.declared.ids.TextId.{TextId}
@@ -12,6 +12,7 @@ use Rattle.wjs_tree.specs.declared.node.Node.TheVariants as nodes
 use Rattle.wjs_tree.specs.declared.node.NodeId.{NodeId}
 use Rattle.wjs_tree.specs.declared.nodes.Program.{Program}
 use Rattle.wjs_tree.specs.Trees.{Expr, Elements}
+use Rattle.wjs_tree.specs.Used.{IsOnce}
 use Rattle.wjs_tree.specs.Children.{AreBelow, ChildrenBelow}
 use Rattle.wjs_tree.specs.Ends.{HasToken, HasSign}
 use Rattle.wjs_tree.specs.Spelling.{NameStands, FormalsStand}
@@ -19,7 +20,9 @@ use Rattle.wjs_tree.specs.Shows.{Has, Shows, ElementsShow, IsBody}
 use Rattle.wjs_parse_expr.specs.declared.found.Found.{Found}
 use Rattle.wjs_parse_expr.specs.declared.found.ParseFault.{ParseFault}
 use Rattle.wjs_parse_expr.specs.declared.found.ParseFault.TheVariants as faults
+use Rattle.wjs_parse_expr.specs.declared.functions.Functions.{Functions}
 use Rattle.wjs_parse_expr.specs.Readings.{FunctionReading}
+use Rattle.wjs_parse_expr.specs.Table.{entry_at}
 use Rattle.wjs_parse_stmt.specs.declared.parts.Listed.{Listed}
 use Rattle.wjs_parse_stmt.specs.Readings.{ElementsForm}
 use Rattle.wjs_parse.specs.declared.formals.ListedFormals.{ListedFormals}
@@ -134,14 +137,25 @@ abbrev pub FoundEnds : List Tok → ℕ → List Node → Result (Option Found) 
 FoundEnds toks i ns (Ok (Some p)) = (i < p.next) × (p.next ≤ length toks) × (p.node.0 < length ns)
 FoundEnds toks i ns _ = Unit {0}
 
--- the program, which is the only one
-pub record FindsProgram (toks : List Tok) (p : Program) : Type 0 where
+-- the program, which is the only one, and no node stands at two places of it
+pub record FindsProgram (toks : List Tok) (ns : List Node) (body : NodeId) : Type 0 where
   pub tree : Elements
-  pub is : IsBody p.nodes tree p.body
+  pub is : IsBody ns tree body
+  pub once : IsOnce (body.0 ∷ is.used)
   pub reading : ProgramReading toks tree
   pub only : (u : Elements) → ProgramReading toks u → u ≡ tree
 
 abbrev pub ProgramAnswers : List Tok → Result Program ParseFault → Type 0
-ProgramAnswers toks (Ok p) = FindsProgram toks p
+ProgramAnswers toks (Ok p) = FindsProgram toks p.nodes p.body
 ProgramAnswers toks (Err faults.NotAScript) = (u : Elements) → ProgramReading toks u → ⊥
 ProgramAnswers toks (Err faults.OutOfMemory) = Unit {0}
+
+-- the same of the node alone
+abbrev pub WholeAnswers : List Tok → List Node → Result (Option NodeId) OutOfMemory → Type 0
+WholeAnswers toks ns (Ok (Some body)) = FindsProgram toks ns body
+WholeAnswers toks ns (Ok None) = (u : Elements) → ProgramReading toks u → ⊥
+WholeAnswers toks ns (Err e) = Unit {0}
+
+-- the functions begin at or behind the place
+abbrev pub AreBehind : Functions → ℕ → Type 0
+AreBehind functions place = (q : ℕ) (node : NodeId) (ends : ℕ) → entry_at functions q ≡ Some (node, ends) → place ≤ q

@@ -3,6 +3,7 @@ ghost use Rattle.std.specs.Prelude.{◌+◌};
 ghost use Rattle.wjs_tree.specs.Shows.{Keeps};
 ghost use Rattle.wjs_parse_expr.specs.Table.{Holds};
 ghost use Rattle.wjs_parse.specs.Answers.{FunctionAnswers, BodyAnswers, FoundEnds, BodyEnds};
+ghost use Rattle.wjs_parse.specs.Made.{FunctionOwn, ElementsOwn};
 
 use crate::formals::header;
 use crate::list::elements;
@@ -14,7 +15,8 @@ use wjs_parse_stmt::Listed;
 use wjs_tree::{Node, Nodes, Sign, Tok};
 
 /// The well-formed function of at most the height 200 that begins at the place: no other is read there. None exactly where
-/// none is. The functions behind the place are read already.
+/// none is. The functions behind the place are read already. No node stands at two places of it, and each is new or one of
+/// a function within its tokens.
 pub fn function_at(
     alloc: Global,
     toks: &[Tok],
@@ -26,6 +28,7 @@ pub fn function_at(
     ensures keeps { Keeps nodes.old nodes.new }
     ensures ends { FoundEnds toks.now at nodes.new result }
     ensures answer { FunctionAnswers toks.now at nodes.new result }
+    ensures own { FunctionOwn functions.now nodes.old nodes.new at result }
 {
     let Some(head) = header(alloc, toks, at)? else {
         return Ok(None);
@@ -53,6 +56,7 @@ fn function_body(
     ensures keeps { Keeps nodes.old nodes.new }
     ensures ends { BodyEnds toks.now at nodes.new result }
     ensures answer { BodyAnswers toks.now at nodes.new result }
+    ensures own { ElementsOwn functions.now nodes.old nodes.new at result }
 {
     let Some(found) = elements(alloc, toks, at, 199, functions, nodes)? else {
         return Ok(None);

@@ -1,9 +1,14 @@
-//! Reads elements of programs and functions, and functions.
+//! Reads programs, their elements, and functions.
 #![tactic(auto)]
 
 mod formals;
 mod function;
 mod list;
+mod whole;
 
 pub use function::function_at;
 pub use list::elements;
+pub use whole::program;
+
+#[cfg(test)]
+mod tests;

@@ -6,6 +6,7 @@ ghost use Rattle.wjs_tree.specs.declared.keys.Key.TheVariants as keys;
 ghost use Rattle.wjs_parse_expr.specs.Table.{Holds};
 ghost use Rattle.wjs_parse_stmt.specs.Answers.{ListEnds};
 ghost use Rattle.wjs_parse.specs.Answers.{ElementsAnswers, ElementAnswers, DeclaredAnswers, DeclaredBelow, FoundEnds};
+ghost use Rattle.wjs_parse.specs.Made.{ElementsOwn, ElementOwn};
 
 use std::alloc::Global;
 use wjs_base::OutOfMemory;
@@ -14,7 +15,8 @@ use wjs_parse_stmt::{Listed, is_closed, push_last, statement};
 use wjs_tree::{Key, Node, NodeId, Nodes, Sequence, Tok};
 
 /// The elements from the place up to a token that closes them, of at most the height `room`: no others are read there.
-/// None exactly where none are.
+/// None exactly where none are. No node stands at two places of them, and each is new or one of a function that was read
+/// before within their tokens.
 pub fn elements(
     alloc: Global,
     toks: &[Tok],
@@ -27,6 +29,7 @@ pub fn elements(
     ensures keeps { Keeps nodes.old nodes.new }
     ensures ends { ListEnds toks.now at nodes.new result }
     ensures answer { ElementsAnswers toks.now room at nodes.new result }
+    ensures own { ElementsOwn functions.now nodes.old nodes.new at result }
 {
     let mut list: Vec<NodeId> = Vec::new(alloc);
     let mut place = at;
@@ -56,6 +59,7 @@ fn element(
     ensures keeps { Keeps nodes.old nodes.new }
     ensures ends { FoundEnds toks.now at nodes.new result }
     ensures answer { ElementAnswers toks.now room at nodes.new result }
+    ensures own { ElementOwn functions.now nodes.old nodes.new at result }
 {
     if has_key(toks, at, Key::Function) {
         return declaration(alloc, toks, at, room, functions, nodes);
@@ -83,6 +87,7 @@ fn declaration(
     ensures keeps { Keeps nodes.old nodes.new }
     ensures ends { FoundEnds toks.now at nodes.new result }
     ensures answer { ElementAnswers toks.now room at nodes.new result }
+    ensures own { ElementOwn functions.now nodes.old nodes.new at result }
 {
     let Some((function, next)) = functions.at(at) else {
         return Ok(None);

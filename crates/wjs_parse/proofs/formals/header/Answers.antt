@@ -1,6 +1,5 @@
-use Rattle.std.proofs.Common.{◌≡◌, ◌+◌, ◌-◌, ◌<◌, ◌≤◌, length, arith, rules, refl, sym, ◌∙◌}
+use Rattle.std.proofs.Common.{arith, refl}
 use Rattle.wjs_tree.specs.declared.tokens.Token.TheVariants as tokens
-use Rattle.wjs_tree.specs.declared.signs.Sign.TheVariants as signs
 use Rattle.wjs_tree.specs.declared.keys.Key.TheVariants as keys
 use Rattle.wjs_parse_expr.proofs.Readings.{token_within}
 use Rattle.wjs_parse.proofs.Naming.{header_keyless, header_unopened, header_formless, header_unclosed, header_bodiless, header_found}

@@ -1,10 +1,11 @@
-use Rattle.std.proofs.Common.{◌≡◌, ◌+◌, ◌<◌, ◌≤◌, length, true, arith, refl, sym, ◌∙◌}
+use Rattle.std.proofs.Common.{◌+◌, true, arith, refl}
 use Rattle.wjs_tree.specs.declared.tokens.Token.TheVariants as tokens
 use Rattle.wjs_tree.specs.declared.signs.Sign.TheVariants as signs
 use Rattle.wjs_tree.proofs.Kept.{keeps_self}
 use Rattle.wjs_parse_expr.proofs.Readings.{token_within}
 use Rattle.wjs_parse_expr.proofs.Entries.{held}
 use Rattle.wjs_parse.proofs.Functions.{elements_there, jumps_of, body_none, body_open, body_astray, body_found}
+use Rattle.wjs_parse.proofs.Making.{elements_wide}
 use Rattle.wjs_parse.proofs.function.function_body.Goals as goal
 
 pub elements-requires : goal.elements-requires
@@ -43,3 +44,7 @@ returns-clause-answer c =
     let f = rw c.in-Some.is at c.in_ok-found.ensures.answer in
     let j = jumps_of c.args.toks.now 199 c.args.at c.elements.new.nodes c.in-Some.found _ true c.jumps_are_right.result f c.as_slice.ensures c.jumps_are_right.ensures in
     body_found c.args.toks.now c.args.at c.elements.new.nodes c.in-Some.found f (c.has_sign.ensures.0 c.if-not-has_sign.false) (j.0 (let b = c.if-not-jumps_are_right.false in cc)) _ refl refl
+
+pub returns-clause-own : goal.returns-clause-own
+returns-clause-own c =
+    elements_wide c.args.functions.now c.args.nodes.now c.elements.new.nodes c.args.at c.args.at c.in-Some.found.next (c.in-Some.found.next + 1) c.in-Some.found.list (omega arith) (omega arith) (rw c.in-Some.is at c.in_ok-found.ensures.own)

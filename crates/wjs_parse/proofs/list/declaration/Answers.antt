@@ -1,7 +1,7 @@
-use Rattle.std.proofs.Common.{◌+◌, ◌<◌, ◌≤◌, length, sym, ◌∙◌, arith}
-use Rattle.wjs_tree.proofs.Kept.{keeps_self}
+use Rattle.std.proofs.Common.{sym, ◌∙◌, arith}
 use Rattle.wjs_parse_expr.proofs.Entries.{entry_ends}
 use Rattle.wjs_parse.proofs.Declarations.{declared_nowhere, declared_high, declared_unnamed, declared_found}
+use Rattle.wjs_parse.proofs.Making.{declaration_made}
 use Rattle.wjs_parse.proofs.list.declaration.Goals as goal
 
 pub height-requires : goal.height-requires
@@ -36,3 +36,10 @@ pub returns-clause-answer : goal.returns-clause-answer
 returns-clause-answer c =
     let d = rw c.in-Some-2.is at c.in_ok-made.ensures.answer in
     declared_found c.args.toks.now c.args.functions.now c.args.room c.args.at c.args.nodes.now c.requires.held c.requires.key c.in-Some.function c.in-Some.next (sym c.at.ensures ∙ c.in-Some.is) c.height.result c.height.ensures.expr (omega arith) c.in-Some-2.made d c.add.new.self c.in_ok-node.node c.in_ok-node.ensures.keeps c.in_ok-node.ensures.has
+
+pub returns-clause-own : goal.returns-clause-own
+returns-clause-own c =
+    let d = rw c.in-Some-2.is at c.in_ok-made.ensures.answer in
+    let e = entry_ends c.args.toks.now c.args.functions.now c.args.at c.args.room c.args.nodes.now c.in-Some.function c.in-Some.next c.requires.held (sym c.at.ensures ∙ c.in-Some.is) in
+    let e0 = e.0 in
+    declaration_made c.args.toks.now c.args.functions.now c.args.at c.args.room c.args.nodes.now c.requires.held c.in-Some.function c.in-Some.next (sym c.at.ensures ∙ c.in-Some.is) (omega arith) c.in-Some-2.made d c.add.new.self c.in_ok-node.node (record { has = c.in_ok-node.ensures.has; is = c.in_ok-node.ensures.ok; keeps = c.in_ok-node.ensures.keeps })

@@ -1,4 +1,4 @@
-use Rattle.std.proofs.Common.{◌<◌, ◌≤◌, length, arith}
+use Rattle.std.proofs.Common.{length, arith}
 use Rattle.wjs_parse_expr.proofs.Entries.{below_more}
 use Rattle.wjs_parse.proofs.list.declared.Goals as goal
 

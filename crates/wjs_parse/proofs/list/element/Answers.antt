@@ -1,4 +1,5 @@
 use Rattle.wjs_parse.proofs.Declarations.{plain_found, plain_none}
+use Rattle.wjs_parse.proofs.Making.{plain_made}
 use Rattle.wjs_parse.proofs.list.element.Goals as goal
 
 pub returns-in_default-clause-answer : goal.returns-in_default-clause-answer
@@ -13,3 +14,7 @@ returns-clause-answer c =
 
 pub returns-clause-ends : goal.returns-clause-ends
 returns-clause-ends c = rw c.in-Some.is at c.in_ok-found.ensures.ends
+
+pub returns-clause-own : goal.returns-clause-own
+returns-clause-own c =
+    plain_made c.args.functions.now c.args.nodes.now c.statement.new.nodes c.args.at c.in-Some.found.next c.in-Some.found.node (rw c.in-Some.is at c.in_ok-found.ensures.own)

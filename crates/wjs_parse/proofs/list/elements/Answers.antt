@@ -1,11 +1,12 @@
-use Rattle.std.proofs.Common.{◌≡◌, ◌+◌, ◌-◌, ◌<◌, ◌≤◌, length, arith, rules, refl, sym, ◌∙◌}
+use Rattle.std.proofs.Common.{length, arith, refl, sym, ◌∙◌}
 use Rattle.wjs_tree.proofs.Kept.{keeps_self, keeps_both}
 use Rattle.wjs_parse_expr.proofs.Entries.{held, below_last}
 use Rattle.wjs_parse.proofs.Items.{list_start, list_none, list_more, list_end}
+use Rattle.wjs_parse.proofs.Making.{elements_none, elements_more, elements_same}
 use Rattle.wjs_parse.proofs.list.elements.Goals as goal
 
 pub loop-alloc-init : goal.loop-alloc-init
-loop-alloc-init c = (list_start c.args.toks.now c.args.room c.args.at c.args.nodes.now c.new-list.result.items c.new-list.ensures.items, keeps_self _, omega arith, rw c.new-list.ensures.items tt)
+loop-alloc-init c = (list_start c.args.toks.now c.args.room c.args.at c.args.nodes.now c.new-list.result.items c.new-list.ensures.items, keeps_self _, omega arith, rw c.new-list.ensures.items tt, elements_none c.args.functions.now c.args.nodes.now c.args.at c.new-list.result.items c.new-list.ensures.items)
 
 pub element-requires : goal.element-requires
 element-requires c =
@@ -29,6 +30,7 @@ loop-alloc-preserved c =
       keeps_both _ _ _ c.loop-alloc.invariant.1 c.in_ok-item.ensures.keeps,
       omega arith,
       rw c.in_ok-push_last.ensures.ok (below_last (length c.loop-alloc.nodes) (length c.element.new.nodes) c.loop-alloc.list.items c.in-Some.item.node c.in_ok-item.ensures.keeps.longer e1.2 c.loop-alloc.invariant.3),
+      elements_more c.args.toks.now c.args.functions.now c.args.at c.args.room c.args.nodes.now c.requires.held c.loop-alloc.nodes c.element.new.nodes c.args.at c.loop-alloc.place c.in-Some.item.next c.loop-alloc.list.items c.push_last.new.list.items c.in-Some.item.node c.loop-alloc.invariant.4 (rw c.in-Some.is at c.in_ok-item.ensures.own) c.in_ok-push_last.ensures.ok,
     )
 
 pub loop-alloc-smaller : goal.loop-alloc-smaller
@@ -43,3 +45,7 @@ returns-clause-answer c = list_end c.args.toks.now c.args.room c.args.at c.loop-
 
 pub returns-clause-ends : goal.returns-clause-ends
 returns-clause-ends c = (c.loop-alloc.invariant.2, rw c.from_vec.ensures c.loop-alloc.invariant.3)
+
+pub returns-clause-own : goal.returns-clause-own
+returns-clause-own c =
+    elements_same c.args.functions.now c.args.nodes.now c.loop-alloc.nodes c.args.at c.loop-alloc.place c.loop-alloc.place c.loop-alloc.list.items _ c.loop-alloc.invariant.4 c.from_vec.ensures refl
