@@ -6,6 +6,7 @@ use Rattle.wjs_arena.specs.Entries.{Objects, Entry, has, prototype_of, depth_at,
 use Rattle.std.specs.Option.{option_and_then}
 use Rattle.wjs_base.specs.declared.values.Name.{Name}
 use Rattle.wjs_arena.specs.declared.object.Object.{Object}
+use Rattle.wjs_arena.specs.AtName.{at_name}
 use Rattle.wjs_arena.specs.Chains.{chain_from, none_fixed, fixed}
 
 module _ (m : Objects) (a : IsArena m) where
@@ -58,6 +59,14 @@ link_is m o x there h = at (map.get m o) there h
     at : (r : Option Entry) → is_some r ≡ true → IfSome r (λ (e : Entry). x ≡ e.object) → option_and_then (λ (e : Entry). e.object.prototype) r ≡ x.prototype
     at None there h = cc
     at (Some e) there h = ap (λ (z : Object). z.prototype) (sym h)
+
+-- and its fixed properties
+pub fixed_is : (m : Objects) (o : ObjId) (x : Object) (name : Name) → IsTrue (has m o) → IfSome (map.get m o) (λ (e : Entry). x ≡ e.object) → fixed m o name ≡ at_name x.fixed name
+fixed_is m o x name there h = at (map.get m o) there h
+  where
+    at : (r : Option Entry) → is_some r ≡ true → IfSome r (λ (e : Entry). x ≡ e.object) → option_and_then (λ (e : Entry). at_name e.object.fixed name) r ≡ at_name x.fixed name
+    at None there h = cc
+    at (Some e) there h = ap (λ (z : Object). at_name z.fixed name) (sym h)
 
 pub there_by : (m : Objects) (o : Option ObjId) (id : ObjId) → o ≡ Some id → IsThere m o → IsTrue (has m id)
 there_by m o id is there = subst (IsThere m) is there

@@ -49,6 +49,11 @@ impl Arena {
         }
     }
 
+    /// Where its memory comes from.
+    pub fn allocator(&self) -> Global {
+        self.rows.allocator()
+    }
+
     /// Makes an object of an owner, whose prototype and scope are there and whose world no object stands for, and gives its
     /// number: the owner's next. After a refusal nothing has changed.
     pub fn create(&mut self, owner: u32, object: Object) -> Result<ObjId, OutOfMemory>

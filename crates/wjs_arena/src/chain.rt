@@ -52,11 +52,12 @@ impl Arena {
         ensures { result ≡ is_puttable self.now id name }
     {
         let mut at = Some(id);
-        'up: while let Some(object) = at {
-            if self.fixed(object, name).is_some() {
+        'up: while let Some(next) = at {
+            let object = self.object(next);
+            if object.fixed.get(name).is_some() {
                 return false;
             }
-            at = self.object(object).prototype;
+            at = object.prototype;
         }
         true
     }

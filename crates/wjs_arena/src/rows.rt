@@ -42,6 +42,10 @@ impl Rows {
         }
     }
 
+    pub fn allocator(&self) -> Global {
+        self.alloc
+    }
+
     /// How many objects an owner has: their serials go from 0 on.
     pub fn len(&self, owner: u32) -> u64
         ensures count { result ≡ (next_number self.now owner).serial }

@@ -1,10 +1,5 @@
 -- One action of the store of a heap.
-use Rattle.std.proofs.Common.{◌≡◌, Bool, true, false, cond, ◌&&◌, ◌||◌, List, Option, None, Some, refl, sym, ap, ◌∙◌, subst, IsTrue}
-use Rattle.std.specs.Prelude.{is_some}
-use Rattle.std.specs.Option.{option_and_then}
-use Rattle.std.specs.Ordering.{eq_by_cmp}
-use Rattle.std.specs.Cmp.{Equal-is}
-use Rattle.std.specs.FinMap as map
+use Rattle.std.proofs.Common.{◌≡◌, ℕ, ◌∷◌, [], Bool, true, List, Option, None, Some, refl, sym, ap, ◌∙◌, subst, IsTrue}
 use Rattle.wjs_base.specs.declared.ids.ObjId.{ObjId}
 use Rattle.wjs_base.specs.declared.ids.WorldId.{WorldId}
 use Rattle.wjs_base.specs.declared.values.Content.{Content}
@@ -12,29 +7,33 @@ use Rattle.wjs_base.specs.declared.values.Name.{Name}
 use Rattle.wjs_base.specs.declared.values.Slot.{Slot}
 use Rattle.wjs_base.specs.declared.values.Value.{Value}
 use Rattle.wjs_base.specs.declared.values.Value.TheVariants as value
-use Rattle.wjs_base.specs.Order.{slot_cmp, slot_exact}
+use Rattle.wjs_base.specs.Order.{slot_cmp}
 use Rattle.wjs_base.specs.Spelling.{IsName}
 use Rattle.wjs_base.specs.Text.{Table, IsTable, Grows}
-use Rattle.wjs_store.specs.Naming.{plain}
-use Rattle.wjs_store.specs.State.{World, slots_at, read, write, list, found, wrote, listed, after, has_world, find_world, content_at, same_world, is_below, after_write}
+use Rattle.wjs_store.specs.State.{Act, slots_at, read, write, list, sprout, commit, found, wrote, listed, sprouted, committed, after, answer_to, has_world, content_at}
 use Rattle.wjs_store.specs.Meaning.{Meaning, View, Worlds, PlainAct, PlainReply, Does, IsSound, worlds}
-use Rattle.wjs_store.specs.Shown.{content_of, slots_of}
-use Rattle.wjs_store.proofs.Contents.{content_after_read, content_after_list, content_after_write, own_view}
-use Rattle.wjs_store.proofs.Writes.{has_after_write}
+use Rattle.wjs_store.specs.Shown.{content_of, slots_of, verdict_of}
+use Rattle.wjs_store.specs.declared.store.Verdict.{Verdict}
+use Rattle.wjs_store.proofs.Contents.{own_view}
 use Rattle.wjs_rename.specs.Ascends.{Ascends}
 use Rattle.wjs_rename.specs.Names.{Holds, KnowsContent}
+use Rattle.wjs_rename.specs.Rename.{shape}
 use Rattle.wjs_rename.proofs.Sorted.{slots_ascend}
 use Rattle.wjs_arena.specs.Entries.{Objects}
-use Rattle.wjs_content.specs.Plans.{Plan, Gives, Reads, Writes, Lists}
+use Rattle.wjs_content.specs.Names as content
+use Rattle.wjs_content.specs.Values as values
+use Rattle.wjs_content.specs.Plans.{Plan, Gives, Reads, Writes, Lists, Heard, Sprouted, Committed, heard, told_of}
 use Rattle.wjs_content.specs.Tables.{slot_in, content_in, knows_slot, knows_value}
 use Rattle.wjs_content.specs.Telling.{names_of}
-use Rattle.wjs_content.specs.Worlds.{listing, KnowsWorlds}
-use Rattle.wjs_content.specs.Carried.{Carries}
-use Rattle.wjs_content.proofs.Carrying.{carries_read, carries_write, carries_list}
+use Rattle.wjs_content.specs.Worlds.{listing, worlds_in, act_in, heard_in, told_by, KnowsWorlds, KnowsAct}
+use Rattle.wjs_content.specs.Carried.{Carries, tell}
+use Rattle.wjs_content.proofs.Carrying.{carries_read, carries_write, carries_list, heard_so, told_so, worlds_so, knows_so}
 use Rattle.wjs_content.proofs.Growth.{slot_grows, value_grows, worlds_grow}
 use Rattle.wjs_content.proofs.Known.{text_known, name_known}
 use Rattle.wjs_props.specs.Heap.{Parts, HasValue, HasContent, HasSlot, IsHeap, Performs}
+use Rattle.wjs_props.specs.Acts.{Acts, ActsBy}
 use Rattle.wjs_props.specs.Means.{nothing}
+use Rattle.wjs_props.proofs.Kept.{Within, has_child, within_read, within_write, within_list, within_sprout, within_commit}
 use Rattle.wjs_props.proofs.Listed.{listed_hold, names_hold}
 use Rattle.wjs_props.proofs.Turns.{grows_itself}
 
@@ -57,37 +56,49 @@ content_knows texts t arena (Some v) table g has = (value_grows texts t g v (val
 
 -- ---- one action
 
-module _ (w : WorldId) (h : Parts) (new : Meaning) (heap : IsHeap h) (sound : IsSound new) where
-  did : {A : Type 0} (a : PlainAct) (answer : PlainReply) (plan : Table → Plan A) (shows : Table → A) → Does h.store a answer new
+module _ (h : Parts) (new : Meaning) (heap : IsHeap h) (sound : IsSound new) where
+  -- what a present slot and its content name is there
+  abbrev IsHeld : Slot → Value → Type 0
+  IsHeld s v = HasSlot h.texts h.arena s × HasValue h.texts h.arena v
+
+  heap_after : (a : PlainAct) (answer : PlainReply) → Does h.store a answer new → Within IsHeld (after (worlds h.store) a) → IsHeap (record { texts = h.texts; arena = h.arena; store = new })
+  heap_after a answer does slots = record {
+    table = heap.table;
+    arena = heap.arena;
+    objects = heap.objects;
+    slots = λ i s v e. slots i s v (ap (λ (F : Worlds). content_at F i s) (sym (own_view h.store new a answer sound does).1) ∙ e);
+  }
+
+  -- what is known of the worlds under the old store's own view
+  own_known : (a : PlainAct) (answer : PlainReply) → Does h.store a answer new → KnowsWorlds h.texts (worlds h.store) → KnowsWorlds h.texts (h.store.full new.own)
+  own_known a answer does k = subst (λ v. KnowsWorlds h.texts (h.store.full v)) (sym does.own) k
+
+  did : {A : Type 0} (w : WorldId) (a : PlainAct) (answer : PlainReply) (plan : Table → Plan A) (shows : Table → A) → Does h.store a answer new
       → ((t : Table) → Grows h.texts t → (v : View) → IsTrue (new.admits v) → KnowsWorlds t (h.store.full v) → Carries t w (plan t) (shows t) h.store new v)
-      → ((i : WorldId) (s : Slot) (v : Value) → content_at (after (worlds h.store) a) i s ≡ Some v → HasSlot h.texts h.arena s × HasValue h.texts h.arena v)
+      → Within IsHeld (after (worlds h.store) a)
       → Performs w plan shows h (record { texts = h.texts; arena = h.arena; store = new })
-  did a answer plan shows does carries slots = record {
+  did w a answer plan shows does carries slots = record {
     narrows = does.narrows;
     carries = λ t g v ok k. carries t g v ok (worlds_grow h.texts t g (h.store.full v) k).0;
+    marks = λ k. (carries h.texts (grows_itself h.texts) new.own sound.admits_own (own_known a answer does k)).knows;
     texts = grows_itself h.texts;
     arena = refl;
     own = does.own;
     around = does.around;
     still_there = does.still_there;
-    heap = record {
-      table = heap.table;
-      arena = heap.arena;
-      objects = heap.objects;
-      slots = λ i s v e. slots i s v (ap (λ (F : Worlds). content_at F i s) (sym (own_view h.store new a answer sound does).1) ∙ e);
-    };
+    heap = heap_after a answer does slots;
     spent = does.spent;
   }
 
-  pub did_read : (s : Slot) (c : Content) → HasSlot h.texts h.arena s → Does h.store (read w s) (found (content_of c)) new
+  pub did_read : (w : WorldId) (s : Slot) (c : Content) → HasSlot h.texts h.arena s → Does h.store (read w s) (found (content_of c)) new
       → Performs w (λ t. Reads (slot_in t s) Gives) (λ t. content_in t c) h (record { texts = h.texts; arena = h.arena; store = new })
-  did_read s c has does = did (read w s) (found (content_of c)) _ _ does
+  did_read w s c has does = did w (read w s) (found (content_of c)) _ _ does
       (λ t g v ok k. carries_read t w s c h.store new does v ok k (slot_knows h.texts t h.arena s heap.table g has))
-      (λ i u v e. heap.slots i u v (sym (content_after_read (worlds h.store) w s i u) ∙ e))
+      (within_read IsHeld (worlds h.store) w s heap.slots)
 
   -- what a read found is there
-  pub found_there : (s : Slot) (c : Content) → Does h.store (read w s) (found (content_of c)) new → HasContent h.texts h.arena (content_of c)
-  found_there s c does = by (content_of c) (is_found _ _ (own_view h.store new (read w s) (found (content_of c)) sound does).0)
+  pub found_there : (w : WorldId) (s : Slot) (c : Content) → Does h.store (read w s) (found (content_of c)) new → HasContent h.texts h.arena (content_of c)
+  found_there w s c does = by (content_of c) (is_found _ _ (own_view h.store new (read w s) (found (content_of c)) sound does).0)
     where
       is_found : (a b : Option Value) → (let x : PlainReply = found a in let y : PlainReply = found b in x ≡ y) → a ≡ b
       is_found a b e = cc
@@ -96,50 +107,72 @@ module _ (w : WorldId) (h : Parts) (new : Meaning) (heap : IsHeap h) (sound : Is
       by None e = tt
       by (Some v) e = (heap.slots w s v (sym e)).1
 
-  pub did_write : (s : Slot) (c : Content) → HasSlot h.texts h.arena s → HasContent h.texts h.arena (content_of c) → Does h.store (write w s (content_of c)) wrote new
+  pub did_write : (w : WorldId) (s : Slot) (c : Content) → HasSlot h.texts h.arena s → HasContent h.texts h.arena (content_of c) → Does h.store (write w s (content_of c)) wrote new
       → Performs w (λ t. Writes (slot_in t s) (content_in t c) (Gives nothing)) (λ t. nothing) h (record { texts = h.texts; arena = h.arena; store = new })
-  did_write s c has there does = did (write w s (content_of c)) wrote _ _ does
+  did_write w s c has there does = did w (write w s (content_of c)) wrote _ _ does
       (λ t g v ok k. carries_write t w s c h.store new does v ok k (slot_knows h.texts t h.arena s heap.table g has) (content_knows h.texts t h.arena (content_of c) heap.table g there))
-      (λ i u v e. after_put i u v (world_is i u v e) e)
-    where
-      F : Worlds
-      F = worlds h.store
+      (within_write IsHeld (worlds h.store) w s (content_of c) (λ v e. (has, subst (HasContent h.texts h.arena) e there)) heap.slots)
 
-      world_is : (i : WorldId) (u : Slot) (v : Value) → content_at (after_write (worlds h.store) w s (content_of c)) i u ≡ Some v → has_world (worlds h.store) i ≡ true
-      world_is i u v e = sym (has_after_write (worlds h.store) w s (content_of c) i) ∙ some_there (find_world (after_write (worlds h.store) w s (content_of c)) i) e
-        where
-          some_there : (r : Option (World plain)) → option_and_then (λ (x : World plain). map.get x.copy u) r ≡ Some v → is_some r ≡ true
-          some_there None q = cc
-          some_there (Some x) q = refl
-
-      put_at : (b : Bool) (u : Slot) (v : Value) (d : Option Value) → cond (b && eq_by_cmp slot_cmp u s) (content_of c) d ≡ Some v → (d ≡ Some v → HasSlot h.texts h.arena u × HasValue h.texts h.arena v) → HasSlot h.texts h.arena u × HasValue h.texts h.arena v
-      put_at false u v d e old = old e
-      put_at true u v d e old = tied (eq_by_cmp slot_cmp u s) refl e
-        where
-          tied : (b : Bool) → eq_by_cmp slot_cmp u s ≡ b → cond b (content_of c) d ≡ Some v → HasSlot h.texts h.arena u × HasValue h.texts h.arena v
-          tied false is q = old q
-          tied true is q =
-              let same : u ≡ s = slot_exact u s ((Equal-is (slot_cmp u s)).0 is) in
-              (subst (HasSlot h.texts h.arena) (sym same) has, subst (HasContent h.texts h.arena) q there)
-
-      after_put : (i : WorldId) (u : Slot) (v : Value) → has_world (worlds h.store) i ≡ true → content_at (after_write (worlds h.store) w s (content_of c)) i u ≡ Some v → HasSlot h.texts h.arena u × HasValue h.texts h.arena v
-      after_put i u v is e = put_at (same_world i w || is_below w s (worlds h.store) i) u v (content_at (worlds h.store) i u) (sym (content_after_write (worlds h.store) w s (content_of c) i u is) ∙ e) (heap.slots i u v)
-
-  pub did_list : (o : ObjId) (names : List Name) → Does h.store (list w o) (listed (slots_of o names)) new
+  pub did_list : (w : WorldId) (o : ObjId) (names : List Name) → Does h.store (list w o) (listed (slots_of o names)) new
       → Performs w (λ t. Lists o Gives) (λ t. listing t o names) h (record { texts = h.texts; arena = h.arena; store = new })
-  did_list o names does = did (list w o) (listed (slots_of o names)) _ _ does
+  did_list w o names does = did w (list w o) (listed (slots_of o names)) _ _ does
       (λ t g v ok k. carries_list t w o names h.store new does v ok k)
-      (λ i u v e. heap.slots i u v (sym (content_after_list (worlds h.store) w o i u) ∙ e))
+      (within_list IsHeld (worlds h.store) w o heap.slots)
 
   -- what is listed is there, ascending
-  listed_so : (o : ObjId) (names : List Name) → Does h.store (list w o) (listed (slots_of o names)) new → slots_at (worlds h.store) w o ≡ slots_of o names
-  listed_so o names does = sym (is_listed _ _ (own_view h.store new (list w o) (listed (slots_of o names)) sound does).0)
+  listed_so : (w : WorldId) (o : ObjId) (names : List Name) → Does h.store (list w o) (listed (slots_of o names)) new → slots_at (worlds h.store) w o ≡ slots_of o names
+  listed_so w o names does = sym (is_listed _ _ (own_view h.store new (list w o) (listed (slots_of o names)) sound does).0)
     where
       is_listed : (a b : List Slot) → (let x : PlainReply = listed a in let y : PlainReply = listed b in x ≡ y) → a ≡ b
       is_listed a b e = cc
 
-  pub listed_there : (o : ObjId) (names : List Name) → Does h.store (list w o) (listed (slots_of o names)) new → Holds (IsName h.texts) names
-  listed_there o names does = names_hold h.texts o names (subst (Holds (λ s. IsName h.texts s.name)) (listed_so o names does) (listed_hold (worlds h.store) w o (λ s. IsName h.texts s.name) (λ s v e. (heap.slots w s v e).0.name)))
+  pub listed_there : (w : WorldId) (o : ObjId) (names : List Name) → Does h.store (list w o) (listed (slots_of o names)) new → Holds (IsName h.texts) names
+  listed_there w o names does = names_hold h.texts o names (subst (Holds (λ s. IsName h.texts s.name)) (listed_so w o names does) (listed_hold (worlds h.store) w o (λ s. IsName h.texts s.name) (λ s v e. (heap.slots w s v e).0.name)))
 
-  pub listed_ascends : (o : ObjId) (names : List Name) → Does h.store (list w o) (listed (slots_of o names)) new → Ascends slot_cmp (slots_of o names)
-  listed_ascends o names does = subst (Ascends slot_cmp) (listed_so o names does) (slots_ascend (worlds h.store) w o)
+  pub listed_ascends : (w : WorldId) (o : ObjId) (names : List Name) → Does h.store (list w o) (listed (slots_of o names)) new → Ascends slot_cmp (slots_of o names)
+  listed_ascends w o names does = subst (Ascends slot_cmp) (listed_so w o names does) (slots_ascend (worlds h.store) w o)
+
+  -- ---- other actions
+
+  -- an action that names no texts
+  acted : (a : PlainAct) (b : Act content.Slot values.Value) (answer : PlainReply) (shown : Heard) → ((t : Table) → act_in t a ≡ b) → ((t : Table) → heard_in t answer ≡ shown) → ((t : Table) → KnowsAct t a) → Does h.store a answer new
+      → Within IsHeld (after (worlds h.store) a) → Acts b shown h (record { texts = h.texts; arena = h.arena; store = new })
+  acted a b answer shown same alike known does slots = record {
+    narrows = does.narrows;
+    acts = λ t g v ok k. by t v ok (worlds_grow h.texts t g (h.store.full v) k).0;
+    marks = λ k. knows_so h.texts h.store a answer new does new.own sound.admits_own (own_known a answer does k) (known h.texts);
+    texts = refl;
+    arena = refl;
+    own = does.own;
+    around = does.around;
+    still_there = does.still_there;
+    heap = heap_after a answer does slots;
+    spent = does.spent;
+  }
+    where
+      by : (t : Table) (v : View) → IsTrue (new.admits v) → KnowsWorlds t (h.store.full v) → ActsBy t b shown h.store new v
+      by t v ok k = record {
+        answers = sym (alike t) ∙ heard_so t h.store a answer new does v ok k (known t) ∙ ap (λ c. heard (answer_to (worlds_in t (h.store.full v)) c)) (same t);
+        worlds = worlds_so t h.store a answer new does v ok k (known t) ∙ ap (after (worlds_in t (h.store.full v))) (same t);
+        told = told_so t h.store a answer new does v ok k (known t) ∙ ap (λ c. tell (told_of (worlds_in t (h.store.full v)) c ∷ []) (told_by t h.store.told)) (same t);
+        knows = knows_so t h.store a answer new does v ok k (known t);
+      }
+
+  pub did_sprout : (w : WorldId) (owner : ℕ) (strict : Bool) (child : WorldId) → IsTrue (has_world (worlds h.store) w) → Does h.store (sprout w owner strict) (sprouted child) new
+      → Acts (sprout w owner strict) (Sprouted child) h (record { texts = h.texts; arena = h.arena; store = new })
+  did_sprout w owner strict child there does = acted (sprout w owner strict) (sprout w owner strict) (sprouted child) (Sprouted child) (λ t. refl) (λ t. refl) (λ t. tt) does
+      (within_sprout IsHeld (worlds h.store) w owner strict there heap.slots)
+
+  -- the child is there
+  pub child_there : (w : WorldId) (owner : ℕ) (strict : Bool) (child : WorldId) → IsTrue (has_world (worlds h.store) w) → Does h.store (sprout w owner strict) (sprouted child) new → IsTrue (has_world (worlds new) child)
+  child_there w owner strict child there does =
+      let both = own_view h.store new (sprout w owner strict) (sprouted child) sound does in
+      (λ i. has_world (both.1 i) (is_child _ _ both.0 i)) ∙ has_child (worlds h.store) w owner strict there
+    where
+      is_child : (a b : WorldId) → (let x : PlainReply = sprouted a in let y : PlainReply = sprouted b in x ≡ y) → a ≡ b
+      is_child a b e = cc
+
+  pub did_commit : (w : WorldId) (verdict : Verdict) → Does h.store (commit w) (committed (verdict_of verdict)) new
+      → Acts (commit w) (Committed (shape (verdict_of verdict))) h (record { texts = h.texts; arena = h.arena; store = new })
+  did_commit w verdict does = acted (commit w) (commit w) (committed (verdict_of verdict)) (Committed (shape (verdict_of verdict))) (λ t. refl) (λ t. refl) (λ t. tt) does
+      (within_commit IsHeld (worlds h.store) w heap.slots)

@@ -218,12 +218,12 @@ module _ (w : WorldId) (o : ObjId) (x : Name) (n m : ℕ) (old : Parts) where
 
 -- ---- name by name
 
-holds_at : {A : Type 0} (Q : A → Type 0) (xs : List A) (k : ℕ) (x : A) → Holds Q xs → slice_get xs k ≡ Some x → Q x
+pub holds_at : {A : Type 0} (Q : A → Type 0) (xs : List A) (k : ℕ) (x : A) → Holds Q xs → slice_get xs k ≡ Some x → Q x
 holds_at Q [] k x h e = cc
 holds_at Q (y ∷ xs) zero x h e = let q : y ≡ x = cc in subst Q q h.0
 holds_at Q (y ∷ xs) (suc k) x h e = holds_at Q xs k x h.1 e
 
-drop_next : {A : Type 0} (xs : List A) (k : ℕ) (x : A) → slice_get xs k ≡ Some x → drop k xs ≡ x ∷ drop (k + 1) xs
+pub drop_next : {A : Type 0} (xs : List A) (k : ℕ) (x : A) → slice_get xs k ≡ Some x → drop k xs ≡ x ∷ drop (k + 1) xs
 drop_next xs k x e = drop_more xs k x (slice_get_within xs k x e) ∙ ap (λ y. y ∷ drop (k + 1) xs) (get_or_from_slice_get xs k x x e)
 
 -- the names before a place are done: what does the rest does all

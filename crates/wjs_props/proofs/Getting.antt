@@ -31,8 +31,9 @@ use Rattle.wjs_content.specs.Plans.{Plan, Gives, Reads}
 use Rattle.wjs_content.specs.Tables.{name_in, value_in, slot_in, content_in, arena_in}
 use Rattle.wjs_props.specs.Heap.{Parts, HasValue, IsHeap, Performs}
 use Rattle.wjs_props.specs.Properties as plan
+use Rattle.wjs_content.proofs.ArenaMaps.{chain_same}
 use Rattle.wjs_props.proofs.Turns.{performs_nothing, performs_then, performs_same, grows_twice}
-use Rattle.wjs_props.proofs.ByContent.{fixed_in, chain_in}
+use Rattle.wjs_props.proofs.ByContent.{fixed_in}
 
 -- a walk has come to an object: what does the rest does the whole
 pub record IsGetting (w : WorldId) (n : Name) (o : ObjId) (old now : Parts) (at : ObjId) : Type 0 where
@@ -50,7 +51,7 @@ begins w n o h heap world there name = record {
   there = there;
   arena = refl;
   name = name;
-  rest = λ b new f. performs_same w _ _ b b h new (λ t g. ap (λ os. plan.get_along os (arena_in t h.arena) (name_in t n)) (sym (chain_in t h.arena o))) (λ t g. refl) f;
+  rest = λ b new f. performs_same w _ _ b b h new (λ t g. ap (λ os. plan.get_along os (arena_in t h.arena) (name_in t n)) (sym (chain_same t h.arena o))) (λ t g. refl) f;
 }
 
 -- what is fixed, of an arena that a heap has

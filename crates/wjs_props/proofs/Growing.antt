@@ -16,15 +16,18 @@ use Rattle.wjs_base.specs.Text.{Table, IsTable, Grows}
 use Rattle.wjs_base.proofs.TextLaws.{Grows-Has, Grows-IsName}
 use Rattle.wjs_arena.specs.declared.object.Object.{Object}
 use Rattle.wjs_arena.specs.declared.object.Flags.{Flags}
-use Rattle.wjs_arena.specs.Entries.{Objects, Entry, IsArena, has, created, next_number, entry_over}
+use Rattle.wjs_arena.specs.Entries.{Objects, Entry, IsArena, Keeps, has, created, next_number, entry_over}
 use Rattle.wjs_store.specs.Naming.{plain}
 use Rattle.wjs_store.specs.State.{World, same_world, find_world, content_at}
 use Rattle.wjs_store.specs.Fixed.{fresh}
 use Rattle.wjs_store.specs.Meaning.{Worlds, worlds}
 use Rattle.wjs_rename.specs.Names.{Holds}
 use Rattle.wjs_content.specs.Plans.{Plan}
+use Rattle.wjs_content.specs.Tables.{arena_in}
+use Rattle.wjs_content.proofs.ArenaMaps.{number_same, created_same}
 use Rattle.wjs_content.proofs.Growth.{worlds_grow}
 use Rattle.wjs_props.specs.Heap.{Parts, HasValue, HasSlot, HasNamed, IsHeap, Performs}
+use Rattle.wjs_props.specs.Acts.{Creates}
 use Rattle.wjs_props.specs.HeapLaws.{with_texts, with_arena}
 use Rattle.wjs_props.proofs.Turns.{grows_twice}
 
@@ -65,6 +68,7 @@ module _ (h : Parts) (new : Table) (table : IsTable new) (g : Grows h.texts new)
   performs_grown w p a after f = record {
     narrows = f.narrows;
     carries = λ t gt v ok k. f.carries t gt v ok (worlds_grow h.texts new g (h.store.full v) k).0;
+    marks = λ k. f.marks (worlds_grow h.texts new g (worlds h.store) k).0;
     texts = grows_twice h.texts new after.texts g f.texts;
     arena = f.arena;
     own = f.own;
@@ -114,6 +118,20 @@ module _ (h : Parts) (heap : IsHeap h) (owner : ℕ) (x : Object) (named : HasNa
       by : (o : ObjId) (e : Entry) (b : Bool) → cond b (Some (entry_over h.arena x)) (map.get h.arena o) ≡ Some e → HasNamed h.texts (created h.arena owner x) e.object
       by o e true q = let same : entry_over h.arena x ≡ e = cc in subst (λ (z : Entry). HasNamed h.texts (created h.arena owner x) z.object) same (named_stays_there h.texts h.arena (created h.arena owner x) still_has x named)
       by o e false q = named_stays_there h.texts h.arena (created h.arena owner x) still_has e.object (heap.objects o e q)
+
+  -- an object was made
+  pub created_so : (id : ObjId) (new : Objects) → id ≡ next_number h.arena owner → new ≡ created h.arena owner x → IsArena new → map.get new id ≡ Some (entry_over h.arena x) → Keeps h.arena new → Creates owner x id h (with_arena h new)
+  created_so id new number is arena there keeps = record {
+    number = number;
+    arena = is;
+    number_in = λ t. number ∙ sym (number_same t h.arena owner);
+    arena_by = λ t. ap (arena_in t) is ∙ created_same t h.arena owner x;
+    there = ap is_some there;
+    keeps = keeps;
+    texts = refl;
+    store = refl;
+    heap = subst (λ (m : Objects). IsHeap (with_arena h m)) (sym is) (object_keeps (subst IsArena is arena));
+  }
 
 -- ---- none
 

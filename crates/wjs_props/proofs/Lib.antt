@@ -1,4 +1,6 @@
+pub mod Sorting
 pub mod Turns
+pub mod Kept
 pub mod Actions
 pub mod ByContent
 pub mod Getting
@@ -7,3 +9,8 @@ pub mod Growing
 pub mod Listed
 pub mod Cutting
 pub mod Putting
+pub mod SpelledNames
+pub mod InOrder
+pub mod Visiting
+pub mod Walking
+pub mod NameSets

@@ -17,7 +17,7 @@ use Rattle.wjs_base.specs.declared.values.Slot.{Slot as NumberedSlot}
 use Rattle.wjs_base.specs.declared.values.Value.{Value as NumberedValue}
 use Rattle.wjs_base.specs.declared.values.Value.TheVariants as value
 use Rattle.wjs_base.specs.Spelling.{IsName, greatest_index}
-use Rattle.wjs_base.specs.Text.{Table, Grows, IsTable, Interns}
+use Rattle.wjs_base.specs.Text.{Table, Grows, IsTable, Denotes}
 use Rattle.wjs_base.proofs.TextLaws.{Grows-IsName, Denotes-Has}
 use Rattle.wjs_arena.specs.declared.class.Class.{Class}
 use Rattle.wjs_arena.specs.declared.class.Class.TheVariants as class
@@ -252,8 +252,8 @@ no_digits n small e =
     let digits : AllDigits 10 length_name = subst (AllDigits 10) (sym e) (decimal_is_IsNumeral n (omega (arith, small))).0.1 in
     true≢false (sym (lt-ltb (digit_value 108) 10 digits.0))
 
-pub length_is_name : (old new : Table) (id : TextId) → IsTable new → Interns old new length_name id → IsName new (name.Text id)
-length_is_name old new id table interns = (
-  Denotes-Has new id length_name interns.denotes,
-  λ n small at. no_digits n small (sym (text_is new id length_name interns.denotes) ∙ text_is new id (index_name n) at),
+pub length_is_name : (texts : Table) (id : TextId) → Denotes texts id length_name → IsName texts (name.Text id)
+length_is_name texts id is = (
+  Denotes-Has texts id length_name is,
+  λ n small at. no_digits n small (sym (text_is texts id length_name is) ∙ text_is texts id (index_name n) at),
 )

@@ -19,6 +19,7 @@ pub performs_nothing : {A : Type 0} (w : WorldId) (a : Table → A) (h : Parts) 
 performs_nothing w a h heap = record {
   narrows = λ v ok. ok;
   carries = λ t g v ok k. carries_nothing t w (a t) h.store v (worlds_grow h.texts t g (h.store.full v) k).0;
+  marks = λ k. k;
   texts = grows_itself h.texts;
   arena = refl;
   own = refl;
@@ -37,6 +38,7 @@ performs_then w p go a b old mid new f s = record {
       carries_then t w (p t) (go t) (a t) (b t) old.store mid.store new.store v
       (f.carries t (grows_twice mid.texts new.texts t s.texts g) v (s.narrows v ok) k)
       (s.carries t g v ok (f.carries mid.texts (grows_itself mid.texts) v (s.narrows v ok) k).knows);
+  marks = λ k. s.marks (f.marks k);
   texts = grows_twice old.texts mid.texts new.texts f.texts s.texts;
   arena = s.arena ∙ f.arena;
   own = s.own ∙ f.own;
@@ -51,6 +53,7 @@ pub performs_same : {A : Type 0} (w : WorldId) (p q : Table → Plan A) (a b : T
 performs_same w p q a b old new e d f = record {
   narrows = f.narrows;
   carries = λ t g v ok k. subst (λ x. Carries t w (q t) x old.store new.store v) (d t g) (subst (λ x. Carries t w x (a t) old.store new.store v) (e t g) (f.carries t g v ok k));
+  marks = f.marks;
   texts = f.texts;
   arena = f.arena;
   own = f.own;

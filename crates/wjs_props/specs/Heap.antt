@@ -56,6 +56,8 @@ pub record IsHeap (h : Parts) : Type 0 where
 pub record Performs {A : Type 0} (w : WorldId) (plan : Table → Plan A) (answer : Table → A) (old new : Parts) : Type 0 where
   pub narrows : (v : View) → IsTrue (new.store.admits v) → IsTrue (old.store.admits v)
   pub carries : (t : Table) → Grows new.texts t → (v : View) → IsTrue (new.store.admits v) → KnowsWorlds old.texts (old.store.full v) → Carries t w (plan t) (answer t) old.store new.store v
+  -- where the table knows what the worlds and their marks name, it does so afterwards
+  pub marks : KnowsWorlds old.texts (worlds old.store) → KnowsWorlds new.texts (worlds new.store)
   -- texts keep their numbers
   pub texts : Grows old.texts new.texts
   -- objects, the store's own view and its surroundings are as before

@@ -1,7 +1,5 @@
 //! What the operations answer.
 
-use wjs_base::{Name, ObjId};
-
 /// What became of a put.
 #[derive(Clone, Copy, Debug, PartialEq, Eq)]
 pub enum PutAnswer {
@@ -10,11 +8,4 @@ pub enum PutAnswer {
     Ignored,
     /// The name is the `length` of an Array, and the value is no Number from 0 to 4,294,967,295; nothing changed.
     BadLength,
-}
-
-/// A name that a `for`-`in` visits, and the object that has it.
-#[derive(Clone, Copy, Debug, PartialEq, Eq)]
-pub struct Visit {
-    pub object: ObjId,
-    pub name: Name,
 }

@@ -1,23 +1,29 @@
-//! One action of the worlds of a heap.
-ghost use Rattle.std.specs.Prelude.{◌≡◌, IfOk, IsTrue};
+//! One action of the worlds of a heap, and one object more.
+ghost use Rattle.std.specs.Prelude.{◌≡◌, IfOk, IfSome, IsTrue, OnErr, Some};
+ghost use Rattle.wjs_base.specs.declared.ids.ObjId.{ObjId};
 ghost use Rattle.wjs_base.specs.declared.values.Slot.{Slot};
 ghost use Rattle.wjs_base.specs.Order.{slot_cmp};
 ghost use Rattle.wjs_base.specs.Spelling.{IsName};
 ghost use Rattle.wjs_base.specs.Text.{Table};
 ghost use Rattle.wjs_store.specs.State.{has_world};
 ghost use Rattle.wjs_store.specs.Meaning.{worlds};
-ghost use Rattle.wjs_store.specs.Shown.{content_of, slots_of};
+ghost use Rattle.wjs_store.specs.Shown.{content_of, slots_of, verdict_of};
+ghost use Rattle.wjs_store.specs.State as action;
 ghost use Rattle.wjs_rename.specs.Ascends.{Ascends};
 ghost use Rattle.wjs_rename.specs.Names.{Holds};
-ghost use Rattle.wjs_content.specs.Plans.{Gives, Reads, Writes, Lists};
+ghost use Rattle.wjs_rename.specs.Rename.{shape};
+ghost use Rattle.wjs_arena.specs.Entries.{IsThere, world_of};
+ghost use Rattle.wjs_content.specs.Plans.{Gives, Reads, Writes, Lists, Sprouted, Committed};
 ghost use Rattle.wjs_content.specs.Tables.{slot_in, content_in};
 ghost use Rattle.wjs_content.specs.Worlds.{listing};
-ghost use Rattle.wjs_props.specs.Heap.{IsHeap, HasSlot, HasContent, Performs};
+ghost use Rattle.wjs_props.specs.Acts.{Acts, Creates};
+ghost use Rattle.wjs_props.specs.Heap.{IsHeap, HasNamed, HasSlot, HasContent, Performs};
 ghost use Rattle.wjs_props.specs.Means.{parts, nothing};
 
 use crate::heap::Heap;
+use wjs_arena::Object;
 use wjs_base::{Content, Names, ObjId, OutOfMemory, Slot, WorldId};
-use wjs_store::WorldStore;
+use wjs_store::{Verdict, WorldStore};
 
 /// Reads a slot.
 pub fn read<S: WorldStore>(
@@ -66,4 +72,49 @@ pub fn list<S: WorldStore>(
 {
     let names = heap.store.list(world, object)?;
     Ok(names)
+}
+
+/// Makes a child of the world, strict where that is asked. Its number is the owner's next.
+pub fn sprout<S: WorldStore>(
+    heap: &mut Heap<S>,
+    world: WorldId,
+    owner: u32,
+    strict: bool,
+) -> Result<WorldId, OutOfMemory>
+    requires heap { IsHeap (parts S.meaning heap.old) }
+    requires world { IsTrue (has_world (worlds (S.meaning heap.old.store)) world) }
+    ensures sprouts { IfOk result (λ child. Acts (action.sprout world owner strict) (Sprouted child) (parts S.meaning heap.old) (parts S.meaning heap.new)) }
+    ensures there { IfOk result (λ child. IsTrue (has_world (worlds (S.meaning heap.new.store)) child)) }
+{
+    let child = heap.store.sprout(world, owner, strict)?;
+    Ok(child)
+}
+
+/// Commits the world to its parent.
+pub fn commit<S: WorldStore>(heap: &mut Heap<S>, world: WorldId) -> Result<Verdict, OutOfMemory>
+    requires heap { IsHeap (parts S.meaning heap.old) }
+    requires world { IsTrue (has_world (worlds (S.meaning heap.old.store)) world) }
+    ensures { IfOk result (λ verdict. Acts (action.commit world) (Committed (shape (verdict_of verdict))) (parts S.meaning heap.old) (parts S.meaning heap.new)) }
+{
+    let verdict = heap.store.commit(world)?;
+    Ok(verdict)
+}
+
+/// Makes an object of an owner. What it names is there, and no object stands for its world; after a refusal nothing has
+/// changed.
+pub fn create<S: WorldStore>(
+    heap: &mut Heap<S>,
+    owner: u32,
+    object: Object,
+) -> Result<ObjId, OutOfMemory>
+    requires heap { IsHeap (parts S.meaning heap.old) }
+    requires prototype { IsThere heap.old.arena object.prototype }
+    requires scope { IsThere heap.old.arena object.scope }
+    requires world { IfSome object.world (λ world. (o : ObjId) → ¬ (world_of heap.old.arena o ≡ Some world)) }
+    requires named { HasNamed heap.old.texts heap.old.arena object }
+    ensures creates { IfOk result (λ id. Creates owner object id (parts S.meaning heap.old) (parts S.meaning heap.new)) }
+    ensures err { OnErr result (heap.new ≡ heap.old) }
+{
+    let id = heap.arena.create(owner, object)?;
+    Ok(id)
 }

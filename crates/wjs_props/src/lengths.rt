@@ -23,13 +23,17 @@ pub fn is_length(texts: &Texts, id: TextId) -> bool
     texts.units(id) == LENGTH.as_slice()
 }
 
-/// The name `length`, which becomes a text where it is none.
+/// The name `length`, which becomes a text where it is none; a text that is there is found without a copy.
 pub fn length_name(texts: &mut Texts) -> Result<Name, OutOfMemory>
+    requires { IsTable texts.old }
     ensures name { IfOk result (λ name. IsName texts.new name) }
     ensures spells { IfOk result (λ name. name_in texts.new name ≡ names.length_name) }
     ensures table { IsTable texts.new }
     ensures grows { Grows texts.old texts.new }
 {
+    if let Some(id) = texts.find(&LENGTH) {
+        return Ok(Name::Text(id));
+    }
     match texts.intern(&LENGTH) {
         Ok(id) => Ok(Name::Text(id)),
         Err(_) => Err(OutOfMemory),

@@ -8,11 +8,20 @@ mod deeds;
 mod heap;
 mod laws;
 mod lengths;
+mod listing;
+mod order;
 mod reads;
+mod seen;
+#[cfg(test)]
+mod tests;
+mod visits;
 mod writes;
 
-pub use answers::{PutAnswer, Visit};
+pub use answers::PutAnswer;
+pub use deeds::{commit, create, read, sprout, write};
 pub use heap::Heap;
 pub use laws::{heaps_begin, more_objects_keep, more_texts_keep};
+pub use listing::list_names;
 pub use reads::{get, has};
+pub use visits::{Visit, Visits};
 pub use writes::{delete, put};

@@ -1,5 +1,11 @@
+use Rattle.std.proofs.Common.{subst}
+use Rattle.wjs_base.specs.Text.{Finds}
+use Rattle.wjs_content.specs.Names.{length_name}
 use Rattle.wjs_props.proofs.Putting.{length_is_name}
 use Rattle.wjs_props.proofs.lengths.length_name.Goals as goal
 
+pub returns-in-Some-clause-name : goal.returns-in-Some-clause-name
+returns-in-Some-clause-name c = length_is_name c.args.texts.now c.in-Some.id (subst (Finds c.args.texts.now length_name) c.in-Some.is c.find.ensures)
+
 pub returns-in-Ok-clause-name : goal.returns-in-Ok-clause-name
-returns-in-Ok-clause-name c = length_is_name c.args.texts.now c.intern.new.self c.in-Ok.id c.intern.ensures.table c.in-Ok.ensures.ok
+returns-in-Ok-clause-name c = length_is_name c.intern.new.self c.in-Ok.id c.in-Ok.ensures.ok.denotes

@@ -1,0 +1,117 @@
+//! Listing the names of properties.
+ghost use Rattle.std.specs.Prelude.{◌≡◌, ◌++◌, ◌∷◌, ◌||◌, not, [], OnOk, IfOk, IsTrue};
+ghost use Rattle.wjs_base.specs.declared.values.Name.{Name};
+ghost use Rattle.wjs_store.specs.State.{has_world};
+ghost use Rattle.wjs_store.specs.Meaning.{worlds};
+ghost use Rattle.wjs_arena.specs.Chains.{flags_in};
+ghost use Rattle.wjs_arena.specs.Entries.{has};
+ghost use Rattle.wjs_content.specs.Tables.{arena_in};
+ghost use Rattle.wjs_rename.specs.Names.{Holds};
+ghost use Rattle.wjs_props.specs.Heap.{IsHeap, Performs};
+ghost use Rattle.wjs_props.specs.Listing.{is_in, is_among, names_under, visits_of};
+ghost use Rattle.wjs_props.specs.Means.{parts};
+ghost use Rattle.wjs_props.specs.Properties as plan;
+ghost use Rattle.wjs_props.specs.Visits.{visits_in, HasVisit};
+
+use crate::deeds::list;
+use crate::heap::Heap;
+use crate::order::in_order;
+use crate::seen::{add_fixed, add_names, hidden_names};
+use crate::visits::{Visit, Visits};
+use std::alloc::Global;
+use std::collections::BTreeSet;
+use wjs_arena::Object;
+use wjs_base::{Name, Names, ObjId, OutOfMemory, WorldId};
+use wjs_store::WorldStore;
+
+/// What a `for`-`in` over the object visits in the world (ECMA-262, 3rd edition, section 12.6.4), in order.
+///
+/// Each object of the chain is listed. Of its present slots those are visited that are not hidden and whose names no
+/// earlier object of the chain has, as a present slot or as a fixed property: indices ascending, then texts by their code
+/// units.
+pub fn list_names<S: WorldStore>(
+    heap: &mut Heap<S>,
+    world: WorldId,
+    object: ObjId,
+) -> Result<Visits, OutOfMemory>
+    requires heap { IsHeap (parts S.meaning heap.old) }
+    requires world { IsTrue (has_world (worlds (S.meaning heap.old.store)) world) }
+    requires object { IsTrue (has heap.old.arena object) }
+    ensures lists { IfOk result (λ visits. Performs world (λ t. plan.visits (arena_in t heap.old.arena) object) (λ t. visits_in t visits) (parts S.meaning heap.old) (parts S.meaning heap.new)) }
+    ensures there { IfOk result (λ visits. Holds (HasVisit heap.new.texts heap.new.arena) visits) }
+{
+    let alloc = heap.arena.allocator();
+    let mut seen = BTreeSet::new(alloc);
+    let mut visits = Visits::new(alloc);
+    let mut at = object;
+    'up: loop {
+        let names = list(heap, world, at)?;
+        let order = in_order(alloc, &heap.texts, &names)?;
+        let listed = heap.arena.object(at);
+        visit(alloc, listed, at, &order, &seen, &mut visits)?;
+        match listed.prototype {
+            None => return Ok(visits),
+            Some(prototype) => {
+                see(listed, &order, &mut seen)?;
+                at = prototype;
+            }
+        }
+    }
+}
+
+/// Visits the names of an object that are not hidden and not seen.
+fn visit(
+    alloc: Global,
+    object: &Object,
+    id: ObjId,
+    order: &Names,
+    seen: &BTreeSet<Name>,
+    visits: &mut Visits,
+) -> Result<(), OutOfMemory>
+    ensures { OnOk result (visits.new ≡ visits.old ++ visits_of id (λ n. (flags_in object.now n).hidden) (is_in seen.now) order.now) }
+{
+    let hidden = hidden_names(alloc, object)?;
+    visit_names(id, order, &hidden, seen, visits)
+}
+
+/// Visits the names that are in neither set.
+fn visit_names(
+    object: ObjId,
+    order: &Names,
+    hidden: &BTreeSet<Name>,
+    seen: &BTreeSet<Name>,
+    visits: &mut Visits,
+) -> Result<(), OutOfMemory>
+    ensures { OnOk result (visits.new ≡ visits.old ++ visits_of object (is_in hidden.now) (is_in seen.now) order.now) }
+{
+    let mut place = 0;
+    'names: while place < order.len() {
+        visit_name(object, order.at(place), hidden, seen, visits)?;
+        place += 1;
+    }
+    Ok(())
+}
+
+/// Visits the name, unless it is in one of the sets.
+fn visit_name(
+    object: ObjId,
+    name: Name,
+    hidden: &BTreeSet<Name>,
+    seen: &BTreeSet<Name>,
+    visits: &mut Visits,
+) -> Result<(), OutOfMemory>
+    ensures { OnOk result (visits.new ≡ visits.old ++ visits_of object (is_in hidden.now) (is_in seen.now) (name ∷ [])) }
+{
+    if hidden.contains(&name) || seen.contains(&name) {
+        return Ok(());
+    }
+    visits.push(Visit { object, name })
+}
+
+/// Notes the names of an object that was listed, and those of its fixed properties.
+fn see(object: &Object, order: &Names, seen: &mut BTreeSet<Name>) -> Result<(), OutOfMemory>
+    ensures { OnOk result ((n : Name) → is_in seen.new n ≡ (is_among (names_under object.now.fixed) n || (is_among order.now n || is_in seen.old n))) }
+{
+    add_names(seen, order)?;
+    add_fixed(seen, object.fixed.as_slice())
+}
