@@ -5,7 +5,7 @@ use Rattle.wjs_meaning.specs.Deeds.{St, AtProgram, Completion, Gives, Refers, No
 use Rattle.wjs_meaning.specs.Programs.{eval, Ending, Done, program_env, run_next}
 use Rattle.wjs_meaning.specs.Start.{start}
 use Rattle.wjs_meaning.proofs.Steps.{entries_lem}
-use Rattle.wjs_model.specs.Contents.{Frame, Run}
+use Rattle.wjs_model.specs.Contents.{Frame, nothing, Run}
 use Rattle.wjs_model.specs.Waiting.{next_program, after_body_of}
 use Rattle.wjs_model.specs.Rest.{Go, begin_body, given, under}
 use Rattle.wjs_model.specs.Laws.{script_names, StartIsTheRun, EndsGoDown}
@@ -17,9 +17,9 @@ then_ends (Spent st) = refl
 
 -- the body of a program that begins
 begins : (trees : List Tree) (k body : ℕ) (node : Node) (elements : List ℕ) (go : Go) (st : St) (n : ℕ) → node ≡ Program elements
-    → then_do (interp eval (Tick (begin_body node [] (program_env trees k))) st n) go ≡ then_do (eval AtProgram (program_env trees k) st n) go
+    → then_do (interp eval (Tick (begin_body node nothing (program_env trees k))) st n) go ≡ then_do (eval AtProgram (program_env trees k) st n) go
 begins trees k body node elements go st n e =
-    ap (λ x. then_do (interp eval (Tick (begin_body x [] (program_env trees k))) st n) go) e
+    ap (λ x. then_do (interp eval (Tick (begin_body x nothing (program_env trees k))) st n) go) e
     ∙ ap (λ o. then_do o go) (sym (entries_lem AtProgram (program_env trees k) st n))
 
 -- the run of one program

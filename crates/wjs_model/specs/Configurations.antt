@@ -7,12 +7,12 @@ use Rattle.wjs_store.specs.Meaning.{Meaning, View}
 use Rattle.wjs_arena.specs.Entries.{Entry}
 use Rattle.wjs_content.specs.Tables.{value_in, arena_in}
 use Rattle.wjs_content.specs.Worlds.{worlds_in, told_by, KnowsWorlds}
-use Rattle.wjs_meaning.specs.Trees.{Tree}
 use Rattle.wjs_meaning.specs.Deeds.{St}
 use Rattle.wjs_meaning.specs.Programs.{Ending, Done, Threw, StepsSpent}
 use Rattle.wjs_model.specs.declared.config.Config.{Config}
 use Rattle.wjs_model.specs.declared.config.State.{State}
 use Rattle.wjs_model.specs.declared.config.State.TheVariants as states
+use Rattle.wjs_model.specs.Units.{unit_in}
 use Rattle.wjs_model.specs.Contents.{Frame, Run, frame_in}
 use Rattle.wjs_model.specs.Rest.{rest_of, turns_of}
 
@@ -34,13 +34,13 @@ abbrev pub seen : Bool → Ending × St → Ending × St
 seen true r = r
 seen false r = (r.0, record r.1 { done = [] })
 
--- by what the store means, and the trees that the units are under a table
-module _ {S U : Type 0} (meaning : S → Meaning) (trees : Table → List U → List Tree) where
-  abbrev pub run_in : Table → Config S U → Run
-  run_in texts c = record { trees = trees texts c.units.items; global = c.global; owner = c.owner }
+-- by what the store means
+module _ {S : Type 0} (meaning : S → Meaning) where
+  abbrev pub run_in : Table → Config S → Run
+  run_in texts c = record { trees = each (unit_in texts) c.units.items; global = c.global; owner = c.owner }
 
   -- the worlds under the view, the objects, the output that has not gone out, and the actions that the store tells
-  abbrev pub state_in : Table → View → Config S U → St
+  abbrev pub state_in : Table → View → Config S → St
   state_in texts view c = record {
     full = worlds_in texts ((meaning c.heap.store).full view);
     arena = arena_in texts c.heap.arena;
@@ -48,25 +48,25 @@ module _ {S U : Type 0} (meaning : S → Meaning) (trees : Table → List U → 
     done = unwrap_or (told_by texts (meaning c.heap.store).told) [];
   }
 
-  abbrev pub frames_in : Table → Config S U → List Frame
+  abbrev pub frames_in : Table → Config S → List Frame
   frames_in texts c = each (frame_in texts) c.frames
 
   -- whether the store tells the actions
-  abbrev pub tells : Config S U → Bool
+  abbrev pub tells : Config S → Bool
   tells c = is_some (meaning c.heap.store).told
 
   -- the output still to come, the ending and the final state, with so many steps left; the actions in it are those that the store tells
-  abbrev pub rest : Table → View → Config S U → ℕ → Ending × St
+  abbrev pub rest : Table → View → Config S → ℕ → Ending × St
   rest texts view c n = seen (tells c) (rest_by texts c.state (run_in texts c) (frames_in texts c) (state_in texts view c) n)
 
   -- the turns before the next step that is due, or the end
-  abbrev pub turns : Table → View → Config S U → ℕ
+  abbrev pub turns : Table → View → Config S → ℕ
   turns texts view c = turns_by c.state (run_in texts c) (frames_in texts c) (state_in texts view c)
 
   -- ---- what a call on a configuration keeps
 
   -- the units, the global object, the world and the owner; the numbers of texts; the objects, to which the owner's may be added; the store's own view and its surroundings
-  pub record Stays (old new : Config S U) : Type 0 where
+  pub record Stays (old new : Config S) : Type 0 where
     pub units : new.units ≡ old.units
     pub global : new.global ≡ old.global
     pub world : new.world ≡ old.world
@@ -78,33 +78,33 @@ module _ {S U : Type 0} (meaning : S → Meaning) (trees : Table → List U → 
     pub around : (meaning new.heap.store).around ≡ (meaning old.heap.store).around
     pub narrows : (v : View) → IsTrue ((meaning new.heap.store).admits v) → IsTrue ((meaning old.heap.store).admits v)
 
-  -- under each table that has grown from the new one, and each view that is admitted afterwards and whose slots the old table knows, what is left to do with some steps is what was left with others
-  abbrev pub RestIs : Config S U → Config S U → (ℕ → ℕ) → Type 0
-  RestIs old new before = (t : Table) → Grows new.heap.texts t → (v : View) → IsTrue ((meaning new.heap.store).admits v) → KnowsWorlds old.heap.texts ((meaning old.heap.store).full v) → (n : ℕ) → rest t v old (before n) ≡ rest t v new n
+  -- under each view that is admitted afterwards and whose slots the old texts know, what is left to do with some steps is what was left with others; in the new texts, and so in all later ones
+  abbrev pub RestIs : Config S → Config S → (ℕ → ℕ) → Type 0
+  RestIs old new before = let t = new.heap.texts in (v : View) → IsTrue ((meaning new.heap.store).admits v) → KnowsWorlds old.heap.texts ((meaning old.heap.store).full v) → (n : ℕ) → rest t v old (before n) ≡ rest t v new n
 
   -- a turn that takes no step: under each such view there are fewer turns left before the next
-  pub record Quiet (old new : Config S U) : Type 0 where
+  pub record Quiet (old new : Config S) : Type 0 where
     pub stays : Stays old new
     pub left : new.left ≡ old.left
     pub kept : RestIs old new (λ n. n)
-    pub falls : (t : Table) → Grows new.heap.texts t → (v : View) → IsTrue ((meaning new.heap.store).admits v) → KnowsWorlds old.heap.texts ((meaning old.heap.store).full v) → turns t v new < turns t v old
+    pub falls : let t = new.heap.texts in (v : View) → IsTrue ((meaning new.heap.store).admits v) → KnowsWorlds old.heap.texts ((meaning old.heap.store).full v) → turns t v new < turns t v old
     pub alive : ¬ (new.state ≡ states.StepsSpent)
 
   -- a turn that takes a step
-  pub record Stepped (old new : Config S U) : Type 0 where
+  pub record Stepped (old new : Config S) : Type 0 where
     pub stays : Stays old new
     pub left : old.left ≡ suc new.left
     pub kept : RestIs old new suc
     pub alive : ¬ (new.state ≡ states.StepsSpent)
 
   -- a turn that finds a step due and none left, and changes nothing else
-  pub record Stopped (old new : Config S U) : Type 0 where
+  pub record Stopped (old new : Config S) : Type 0 where
     pub left : old.left ≡ 0
     pub same : new ≡ record old { state = states.StepsSpent }
-    pub due : (t : Table) → Grows new.heap.texts t → (v : View) → rest t v old 0 ≡ (StepsSpent, state_in t v old)
+    pub due : let t = old.heap.texts in (v : View) → rest t v old 0 ≡ (StepsSpent, state_in t v old)
 
   -- what each turn does
-  pub data Turned (old new : Config S U) : Type 0 where
+  pub data Turned (old new : Config S) : Type 0 where
     quietly : Quiet old new → Turned old new
     by_step : Stepped old new → Turned old new
     stopped : Stopped old new → Turned old new

@@ -1,14 +1,19 @@
 -- What frames mean under a table of texts.
-use Rattle.std.specs.Prelude.{ℕ, Bool, true, false, List, [], map as each, fold, reverse, filter_map, Option, None, Some}
+use Rattle.std.specs.Prelude.{ℕ, Bool, true, false, List, [], ◌∷◌, map as each}
 use Rattle.std.specs.Option.{option_map}
 use Rattle.wjs_base.specs.declared.ids.ObjId.{ObjId}
 use Rattle.wjs_base.specs.declared.ids.WorldId.{WorldId}
+use Rattle.wjs_base.specs.declared.values.Name.TheVariants as names
+use Rattle.wjs_base.specs.declared.values.Slot.{Slot as NumberedSlot}
+use Rattle.wjs_base.specs.declared.values.Value.{Value as NumberedValue}
+use Rattle.wjs_base.specs.declared.values.Value.TheVariants as values
 use Rattle.wjs_base.specs.Text.{Table}
 use Rattle.wjs_content.specs.Values.{Value, Undefined}
-use Rattle.wjs_content.specs.Names.{Slot}
+use Rattle.wjs_content.specs.Names.{Slot, index_name}
 use Rattle.wjs_content.specs.Tables.{text_in, name_in, value_in, slot_in}
 use Rattle.wjs_meaning.specs.Trees.{Tree}
 use Rattle.wjs_meaning.specs.Deeds.{Env, Reference, Local, Global, Member, Completion, Gives, Refers, Normal, Breaks, Continues, Returns, Throws}
+use Rattle.wjs_model.specs.Frames.{earliest_first}
 use Rattle.wjs_model.specs.declared.frame.Reference.{Reference as NumberedReference}
 use Rattle.wjs_model.specs.declared.frame.Reference.TheVariants as references
 use Rattle.wjs_model.specs.declared.frame.Completion.{Completion as NumberedCompletion}
@@ -20,15 +25,25 @@ use Rattle.wjs_model.specs.declared.frame.Phase.TheVariants as phases
 use Rattle.wjs_model.specs.declared.frame.Form.{Form}
 use Rattle.wjs_model.specs.declared.frame.Frame.{Frame as NumberedFrame}
 
--- what a frame holds
-pub data Item : Type 0 where
-  Holds : Value → Item
-  HoldsReference : Reference → Item
-  Callee : Value → Value → Item
-  ByNew : Item
-  Elements : ObjId → ℕ → Item
-  Earlier : Completion → Item
-  ToVisit : Slot → Item
+-- what a frame holds, by kind: the latest value, all values in the order in which they came, and the latest of each other kind
+pub record Holding : Type 0 where
+  pub value : Value
+  pub values : List Value
+  pub reference : Reference
+  -- what is called, and its `this`
+  pub callee : Value × Value
+  -- whether the call is one of `new`
+  pub by_new : Bool
+  -- the object whose elements are read, and how many
+  pub elements : ObjId × ℕ
+  -- what a `finally` may replace
+  pub earlier : Completion
+  -- what is still to visit, the next one first
+  pub visits : List Slot
+
+-- nothing is held
+abbrev pub nothing : Holding
+nothing = record { value = Undefined; values = []; reference = Member Undefined (index_name 0); callee = (Undefined, Undefined); by_new = false; elements = (record { owner = 0; serial = 0 }, 0); earlier = Normal; visits = [] }
 
 -- when a frame goes on
 pub data Moment : Type 0 where
@@ -47,7 +62,50 @@ pub record Frame : Type 0 where
   pub scope : ObjId
   pub this : Value
   pub world : WorldId
-  pub held : List Item
+  pub held : Holding
+
+-- ---- what is held, the latest first
+
+abbrev pub value_held : List Held → NumberedValue
+value_held [] = values.Undefined
+value_held (holds.Value v ∷ held) = v
+value_held (_ ∷ held) = value_held held
+
+-- the values, the latest first
+abbrev pub values_held : List Held → List NumberedValue
+values_held [] = []
+values_held (holds.Value v ∷ held) = v ∷ values_held held
+values_held (_ ∷ held) = values_held held
+
+abbrev pub reference_held : List Held → NumberedReference
+reference_held [] = references.Member values.Undefined (names.Index 0)
+reference_held (holds.Reference r ∷ held) = r
+reference_held (_ ∷ held) = reference_held held
+
+abbrev pub callee_held : List Held → NumberedValue × NumberedValue
+callee_held [] = (values.Undefined, values.Undefined)
+callee_held (holds.Callee f this ∷ held) = (f, this)
+callee_held (_ ∷ held) = callee_held held
+
+abbrev pub new_held : List Held → Bool
+new_held [] = false
+new_held (holds.ByNew ∷ held) = true
+new_held (_ ∷ held) = new_held held
+
+abbrev pub elements_held : List Held → ObjId × ℕ
+elements_held [] = (record { owner = 0; serial = 0 }, 0)
+elements_held (holds.Elements o count ∷ held) = (o, count)
+elements_held (_ ∷ held) = elements_held held
+
+abbrev pub earlier_held : List Held → NumberedCompletion
+earlier_held [] = completions.Normal
+earlier_held (holds.Earlier c ∷ held) = c
+earlier_held (_ ∷ held) = earlier_held held
+
+abbrev pub visits_held : List Held → List NumberedSlot
+visits_held [] = []
+visits_held (holds.Visit s ∷ held) = s ∷ visits_held held
+visits_held (_ ∷ held) = visits_held held
 
 -- ---- under a table
 
@@ -66,14 +124,17 @@ module _ (texts : Table) where
   completion_in (completions.Returns v) = Returns (value_in texts v)
   completion_in (completions.Throws v) = Throws (value_in texts v)
 
-  abbrev pub item_in : Held → Item
-  item_in (holds.Value v) = Holds (value_in texts v)
-  item_in (holds.Reference r) = HoldsReference (reference_in r)
-  item_in (holds.Callee f this) = Callee (value_in texts f) (value_in texts this)
-  item_in holds.ByNew = ByNew
-  item_in (holds.Elements o count) = Elements o count
-  item_in (holds.Earlier c) = Earlier (completion_in c)
-  item_in (holds.Visit s) = ToVisit (slot_in texts s)
+  abbrev pub holding_in : List Held → Holding
+  holding_in held = record {
+    value = value_in texts (value_held held);
+    values = earliest_first (each (value_in texts) (values_held held));
+    reference = reference_in (reference_held held);
+    callee = (value_in texts (callee_held held).0, value_in texts (callee_held held).1);
+    by_new = new_held held;
+    elements = elements_held held;
+    earlier = completion_in (earlier_held held);
+    visits = each (slot_in texts) (visits_held held);
+  }
 
   abbrev pub moment_in : Phase → Moment
   moment_in phases.Due = Due
@@ -91,74 +152,8 @@ module _ (texts : Table) where
     scope = f.scope;
     this = value_in texts f.this;
     world = f.world;
-    held = each item_in f.held;
+    held = holding_in f.held;
   }
-
--- ---- what is held: the latest of a kind, so that a further value changes none of the others
-
--- the values, in the order in which they came
-abbrev pub value_item : Item → Option Value
-value_item (Holds v) = Some v
-value_item _ = None
-
-abbrev pub values_of : List Item → List Value
-values_of held = filter_map value_item held
-
--- the latest of the values
-abbrev pub later_value : Value → Item → Value
-later_value v (Holds w) = w
-later_value v _ = v
-
-abbrev pub value_of : List Item → Value
-value_of held = fold later_value Undefined held
-
--- the reference
-abbrev pub later_reference : Reference → Item → Reference
-later_reference r (HoldsReference s) = s
-later_reference r _ = r
-
-abbrev pub reference_of : List Item → Reference
-reference_of held = fold later_reference (Member Undefined []) held
-
--- what is called, and its `this`
-abbrev pub later_callee : Value × Value → Item → Value × Value
-later_callee x (Callee f this) = (f, this)
-later_callee x _ = x
-
-abbrev pub callee_of : List Item → Value × Value
-callee_of held = fold later_callee (Undefined, Undefined) held
-
--- whether the call is one of `new`
-abbrev pub later_new : Bool → Item → Bool
-later_new b ByNew = true
-later_new b _ = b
-
-abbrev pub is_new : List Item → Bool
-is_new held = fold later_new false held
-
--- the object whose elements are read, and how many
-abbrev pub later_elements : ObjId × ℕ → Item → ObjId × ℕ
-later_elements x (Elements o count) = (o, count)
-later_elements x _ = x
-
-abbrev pub elements_of : List Item → ObjId × ℕ
-elements_of held = fold later_elements (record { owner = 0; serial = 0 }, 0) held
-
--- the earlier completion
-abbrev pub later_completion : Completion → Item → Completion
-later_completion c (Earlier d) = d
-later_completion c _ = c
-
-abbrev pub completion_of : List Item → Completion
-completion_of held = fold later_completion Normal held
-
--- what is still to visit, the next one first
-abbrev pub visit_item : Item → Option Slot
-visit_item (ToVisit s) = Some s
-visit_item _ = None
-
-abbrev pub visits_of : List Item → List Slot
-visits_of held = reverse (filter_map visit_item held)
 
 -- ---- where a frame is run
 

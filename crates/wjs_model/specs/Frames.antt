@@ -16,3 +16,18 @@ front (x ∷ y ∷ xs) = x ∷ front (y ∷ xs)
 abbrev pub Pops : {A : Type 0} → List A → Option A → List A → Type 0
 Pops old None new = (old ≡ []) × (new ≡ [])
 Pops old (Some x) new = old ≡ new ++ x ∷ []
+
+-- the latest is taken off a list that has it first; none exactly of the empty list
+abbrev pub Uncovers : {A : Type 0} → List A → Option A → List A → Type 0
+Uncovers old None new = (old ≡ []) × (new ≡ [])
+Uncovers old (Some x) new = old ≡ x ∷ new
+
+-- a list with the latest first, from the earliest on
+abbrev pub earliest_first : {A : Type 0} → List A → List A
+earliest_first [] = []
+earliest_first (x ∷ xs) = earliest_first xs ++ x ∷ []
+
+-- a list from the latest on
+abbrev pub latest_first : {A : Type 0} → List A → List A
+latest_first [] = []
+latest_first (x ∷ xs) = latest_first xs ++ x ∷ []

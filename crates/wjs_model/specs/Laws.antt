@@ -7,7 +7,7 @@ use Rattle.wjs_meaning.specs.Deeds.{St, Completion, Ret}
 use Rattle.wjs_meaning.specs.Programs.{declared_names, machine}
 use Rattle.wjs_meaning.specs.Start.{start}
 use Rattle.wjs_model.specs.declared.frame.Form.TheVariants as form
-use Rattle.wjs_model.specs.Contents.{Frame, Moment, Due, Waiting, Given, Run}
+use Rattle.wjs_model.specs.Contents.{Frame, nothing, Moment, Due, Waiting, Given, Run}
 use Rattle.wjs_model.specs.Rest.{rest_of, rest_over, rest_top}
 
 -- the programs of a run from the start
@@ -16,7 +16,7 @@ run_of trees = record { trees = trees; global = global_object; owner = 0 }
 
 -- the body of the program of a number, which begins or waits for the one before it
 abbrev pub program_frame : ℕ → ℕ → Moment → Frame
-program_frame tree body moment = record { form = form.Body; tree = tree; node = body; place = 0; moment = moment; scope = global_object; this = Object global_object; world = first_world; held = [] }
+program_frame tree body moment = record { form = form.Body; tree = tree; node = body; place = 0; moment = moment; scope = global_object; this = Object global_object; world = first_world; held = nothing }
 
 -- the frames of a run at its start: the library's body above the script's
 abbrev pub first_frames : Option Tree → Tree → List Frame

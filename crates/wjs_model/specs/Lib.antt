@@ -1,4 +1,6 @@
 pub mod Frames
+pub mod Units
+pub mod Texts
 pub mod Turns
 pub mod Contents
 pub mod Waiting

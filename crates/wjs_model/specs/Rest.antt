@@ -14,8 +14,8 @@ use Rattle.wjs_meaning.specs.Calls.{call}
 use Rattle.wjs_meaning.specs.Conversions.{HintString, HintNumber, to_primitive, to_number, to_text, to_integer}
 use Rattle.wjs_meaning.specs.Functions.{body_of, program_of}
 use Rattle.wjs_meaning.specs.Operators.{operate}
-use Rattle.wjs_meaning.specs.Expressions.{expr_at, target_of}
-use Rattle.wjs_meaning.specs.Statements.{vars_from, stmt_at, again_of}
+use Rattle.wjs_meaning.specs.Expressions.{expr_of, target_of}
+use Rattle.wjs_meaning.specs.Statements.{vars_from, stmt_of, again_of}
 use Rattle.wjs_meaning.specs.NativesOfObjects.{apply_from, text_of, value_at}
 use Rattle.wjs_meaning.specs.NativesOfTexts.{glue_from, glued}
 use Rattle.wjs_meaning.specs.Natives.{native_of}
@@ -25,7 +25,7 @@ use Rattle.wjs_model.specs.declared.frame.Conversion.TheVariants as to
 use Rattle.wjs_model.specs.declared.frame.Form.{Form}
 use Rattle.wjs_model.specs.declared.frame.Form.TheVariants as form
 use Rattle.wjs_model.specs.Frames.{last, front}
-use Rattle.wjs_model.specs.Contents.{Frame, Item, Moment, Due, Ready, Waiting, Given, Run, env_of, values_of, value_of, callee_of, is_new, elements_of}
+use Rattle.wjs_model.specs.Contents.{Frame, Holding, Moment, Due, Ready, Waiting, Given, Run, env_of}
 use Rattle.wjs_model.specs.Waiting.{after, variables_of}
 
 -- ---- what a frame begins with, after the step that is due or at once
@@ -45,14 +45,14 @@ begin_variables here (For init t u s) env = vars_from here 0 (variables_of init)
 begin_variables here node env = Ret Normal
 
 -- a statement at its entry, a loop at its next turn, or the `var`s of a `for`
-abbrev pub begin_stmt : ℕ → ℕ → Env → Act
-begin_stmt here zero env = stmt_at here env
-begin_stmt here (suc zero) env = again_of here (node_here env here) env
-begin_stmt here place env = begin_variables here (node_here env here) env
+abbrev pub begin_stmt : Node → ℕ → ℕ → Env → Act
+begin_stmt node here zero env = stmt_of here node env
+begin_stmt node here (suc zero) env = again_of here node env
+begin_stmt node here place env = begin_variables here node env
 
-abbrev pub begin_expr : ℕ → ℕ → List Item → Env → Act
-begin_expr here zero held env = expr_at here env
-begin_expr here place held env = begin_operation (node_here env here) (values_of held) env
+abbrev pub begin_expr : Node → ℕ → ℕ → Holding → Env → Act
+begin_expr node here zero held env = expr_of here node env
+begin_expr node here place held env = begin_operation node held.values env
 
 abbrev pub body_if : Value → List Value → Env → Act
 body_if (Object f) args env = body_of f args env
@@ -63,9 +63,9 @@ call_if (Object f) this args env = call f this args env
 call_if v this args env = Ret Normal
 
 -- the body of a program, or of a function with its arguments
-abbrev pub begin_body : Node → List Item → Env → Act
+abbrev pub begin_body : Node → Holding → Env → Act
 begin_body (Program elements) held env = program_of env
-begin_body node held env = body_if (callee_of held).0 (values_of held) env
+begin_body node held env = body_if held.callee.0 held.values env
 
 abbrev pub begin_conversion : Conversion → Value → Env → Act
 begin_conversion to.TextFirst v env = to_primitive HintString v env
@@ -79,33 +79,33 @@ abbrev pub apply_next_to : Value → Value → List Value → ObjId → ℕ → 
 apply_next_to (Object f) this vs o count env = get_value o (index_name (length vs)) env (λ v. apply_from (count - (length vs + 1)) (length vs + 1) (vs ++ v ∷ []) o f this env)
 apply_next_to v this vs o count env = Ret Normal
 
-abbrev pub apply_next : List Item → Env → Act
-apply_next held env = apply_next_to (callee_of held).0 (callee_of held).1 (values_of held) (elements_of held).0 (elements_of held).1 env
+abbrev pub apply_next : Holding → Env → Act
+apply_next held env = apply_next_to held.callee.0 held.callee.1 held.values held.elements.0 held.elements.1 env
 
 -- `glue` reads element i; the separator is held, and then the text so far
-abbrev pub glue_next : ℕ → Value → Value → List Item → Env → Act
-glue_next i separator t held env = Do (Read env.world (slot (elements_of held).0 (index_name i))) (λ found.
-    glue_from ((elements_of held).1 - (i + 1)) (i + 1) (glued i (text_of t) (text_of separator) (text_of (value_or_undefined found))) (text_of separator) (elements_of held).0 env)
+abbrev pub glue_next : ℕ → Value → Value → Holding → Env → Act
+glue_next i separator t held env = Do (Read env.world (slot held.elements.0 (index_name i))) (λ found.
+    glue_from (held.elements.1 - (i + 1)) (i + 1) (glued i (text_of t) (text_of separator) (text_of (value_or_undefined found))) (text_of separator) held.elements.0 env)
 
 -- a native function at its entry, or at the next element that `apply` or `glue` reads: with its own step each
-abbrev pub begin_native : Native → ℕ → List Item → Env → Act
-begin_native k zero held env = native_of k (is_new held) (values_of held) env
+abbrev pub begin_native : Native → ℕ → Holding → Env → Act
+begin_native k zero held env = native_of k held.by_new held.values env
 begin_native native.Apply (suc i) held env = apply_next held env
-begin_native native.Glue (suc i) held env = glue_next i (value_at (values_of held) 0) (value_at (values_of held) 1) held env
+begin_native native.Glue (suc i) held env = glue_next i (value_at held.values 0) (value_at held.values 1) held env
 begin_native k (suc i) held env = Ret Normal
 
 -- one line per form
-abbrev pub begin_form : Form → ℕ → ℕ → List Item → Env → Act
-begin_form form.Expr here place held env = begin_expr here place held env
-begin_form form.Target here place held env = target_of here (node_here env here) env
-begin_form form.Stmt here place held env = begin_stmt here place env
-begin_form form.Body here place held env = begin_body (node_here env here) held env
-begin_form (form.Convert conversion) here place held env = begin_conversion conversion (value_of held) env
-begin_form form.Call here place held env = call_if (callee_of held).0 (callee_of held).1 (values_of held) env
-begin_form (form.Native k) here place held env = begin_native k place held env
+abbrev pub begin_form : Node → Form → ℕ → ℕ → Holding → Env → Act
+begin_form node form.Expr here place held env = begin_expr node here place held env
+begin_form node form.Target here place held env = target_of here node env
+begin_form node form.Stmt here place held env = begin_stmt node here place env
+begin_form node form.Body here place held env = begin_body node held env
+begin_form node (form.Convert conversion) here place held env = begin_conversion conversion held.value env
+begin_form node form.Call here place held env = call_if held.callee.0 held.callee.1 held.values env
+begin_form node (form.Native k) here place held env = begin_native k place held env
 
 abbrev pub begin : Frame → Env → Act
-begin f env = begin_form f.form f.node f.place f.held env
+begin f env = begin_form (node_here env f.node) f.form f.node f.place f.held env
 
 -- ---- the frames
 

@@ -1,17 +1,22 @@
 -- When a configuration is sound: everything that it names is there.
-use Rattle.std.specs.Prelude.{◌≡◌, ℕ, ◌<◌, List, [], length, Option, None, Some, All, IsTrue}
+use Rattle.std.specs.Prelude.{◌≡◌, ℕ, ◌<◌, List, [], ◌∷◌, Option, None, Some, All, IsTrue}
 use Rattle.std.specs.FinMap as map
 use Rattle.wjs_base.specs.declared.ids.ObjId.{ObjId}
 use Rattle.wjs_base.specs.declared.ids.TextId.{TextId}
 use Rattle.wjs_base.specs.declared.ids.WorldId.{WorldId}
+use Rattle.wjs_base.specs.declared.values.Name.{Name}
+use Rattle.wjs_base.specs.declared.values.Value.{Value}
+use Rattle.wjs_base.specs.declared.values.Content.{Content}
 use Rattle.wjs_base.specs.Spelling.{IsName}
-use Rattle.wjs_base.specs.Text.{Table, Has}
+use Rattle.wjs_base.specs.Text.{Has}
 use Rattle.wjs_store.specs.State.{has_world}
+use Rattle.wjs_store.specs.Shown.{content_of}
 use Rattle.wjs_store.specs.Meaning.{Meaning, worlds}
-use Rattle.wjs_arena.specs.Entries.{Objects, Entry, has}
+use Rattle.wjs_arena.specs.Entries.{Entry, has}
 use Rattle.wjs_content.specs.Worlds.{KnowsWorlds}
-use Rattle.wjs_props.specs.Heap.{HasValue, HasSlot, IsHeap}
+use Rattle.wjs_props.specs.Heap.{HasValue as HasValueIn, HasContent as HasContentIn, HasSlot as HasSlotIn, IsHeap}
 use Rattle.wjs_props.specs.Means.{parts}
+use Rattle.wjs_meaning.specs.Builtins.{builtin}
 use Rattle.wjs_model.specs.declared.frame.Reference.{Reference}
 use Rattle.wjs_model.specs.declared.frame.Reference.TheVariants as references
 use Rattle.wjs_model.specs.declared.frame.Completion.{Completion}
@@ -24,78 +29,93 @@ use Rattle.wjs_model.specs.declared.frame.Frame.{Frame}
 use Rattle.wjs_model.specs.declared.config.Config.{Config}
 use Rattle.wjs_model.specs.declared.config.State.{State}
 use Rattle.wjs_model.specs.declared.config.State.TheVariants as states
+use Rattle.wjs_model.specs.Texts.{KnowsUnit}
 
 -- ---- what is named is there
 
-module _ (texts : Table) (arena : Objects) where
+module _ {S : Type 0} (c : Config S) where
   abbrev pub HasObject : ObjId → Type 0
-  HasObject o = IsTrue (has arena o)
+  HasObject o = IsTrue (has c.heap.arena o)
+
+  abbrev pub HasName : Name → Type 0
+  HasName name = IsName c.heap.texts name
+
+  abbrev pub HasValue : Value → Type 0
+  HasValue v = HasValueIn c.heap.texts c.heap.arena v
+
+  abbrev pub HasContent : Content → Type 0
+  HasContent x = HasContentIn c.heap.texts c.heap.arena (content_of x)
 
   abbrev pub HasLabel : Option TextId → Type 0
   HasLabel None = Unit {0}
-  HasLabel (Some id) = Has texts id
+  HasLabel (Some id) = Has c.heap.texts id
 
   abbrev pub HasReference : Reference → Type 0
-  HasReference (references.Local scope name) = HasObject scope × IsName texts name
-  HasReference (references.Global name) = IsName texts name
-  HasReference (references.Member base name) = HasValue texts arena base × IsName texts name
+  HasReference (references.Local scope name) = HasObject scope × HasName name
+  HasReference (references.Global name) = HasName name
+  HasReference (references.Member base name) = HasValue base × HasName name
 
   abbrev pub HasCompletion : Completion → Type 0
-  HasCompletion (completions.Gives v) = HasValue texts arena v
+  HasCompletion (completions.Gives v) = HasValue v
   HasCompletion (completions.Refers r) = HasReference r
   HasCompletion completions.Normal = Unit {0}
   HasCompletion (completions.Breaks label) = HasLabel label
   HasCompletion (completions.Continues label) = HasLabel label
-  HasCompletion (completions.Returns v) = HasValue texts arena v
-  HasCompletion (completions.Throws v) = HasValue texts arena v
+  HasCompletion (completions.Returns v) = HasValue v
+  HasCompletion (completions.Throws v) = HasValue v
 
   abbrev pub HasItem : Held → Type 0
-  HasItem (holds.Value v) = HasValue texts arena v
+  HasItem (holds.Value v) = HasValue v
   HasItem (holds.Reference r) = HasReference r
-  HasItem (holds.Callee f this) = HasValue texts arena f × HasValue texts arena this
+  HasItem (holds.Callee f this) = HasValue f × HasValue this
   HasItem holds.ByNew = Unit {0}
   HasItem (holds.Elements o count) = HasObject o
-  HasItem (holds.Earlier c) = HasCompletion c
-  HasItem (holds.Visit s) = HasSlot texts arena s
+  HasItem (holds.Earlier e) = HasCompletion e
+  HasItem (holds.Visit s) = HasSlotIn c.heap.texts c.heap.arena s
+
+  abbrev pub HasItems : List Held → Type 0
+  HasItems [] = Unit {0}
+  HasItems (x ∷ xs) = HasItem x × HasItems xs
 
   abbrev pub HasPhase : Phase → Type 0
-  HasPhase (phases.Given c) = HasCompletion c
+  HasPhase (phases.Given e) = HasCompletion e
   HasPhase _ = Unit {0}
 
   abbrev pub HasThrown : State → Type 0
-  HasThrown (states.Threw v) = HasValue texts arena v
+  HasThrown (states.Threw v) = HasValue v
   HasThrown _ = Unit {0}
 
--- an object stands for the world
-abbrev pub HasWorldObject : Objects → WorldId → Type 0
-HasWorldObject arena w = (o : ObjId) × (e : Entry) × (map.get arena o ≡ Some e) × (e.object.world ≡ Some w)
+-- by what the store means
+module _ {S : Type 0} (meaning : S → Meaning) where
+  abbrev pub HasWorld : Config S → WorldId → Type 0
+  HasWorld c w = IsTrue (has_world (worlds (meaning c.heap.store)) w)
 
--- a frame's unit, scope and world are there, its world's object, and what it holds
-pub record FrameIsThere (texts : Table) (arena : Objects) (store : Meaning) (units : ℕ) (f : Frame) : Type 0 where
-  pub unit : f.tree < units
-  pub scope : HasObject texts arena f.scope
-  pub world : IsTrue (has_world (worlds store) f.world)
-  pub stands : HasWorldObject arena f.world
-  pub this : HasValue texts arena f.this
-  pub held : All (HasItem texts arena) f.held
-  pub phase : HasPhase texts arena f.phase
+  -- a frame's scope, `this` and world are there, and what it holds
+  pub record IsThere (c : Config S) (f : Frame) : Type 0 where
+    pub scope : HasObject c f.scope
+    pub this : HasValue c f.this
+    pub world : HasWorld c f.world
+    pub held : HasItems c f.held
+    pub phase : HasPhase c f.phase
 
--- ---- configurations
-
--- by what the store means; `sound_units` says what units and the functions of the arena ask of one another
-module _ {S U : Type 0} (meaning : S → Meaning) (sound_units : Table → Objects → List U → List Frame → Type 0) where
-  pub record Sound (c : Config S U) : Type 0 where
+  -- all but how it ended
+  pub record Base (c : Config S) : Type 0 where
     -- its heap is one, and its global object and first world are there
     pub heap : IsHeap (parts meaning c.heap)
-    pub global : HasObject c.heap.texts c.heap.arena c.global
-    pub world : IsTrue (has_world (worlds (meaning c.heap.store)) c.world)
-    -- its units have texts, places and the nodes of the functions that are there, and scopes lead outwards as far as places say
-    pub units : sound_units c.heap.texts c.heap.arena c.units.items c.frames
+    pub global : HasObject c c.global
+    pub world : HasWorld c c.world
+    -- the objects that were there before the first step are there
+    pub builtins : (n : ℕ) → n < 14 → HasObject c (builtin n)
+    -- the texts of its programs are there
+    pub units : All (KnowsUnit c.heap.texts) c.units.items
     -- a world of its owner that an object stands for is in the store
-    pub own_worlds : (o : ObjId) (e : Entry) (w : WorldId) → map.get c.heap.arena o ≡ Some e → e.object.world ≡ Some w → w.owner ≡ c.owner → IsTrue (has_world (worlds (meaning c.heap.store)) w)
-    pub frames : All (FrameIsThere c.heap.texts c.heap.arena (meaning c.heap.store) (length c.units.items)) c.frames
-    pub thrown : HasThrown c.heap.texts c.heap.arena c.state
+    pub own_worlds : (o : ObjId) (e : Entry) (w : WorldId) → map.get c.heap.arena o ≡ Some e → e.object.world ≡ Some w → w.owner ≡ c.owner → HasWorld c w
+    pub frames : All (IsThere c) c.frames
     -- the texts that marks name are there
     pub marks : KnowsWorlds c.heap.texts (worlds (meaning c.heap.store))
+
+  pub record Sound (c : Config S) : Type 0 where
+    pub base : Base c
+    pub thrown : HasThrown c c.state
     -- where it goes on there is a frame
     pub running : c.state ≡ states.Running → ¬ (c.frames ≡ [])

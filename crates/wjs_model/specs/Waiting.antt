@@ -29,7 +29,7 @@ use Rattle.wjs_model.specs.declared.frame.Conversion.{Conversion}
 use Rattle.wjs_model.specs.declared.frame.Conversion.TheVariants as to
 use Rattle.wjs_model.specs.declared.frame.Form.{Form}
 use Rattle.wjs_model.specs.declared.frame.Form.TheVariants as form
-use Rattle.wjs_model.specs.Contents.{Item, is_new, values_of, value_of, reference_of, callee_of, completion_of, visits_of}
+use Rattle.wjs_model.specs.Contents.{Holding}
 
 -- ---- operators (11.3 to 11.11)
 
@@ -42,12 +42,12 @@ abbrev pub refer : Taking
 refer r = Ret (Refers r)
 
 -- `++` and `--`: after the target, then after ToNumber
-abbrev pub after_update : Fix → UpdateOperator → ℕ → List Item → Env → Completion → Act
+abbrev pub after_update : Fix → UpdateOperator → ℕ → Holding → Env → Completion → Act
 after_update fix op (suc zero) held env = then_reference (update_reference fix op env)
-after_update fix op place held env = then_number (update_number fix op env (reference_of held))
+after_update fix op place held env = then_number (update_number fix op env held.reference)
 
 -- an operator before an operand: place 1 is after a target, or after a value where the operator takes no target; place 2 after what follows
-abbrev pub after_prefix : PrefixOperator → ℕ → List Item → Env → Completion → Act
+abbrev pub after_prefix : PrefixOperator → ℕ → Holding → Env → Completion → Act
 after_prefix prefix.Delete (suc zero) held env = then_reference (delete_reference env)
 after_prefix prefix.Delete place held env = then_value delete_value
 after_prefix prefix.Typeof (suc zero) held env = then_reference (typeof_reference env)
@@ -69,31 +69,31 @@ in_right (Object o) env name = in_name o env name
 in_right base env name = Ret Normal
 
 -- an operator on two values: after the conversion of the first, the second being held, and after that of the second
-abbrev pub after_operand : BinaryOperator → ℕ → List Item → Env → Completion → Act
-after_operand binary.Add (suc (suc (suc zero))) held env = then_value (add_first (value_of held) env)
-after_operand binary.Add place held env = then_value (add_second (value_of held) env)
-after_operand binary.Less (suc (suc (suc zero))) held env = then_value (compare_first binary.Less (value_of held) env)
-after_operand binary.Less place held env = then_value (compare_second binary.Less (value_of held))
-after_operand binary.Greater (suc (suc (suc zero))) held env = then_value (compare_first binary.Greater (value_of held) env)
-after_operand binary.Greater place held env = then_value (compare_second binary.Greater (value_of held))
-after_operand binary.LessEqual (suc (suc (suc zero))) held env = then_value (compare_first binary.LessEqual (value_of held) env)
-after_operand binary.LessEqual place held env = then_value (compare_second binary.LessEqual (value_of held))
-after_operand binary.GreaterEqual (suc (suc (suc zero))) held env = then_value (compare_first binary.GreaterEqual (value_of held) env)
-after_operand binary.GreaterEqual place held env = then_value (compare_second binary.GreaterEqual (value_of held))
-after_operand binary.Equal place held env = then_value (equal_primitive (value_of held) give_truth)
-after_operand binary.NotEqual place held env = then_value (equal_primitive (value_of held) give_opposite)
-after_operand binary.In place held env = then_text (in_right (value_of held) env)
-after_operand op (suc (suc (suc zero))) held env = then_number (arithmetic_first op (value_of held) env)
-after_operand op place held env = then_number (arithmetic_second op (whole_of (value_of held)) env)
+abbrev pub after_operand : BinaryOperator → ℕ → Holding → Env → Completion → Act
+after_operand binary.Add (suc (suc (suc zero))) held env = then_value (add_first held.value env)
+after_operand binary.Add place held env = then_value (add_second held.value env)
+after_operand binary.Less (suc (suc (suc zero))) held env = then_value (compare_first binary.Less held.value env)
+after_operand binary.Less place held env = then_value (compare_second binary.Less held.value)
+after_operand binary.Greater (suc (suc (suc zero))) held env = then_value (compare_first binary.Greater held.value env)
+after_operand binary.Greater place held env = then_value (compare_second binary.Greater held.value)
+after_operand binary.LessEqual (suc (suc (suc zero))) held env = then_value (compare_first binary.LessEqual held.value env)
+after_operand binary.LessEqual place held env = then_value (compare_second binary.LessEqual held.value)
+after_operand binary.GreaterEqual (suc (suc (suc zero))) held env = then_value (compare_first binary.GreaterEqual held.value env)
+after_operand binary.GreaterEqual place held env = then_value (compare_second binary.GreaterEqual held.value)
+after_operand binary.Equal place held env = then_value (equal_primitive held.value give_truth)
+after_operand binary.NotEqual place held env = then_value (equal_primitive held.value give_opposite)
+after_operand binary.In place held env = then_text (in_right held.value env)
+after_operand op (suc (suc (suc zero))) held env = then_number (arithmetic_first op held.value env)
+after_operand op place held env = then_number (arithmetic_second op (whole_of held.value) env)
 
 -- ---- expressions (11)
 
 -- after the target of an assignment; then the value that is stored; from place 3 on as an operator; place 5 after the right value of an operator with `=`
-abbrev pub after_assign : Option BinaryOperator → ℕ → ℕ → List Item → Env → Completion → Act
+abbrev pub after_assign : Option BinaryOperator → ℕ → ℕ → Holding → Env → Completion → Act
 after_assign op e (suc zero) held env = then_reference (assign_reference op e env)
-after_assign op e (suc (suc zero)) held env = then_value (assign_value (reference_of held) env)
+after_assign op e (suc (suc zero)) held env = then_value (assign_value held.reference env)
 after_assign None e place held env = Ret
-after_assign (Some op) e (suc (suc (suc (suc (suc zero))))) held env = then_value (compound_value op (value_of held) (reference_of held) env)
+after_assign (Some op) e (suc (suc (suc (suc (suc zero))))) held env = then_value (compound_value op held.value held.reference env)
 after_assign (Some op) e place held env = after_operand op place held env
 
 -- the rest of an array's items, after the value of item i
@@ -112,34 +112,34 @@ new_made (Object o) v = new_result o v
 new_made base v = Ret Normal
 
 -- a reference's base, index, and the index's name
-abbrev pub after_at : ℕ → ℕ → List Item → Env → Taking → Completion → Act
+abbrev pub after_at : ℕ → ℕ → Holding → Env → Taking → Completion → Act
 after_at i (suc zero) held env go = then_value (at_base i env go)
-after_at i (suc (suc zero)) held env go = then_value (at_index (value_of held) env go)
-after_at i place held env go = then_text (at_name (value_of held) go)
+after_at i (suc (suc zero)) held env go = then_value (at_index held.value env go)
+after_at i place held env go = then_text (at_name held.value go)
 
 -- the item of this number of an array, written to the array that is held
-abbrev pub array_item : List (Option ℕ) → ℕ → List Item → Env → Value → Act
-array_item items i held env v = array_rest (value_of held) (drop (i + 1) items) i env v
+abbrev pub array_item : List (Option ℕ) → ℕ → Holding → Env → Value → Act
+array_item items i held env v = array_rest held.value (drop (i + 1) items) i env v
 
 -- the value of the pair of this number
-abbrev pub object_item : List (Key × ℕ) → ℕ → List Item → Env → Value → Act
-object_item pairs i held env v = object_rest (value_of held) (drop i pairs) env v
+abbrev pub object_item : List (Key × ℕ) → ℕ → Holding → Env → Value → Act
+object_item pairs i held env v = object_rest held.value (drop i pairs) env v
 
 -- the argument of this number of a call
-abbrev pub call_argument : List ℕ → ℕ → List Item → Env → Value → Act
-call_argument args i held env v = values_from (drop (i + 1) args) (values_of held ++ v ∷ []) env (call_values (callee_of held).0 (callee_of held).1 env)
+abbrev pub call_argument : List ℕ → ℕ → Holding → Env → Value → Act
+call_argument args i held env v = values_from (drop (i + 1) args) (held.values ++ v ∷ []) env (call_values held.callee.0 held.callee.1 env)
 
 -- the argument of this number of `new`
-abbrev pub new_argument : List ℕ → ℕ → List Item → Env → Value → Act
-new_argument args i held env v = values_from (drop (i + 1) args) (values_of held ++ v ∷ []) env (construct (callee_of held).0 env)
+abbrev pub new_argument : List ℕ → ℕ → Holding → Env → Value → Act
+new_argument args i held env v = values_from (drop (i + 1) args) (held.values ++ v ∷ []) env (construct held.callee.0 env)
 
 -- after the callee of `new`, after the call, and after each argument
-abbrev pub after_new : List ℕ → ℕ → List Item → Env → Completion → Act
+abbrev pub after_new : List ℕ → ℕ → Holding → Env → Completion → Act
 after_new args (suc zero) held env = then_value (new_callee args env)
-after_new args (suc (suc zero)) held env = then_value (new_made (value_of held))
+after_new args (suc (suc zero)) held env = then_value (new_made held.value)
 after_new args place held env = then_value (new_argument args (place - 3) held env)
 
-abbrev pub after_expr : Node → ℕ → List Item → Env → Taking → Completion → Act
+abbrev pub after_expr : Node → ℕ → Holding → Env → Taking → Completion → Act
 after_expr (ArrayLit items) place held env go = then_value (array_item items (place - 1) held env)
 after_expr (ObjectLit pairs) place held env go = then_value (object_item pairs (place - 1) held env)
 after_expr (Dot e name) place held env go = then_value (dot_base name env go)
@@ -152,7 +152,7 @@ after_expr (NewBare f) place held env go = after_new [] place held env
 after_expr (Postfix t op) place held env go = after_update Post op place held env
 after_expr (Prefix op e) place held env go = after_prefix op place held env
 after_expr (Binary l op r) (suc zero) held env go = then_value (binary_left op r env)
-after_expr (Binary l op r) (suc (suc zero)) held env go = then_value (binary_right op (value_of held) env)
+after_expr (Binary l op r) (suc (suc zero)) held env go = then_value (binary_right op held.value env)
 after_expr (Binary l op r) place held env go = after_operand op place held env
 after_expr (Cond c a b) place held env go = then_value (cond_test a b env)
 after_expr (Assign t op e) place held env go = after_assign (compound op) e place held env
@@ -197,10 +197,10 @@ after_for here init t u s (suc (suc (suc (suc (suc zero))))) env = then_normal (
 after_for here init t u s place env = then_value (after_variable here (variables_of init) (place - 6) env)
 
 -- a `for`-`in`: after its object, the target of a visit, and the body
-abbrev pub after_for_in : ℕ → Taker → ℕ → ℕ → List Item → Env → Completion → Act
+abbrev pub after_for_in : ℕ → Taker → ℕ → ℕ → Holding → Env → Completion → Act
 after_for_in here taker s (suc zero) held env = then_value (for_in_value here taker s env)
-after_for_in here taker s (suc (suc zero)) held env = then_reference (visit_taken here taker s (visits_of held) env)
-after_for_in here taker s place held env = after_body here env (visits_from here taker s (visits_of held) env)
+after_for_in here taker s (suc (suc zero)) held env = then_reference (visit_taken here taker s held.visits env)
+after_for_in here taker s place held env = after_body here env (visits_from here taker s held.visits env)
 
 -- a `switch`: after its value; with the value held after the case of a number, and else after a statement of a number
 abbrev pub after_switch : List (Option ℕ × List ℕ) → ℕ → List Value → Env → Completion → Act
@@ -209,12 +209,12 @@ after_switch clauses place [] env = switch_next (switch_from (drop (place - 1) (
 after_switch clauses place (v ∷ vs) env = then_value (after_case v clauses (drop (place - 2) clauses) env)
 
 -- a `try`: after its block, its handler and its `finally`
-abbrev pub after_try : Option (Text × ℕ) → Option ℕ → ℕ → List Item → Env → Completion → Act
+abbrev pub after_try : Option (Text × ℕ) → Option ℕ → ℕ → Holding → Env → Completion → Act
 after_try handler f (suc zero) held env = try_block handler f env
 after_try handler f (suc (suc zero)) held env = try_finally f env
-after_try handler f place held env = finally_done (completion_of held)
+after_try handler f place held env = finally_done held.earlier
 
-abbrev pub after_stmt : ℕ → Node → ℕ → List Item → Env → Completion → Act
+abbrev pub after_stmt : ℕ → Node → ℕ → Holding → Env → Completion → Act
 after_stmt here (Block ss) place held env = then_normal (block_from (drop place ss) env)
 after_stmt here (Var xs) place held env = then_value (after_variable here xs (place - 1) env)
 after_stmt here (Expr e) place held env = then_value expr_done
@@ -229,7 +229,7 @@ after_stmt here (ForVarIn name e s) place held env = after_for_in here (VarName 
 after_stmt here (Return e) place held env = then_value return_value
 after_stmt here (Throw e) place held env = then_value throw_value
 after_stmt here (Label name s) place held env = label_done name
-after_stmt here (Switch e clauses) place held env = after_switch clauses place (values_of held) env
+after_stmt here (Switch e clauses) place held env = after_switch clauses place held.values env
 after_stmt here (Try b handler f) place held env = after_try handler f place held env
 after_stmt here (Within e b) place held env = then_value (within_value b env)
 after_stmt here _ place held env = Ret
@@ -252,21 +252,21 @@ abbrev pub after_method : Hint → Value → ℕ → Env → Value → Act
 after_method hint (Object o) (suc zero) env v = method_result (try_method (second_method hint) o env (throw NoPrimitiveValue env)) v
 after_method hint base place env v = method_result (throw NoPrimitiveValue env) v
 
-abbrev pub after_conversion : Conversion → ℕ → List Item → Env → Completion → Act
-after_conversion to.TextFirst place held env = then_value (after_method HintString (value_of held) place env)
-after_conversion to.NumberFirst place held env = then_value (after_method HintNumber (value_of held) place env)
+abbrev pub after_conversion : Conversion → ℕ → Holding → Env → Completion → Act
+after_conversion to.TextFirst place held env = then_value (after_method HintString held.value place env)
+after_conversion to.NumberFirst place held env = then_value (after_method HintNumber held.value place env)
 after_conversion to.Number place held env = then_value number_of_primitive
 after_conversion to.Text place held env = then_value text_of_primitive
 after_conversion to.Integer place held env = then_value integer_of_primitive
 
 -- after the conversion of `this` or of an argument, all of which are held, `this` first
-abbrev pub after_argument : Native → List Item → ℕ → Env → Value → Act
+abbrev pub after_argument : Native → Holding → ℕ → Env → Value → Act
 after_argument k held i env v =
-    convert_from k (is_new held) (drop (i + 1) (with_kinds (kind_of_this k ∷ kinds k (length (values_of held) - 1)) (values_of held))) (take i (values_of held) ++ v ∷ []) env
+    convert_from k held.by_new (drop (i + 1) (with_kinds (kind_of_this k ∷ kinds k (length held.values - 1)) held.values)) (take i held.values ++ v ∷ []) env
 
 -- ---- one line per form
 
-abbrev pub after : Node → Form → ℕ → ℕ → List Item → Env → Completion → Act
+abbrev pub after : Node → Form → ℕ → ℕ → Holding → Env → Completion → Act
 after node form.Expr here place held env = after_expr node place held env (give_value_of env)
 after node form.Target here place held env = after_expr node place held env refer
 after node form.Stmt here place held env = after_stmt here node place held env

@@ -1,6 +1,7 @@
 //! Configurations.
 
 use crate::frame::Frames;
+use crate::unit::Unit;
 use wjs_base::{ObjId, Value, WorldId};
 use wjs_props::Heap;
 use wjs_store::WorldStore;
@@ -14,11 +15,11 @@ pub enum State {
     StepsSpent,
 }
 
-/// A run at a moment, of programs that are given as units with the places of their names.
+/// A run at a moment.
 #[derive(Drop)]
-pub struct Config<S: WorldStore, U> {
+pub struct Config<S: WorldStore> {
     pub heap: Heap<S>,
-    pub units: Vec<U>,
+    pub units: Vec<Unit>,
     pub frames: Frames,
     pub global: ObjId,
     /// The first world of the run.

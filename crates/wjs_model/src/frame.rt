@@ -1,7 +1,7 @@
 //! What a configuration has still to do, a frame for each node that is being run.
 
 ghost use Rattle.std.specs.Prelude.{◌≡◌, ◌++◌, ◌∷◌, [], OnOk, OnErr, option_map};
-ghost use Rattle.wjs_model.specs.Frames.{last, Pops};
+ghost use Rattle.wjs_model.specs.Frames.{last, Pops, Uncovers};
 
 use std::alloc::Global;
 use std::marker::Model;
@@ -87,7 +87,7 @@ pub enum Held {
     Visit(Slot),
 }
 
-/// What a frame holds, in the order in which it came. Contracts see the list.
+/// What a frame holds. Contracts see the list with the latest first.
 #[derive(Drop)]
 pub struct Items {
     list: Vec<Held>,
@@ -95,6 +95,7 @@ pub struct Items {
 
 impl Model for Items {
     ghost use Rattle.std.specs.Prelude.{List};
+    ghost use Rattle.wjs_model.specs.Frames.{latest_first};
     ghost use Rattle.wjs_model.specs.declared.frame.Held.{Held};
     ghost use Rattle.std.specs.Coded.{codes};
     ghost use Rattle.wjs_model.specs.contracts.frame.Held as held_contract;
@@ -103,7 +104,7 @@ impl Model for Items {
 
     ghost coded = { Prim.hlevel (codes, held_contract.the_row.coded) };
 
-    ghost view = { λ i. i.list.items };
+    ghost view = { λ i. latest_first i.list.items };
 }
 
 impl Items {
@@ -118,7 +119,7 @@ impl Items {
 
     /// Holds one more; after a refusal what is held is as it was.
     pub fn push(&mut self, item: Held) -> Result<(), OutOfMemory>
-        ensures ok { OnOk result (self.new ≡ self.old ++ item ∷ []) }
+        ensures ok { OnOk result (self.new ≡ item ∷ self.old) }
         ensures err { OnErr result (self.new ≡ self.old) }
     {
         match self.list.push(item) {
@@ -129,7 +130,7 @@ impl Items {
 
     /// The latest, which is taken off; None exactly where nothing is held.
     pub fn pop(&mut self) -> Option<Held>
-        ensures { Pops self.old result self.new }
+        ensures { Uncovers self.old result self.new }
     {
         self.list.pop()
     }

@@ -4,10 +4,13 @@
 mod config;
 mod frame;
 mod laws;
+mod nodes;
 mod turn;
+mod unit;
 
 pub use config::{Config, State};
 pub use frame::{Completion, Conversion, Form, Frame, Frames, Held, Items, Phase, Reference};
 pub use laws::{ends_go_down, start_is_the_run};
 pub use turn::Turn;
+pub use unit::Unit;
 pub use wjs_meaning::{LIBRARY, Trouble};

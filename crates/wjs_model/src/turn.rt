@@ -20,7 +20,7 @@ pub enum Turn {
     Ended,
 }
 
-impl<S: WorldStore, U> Config<S, U> {
+impl<S: WorldStore> Config<S> {
     /// Whose step is next: Ended exactly where the configuration isn't running, else as the frame that runs says. It takes no
     /// memory.
     pub fn turn(&self) -> Turn
