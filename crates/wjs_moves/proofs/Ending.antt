@@ -1,11 +1,10 @@
 -- The end of a node.
-use Rattle.std.proofs.Common.{◌≡◌, ℕ, zero, suc, ◌+◌, ◌≤◌, List, [], ◌∷◌, ◌++◌, refl, sym, ap, ◌∙◌, subst, arith}
+use Rattle.std.proofs.Common.{◌≡◌, ℕ, suc, ◌+◌, ◌≤◌, List, [], ◌∷◌, ◌++◌, refl, sym, ap, ◌∙◌, arith}
 use Rattle.std.specs.Prelude.{map as each}
 use Rattle.wjs_base.specs.Text.{Table}
 use Rattle.wjs_store.specs.Meaning.{Meaning}
-use Rattle.wjs_meaning.specs.Trees.{Tree}
 use Rattle.wjs_meaning.specs.Deeds.{St, Ret, Ends}
-use Rattle.wjs_meaning.specs.Programs.{Ending, Done, run_next}
+use Rattle.wjs_meaning.specs.Programs.{Done, run_next}
 use Rattle.wjs_model.specs.declared.config.Config.{Config}
 use Rattle.wjs_model.specs.declared.config.State.{State}
 use Rattle.wjs_model.specs.declared.config.State.TheVariants as states
@@ -14,7 +13,7 @@ use Rattle.wjs_model.specs.declared.frame.Completion.TheVariants as completions
 use Rattle.wjs_model.specs.declared.frame.Phase.TheVariants as phases
 use Rattle.wjs_model.specs.declared.frame.Frame.{Frame as NumberedFrame}
 use Rattle.wjs_model.specs.Contents.{Frame, Run, frame_in, completion_in}
-use Rattle.wjs_model.specs.Rest.{given, under, turns_over}
+use Rattle.wjs_model.specs.Rest.{given, turns_over}
 use Rattle.wjs_model.specs.Configurations.{seen, tells, run_in, state_in, frames_in, rest_by, turns_by}
 use Rattle.wjs_moves.specs.Parts.{ended}
 use Rattle.wjs_moves.specs.Keeping.{rest_with, Keeps}
@@ -54,36 +53,36 @@ fewer_ended m k e = omega (arith, e)
 fewer_given : (x y : ℕ) → y ≡ suc x → suc x + 1 ≤ suc y
 fewer_given x y e = omega (arith, e)
 
-module _ {S U : Type 0} (meaning : S → Meaning) (trees : Table → List U → List Tree) where
+module _ {S : Type 0} (meaning : S → Meaning) where
   -- the frame below is given the completion
-  pub keeps_given : (t : Table) (c : Completion) (old : Config S U) (frames fs : List NumberedFrame) (f : NumberedFrame) → old.state ≡ states.Running → old.frames ≡ fs ++ f ∷ [] → frames ≡ fs ++ record f { phase = phases.Given c } ∷ [] → Keeps meaning trees t 1 (Ret (completion_in t c)) old (record old { frames = frames })
+  pub keeps_given : (t : Table) (c : Completion) (old : Config S) (frames fs : List NumberedFrame) (f : NumberedFrame) → old.state ≡ states.Running → old.frames ≡ fs ++ f ∷ [] → frames ≡ fs ++ record f { phase = phases.Given c } ∷ [] → Keeps meaning t 1 (Ret (completion_in t c)) old (record old { frames = frames })
   keeps_given t c old frames fs f er eo ef =
-      let run = run_in meaning trees t old in
+      let run = run_in meaning t old in
       let gs = each (frame_in t) fs in
       let g = frame_in t f in
       let d = completion_in t c in
-      let eg : frames_in meaning trees t old ≡ gs ++ g ∷ [] = ap (each (frame_in t)) eo ∙ each_snoc (frame_in t) fs f in
-      keeps_framed meaning trees t 1 (Ret d) (given run g d) old frames fs (record f { phase = phases.Given c }) er ef refl
+      let eg : frames_in meaning t old ≡ gs ++ g ∷ [] = ap (each (frame_in t)) eo ∙ each_snoc (frame_in t) fs f in
+      keeps_framed meaning t 1 (Ret d) (given run g d) old frames fs (record f { phase = phases.Given c }) er ef refl
       (λ st n. ap (λ l. rest_with run (Ret d) l st n) eg ∙ ap (λ o. run_next o (λ st' n'. (Done, st'))) (under_snoc run gs g Ends d st n))
-      (λ st. fewer_given (turns_over run (given run g d) gs st) (turns_over run (Ret d) (frames_in meaning trees t old) st)
+      (λ st. fewer_given (turns_over run (given run g d) gs st) (turns_over run (Ret d) (frames_in meaning t old) st)
       (ap (λ l. turns_over run (Ret d) l st) eg ∙ ap (λ go. suc (go d st)) (turns_under_snoc run gs g (λ c' st'. 0))))
 
   -- no frame is left
-  pub keeps_ended : (t : Table) (c : Completion) (old : Config S U) (frames : List NumberedFrame) (state : State) → old.frames ≡ [] → state ≡ ended c → Keeps meaning trees t 1 (Ret (completion_in t c)) old (record old { frames = frames; state = state })
+  pub keeps_ended : (t : Table) (c : Completion) (old : Config S) (frames : List NumberedFrame) (state : State) → old.frames ≡ [] → state ≡ ended c → Keeps meaning t 1 (Ret (completion_in t c)) old (record old { frames = frames; state = state })
   keeps_ended t c old frames state eo es =
-      let run = run_in meaning trees t old in
+      let run = run_in meaning t old in
       let gs = each (frame_in t) frames in
       record {
-        stays = stays_framed meaning trees old frames state;
+        stays = stays_framed meaning old frames state;
         left = refl;
         alive = λ e. alive_ended c (sym es ∙ e);
         kept = λ v a k n.
-            let st = state_in meaning trees t v old in
-            ap (seen (tells meaning trees old)) (
+            let st = state_in meaning t v old in
+            ap (seen (tells meaning old)) (
             ap (λ l. rest_with run (Ret (completion_in t c)) (each (frame_in t) l) st n) eo
             ∙ rest_ended t c run gs st n
             ∙ ap (λ s. rest_by t s run gs st n) (sym es));
         falls = λ v a k.
-            let st = state_in meaning trees t v old in
+            let st = state_in meaning t v old in
             fewer_ended (turns_by state run gs st) _ (ap (λ s. turns_by s run gs st) es ∙ turns_ended c run gs st);
       }

@@ -1,33 +1,33 @@
 -- Frames that wait, that are entered and that go on.
-use Rattle.std.proofs.Common.{◌≡◌, ℕ, zero, suc, ◌+◌, ◌≤◌, List, [], ◌∷◌, ◌++◌, refl, sym, ap, ◌∙◌, subst, arith}
+use Rattle.std.proofs.Common.{◌≡◌, ℕ, suc, ◌+◌, ◌≤◌, List, [], ◌∷◌, ◌++◌, refl, sym, ap, ◌∙◌, subst, arith}
 use Rattle.std.specs.Prelude.{map as each}
 use Rattle.wjs_base.specs.Text.{Table}
 use Rattle.wjs_store.specs.Meaning.{Meaning}
-use Rattle.wjs_meaning.specs.Trees.{Tree}
-use Rattle.wjs_meaning.specs.Deeds.{St, Env, Goal, Completion, Act, Ret, Tick, Eval, Sub, Outcome, Ends, Spent, interp, then_do}
-use Rattle.wjs_meaning.specs.Programs.{Ending, Done, run_next, eval, entry}
+use Rattle.wjs_meaning.specs.Deeds.{St, Env, Goal, Completion, Act, Ret, Tick, Eval, Sub, Outcome, Ends, Spent, interp, then_do, node_here}
+use Rattle.wjs_meaning.specs.Programs.{Done, run_next, eval, entry}
 use Rattle.wjs_meaning.proofs.Steps.{entries_lem}
 use Rattle.wjs_model.specs.declared.config.Config.{Config}
 use Rattle.wjs_model.specs.declared.config.State.TheVariants as states
 use Rattle.wjs_model.specs.declared.frame.Phase.TheVariants as phases
 use Rattle.wjs_model.specs.declared.frame.Frame.{Frame as NumberedFrame}
-use Rattle.wjs_model.specs.Contents.{Frame, Run, env_of, frame_in}
-use Rattle.wjs_model.specs.Rest.{Go, under, given, begin, begin_form, act_of, rest_over, turns_over, turns_act}
-use Rattle.wjs_model.specs.Configurations.{seen, tells, run_in, state_in, frames_in, rest, turns, rest_by, turns_by}
+use Rattle.wjs_model.specs.Contents.{Frame, Run, frame_in, holding_in}
+use Rattle.wjs_model.specs.Rest.{Go, under, given, begin, begin_form, turns_over, turns_act}
+use Rattle.wjs_model.specs.Waiting.{after}
+use Rattle.wjs_model.specs.Configurations.{seen, tells, run_in, state_in, frames_in}
 use Rattle.wjs_moves.specs.declared.place.Part.{Part}
 use Rattle.wjs_moves.specs.declared.place.Part.TheVariants as part
-use Rattle.wjs_moves.specs.declared.place.Spot.{Spot}
-use Rattle.wjs_moves.specs.Parts.{goal_of, form_of, node_of, place_of, due_frame, env_at, at_place}
+use Rattle.wjs_moves.specs.Parts.{goal_of, form_of, node_of, place_of, due_frame, env_in, then_at, begins_at}
 use Rattle.wjs_moves.specs.Keeping.{rest_with, Keeps, Opens}
 use Rattle.wjs_moves.proofs.Frames.{each_snoc, under_snoc, turns_under_snoc}
-use Rattle.wjs_moves.proofs.Keeping.{keeps_framed, stays_framed}
+use Rattle.wjs_moves.proofs.Places.{node_same}
+use Rattle.wjs_moves.proofs.Keeping.{keeps_framed}
 
 -- what a part's frame begins with is the part's entry
-pub begins_part : (p : Part) (env : Env) → begin_form (form_of p) ((node_of p).0) (place_of p) [] env ≡ entry (goal_of p) env
-begins_part (part.Expr e) env = refl
-begins_part (part.Target e) env = refl
-begins_part (part.Stmt s) env = refl
-begins_part (part.Again s) env = refl
+pub begins_part : (t : Table) (p : Part) (env : Env) → begin_form (node_here env (node_of p).0) (form_of p) ((node_of p).0) (place_of p) (holding_in t []) env ≡ entry (goal_of p) env
+begins_part t (part.Expr e) env = refl
+begins_part t (part.Target e) env = refl
+begins_part t (part.Stmt s) env = refl
+begins_part t (part.Again s) env = refl
 
 then_do_assoc : (o : Outcome) (one two : Go) → then_do (then_do o one) two ≡ then_do o (λ c st n. then_do (one c st n) two)
 then_do_assoc (Ends c st n) one two = refl
@@ -70,63 +70,72 @@ fewer_above x y k e h = omega (arith, e, h)
 no_fewer : (x : ℕ) → x + 0 ≤ x
 no_fewer x = omega arith
 
-module _ {S U : Type 0} (meaning : S → Meaning) (trees : Table → List U → List Tree) where
+module _ {S : Type 0} (meaning : S → Meaning) where
+  -- what a frame that waits does is the line at its place
+  pub given_then : (t : Table) (old : Config S) (f : NumberedFrame) (place : ℕ) → given (run_in meaning t old) (frame_in t (record f { place = place; phase = phases.Waiting })) ≡ then_at meaning old f place t (env_in meaning old t f)
+  given_then t old f place = ap (λ node. after node f.form f.node.0 place (holding_in t f.held) (env_in meaning old t f)) (node_same t old.units.items f.tree f.node)
+
+  -- what a frame begins with is the line at its place
+  pub begin_then : (t : Table) (old : Config S) (f : NumberedFrame) → begin (frame_in t f) (env_in meaning old t f) ≡ begins_at meaning old f f.place t (env_in meaning old t f)
+  begin_then t old f = ap (λ node. begin_form node f.form f.node.0 f.place (holding_in t f.held) (env_in meaning old t f)) (node_same t old.units.items f.tree f.node)
+
   -- a frame waits, and a part is due above it
-  pub keeps_enter : (t : Table) (old : Config S U) (f : NumberedFrame) (place : ℕ) (p : Part) (mid frames : List NumberedFrame) → old.state ≡ states.Running → mid ≡ old.frames ++ record f { place = place; phase = phases.Waiting } ∷ [] → frames ≡ mid ++ due_frame (record { tree = f.tree; scope = f.scope; this = f.this; world = f.world }) p ∷ []
-      → Keeps meaning trees t 1 (Eval (goal_of p) (env_of (run_in meaning trees t old) (frame_in t f)) (at_place (run_in meaning trees t old) (frame_in t f) place)) old (record old { frames = frames })
+  pub keeps_enter : (t : Table) (old : Config S) (f : NumberedFrame) (place : ℕ) (p : Part) (mid frames : List NumberedFrame) → old.state ≡ states.Running → mid ≡ old.frames ++ record f { place = place; phase = phases.Waiting } ∷ [] → frames ≡ mid ++ due_frame f p ∷ []
+      → Keeps meaning t 1 (Eval (goal_of p) (env_in meaning old t f) (then_at meaning old f place t (env_in meaning old t f))) old (record old { frames = frames })
   keeps_enter t old f place p mid frames er em ef =
-      let run = run_in meaning trees t old in
+      let run = run_in meaning t old in
       let w = record f { place = place; phase = phases.Waiting } in
-      let env = env_of run (frame_in t f) in
-      let eg : each (frame_in t) mid ≡ frames_in meaning trees t old ++ frame_in t w ∷ [] = ap (each (frame_in t)) em ∙ each_snoc (frame_in t) old.frames w in
-      keeps_framed meaning trees t 1 _ (Tick (entry (goal_of p) env)) old frames mid (due_frame (record { tree = f.tree; scope = f.scope; this = f.this; world = f.world }) p) er ef (ap Tick (begins_part p env))
-      (λ st n. enter_rest run (goal_of p) env (frames_in meaning trees t old) (frame_in t w) st n ∙ sym (ap (λ l. rest_with run (Tick (entry (goal_of p) env)) l st n) eg))
+      let env = env_in meaning old t f in
+      let eg : each (frame_in t) mid ≡ frames_in meaning t old ++ frame_in t w ∷ [] = ap (each (frame_in t)) em ∙ each_snoc (frame_in t) old.frames w in
+      keeps_framed meaning t 1 _ (Tick (entry (goal_of p) env)) old frames mid (due_frame f p) er ef (ap Tick (begins_part t p env))
+      (λ st n. ap (λ go. rest_with run (Eval (goal_of p) env go) (frames_in meaning t old) st n) (sym (given_then t old f place)) ∙ enter_rest run (goal_of p) env (frames_in meaning t old) (frame_in t w) st n ∙ sym (ap (λ l. rest_with run (Tick (entry (goal_of p) env)) l st n) eg))
       (λ st. one_due _)
 
   -- a part is due in the place of a frame
-  pub keeps_last : (t : Table) (old : Config S U) (at : Spot) (p : Part) (frames : List NumberedFrame) → old.state ≡ states.Running → frames ≡ old.frames ++ due_frame at p ∷ [] → Keeps meaning trees t 1 (Eval (goal_of p) (env_at t (run_in meaning trees t old) at) Ret) old (record old { frames = frames })
+  pub keeps_last : (t : Table) (old : Config S) (at : NumberedFrame) (p : Part) (frames : List NumberedFrame) → old.state ≡ states.Running → frames ≡ old.frames ++ due_frame at p ∷ [] → Keeps meaning t 1 (Eval (goal_of p) (env_in meaning old t at) Ret) old (record old { frames = frames })
   keeps_last t old at p frames er ef =
-      let run = run_in meaning trees t old in
-      let env = env_at t run at in
-      keeps_framed meaning trees t 1 _ (Tick (entry (goal_of p) env)) old frames old.frames (due_frame at p) er ef (ap Tick (begins_part p env))
-      (λ st n. last_rest run (goal_of p) env (frames_in meaning trees t old) st n)
+      let run = run_in meaning t old in
+      let env = env_in meaning old t at in
+      keeps_framed meaning t 1 _ (Tick (entry (goal_of p) env)) old frames old.frames (due_frame at p) er ef (ap Tick (begins_part t p env))
+      (λ st n. last_rest run (goal_of p) env (frames_in meaning t old) st n)
       (λ st. one_due _)
 
   -- a frame goes on at once
-  pub keeps_ready : (t : Table) (old : Config S U) (f : NumberedFrame) (frames : List NumberedFrame) → old.state ≡ states.Running → f.phase ≡ phases.Ready → frames ≡ old.frames ++ f ∷ [] → Keeps meaning trees t 0 (begin (frame_in t f) (env_of (run_in meaning trees t old) (frame_in t f))) old (record old { frames = frames })
+  pub keeps_ready : (t : Table) (old : Config S) (f : NumberedFrame) (frames : List NumberedFrame) → old.state ≡ states.Running → f.phase ≡ phases.Ready → frames ≡ old.frames ++ f ∷ [] → Keeps meaning t 0 (begins_at meaning old f f.place t (env_in meaning old t f)) old (record old { frames = frames })
   keeps_ready t old f frames er ep ef =
       let g = record f { phase = phases.Ready } in
       let eg : f ≡ g = ap (λ q. record f { phase = q }) ep in
-      keeps_framed meaning trees t 0 _ (begin (frame_in t g) (env_of (run_in meaning trees t old) (frame_in t g))) old frames old.frames g er (ef ∙ ap (λ q. old.frames ++ q ∷ []) eg) refl (λ st n. refl) (λ st. no_fewer _)
+      keeps_framed meaning t 0 _ _ old frames old.frames g er (ef ∙ ap (λ q. old.frames ++ q ∷ []) eg) (begin_then t old g) (λ st n. refl) (λ st. subst (λ a. suc (turns_over (run_in meaning t old) a (frames_in meaning t old) st) + 0 ≤ suc (turns_over (run_in meaning t old) (begins_at meaning old f f.place t (env_in meaning old t f)) (frames_in meaning t old) st)) (sym (begin_then t old f)) (no_fewer _))
 
   -- a step is due first
-  pub keeps_due : (t : Table) (old : Config S U) (f : NumberedFrame) (frames : List NumberedFrame) → old.state ≡ states.Running → f.phase ≡ phases.Due → frames ≡ old.frames ++ f ∷ [] → Keeps meaning trees t 1 (Tick (begin (frame_in t f) (env_of (run_in meaning trees t old) (frame_in t f)))) old (record old { frames = frames })
+  pub keeps_due : (t : Table) (old : Config S) (f : NumberedFrame) (frames : List NumberedFrame) → old.state ≡ states.Running → f.phase ≡ phases.Due → frames ≡ old.frames ++ f ∷ [] → Keeps meaning t 1 (Tick (begins_at meaning old f f.place t (env_in meaning old t f))) old (record old { frames = frames })
   keeps_due t old f frames er ep ef =
       let g = record f { phase = phases.Due } in
       let eg : f ≡ g = ap (λ q. record f { phase = q }) ep in
-      keeps_framed meaning trees t 1 _ (Tick (begin (frame_in t g) (env_of (run_in meaning trees t old) (frame_in t g)))) old frames old.frames g er (ef ∙ ap (λ q. old.frames ++ q ∷ []) eg) refl (λ st n. refl) (λ st. one_due _)
+      keeps_framed meaning t 1 _ _ old frames old.frames g er (ef ∙ ap (λ q. old.frames ++ q ∷ []) eg) (ap Tick (begin_then t old g)) (λ st n. refl) (λ st. one_due _)
 
   -- a frame waits for what is done next
-  pub opens_waiting : (t : Table) (old : Config S U) (f : NumberedFrame) (place : ℕ) (frames : List NumberedFrame) → frames ≡ old.frames ++ record f { place = place; phase = phases.Waiting } ∷ [] → Opens meaning trees t (at_place (run_in meaning trees t old) (frame_in t f) place) old (record old { frames = frames })
+  pub opens_waiting : (t : Table) (old : Config S) (f : NumberedFrame) (place : ℕ) (frames : List NumberedFrame) → frames ≡ old.frames ++ record f { place = place; phase = phases.Waiting } ∷ [] → Opens meaning t (then_at meaning old f place t (env_in meaning old t f)) old (record old { frames = frames })
   opens_waiting t old f place frames ef = record {
     by = λ act later k.
-        let run = run_in meaning trees t old in
+        let run = run_in meaning t old in
         let w = record f { place = place; phase = phases.Waiting } in
-        let go = at_place run (frame_in t f) place in
-        let eg : each (frame_in t) frames ≡ frames_in meaning trees t old ++ frame_in t w ∷ [] = ap (each (frame_in t)) ef ∙ each_snoc (frame_in t) old.frames w in
+        let go = then_at meaning old f place t (env_in meaning old t f) in
+        let eg : each (frame_in t) frames ≡ frames_in meaning t old ++ frame_in t w ∷ [] = ap (each (frame_in t)) ef ∙ each_snoc (frame_in t) old.frames w in
         let s = k.stays in
         record {
           stays = record { units = s.units; global = s.global; world = s.world; owner = s.owner; texts = s.texts; objects = s.objects; made = s.made; own = s.own; around = s.around; narrows = s.narrows };
           left = k.left;
           alive = k.alive;
           kept = λ v a h n.
-              let st = state_in meaning trees t v old in
-              ap (seen (tells meaning trees old)) (sub_rest run act (frames_in meaning trees t old) (frame_in t w) st n ∙ sym (ap (λ l. rest_with run act l st n) eg))
+              let st = state_in meaning t v old in
+              ap (seen (tells meaning old)) (ap (λ q. rest_with run (Sub act q) (frames_in meaning t old) st n) (sym (given_then t old f place)) ∙ sub_rest run act (frames_in meaning t old) (frame_in t w) st n ∙ sym (ap (λ l. rest_with run act l st n) eg))
               ∙ k.kept v a h n;
           falls = λ v a h.
-              let st = state_in meaning trees t v old in
-              let e : turns_over run (Sub act go) (frames_in meaning trees t old) st ≡ suc (turns_over run act (each (frame_in t) frames) st) =
-              sub_turns run act (frames_in meaning trees t old) (frame_in t w) st
+              let st = state_in meaning t v old in
+              let e : turns_over run (Sub act go) (frames_in meaning t old) st ≡ suc (turns_over run act (each (frame_in t) frames) st) =
+              ap (λ q. turns_over run (Sub act q) (frames_in meaning t old) st) (sym (given_then t old f place))
+              ∙ sub_turns run act (frames_in meaning t old) (frame_in t w) st
               ∙ ap (λ l. suc (turns_over run act l st)) (sym eg) in
               fewer_above _ _ _ e (k.falls v a h);
         };

@@ -1,9 +1,9 @@
 -- What is left to do of frames with one on top.
-use Rattle.std.proofs.Common.{◌≡◌, ℕ, List, [], ◌∷◌, ◌++◌, Some, refl, ap, ◌∙◌}
+use Rattle.std.proofs.Common.{◌≡◌, ℕ, List, [], ◌∷◌, ◌++◌, refl, ap, ◌∙◌}
 use Rattle.std.specs.Prelude.{map as each}
-use Rattle.wjs_meaning.specs.Deeds.{St, Completion, Act, interp, then_do}
-use Rattle.wjs_meaning.specs.Programs.{eval, Ending, Done, run_next}
-use Rattle.wjs_model.specs.Frames.{last, front}
+use Rattle.wjs_meaning.specs.Deeds.{St, Completion, interp, then_do}
+use Rattle.wjs_meaning.specs.Programs.{eval, Done, run_next}
+use Rattle.wjs_model.specs.Frames.{last}
 use Rattle.wjs_model.proofs.Tops.{last-snoc, front-snoc}
 use Rattle.wjs_model.specs.Contents.{Frame, Run}
 use Rattle.wjs_model.specs.Rest.{Go, Count, under, turns_under, turns_act, given, act_of, rest_top, rest_of, turns_at, turns_top, turns_of}
@@ -29,3 +29,7 @@ rest_of_snoc run fs f st n =
 
 pub turns_of_snoc : (run : Run) (fs : List Frame) (f : Frame) (st : St) → turns_of run (fs ++ f ∷ []) st ≡ turns_at run fs f f.moment st
 turns_of_snoc run fs f st = ap (λ l. turns_top run l (last (fs ++ f ∷ [])) st) (front-snoc fs f) ∙ ap (λ o. turns_top run fs o st) (last-snoc fs f)
+
+-- what was put on top, by what it is
+pub put_on : {A : Type 0} (all xs : List A) (made x : A) → all ≡ xs ++ made ∷ [] → made ≡ x → all ≡ xs ++ x ∷ []
+put_on all xs made x e f = e ∙ ap (λ y. xs ++ y ∷ []) f

@@ -1,14 +1,15 @@
 -- The frame on top is taken off.
-use Rattle.std.proofs.Common.{◌≡◌, ℕ, zero, suc, ◌+◌, ◌-◌, ◌<◌, ◌≤◌, List, [], ◌∷◌, ◌++◌, Bool, true, false, Option, None, Some, refl, sym, ap, ◌∙◌, subst, arith}
-use Rattle.std.specs.Prelude.{map as each, option_map, is_some, unwrap_or}
+use Rattle.std.proofs.Common.{◌≡◌, ℕ, suc, ◌+◌, ◌<◌, ◌≤◌, List, [], ◌∷◌, ◌++◌, true, false, Option, None, Some, refl, sym, ap, ◌∙◌, subst, arith}
+use Rattle.std.specs.Prelude.{map as each, option_map, is_some, unwrap_or, Result, Ok, Err, OnOk}
+use Rattle.std.proofs.lemmas.List.Elements.{All-nil, All-same}
+use Rattle.wjs_base.specs.declared.ids.OutOfMemory.{OutOfMemory}
 use Rattle.wjs_base.specs.Text.{Table}
 use Rattle.wjs_store.specs.State.{State}
 use Rattle.wjs_store.specs.Meaning.{Meaning, PlainAct, PlainReply}
 use Rattle.wjs_content.specs.Names.{content}
 use Rattle.wjs_content.specs.Objects.{Arena}
 use Rattle.wjs_content.specs.Worlds.{told_by}
-use Rattle.wjs_meaning.specs.Trees.{Tree}
-use Rattle.wjs_meaning.specs.Deeds.{St, Act, Tick, Normal}
+use Rattle.wjs_meaning.specs.Deeds.{St, Env, Act, Completion as Said, Normal}
 use Rattle.wjs_meaning.specs.Programs.{Ending, Done, StepsSpent, run_next}
 use Rattle.wjs_model.specs.declared.config.Config.{Config}
 use Rattle.wjs_model.specs.declared.config.State.TheVariants as states
@@ -19,13 +20,18 @@ use Rattle.wjs_model.specs.declared.frame.Completion.TheVariants as completions
 use Rattle.wjs_model.specs.declared.frame.Frame.{Frame as NumberedFrame}
 use Rattle.wjs_model.specs.Frames.{last, front}
 use Rattle.wjs_model.proofs.Tops.{last-snoc}
-use Rattle.wjs_model.specs.Contents.{Frame, Run, Moment, Due, env_of, frame_in, moment_in, completion_in}
-use Rattle.wjs_model.specs.Rest.{given, begin, act_at, rest_of, rest_top, turns_of, turns_over, turns_at}
-use Rattle.wjs_model.specs.Configurations.{seen, tells, run_in, state_in, frames_in, rest, turns, rest_by, turns_by, Stays, Turned, quietly, by_step, stopped}
-use Rattle.wjs_moves.specs.Keeping.{rest_with, Keeps, Leads}
-use Rattle.wjs_moves.specs.Taking.{is_due}
+use Rattle.wjs_model.specs.Contents.{Frame, Run, Moment, frame_in, moment_in, completion_in}
+use Rattle.wjs_model.specs.Rest.{act_at, rest_of, rest_top, turns_of, turns_over, turns_at}
+use Rattle.wjs_model.specs.Configurations.{seen, tells, run_in, state_in, frames_in, rest_by, turns_by, Stays, Turned, quietly, by_step, stopped}
+use Rattle.wjs_moves.specs.Keeping.{rest_with}
+use Rattle.wjs_moves.specs.Following.{Follows}
+use Rattle.wjs_moves.specs.Parts.{env_in, then_at, begins_at}
+use Rattle.wjs_moves.specs.Taking.{is_due, Turns, TakesOff}
 use Rattle.wjs_moves.proofs.Frames.{each_snoc, rest_of_snoc, turns_of_snoc}
-use Rattle.wjs_moves.proofs.Keeping.{grows_same, stays_framed}
+use Rattle.wjs_model.specs.Soundness.{HasPhase, HasCompletion, IsThere, Base}
+use Rattle.wjs_moves.proofs.Sounding.{there_framed, base_framed, there_pop}
+use Rattle.wjs_moves.proofs.Entering.{given_then, begin_then}
+use Rattle.wjs_moves.proofs.Keeping.{stays_framed}
 
 falls_below : (x y k : ℕ) → k ≡ y → x + 1 ≤ y → x < k
 falls_below x y k e h = omega (arith, e, h)
@@ -71,105 +77,162 @@ rest_due : (t : Table) (run : Run) (fs : List Frame) (o : Option NumberedFrame) 
 rest_due t run fs None st h = absurd (cc)
 rest_due t run fs (Some f) st h = due_by t run (frame_in t f) fs st f.phase refl h
 
+-- where no step is due the frame's own turn is one more
+turns_not_due : (t : Table) (run : Run) (fs : List Frame) (f : Frame) (p : Phase) (st : St) → is_due (Some p) ≡ false → turns_at run fs f (moment_in t p) st ≡ suc (turns_over run (act_at run f (moment_in t p)) fs st)
+turns_not_due t run fs f phases.Due st h = absurd (cc)
+turns_not_due t run fs f phases.Ready st h = refl
+turns_not_due t run fs f phases.Waiting st h = refl
+turns_not_due t run fs f (phases.Given c) st h = refl
+
+on_ok : {A B : Type 0} (r : Result (Unit {0}) OutOfMemory) → (A → B) → OnOk r A → OnOk r B
+on_ok (Ok x) f h = f h
+on_ok (Err x) f h = tt
+
 -- a store that does not tell its actions has told none
-seen_spent : (t : Table) (told : Option (List (PlainAct × PlainReply))) (e : Ending) (full : State content) (arena : Arena) (out : List ℕ)
+pub seen_spent : (t : Table) (told : Option (List (PlainAct × PlainReply))) (e : Ending) (full : State content) (arena : Arena) (out : List ℕ)
     → seen (is_some told) (e, record { full = full; arena = arena; out = out; done = unwrap_or (told_by t told) [] }) ≡ (e, record { full = full; arena = arena; out = out; done = unwrap_or (told_by t told) [] })
 seen_spent t None e full arena out = refl
 seen_spent t (Some told) e full arena out = refl
 
-module _ {S U : Type 0} (meaning : S → Meaning) (trees : Table → List U → List Tree) where
-  stays_after : (old later : Config S U) (frames : List NumberedFrame) (left : ℕ) → Stays meaning trees (record old { frames = frames; left = left }) later → Stays meaning trees old later
+module _ {S : Type 0} (meaning : S → Meaning) where
+  stays_after : (old later : Config S) (frames : List NumberedFrame) (left : ℕ) → Stays meaning (record old { frames = frames; left = left }) later → Stays meaning old later
   stays_after old later frames left s = record { units = s.units; global = s.global; world = s.world; owner = s.owner; texts = s.texts; objects = s.objects; made = s.made; own = s.own; around = s.around; narrows = s.narrows }
 
   -- what was left with the frame on top
-  rest_taken : (t : Table) (old : Config S U) (fs : List NumberedFrame) (f : NumberedFrame) (m : Moment) (st : St) (n : ℕ) → old.state ≡ states.Running → old.frames ≡ fs ++ f ∷ [] → moment_in t f.phase ≡ m → rest_by t old.state (run_in meaning trees t old) (frames_in meaning trees t old) st n ≡ rest_with (run_in meaning trees t old) (act_at (run_in meaning trees t old) (frame_in t f) m) (each (frame_in t) fs) st n
+  rest_taken : (t : Table) (old : Config S) (fs : List NumberedFrame) (f : NumberedFrame) (m : Moment) (st : St) (n : ℕ) → old.state ≡ states.Running → old.frames ≡ fs ++ f ∷ [] → moment_in t f.phase ≡ m → rest_by t old.state (run_in meaning t old) (frames_in meaning t old) st n ≡ rest_with (run_in meaning t old) (act_at (run_in meaning t old) (frame_in t f) m) (each (frame_in t) fs) st n
   rest_taken t old fs f m st n er eo em =
-      let run = run_in meaning trees t old in
-      ap (λ s. rest_by t s run (frames_in meaning trees t old) st n) er
+      let run = run_in meaning t old in
+      ap (λ s. rest_by t s run (frames_in meaning t old) st n) er
       ∙ ap (λ l. rest_of run l st n) (ap (each (frame_in t)) eo ∙ each_snoc (frame_in t) fs f)
       ∙ rest_of_snoc run (each (frame_in t) fs) (frame_in t f) st n
       ∙ ap (λ q. rest_with run (act_at run (frame_in t f) q) (each (frame_in t) fs) st n) em
 
-  turns_taken : (t : Table) (old : Config S U) (fs : List NumberedFrame) (f : NumberedFrame) (m : Moment) (st : St) → old.state ≡ states.Running → old.frames ≡ fs ++ f ∷ [] → moment_in t f.phase ≡ m → turns_by old.state (run_in meaning trees t old) (frames_in meaning trees t old) st ≡ turns_at (run_in meaning trees t old) (each (frame_in t) fs) (frame_in t f) m st
+  turns_taken : (t : Table) (old : Config S) (fs : List NumberedFrame) (f : NumberedFrame) (m : Moment) (st : St) → old.state ≡ states.Running → old.frames ≡ fs ++ f ∷ [] → moment_in t f.phase ≡ m → turns_by old.state (run_in meaning t old) (frames_in meaning t old) st ≡ turns_at (run_in meaning t old) (each (frame_in t) fs) (frame_in t f) m st
   turns_taken t old fs f m st er eo em =
-      let run = run_in meaning trees t old in
-      ap (λ s. turns_by s run (frames_in meaning trees t old) st) er
+      let run = run_in meaning t old in
+      ap (λ s. turns_by s run (frames_in meaning t old) st) er
       ∙ ap (λ l. turns_of run l st) (ap (each (frame_in t)) eo ∙ each_snoc (frame_in t) fs f)
       ∙ turns_of_snoc run (each (frame_in t) fs) (frame_in t f) st
       ∙ ap (λ q. turns_at run (each (frame_in t) fs) (frame_in t f) q st) em
 
+  taken_base : (old : Config S) (fs : List NumberedFrame) (f : NumberedFrame) (left : ℕ) → Base meaning old → old.frames ≡ fs ++ f ∷ [] → Base meaning (record old { frames = fs; left = left })
+  taken_base old fs f left b eo = base_framed meaning old fs left old.state b (there_pop meaning old fs f eo b).0
+
+  taken_there : (old : Config S) (fs : List NumberedFrame) (f : NumberedFrame) (left : ℕ) → Base meaning old → old.frames ≡ fs ++ f ∷ [] → IsThere meaning (record old { frames = fs; left = left }) f
+  taken_there old fs f left b eo = there_framed meaning old fs left old.state f (there_pop meaning old fs f eo b).1
+
   -- a frame goes on with no step
-  leads_now : (old : Config S U) (fs : List NumberedFrame) (f : NumberedFrame) (act : Table → Act) (m : Table → Moment) → old.state ≡ states.Running → old.frames ≡ fs ++ f ∷ [] → ((t : Table) → moment_in t f.phase ≡ m t) → ((t : Table) → act_at (run_in meaning trees t old) (frame_in t f) (m t) ≡ act t)
-      → ((t : Table) (st : St) → turns_at (run_in meaning trees t old) (each (frame_in t) fs) (frame_in t f) (m t) st ≡ suc (turns_over (run_in meaning trees t old) (act_at (run_in meaning trees t old) (frame_in t f) (m t)) (each (frame_in t) fs) st))
-      → Leads meaning trees act old (record old { frames = fs })
-  leads_now old fs f act m er eo em ea et = record {
-    by = λ later k.
-        let k0 = k later.heap.texts (grows_same later.heap.texts) in
-        quietly (record {
-          stays = stays_after old later fs old.left k0.stays;
-          left = k0.left;
-          kept = λ t g v a h n.
-              let st = state_in meaning trees t v old in
-              let run = run_in meaning trees t old in
-              ap (seen (tells meaning trees old)) (rest_taken t old fs f (m t) st n er eo (em t) ∙ ap (λ d. rest_with run d (each (frame_in t) fs) st n) (ea t))
-              ∙ (k t g).kept v a h n;
-          falls = λ t g v a h.
-              let st = state_in meaning trees t v old in
-              let run = run_in meaning trees t old in
-              falls_below _ _ _ (turns_taken t old fs f (m t) st er eo (em t) ∙ et t st ∙ ap (λ d. suc (turns_over run d (each (frame_in t) fs) st)) (ea t)) ((k t g).falls v a h);
-          alive = k0.alive;
-        });
+  quiet_turn : (old : Config S) (fs : List NumberedFrame) (f : NumberedFrame) (act : Table → Act) (p : Phase) → old.state ≡ states.Running → old.frames ≡ fs ++ f ∷ [] → f.phase ≡ p → is_due (Some p) ≡ false → ((t : Table) → act_at (run_in meaning t old) (frame_in t f) (moment_in t p) ≡ act t)
+      → (later : Config S) → Follows meaning (act later.heap.texts) (record old { frames = fs }) later → Turns meaning old later
+  quiet_turn old fs f act p er eo ep hp ea later k = record {
+    turned = quietly (record {
+      stays = stays_after old later fs old.left k.keeps.stays;
+      left = k.keeps.left;
+      kept = λ v a h n.
+          let t = later.heap.texts in
+          let run = run_in meaning t old in
+          ap (seen (tells meaning old)) (rest_taken t old fs f (moment_in t p) (state_in meaning t v old) n er eo (ap (moment_in t) ep) ∙ ap (λ d. rest_with run d (each (frame_in t) fs) (state_in meaning t v old) n) (ea t))
+          ∙ k.keeps.kept v a h n;
+      falls = λ v a h.
+          let t = later.heap.texts in
+          let run = run_in meaning t old in
+          let st = state_in meaning t v old in
+          falls_below _ _ _ (turns_taken t old fs f (moment_in t p) st er eo (ap (moment_in t) ep) ∙ turns_not_due t run (each (frame_in t) fs) (frame_in t f) p st hp ∙ ap (λ d. suc (turns_over run d (each (frame_in t) fs) st)) (ea t)) (k.keeps.falls v a h);
+      alive = k.keeps.alive;
+    });
+    sound = k.sound;
   }
 
-  pub leads_ready : (old : Config S U) (fs : List NumberedFrame) (f : NumberedFrame) → old.state ≡ states.Running → old.frames ≡ fs ++ f ∷ [] → f.phase ≡ phases.Ready → Leads meaning trees (λ t. begin (frame_in t f) (env_of (run_in meaning trees t old) (frame_in t f))) old (record old { frames = fs })
-  leads_ready old fs f er eo ep = leads_now old fs f _ (λ t. moment_in t phases.Ready) er eo (λ t. ap (moment_in t) ep) (λ t. refl) (λ t st. refl)
+  takes_now : (old : Config S) (fs : List NumberedFrame) (f : NumberedFrame) (line : Table → Env → Act) (p : Phase) → old.state ≡ states.Running → Base meaning old → old.frames ≡ fs ++ f ∷ [] → f.phase ≡ p → is_due (Some p) ≡ false → ((t : Table) → act_at (run_in meaning t old) (frame_in t f) (moment_in t p) ≡ line t (env_in meaning old t f))
+      → TakesOff meaning f line old (record old { frames = fs })
+  takes_now old fs f line p er b eo ep hp ea = record {
+    taken = ap last eo ∙ last-snoc fs f;
+    running = er;
+    base = taken_base old fs f old.left b eo;
+    there = taken_there old fs f old.left b eo;
+    by = λ later r k. on_ok r (λ h. quiet_turn old fs f (λ t. line t (env_in meaning old t f)) p er eo ep hp ea later h) k;
+  }
 
-  pub leads_given : (old : Config S U) (fs : List NumberedFrame) (f : NumberedFrame) (c : Completion) → old.state ≡ states.Running → old.frames ≡ fs ++ f ∷ [] → f.phase ≡ phases.Given c → Leads meaning trees (λ t. given (run_in meaning trees t old) (frame_in t f) (completion_in t c)) old (record old { frames = fs })
-  leads_given old fs f c er eo ep = leads_now old fs f _ (λ t. moment_in t (phases.Given c)) er eo (λ t. ap (moment_in t) ep) (λ t. refl) (λ t st. refl)
+  pub takes_ready : (old : Config S) (fs : List NumberedFrame) (f : NumberedFrame) → old.state ≡ states.Running → Base meaning old → old.frames ≡ fs ++ f ∷ [] → f.phase ≡ phases.Ready → TakesOff meaning f (begins_at meaning (record old { frames = fs }) f f.place) old (record old { frames = fs })
+  takes_ready old fs f er b eo ep = takes_now old fs f _ phases.Ready er b eo ep refl (λ t. begin_then meaning t old f)
 
-  pub leads_waiting : (old : Config S U) (fs : List NumberedFrame) (f : NumberedFrame) → old.state ≡ states.Running → old.frames ≡ fs ++ f ∷ [] → f.phase ≡ phases.Waiting → Leads meaning trees (λ t. given (run_in meaning trees t old) (frame_in t f) (completion_in t completions.Normal)) old (record old { frames = fs })
-  leads_waiting old fs f er eo ep = leads_now old fs f _ (λ t. moment_in t phases.Waiting) er eo (λ t. ap (moment_in t) ep) (λ t. refl) (λ t st. refl)
+  pub takes_given : (old : Config S) (fs : List NumberedFrame) (f : NumberedFrame) (c : Completion) → old.state ≡ states.Running → Base meaning old → old.frames ≡ fs ++ f ∷ [] → f.phase ≡ phases.Given c → TakesOff meaning f (λ t env. then_at meaning (record old { frames = fs }) f f.place t env (completion_in t c)) old (record old { frames = fs })
+  takes_given old fs f c er b eo ep = takes_now old fs f _ (phases.Given c) er b eo ep refl (λ t. ap (λ (go : Said → Act). go (completion_in t c)) (given_then meaning t old f f.place))
+
+  -- the completion that it was given is there
+  pub has_given : (old : Config S) (fs : List NumberedFrame) (f : NumberedFrame) (c : Completion) → Base meaning old → old.frames ≡ fs ++ f ∷ [] → f.phase ≡ phases.Given c → HasCompletion (record old { frames = fs }) c
+  has_given old fs f c b eo ep = subst (λ p. HasPhase (record old { frames = fs }) p) ep (there_pop meaning old fs f eo b).1.phase
+
+  pub takes_waiting : (old : Config S) (fs : List NumberedFrame) (f : NumberedFrame) → old.state ≡ states.Running → Base meaning old → old.frames ≡ fs ++ f ∷ [] → f.phase ≡ phases.Waiting → TakesOff meaning f (λ t env. then_at meaning (record old { frames = fs }) f f.place t env (completion_in t completions.Normal)) old (record old { frames = fs })
+  takes_waiting old fs f er b eo ep = takes_now old fs f _ phases.Waiting er b eo ep refl (λ t. ap (λ (go : Said → Act). go Normal) (given_then meaning t old f f.place))
 
   -- a frame goes on with its step
-  pub leads_due : (old : Config S U) (fs : List NumberedFrame) (f : NumberedFrame) (left : ℕ) → old.state ≡ states.Running → old.frames ≡ fs ++ f ∷ [] → f.phase ≡ phases.Due → old.left ≡ suc left → Leads meaning trees (λ t. begin (frame_in t f) (env_of (run_in meaning trees t old) (frame_in t f))) old (record old { frames = fs; left = left })
-  leads_due old fs f left er eo ep el = record {
-    by = λ later k.
-        let k0 = k later.heap.texts (grows_same later.heap.texts) in
-        by_step (record {
-          stays = stays_after old later fs left k0.stays;
-          left = el ∙ ap suc (sym k0.left);
-          kept = λ t g v a h n. ap (seen (tells meaning trees old)) (rest_taken t old fs f (moment_in t phases.Due) (state_in meaning trees t v old) (suc n) er eo (ap (moment_in t) ep)) ∙ (k t g).kept v a h n;
-          alive = k0.alive;
-        });
+  due_turn : (old : Config S) (fs : List NumberedFrame) (f : NumberedFrame) (left : ℕ) → old.state ≡ states.Running → old.frames ≡ fs ++ f ∷ [] → f.phase ≡ phases.Due → old.left ≡ suc left
+      → (later : Config S) → Follows meaning (begins_at meaning old f f.place later.heap.texts (env_in meaning old later.heap.texts f)) (record old { frames = fs; left = left }) later → Turns meaning old later
+  due_turn old fs f left er eo ep el later k = record {
+    turned = by_step (record {
+      stays = stays_after old later fs left k.keeps.stays;
+      left = el ∙ ap suc (sym k.keeps.left);
+      kept = λ v a h n.
+          let t = later.heap.texts in
+          let st = state_in meaning t v old in
+          ap (seen (tells meaning old)) (rest_taken t old fs f (moment_in t phases.Due) st (suc n) er eo (ap (moment_in t) ep) ∙ ap (λ d. rest_with (run_in meaning t old) d (each (frame_in t) fs) st n) (begin_then meaning t old f))
+          ∙ k.keeps.kept v a h n;
+      alive = k.keeps.alive;
+    });
+    sound = k.sound;
+  }
+
+  pub takes_due : (old : Config S) (fs : List NumberedFrame) (f : NumberedFrame) (left : ℕ) → old.state ≡ states.Running → Base meaning old → old.frames ≡ fs ++ f ∷ [] → f.phase ≡ phases.Due → old.left ≡ suc left → TakesOff meaning f (begins_at meaning (record old { frames = fs; left = left }) f f.place) old (record old { frames = fs; left = left })
+  takes_due old fs f left er b eo ep el = record {
+    taken = ap last eo ∙ last-snoc fs f;
+    running = er;
+    base = taken_base old fs f left b eo;
+    there = taken_there old fs f left b eo;
+    by = λ later r k. on_ok r (λ h. due_turn old fs f left er eo ep el later h) k;
   }
 
   -- a step is due and none is left
-  pub stops : (old : Config S U) → old.state ≡ states.Running → old.left ≡ 0 → is_due (option_map (λ (q : NumberedFrame). q.phase) (last old.frames)) ≡ true → Turned meaning trees old (record old { state = states.StepsSpent })
-  stops old er el h = stopped (record {
+  stops_turned : (old : Config S) → old.state ≡ states.Running → old.left ≡ 0 → is_due (option_map (λ (q : NumberedFrame). q.phase) (last old.frames)) ≡ true → Turned meaning old (record old { state = states.StepsSpent })
+  stops_turned old er el h = stopped (record {
     left = el;
     same = refl;
-    due = λ t g v.
-        let st = state_in meaning trees t v old in
-        let run = run_in meaning trees t old in
-        ap (seen (tells meaning trees old)) (
-        ap (λ s. rest_by t s run (frames_in meaning trees t old) st 0) er
-        ∙ ap (λ o. run_next (rest_top run (front (frames_in meaning trees t old)) o st 0) (λ st' n'. (Done, st'))) (last_each (frame_in t) old.frames)
-        ∙ rest_due t run (front (frames_in meaning trees t old)) (last old.frames) st h)
+    due = λ v.
+        let t = old.heap.texts in
+        let st = state_in meaning t v old in
+        let run = run_in meaning t old in
+        ap (seen (tells meaning old)) (
+        ap (λ s. rest_by t s run (frames_in meaning t old) st 0) er
+        ∙ ap (λ o. run_next (rest_top run (front (frames_in meaning t old)) o st 0) (λ st' n'. (Done, st'))) (last_each (frame_in t) old.frames)
+        ∙ rest_due t run (front (frames_in meaning t old)) (last old.frames) st h)
         ∙ seen_spent t (meaning old.heap.store).told StepsSpent st.full st.arena st.out;
   })
 
-  rest_empty : (t : Table) (old : Config S U) (st : St) (n : ℕ) → old.state ≡ states.Running → old.frames ≡ [] → rest_by t old.state (run_in meaning trees t old) (frames_in meaning trees t old) st n ≡ (Done, st)
-  rest_empty t old st n er eo = ap (λ s. rest_by t s (run_in meaning trees t old) (frames_in meaning trees t old) st n) er ∙ ap (λ l. rest_of (run_in meaning trees t old) (each (frame_in t) l) st n) eo
+  pub stops : (old : Config S) → old.state ≡ states.Running → Base meaning old → old.left ≡ 0 → is_due (option_map (λ (q : NumberedFrame). q.phase) (last old.frames)) ≡ true → Turns meaning old (record old { state = states.StepsSpent })
+  stops old er b el h = record {
+    turned = stops_turned old er el h;
+    sound = record { base = base_framed meaning old old.frames old.left states.StepsSpent b b.frames; thrown = tt; running = λ e. absurd (cc) };
+  }
 
-  turns_empty : (t : Table) (old : Config S U) (st : St) → old.state ≡ states.Running → old.frames ≡ [] → turns_by old.state (run_in meaning trees t old) (frames_in meaning trees t old) st ≡ 1
-  turns_empty t old st er eo = ap (λ s. turns_by s (run_in meaning trees t old) (frames_in meaning trees t old) st) er ∙ ap (λ l. turns_of (run_in meaning trees t old) (each (frame_in t) l) st) eo
+  rest_empty : (t : Table) (old : Config S) (st : St) (n : ℕ) → old.state ≡ states.Running → old.frames ≡ [] → rest_by t old.state (run_in meaning t old) (frames_in meaning t old) st n ≡ (Done, st)
+  rest_empty t old st n er eo = ap (λ s. rest_by t s (run_in meaning t old) (frames_in meaning t old) st n) er ∙ ap (λ l. rest_of (run_in meaning t old) (each (frame_in t) l) st n) eo
+
+  turns_empty : (t : Table) (old : Config S) (st : St) → old.state ≡ states.Running → old.frames ≡ [] → turns_by old.state (run_in meaning t old) (frames_in meaning t old) st ≡ 1
+  turns_empty t old st er eo = ap (λ s. turns_by s (run_in meaning t old) (frames_in meaning t old) st) er ∙ ap (λ l. turns_of (run_in meaning t old) (each (frame_in t) l) st) eo
 
   -- no frame is left
-  pub ends_empty : (old : Config S U) (frames : List NumberedFrame) → old.state ≡ states.Running → old.frames ≡ [] → Turned meaning trees old (record old { frames = frames; state = states.Done })
-  ends_empty old frames er eo = quietly (record {
-    stays = stays_framed meaning trees old frames states.Done;
-    left = refl;
-    kept = λ t g v a h n. ap (seen (tells meaning trees old)) (rest_empty t old (state_in meaning trees t v old) n er eo);
-    falls = λ t g v a h. falls_below 0 1 _ (turns_empty t old (state_in meaning trees t v old) er eo) (omega arith);
-    alive = λ e. cc;
-  })
+  pub ends_empty : (old : Config S) (frames : List NumberedFrame) → old.state ≡ states.Running → Base meaning old → old.frames ≡ [] → frames ≡ [] → Turns meaning old (record old { frames = frames; state = states.Done })
+  ends_empty old frames er b eo ef = record {
+    turned = quietly (record {
+      stays = stays_framed meaning old frames states.Done;
+      left = refl;
+      kept = λ v a h n. ap (seen (tells meaning old)) (rest_empty old.heap.texts old (state_in meaning old.heap.texts v old) n er eo);
+      falls = λ v a h. falls_below 0 1 _ (turns_empty old.heap.texts old (state_in meaning old.heap.texts v old) er eo) (omega arith);
+      alive = λ e. cc;
+    });
+    sound = record {
+      base = base_framed meaning old frames old.left states.Done b (All-same (IsThere meaning old) frames [] ef (All-nil (IsThere meaning old)));
+      thrown = tt;
+      running = λ e. absurd (cc);
+    };
+  }

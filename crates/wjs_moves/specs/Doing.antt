@@ -1,21 +1,25 @@
 -- Deeds that were done, before what follows them.
-use Rattle.std.specs.Prelude.{ℕ, List, Option}
-use Rattle.wjs_base.specs.declared.ids.ObjId.{ObjId}
-use Rattle.wjs_base.specs.declared.ids.WorldId.{WorldId}
+use Rattle.std.specs.Prelude.{Result, OnOk}
+use Rattle.wjs_base.specs.declared.ids.OutOfMemory.{OutOfMemory}
 use Rattle.wjs_base.specs.Text.{Table}
 use Rattle.wjs_store.specs.Meaning.{Meaning}
-use Rattle.wjs_meaning.specs.Trees.{Tree}
-use Rattle.wjs_content.specs.Values.{Text, Value}
-use Rattle.wjs_props.specs.Properties as plans
-use Rattle.wjs_meaning.specs.Deeds.{Act, Do, Look, carry_out}
+use Rattle.wjs_content.specs.Values.{Value}
+use Rattle.wjs_meaning.specs.Deeds.{Act, Ret, Throws}
 use Rattle.wjs_model.specs.declared.config.Config.{Config}
-use Rattle.wjs_moves.specs.Keeping.{Keeps}
+use Rattle.wjs_moves.specs.Following.{Follows}
 
-module _ {S U : Type 0} (meaning : S → Meaning) (trees : Table → List U → List Tree) where
-  -- what is kept of what follows their answer is kept of the deeds with what follows them
-  pub record Does {A : Type 0} (t : Table) (deeds : (A → Act) → Act) (answer : A) (old mid : Config S U) : Type 0 where
-    pub by : (fewer : ℕ) (go : A → Act) (later : Config S U) → Keeps meaning trees t fewer (go answer) mid later → Keeps meaning trees t fewer (deeds go) old later
+module _ {S : Type 0} (meaning : S → Meaning) where
+  -- what is followed of what comes after their answer is followed of the deeds with what comes after them
+  pub record Does {A : Type 0} (deeds : Table → (A → Act) → Act) (answer : Table → A) (old mid : Config S) : Type 0 where
+    pub by : (go : A → Act) (later : Config S) (r : Result (Unit {0}) OutOfMemory) → OnOk r (Follows meaning (go (answer later.heap.texts)) mid later) → OnOk r (Follows meaning (deeds later.heap.texts go) old later)
 
--- [[Get]] of an object in a world
-abbrev pub get_in : WorldId → ObjId → Text → (Option Value → Act) → Act
-get_in w o name go = Do Look (λ arena. carry_out (plans.get arena o name) w go)
+  -- the deeds threw: what is followed of the throw is followed of the deeds, whatever comes after them
+  pub record Fails {A : Type 0} (deeds : Table → (A → Act) → Act) (error : Table → Value) (old mid : Config S) : Type 0 where
+    pub by : (go : A → Act) (later : Config S) (r : Result (Unit {0}) OutOfMemory) → OnOk r (Follows meaning (Ret (Throws (error later.heap.texts))) mid later) → OnOk r (Follows meaning (deeds later.heap.texts go) old later)
+
+  -- the same of deeds that give no answer, but go on
+  pub record DoesFirst (deeds : Table → Act → Act) (old mid : Config S) : Type 0 where
+    pub by : (act : Act) (later : Config S) (r : Result (Unit {0}) OutOfMemory) → OnOk r (Follows meaning act mid later) → OnOk r (Follows meaning (deeds later.heap.texts act) old later)
+
+  pub record FailsFirst (deeds : Table → Act → Act) (error : Table → Value) (old mid : Config S) : Type 0 where
+    pub by : (act : Act) (later : Config S) (r : Result (Unit {0}) OutOfMemory) → OnOk r (Follows meaning (Ret (Throws (error later.heap.texts))) mid later) → OnOk r (Follows meaning (deeds later.heap.texts act) old later)

@@ -1,5 +1,9 @@
 pub mod Parts
 pub mod Keeping
+pub mod Following
 pub mod Taking
 pub mod Doing
-pub mod Holding
+pub mod Nesting
+pub mod Shortening
+pub mod Growing
+pub mod Reaching

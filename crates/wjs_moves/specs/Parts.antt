@@ -1,13 +1,13 @@
 -- The parts of a node that are entered, and where.
-use Rattle.std.specs.Prelude.{◌≡◌, ℕ, List, [], map as each}
+use Rattle.std.specs.Prelude.{ℕ, List, [], slice_get, unwrap_or}
+use Rattle.std.specs.Option.{option_map}
 use Rattle.wjs_base.specs.Text.{Table}
 use Rattle.wjs_tree.specs.declared.node.NodeId.{NodeId}
 use Rattle.wjs_tree.specs.declared.node.Node.{Node as NumberedNode}
+use Rattle.wjs_tree.specs.declared.node.Node.TheVariants as nodes
 use Rattle.wjs_store.specs.Meaning.{Meaning}
-use Rattle.wjs_content.specs.Tables.{value_in}
 use Rattle.wjs_meaning.specs.Reading.{node_in}
-use Rattle.wjs_meaning.specs.Trees.{Tree}
-use Rattle.wjs_meaning.specs.Deeds.{Env, Goal, AtExpr, AtTarget, AtStmt, Again, Completion as Said, Act, node_here}
+use Rattle.wjs_meaning.specs.Deeds.{Env, Goal, AtExpr, AtTarget, AtStmt, Again, Completion as Said, Act}
 use Rattle.wjs_model.specs.declared.frame.Form.{Form}
 use Rattle.wjs_model.specs.declared.frame.Form.TheVariants as form
 use Rattle.wjs_model.specs.declared.frame.Phase.TheVariants as phases
@@ -17,16 +17,14 @@ use Rattle.wjs_model.specs.declared.config.State.{State}
 use Rattle.wjs_model.specs.declared.config.State.TheVariants as states
 use Rattle.wjs_model.specs.declared.frame.Completion.{Completion}
 use Rattle.wjs_model.specs.declared.frame.Completion.TheVariants as completions
-use Rattle.wjs_model.specs.Contents.{Frame, Run, env_of, frame_in}
+use Rattle.wjs_model.specs.Contents.{env_of, frame_in, holding_in}
+use Rattle.wjs_model.specs.declared.unit.Unit.{Unit as Program}
+use Rattle.wjs_model.specs.Units as program
 use Rattle.wjs_model.specs.Configurations.{run_in}
 use Rattle.wjs_model.specs.Waiting.{after}
+use Rattle.wjs_model.specs.Rest.{begin_form}
 use Rattle.wjs_moves.specs.declared.place.Part.{Part}
 use Rattle.wjs_moves.specs.declared.place.Part.TheVariants as part
-use Rattle.wjs_moves.specs.declared.place.Spot.{Spot}
-
--- the trees of units under a table
-abbrev pub trees_in : {U : Type 0} → (Table → U → Tree) → Table → List U → List Tree
-trees_in tree texts units = each (tree texts) units
 
 -- the goal that a part is
 abbrev pub goal_of : Part → Goal
@@ -53,23 +51,31 @@ place_of (part.Again s) = 1
 place_of _ = 0
 
 -- the frame of a part, with its step due
-abbrev pub due_frame : Spot → Part → NumberedFrame
+abbrev pub due_frame : NumberedFrame → Part → NumberedFrame
 due_frame at p = record { form = form_of p; tree = at.tree; node = node_of p; place = place_of p; phase = phases.Due; scope = at.scope; this = at.this; world = at.world; held = [] }
-
--- where a spot is, in a run
-abbrev pub env_at : Table → Run → Spot → Env
-env_at texts run s = record { trees = run.trees; tree = s.tree; scope = s.scope; this = value_in texts s.this; world = s.world; global = run.global; owner = run.owner }
 
 -- how a run ends where no frame is left
 abbrev pub ended : Completion → State
 ended (completions.Throws v) = states.Threw v
 ended _ = states.Done
 
--- what a frame does with a completion that it waits for at a place
-abbrev pub at_place : Run → Frame → ℕ → Said → Act
-at_place run f place = after (node_here (env_of run f) f.node) f.form f.node place f.held (env_of run f)
+-- the node of a tree among the units, and an empty statement where there is none
+abbrev pub node_among : List Program → ℕ → NodeId → NumberedNode
+node_among units tree id = unwrap_or (option_map (λ (u : Program). program.node_of u id) (slice_get units tree)) nodes.Empty
 
--- the frame's node has this form
-module _ {S U : Type 0} (meaning : S → Meaning) (trees : Table → List U → List Tree) where
-  pub record HasNode (c : Config S U) (f : NumberedFrame) (node : NumberedNode) : Type 0 where
-    pub is : (t : Table) → node_here (env_of (run_in meaning trees t c) (frame_in t f)) f.node.0 ≡ node_in t node
+module _ {S : Type 0} (meaning : S → Meaning) (c : Config S) where
+  -- the node of a frame
+  abbrev pub node_now : NumberedFrame → NumberedNode
+  node_now f = node_among c.units.items f.tree f.node
+
+  -- where a frame is run, under a table
+  abbrev pub env_in : Table → NumberedFrame → Env
+  env_in t f = env_of (run_in meaning t c) (frame_in t f)
+
+  -- what a frame does with a completion that it waits for at a place
+  abbrev pub then_at : NumberedFrame → ℕ → Table → Env → Said → Act
+  then_at f place t env = after (node_in t (node_now f)) f.form f.node.0 place (holding_in t f.held) env
+
+  -- what a frame begins with
+  abbrev pub begins_at : NumberedFrame → ℕ → Table → Env → Act
+  begins_at f place t env = begin_form (node_in t (node_now f)) f.form f.node.0 place (holding_in t f.held) env

@@ -1,27 +1,44 @@
 -- What is taken off a configuration.
-use Rattle.std.specs.Prelude.{◌≡◌, List, Bool, true, false, Option, None, Some}
+use Rattle.std.specs.Prelude.{◌≡◌, Bool, true, false, Option, Some, Result, OnOk}
+use Rattle.wjs_base.specs.declared.ids.OutOfMemory.{OutOfMemory}
 use Rattle.wjs_base.specs.Text.{Table}
 use Rattle.wjs_store.specs.Meaning.{Meaning}
-use Rattle.wjs_meaning.specs.Trees.{Tree}
+use Rattle.wjs_meaning.specs.Deeds.{Env, Act}
 use Rattle.wjs_model.specs.declared.config.Config.{Config}
 use Rattle.wjs_model.specs.declared.config.State.TheVariants as states
+use Rattle.wjs_model.specs.declared.frame.Frame.{Frame}
 use Rattle.wjs_model.specs.declared.frame.Phase.{Phase}
 use Rattle.wjs_model.specs.declared.frame.Phase.TheVariants as phases
-use Rattle.wjs_model.specs.Contents.{env_of, frame_in, completion_in}
-use Rattle.wjs_model.specs.Rest.{begin, given}
-use Rattle.wjs_model.specs.Configurations.{run_in, Turned}
+use Rattle.wjs_model.specs.Frames.{last}
+use Rattle.wjs_model.specs.Contents.{completion_in}
+use Rattle.wjs_model.specs.Configurations.{Turned}
+use Rattle.wjs_model.specs.Soundness.{HasCompletion, IsThere, Base, Sound}
 use Rattle.wjs_moves.specs.declared.take.Top.{Top}
 use Rattle.wjs_moves.specs.declared.take.Top.TheVariants as top
-use Rattle.wjs_moves.specs.Keeping.{Leads}
+use Rattle.wjs_moves.specs.Parts.{env_in, begins_at, then_at}
+use Rattle.wjs_moves.specs.Following.{Follows}
 
 -- whether a step is due
 abbrev pub is_due : Option Phase → Bool
 is_due (Some phases.Due) = true
 is_due _ = false
 
-module _ {S U : Type 0} (meaning : S → Meaning) (trees : Table → List U → List Tree) where
+module _ {S : Type 0} (meaning : S → Meaning) where
+  -- a whole turn, which leaves a sound configuration
+  pub record Turns (old new : Config S) : Type 0 where
+    pub turned : Turned meaning old new
+    pub sound : Sound meaning new
+
+  -- the frame on top is off; what follows of its line above the others is a turn of the old one
+  pub record TakesOff (f : Frame) (line : Table → Env → Act) (old mid : Config S) : Type 0 where
+    pub taken : last old.frames ≡ Some f
+    pub running : mid.state ≡ states.Running
+    pub base : Base meaning mid
+    pub there : IsThere meaning mid f
+    pub by : (later : Config S) (r : Result (Unit {0}) OutOfMemory) → OnOk r (Follows meaning (line later.heap.texts (env_in meaning mid later.heap.texts f)) mid later) → OnOk r (Turns old later)
+
   -- the turn is over for want of steps, or a frame is off with what it does next
-  abbrev pub Takes : Config S U → Top → Config S U → Type 0
-  Takes old top.Stops new = Turned meaning trees old new
-  Takes old (top.Begins f) new = Leads meaning trees (λ t. begin (frame_in t f) (env_of (run_in meaning trees t new) (frame_in t f))) old new
-  Takes old (top.Given f c) new = Leads meaning trees (λ t. given (run_in meaning trees t new) (frame_in t f) (completion_in t c)) old new
+  abbrev pub Takes : Config S → Top → Config S → Type 0
+  Takes old top.Stops new = Turns old new
+  Takes old (top.Begins f) new = TakesOff f (begins_at meaning new f f.place) old new
+  Takes old (top.Given f c) new = TakesOff f (λ t env. then_at meaning new f f.place t env (completion_in t c)) old new × HasCompletion new c

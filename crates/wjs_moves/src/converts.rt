@@ -1,37 +1,41 @@
 //! Conversions.
 ghost use Rattle.std.specs.Prelude.{◌≡◌, OnOk};
-ghost use Rattle.wjs_base.specs.Text.{Table};
 ghost use Rattle.wjs_content.specs.Tables.{value_in};
 ghost use Rattle.wjs_meaning.specs.Deeds.{Sub};
-ghost use Rattle.wjs_model.specs.Contents.{env_of, frame_in};
 ghost use Rattle.wjs_model.specs.Rest.{begin_conversion};
-ghost use Rattle.wjs_model.specs.Configurations.{run_in};
-ghost use Rattle.wjs_moves.specs.Parts.{trees_in, at_place};
-ghost use Rattle.wjs_moves.specs.Keeping.{Keeps};
+ghost use Rattle.wjs_model.specs.Soundness.{Base, IsThere, HasValue};
+ghost use Rattle.wjs_moves.specs.Parts.{env_in, then_at};
+ghost use Rattle.wjs_moves.specs.Following.{Follows};
 
-use crate::place::spot_of;
-use crate::unit::Unit;
-use crate::waits::{go_on, wait};
+use crate::waits::nest;
 use wjs_base::{OutOfMemory, Value};
 use wjs_model::{Config, Conversion, Form, Frame, Held, State};
 use wjs_store::WorldStore;
 
 /// The frame waits at a place while a value is converted.
-pub fn convert<S: WorldStore, U: Unit>(
-    config: &mut Config<S, U>,
+pub fn convert<S: WorldStore>(
+    config: &mut Config<S>,
     frame: Frame,
     place: u32,
     conversion: Conversion,
     value: Value,
 ) -> Result<(), OutOfMemory>
-    requires { config.old.state ≡ State.Running }
-    ensures { OnOk result ((t : Table) → Keeps S.meaning (trees_in U.tree) t 1 (Sub (begin_conversion conversion (value_in t value) (env_of (run_in S.meaning (trees_in U.tree) t config.old) (frame_in t frame))) (at_place (run_in S.meaning (trees_in U.tree) t config.old) (frame_in t frame) place)) config.old config.new) }
+    requires running { config.old.state ≡ State.Running }
+    requires base { Base S.meaning config.old }
+    requires there { IsThere S.meaning config.old frame }
+    requires value { HasValue config.old value }
+    ensures { let t = config.new.heap.texts in let env = env_in S.meaning config.old t frame in OnOk result (Follows S.meaning (Sub (begin_conversion conversion (value_in t value) env) (then_at S.meaning config.old frame place t env)) config.old config.new) }
 {
-    let at = spot_of(&frame);
-    let node = frame.node;
     let mut held = config.frames.nothing_held();
     held.push(Held::Value(value))?;
-    wait(config, frame, place)?;
-    go_on(config, at, Form::Convert(conversion), node, 0, held)?;
-    Ok(())
+    let node = frame.node;
+    nest(
+        config,
+        frame,
+        place,
+        Form::Convert(conversion),
+        node,
+        0,
+        held,
+    )
 }

@@ -1,23 +1,27 @@
 //! The end of a node.
 ghost use Rattle.std.specs.Prelude.{◌≡◌, OnOk};
-ghost use Rattle.wjs_base.specs.Text.{Table};
 ghost use Rattle.wjs_meaning.specs.Deeds.{Ret};
 ghost use Rattle.wjs_model.specs.Contents.{completion_in};
-ghost use Rattle.wjs_moves.specs.Parts.{trees_in, ended};
-ghost use Rattle.wjs_moves.specs.Keeping.{Keeps};
+ghost use Rattle.wjs_model.specs.Soundness.{Base, HasCompletion};
+ghost use Rattle.wjs_moves.specs.Parts.{ended};
+ghost use Rattle.wjs_base.specs.Text.{Table};
+ghost use Rattle.wjs_moves.specs.Parts.{env_in};
+ghost use Rattle.wjs_moves.specs.Following.{Follows};
 
-use crate::unit::Unit;
 use wjs_base::OutOfMemory;
-use wjs_model::{Completion, Config, Phase, State};
+use wjs_model::{Completion, Config, Frame, Phase, State};
 use wjs_store::WorldStore;
 
 /// Ends what the frame that was taken off ran: the frame below goes on with the completion, or the run ends with it.
-pub fn finish<S: WorldStore, U: Unit>(
-    config: &mut Config<S, U>,
+pub fn finish<S: WorldStore>(
+    config: &mut Config<S>,
+    frame: &Frame,
     completion: Completion,
 ) -> Result<(), OutOfMemory>
-    requires { config.old.state ≡ State.Running }
-    ensures { OnOk result ((t : Table) → Keeps S.meaning (trees_in U.tree) t 1 (Ret (completion_in t completion)) config.old config.new) }
+    requires running { config.old.state ≡ State.Running }
+    requires base { Base S.meaning config.old }
+    requires completion { HasCompletion config.old completion }
+    ensures { let t = config.new.heap.texts in let env = env_in S.meaning config.old t frame.now in OnOk result (Follows S.meaning (Ret (completion_in t completion)) config.old config.new) }
 {
     match config.frames.pop() {
         None => {

@@ -1,33 +1,13 @@
 //! What frames hold.
-ghost use Rattle.std.specs.Prelude.{IfOk};
-ghost use Rattle.wjs_moves.specs.Holding.{HoldsValue, HoldsReference, HoldsCompletion};
+ghost use Rattle.std.specs.Prelude.{◌≡◌, ◌∷◌, OnOk};
+ghost use Rattle.wjs_model.specs.declared.frame.Held.{Held};
 
-use wjs_base::{OutOfMemory, Value};
-use wjs_model::{Completion, Frame, Held, Reference};
+use wjs_base::OutOfMemory;
+use wjs_model::{Frame, Held};
 
-/// The frame, with one value more, which is its latest.
-pub fn hold_value(frame: Frame, value: Value) -> Result<Frame, OutOfMemory>
-    ensures { IfOk result (λ held. HoldsValue frame value held) }
+/// The frame holds one more thing, which is its latest.
+pub fn hold(frame: &mut Frame, item: Held) -> Result<(), OutOfMemory>
+    ensures { OnOk result (frame.new ≡ record frame.old { held = item ∷ frame.old.held }) }
 {
-    let mut frame = frame;
-    frame.held.push(Held::Value(value))?;
-    Ok(frame)
-}
-
-/// The frame, with a reference.
-pub fn hold_reference(frame: Frame, reference: Reference) -> Result<Frame, OutOfMemory>
-    ensures { IfOk result (λ held. HoldsReference frame reference held) }
-{
-    let mut frame = frame;
-    frame.held.push(Held::Reference(reference))?;
-    Ok(frame)
-}
-
-/// The frame, with a completion that a `finally` may replace.
-pub fn hold_completion(frame: Frame, completion: Completion) -> Result<Frame, OutOfMemory>
-    ensures { IfOk result (λ held. HoldsCompletion frame completion held) }
-{
-    let mut frame = frame;
-    frame.held.push(Held::Earlier(completion))?;
-    Ok(frame)
+    frame.held.push(item)
 }

@@ -1,25 +1,28 @@
 //! The moves that a turn of the machine is made of: a node ends, a part is entered, a frame waits, goes on or has a step due.
 //!
-//! What is left to do is a tree of deeds above the frames of a configuration. Each move says which deeds it keeps: with these
+//! What is left to do is a tree of deeds above the frames of a configuration. Each move says which deeds it follows: with these
 //! deeds above the old frames the run ends as the new configuration's does.
 #![tactic(auto)]
 
 mod converts;
-mod deeds;
 mod ends;
 mod enters;
 mod holds;
+mod laws;
+mod node;
 mod place;
 mod take;
-mod unit;
 mod waits;
 
 pub use converts::convert;
-pub use deeds::get;
 pub use ends::finish;
 pub use enters::{enter, enter_last};
-pub use holds::{hold_completion, hold_reference, hold_value};
-pub use place::{Part, Spot, spot_of};
+pub use holds::hold;
+pub use laws::{
+    looks_follow, more_texts_change_nothing, nested_ends_shorten, reached_is_reached,
+    shorter_follow, silent_is_steady, turns_reach,
+};
+pub use node::node_of;
+pub use place::Part;
 pub use take::{Top, take_top};
-pub use unit::Unit;
-pub use waits::{due_later, go_on, wait};
+pub use waits::{due_later, nest, wait};

@@ -1,8 +1,7 @@
-//! The parts of nodes, and where they are run.
+//! The parts of nodes, and the frames that run them.
 ghost use Rattle.std.specs.Prelude.{◌≡◌};
 ghost use Rattle.wjs_moves.specs.Parts.{due_frame};
 
-use wjs_base::{ObjId, Value, WorldId};
 use wjs_model::{Form, Frame, Items, Phase};
 use wjs_tree::NodeId;
 
@@ -15,37 +14,16 @@ pub enum Part {
     Again(NodeId),
 }
 
-/// Where a node is run: its tree, scope, `this` and world.
-#[derive(Clone, Copy, Debug, PartialEq, Eq)]
-pub struct Spot {
-    pub tree: u32,
-    pub scope: ObjId,
-    pub this: Value,
-    pub world: WorldId,
-}
-
-/// Where a frame is run.
-pub fn spot_of(frame: &Frame) -> Spot
-    ensures { result ≡ record { tree = frame.now.tree; scope = frame.now.scope; this = frame.now.this; world = frame.now.world } }
-{
-    Spot {
-        tree: frame.tree,
-        scope: frame.scope,
-        this: frame.this,
-        world: frame.world,
-    }
-}
-
-/// A frame that runs a form at a place of a node, where the spot says.
+/// A frame that runs a form at a place of a node, where another frame is run.
 pub(crate) fn frame_at(
-    at: Spot,
+    at: &Frame,
     form: Form,
     node: NodeId,
     place: u32,
     phase: Phase,
     held: Items,
 ) -> Frame
-    ensures { result ≡ record { form = form; tree = at.tree; node = node; place = place; phase = phase; scope = at.scope; this = at.this; world = at.world; held = held } }
+    ensures { result ≡ record { form = form; tree = at.now.tree; node = node; place = place; phase = phase; scope = at.now.scope; this = at.now.this; world = at.now.world; held = held } }
 {
     Frame {
         form,
@@ -61,8 +39,8 @@ pub(crate) fn frame_at(
 }
 
 /// The frame of a part, with its step due.
-pub(crate) fn due_frame(at: Spot, part: Part, held: Items) -> Frame
-    ensures { result ≡ record (due_frame at part) { held = held } }
+pub(crate) fn due_frame(at: &Frame, part: Part, held: Items) -> Frame
+    ensures { result ≡ record (due_frame at.now part) { held = held } }
 {
     match part {
         Part::Expr(node) => frame_at(at, Form::Expr, node, 0, Phase::Due, held),
@@ -70,4 +48,14 @@ pub(crate) fn due_frame(at: Spot, part: Part, held: Items) -> Frame
         Part::Stmt(node) => frame_at(at, Form::Stmt, node, 0, Phase::Due, held),
         Part::Again(node) => frame_at(at, Form::Stmt, node, 1, Phase::Due, held),
     }
+}
+
+/// The frame, waiting at a place.
+pub(crate) fn waiting_at(frame: Frame, place: u32) -> Frame
+    ensures { result ≡ record frame { place = place; phase = Phase.Waiting } }
+{
+    let mut frame = frame;
+    frame.place = place;
+    frame.phase = Phase::Waiting;
+    frame
 }

@@ -1,10 +1,9 @@
 //! The frame that a turn runs.
 ghost use Rattle.std.specs.Prelude.{◌≡◌, option_map, true, false};
 ghost use Rattle.wjs_model.specs.Frames.{last};
-ghost use Rattle.wjs_moves.specs.Parts.{trees_in};
+ghost use Rattle.wjs_model.specs.Soundness.{Sound};
 ghost use Rattle.wjs_moves.specs.Taking.{Takes, is_due};
 
-use crate::unit::Unit;
 use wjs_model::{Completion, Config, Frame, Phase, State};
 use wjs_store::WorldStore;
 
@@ -20,9 +19,10 @@ pub enum Top {
 }
 
 /// Takes the frame that runs off, with its step where one is due. Without a step left it only says so: nothing else changes.
-pub fn take_top<S: WorldStore, U: Unit>(config: &mut Config<S, U>) -> Top
-    requires { config.old.state ≡ State.Running }
-    ensures { Takes S.meaning (trees_in U.tree) config.old result config.new }
+pub fn take_top<S: WorldStore>(config: &mut Config<S>) -> Top
+    requires running { config.old.state ≡ State.Running }
+    requires sound { Sound S.meaning config.old }
+    ensures { Takes S.meaning config.old result config.new }
 {
     if is_due(config.frames.phase()) {
         take_due(config)
@@ -32,10 +32,11 @@ pub fn take_top<S: WorldStore, U: Unit>(config: &mut Config<S, U>) -> Top
 }
 
 /// Takes a frame whose step is due.
-fn take_due<S: WorldStore, U: Unit>(config: &mut Config<S, U>) -> Top
+fn take_due<S: WorldStore>(config: &mut Config<S>) -> Top
     requires running { config.old.state ≡ State.Running }
+    requires sound { Sound S.meaning config.old }
     requires due { is_due (option_map (λ f. f.phase) (last config.old.frames)) ≡ true }
-    ensures { Takes S.meaning (trees_in U.tree) config.old result config.new }
+    ensures { Takes S.meaning config.old result config.new }
 {
     if config.left == 0 {
         config.state = State::StepsSpent;
@@ -49,10 +50,11 @@ fn take_due<S: WorldStore, U: Unit>(config: &mut Config<S, U>) -> Top
 }
 
 /// Takes a frame that needs no step; without a frame the run ends.
-fn take_now<S: WorldStore, U: Unit>(config: &mut Config<S, U>) -> Top
+fn take_now<S: WorldStore>(config: &mut Config<S>) -> Top
     requires running { config.old.state ≡ State.Running }
+    requires sound { Sound S.meaning config.old }
     requires due { is_due (option_map (λ f. f.phase) (last config.old.frames)) ≡ false }
-    ensures { Takes S.meaning (trees_in U.tree) config.old result config.new }
+    ensures { Takes S.meaning config.old result config.new }
 {
     match config.frames.pop() {
         None => {

@@ -1,63 +1,70 @@
-//! Frames that wait, go on at once, or have a further step due.
-ghost use Rattle.std.specs.Prelude.{◌≡◌, OnOk, map as each};
-ghost use Rattle.wjs_base.specs.Text.{Table};
-ghost use Rattle.wjs_meaning.specs.Deeds.{Tick};
-ghost use Rattle.wjs_model.specs.Contents.{env_of, frame_in, item_in};
+//! Frames that wait, with a form that begins above them, or have a further step due.
+ghost use Rattle.std.specs.Prelude.{◌≡◌, OnOk};
+ghost use Rattle.wjs_meaning.specs.Deeds.{Sub, Tick};
+ghost use Rattle.wjs_meaning.specs.Reading.{node_in};
+ghost use Rattle.wjs_model.specs.Contents.{holding_in};
 ghost use Rattle.wjs_model.specs.Rest.{begin_form};
-ghost use Rattle.wjs_model.specs.Configurations.{run_in};
-ghost use Rattle.wjs_moves.specs.Parts.{trees_in, at_place, env_at};
-ghost use Rattle.wjs_moves.specs.Keeping.{Keeps, Opens};
+ghost use Rattle.wjs_model.specs.Soundness.{Base, IsThere, HasItems};
+ghost use Rattle.wjs_moves.specs.Parts.{env_in, then_at, begins_at, node_among};
+ghost use Rattle.wjs_moves.specs.Following.{Follows, Later};
+ghost use Rattle.wjs_moves.specs.Nesting.{Nests};
 
-use crate::place::{Spot, frame_at};
-use crate::unit::Unit;
+use crate::place::{frame_at, waiting_at};
 use wjs_base::OutOfMemory;
 use wjs_model::{Config, Form, Frame, Items, Phase, State};
 use wjs_store::WorldStore;
 use wjs_tree::NodeId;
 
-/// The frame waits at a place for deeds that the caller does next: a conversion, a call, an operation.
-pub fn wait<S: WorldStore, U: Unit>(
-    config: &mut Config<S, U>,
+/// The frame waits at a place for deeds that the caller does next: a conversion, a call.
+pub fn wait<S: WorldStore>(
+    config: &mut Config<S>,
     frame: Frame,
     place: u32,
 ) -> Result<(), OutOfMemory>
-    requires { config.old.state ≡ State.Running }
-    ensures opens { OnOk result ((t : Table) → Opens S.meaning (trees_in U.tree) t (at_place (run_in S.meaning (trees_in U.tree) t config.old) (frame_in t frame) place) config.old config.new) }
+    requires running { config.old.state ≡ State.Running }
+    requires base { Base S.meaning config.old }
+    requires there { IsThere S.meaning config.old frame }
+    ensures nests { OnOk result (Nests S.meaning (λ t. then_at S.meaning config.old frame place t (env_in S.meaning config.old t frame)) config.old config.new) }
     ensures same { OnOk result (config.new ≡ record config.old { frames = config.new.frames }) }
+    ensures later { OnOk result (Later S.meaning config.old config.new) }
 {
-    let mut frame = frame;
-    frame.place = place;
-    frame.phase = Phase::Waiting;
-    config.frames.push(frame)?;
+    config.frames.push(waiting_at(frame, place))?;
     Ok(())
 }
 
-/// What a form begins with is done next, with no step of its own.
-pub fn go_on<S: WorldStore, U: Unit>(
-    config: &mut Config<S, U>,
-    at: Spot,
+/// The frame waits at a place, and a form begins above it where the frame is run, at a place of a node and with no step of its
+/// own.
+pub fn nest<S: WorldStore>(
+    config: &mut Config<S>,
+    frame: Frame,
+    place: u32,
     form: Form,
     node: NodeId,
-    place: u32,
+    start: u32,
     held: Items,
 ) -> Result<(), OutOfMemory>
-    requires { config.old.state ≡ State.Running }
-    ensures { OnOk result ((t : Table) → Keeps S.meaning (trees_in U.tree) t 0 (begin_form form node.0 place (each (item_in t) held) (env_at t (run_in S.meaning (trees_in U.tree) t config.old) at)) config.old config.new) }
+    requires running { config.old.state ≡ State.Running }
+    requires base { Base S.meaning config.old }
+    requires there { IsThere S.meaning config.old frame }
+    requires held { HasItems config.old held }
+    ensures { let t = config.new.heap.texts in let env = env_in S.meaning config.old t frame in OnOk result (Follows S.meaning (Sub (begin_form (node_in t (node_among config.old.units.items frame.tree node)) form node.0 start (holding_in t held) env) (then_at S.meaning config.old frame place t env)) config.old config.new) }
 {
-    config
-        .frames
-        .push(frame_at(at, form, node, place, Phase::Ready, held))?;
+    let above = frame_at(&frame, form, node, start, Phase::Ready, held);
+    config.frames.push(waiting_at(frame, place))?;
+    config.frames.push(above)?;
     Ok(())
 }
 
 /// A further step of the frame is due, and then what it begins with at a place.
-pub fn due_later<S: WorldStore, U: Unit>(
-    config: &mut Config<S, U>,
+pub fn due_later<S: WorldStore>(
+    config: &mut Config<S>,
     frame: Frame,
     place: u32,
 ) -> Result<(), OutOfMemory>
-    requires { config.old.state ≡ State.Running }
-    ensures { OnOk result ((t : Table) → Keeps S.meaning (trees_in U.tree) t 1 (Tick (begin_form frame.form frame.node.0 place (each (item_in t) frame.held) (env_of (run_in S.meaning (trees_in U.tree) t config.old) (frame_in t frame)))) config.old config.new) }
+    requires running { config.old.state ≡ State.Running }
+    requires base { Base S.meaning config.old }
+    requires there { IsThere S.meaning config.old frame }
+    ensures { let t = config.new.heap.texts in OnOk result (Follows S.meaning (Tick (begins_at S.meaning config.old frame place t (env_in S.meaning config.old t frame))) config.old config.new) }
 {
     let mut frame = frame;
     frame.place = place;

@@ -1,6 +1,10 @@
-use Rattle.wjs_moves.specs.Parts.{trees_in}
-use Rattle.wjs_moves.proofs.Entering.{keeps_last}
+use Rattle.std.proofs.Common.{ap, ◌∙◌}
+use Rattle.wjs_moves.specs.Parts.{due_frame}
+use Rattle.wjs_moves.proofs.Frames.{put_on}
+use Rattle.wjs_moves.proofs.Moving.{follows_last}
 use Rattle.wjs_moves.proofs.enters.enter_last.Goals as goal
 
 pub returns : goal.returns
-returns g c = λ t. keeps_last g.S.WorldStore.meaning (trees_in g.U.Unit.tree) t c.args.config.now c.args.at c.args.part c.push_due.new.frames c.requires c.in_ok-push_due.ensures
+returns g c =
+    let due = c.due_frame-entered.ensures ∙ ap (λ h. record (due_frame c.args.frame.now c.args.part) { held = h }) c.nothing_held.ensures in
+    follows_last g.S.WorldStore.meaning c.args.config.now c.args.frame.now c.args.part c.push.new.self c.requires.running c.requires.base c.requires.there (put_on _ _ _ _ c.in_ok-push.ensures.ok due)

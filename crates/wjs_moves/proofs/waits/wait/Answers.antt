@@ -1,6 +1,9 @@
-use Rattle.wjs_moves.specs.Parts.{trees_in}
-use Rattle.wjs_moves.proofs.Entering.{opens_waiting}
+use Rattle.wjs_moves.proofs.Frames.{put_on}
+use Rattle.wjs_moves.proofs.Moving.{nests_waiting, later_waiting}
 use Rattle.wjs_moves.proofs.waits.wait.Goals as goal
 
-pub returns-clause-opens : goal.returns-clause-opens
-returns-clause-opens g c = λ t. opens_waiting g.S.WorldStore.meaning (trees_in g.U.Unit.tree) t c.args.config.now c.args.frame c.args.place c.push.new.self c.in_ok-push.ensures.ok
+pub returns-clause-nests : goal.returns-clause-nests
+returns-clause-nests g c = nests_waiting g.S.WorldStore.meaning c.args.config.now c.args.frame c.args.place c.push.new.self (put_on _ _ _ _ c.in_ok-push.ensures.ok c.waiting_at.ensures)
+
+pub returns-clause-later : goal.returns-clause-later
+returns-clause-later g c = later_waiting g.S.WorldStore.meaning c.args.config.now c.args.frame c.args.place c.push.new.self c.requires.base c.requires.there (put_on _ _ _ _ c.in_ok-push.ensures.ok c.waiting_at.ensures)

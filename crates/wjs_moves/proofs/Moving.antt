@@ -1,0 +1,149 @@
+-- What the moves follow, and that they leave a sound configuration.
+use Rattle.std.proofs.Common.{◌≡◌, ℕ, ◌+◌, ◌≤◌, List, [], ◌∷◌, ◌++◌, refl, sym, ◌∙◌, subst, arith}
+use Rattle.std.specs.Prelude.{All, Result, OnOk, Ok, Err}
+use Rattle.std.proofs.lemmas.List.Elements.{All-nil, All-push, All-same}
+use Rattle.wjs_base.specs.declared.ids.OutOfMemory.{OutOfMemory}
+use Rattle.wjs_base.specs.Text.{Table}
+use Rattle.wjs_store.specs.Meaning.{Meaning}
+use Rattle.wjs_meaning.specs.Deeds.{Act, Ret, Tick, Eval, Sub}
+use Rattle.wjs_model.specs.declared.config.Config.{Config}
+use Rattle.wjs_model.specs.declared.config.State.{State}
+use Rattle.wjs_model.specs.declared.config.State.TheVariants as states
+use Rattle.wjs_model.specs.declared.frame.Completion.{Completion}
+use Rattle.wjs_model.specs.declared.frame.Completion.TheVariants as completions
+use Rattle.wjs_model.specs.declared.frame.Phase.TheVariants as phases
+use Rattle.wjs_model.specs.declared.frame.Frame.{Frame}
+use Rattle.wjs_model.specs.declared.frame.Form.{Form}
+use Rattle.wjs_model.specs.declared.frame.Held.{Held}
+use Rattle.wjs_model.specs.Contents.{completion_in, holding_in}
+use Rattle.wjs_model.specs.Rest.{begin_form}
+use Rattle.wjs_meaning.specs.Reading.{node_in}
+use Rattle.wjs_tree.specs.declared.node.NodeId.{NodeId}
+use Rattle.wjs_model.specs.Soundness.{HasCompletion, HasItems, HasThrown, IsThere, Base}
+use Rattle.wjs_moves.specs.declared.place.Part.{Part}
+use Rattle.wjs_moves.specs.Parts.{goal_of, due_frame, env_in, then_at, begins_at, ended, node_among}
+use Rattle.wjs_moves.specs.Keeping.{Keeps}
+use Rattle.wjs_moves.specs.Following.{Follows, Later}
+use Rattle.wjs_moves.specs.Nesting.{Nests}
+use Rattle.wjs_moves.proofs.Sounding.{there_at, there_framed, base_framed, sound_push, there_pop}
+use Rattle.wjs_moves.proofs.Keeping.{grows_same}
+use Rattle.wjs_moves.proofs.Entering.{keeps_enter, keeps_last, keeps_ready, keeps_due, opens_waiting}
+use Rattle.wjs_moves.proofs.Ending.{keeps_given, keeps_ended}
+
+thrown_ended : {S : Type 0} (c : Config S) (e : Completion) → HasCompletion c e → HasThrown c (ended e)
+thrown_ended c (completions.Gives v) h = tt
+thrown_ended c (completions.Refers r) h = tt
+thrown_ended c completions.Normal h = tt
+thrown_ended c (completions.Breaks label) h = tt
+thrown_ended c (completions.Continues label) h = tt
+thrown_ended c (completions.Returns v) h = tt
+thrown_ended c (completions.Throws v) h = h
+
+stopped_ended : (e : Completion) → ended e ≡ states.Running → ⊥
+stopped_ended (completions.Gives v) h = cc
+stopped_ended (completions.Refers r) h = cc
+stopped_ended completions.Normal h = cc
+stopped_ended (completions.Breaks label) h = cc
+stopped_ended (completions.Continues label) h = cc
+stopped_ended (completions.Returns v) h = cc
+stopped_ended (completions.Throws v) h = cc
+
+fewer : (x y : ℕ) → x + 1 ≤ y → x + 0 ≤ y
+fewer x y h = omega (arith, h)
+
+on_ok : {A B : Type 0} (r : Result (Unit {0}) OutOfMemory) → (A → B) → OnOk r A → OnOk r B
+on_ok (Ok x) f h = f h
+on_ok (Err x) f h = tt
+
+module _ {S : Type 0} (meaning : S → Meaning) where
+  none_fewer : (t : Table) (act : Act) (old new : Config S) → Keeps meaning t 1 act old new → Keeps meaning t 0 act old new
+  none_fewer t act old new k = record { stays = k.stays; left = k.left; alive = k.alive; kept = k.kept; falls = λ v a h. fewer _ _ (k.falls v a h) }
+
+  there_due : (old : Config S) (f : Frame) (p : Part) → IsThere meaning old f → IsThere meaning old (due_frame f p)
+  there_due old f p h = record { scope = h.scope; this = h.this; world = h.world; held = tt; phase = tt }
+
+  all_waiting : (old : Config S) (f : Frame) (place : ℕ) (mid : List Frame) → Base meaning old → IsThere meaning old f → mid ≡ old.frames ++ record f { place = place; phase = phases.Waiting } ∷ [] → All (IsThere meaning old) mid
+  all_waiting old f place mid b h em = All-same (IsThere meaning old) mid _ em (All-push (IsThere meaning old) old.frames _ b.frames (there_at meaning old f place phases.Waiting tt h))
+
+  -- a frame waits, and a part is due above it
+  pub follows_enter : (old : Config S) (f : Frame) (place : ℕ) (p : Part) (mid frames : List Frame) → old.state ≡ states.Running → Base meaning old → IsThere meaning old f → mid ≡ old.frames ++ record f { place = place; phase = phases.Waiting } ∷ [] → frames ≡ mid ++ due_frame f p ∷ []
+      → Follows meaning (let t = old.heap.texts in Eval (goal_of p) (env_in meaning old t f) (then_at meaning old f place t (env_in meaning old t f))) old (record old { frames = frames })
+  follows_enter old f place p mid frames er b h em ef = record {
+    keeps = keeps_enter meaning old.heap.texts old f place p mid frames er em ef;
+    sound = sound_push meaning old frames mid (due_frame f p) er b (all_waiting old f place mid b h em) (there_due old f p h) ef;
+  }
+
+  -- a part is due in the place of a frame
+  pub follows_last : (old : Config S) (f : Frame) (p : Part) (frames : List Frame) → old.state ≡ states.Running → Base meaning old → IsThere meaning old f → frames ≡ old.frames ++ due_frame f p ∷ []
+      → Follows meaning (Eval (goal_of p) (env_in meaning old old.heap.texts f) Ret) old (record old { frames = frames })
+  follows_last old f p frames er b h ef = record {
+    keeps = keeps_last meaning old.heap.texts old f p frames er ef;
+    sound = sound_push meaning old frames old.frames (due_frame f p) er b b.frames (there_due old f p h) ef;
+  }
+
+  -- a step is due first
+  pub follows_due : (old : Config S) (f : Frame) (place : ℕ) (frames : List Frame) → old.state ≡ states.Running → Base meaning old → IsThere meaning old f → frames ≡ old.frames ++ record f { place = place; phase = phases.Due } ∷ []
+      → Follows meaning (let t = old.heap.texts in Tick (begins_at meaning old f place t (env_in meaning old t f))) old (record old { frames = frames })
+  follows_due old f place frames er b h ef = record {
+    keeps = keeps_due meaning old.heap.texts old (record f { place = place; phase = phases.Due }) frames er refl ef;
+    sound = sound_push meaning old frames old.frames _ er b b.frames (there_at meaning old f place phases.Due tt h) ef;
+  }
+
+  -- a frame waits, and a form begins above it
+  pub follows_nested : (old : Config S) (f : Frame) (form : Form) (node : NodeId) (start : ℕ) (held : List Held) (place : ℕ) (mid frames : List Frame) → old.state ≡ states.Running → Base meaning old → IsThere meaning old f → HasItems old held
+      → mid ≡ old.frames ++ record f { place = place; phase = phases.Waiting } ∷ [] → frames ≡ mid ++ record f { form = form; node = node; place = start; phase = phases.Ready; held = held } ∷ []
+      → Follows meaning (let t = old.heap.texts in Sub (begin_form (node_in t (node_among old.units.items f.tree node)) form node.0 start (holding_in t held) (env_in meaning old t f)) (then_at meaning old f place t (env_in meaning old t f))) old (record old { frames = frames })
+  follows_nested old f form node start held place mid frames er b h hh em ef =
+      let t = old.heap.texts in
+      let g : Frame = record f { form = form; node = node; place = start; phase = phases.Ready; held = held } in
+      record {
+        keeps = (opens_waiting meaning t old f place mid em).by (begins_at meaning old g start t (env_in meaning old t g)) (record old { frames = frames }) (keeps_ready meaning t (record old { frames = mid }) g frames er refl ef);
+        sound = sound_push meaning old frames mid g er b (all_waiting old f place mid b h em) (record { scope = h.scope; this = h.this; world = h.world; held = hh; phase = tt }) ef;
+      }
+
+  -- a frame waits for what is followed above it
+  pub nests_waiting : (old : Config S) (f : Frame) (place : ℕ) (frames : List Frame) → frames ≡ old.frames ++ record f { place = place; phase = phases.Waiting } ∷ [] → Nests meaning (λ t. then_at meaning old f place t (env_in meaning old t f)) old (record old { frames = frames })
+  nests_waiting old f place frames ef = record {
+    by = λ act later r k. on_ok r (λ h. record { keeps = (opens_waiting meaning later.heap.texts old f place frames ef).by act later (none_fewer later.heap.texts act (record old { frames = frames }) later h.keeps); sound = h.sound }) k;
+  }
+
+  -- all else stays
+  pub later_waiting : (old : Config S) (f : Frame) (place : ℕ) (frames : List Frame) → Base meaning old → IsThere meaning old f → frames ≡ old.frames ++ record f { place = place; phase = phases.Waiting } ∷ [] → Later meaning old (record old { frames = frames })
+  later_waiting old f place frames b h ef = record {
+    state = refl;
+    units = refl;
+    global = refl;
+    owner = refl;
+    base = base_framed meaning old frames old.left old.state b (all_waiting old f place frames b h ef);
+    frames = λ g k. there_framed meaning old frames old.left old.state g k;
+    values = λ v k. k;
+    objects = λ o k. k;
+    names = λ name k. k;
+    references = λ r k. k;
+    completions = λ e k. k;
+    items = λ held k. k;
+    worlds = λ w k. k;
+    texts = grows_same old.heap.texts;
+  }
+
+  -- the frame below is given the completion
+  pub follows_given : (old : Config S) (c : Completion) (frames fs : List Frame) (f : Frame) → old.state ≡ states.Running → Base meaning old → HasCompletion old c → old.frames ≡ fs ++ f ∷ [] → frames ≡ fs ++ record f { phase = phases.Given c } ∷ []
+      → Follows meaning (Ret (completion_in old.heap.texts c)) old (record old { frames = frames })
+  follows_given old c frames fs f er b h eo ef =
+      let popped = there_pop meaning old fs f eo b in
+      record {
+        keeps = keeps_given meaning old.heap.texts c old frames fs f er eo ef;
+        sound = sound_push meaning old frames fs _ er b popped.0 (there_at meaning old f f.place (phases.Given c) h popped.1) ef;
+      }
+
+  -- no frame is left
+  pub follows_ended : (old : Config S) (c : Completion) (frames : List Frame) (state : State) → Base meaning old → HasCompletion old c → old.frames ≡ [] → frames ≡ [] → state ≡ ended c
+      → Follows meaning (Ret (completion_in old.heap.texts c)) old (record old { frames = frames; state = state })
+  follows_ended old c frames state b h eo ef es = record {
+    keeps = keeps_ended meaning old.heap.texts c old frames state eo es;
+    sound = record {
+      base = base_framed meaning old frames old.left state b (All-same (IsThere meaning old) frames [] ef (All-nil (IsThere meaning old)));
+      thrown = subst (λ s. HasThrown (record old { frames = frames; state = s }) s) (sym es) (thrown_ended (record old { frames = frames; state = ended c }) c h);
+      running = λ e. absurd (stopped_ended c (sym es ∙ e));
+    };
+  }

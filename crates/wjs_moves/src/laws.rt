@@ -1,0 +1,43 @@
+//! Laws of what is followed and of what is left to do, each the contract of a function that does nothing.
+ghost use Rattle.wjs_moves.specs.Shortening.{NestedEndsShorten, ShorterFollow, LooksFollow};
+ghost use Rattle.wjs_moves.specs.Growing.{MoreTextsChangeNothing};
+ghost use Rattle.wjs_moves.specs.Reaching.{TurnsReach, ReachedIsReached, SilentIsSteady};
+
+use wjs_store::WorldStore;
+
+/// Nested deeds that are at their end come to what comes after them, in fewer turns.
+pub fn nested_ends_shorten()
+    ensures { NestedEndsShorten }
+{}
+
+/// What follows deeds follows those that come to the same in more turns.
+pub fn shorter_follow<S: WorldStore>()
+    ensures { ShorterFollow S.meaning }
+{}
+
+/// What follows the deeds that come after a look at the objects that are there follows the look with them.
+pub fn looks_follow<S: WorldStore>()
+    ensures { LooksFollow S.meaning }
+{}
+
+/// What is left to do of a sound configuration is the same under its texts as under a table that has grown from them, and so
+/// are the turns before the next step that is due.
+pub fn more_texts_change_nothing<S: WorldStore>()
+    ensures { MoreTextsChangeNothing S.meaning }
+{}
+
+/// What was left with the steps that were left before a turn is what is left with those after it; and steps are taken, or there
+/// are fewer turns before the next step, or the run has ended.
+pub fn turns_reach<S: WorldStore>()
+    ensures { TurnsReach S.meaning }
+{}
+
+/// Turns one after another keep together what each of them keeps.
+pub fn reached_is_reached<S: WorldStore>()
+    ensures { ReachedIsReached S.meaning }
+{}
+
+/// Of a store that tells no actions those that it told mean the same under every table.
+pub fn silent_is_steady<S: WorldStore>()
+    ensures { SilentIsSteady S.meaning }
+{}
