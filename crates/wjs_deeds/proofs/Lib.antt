@@ -1,0 +1,11 @@
+pub mod Blind
+pub mod Running
+pub mod Steps
+pub mod Staying
+pub mod Later
+pub mod Composing
+pub mod Spelling
+pub mod Looking
+pub mod Making
+pub mod Referring
+pub mod Sprouting

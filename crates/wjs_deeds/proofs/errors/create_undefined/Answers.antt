@@ -1,0 +1,18 @@
+use Rattle.std.proofs.Common.{sym, ap, ◌∙◌}
+use Rattle.wjs_content.specs.Tables.{text_in, name_in}
+use Rattle.wjs_meaning.specs.declared.trouble.Trouble.TheVariants as troubles
+use Rattle.wjs_meaning.specs.Errors.{message_of, error_of}
+use Rattle.wjs_deeds.proofs.Composing.{if_ok}
+use Rattle.wjs_deeds.proofs.Making.{made_after, take_short}
+use Rattle.wjs_deeds.proofs.errors.create_undefined.Goals as goal
+
+pub create_with-requires-clause-short : goal.create_with-requires-clause-short
+create_with-requires-clause-short g c = take_short c.as_slice.result.now _ (c.as_slice.ensures.value ∙ c.in-Ok.ensures)
+
+pub returns-in-Ok-clause-does : goal.returns-in-Ok-clause-does
+returns-in-Ok-clause-does g c =
+    let name = c.args.name in
+    if_ok _ _ c.create_with.result
+    (λ o k. made_after g.S.WorldStore.meaning (λ t. name_in t name) (λ t. text_in t c.in_ok-id.id) (λ t. error_of troubles.NotDefined (name_in t name)) o c.args.config.now c.text_of.new.config c.create_with.new.config c.in_ok-id.ensures.does c.in_ok-id.ensures.later
+    (k (λ t. name_in t name) (λ t more. c.as_slice.ensures.value ∙ c.in-Ok.ensures ∙ ap (message_of troubles.NotDefined) (sym (c.units_of.ensures.text t more) ∙ c.in_ok-id.ensures.text t more))))
+    c.create_with.ensures.does

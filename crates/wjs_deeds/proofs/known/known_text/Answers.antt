@@ -1,0 +1,24 @@
+use Rattle.std.proofs.Common.{refl, sym, ◌∙◌}
+use Rattle.wjs_base.proofs.TextLaws.{Denotes-Has, Grows-refl}
+use Rattle.wjs_content.specs.Tables.{text_in}
+use Rattle.wjs_deeds.specs.Known.{text_of}
+use Rattle.wjs_deeds.proofs.Running.{does_ran}
+use Rattle.wjs_deeds.proofs.Steps.{ran_nothing}
+use Rattle.wjs_deeds.proofs.Later.{later_same}
+use Rattle.wjs_deeds.proofs.Spelling.{denotes_in}
+use Rattle.wjs_deeds.proofs.known.known_text.Goals as goal
+
+pub returns-in-Some-clause-does : goal.returns-in-Some-clause-does
+returns-in-Some-clause-does g c =
+    let m = g.S.WorldStore.meaning in
+    let old = c.args.config.now in
+    does_ran m _ _ old _ (ran_nothing m (λ t. text_of c.args.known) (λ t. text_in t c.in-Some.id) old old.heap (Grows-refl old.heap.texts) refl refl (λ t more. sym (denotes_in old.heap.texts t c.in-Some.id _ c.in-Some.ensures more ∙ c.units.ensures.units)))
+
+pub returns-in-Some-clause-later : goal.returns-in-Some-clause-later
+returns-in-Some-clause-later g c = later_same g.S.WorldStore.meaning c.args.config.now c.requires.base
+
+pub returns-in-Some-clause-found : goal.returns-in-Some-clause-found
+returns-in-Some-clause-found g c = Denotes-Has c.args.config.now.heap.texts c.in-Some.id _ c.in-Some.ensures
+
+pub returns-in-Some-clause-text : goal.returns-in-Some-clause-text
+returns-in-Some-clause-text g c = λ t more. denotes_in c.args.config.now.heap.texts t c.in-Some.id _ c.in-Some.ensures more ∙ c.units.ensures.units

@@ -1,0 +1,18 @@
+use Rattle.std.proofs.Common.{ap, ◌∙◌, sym}
+use Rattle.wjs_content.specs.Objects.{is_hidden}
+use Rattle.wjs_content.specs.Tables.{name_in}
+use Rattle.wjs_props.specs.Means.{parts}
+use Rattle.wjs_deeds.proofs.Running.{does_ran}
+use Rattle.wjs_deeds.proofs.Steps.{ran_look}
+use Rattle.wjs_arena.specs.declared.object.Flags.{Flags}
+use Rattle.wjs_props.proofs.ByContent.{flags_same}
+use Rattle.wjs_deeds.proofs.looks.is_hidden.Goals as goal
+
+pub returns-clause-does : goal.returns-clause-does
+returns-clause-does g c =
+    let m = g.S.WorldStore.meaning in
+    let old = c.args.config.now in
+    does_ran m _ _ old old (ran_look m (λ t arena. is_hidden arena c.args.object (name_in t c.args.name)) (λ t. c.flags.result.hidden) old (λ t more. ap (λ (f : Flags). f.hidden) (flags_same (parts m old.heap) c.requires.base.heap t more c.args.object c.args.name c.requires.name ∙ sym c.flags.ensures)))
+
+pub returns-clause-is : goal.returns-clause-is
+returns-clause-is g c = λ t more. ap (λ (f : Flags). f.hidden) (flags_same (parts g.S.WorldStore.meaning c.args.config.now.heap) c.requires.base.heap t more c.args.object c.args.name c.requires.name ∙ sym c.flags.ensures)

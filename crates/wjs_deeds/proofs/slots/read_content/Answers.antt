@@ -1,0 +1,14 @@
+use Rattle.wjs_content.specs.Plans.{Gives, Reads}
+use Rattle.wjs_content.specs.Tables.{slot_in, content_in}
+use Rattle.wjs_deeds.proofs.Running.{does_ran}
+use Rattle.wjs_deeds.proofs.Steps.{ran_actions}
+use Rattle.wjs_deeds.proofs.Later.{later_plan}
+use Rattle.wjs_deeds.proofs.slots.read_content.Goals as goal
+
+pub returns-clause-does : goal.returns-clause-does
+returns-clause-does g c =
+    let m = g.S.WorldStore.meaning in
+    does_ran m _ _ c.args.config.now _ (ran_actions m c.args.frame.now.world (λ t. Reads (slot_in t (record { object = c.args.object; name = c.args.name })) Gives) (λ t. content_in t c.in_ok-found.found) c.args.config.now c.read.new.heap c.in_ok-found.ensures.reads)
+
+pub returns-clause-later : goal.returns-clause-later
+returns-clause-later g c = later_plan g.S.WorldStore.meaning _ _ _ c.args.config.now c.read.new.heap c.requires.base c.in_ok-found.ensures.reads
