@@ -86,6 +86,9 @@ const OUTER: Place = Place::Local { hops: 1 };
 
 const FARTHER: Place = Place::Local { hops: 2 };
 
+const RETURNED: &str =
+    "function f(a) { var a, b; function a() { } return function g() { return b + g + c; }; }";
+
 #[test]
 fn places_of_names(rt: HostRuntime) -> Result<(), Fail> {
     let rows = [
@@ -138,6 +141,9 @@ fn places_of_names(rt: HostRuntime) -> Result<(), Fail> {
             "a",
             HERE,
         ),
+        // A function that is returned from another: its own name, and one that nothing declares.
+        (RETURNED, "g", OUTER),
+        (RETURNED, "c", GLOBAL),
         // The name of a function expression has a scope of its own, around the function's.
         ("(function f() { return f; })", "f", OUTER),
         ("(function f(f) { return f; })", "f", HERE),
