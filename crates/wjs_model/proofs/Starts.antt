@@ -1,13 +1,14 @@
 -- The start of a run, and the end of a frame.
 use Rattle.std.proofs.Common.{◌≡◌, ℕ, List, [], ◌∷◌, ◌++◌, None, Some, refl, sym, ap, ◌∙◌}
-use Rattle.wjs_meaning.specs.Trees.{Tree, Node, Program, node_at}
+use Rattle.wjs_meaning.specs.Trees.{Tree}
 use Rattle.wjs_meaning.specs.Deeds.{St, AtProgram, Completion, Gives, Refers, Normal, Breaks, Continues, Returns, Throws, Ret, Tick, Eval, Outcome, Ends, Spent, interp, then_do}
 use Rattle.wjs_meaning.specs.Programs.{eval, Ending, Done, program_env, run_next}
+use Rattle.wjs_meaning.specs.Functions.{program_of}
 use Rattle.wjs_meaning.specs.Start.{start}
 use Rattle.wjs_meaning.proofs.Steps.{entries_lem}
-use Rattle.wjs_model.specs.Contents.{Frame, nothing, Run}
-use Rattle.wjs_model.specs.Waiting.{next_program, after_body_of}
-use Rattle.wjs_model.specs.Rest.{Go, begin_body, given, under}
+use Rattle.wjs_model.specs.Contents.{Frame, Run}
+use Rattle.wjs_model.specs.Waiting.{next_program}
+use Rattle.wjs_model.specs.Rest.{Go, given, under}
 use Rattle.wjs_model.specs.Laws.{script_names, StartIsTheRun, EndsGoDown}
 
 -- what follows nothing changes nothing
@@ -16,11 +17,9 @@ then_ends (Ends c st n) = refl
 then_ends (Spent st) = refl
 
 -- the body of a program that begins
-begins : (trees : List Tree) (k body : ℕ) (node : Node) (elements : List ℕ) (go : Go) (st : St) (n : ℕ) → node ≡ Program elements
-    → then_do (interp eval (Tick (begin_body node nothing (program_env trees k))) st n) go ≡ then_do (eval AtProgram (program_env trees k) st n) go
-begins trees k body node elements go st n e =
-    ap (λ x. then_do (interp eval (Tick (begin_body x nothing (program_env trees k))) st n) go) e
-    ∙ ap (λ o. then_do o go) (sym (entries_lem AtProgram (program_env trees k) st n))
+begins : (trees : List Tree) (k : ℕ) (go : Go) (st : St) (n : ℕ)
+    → then_do (interp eval (Tick (program_of (program_env trees k))) st n) go ≡ then_do (eval AtProgram (program_env trees k) st n) go
+begins trees k go st n = ap (λ o. then_do o go) (sym (entries_lem AtProgram (program_env trees k) st n))
 
 -- the run of one program
 last_program : (o : Outcome) → run_next (then_do o Ends) (λ st' n'. (Done, st')) ≡ run_next o (λ st' n'. (Done, st'))
@@ -29,12 +28,8 @@ last_program o = ap (λ o'. run_next o' (λ st' n'. (Done, st'))) (then_ends o)
 -- ---- a program that waited
 
 -- goes on after the library
-goes_on : List Tree → Node → Go
-goes_on trees node c st n = then_do (interp eval (after_body_of node 0 (program_env trees 1) c) st n) Ends
-
-next_goes : (trees : List Tree) (node : Node) (elements : List ℕ) → node ≡ Program elements → (c : Completion) (st : St) (n : ℕ) → goes_on trees node c st n ≡ then_do (interp eval (next_program (program_env trees 1) c) st n) Ends
-unfolding goes_on
-next_goes trees node elements e c st n = ap (λ x. then_do (interp eval (after_body_of x 0 (program_env trees 1) c) st n) Ends) e
+goes_on : List Tree → Go
+goes_on trees c st n = then_do (interp eval (next_program (program_env trees 1) c) st n) Ends
 
 -- the script's run
 script_run : List Tree → St → ℕ → Ending × St
@@ -59,24 +54,17 @@ after_library trees (Ends (Breaks label) st n) = runs_on trees st n
 after_library trees (Ends (Continues label) st n) = runs_on trees st n
 after_library trees (Ends (Returns v) st n) = runs_on trees st n
 
--- two ways to go on that agree
-then_same : (o : Outcome) (one two : Go) → ((c : Completion) (st : St) (n : ℕ) → one c st n ≡ two c st n) → then_do o one ≡ then_do o two
-then_same (Ends c st n) one two h = h c st n
-then_same (Spent st) one two h = refl
-
 pub start_lem : StartIsTheRun
 unfolding goes_on script_run
-start_lem None script budget l h =
+start_lem None script budget =
     let trees = script ∷ [] in
     let st = start (script_names None script) in
-    ap (λ o. run_next o (λ st' n'. (Done, st'))) (begins trees 0 script.body (node_at script script.body) h.0 Ends st budget h.1)
+    ap (λ o. run_next o (λ st' n'. (Done, st'))) (begins trees 0 Ends st budget)
     ∙ last_program (eval AtProgram (program_env trees 0) st budget)
-start_lem (Some library) script budget l h =
+start_lem (Some library) script budget =
     let trees = library ∷ script ∷ [] in
     let st = start (script_names (Some library) script) in
-    let go : Go = goes_on trees (node_at script script.body) in
-    ap (λ o. run_next o (λ st' n'. (Done, st'))) (begins trees 0 library.body (node_at library library.body) l.0 go st budget l.1)
-    ∙ ap (λ o. run_next o (λ st' n'. (Done, st'))) (then_same (eval AtProgram (program_env trees 0) st budget) go _ (next_goes trees (node_at script script.body) h.0 h.1))
+    ap (λ o. run_next o (λ st' n'. (Done, st'))) (begins trees 0 (goes_on trees) st budget)
     ∙ after_library trees (eval AtProgram (program_env trees 0) st budget)
 
 -- ---- the end of a frame

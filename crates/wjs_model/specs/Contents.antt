@@ -32,7 +32,7 @@ pub record Holding : Type 0 where
   pub reference : Reference
   -- what is called, and its `this`
   pub callee : Value × Value
-  -- whether the call is one of `new`
+  -- whether the latest call is one of `new`
   pub by_new : Bool
   -- the object whose elements are read, and how many
   pub elements : ObjId × ℕ
@@ -87,9 +87,11 @@ callee_held [] = (values.Undefined, values.Undefined)
 callee_held (holds.Callee f this ∷ held) = (f, this)
 callee_held (_ ∷ held) = callee_held held
 
+-- the latest call decides
 abbrev pub new_held : List Held → Bool
 new_held [] = false
 new_held (holds.ByNew ∷ held) = true
+new_held (holds.Callee f this ∷ held) = false
 new_held (_ ∷ held) = new_held held
 
 abbrev pub elements_held : List Held → ObjId × ℕ

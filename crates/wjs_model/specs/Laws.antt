@@ -2,7 +2,7 @@
 use Rattle.std.specs.Prelude.{◌≡◌, ℕ, List, [], ◌∷◌, ◌++◌, Option, None, Some}
 use Rattle.wjs_content.specs.Values.{Object}
 use Rattle.wjs_meaning.specs.Builtins.{global_object, first_world}
-use Rattle.wjs_meaning.specs.Trees.{Tree, Program, node_at}
+use Rattle.wjs_meaning.specs.Trees.{Tree}
 use Rattle.wjs_meaning.specs.Deeds.{St, Completion, Ret}
 use Rattle.wjs_meaning.specs.Programs.{declared_names, machine}
 use Rattle.wjs_meaning.specs.Start.{start}
@@ -32,17 +32,9 @@ abbrev pub script_names : Option Tree → Tree → List (List ℕ)
 script_names None script = declared_names (script ∷ []) 0
 script_names (Some library) script = declared_names (library ∷ script ∷ []) 1
 
--- the node of a tree's body holds a program's elements
-abbrev pub HasProgram : Tree → Type 0
-HasProgram tree = (elements : List ℕ) × (node_at tree tree.body ≡ Program elements)
-
-abbrev pub HasLibrary : Option Tree → Type 0
-HasLibrary None = Unit {0}
-HasLibrary (Some library) = HasProgram library
-
 -- what is left at the start is the whole run
 abbrev pub StartIsTheRun : Type 0
-StartIsTheRun = (library : Option Tree) (script : Tree) (budget : ℕ) → HasLibrary library → HasProgram script → rest_of (run_of (trees_of library script)) (first_frames library script) (start (script_names library script)) budget ≡ machine library script budget
+StartIsTheRun = (library : Option Tree) (script : Tree) (budget : ℕ) → rest_of (run_of (trees_of library script)) (first_frames library script) (start (script_names library script)) budget ≡ machine library script budget
 
 -- a frame that waited and was given a completion goes on as the frames below an end with that completion
 abbrev pub EndsGoDown : Type 0

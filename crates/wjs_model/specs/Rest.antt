@@ -7,7 +7,7 @@ use Rattle.wjs_tree.specs.declared.operators.BinaryOperator.{BinaryOperator}
 use Rattle.wjs_tree.specs.Operators.{compound}
 use Rattle.wjs_content.specs.Values.{Value, Object, value_or_undefined}
 use Rattle.wjs_content.specs.Names.{slot, index_name}
-use Rattle.wjs_meaning.specs.Trees.{Node, Assign, For, Program}
+use Rattle.wjs_meaning.specs.Trees.{Node, Assign, For}
 use Rattle.wjs_meaning.specs.Deeds.{St, Env, Completion, Normal, Act, Ret, Tick, Eval, Sub, Do, Read, Outcome, Ends, interp, then_do, answer_of, state_after, node_here}
 use Rattle.wjs_meaning.specs.Properties.{get_value}
 use Rattle.wjs_meaning.specs.Calls.{call}
@@ -54,18 +54,14 @@ abbrev pub begin_expr : Node → ℕ → ℕ → Holding → Env → Act
 begin_expr node here zero held env = expr_of here node env
 begin_expr node here place held env = begin_operation node held.values env
 
+-- the body of the function that is held with its arguments; without one the body of a program
 abbrev pub body_if : Value → List Value → Env → Act
 body_if (Object f) args env = body_of f args env
-body_if v args env = Ret Normal
+body_if v args env = program_of env
 
 abbrev pub call_if : Value → Value → List Value → Env → Act
 call_if (Object f) this args env = call f this args env
 call_if v this args env = Ret Normal
-
--- the body of a program, or of a function with its arguments
-abbrev pub begin_body : Node → Holding → Env → Act
-begin_body (Program elements) held env = program_of env
-begin_body node held env = body_if held.callee.0 held.values env
 
 abbrev pub begin_conversion : Conversion → Value → Env → Act
 begin_conversion to.TextFirst v env = to_primitive HintString v env
@@ -99,7 +95,7 @@ abbrev pub begin_form : Node → Form → ℕ → ℕ → Holding → Env → Ac
 begin_form node form.Expr here place held env = begin_expr node here place held env
 begin_form node form.Target here place held env = target_of here node env
 begin_form node form.Stmt here place held env = begin_stmt node here place env
-begin_form node form.Body here place held env = begin_body node held env
+begin_form node form.Body here place held env = body_if held.callee.0 held.values env
 begin_form node (form.Convert conversion) here place held env = begin_conversion conversion held.value env
 begin_form node form.Call here place held env = call_if held.callee.0 held.callee.1 held.values env
 begin_form node (form.Native k) here place held env = begin_native k place held env

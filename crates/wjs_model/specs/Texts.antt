@@ -1,5 +1,5 @@
 -- The texts that a program names are in a table.
-use Rattle.std.specs.Prelude.{List, Option, None, Some, All}
+use Rattle.std.specs.Prelude.{Option, None, Some, All}
 use Rattle.wjs_base.specs.declared.ids.TextId.{TextId}
 use Rattle.wjs_base.specs.Text.{Table, Has}
 use Rattle.wjs_tree.specs.declared.node.Spelt.{Spelt}

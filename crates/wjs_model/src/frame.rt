@@ -77,7 +77,7 @@ pub enum Held {
     Reference(Reference),
     /// What is called, and with which `this`; the values held are the arguments.
     Callee(Value, Value),
-    /// The call is one of `new`.
+    /// The latest call is one of `new`.
     ByNew,
     /// The object whose elements are read one by one, and how many they are.
     Elements(ObjId, u32),
@@ -90,7 +90,7 @@ pub enum Held {
 /// What a frame holds. Contracts see the list with the latest first.
 #[derive(Drop)]
 pub struct Items {
-    list: Vec<Held>,
+    pub(crate) list: Vec<Held>,
 }
 
 impl Model for Items {

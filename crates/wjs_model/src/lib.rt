@@ -3,6 +3,7 @@
 
 mod config;
 mod frame;
+mod held;
 mod laws;
 mod nodes;
 mod turn;

@@ -1,4 +1,4 @@
-use Rattle.std.proofs.Common.{◌≡◌, None, ap, ◌∙◌, subst, arith, rules}
+use Rattle.std.proofs.Common.{subst, arith}
 use Rattle.wjs_model.specs.Frames.{latest_first, Uncovers}
 use Rattle.wjs_model.proofs.Latest.{uncovers}
 use Rattle.wjs_model.proofs.frame.Items.pop.Goals as goal

@@ -1,4 +1,4 @@
-use Rattle.std.proofs.Common.{◌∷◌, sym, ap, ◌∙◌}
+use Rattle.std.proofs.Common.{◌∷◌, ap, ◌∙◌}
 use Rattle.wjs_model.specs.Frames.{latest_first}
 use Rattle.wjs_model.proofs.Latest.{latest-snoc}
 use Rattle.wjs_model.proofs.frame.Items.push.Goals as goal
