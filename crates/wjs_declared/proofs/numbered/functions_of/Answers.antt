@@ -1,0 +1,13 @@
+use Rattle.std.proofs.Common.{[], ◌∷◌, ◌++◌, get_or, sym, ap, ◌∙◌}
+use Rattle.wjs_tree.specs.declared.node.NodeId.{NodeId}
+use Rattle.wjs_declared.specs.Names.{functions_among}
+use Rattle.wjs_declared.proofs.Looping.{functions_more}
+use Rattle.wjs_declared.proofs.numbered.functions_of.Goals as goal
+
+pub loop-element-preserved : goal.loop-element-preserved
+loop-element-preserved c =
+    let ns = c.args.unit.now.program.nodes in
+    let none : NodeId = record { 0 = 0 } in
+    c.in_ok-add_function.ensures
+    ∙ ap (λ l. l ++ functions_among ns (get_or c.args.elements.now c.loop-element.element-index none ∷ [])) c.loop-element.invariant
+    ∙ sym (functions_more ns c.args.elements.now c.loop-element.element-index none c.loop-element-test.true)

@@ -1,0 +1,12 @@
+//! What a body declares.
+use wjs_base::TextId;
+use wjs_tree::{NodeId, Sequence};
+
+/// What a body declares (ECMA-262, 3rd edition, section 10.1.3): its formals in order, the nodes of its functions in order, and
+/// the names of its `var`s, each once, in order of first occurrence.
+#[derive(Drop)]
+pub struct Declared {
+    pub formals: Sequence<TextId>,
+    pub functions: Sequence<NodeId>,
+    pub variables: Sequence<TextId>,
+}
