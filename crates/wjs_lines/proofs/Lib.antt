@@ -1,0 +1,5 @@
+pub mod Converting
+pub mod Following
+pub mod Knowing
+pub mod Parts
+pub mod Indices

@@ -1,0 +1,39 @@
+//! What a frame holds is there.
+ghost use Rattle.std.specs.Prelude.{◌≡◌};
+ghost use Rattle.wjs_model.specs.Contents.{value_held, reference_held, callee_held};
+ghost use Rattle.wjs_model.specs.Soundness.{IsThere, HasValue, HasReference};
+
+use wjs_base::Value;
+use wjs_model::{Config, Frame, Reference};
+use wjs_store::WorldStore;
+
+/// The latest value.
+pub fn held_value<S: WorldStore>(config: &Config<S>, frame: &Frame) -> Value
+    requires { IsThere S.meaning config.now frame.now }
+    ensures is { result ≡ value_held frame.now.held }
+    ensures found { HasValue config.now result }
+{
+    let _config = config;
+    frame.held.value()
+}
+
+/// The latest reference.
+pub fn held_reference<S: WorldStore>(config: &Config<S>, frame: &Frame) -> Reference
+    requires { IsThere S.meaning config.now frame.now }
+    ensures is { result ≡ reference_held frame.now.held }
+    ensures found { HasReference config.now result }
+{
+    let _config = config;
+    frame.held.reference()
+}
+
+/// What is called, and its `this`.
+pub fn held_callee<S: WorldStore>(config: &Config<S>, frame: &Frame) -> (Value, Value)
+    requires { IsThere S.meaning config.now frame.now }
+    ensures is { result ≡ callee_held frame.now.held }
+    ensures callee { HasValue config.now result.0 }
+    ensures this { HasValue config.now result.1 }
+{
+    let _config = config;
+    frame.held.callee()
+}

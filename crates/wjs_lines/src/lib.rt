@@ -1,0 +1,21 @@
+//! What many lines of the meaning share: what values count as, what a frame holds, and how a line ends.
+#![tactic(auto)]
+
+mod ends;
+mod held;
+mod objects;
+mod places;
+mod references;
+mod texts;
+mod values;
+
+pub use ends::{give, give_result, give_text, throw, throw_undefined};
+pub use held::{held_callee, held_reference, held_value};
+pub use objects::{this_or_global, to_object};
+pub use places::{place_after, place_at};
+pub use references::{give_value_of, store_and_give};
+pub use texts::{join, name_of_value};
+pub use values::{
+    are_primitives, is_nullish, is_object, is_text, less_than, loosely_equal, strictly_equal,
+    to_boolean, to_number,
+};

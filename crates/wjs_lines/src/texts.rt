@@ -1,0 +1,131 @@
+//! Texts of primitives (ECMA-262, 3rd edition, section 9.8), and names of members by value.
+ghost use Rattle.std.specs.Prelude.{◌≡◌, ◌≤◌, ◌++◌, IfOk, OnOk, MatchOption};
+ghost use Rattle.wjs_base.specs.Text.{Table, Grows};
+ghost use Rattle.wjs_content.specs.Tables.{value_in, name_in};
+ghost use Rattle.wjs_base.specs.Spelling.{greatest_index};
+ghost use Rattle.wjs_content.specs.Names.{index_name};
+ghost use Rattle.wjs_convert.specs.Conversions.{primitive_text};
+ghost use Rattle.wjs_meaning.specs.Errors as errors;
+ghost use Rattle.wjs_model.specs.Soundness.{Base, IsThere, HasValue, HasName};
+ghost use Rattle.wjs_moves.specs.Doing.{Does};
+ghost use Rattle.wjs_moves.specs.Following.{Follows, Later};
+ghost use Rattle.wjs_moves.specs.Parts.{env_in};
+
+use crate::ends::give_text;
+use wjs_base::{LONGEST_TEXT, Name, OutOfMemory, Value};
+use wjs_deeds::{intern, name_of, units_of};
+use wjs_model::{Config, Frame, State};
+use wjs_num::write_radix;
+use wjs_store::WorldStore;
+
+/// `undefined`, `null`, `true` and `false`.
+const UNDEFINED: [u16; 9] = [117, 110, 100, 101, 102, 105, 110, 101, 100];
+
+const NULL: [u16; 4] = [110, 117, 108, 108];
+
+const TRUE: [u16; 4] = [116, 114, 117, 101];
+
+const FALSE: [u16; 5] = [102, 97, 108, 115, 101];
+
+/// Puts the code units of a primitive's text behind others.
+fn push_text<S: WorldStore>(
+    config: &Config<S>,
+    units: &mut Vec<u16>,
+    value: Value,
+) -> Result<(), OutOfMemory>
+    requires base { Base S.meaning config.now }
+    requires value { HasValue config.now value }
+    ensures { OnOk result ((t : Table) → Grows config.now.heap.texts t → units.new.items ≡ units.old.items ++ primitive_text (value_in t value)) }
+{
+    match value {
+        Value::Undefined => push_units(units, &UNDEFINED),
+        Value::Null => push_units(units, &NULL),
+        Value::Bool(true) => push_units(units, &TRUE),
+        Value::Bool(false) => push_units(units, &FALSE),
+        Value::Number(number) => {
+            let digits = write_radix(*units.allocator(), number, 10)?;
+            push_units(units, digits.as_slice())
+        }
+        Value::Text(id) => push_units(units, units_of(config, id)),
+        Value::Object(_) => push_units(units, &[]),
+    }
+}
+
+fn push_units(units: &mut Vec<u16>, more: &[u16]) -> Result<(), OutOfMemory>
+    ensures { OnOk result (units.new.items ≡ units.old.items ++ more.now) }
+{
+    match units.extend_from_slice(more) {
+        Ok(()) => Ok(()),
+        Err(_) => Err(OutOfMemory),
+    }
+}
+
+/// The texts of two primitives, one behind the other.
+pub fn join<S: WorldStore>(
+    config: &mut Config<S>,
+    frame: &Frame,
+    left: Value,
+    right: Value,
+) -> Result<(), OutOfMemory>
+    requires running { config.old.state ≡ State.Running }
+    requires base { Base S.meaning config.old }
+    requires there { IsThere S.meaning config.old frame.now }
+    requires left { HasValue config.old left }
+    requires right { HasValue config.old right }
+    ensures { let t = config.new.heap.texts in let env = env_in S.meaning config.old t frame.now in OnOk result (Follows S.meaning (errors.give_text (primitive_text (value_in t left) ++ primitive_text (value_in t right)) env) config.old config.new) }
+{
+    let mut units = Vec::new(config.heap.arena.allocator());
+    push_text(config, &mut units, left)?;
+    push_text(config, &mut units, right)?;
+    give_text(config, frame, units.as_slice())
+}
+
+/// The name that a primitive's text is. An index is its own name, with no text made.
+pub fn name_of_value<S: WorldStore>(
+    config: &mut Config<S>,
+    value: Value,
+) -> Result<Name, OutOfMemory>
+    requires base { Base S.meaning config.old }
+    requires value { HasValue config.old value }
+    ensures does { IfOk result (λ name. Does S.meaning (λ t go. go (primitive_text (value_in t value))) (λ t. name_in t name) config.old config.new) }
+    ensures later { OnOk result (Later S.meaning config.old config.new) }
+    ensures found { IfOk result (λ name. HasName config.new name) }
+{
+    match index_of(value) {
+        Some(index) => Ok(Name::Index(index)),
+        None => name_by_text(config, value),
+    }
+}
+
+/// The number, where it is an array index (section 15.4).
+fn index_of(value: Value) -> Option<u32>
+    ensures { MatchOption result (Unit {0}) (λ index. (index ≤ greatest_index) × ((t : Table) → primitive_text (value_in t value) ≡ index_name index)) }
+{
+    let Value::Number(number) = value else {
+        return None;
+    };
+    match number.get() {
+        Some(n) if n >= 0 && n < 4_294_967_295 => Some(n as u32),
+        _ => None,
+    }
+}
+
+/// The name of the text, which is made where it is new.
+fn name_by_text<S: WorldStore>(config: &mut Config<S>, value: Value) -> Result<Name, OutOfMemory>
+    requires base { Base S.meaning config.old }
+    requires value { HasValue config.old value }
+    ensures does { IfOk result (λ name. Does S.meaning (λ t go. go (primitive_text (value_in t value))) (λ t. name_in t name) config.old config.new) }
+    ensures later { OnOk result (Later S.meaning config.old config.new) }
+    ensures found { IfOk result (λ name. HasName config.new name) }
+{
+    if let Value::Text(id) = value {
+        return Ok(name_of(config, id));
+    }
+    let mut units = Vec::new(config.heap.arena.allocator());
+    push_text(config, &mut units, value)?;
+    if units.len() > LONGEST_TEXT {
+        return Err(OutOfMemory);
+    }
+    let id = intern(config, units.as_slice())?;
+    Ok(name_of(config, id))
+}
