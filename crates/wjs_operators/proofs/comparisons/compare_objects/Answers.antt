@@ -1,0 +1,7 @@
+use Rattle.std.proofs.Common.{refl}
+use Rattle.wjs_lines.proofs.Following.{follows_as}
+use Rattle.wjs_operators.proofs.Operators.{comparison_left}
+use Rattle.wjs_operators.proofs.comparisons.compare_objects.Goals as goal
+
+pub returns : goal.returns
+returns g c = follows_as _ _ _ _ _ _ (λ grows. rw (c.in_ok-hold.ensures, c.requires.operates.left, comparison_left c.args.operator _ _ c.requires.comparison) refl) c.convert.ensures

@@ -1,0 +1,7 @@
+use Rattle.std.proofs.Common.{refl}
+use Rattle.wjs_lines.proofs.Following.{follows_as}
+use Rattle.wjs_operators.proofs.Operators.{equality_left}
+use Rattle.wjs_operators.proofs.equality.equal_converted.Goals as goal
+
+pub returns : goal.returns
+returns g c = follows_as _ _ _ _ _ _ (λ grows. rw (c.in_ok-hold.ensures, c.requires.operates.left, equality_left c.args.negated _ _) refl) c.convert.ensures

@@ -1,0 +1,16 @@
+use Rattle.wjs_moves.proofs.Shorter.{follows_shorter}
+use Rattle.wjs_content.specs.Tables.{value_in}
+use Rattle.wjs_moves.specs.Parts.{env_in}
+use Rattle.wjs_meaning.specs.Operators.{in_name}
+use Rattle.wjs_lines.proofs.Converting.{text_shortens}
+use Rattle.std.proofs.Common.{◌∙◌}
+use Rattle.wjs_operators.proofs.relations.in_object.Goals as goal
+
+pub returns-else-is_object : goal.returns-else-is_object
+returns-else-is_object g c =
+    let t = c.in_primitive.new.config.heap.texts in
+    let env = env_in g.S.WorldStore.meaning c.args.config.now t c.args.frame in
+    follows_shorter g.S.WorldStore.meaning _ _ _ _ _ (text_shortens (value_in t c.args.left) env (in_name c.args.object env) (c.is_object.ensures t ∙ c.if-is_object.false)) c.in_primitive.ensures
+
+pub in_primitive-requires-clause-primitive : goal.in_primitive-requires-clause-primitive
+in_primitive-requires-clause-primitive g c = λ t. c.is_object.ensures t ∙ c.if-is_object.false

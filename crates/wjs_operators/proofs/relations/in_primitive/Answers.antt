@@ -1,0 +1,16 @@
+use Rattle.std.proofs.Common.{subst}
+use Rattle.std.specs.Prelude.{OnOk}
+use Rattle.wjs_content.specs.Tables.{name_in}
+use Rattle.wjs_meaning.specs.Deeds.{Env}
+use Rattle.wjs_meaning.specs.Operators.{in_name}
+use Rattle.wjs_moves.specs.Following.{Follows}
+use Rattle.wjs_moves.specs.Parts.{env_in}
+use Rattle.wjs_lines.proofs.Following.{env_later}
+use Rattle.wjs_operators.proofs.relations.in_primitive.Goals as goal
+
+pub returns : goal.returns
+returns g c =
+    let m = g.S.WorldStore.meaning in
+    let t = c.in_name.new.config.heap.texts in
+    let P : Env → Type 0 = λ env. OnOk c.in_name.result (Follows m (in_name c.args.object env (name_in t c.in_ok-name.name)) c.name_of_value.new.config c.in_name.new.config) in
+    c.in_ok-name.ensures.does.by (in_name c.args.object (env_in m c.args.config.now t c.args.frame.now)) _ _ (subst P (env_later m _ _ t c.args.frame.now c.in_ok-name.ensures.later) c.in_name.ensures)

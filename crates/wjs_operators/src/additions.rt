@@ -1,0 +1,100 @@
+//! `+` (ECMA-262, 3rd edition, section 11.6.1): a text on either side joins the texts of both.
+ghost use Rattle.std.specs.Prelude.{◌≡◌, OnOk};
+ghost use Rattle.wjs_content.specs.Tables.{value_in};
+ghost use Rattle.wjs_meaning.specs.Errors.{give_text, give_result};
+ghost use Rattle.wjs_meaning.specs.Operators as line;
+ghost use Rattle.wjs_model.specs.Contents.{value_held};
+ghost use Rattle.wjs_model.specs.Soundness.{Base, IsThere, HasValue};
+ghost use Rattle.wjs_moves.specs.Parts.{env_in};
+ghost use Rattle.wjs_moves.specs.Following.{Follows};
+ghost use Rattle.wjs_operators.specs.Operating.{Operates};
+
+use wjs_base::{OutOfMemory, Value};
+use wjs_lines::{are_primitives, give_result, held_value, is_text, join, to_number};
+use wjs_model::{Config, Conversion, Frame, Held, State};
+use wjs_moves::{convert, hold};
+use wjs_store::WorldStore;
+use wjs_tree::BinaryOperator;
+
+/// The sum of two values.
+pub(crate) fn add<S: WorldStore>(
+    config: &mut Config<S>,
+    frame: Frame,
+    left: Value,
+    right: Value,
+) -> Result<(), OutOfMemory>
+    requires running { config.old.state ≡ State.Running }
+    requires base { Base S.meaning config.old }
+    requires there { IsThere S.meaning config.old frame }
+    requires operates { Operates S.meaning config.old frame BinaryOperator.Add }
+    requires left { HasValue config.old left }
+    requires right { HasValue config.old right }
+    ensures { let t = config.new.heap.texts in let env = env_in S.meaning config.old t frame in OnOk result (Follows S.meaning (line.add_values (value_in t left) (value_in t right) env) config.old config.new) }
+{
+    if are_primitives(left, right) {
+        added(config, &frame, left, right)
+    } else {
+        add_objects(config, frame, left, right)
+    }
+}
+
+/// The left value is converted, and the right one is held.
+fn add_objects<S: WorldStore>(
+    config: &mut Config<S>,
+    frame: Frame,
+    left: Value,
+    right: Value,
+) -> Result<(), OutOfMemory>
+    requires running { config.old.state ≡ State.Running }
+    requires base { Base S.meaning config.old }
+    requires there { IsThere S.meaning config.old frame }
+    requires operates { Operates S.meaning config.old frame BinaryOperator.Add }
+    requires left { HasValue config.old left }
+    requires right { HasValue config.old right }
+    ensures { let t = config.new.heap.texts in let env = env_in S.meaning config.old t frame in OnOk result (Follows S.meaning (line.add_values (value_in t left) (value_in t right) env) config.old config.new) }
+{
+    let mut frame = frame;
+    hold(&mut frame, Held::Value(right))?;
+    convert(config, frame, 3, Conversion::NumberFirst, left)
+}
+
+/// After the conversion of the left value: the right one is converted.
+pub(crate) fn add_right<S: WorldStore>(
+    config: &mut Config<S>,
+    frame: Frame,
+    primitive: Value,
+) -> Result<(), OutOfMemory>
+    requires running { config.old.state ≡ State.Running }
+    requires base { Base S.meaning config.old }
+    requires there { IsThere S.meaning config.old frame }
+    requires operates { Operates S.meaning config.old frame BinaryOperator.Add }
+    requires value { HasValue config.old primitive }
+    ensures { let t = config.new.heap.texts in let env = env_in S.meaning config.old t frame in OnOk result (Follows S.meaning (line.add_first (value_in t (value_held frame.held)) env (value_in t primitive)) config.old config.new) }
+{
+    let right = held_value(config, &frame);
+    let mut frame = frame;
+    hold(&mut frame, Held::Value(primitive))?;
+    convert(config, frame, 4, Conversion::NumberFirst, right)
+}
+
+/// Both are primitives.
+pub(crate) fn added<S: WorldStore>(
+    config: &mut Config<S>,
+    frame: &Frame,
+    left: Value,
+    right: Value,
+) -> Result<(), OutOfMemory>
+    requires running { config.old.state ≡ State.Running }
+    requires base { Base S.meaning config.old }
+    requires there { IsThere S.meaning config.old frame.now }
+    requires left { HasValue config.old left }
+    requires right { HasValue config.old right }
+    ensures { let t = config.new.heap.texts in let env = env_in S.meaning config.old t frame.now in OnOk result (Follows S.meaning (line.add_second (value_in t left) env (value_in t right)) config.old config.new) }
+{
+    if is_text(left) || is_text(right) {
+        return join(config, frame, left, right);
+    }
+    let x = to_number(config, left);
+    let y = to_number(config, right);
+    give_result(config, frame, wjs_num::add(x, y))
+}

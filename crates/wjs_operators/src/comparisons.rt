@@ -1,0 +1,136 @@
+//! Comparisons by order (ECMA-262, 3rd edition, sections 11.8.1 to 11.8.5).
+ghost use Rattle.std.specs.Prelude.{◌≡◌, true, false, not, option_map, unwrap_or, OnOk};
+ghost use Rattle.wjs_base.specs.Text.{Table, Grows};
+ghost use Rattle.wjs_content.specs.Tables.{value_in};
+ghost use Rattle.wjs_meaning.specs.Operators as line;
+ghost use Rattle.wjs_model.specs.Contents.{value_held};
+ghost use Rattle.wjs_model.specs.Soundness.{Base, IsThere, HasValue};
+ghost use Rattle.wjs_moves.specs.Parts.{env_in};
+ghost use Rattle.wjs_moves.specs.Following.{Follows};
+ghost use Rattle.wjs_operators.specs.Operating.{Operates, is_comparison};
+
+use wjs_base::{OutOfMemory, Value};
+use wjs_lines::{are_primitives, held_value, less_than};
+use wjs_model::{Completion, Config, Conversion, Frame, Held, State};
+use wjs_moves::{convert, finish, hold};
+use wjs_store::WorldStore;
+use wjs_tree::BinaryOperator;
+
+/// The comparison of two values.
+pub(crate) fn compare<S: WorldStore>(
+    config: &mut Config<S>,
+    frame: Frame,
+    operator: BinaryOperator,
+    left: Value,
+    right: Value,
+) -> Result<(), OutOfMemory>
+    requires running { config.old.state ≡ State.Running }
+    requires base { Base S.meaning config.old }
+    requires there { IsThere S.meaning config.old frame }
+    requires operates { Operates S.meaning config.old frame operator }
+    requires comparison { is_comparison operator ≡ true }
+    requires left { HasValue config.old left }
+    requires right { HasValue config.old right }
+    ensures { let t = config.new.heap.texts in let env = env_in S.meaning config.old t frame in OnOk result (Follows S.meaning (line.compare_values operator (value_in t left) (value_in t right) env) config.old config.new) }
+{
+    if are_primitives(left, right) {
+        compared(config, &frame, operator, left, right)
+    } else {
+        compare_objects(config, frame, operator, left, right)
+    }
+}
+
+/// The left value is converted, and the right one is held.
+fn compare_objects<S: WorldStore>(
+    config: &mut Config<S>,
+    frame: Frame,
+    operator: BinaryOperator,
+    left: Value,
+    right: Value,
+) -> Result<(), OutOfMemory>
+    requires running { config.old.state ≡ State.Running }
+    requires base { Base S.meaning config.old }
+    requires there { IsThere S.meaning config.old frame }
+    requires operates { Operates S.meaning config.old frame operator }
+    requires comparison { is_comparison operator ≡ true }
+    requires left { HasValue config.old left }
+    requires right { HasValue config.old right }
+    ensures { let t = config.new.heap.texts in let env = env_in S.meaning config.old t frame in OnOk result (Follows S.meaning (line.compare_values operator (value_in t left) (value_in t right) env) config.old config.new) }
+{
+    let mut frame = frame;
+    hold(&mut frame, Held::Value(right))?;
+    convert(config, frame, 3, Conversion::NumberFirst, left)
+}
+
+/// After the conversion of the left value: the right one is converted.
+pub(crate) fn compare_right<S: WorldStore>(
+    config: &mut Config<S>,
+    frame: Frame,
+    operator: BinaryOperator,
+    primitive: Value,
+) -> Result<(), OutOfMemory>
+    requires running { config.old.state ≡ State.Running }
+    requires base { Base S.meaning config.old }
+    requires there { IsThere S.meaning config.old frame }
+    requires operates { Operates S.meaning config.old frame operator }
+    requires comparison { is_comparison operator ≡ true }
+    requires value { HasValue config.old primitive }
+    ensures { let t = config.new.heap.texts in let env = env_in S.meaning config.old t frame in OnOk result (Follows S.meaning (line.compare_first operator (value_in t (value_held frame.held)) env (value_in t primitive)) config.old config.new) }
+{
+    let right = held_value(config, &frame);
+    let mut frame = frame;
+    hold(&mut frame, Held::Value(primitive))?;
+    convert(config, frame, 4, Conversion::NumberFirst, right)
+}
+
+/// Both are primitives.
+pub(crate) fn compared<S: WorldStore>(
+    config: &mut Config<S>,
+    frame: &Frame,
+    operator: BinaryOperator,
+    left: Value,
+    right: Value,
+) -> Result<(), OutOfMemory>
+    requires running { config.old.state ≡ State.Running }
+    requires base { Base S.meaning config.old }
+    requires there { IsThere S.meaning config.old frame.now }
+    requires left { HasValue config.old left }
+    requires right { HasValue config.old right }
+    ensures { let t = config.new.heap.texts in let env = env_in S.meaning config.old t frame.now in OnOk result (Follows S.meaning (line.compare_second operator (value_in t left) (value_in t right)) config.old config.new) }
+{
+    let truth = is_so(config, operator, left, right);
+    finish(config, frame, Completion::Gives(Value::Bool(truth)))
+}
+
+/// Whether the comparison holds.
+fn is_so<S: WorldStore>(
+    config: &Config<S>,
+    operator: BinaryOperator,
+    left: Value,
+    right: Value,
+) -> bool
+    requires base { Base S.meaning config.now }
+    requires left { HasValue config.now left }
+    requires right { HasValue config.now right }
+    ensures { (t : Table) → Grows config.now.heap.texts t → line.compared operator (value_in t left) (value_in t right) ≡ result }
+{
+    match operator {
+        BinaryOperator::Less => is_true(less_than(config, left, right)),
+        BinaryOperator::Greater => is_true(less_than(config, right, left)),
+        BinaryOperator::LessEqual => is_false(less_than(config, right, left)),
+        BinaryOperator::GreaterEqual => is_false(less_than(config, left, right)),
+        _ => false,
+    }
+}
+
+fn is_true(truth: Option<bool>) -> bool
+    ensures { result ≡ unwrap_or truth false }
+{
+    matches!(truth, Some(true))
+}
+
+fn is_false(truth: Option<bool>) -> bool
+    ensures { result ≡ unwrap_or (option_map not truth) false }
+{
+    matches!(truth, Some(false))
+}

@@ -1,0 +1,203 @@
+//! Equality (ECMA-262, 3rd edition, section 11.9): an object against a primitive is converted while the frame waits.
+ghost use Rattle.std.specs.Prelude.{◌≡◌, true, false, OnOk};
+ghost use Rattle.wjs_content.specs.Tables.{value_in};
+ghost use Rattle.wjs_base.specs.Text.{Table};
+ghost use Rattle.wjs_convert.specs.Conversions as conversions;
+ghost use Rattle.wjs_meaning.specs.Conversions.{HintNumber, to_primitive};
+ghost use Rattle.wjs_meaning.specs.Deeds.{Sub, then_value};
+ghost use Rattle.wjs_meaning.specs.Operators as line;
+ghost use Rattle.wjs_model.specs.Contents.{value_held};
+ghost use Rattle.wjs_model.specs.Soundness.{Base, IsThere, HasValue};
+ghost use Rattle.wjs_moves.specs.Parts.{env_in};
+ghost use Rattle.wjs_moves.specs.Following.{Follows};
+ghost use Rattle.wjs_operators.specs.Operating.{Operates, equality, tells, equal_with};
+
+use wjs_base::{OutOfMemory, Value};
+use wjs_lines::{held_value, is_nullish, is_object, loosely_equal, strictly_equal};
+use wjs_model::{Completion, Config, Conversion, Frame, Held, State};
+use wjs_moves::{convert, finish, hold};
+use wjs_store::WorldStore;
+use wjs_tree::BinaryOperator;
+
+/// `===` and `!==`.
+pub(crate) fn equal_strictly<S: WorldStore>(
+    config: &mut Config<S>,
+    frame: &Frame,
+    negated: bool,
+    left: Value,
+    right: Value,
+) -> Result<(), OutOfMemory>
+    requires running { config.old.state ≡ State.Running }
+    requires base { Base S.meaning config.old }
+    requires left { HasValue config.old left }
+    requires right { HasValue config.old right }
+    ensures { let t = config.new.heap.texts in OnOk result (Follows S.meaning (tells negated (conversions.strictly_equal (value_in t left) (value_in t right))) config.old config.new) }
+{
+    let equal = strictly_equal(config, left, right);
+    tell(config, frame, negated, equal)
+}
+
+/// Ends with a truth value, or with its opposite.
+fn tell<S: WorldStore>(
+    config: &mut Config<S>,
+    frame: &Frame,
+    negated: bool,
+    truth: bool,
+) -> Result<(), OutOfMemory>
+    requires running { config.old.state ≡ State.Running }
+    requires base { Base S.meaning config.old }
+    ensures { let t = config.new.heap.texts in OnOk result (Follows S.meaning (tells negated truth) config.old config.new) }
+{
+    let told = if negated { !truth } else { truth };
+    finish(config, frame, Completion::Gives(Value::Bool(told)))
+}
+
+/// `==` and `!=`.
+pub(crate) fn equal<S: WorldStore>(
+    config: &mut Config<S>,
+    frame: Frame,
+    negated: bool,
+    left: Value,
+    right: Value,
+) -> Result<(), OutOfMemory>
+    requires running { config.old.state ≡ State.Running }
+    requires base { Base S.meaning config.old }
+    requires there { IsThere S.meaning config.old frame }
+    requires operates { Operates S.meaning config.old frame (equality negated) }
+    requires left { HasValue config.old left }
+    requires right { HasValue config.old right }
+    ensures { let t = config.new.heap.texts in let env = env_in S.meaning config.old t frame in OnOk result (Follows S.meaning (line.equal_values (value_in t left) (value_in t right) env (tells negated)) config.old config.new) }
+{
+    if is_object(left) {
+        object_equal(config, frame, negated, left, right)
+    } else {
+        primitive_equal(config, frame, negated, left, right)
+    }
+}
+
+/// An object on the left.
+fn object_equal<S: WorldStore>(
+    config: &mut Config<S>,
+    frame: Frame,
+    negated: bool,
+    left: Value,
+    right: Value,
+) -> Result<(), OutOfMemory>
+    requires running { config.old.state ≡ State.Running }
+    requires base { Base S.meaning config.old }
+    requires there { IsThere S.meaning config.old frame }
+    requires operates { Operates S.meaning config.old frame (equality negated) }
+    requires left { HasValue config.old left }
+    requires right { HasValue config.old right }
+    requires object { (t : Table) → conversions.is_object (value_in t left) ≡ true }
+    ensures { let t = config.new.heap.texts in let env = env_in S.meaning config.old t frame in OnOk result (Follows S.meaning (line.equal_values (value_in t left) (value_in t right) env (tells negated)) config.old config.new) }
+{
+    if is_object(right) {
+        equal_strictly(config, &frame, negated, left, right)
+    } else {
+        equal_object(config, frame, negated, left, right)
+    }
+}
+
+/// A primitive on the left.
+fn primitive_equal<S: WorldStore>(
+    config: &mut Config<S>,
+    frame: Frame,
+    negated: bool,
+    left: Value,
+    right: Value,
+) -> Result<(), OutOfMemory>
+    requires running { config.old.state ≡ State.Running }
+    requires base { Base S.meaning config.old }
+    requires there { IsThere S.meaning config.old frame }
+    requires operates { Operates S.meaning config.old frame (equality negated) }
+    requires left { HasValue config.old left }
+    requires right { HasValue config.old right }
+    requires primitive { (t : Table) → conversions.is_object (value_in t left) ≡ false }
+    ensures { let t = config.new.heap.texts in let env = env_in S.meaning config.old t frame in OnOk result (Follows S.meaning (line.equal_values (value_in t left) (value_in t right) env (tells negated)) config.old config.new) }
+{
+    if is_object(right) {
+        equal_object(config, frame, negated, right, left)
+    } else {
+        equal_primitives(config, &frame, negated, left, right)
+    }
+}
+
+/// Both are primitives, or one was.
+fn equal_primitives<S: WorldStore>(
+    config: &mut Config<S>,
+    frame: &Frame,
+    negated: bool,
+    left: Value,
+    right: Value,
+) -> Result<(), OutOfMemory>
+    requires running { config.old.state ≡ State.Running }
+    requires base { Base S.meaning config.old }
+    requires left { HasValue config.old left }
+    requires right { HasValue config.old right }
+    ensures { let t = config.new.heap.texts in OnOk result (Follows S.meaning (tells negated (conversions.loosely_equal (value_in t left) (value_in t right))) config.old config.new) }
+{
+    let equal = loosely_equal(config, left, right);
+    tell(config, frame, negated, equal)
+}
+
+/// An object against another value: it is converted, unless the other is undefined or null.
+fn equal_object<S: WorldStore>(
+    config: &mut Config<S>,
+    frame: Frame,
+    negated: bool,
+    object: Value,
+    other: Value,
+) -> Result<(), OutOfMemory>
+    requires running { config.old.state ≡ State.Running }
+    requires base { Base S.meaning config.old }
+    requires there { IsThere S.meaning config.old frame }
+    requires operates { Operates S.meaning config.old frame (equality negated) }
+    requires object { HasValue config.old object }
+    requires other { HasValue config.old other }
+    ensures { let t = config.new.heap.texts in let env = env_in S.meaning config.old t frame in OnOk result (Follows S.meaning (equal_with (value_in t object) (value_in t other) env (tells negated)) config.old config.new) }
+{
+    if is_nullish(other) {
+        tell(config, &frame, negated, false)
+    } else {
+        equal_converted(config, frame, negated, object, other)
+    }
+}
+
+/// The object is converted, and the other value is held.
+fn equal_converted<S: WorldStore>(
+    config: &mut Config<S>,
+    frame: Frame,
+    negated: bool,
+    object: Value,
+    other: Value,
+) -> Result<(), OutOfMemory>
+    requires running { config.old.state ≡ State.Running }
+    requires base { Base S.meaning config.old }
+    requires there { IsThere S.meaning config.old frame }
+    requires operates { Operates S.meaning config.old frame (equality negated) }
+    requires object { HasValue config.old object }
+    requires other { HasValue config.old other }
+    ensures { let t = config.new.heap.texts in let env = env_in S.meaning config.old t frame in OnOk result (Follows S.meaning (Sub (to_primitive HintNumber (value_in t object) env) (then_value (line.equal_primitive (value_in t other) (tells negated)))) config.old config.new) }
+{
+    let mut frame = frame;
+    hold(&mut frame, Held::Value(other))?;
+    convert(config, frame, 3, Conversion::NumberFirst, object)
+}
+
+/// After the conversion of the object.
+pub(crate) fn equal_after<S: WorldStore>(
+    config: &mut Config<S>,
+    frame: &Frame,
+    negated: bool,
+    primitive: Value,
+) -> Result<(), OutOfMemory>
+    requires running { config.old.state ≡ State.Running }
+    requires base { Base S.meaning config.old }
+    requires there { IsThere S.meaning config.old frame.now }
+    requires value { HasValue config.old primitive }
+    ensures { let t = config.new.heap.texts in OnOk result (Follows S.meaning (line.equal_primitive (value_in t (value_held frame.now.held)) (tells negated) (value_in t primitive)) config.old config.new) }
+{
+    let other = held_value(config, frame);
+    equal_primitives(config, frame, negated, primitive, other)
+}

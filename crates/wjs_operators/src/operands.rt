@@ -1,0 +1,133 @@
+//! Operators on two numbers (ECMA-262, 3rd edition, sections 11.5, 11.6.3, 11.7 and 11.10): primitives are converted at once,
+//! objects while the frame waits.
+ghost use Rattle.std.specs.Prelude.{◌≡◌, true, OnOk};
+ghost use Rattle.wjs_num.specs.Exact.{answer};
+ghost use Rattle.wjs_base.specs.Text.{Table};
+ghost use Rattle.wjs_content.specs.Tables.{value_in};
+ghost use Rattle.wjs_meaning.specs.NativesOfObjects.{whole_of};
+ghost use Rattle.wjs_meaning.specs.Operators as line;
+ghost use Rattle.wjs_model.specs.Contents.{value_held};
+ghost use Rattle.wjs_model.specs.Soundness.{Base, IsThere, HasValue};
+ghost use Rattle.wjs_moves.specs.Parts.{env_in};
+ghost use Rattle.wjs_moves.specs.Following.{Follows};
+ghost use Rattle.wjs_operators.specs.Operating.{Operates, is_arithmetic};
+
+use wjs_base::{OutOfMemory, Value, Whole};
+use wjs_lines::{are_primitives, give_result, held_value, to_number};
+use wjs_model::{Config, Conversion, Frame, Held, State};
+use wjs_moves::{convert, hold};
+use wjs_num::{NumFault, add, bit_and, bit_or, bit_xor, div, mul, rem, shl, shr, sub, ushr};
+use wjs_store::WorldStore;
+use wjs_tree::BinaryOperator;
+
+/// The arithmetic of an operator.
+pub(crate) fn arithmetic(operator: BinaryOperator, x: Whole, y: Whole) -> Result<Whole, NumFault>
+    ensures { answer result ≡ line.arithmetic operator x.number y.number }
+{
+    match operator {
+        BinaryOperator::Multiply => mul(x, y),
+        BinaryOperator::Divide => div(x, y),
+        BinaryOperator::Remainder => rem(x, y),
+        BinaryOperator::Subtract => sub(x, y),
+        BinaryOperator::ShiftLeft => Ok(shl(x, y)),
+        BinaryOperator::ShiftRight => Ok(shr(x, y)),
+        BinaryOperator::ShiftRightUnsigned => Ok(ushr(x, y)),
+        BinaryOperator::BitAnd => Ok(bit_and(x, y)),
+        BinaryOperator::BitXor => Ok(bit_xor(x, y)),
+        BinaryOperator::BitOr => Ok(bit_or(x, y)),
+        _ => Ok(Whole::NAN),
+    }
+}
+
+/// An operator on two numbers.
+pub(crate) fn calculate<S: WorldStore>(
+    config: &mut Config<S>,
+    frame: Frame,
+    operator: BinaryOperator,
+    left: Value,
+    right: Value,
+) -> Result<(), OutOfMemory>
+    requires running { config.old.state ≡ State.Running }
+    requires base { Base S.meaning config.old }
+    requires there { IsThere S.meaning config.old frame }
+    requires operates { Operates S.meaning config.old frame operator }
+    requires arithmetic { is_arithmetic operator ≡ true }
+    requires left { HasValue config.old left }
+    requires right { HasValue config.old right }
+    ensures { let t = config.new.heap.texts in let env = env_in S.meaning config.old t frame in OnOk result (Follows S.meaning (line.arithmetic_values operator (value_in t left) (value_in t right) env) config.old config.new) }
+{
+    if are_primitives(left, right) {
+        let x = to_number(config, left);
+        let y = to_number(config, right);
+        calculated(config, &frame, operator, x, y)
+    } else {
+        calculate_objects(config, frame, operator, left, right)
+    }
+}
+
+/// The left value is converted, and the right one is held.
+fn calculate_objects<S: WorldStore>(
+    config: &mut Config<S>,
+    frame: Frame,
+    operator: BinaryOperator,
+    left: Value,
+    right: Value,
+) -> Result<(), OutOfMemory>
+    requires running { config.old.state ≡ State.Running }
+    requires base { Base S.meaning config.old }
+    requires there { IsThere S.meaning config.old frame }
+    requires operates { Operates S.meaning config.old frame operator }
+    requires arithmetic { is_arithmetic operator ≡ true }
+    requires left { HasValue config.old left }
+    requires right { HasValue config.old right }
+    ensures { let t = config.new.heap.texts in let env = env_in S.meaning config.old t frame in OnOk result (Follows S.meaning (line.arithmetic_values operator (value_in t left) (value_in t right) env) config.old config.new) }
+{
+    let mut frame = frame;
+    hold(&mut frame, Held::Value(right))?;
+    convert(config, frame, 3, Conversion::Number, left)
+}
+
+/// After the conversion of the left value: the right one is converted.
+pub(crate) fn calculate_right<S: WorldStore>(
+    config: &mut Config<S>,
+    frame: Frame,
+    operator: BinaryOperator,
+    number: Whole,
+) -> Result<(), OutOfMemory>
+    requires running { config.old.state ≡ State.Running }
+    requires base { Base S.meaning config.old }
+    requires there { IsThere S.meaning config.old frame }
+    requires operates { Operates S.meaning config.old frame operator }
+    requires arithmetic { is_arithmetic operator ≡ true }
+    ensures { let t = config.new.heap.texts in let env = env_in S.meaning config.old t frame in OnOk result (Follows S.meaning (line.arithmetic_first operator (value_in t (value_held frame.held)) env number.number) config.old config.new) }
+{
+    let right = held_value(config, &frame);
+    let mut frame = frame;
+    hold(&mut frame, Held::Value(Value::Number(number)))?;
+    convert(config, frame, 4, Conversion::Number, right)
+}
+
+/// Both are numbers.
+pub(crate) fn calculated<S: WorldStore>(
+    config: &mut Config<S>,
+    frame: &Frame,
+    operator: BinaryOperator,
+    x: Whole,
+    y: Whole,
+) -> Result<(), OutOfMemory>
+    requires running { config.old.state ≡ State.Running }
+    requires base { Base S.meaning config.old }
+    ensures { let t = config.new.heap.texts in let env = env_in S.meaning config.old t frame.now in OnOk result (Follows S.meaning (line.arithmetic_second operator x.number env y.number) config.old config.new) }
+{
+    give_result(config, frame, arithmetic(operator, x, y))
+}
+
+/// The number that is held, and NaN where a value of another kind is.
+pub(crate) fn held_number(frame: &Frame) -> Whole
+    ensures { (t : Table) → result.number ≡ whole_of (value_in t (value_held frame.now.held)) }
+{
+    match frame.held.value() {
+        Value::Number(number) => number,
+        _ => Whole::NAN,
+    }
+}
