@@ -1,0 +1,4 @@
+pub mod Declared
+pub mod Storing
+pub mod Waits
+pub mod Walks

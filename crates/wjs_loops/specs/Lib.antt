@@ -1,0 +1,4 @@
+pub mod Bodies
+pub mod Fors
+pub mod Labels
+pub mod Variables

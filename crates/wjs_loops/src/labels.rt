@@ -1,0 +1,80 @@
+//! The labels of a statement: those of the labelled statements that it stands in with no other statement between
+//! (section 12.12).
+ghost use Rattle.std.specs.Prelude.{◌≡◌};
+ghost use Rattle.wjs_base.specs.Text.{Table, Grows, Has, IsTable};
+ghost use Rattle.wjs_content.specs.Values.{same_text};
+ghost use Rattle.wjs_content.specs.Tables.{text_in};
+ghost use Rattle.wjs_meaning.specs.Trees.{labels, has_text};
+ghost use Rattle.wjs_meaning.specs.Deeds.{tree_here};
+ghost use Rattle.wjs_model.specs.Soundness.{Base};
+ghost use Rattle.wjs_model.specs.Texts.{KnowsUnit};
+ghost use Rattle.wjs_model.specs.Units.{node_of, unit_in};
+ghost use Rattle.wjs_moves.specs.Parts.{env_in};
+ghost use Rattle.wjs_loops.specs.Labels.{label_of};
+
+use wjs_base::{TextId, Texts, Value, same_value};
+use wjs_model::{Config, Frame, Unit};
+use wjs_store::WorldStore;
+use wjs_tree::{Node, NodeId};
+
+/// Whether two labels are one, in every table that grows from the texts.
+pub(crate) fn same_label(texts: &Texts, a: TextId, b: TextId) -> bool
+    requires table { IsTable texts.now }
+    requires first { Has texts.now a }
+    requires second { Has texts.now b }
+    ensures { (t : Table) → Grows texts.now t → result ≡ same_text (text_in t a) (text_in t b) }
+{
+    same_value(Value::Text(a), Value::Text(b))
+}
+
+/// Whether a label is one of the loop's that the frame runs, in every table that grows from the texts.
+pub(crate) fn has_label<S: WorldStore>(config: &Config<S>, frame: &Frame, label: TextId) -> bool
+    requires base { Base S.meaning config.now }
+    requires label { Has config.now.heap.texts label }
+    ensures { (t : Table) → Grows config.now.heap.texts t → has_text (labels (tree_here (env_in S.meaning config.now t frame.now)) frame.now.node.0) (text_in t label) ≡ result }
+{
+    match config.units.get(frame.tree as usize) {
+        Some(unit) => is_label(&config.heap.texts, unit, frame.node, label),
+        None => false,
+    }
+}
+
+/// Whether a label is one of a statement's, by one walk over the nodes.
+fn is_label(texts: &Texts, unit: &Unit, node: NodeId, label: TextId) -> bool
+    requires table { IsTable texts.now }
+    requires label { Has texts.now label }
+    requires unit { KnowsUnit texts.now unit.now }
+    ensures { (t : Table) → Grows texts.now t → has_text (labels (unit_in t unit.now) node.0) (text_in t label) ≡ result }
+{
+    let last = unit.program.body.0;
+    let mut statement = node.0;
+    for at in 0..last {
+        let found = label_at(unit, at, statement);
+        if let Some(name) = found {
+            if same_label(texts, name, label) {
+                return true;
+            }
+            statement = at;
+        }
+    }
+    match label_at(unit, last, statement) {
+        Some(name) => same_label(texts, name, label),
+        None => false,
+    }
+}
+
+/// The label that a node is of a statement.
+fn label_at(unit: &Unit, at: u64, statement: u64) -> Option<TextId>
+    ensures { result ≡ label_of (node_of unit.now (record { 0 = at })) statement }
+{
+    match unit.node(NodeId(at)) {
+        Some(Node::Label(name, labelled)) => {
+            if labelled.0 == statement {
+                Some(*name)
+            } else {
+                None
+            }
+        }
+        _ => None,
+    }
+}

@@ -1,0 +1,138 @@
+//! Variables with initialisers, of a `var` and of a `for` (sections 12.2 and 12.6.3). The place behind an initialiser is that of the
+//! first, which is 1 in a `var` and 6 in a `for`, and the number of the variable.
+ghost use Rattle.std.specs.Prelude.{◌≡◌, ◌<◌, ◌+◌, ◌^◌, drop, slice_get, IfSome, OnOk};
+ghost use Rattle.std.specs.Option.{option_map};
+ghost use Rattle.wjs_base.specs.Text.{Table, Has};
+ghost use Rattle.wjs_content.specs.Tables.{value_in};
+ghost use Rattle.wjs_meaning.specs.Deeds.{tree_here, then_value};
+ghost use Rattle.wjs_meaning.specs.Reading.{node_in};
+ghost use Rattle.wjs_meaning.specs.Statements.{vars_from};
+ghost use Rattle.wjs_model.specs.Contents.{completion_in};
+ghost use Rattle.wjs_model.specs.Soundness.{Base, IsThere, HasValue, HasCompletion};
+ghost use Rattle.wjs_model.specs.Units.{place_in};
+ghost use Rattle.wjs_model.specs.Waiting.{after_variable, store_variable};
+ghost use Rattle.wjs_moves.specs.Parts.{env_in, node_now};
+ghost use Rattle.wjs_moves.specs.Following.{Follows};
+ghost use Rattle.wjs_loops.specs.Variables.{declarators_in, variables_in, first_place};
+
+use crate::assigns::assign;
+use crate::declarators::initialiser_from;
+use wjs_base::{OutOfMemory, TextId, Value};
+use wjs_lines::place_at;
+use wjs_model::{Completion, Config, Form, Frame, State};
+use wjs_moves::{Part, enter, finish, node_of};
+use wjs_scope::Place;
+use wjs_store::WorldStore;
+use wjs_tree::{Declarator, ForInit, Node};
+
+/// The variables of the frame's node.
+fn declarators_of<'a, S: WorldStore>(config: &'a Config<S>, frame: &Frame) -> &'a [Declarator]
+    ensures { result.now ≡ declarators_in (node_now S.meaning config.now frame.now) }
+{
+    match node_of(config, frame) {
+        Some(Node::Var(variables, _)) => variables.as_slice(),
+        Some(Node::For(ForInit::Var(variables), _, _, _)) => variables.as_slice(),
+        _ => &[],
+    }
+}
+
+/// The name of a variable of this number.
+fn name_at<S: WorldStore>(config: &Config<S>, frame: &Frame, at: usize) -> Option<TextId>
+    requires { Base S.meaning config.now }
+    ensures is { result ≡ option_map (λ d. d.name) (slice_get (declarators_in (node_now S.meaning config.now frame.now)) at) }
+    ensures found { IfSome result (Has config.now.heap.texts) }
+    ensures within { IfSome result (λ _. at + 1 < 2 ^ 64) }
+{
+    match declarators_of(config, frame).get(at) {
+        Some(declarator) => Some(declarator.name),
+        None => None,
+    }
+}
+
+/// The place behind the first initialiser.
+fn first_place<S: WorldStore>(config: &Config<S>, frame: &Frame) -> u32
+    ensures { result ≡ first_place (node_now S.meaning config.now frame.now) }
+{
+    match node_of(config, frame) {
+        Some(Node::Var(_, _)) => 1,
+        _ => 6,
+    }
+}
+
+/// Where the name of a variable of this number is found.
+pub fn place_of<S: WorldStore>(config: &Config<S>, frame: &Frame, at: usize) -> Place
+    ensures { (t : Table) → (tree_here (env_in S.meaning config.now t frame.now)).var_place frame.now.node.0 at ≡ place_in result }
+{
+    match config.units.get(frame.tree as usize) {
+        Some(unit) => unit.var_place(frame.node, at),
+        None => Place::Global,
+    }
+}
+
+/// The variables from one of a number on: the first initialiser is entered.
+pub fn variables_from<S: WorldStore>(
+    config: &mut Config<S>,
+    frame: Frame,
+    from: usize,
+) -> Result<(), OutOfMemory>
+    requires running { config.old.state ≡ State.Running }
+    requires base { Base S.meaning config.old }
+    requires there { IsThere S.meaning config.old frame }
+    requires form { frame.form ≡ Form.Stmt }
+    ensures { let t = config.new.heap.texts in let env = env_in S.meaning config.old t frame in OnOk result (Follows S.meaning (vars_from frame.node.0 from (drop from (variables_in (node_in t (node_now S.meaning config.old frame)))) env) config.old config.new) }
+{
+    match initialiser_from(declarators_of(config, &frame), from) {
+        Some(initialiser) => {
+            let first = first_place(config, &frame);
+            let place = place_at(initialiser.at, first)?;
+            enter(config, frame, place, Part::Expr(initialiser.value))
+        }
+        None => finish(config, &frame, Completion::Normal),
+    }
+}
+
+/// After the initialiser of a variable of a number.
+pub fn variable_next<S: WorldStore>(
+    config: &mut Config<S>,
+    frame: Frame,
+    at: usize,
+    completion: Completion,
+) -> Result<(), OutOfMemory>
+    requires running { config.old.state ≡ State.Running }
+    requires base { Base S.meaning config.old }
+    requires there { IsThere S.meaning config.old frame }
+    requires form { frame.form ≡ Form.Stmt }
+    requires completion { HasCompletion config.old completion }
+    ensures { let t = config.new.heap.texts in let env = env_in S.meaning config.old t frame in OnOk result (Follows S.meaning (then_value (after_variable frame.node.0 (variables_in (node_in t (node_now S.meaning config.old frame))) at env) (completion_in t completion)) config.old config.new) }
+{
+    match completion {
+        Completion::Gives(value) => variable_value(config, frame, at, value),
+        other => finish(config, &frame, other),
+    }
+}
+
+/// The value is stored to the name, and then come the variables behind it.
+fn variable_value<S: WorldStore>(
+    config: &mut Config<S>,
+    frame: Frame,
+    at: usize,
+    value: Value,
+) -> Result<(), OutOfMemory>
+    requires running { config.old.state ≡ State.Running }
+    requires base { Base S.meaning config.old }
+    requires there { IsThere S.meaning config.old frame }
+    requires form { frame.form ≡ Form.Stmt }
+    requires value { HasValue config.old value }
+    ensures { let t = config.new.heap.texts in let env = env_in S.meaning config.old t frame in OnOk result (Follows S.meaning (store_variable frame.node.0 (drop at (variables_in (node_in t (node_now S.meaning config.old frame)))) at env (value_in t value)) config.old config.new) }
+{
+    match name_at(config, &frame, at) {
+        Some(name) => {
+            let place = place_of(config, &frame, at);
+            match assign(config, &frame, place, name, value)? {
+                Ok(()) => variables_from(config, frame, at + 1),
+                Err(error) => finish(config, &frame, Completion::Throws(error)),
+            }
+        }
+        None => finish(config, &frame, Completion::Normal),
+    }
+}
