@@ -1,0 +1,4 @@
+pub mod Cases
+pub mod Catching
+pub mod Inner
+pub mod Switching

@@ -1,0 +1,166 @@
+-- What a `switch` does at its places.
+use Rattle.std.proofs.Common.{◌≡◌, ℕ, zero, suc, ◌+◌, ◌-◌, ◌<◌, Bool, true, false, List, [], ◌∷◌, ◌++◌, Option, None, Some, refl, sym, ap, ◌∙◌, subst, length, drop, get_or, arith}
+use Rattle.std.specs.Prelude.{map, slice_get}
+use Rattle.wjs_base.specs.Text.{Table}
+use Rattle.wjs_tree.specs.declared.node.NodeId.{NodeId}
+use Rattle.wjs_tree.specs.declared.node.Clause.{Clause}
+use Rattle.wjs_tree.specs.declared.node.Node.{Node as NumberedNode}
+use Rattle.wjs_tree.specs.declared.node.Node.TheVariants as nodes
+use Rattle.wjs_content.specs.Values.{Value}
+use Rattle.wjs_meaning.specs.Deeds.{Env, Completion, Act, Ret, Eval, AtStmt, AtExpr, Normal, then_value}
+use Rattle.wjs_meaning.specs.Reading.{node_in, clause_in, numbers}
+use Rattle.wjs_meaning.specs.Statements.{statements_of, switch_from, switch_next, switch_cases, from_default}
+use Rattle.wjs_convert.specs.Conversions.{strictly_equal}
+use Rattle.std.proofs.lemmas.Option.{slice_get-get_or}
+use Rattle.wjs_model.specs.Frames.{earliest_first}
+use Rattle.wjs_model.specs.declared.frame.Form.{Form}
+use Rattle.wjs_model.specs.declared.frame.Form.TheVariants as form
+use Rattle.wjs_model.specs.Contents.{Holding}
+use Rattle.wjs_model.specs.Waiting.{after, after_switch, after_case}
+use Rattle.wjs_blocks.specs.declared.clauses.Case.{Case}
+use Rattle.wjs_lines.specs.Lists.{clauses_of, clauses_in, statements_of_clauses, first_of}
+use Rattle.wjs_blocks.specs.Switches.{IsSwitch, case_goes}
+use Rattle.wjs_lines.proofs.Parts.{each_at, each_past}
+
+-- the clauses under a table
+pub clauses_same : (t : Table) (node : NumberedNode) → clauses_of (node_in t node) ≡ map (clause_in t) (clauses_in node)
+clauses_same t (nodes.Switch e clauses) = refl
+clauses_same t _ = refl
+
+numbers_append : (xs ys : List NodeId) → numbers (xs ++ ys) ≡ numbers xs ++ numbers ys
+numbers_append [] ys = refl
+numbers_append (x ∷ xs) ys = ap (λ (l : List ℕ). x.0 ∷ l) (numbers_append xs ys)
+
+-- their statements
+pub statements_same : (t : Table) (clauses : List Clause) → statements_of (map (clause_in t) clauses) ≡ numbers (statements_of_clauses clauses)
+statements_same t [] = refl
+statements_same t (c ∷ cs) = ap (λ (l : List ℕ). numbers c.body ++ l) (statements_same t cs) ∙ sym (numbers_append c.body (statements_of_clauses cs))
+
+pub node_statements : (t : Table) (node : NumberedNode) → statements_of (clauses_of (node_in t node)) ≡ numbers (statements_of_clauses (clauses_in node))
+node_statements t node = ap statements_of (clauses_same t node) ∙ statements_same t (clauses_in node)
+
+drop_map : {X Y : Type 0} (f : X → Y) (xs : List X) (i : ℕ) → drop i (map f xs) ≡ map f (drop i xs)
+drop_map f xs zero = refl
+drop_map f [] (suc i) = refl
+drop_map f (x ∷ xs) (suc i) = drop_map f xs i
+
+-- the statements of the clauses from one of a number on are those behind the statements before it
+pub statements_behind : (t : Table) (node : NumberedNode) (clause at : ℕ) → drop at (statements_of_clauses (clauses_in node)) ≡ statements_of_clauses (drop clause (clauses_in node)) → drop at (statements_of (clauses_of (node_in t node))) ≡ statements_of (drop clause (clauses_of (node_in t node)))
+statements_behind t node clause at e =
+    ap (drop at) (node_statements t node)
+    ∙ drop_map (λ (id : NodeId). id.0) (statements_of_clauses (clauses_in node)) at
+    ∙ ap numbers e
+    ∙ sym (statements_same t (drop clause (clauses_in node)))
+    ∙ ap statements_of (sym (drop_map (clause_in t) (clauses_in node) clause))
+    ∙ ap (λ (l : List (Option ℕ × List ℕ)). statements_of (drop clause l)) (sym (clauses_same t node))
+
+-- what a `switch` waits for
+switch_waits : (t : Table) (node : NumberedNode) (f : Form) (here place : ℕ) (held : Holding) (env : Env) → f ≡ form.Stmt → IsSwitch node → after (node_in t node) f here place held env ≡ after_switch (clauses_of (node_in t node)) place held.values env
+switch_waits t node f here place held env ef is =
+    ap (λ (g : Form). after (node_in t node) g here place held env) ef
+    ∙ ap (λ (n : NumberedNode). after (node_in t n) form.Stmt here place held env) is.is
+    ∙ sym (ap (λ (n : NumberedNode). after_switch (clauses_of (node_in t n)) place held.values env) is.is)
+
+module _ (t : Table) (node : NumberedNode) (f : Form) (here : ℕ) (env : Env) (ef : f ≡ form.Stmt) (is : IsSwitch node) where
+  abbrev all : List (Option ℕ × List ℕ)
+  all = clauses_of (node_in t node)
+
+  -- after a statement
+  pub statement_waits : (held : Holding) (at place : ℕ) → held.values ≡ [] → place ≡ at + 2 → after (node_in t node) f here place held env ≡ switch_next (switch_from (drop (suc at) (statements_of all)) env)
+  statement_waits held at place eh ep =
+      let k : place ≡ suc (suc at) = omega (arith, ep) in
+      let one : suc (suc at) - 1 ≡ suc at = omega arith in
+      switch_waits t node f here place held env ef is
+      ∙ ap (λ (vs : List Value). after_switch all place vs env) eh
+      ∙ ap (λ (p : ℕ). after_switch all p [] env) k
+      ∙ ap (λ (p : ℕ). switch_next (switch_from (drop p (statements_of all)) env)) one
+
+  -- the next statement is entered
+  pub statement_at : (held : Holding) (at place : ℕ) (s : NodeId) → held.values ≡ [] → place ≡ at + 2 → slice_get (statements_of_clauses (clauses_in node)) at ≡ Some s → Eval (AtStmt s.0) env (after (node_in t node) f here place held env) ≡ switch_from (drop at (statements_of all)) env
+  statement_at held at place s eh ep es =
+      let listed : drop at (statements_of all) ≡ s.0 ∷ drop (suc at) (statements_of all) =
+      ap (drop at) (node_statements t node) ∙ each_at (λ (id : NodeId). id.0) (statements_of_clauses (clauses_in node)) at s es ∙ ap (λ (l : List ℕ). s.0 ∷ drop (suc at) l) (sym (node_statements t node)) in
+      ap (λ (go : Completion → Act). Eval (AtStmt s.0) env go) (statement_waits held at place eh ep)
+      ∙ sym (ap (λ (l : List ℕ). switch_from l env) listed)
+
+  -- there is none
+  pub statement_end : (at : ℕ) → slice_get (statements_of_clauses (clauses_in node)) at ≡ None → Ret Normal ≡ switch_from (drop at (statements_of all)) env
+  statement_end at es = sym (ap (λ (l : List ℕ). switch_from l env) (ap (drop at) (node_statements t node) ∙ each_past (λ (id : NodeId). id.0) (statements_of_clauses (clauses_in node)) at es))
+
+  -- a case is entered
+  pub case_waits : (held : Holding) (v : Value) (at place : ℕ) → held.values ≡ v ∷ [] → place ≡ at + 2 → after (node_in t node) f here place held env ≡ then_value (after_case v all (drop at all) env)
+  case_waits held v at place eh ep =
+      let k : place ≡ suc (suc at) = omega (arith, ep) in
+      let two : suc (suc at) - 2 ≡ at = omega arith in
+      switch_waits t node f here place held env ef is
+      ∙ ap (λ (vs : List Value). after_switch all place vs env) eh
+      ∙ ap (λ (p : ℕ). after_switch all p (v ∷ []) env) k
+      ∙ ap (λ (p : ℕ). then_value (after_case v all (drop p all) env)) two
+
+  -- after a case that is entered
+  pub case_enters : (held : Holding) (v : Value) (c : Case) (place : ℕ) → held.values ≡ v ∷ [] → place ≡ c.at + 2 → Eval (AtExpr c.test.0) env (after (node_in t node) f here place held env) ≡ case_goes v all (Some c) env
+  case_enters held v c place eh ep = ap (λ (go : Completion → Act). Eval (AtExpr c.test.0) env go) (case_waits held v c.at place eh ep)
+
+  -- the case that was found
+  pub cases_same : (clauses : List Clause) (v : Value) (from : ℕ) (o : Option Case) → clauses ≡ clauses_in node → switch_cases v (map (clause_in t) clauses) (drop from (map (clause_in t) clauses)) env ≡ case_goes v (map (clause_in t) clauses) o env → switch_cases v all (drop from all) env ≡ case_goes v all o env
+  cases_same clauses v from o ec e =
+      let P : List (Option ℕ × List ℕ) → Type 0 = λ l. switch_cases v l (drop from l) env ≡ case_goes v l o env in
+      subst P (ap (map (clause_in t)) ec ∙ sym (clauses_same t node)) e
+
+  -- the `default`
+  pub default_same : (clauses : List Clause) (at : ℕ) → clauses ≡ clauses_in node → from_default (map (clause_in t) clauses) ≡ drop at (map (clause_in t) clauses) → from_default all ≡ drop at all
+  default_same clauses at ec e =
+      let P : List (Option ℕ × List ℕ) → Type 0 = λ l. from_default l ≡ drop at l in
+      subst P (ap (map (clause_in t)) ec ∙ sym (clauses_same t node)) e
+
+  -- after the value of a case that is another
+  rest_at : (at : ℕ) → at < length (clauses_in node) → (x : Option ℕ × List ℕ) × (drop at all ≡ x ∷ drop (suc at) all)
+  rest_at at h =
+      let c : Clause = get_or (clauses_in node) at (record { test = None; body = [] }) in
+      (clause_in t c, ap (drop at) (clauses_same t node) ∙ each_at (clause_in t) (clauses_in node) at c (slice_get-get_or (clauses_in node) at (record { test = None; body = [] }) h) ∙ ap (λ (l : List (Option ℕ × List ℕ)). clause_in t c ∷ drop (suc at) l) (sym (clauses_same t node)))
+
+  case_if : Value → Option ℕ × List ℕ → List (Option ℕ × List ℕ) → Bool → Act
+  case_if v x xs b = elim b [ true ↦ switch_from (x.1 ++ statements_of xs) env | false ↦ switch_cases v all xs env ]
+
+  pub case_other : (v w : Value) (at next : ℕ) → at < length (clauses_in node) → next ≡ at + 1 → strictly_equal v w ≡ false → switch_cases v all (drop next all) env ≡ after_case v all (drop at all) env w
+  unfolding case_if
+  case_other v w at next h en e =
+      let r = rest_at at h in
+      let k : next ≡ suc at = omega (arith, en) in
+      ap (λ (i : ℕ). switch_cases v all (drop i all) env) k
+      ∙ sym (ap (λ (l : List (Option ℕ × List ℕ)). after_case v all l env w) r.1 ∙ ap (λ (b : Bool). case_if v r.0 (drop (suc at) all) b) e)
+
+-- at a place behind the first
+pub place_statement : (clauses : List (Option ℕ × List ℕ)) (place : ℕ) (vs : List Value) (env : Env) (c : Completion) → (place ≡ 1 → ⊥) → vs ≡ [] → switch_next (switch_from (drop (place - 1) (statements_of clauses)) env) c ≡ after_switch clauses place vs env c
+place_statement clauses zero vs env c h e = sym (ap (λ (l : List Value). after_switch clauses zero l env c) e)
+place_statement clauses (suc zero) vs env c h e = absurd (h refl)
+place_statement clauses (suc (suc place)) vs env c h e = sym (ap (λ (l : List Value). after_switch clauses (suc (suc place)) l env c) e)
+
+pub place_case : (clauses : List (Option ℕ × List ℕ)) (place : ℕ) (vs : List Value) (v : Value) (env : Env) (c : Completion) → (place ≡ 1 → ⊥) → first_of vs ≡ Some v → then_value (after_case v clauses (drop (place - 2) clauses) env) c ≡ after_switch clauses place vs env c
+place_case clauses place [] v env c h e = absurd (cc)
+place_case clauses zero (w ∷ vs) v env c h e = let q : w ≡ v = cc in sym (ap (λ (x : Value). then_value (after_case x clauses (drop (0 - 2) clauses) env) c) q)
+place_case clauses (suc zero) (w ∷ vs) v env c h e = absurd (h refl)
+place_case clauses (suc (suc place)) (w ∷ vs) v env c h e = let q : w ≡ v = cc in sym (ap (λ (x : Value). then_value (after_case x clauses (drop (suc (suc place) - 2) clauses) env) c) q)
+
+each_snoc : {X Y : Type 0} (f : X → Y) (xs : List X) (x : X) → map f (xs ++ x ∷ []) ≡ map f xs ++ f x ∷ []
+each_snoc f [] x = refl
+each_snoc f (y ∷ xs) x = ap (λ l. f y ∷ l) (each_snoc f xs x)
+
+earliest_map : {X Y : Type 0} (f : X → Y) (xs : List X) → earliest_first (map f xs) ≡ map f (earliest_first xs)
+earliest_map f [] = refl
+earliest_map f (x ∷ xs) = ap (λ l. l ++ f x ∷ []) (earliest_map f xs) ∙ sym (each_snoc f (earliest_first xs) x)
+
+first_map : {X Y : Type 0} (f : X → Y) (xs : List X) (x : X) → first_of xs ≡ Some x → first_of (map f xs) ≡ Some (f x)
+first_map f [] x e = absurd (cc)
+first_map f (y ∷ xs) x e = let q : y ≡ x = cc in ap (λ z. Some (f z)) q
+
+first_none : {X Y : Type 0} (f : X → Y) (xs : List X) → first_of xs ≡ None → map f xs ≡ []
+first_none f [] e = refl
+first_none f (y ∷ xs) e = absurd (cc)
+
+-- the earliest of the values, under a table
+pub earliest_some : {X Y : Type 0} (f : X → Y) (xs : List X) (x : X) → first_of (earliest_first xs) ≡ Some x → first_of (earliest_first (map f xs)) ≡ Some (f x)
+earliest_some f xs x e = ap first_of (earliest_map f xs) ∙ first_map f (earliest_first xs) x e
+
+pub earliest_none : {X Y : Type 0} (f : X → Y) (xs : List X) → first_of (earliest_first xs) ≡ None → earliest_first (map f xs) ≡ []
+earliest_none f xs e = earliest_map f xs ∙ first_none f (earliest_first xs) e

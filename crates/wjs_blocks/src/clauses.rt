@@ -1,0 +1,88 @@
+//! The clauses of a `switch` (section 12.11).
+ghost use Rattle.std.specs.Prelude.{◌≡◌, ◌+◌, drop, slice_get, map, IfOk};
+ghost use Rattle.wjs_base.specs.Text.{Table};
+ghost use Rattle.wjs_content.specs.Values.{Value};
+ghost use Rattle.wjs_meaning.specs.Deeds.{Env};
+ghost use Rattle.wjs_meaning.specs.Reading.{clause_in};
+ghost use Rattle.wjs_meaning.specs.Statements.{switch_cases, from_default};
+ghost use Rattle.wjs_lines.specs.Lists.{statements_of_clauses};
+ghost use Rattle.wjs_blocks.specs.Switches.{case_goes};
+
+use wjs_base::OutOfMemory;
+use wjs_tree::{Clause, NodeId};
+
+/// A clause with an expression, by its number.
+#[derive(Clone, Copy, Debug, PartialEq, Eq)]
+pub(crate) struct Case {
+    pub at: usize,
+    pub test: NodeId,
+}
+
+/// The first clause with an expression from one of a number on.
+pub(crate) fn case_from(clauses: &[Clause], from: usize) -> Option<Case>
+    ensures { (t : Table) (v : Value) (env : Env) → let all = map (clause_in t) clauses.now in switch_cases v all (drop from all) env ≡ case_goes v all result env }
+{
+    for at in from..clauses.len() {
+        let found = clauses[at].test;
+        if let Some(test) = found {
+            return Some(Case { at, test });
+        }
+    }
+    None
+}
+
+/// The number of the clause `default`, and how many clauses there are without one.
+pub(crate) fn default_of(clauses: &[Clause]) -> usize
+    ensures { (t : Table) → from_default (map (clause_in t) clauses.now) ≡ drop result (map (clause_in t) clauses.now) }
+{
+    for at in 0..clauses.len() {
+        let test = clauses[at].test;
+        match test {
+            Some(_) => {}
+            None => return at,
+        }
+    }
+    clauses.len()
+}
+
+/// How many statements stand in the clauses before one of a number. More than there are numbers for have no room in memory.
+pub(crate) fn statements_before(clauses: &[Clause], clause: usize) -> Result<u32, OutOfMemory>
+    ensures { IfOk result (λ at. drop at (statements_of_clauses clauses.now) ≡ statements_of_clauses (drop clause clauses.now)) }
+{
+    let mut before: u32 = 0;
+    for at in 0..clauses.len() {
+        if at >= clause {
+            return Ok(before);
+        }
+        before = before_more(before, clauses[at].body.as_slice().len())?;
+    }
+    Ok(before)
+}
+
+/// The sum, where there is a number for it.
+fn before_more(before: u32, more: usize) -> Result<u32, OutOfMemory>
+    ensures { IfOk result (λ sum. sum ≡ before + more) }
+{
+    let Ok(more) = u32::try_from(more) else {
+        return Err(OutOfMemory);
+    };
+    match before.checked_add(more) {
+        Some(sum) => Ok(sum),
+        None => Err(OutOfMemory),
+    }
+}
+
+/// The statement of this number among those of the clauses; none past their end.
+pub(crate) fn statement_at(clauses: &[Clause], at: u32) -> Option<NodeId>
+    ensures { result ≡ slice_get (statements_of_clauses clauses.now) at }
+{
+    let mut left = at as usize;
+    for clause in clauses {
+        let statements = clause.body.as_slice();
+        if left < statements.len() {
+            return Some(statements[left]);
+        }
+        left -= statements.len();
+    }
+    None
+}

@@ -1,0 +1,65 @@
+//! Parts that are entered elsewhere than where the frame is run.
+ghost use Rattle.std.specs.Prelude.{◌≡◌, [], OnOk};
+ghost use Rattle.wjs_meaning.specs.Deeds.{Eval, Ret};
+ghost use Rattle.wjs_model.specs.Soundness.{Base, IsThere, HasObject, HasWorld};
+ghost use Rattle.wjs_moves.specs.Parts.{env_in, then_at, goal_of};
+ghost use Rattle.wjs_moves.specs.Following.{Follows};
+
+use wjs_base::{ObjId, OutOfMemory, WorldId};
+use wjs_model::{Config, Frame, Items, State};
+use wjs_moves::{Part, enter_last, wait};
+use wjs_store::WorldStore;
+
+/// The frame without what it holds, for a part that is run in another scope or world.
+fn like(frame: &Frame, scope: ObjId, world: WorldId, held: Items) -> Frame
+    ensures { result ≡ record frame.now { scope = scope; world = world; held = held } }
+{
+    Frame {
+        form: frame.form,
+        tree: frame.tree,
+        node: frame.node,
+        place: frame.place,
+        phase: frame.phase,
+        scope,
+        this: frame.this,
+        world,
+        held,
+    }
+}
+
+/// The frame waits at a place for a part, which is entered in a scope.
+pub(crate) fn enter_in<S: WorldStore>(
+    config: &mut Config<S>,
+    frame: Frame,
+    place: u32,
+    scope: ObjId,
+    part: Part,
+) -> Result<(), OutOfMemory>
+    requires running { config.old.state ≡ State.Running }
+    requires base { Base S.meaning config.old }
+    requires there { IsThere S.meaning config.old frame }
+    requires scope { HasObject config.old scope }
+    ensures { let t = config.new.heap.texts in let env = env_in S.meaning config.old t frame in OnOk result (Follows S.meaning (Eval (goal_of part) (record env { scope = scope }) (then_at S.meaning config.old frame place t env)) config.old config.new) }
+{
+    let inner = like(&frame, scope, frame.world, config.frames.nothing_held());
+    wait(config, frame, place)?;
+    enter_last(config, &inner, part)
+}
+
+/// A part is entered in the place of the frame that was taken off, in a world.
+pub(crate) fn enter_within<S: WorldStore>(
+    config: &mut Config<S>,
+    frame: Frame,
+    world: WorldId,
+    part: Part,
+) -> Result<(), OutOfMemory>
+    requires running { config.old.state ≡ State.Running }
+    requires base { Base S.meaning config.old }
+    requires there { IsThere S.meaning config.old frame }
+    requires world { HasWorld S.meaning config.old world }
+    ensures { let t = config.new.heap.texts in let env = env_in S.meaning config.old t frame in OnOk result (Follows S.meaning (Eval (goal_of part) (record env { world = world }) Ret) config.old config.new) }
+{
+    let mut frame = frame;
+    frame.world = world;
+    enter_last(config, &frame, part)
+}

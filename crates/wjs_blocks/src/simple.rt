@@ -1,0 +1,150 @@
+//! Statements of one expression (sections 12.4, 12.5, 12.9 and 12.13).
+ghost use Rattle.std.specs.Prelude.{◌≡◌, OnOk};
+ghost use Rattle.wjs_content.specs.Tables.{value_in};
+ghost use Rattle.wjs_meaning.specs.Trees.{Return};
+ghost use Rattle.wjs_meaning.specs.Deeds.{then_value};
+ghost use Rattle.wjs_meaning.specs.Reading.{number};
+ghost use Rattle.wjs_meaning.specs.Statements.{stmt_of, expr_done, if_test, else_of, return_value, throw_value};
+ghost use Rattle.wjs_model.specs.Contents.{completion_in};
+ghost use Rattle.wjs_model.specs.Soundness.{Base, IsThere, HasValue, HasCompletion};
+ghost use Rattle.wjs_moves.specs.Parts.{env_in, node_now};
+ghost use Rattle.wjs_moves.specs.Following.{Follows};
+
+use wjs_base::{OutOfMemory, Value};
+use wjs_lines::to_boolean;
+use wjs_model::{Completion, Config, Form, Frame, State};
+use wjs_moves::{Part, enter, enter_last, finish};
+use wjs_store::WorldStore;
+use wjs_tree::{End, Node, NodeId};
+
+/// After an expression statement, whose value is dropped.
+pub fn expr_next<S: WorldStore>(
+    config: &mut Config<S>,
+    frame: Frame,
+    completion: Completion,
+) -> Result<(), OutOfMemory>
+    requires running { config.old.state ≡ State.Running }
+    requires base { Base S.meaning config.old }
+    requires there { IsThere S.meaning config.old frame }
+    requires completion { HasCompletion config.old completion }
+    ensures { let t = config.new.heap.texts in let env = env_in S.meaning config.old t frame in OnOk result (Follows S.meaning (then_value expr_done (completion_in t completion)) config.old config.new) }
+{
+    match completion {
+        Completion::Gives(_) => finish(config, &frame, Completion::Normal),
+        other => finish(config, &frame, other),
+    }
+}
+
+/// After the test of an `if`.
+pub fn if_next<S: WorldStore>(
+    config: &mut Config<S>,
+    frame: Frame,
+    s: NodeId,
+    other: Option<NodeId>,
+    completion: Completion,
+) -> Result<(), OutOfMemory>
+    requires running { config.old.state ≡ State.Running }
+    requires base { Base S.meaning config.old }
+    requires there { IsThere S.meaning config.old frame }
+    requires completion { HasCompletion config.old completion }
+    ensures { let t = config.new.heap.texts in let env = env_in S.meaning config.old t frame in OnOk result (Follows S.meaning (then_value (if_test s.0 (number other) env) (completion_in t completion)) config.old config.new) }
+{
+    match completion {
+        Completion::Gives(value) => if_test(config, frame, s, other, value),
+        ended => finish(config, &frame, ended),
+    }
+}
+
+/// The part of an `if` that its test chooses.
+fn if_test<S: WorldStore>(
+    config: &mut Config<S>,
+    frame: Frame,
+    s: NodeId,
+    other: Option<NodeId>,
+    value: Value,
+) -> Result<(), OutOfMemory>
+    requires running { config.old.state ≡ State.Running }
+    requires base { Base S.meaning config.old }
+    requires there { IsThere S.meaning config.old frame }
+    requires value { HasValue config.old value }
+    ensures { let t = config.new.heap.texts in let env = env_in S.meaning config.old t frame in OnOk result (Follows S.meaning (if_test s.0 (number other) env (value_in t value)) config.old config.new) }
+{
+    if to_boolean(config, value) {
+        enter_last(config, &frame, Part::Stmt(s))
+    } else {
+        else_start(config, frame, other)
+    }
+}
+
+/// The second part of an `if`, if there is one.
+fn else_start<S: WorldStore>(
+    config: &mut Config<S>,
+    frame: Frame,
+    other: Option<NodeId>,
+) -> Result<(), OutOfMemory>
+    requires running { config.old.state ≡ State.Running }
+    requires base { Base S.meaning config.old }
+    requires there { IsThere S.meaning config.old frame }
+    ensures { let t = config.new.heap.texts in let env = env_in S.meaning config.old t frame in OnOk result (Follows S.meaning (else_of (number other) env) config.old config.new) }
+{
+    match other {
+        Some(s) => enter_last(config, &frame, Part::Stmt(s)),
+        None => finish(config, &frame, Completion::Normal),
+    }
+}
+
+/// A `return`, of undefined where it has no expression.
+pub fn return_start<S: WorldStore>(
+    config: &mut Config<S>,
+    frame: Frame,
+    e: Option<NodeId>,
+    end: End,
+) -> Result<(), OutOfMemory>
+    requires running { config.old.state ≡ State.Running }
+    requires base { Base S.meaning config.old }
+    requires there { IsThere S.meaning config.old frame }
+    requires form { frame.form ≡ Form.Stmt }
+    requires node { node_now S.meaning config.old frame ≡ Node.Return e end }
+    ensures { let t = config.new.heap.texts in let env = env_in S.meaning config.old t frame in OnOk result (Follows S.meaning (stmt_of frame.node.0 (Return (number e)) env) config.old config.new) }
+{
+    match e {
+        Some(e) => enter(config, frame, 1, Part::Expr(e)),
+        None => finish(config, &frame, Completion::Returns(Value::Undefined)),
+    }
+}
+
+/// After the value of a `return`.
+pub fn return_next<S: WorldStore>(
+    config: &mut Config<S>,
+    frame: Frame,
+    completion: Completion,
+) -> Result<(), OutOfMemory>
+    requires running { config.old.state ≡ State.Running }
+    requires base { Base S.meaning config.old }
+    requires there { IsThere S.meaning config.old frame }
+    requires completion { HasCompletion config.old completion }
+    ensures { let t = config.new.heap.texts in let env = env_in S.meaning config.old t frame in OnOk result (Follows S.meaning (then_value return_value (completion_in t completion)) config.old config.new) }
+{
+    match completion {
+        Completion::Gives(value) => finish(config, &frame, Completion::Returns(value)),
+        other => finish(config, &frame, other),
+    }
+}
+
+/// After the value of a `throw`.
+pub fn throw_next<S: WorldStore>(
+    config: &mut Config<S>,
+    frame: Frame,
+    completion: Completion,
+) -> Result<(), OutOfMemory>
+    requires running { config.old.state ≡ State.Running }
+    requires base { Base S.meaning config.old }
+    requires there { IsThere S.meaning config.old frame }
+    requires completion { HasCompletion config.old completion }
+    ensures { let t = config.new.heap.texts in let env = env_in S.meaning config.old t frame in OnOk result (Follows S.meaning (then_value throw_value (completion_in t completion)) config.old config.new) }
+{
+    match completion {
+        Completion::Gives(value) => finish(config, &frame, Completion::Throws(value)),
+        other => finish(config, &frame, other),
+    }
+}
