@@ -1,0 +1,2 @@
+pub mod MemberPlaces
+pub mod TargetNodes

@@ -1,0 +1,13 @@
+use Rattle.wjs_meaning.specs.Expressions.{at_name}
+use Rattle.wjs_lines.proofs.Following.{env_later}
+use Rattle.wjs_content.specs.Tables.{value_in}
+use Rattle.wjs_moves.specs.Parts.{env_in}
+use Rattle.wjs_model.specs.Contents.{value_held}
+use Rattle.wjs_members.specs.Taking.{taken}
+use Rattle.wjs_members.proofs.members.at_primitive.Goals as goal
+
+pub returns : goal.returns
+returns g c =
+    let t = c.take_held.new.config.heap.texts in
+    let h = rw (env_later g.S.WorldStore.meaning _ _ t c.args.frame.now c.in_ok-name.ensures.later) at c.take_held.ensures in
+    c.in_ok-name.ensures.does.by (at_name (value_in t (value_held c.args.frame.now.held)) (taken c.args.frame.now.form (env_in g.S.WorldStore.meaning c.args.config.now t c.args.frame.now))) _ _ h

@@ -1,0 +1,6 @@
+use Rattle.std.proofs.Common.{refl}
+use Rattle.wjs_lines.proofs.Following.{follows_as}
+use Rattle.wjs_members.proofs.members.at_text.Goals as goal
+
+pub returns : goal.returns
+returns g c = follows_as _ _ _ _ _ _ (λ grows. rw (c.name_of-name.ensures.name _ grows) refl) c.take_held.ensures

@@ -1,0 +1,12 @@
+use Rattle.wjs_meaning.specs.Deeds.{Member}
+use Rattle.wjs_lines.proofs.Following.{env_later}
+use Rattle.wjs_content.specs.Tables.{value_in}
+use Rattle.wjs_moves.specs.Parts.{env_in}
+use Rattle.wjs_members.specs.Taking.{taken}
+use Rattle.wjs_members.proofs.members.dot_member.Goals as goal
+
+pub returns : goal.returns
+returns g c =
+    let t = c.take.new.config.heap.texts in
+    let h = rw (env_later g.S.WorldStore.meaning _ _ t c.args.frame.now c.in_ok-name.ensures.later) at c.take.ensures in
+    c.in_ok-name.ensures.does.by (λ n. taken c.args.frame.now.form (env_in g.S.WorldStore.meaning c.args.config.now t c.args.frame.now) (Member (value_in t c.args.base) n)) _ _ h

@@ -1,0 +1,303 @@
+//! Members by name and by value (ECMA-262, 3rd edition, section 11.2.1), for their value and as targets.
+ghost use Rattle.std.specs.Prelude.{◌≡◌, true, OnOk};
+ghost use Rattle.wjs_base.specs.Text.{Has};
+ghost use Rattle.wjs_content.specs.Tables.{value_in, text_in, name_in};
+ghost use Rattle.wjs_convert.specs.Conversions.{primitive_text};
+ghost use Rattle.wjs_meaning.specs.Conversions.{to_text};
+ghost use Rattle.wjs_meaning.specs.Deeds as deed;
+ghost use Rattle.wjs_meaning.specs.Deeds.{Eval, AtExpr, Sub, Gives, then_value, then_text};
+ghost use Rattle.wjs_meaning.specs.Expressions as line;
+ghost use Rattle.wjs_meaning.specs.Reading.{spelt_in};
+ghost use Rattle.wjs_model.specs.Contents.{completion_in, holding_in, value_held};
+ghost use Rattle.wjs_model.specs.Texts.{KnowsSpelt};
+ghost use Rattle.wjs_model.specs.Waiting as after;
+ghost use Rattle.wjs_model.specs.Soundness.{Base, IsThere, HasCompletion, HasName, HasValue};
+ghost use Rattle.wjs_moves.specs.Following.{Follows};
+ghost use Rattle.wjs_moves.specs.Parts.{env_in, node_now};
+ghost use Rattle.wjs_members.specs.Taking.{taken, takes_from};
+
+use crate::keys::spelt_name;
+use wjs_base::{Name, OutOfMemory, TextId, Value};
+use wjs_deeds::name_of;
+use wjs_lines::{give_value_of, held_value, is_nullish, is_object, name_of_value, throw};
+use wjs_model::{Completion, Config, Conversion, Form, Frame, Held, Reference, State, Trouble};
+use wjs_moves::{Part, convert, enter, finish, hold};
+use wjs_store::WorldStore;
+use wjs_tree::{Node, NodeId, Spelt};
+
+/// A member by name: its base is entered.
+pub fn dot_start<S: WorldStore>(
+    config: &mut Config<S>,
+    frame: Frame,
+    base: NodeId,
+    name: Spelt,
+) -> Result<(), OutOfMemory>
+    requires running { config.old.state ≡ State.Running }
+    requires base { Base S.meaning config.old }
+    requires there { IsThere S.meaning config.old frame }
+    requires form { takes_from frame.form ≡ true }
+    requires node { node_now S.meaning config.old frame ≡ Node.Dot base name }
+    ensures { let t = config.new.heap.texts in let env = env_in S.meaning config.old t frame in OnOk result (Follows S.meaning (Eval (AtExpr base.0) env (then_value (line.dot_base (spelt_in t name) env (taken frame.form env)))) config.old config.new) }
+{
+    enter(config, frame, 1, Part::Expr(base))
+}
+
+/// A member by value: its base is entered.
+pub fn at_start<S: WorldStore>(
+    config: &mut Config<S>,
+    frame: Frame,
+    base: NodeId,
+    index: NodeId,
+) -> Result<(), OutOfMemory>
+    requires running { config.old.state ≡ State.Running }
+    requires base { Base S.meaning config.old }
+    requires there { IsThere S.meaning config.old frame }
+    requires form { takes_from frame.form ≡ true }
+    requires node { node_now S.meaning config.old frame ≡ Node.At base index }
+    ensures { let t = config.new.heap.texts in let env = env_in S.meaning config.old t frame in OnOk result (Follows S.meaning (Eval (AtExpr base.0) env (then_value (line.at_base index.0 env (taken frame.form env)))) config.old config.new) }
+{
+    enter(config, frame, 1, Part::Expr(base))
+}
+
+/// After the base of a member by value: it is held, and the index is entered.
+fn at_base<S: WorldStore>(
+    config: &mut Config<S>,
+    frame: Frame,
+    base: NodeId,
+    index: NodeId,
+    value: Value,
+) -> Result<(), OutOfMemory>
+    requires running { config.old.state ≡ State.Running }
+    requires base { Base S.meaning config.old }
+    requires there { IsThere S.meaning config.old frame }
+    requires form { takes_from frame.form ≡ true }
+    requires node { node_now S.meaning config.old frame ≡ Node.At base index }
+    requires value { HasValue config.old value }
+    ensures { let t = config.new.heap.texts in let env = env_in S.meaning config.old t frame in OnOk result (Follows S.meaning (line.at_base index.0 env (taken frame.form env) (value_in t value)) config.old config.new) }
+{
+    let mut frame = frame;
+    hold(&mut frame, Held::Value(value))?;
+    enter(config, frame, 2, Part::Expr(index))
+}
+
+/// After the base of a member by name: undefined and null have no members.
+fn dot_base<S: WorldStore>(
+    config: &mut Config<S>,
+    frame: &Frame,
+    name: Spelt,
+    base: Value,
+) -> Result<(), OutOfMemory>
+    requires running { config.old.state ≡ State.Running }
+    requires base { Base S.meaning config.old }
+    requires there { IsThere S.meaning config.old frame.now }
+    requires name { KnowsSpelt config.old.heap.texts name }
+    requires value { HasValue config.old base }
+    ensures { let t = config.new.heap.texts in let env = env_in S.meaning config.old t frame.now in OnOk result (Follows S.meaning (line.dot_base (spelt_in t name) env (taken frame.now.form env) (value_in t base)) config.old config.new) }
+{
+    if is_nullish(base) {
+        throw(config, frame, Trouble::NotAnObject)
+    } else {
+        dot_member(config, frame, name, base)
+    }
+}
+
+/// The member of a base by a name.
+fn dot_member<S: WorldStore>(
+    config: &mut Config<S>,
+    frame: &Frame,
+    spelt: Spelt,
+    base: Value,
+) -> Result<(), OutOfMemory>
+    requires running { config.old.state ≡ State.Running }
+    requires base { Base S.meaning config.old }
+    requires there { IsThere S.meaning config.old frame.now }
+    requires name { KnowsSpelt config.old.heap.texts spelt }
+    requires value { HasValue config.old base }
+    ensures { let t = config.new.heap.texts in let env = env_in S.meaning config.old t frame.now in OnOk result (Follows S.meaning (taken frame.now.form env (deed.Member (value_in t base) (spelt_in t spelt))) config.old config.new) }
+{
+    let name = spelt_name(config, spelt)?;
+    take(config, frame, base, name)
+}
+
+/// Goes on with a member: an expression with its value, a target with the reference.
+fn take<S: WorldStore>(
+    config: &mut Config<S>,
+    frame: &Frame,
+    base: Value,
+    name: Name,
+) -> Result<(), OutOfMemory>
+    requires running { config.old.state ≡ State.Running }
+    requires base { Base S.meaning config.old }
+    requires there { IsThere S.meaning config.old frame.now }
+    requires value { HasValue config.old base }
+    requires name { HasName config.old name }
+    ensures { let t = config.new.heap.texts in let env = env_in S.meaning config.old t frame.now in OnOk result (Follows S.meaning (taken frame.now.form env (deed.Member (value_in t base) (name_in t name))) config.old config.new) }
+{
+    let reference = Reference::Member(base, name);
+    match frame.form {
+        Form::Target => finish(config, frame, Completion::Refers(reference)),
+        _ => give_value_of(config, frame, reference),
+    }
+}
+
+/// After the index of a member by value: undefined and null have no members.
+fn at_index<S: WorldStore>(
+    config: &mut Config<S>,
+    frame: Frame,
+    base: NodeId,
+    index: NodeId,
+    value: Value,
+) -> Result<(), OutOfMemory>
+    requires running { config.old.state ≡ State.Running }
+    requires base { Base S.meaning config.old }
+    requires there { IsThere S.meaning config.old frame }
+    requires form { takes_from frame.form ≡ true }
+    requires node { node_now S.meaning config.old frame ≡ Node.At base index }
+    requires value { HasValue config.old value }
+    ensures { let t = config.new.heap.texts in let env = env_in S.meaning config.old t frame in OnOk result (Follows S.meaning (line.at_index (value_in t (value_held frame.held)) env (taken frame.form env) (value_in t value)) config.old config.new) }
+{
+    if is_nullish(held_value(config, &frame)) {
+        throw(config, &frame, Trouble::NotAnObject)
+    } else {
+        at_name(config, frame, base, index, value)
+    }
+}
+
+/// The index is made a name.
+fn at_name<S: WorldStore>(
+    config: &mut Config<S>,
+    frame: Frame,
+    base: NodeId,
+    index: NodeId,
+    value: Value,
+) -> Result<(), OutOfMemory>
+    requires running { config.old.state ≡ State.Running }
+    requires base { Base S.meaning config.old }
+    requires there { IsThere S.meaning config.old frame }
+    requires form { takes_from frame.form ≡ true }
+    requires node { node_now S.meaning config.old frame ≡ Node.At base index }
+    requires value { HasValue config.old value }
+    ensures { let t = config.new.heap.texts in let env = env_in S.meaning config.old t frame in OnOk result (Follows S.meaning (Sub (to_text (value_in t value) env) (then_text (line.at_name (value_in t (value_held frame.held)) (taken frame.form env)))) config.old config.new) }
+{
+    if is_object(value) {
+        convert(config, frame, 3, Conversion::Text, value)
+    } else {
+        at_primitive(config, &frame, value)
+    }
+}
+
+/// The text of a primitive is the name.
+fn at_primitive<S: WorldStore>(
+    config: &mut Config<S>,
+    frame: &Frame,
+    value: Value,
+) -> Result<(), OutOfMemory>
+    requires running { config.old.state ≡ State.Running }
+    requires base { Base S.meaning config.old }
+    requires there { IsThere S.meaning config.old frame.now }
+    requires value { HasValue config.old value }
+    ensures { let t = config.new.heap.texts in let env = env_in S.meaning config.old t frame.now in OnOk result (Follows S.meaning (line.at_name (value_in t (value_held frame.now.held)) (taken frame.now.form env) (primitive_text (value_in t value))) config.old config.new) }
+{
+    let name = name_of_value(config, value)?;
+    take_held(config, frame, name)
+}
+
+/// The member of the base that is held.
+fn take_held<S: WorldStore>(
+    config: &mut Config<S>,
+    frame: &Frame,
+    name: Name,
+) -> Result<(), OutOfMemory>
+    requires running { config.old.state ≡ State.Running }
+    requires base { Base S.meaning config.old }
+    requires there { IsThere S.meaning config.old frame.now }
+    requires name { HasName config.old name }
+    ensures { let t = config.new.heap.texts in let env = env_in S.meaning config.old t frame.now in OnOk result (Follows S.meaning (line.at_name (value_in t (value_held frame.now.held)) (taken frame.now.form env) (name_in t name)) config.old config.new) }
+{
+    let base = held_value(config, frame);
+    take(config, frame, base, name)
+}
+
+/// After the conversion of the index.
+fn at_text<S: WorldStore>(
+    config: &mut Config<S>,
+    frame: &Frame,
+    text: TextId,
+) -> Result<(), OutOfMemory>
+    requires running { config.old.state ≡ State.Running }
+    requires base { Base S.meaning config.old }
+    requires there { IsThere S.meaning config.old frame.now }
+    requires text { Has config.old.heap.texts text }
+    ensures { let t = config.new.heap.texts in let env = env_in S.meaning config.old t frame.now in OnOk result (Follows S.meaning (line.at_name (value_in t (value_held frame.now.held)) (taken frame.now.form env) (text_in t text)) config.old config.new) }
+{
+    let name = name_of(config, text);
+    take_held(config, frame, name)
+}
+
+/// A member by name goes on with the completion of its base.
+pub fn dot_given<S: WorldStore>(
+    config: &mut Config<S>,
+    frame: &Frame,
+    base: NodeId,
+    name: Spelt,
+    completion: Completion,
+) -> Result<(), OutOfMemory>
+    requires running { config.old.state ≡ State.Running }
+    requires base { Base S.meaning config.old }
+    requires there { IsThere S.meaning config.old frame.now }
+    requires node { node_now S.meaning config.old frame.now ≡ Node.Dot base name }
+    requires completion { HasCompletion config.old completion }
+    ensures { let t = config.new.heap.texts in let env = env_in S.meaning config.old t frame.now in OnOk result (Follows S.meaning (then_value (line.dot_base (spelt_in t name) env (taken frame.now.form env)) (completion_in t completion)) config.old config.new) }
+{
+    let _base = base;
+    match completion {
+        Completion::Gives(value) => dot_base(config, frame, name, value),
+        _ => finish(config, frame, completion),
+    }
+}
+
+/// A member by value goes on with the completion of its base, of its index, or of the index's conversion.
+pub fn at_given<S: WorldStore>(
+    config: &mut Config<S>,
+    frame: Frame,
+    base: NodeId,
+    index: NodeId,
+    completion: Completion,
+) -> Result<(), OutOfMemory>
+    requires running { config.old.state ≡ State.Running }
+    requires base { Base S.meaning config.old }
+    requires there { IsThere S.meaning config.old frame }
+    requires form { takes_from frame.form ≡ true }
+    requires node { node_now S.meaning config.old frame ≡ Node.At base index }
+    requires completion { HasCompletion config.old completion }
+    ensures { let t = config.new.heap.texts in let env = env_in S.meaning config.old t frame in OnOk result (Follows S.meaning (after.after_at index.0 frame.place (holding_in t frame.held) env (taken frame.form env) (completion_in t completion)) config.old config.new) }
+{
+    match completion {
+        Completion::Gives(value) => at_value(config, frame, base, index, value),
+        _ => finish(config, &frame, completion),
+    }
+}
+
+/// With a value.
+fn at_value<S: WorldStore>(
+    config: &mut Config<S>,
+    frame: Frame,
+    base: NodeId,
+    index: NodeId,
+    value: Value,
+) -> Result<(), OutOfMemory>
+    requires running { config.old.state ≡ State.Running }
+    requires base { Base S.meaning config.old }
+    requires there { IsThere S.meaning config.old frame }
+    requires form { takes_from frame.form ≡ true }
+    requires node { node_now S.meaning config.old frame ≡ Node.At base index }
+    requires value { HasValue config.old value }
+    ensures { let t = config.new.heap.texts in let env = env_in S.meaning config.old t frame in OnOk result (Follows S.meaning (after.after_at index.0 frame.place (holding_in t frame.held) env (taken frame.form env) (Gives (value_in t value))) config.old config.new) }
+{
+    match (frame.place, value) {
+        (1, _) => at_base(config, frame, base, index, value),
+        (2, _) => at_index(config, frame, base, index, value),
+        (_, Value::Text(text)) => at_text(config, &frame, text),
+        _ => finish(config, &frame, Completion::Gives(value)),
+    }
+}

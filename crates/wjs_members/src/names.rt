@@ -1,0 +1,65 @@
+//! Names, for their value and as targets (ECMA-262, 3rd edition, sections 10.1.4 and 11.1.2).
+ghost use Rattle.std.specs.Prelude.{◌≡◌, OnOk};
+ghost use Rattle.wjs_base.specs.Text.{Table};
+ghost use Rattle.wjs_content.specs.Tables.{text_in};
+ghost use Rattle.wjs_meaning.specs.Deeds.{tree_here};
+ghost use Rattle.wjs_meaning.specs.Expressions as line;
+ghost use Rattle.wjs_meaning.specs.Trees.{Name};
+ghost use Rattle.wjs_model.specs.Units.{place_in};
+ghost use Rattle.wjs_model.specs.Waiting.{refer};
+ghost use Rattle.wjs_model.specs.Soundness.{Base, IsThere};
+ghost use Rattle.wjs_moves.specs.Following.{Follows};
+ghost use Rattle.wjs_moves.specs.Parts.{env_in, node_now};
+
+use wjs_base::{OutOfMemory, TextId};
+use wjs_deeds::reference_at;
+use wjs_lines::give_value_of;
+use wjs_model::{Completion, Config, Frame, State};
+use wjs_moves::finish;
+use wjs_scope::Place;
+use wjs_store::WorldStore;
+use wjs_tree::Node;
+
+/// Where the name at a frame's node is found.
+fn place_of<S: WorldStore>(config: &Config<S>, frame: &Frame) -> Place
+    ensures { (t : Table) → (tree_here (env_in S.meaning config.now t frame.now)).place frame.now.node.0 ≡ place_in result }
+{
+    match config.units.get(frame.tree as usize) {
+        Some(unit) => unit.place(frame.node),
+        None => Place::Global,
+    }
+}
+
+/// A name for its value.
+pub fn name_value<S: WorldStore>(
+    config: &mut Config<S>,
+    frame: &Frame,
+    id: TextId,
+) -> Result<(), OutOfMemory>
+    requires running { config.old.state ≡ State.Running }
+    requires base { Base S.meaning config.old }
+    requires there { IsThere S.meaning config.old frame.now }
+    requires node { node_now S.meaning config.old frame.now ≡ Node.Name id }
+    ensures { let t = config.new.heap.texts in let env = env_in S.meaning config.old t frame.now in OnOk result (Follows S.meaning (line.reference_of frame.now.node.0 (Name (text_in t id)) env (line.give_value_of env)) config.old config.new) }
+{
+    let place = place_of(config, frame);
+    let reference = reference_at(config, frame, place, id);
+    give_value_of(config, frame, reference)
+}
+
+/// A name as a target.
+pub fn name_target<S: WorldStore>(
+    config: &mut Config<S>,
+    frame: &Frame,
+    id: TextId,
+) -> Result<(), OutOfMemory>
+    requires running { config.old.state ≡ State.Running }
+    requires base { Base S.meaning config.old }
+    requires there { IsThere S.meaning config.old frame.now }
+    requires node { node_now S.meaning config.old frame.now ≡ Node.Name id }
+    ensures { let t = config.new.heap.texts in let env = env_in S.meaning config.old t frame.now in OnOk result (Follows S.meaning (line.reference_of frame.now.node.0 (Name (text_in t id)) env refer) config.old config.new) }
+{
+    let place = place_of(config, frame);
+    let reference = reference_at(config, frame, place, id);
+    finish(config, frame, Completion::Refers(reference))
+}

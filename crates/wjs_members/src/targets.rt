@@ -1,0 +1,114 @@
+//! Targets (ECMA-262, 3rd edition, section 8.7): which expressions are targets - a name, a member, or a target in parentheses -
+//! and what a target begins with.
+ghost use Rattle.std.specs.Prelude.{◌≡◌, MatchOption, OnOk};
+ghost use Rattle.wjs_base.specs.Text.{Table};
+ghost use Rattle.wjs_meaning.specs.Deeds.{tree_here};
+ghost use Rattle.wjs_meaning.specs.Expressions as line;
+ghost use Rattle.wjs_meaning.specs.Reading.{node_in};
+ghost use Rattle.wjs_meaning.specs.Trees as trees;
+ghost use Rattle.wjs_model.specs.Soundness.{Base, IsThere};
+ghost use Rattle.wjs_moves.specs.Following.{Follows};
+ghost use Rattle.wjs_moves.specs.Parts.{env_in, node_among, node_now};
+ghost use Rattle.wjs_members.specs.Targets.{target_form};
+
+use crate::members::{at_start, dot_start};
+use crate::names::name_target;
+use wjs_base::OutOfMemory;
+use wjs_model::{Completion, Config, Form, Frame, State};
+use wjs_moves::{Part, enter_last, finish, node_of};
+use wjs_store::WorldStore;
+use wjs_tree::{Node, NodeId};
+
+/// What a target begins with: a name gives its reference, a member enters its base, parentheses their target (section 11.1.6). No
+/// other form is a target.
+pub fn target_start<S: WorldStore>(config: &mut Config<S>, frame: Frame) -> Result<(), OutOfMemory>
+    requires running { config.old.state ≡ State.Running }
+    requires base { Base S.meaning config.old }
+    requires there { IsThere S.meaning config.old frame }
+    requires form { frame.form ≡ Form.Target }
+    ensures { let t = config.new.heap.texts in let env = env_in S.meaning config.old t frame in OnOk result (Follows S.meaning (line.target_of frame.node.0 (node_in t (node_now S.meaning config.old frame)) env) config.old config.new) }
+{
+    match node_of(config, &frame) {
+        Some(Node::Name(id)) => {
+            let id = *id;
+            name_target(config, &frame, id)
+        }
+        Some(Node::Paren(part)) => {
+            let part = *part;
+            enter_last(config, &frame, Part::Target(part))
+        }
+        Some(Node::Dot(base, name)) => {
+            let (base, name) = (*base, *name);
+            dot_start(config, frame, base, name)
+        }
+        Some(Node::At(base, index)) => {
+            let (base, index) = (*base, *index);
+            at_start(config, frame, base, index)
+        }
+        _ => finish(config, &frame, Completion::Normal),
+    }
+}
+
+/// Whether a form is a target.
+#[derive(Clone, Copy, Debug, PartialEq, Eq)]
+pub(crate) enum TargetForm {
+    Target,
+    /// It is one where its part is.
+    Inside(NodeId),
+    Other,
+}
+
+/// Whether the node is a target, where a frame is run.
+pub fn is_target<S: WorldStore>(config: &Config<S>, frame: &Frame, node: NodeId) -> bool
+    ensures { (t : Table) → trees.is_target (tree_here (env_in S.meaning config.now t frame.now)) node.0 ≡ result }
+{
+    let mut at = node;
+    let mut parens = node.0;
+    'inner: while parens > 0 {
+        match target_form(config, frame, at) {
+            TargetForm::Target => return true,
+            TargetForm::Inside(part) => at = part,
+            TargetForm::Other => return false,
+        }
+        parens -= 1;
+    }
+    is_bare_target(config, frame, at)
+}
+
+/// Whether the node is a target without a further Paren.
+fn is_bare_target<S: WorldStore>(config: &Config<S>, frame: &Frame, node: NodeId) -> bool
+    ensures { (t : Table) → trees.is_target_to 1 (tree_here (env_in S.meaning config.now t frame.now)) node.0 ≡ result }
+{
+    match target_form(config, frame, node) {
+        TargetForm::Target => true,
+        TargetForm::Inside(_) => false,
+        TargetForm::Other => false,
+    }
+}
+
+/// The kind of a node of the tree at hand.
+fn target_form<S: WorldStore>(config: &Config<S>, frame: &Frame, node: NodeId) -> TargetForm
+    ensures { result ≡ target_form (node_among config.now.units.items frame.now.tree node) }
+{
+    match node_at(config, frame, node) {
+        Some(Node::Name(_)) => TargetForm::Target,
+        Some(Node::Dot(_, _)) => TargetForm::Target,
+        Some(Node::At(_, _)) => TargetForm::Target,
+        Some(Node::Paren(part)) => TargetForm::Inside(*part),
+        _ => TargetForm::Other,
+    }
+}
+
+/// A node of the tree at hand; none where there is none, which the meaning takes for an empty statement.
+fn node_at<'a, S: WorldStore>(
+    config: &'a Config<S>,
+    frame: &Frame,
+    node: NodeId,
+) -> Option<&'a Node>
+    ensures { MatchOption result (node_among config.now.units.items frame.now.tree node ≡ Node.Empty) (λ found. node_among config.now.units.items frame.now.tree node ≡ found.now) }
+{
+    match config.units.get(frame.tree as usize) {
+        Some(unit) => unit.node(node),
+        None => None,
+    }
+}
