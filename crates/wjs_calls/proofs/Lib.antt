@@ -1,0 +1,9 @@
+pub mod Rows
+pub mod Entered
+pub mod FunctionNodes
+pub mod FunctionObjects
+pub mod Elements
+pub mod Declaring
+pub mod NewFrames
+pub mod TwoObjects
+pub mod NamedFunctions

@@ -1,0 +1,68 @@
+-- Deeds one after another.
+use Rattle.std.proofs.Common.{◌≡◌, sym, ap, subst}
+use Rattle.std.specs.Prelude.{Result, Ok, Err, OnOk, IfOk}
+use Rattle.std.proofs.lemmas.Result.{on_ok_weaker}
+use Rattle.wjs_base.specs.declared.ids.OutOfMemory.{OutOfMemory}
+use Rattle.wjs_base.specs.Text.{Table, Grows}
+use Rattle.wjs_store.specs.Meaning.{Meaning}
+use Rattle.wjs_meaning.specs.Deeds.{Env, Act}
+use Rattle.wjs_model.specs.declared.config.Config.{Config}
+use Rattle.wjs_model.specs.declared.frame.Frame.{Frame}
+use Rattle.wjs_moves.specs.Doing.{DoesFirst}
+use Rattle.wjs_moves.specs.Following.{Follows, Later}
+use Rattle.wjs_moves.specs.Parts.{env_in}
+use Rattle.wjs_deeds.proofs.Composing.{env_later}
+use Rattle.wjs_deeds.proofs.Later.{later_twice}
+use Rattle.wjs_calls.specs.Leaving.{Leaves}
+
+module _ {S : Type 0} (meaning : S → Meaning) where
+  -- deeds one after another
+  pub first_then : (one two : Table → Act → Act) (old mid new : Config S) → DoesFirst meaning one old mid → DoesFirst meaning two mid new → DoesFirst meaning (λ t act. one t (two t act)) old new
+  first_then one two old mid new f s = record { by = λ act later r h. f.by (two later.heap.texts act) later r (s.by act later r h) }
+
+  -- the same deeds under every table that comes after
+  pub first_same : (one two : Table → Act → Act) (old mid : Config S) → ((t : Table) → Grows mid.heap.texts t → (act : Act) → two t act ≡ one t act) → DoesFirst meaning one old mid → DoesFirst meaning two old mid
+  first_same one two old mid e d = record {
+    by = λ act later r h. on_ok_weaker r (λ (k : Follows meaning act mid later). subst (λ x. Follows meaning x old later) (sym (e later.heap.texts k.keeps.stays.texts act)) (d.by act later (Ok tt) k)) h;
+  }
+
+  -- where they are run stays
+  pub first_env : (f : Frame) (deeds : Env → Table → Act → Act) (old mid new : Config S) → Later meaning old mid → DoesFirst meaning (λ t. deeds (env_in meaning mid t f) t) mid new → DoesFirst meaning (λ t. deeds (env_in meaning old t f) t) mid new
+  first_env f deeds old mid new l d = first_same (λ t. deeds (env_in meaning mid t f) t) (λ t. deeds (env_in meaning old t f) t) mid new (λ t g act. ap (λ e. deeds e t act) (sym (env_later meaning old mid t f l))) d
+
+  -- ---- deeds of which some are left
+
+  pub leaves_all : (all : Table → Act → Act) (old : Config S) → Leaves meaning all all old old
+  leaves_all all old = record { by = λ act later r h. h }
+
+  -- one more is done
+  pub leaves_less : (all rest one less : Table → Act → Act) (old cur next : Config S) → ((t : Table) → Grows next.heap.texts t → (act : Act) → rest t act ≡ one t (less t act)) → Leaves meaning all rest old cur → DoesFirst meaning one cur next → Leaves meaning all less old next
+  leaves_less all rest one less old cur next e l d = record {
+    by = λ act later r h. on_ok_weaker r (λ (k : Follows meaning (less later.heap.texts act) next later).
+        l.by act later (Ok tt) (subst (λ x. Follows meaning x cur later) (sym (e later.heap.texts k.keeps.stays.texts act)) (d.by (less later.heap.texts act) later (Ok tt) k))) h;
+  }
+
+  -- none is left
+  pub leaves_none : (all rest : Table → Act → Act) (old cur : Config S) → ((t : Table) (act : Act) → rest t act ≡ act) → Leaves meaning all rest old cur → DoesFirst meaning all old cur
+  leaves_none all rest old cur e l = record { by = λ act later r h. l.by act later r (subst (λ x. OnOk r (Follows meaning x cur later)) (sym (e later.heap.texts act)) h) }
+
+-- a call that answers nothing
+pub ok_without : {P : Unit {0} → Type 0} {Q : Type 0} (r : Result (Unit {0}) OutOfMemory) → IfOk r P → ((x : Unit {0}) → P x → Q) → OnOk r Q
+ok_without (Ok x) h f = f x h
+ok_without (Err e) h f = tt
+
+-- and leaves something
+pub ok_leaving : {P : Unit {0} → Type 0} {L Q : Type 0} (r : Result (Unit {0}) OutOfMemory) → IfOk r P → OnOk r L → ((x : Unit {0}) → P x → L → Q) → OnOk r Q
+ok_leaving (Ok x) h l f = f x h l
+ok_leaving (Err e) h l f = tt
+
+pub ok_later : {S : Type 0} (meaning : S → Meaning) (old mid new : Config S) (r : Result (Unit {0}) OutOfMemory) → Later meaning old mid → OnOk r (Later meaning mid new) → OnOk r (Later meaning old new)
+ok_later meaning old mid new r f h = on_ok_weaker r (λ (s : Later meaning mid new). later_twice meaning old mid new f s) h
+
+pub any_later : {S A : Type 0} (meaning : S → Meaning) (old mid new : Config S) (r : Result A OutOfMemory) → Later meaning old mid → OnOk r (Later meaning mid new) → OnOk r (Later meaning old new)
+any_later meaning old mid new (Ok x) f h = later_twice meaning old mid new f h
+any_later meaning old mid new (Err e) f h = tt
+
+-- the programs stay
+pub same_units : {S : Type 0} (meaning : S → Meaning) (old new : Config S) → Later meaning old new → new.units.items ≡ old.units.items
+same_units meaning old new l = λ i. (l.units i).items

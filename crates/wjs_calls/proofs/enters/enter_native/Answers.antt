@@ -1,0 +1,21 @@
+use Rattle.std.proofs.Common.{false, subst}
+use Rattle.std.specs.Prelude.{OnOk}
+use Rattle.wjs_content.specs.Tables.{value_in}
+use Rattle.wjs_meaning.specs.Deeds.{Tick, AtNative}
+use Rattle.wjs_model.specs.declared.frame.Form.TheVariants as form
+use Rattle.wjs_model.specs.declared.frame.Frame.{Frame}
+use Rattle.wjs_model.specs.Contents.{holding_in}
+use Rattle.wjs_moves.specs.Following.{Follows}
+use Rattle.wjs_moves.specs.Parts.{env_in, begins_at}
+use Rattle.wjs_calls.proofs.Entered.{entered}
+use Rattle.wjs_calls.proofs.enters.enter_native.Goals as goal
+
+pub returns : goal.returns
+returns g c =
+    let m = g.S.WorldStore.meaning in
+    let old = c.args.config.now in
+    let new = c.due_later.new.config in
+    let t = new.heap.texts in
+    let f = λ (q : Frame). record q { form = form.Native c.args.native; this = c.args.this } in
+    entered m (AtNative c.args.native false (holding_in t c.args.frame.held).values) (record (env_in m old t c.args.frame) { this = value_in t c.args.this }) old new c.due_later.result
+    (subst (λ (q : Frame). OnOk c.due_later.result (Follows m (Tick (begins_at m old (f q) 0 t (env_in m old t (f q)))) old new)) c.in_ok-hold.ensures c.due_later.ensures)

@@ -1,0 +1,21 @@
+use Rattle.std.proofs.Common.{Option, sym, subst}
+use Rattle.std.specs.Option.{option_map}
+use Rattle.std.specs.Prelude.{IfOk}
+use Rattle.wjs_base.specs.declared.ids.TextId.{TextId}
+use Rattle.wjs_content.specs.Tables.{text_in}
+use Rattle.wjs_meaning.specs.Functions.{make_function}
+use Rattle.wjs_moves.specs.Doing.{Does}
+use Rattle.wjs_moves.specs.Parts.{env_in}
+use Rattle.wjs_calls.proofs.functions.make_function.Goals as goal
+
+pub returns-in-None-clause-does : goal.returns-in-None-clause-does
+returns-in-None-clause-does g c =
+    let m = g.S.WorldStore.meaning in
+    let old = c.args.config.now in
+    subst (λ (n : Option TextId). IfOk c.make_function_in.result (λ o. Does m (λ t. make_function c.args.body.0 (option_map (text_in t) n) (env_in m old t c.args.frame.now)) (λ t. o) old c.make_function_in.new.config)) (sym c.in-None.is) c.make_function_in.ensures.does
+
+pub returns-in-Some-clause-does : goal.returns-in-Some-clause-does
+returns-in-Some-clause-does g c =
+    let m = g.S.WorldStore.meaning in
+    let old = c.args.config.now in
+    subst (λ (n : Option TextId). IfOk c.make_named.result (λ o. Does m (λ t. make_function c.args.body.0 (option_map (text_in t) n) (env_in m old t c.args.frame.now)) (λ t. o) old c.make_named.new.config)) (sym c.in-Some.is) c.make_named.ensures.does

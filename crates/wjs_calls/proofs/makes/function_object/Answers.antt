@@ -1,0 +1,15 @@
+use Rattle.std.proofs.Common.{sym, ap, ◌∙◌}
+use Rattle.wjs_content.specs.Values.{whole}
+use Rattle.wjs_calls.proofs.FunctionObjects.{function_is, function_named}
+use Rattle.wjs_calls.proofs.makes.function_object.Goals as goal
+
+pub returns-clause-is : goal.returns-clause-is
+returns-clause-is g c = λ t more.
+    function_is t c.object_of-object.result c.builtin-prototype.result c.args.scope c.args.frame.now.tree c.args.body.0 _ c.in_ok-fixed.fixed c.in_ok-flags.flags c.args.names.length c.args.names.prototype c.in_ok-count.count
+    c.object_of-object.ensures c.builtin-prototype.ensures.number c.in_ok-fixed.ensures c.in_ok-flags.ensures (c.requires.length_text t more) (c.requires.prototype_text t more) (c.in_ok-count.ensures t ∙ ap whole (sym (c.formals_count.ensures t)))
+
+pub returns-clause-named : goal.returns-clause-named
+returns-clause-named g c =
+    let now = c.args.config.now in
+    function_named now.heap.texts now.heap.arena c.object_of-object.result c.builtin-prototype.result c.args.scope c.args.frame.now.tree (record { 0 = c.args.body.0 }) _ c.in_ok-fixed.fixed c.in_ok-flags.flags c.args.names.length c.args.names.prototype c.in_ok-count.count
+    c.object_of-object.ensures c.in_ok-fixed.ensures c.in_ok-flags.ensures c.requires.length c.requires.prototype (c.in_ok-count.ensures now.heap.texts)

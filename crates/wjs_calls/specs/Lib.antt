@@ -1,0 +1,4 @@
+pub mod Callees
+pub mod Making
+pub mod Leaving
+pub mod TwoObjects

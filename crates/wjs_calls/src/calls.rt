@@ -1,0 +1,154 @@
+//! Calls (ECMA-262, 3rd edition, sections 10.2.3, 11.2.3 and 13.2.1).
+ghost use Rattle.std.specs.Prelude.{◌≡◌, OnOk};
+ghost use Rattle.wjs_content.specs.Tables.{value_in};
+ghost use Rattle.wjs_meaning.specs.Calls as line;
+ghost use Rattle.wjs_meaning.specs.Deeds.{Sub};
+ghost use Rattle.wjs_meaning.specs.Expressions as expressions;
+ghost use Rattle.wjs_model.specs.Contents.{holding_in};
+ghost use Rattle.wjs_calls.specs.Callees.{script_call, native_call};
+ghost use Rattle.wjs_model.specs.Rest as begins;
+ghost use Rattle.wjs_model.specs.Soundness.{Base, IsThere, HasObject, HasValue, HasItems};
+ghost use Rattle.wjs_moves.specs.Parts.{env_in, then_at};
+ghost use Rattle.wjs_moves.specs.Following.{Follows};
+
+use crate::enters::{enter_body, enter_native};
+use wjs_arena::{Code, Native};
+use wjs_base::{ObjId, OutOfMemory, Value};
+use wjs_deeds::{code_of, function_of};
+use wjs_lines::{held_callee, this_or_global, throw, to_object};
+use wjs_model::{Completion, Config, Form, Frame, Items, Phase, State, Trouble};
+use wjs_moves::{finish, wait};
+use wjs_store::WorldStore;
+
+/// Calls a function, with the values that the frame holds as its arguments: it is entered in the frame's place.
+pub fn call<S: WorldStore>(
+    config: &mut Config<S>,
+    frame: Frame,
+    function: ObjId,
+    this: Value,
+) -> Result<(), OutOfMemory>
+    requires running { config.old.state ≡ State.Running }
+    requires base { Base S.meaning config.old }
+    requires there { IsThere S.meaning config.old frame }
+    requires function { HasObject config.old function }
+    requires this { HasValue config.old this }
+    ensures { let t = config.new.heap.texts in OnOk result (Follows S.meaning (line.call function (value_in t this) (holding_in t frame.held).values (env_in S.meaning config.old t frame)) config.old config.new) }
+{
+    match code_of(config, function) {
+        Code::None => throw(config, &frame, Trouble::NotAFunction),
+        Code::Script { .. } => call_script(config, frame, function, this),
+        Code::Native(native) => call_native(config, frame, native, this),
+    }
+}
+
+/// Calls a function that a script made, where `this` becomes an object.
+fn call_script<S: WorldStore>(
+    config: &mut Config<S>,
+    frame: Frame,
+    function: ObjId,
+    this: Value,
+) -> Result<(), OutOfMemory>
+    requires running { config.old.state ≡ State.Running }
+    requires base { Base S.meaning config.old }
+    requires there { IsThere S.meaning config.old frame }
+    requires function { HasObject config.old function }
+    requires this { HasValue config.old this }
+    ensures { let t = config.new.heap.texts in OnOk result (Follows S.meaning (script_call function (value_in t this) (holding_in t frame.held).values (env_in S.meaning config.old t frame)) config.old config.new) }
+{
+    let this = this_or_global(config, &frame, this);
+    let answer = to_object(config, &frame, this)?;
+    match answer {
+        Ok(object) => enter_body(config, frame, function, Value::Object(object)),
+        Err(error) => finish(config, &frame, Completion::Throws(error)),
+    }
+}
+
+/// Calls a native function, where a primitive `this` stays itself.
+fn call_native<S: WorldStore>(
+    config: &mut Config<S>,
+    frame: Frame,
+    native: Native,
+    this: Value,
+) -> Result<(), OutOfMemory>
+    requires running { config.old.state ≡ State.Running }
+    requires base { Base S.meaning config.old }
+    requires there { IsThere S.meaning config.old frame }
+    requires this { HasValue config.old this }
+    ensures { let t = config.new.heap.texts in OnOk result (Follows S.meaning (native_call native (value_in t this) (holding_in t frame.held).values (env_in S.meaning config.old t frame)) config.old config.new) }
+{
+    let this = this_or_global(config, &frame, this);
+    enter_native(config, frame, native, this)
+}
+
+/// Calls what the frame holds as its callee, where that is an object; another value ends normally.
+pub fn call_if<S: WorldStore>(config: &mut Config<S>, frame: Frame) -> Result<(), OutOfMemory>
+    requires running { config.old.state ≡ State.Running }
+    requires base { Base S.meaning config.old }
+    requires there { IsThere S.meaning config.old frame }
+    ensures { let t = config.new.heap.texts in let held = holding_in t frame.held in OnOk result (Follows S.meaning (begins.call_if held.callee.0 held.callee.1 held.values (env_in S.meaning config.old t frame)) config.old config.new) }
+{
+    let (callee, this) = held_callee(config, &frame);
+    match callee {
+        Value::Object(function) => call(config, frame, function, this),
+        _ => finish(config, &frame, Completion::Normal),
+    }
+}
+
+/// Calls a value that must be a function (section 11.2.3).
+pub fn call_value<S: WorldStore>(
+    config: &mut Config<S>,
+    frame: Frame,
+    callee: Value,
+    this: Value,
+) -> Result<(), OutOfMemory>
+    requires running { config.old.state ≡ State.Running }
+    requires base { Base S.meaning config.old }
+    requires there { IsThere S.meaning config.old frame }
+    requires callee { HasValue config.old callee }
+    requires this { HasValue config.old this }
+    ensures { let t = config.new.heap.texts in OnOk result (Follows S.meaning (expressions.call_values (value_in t callee) (value_in t this) (env_in S.meaning config.old t frame) (holding_in t frame.held).values) config.old config.new) }
+{
+    match function_of(config, callee) {
+        Some(function) => call(config, frame, function, this),
+        None => throw(config, &frame, Trouble::NotAFunction),
+    }
+}
+
+/// Calls a function while the frame waits at a place. The call's arguments are the values among the items.
+pub fn call_below<S: WorldStore>(
+    config: &mut Config<S>,
+    frame: Frame,
+    place: u32,
+    function: ObjId,
+    this: Value,
+    items: Items,
+) -> Result<(), OutOfMemory>
+    requires running { config.old.state ≡ State.Running }
+    requires base { Base S.meaning config.old }
+    requires there { IsThere S.meaning config.old frame }
+    requires function { HasObject config.old function }
+    requires this { HasValue config.old this }
+    requires items { HasItems config.old items }
+    ensures { let t = config.new.heap.texts in let env = env_in S.meaning config.old t frame in OnOk result (Follows S.meaning (Sub (line.call function (value_in t this) (holding_in t items).values env) (then_at S.meaning config.old frame place t env)) config.old config.new) }
+{
+    let above = frame_above(&frame, items);
+    wait(config, frame, place)?;
+    call(config, above, function, this)
+}
+
+/// A frame of a call where another frame is run.
+fn frame_above(at: &Frame, held: Items) -> Frame
+    ensures { result ≡ record at.now { form = Form.Call; place = 0; phase = Phase.Ready; held = held } }
+{
+    Frame {
+        form: Form::Call,
+        tree: at.tree,
+        node: at.node,
+        place: 0,
+        phase: Phase::Ready,
+        scope: at.scope,
+        this: at.this,
+        world: at.world,
+        held,
+    }
+}
