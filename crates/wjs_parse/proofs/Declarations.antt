@@ -14,7 +14,7 @@ use Rattle.wjs_tree.specs.Shows.{Has, Shows, ElementsShow, Keeps}
 use Rattle.wjs_tree.proofs.Kept.{elements_kept}
 use Rattle.wjs_parse_expr.specs.declared.functions.Functions.{Functions}
 use Rattle.wjs_parse_expr.specs.Readings.{FunctionReading, is_function}
-use Rattle.wjs_parse_expr.specs.Table.{entry_at, Holds}
+use Rattle.wjs_parse_expr.specs.Table.{entry_at, MayBegin, Holds}
 use Rattle.wjs_parse_stmt.specs.declared.parts.Piece.{Piece}
 use Rattle.wjs_parse_stmt.specs.Kinds.{kind_of}
 use Rattle.wjs_parse_stmt.specs.Readings.{StmtReading, Stops}
@@ -71,9 +71,9 @@ module _ (toks : List Tok) (functions : Functions) (room i : ℕ) (ns : List Nod
   no_stmt : (s : Stmt) (m : ℕ) → ElementReading toks room i (Plain s) m → Stops toks m s → ⊥
   no_stmt s m r z = nothing_none toks room i (ap (λ z. kind_of z (token_at toks (i + 1))) key) s m (as_stmt toks room i s m r) z
 
-  pub declared_nowhere : entry_at functions i ≡ None → (u : Element) (m : ℕ) → ElementReading toks room i u m → ElementStops toks m u → ⊥
-  declared_nowhere e (Plain s) m r z = no_stmt s m r z
-  declared_nowhere e (Declared x formals body) m r z = not_none (entry_at functions i) e (h.complete i (Function (Some x) formals body) m (omega arith) (as_function toks room i x formals body m h.low r))
+  pub declared_nowhere : MayBegin toks i → entry_at functions i ≡ None → (u : Element) (m : ℕ) → ElementReading toks room i u m → ElementStops toks m u → ⊥
+  declared_nowhere b e (Plain s) m r z = no_stmt s m r z
+  declared_nowhere b e (Declared x formals body) m r z = not_none (entry_at functions i) e (h.complete i (Function (Some x) formals body) m (omega arith) b (as_function toks room i x formals body m h.low r))
 
   module _ (node : NodeId) (next : ℕ) (e : entry_at functions i ≡ Some (node, next)) where
     same : (x : TextId) (formals : List TextId) (body : Elements) (m : ℕ) → ElementReading toks room i (Declared x formals body) m → (Function (Some x) formals body ≡ (h.entries i node next e).tree) × (m ≡ next)

@@ -1,3 +1,4 @@
+pub mod Lasts
 pub mod Items
 pub mod Declarations
 pub mod Making

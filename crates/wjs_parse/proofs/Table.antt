@@ -15,18 +15,18 @@ use Rattle.wjs_tree.proofs.OneUse.{same_use}
 use Rattle.wjs_parse_expr.specs.declared.functions.Functions.{Functions}
 use Rattle.wjs_parse_expr.specs.declared.found.Found.{Found}
 use Rattle.wjs_parse_expr.specs.Readings.{FunctionReading, is_function}
-use Rattle.wjs_parse_expr.specs.Table.{entry_at, IsEntry, Holds, Owns}
+use Rattle.wjs_parse_expr.specs.Table.{entry_at, IsEntry, MayBegin, Holds, Owns}
 use Rattle.wjs_parse_expr.proofs.Entries.{held}
 use Rattle.wjs_parse_expr.proofs.Adding.{own_apart, added_holds}
 use Rattle.wjs_parse_expr.proofs.Readings.{token_within}
 use Rattle.wjs_parse_stmt.specs.Made.{ExprMade}
 use Rattle.wjs_parse.specs.Answers.{FindsFunction, AreBehind}
 
--- A place where no function is read needs no entry.
-pub holds_before : (toks : List Tok) (functions : Functions) (place room : ℕ) (ns : List Node) → ((u : Expr) (m : ℕ) → FunctionReading toks place u m → ⊥) → Holds toks functions (place + 1) room ns → Holds toks functions place room ns
+-- A place where no function may begin, or none is read, needs no entry.
+pub holds_before : (toks : List Tok) (functions : Functions) (place room : ℕ) (ns : List Node) → (MayBegin toks place → (u : Expr) (m : ℕ) → FunctionReading toks place u m → ⊥) → Holds toks functions (place + 1) room ns → Holds toks functions place room ns
 holds_before toks functions place room ns none h = record {
   entries = h.entries;
-  complete = λ p u m le r. ⊎_elim (λ lt. h.complete p u m (omega arith) r) (λ ge. absurd (none u m (subst (λ (z : ℕ). FunctionReading toks z u m) (let e : p ≡ place = omega arith in e) r))) (cases_lt place p);
+  complete = λ p u m le b r. ⊎_elim (λ lt. h.complete p u m (omega arith) b r) (λ ge. absurd (let e : p ≡ place = omega arith in none (subst (λ (z : ℕ). MayBegin toks z) e b) u m (subst (λ (z : ℕ). FunctionReading toks z u m) e r))) (cases_lt place p);
   apart = h.apart;
   low = h.low;
 }
@@ -58,7 +58,7 @@ holds_with toks old new place start ns p h k later put f own =
 pub holds_last : (toks : List Tok) (functions : Functions) (ns : List Node) → ((q : ℕ) → entry_at functions q ≡ None) → Holds toks functions (length toks) 200 ns
 holds_last toks functions ns none = record {
   entries = λ q node next e. absurd (let h = none q in cc);
-  complete = λ q u m le r. absurd (no_key q le (key u q m r.is r.reading.stands));
+  complete = λ q u m le b r. absurd (no_key q le (key u q m r.is r.reading.stands));
   apart = λ q q' node node' next next' e f le t u us vs s z. absurd (let h = none q in cc);
   low = omega arith;
 }

@@ -1,7 +1,7 @@
 //! Functions (ECMA-262, 3rd edition, section 13).
 ghost use Rattle.std.specs.Prelude.{◌+◌};
 ghost use Rattle.wjs_tree.specs.Shows.{Keeps};
-ghost use Rattle.wjs_parse_expr.specs.Table.{Holds};
+ghost use Rattle.wjs_parse_expr.specs.Table.{Holds, MayBegin};
 ghost use Rattle.wjs_parse.specs.Answers.{FunctionAnswers, BodyAnswers, FoundEnds, BodyEnds};
 ghost use Rattle.wjs_parse.specs.Made.{FunctionOwn, ElementsOwn};
 
@@ -53,6 +53,7 @@ fn function_body(
     nodes: &mut Nodes,
 ) -> Result<Option<Listed>, OutOfMemory>
     requires held { Holds toks.now functions.now at 200 nodes.old }
+    requires may_begin { MayBegin toks.now at }
     ensures keeps { Keeps nodes.old nodes.new }
     ensures ends { BodyEnds toks.now at nodes.new result }
     ensures answer { BodyAnswers toks.now at nodes.new result }

@@ -3,7 +3,7 @@ ghost use Rattle.std.specs.Prelude.{◌≡◌, ◌<◌, length, IfOk};
 ghost use Rattle.wjs_tree.specs.Ends.{HasKey};
 ghost use Rattle.wjs_tree.specs.Shows.{Keeps};
 ghost use Rattle.wjs_tree.specs.declared.keys.Key.TheVariants as keys;
-ghost use Rattle.wjs_parse_expr.specs.Table.{Holds};
+ghost use Rattle.wjs_parse_expr.specs.Table.{Holds, MayBegin};
 ghost use Rattle.wjs_parse_stmt.specs.Answers.{ListEnds};
 ghost use Rattle.wjs_parse.specs.Answers.{ElementsAnswers, ElementAnswers, DeclaredAnswers, DeclaredBelow, FoundEnds};
 ghost use Rattle.wjs_parse.specs.Made.{ElementsOwn, ElementOwn};
@@ -26,6 +26,7 @@ pub fn elements(
     nodes: &mut Nodes,
 ) -> Result<Option<Listed>, OutOfMemory>
     requires held { Holds toks.now functions.now at room nodes.old }
+    requires may_begin { MayBegin toks.now at }
     ensures keeps { Keeps nodes.old nodes.new }
     ensures ends { ListEnds toks.now at nodes.new result }
     ensures answer { ElementsAnswers toks.now room at nodes.new result }
@@ -56,6 +57,7 @@ fn element(
     nodes: &mut Nodes,
 ) -> Result<Option<Found>, OutOfMemory>
     requires held { Holds toks.now functions.now at room nodes.old }
+    requires may_begin { MayBegin toks.now at }
     ensures keeps { Keeps nodes.old nodes.new }
     ensures ends { FoundEnds toks.now at nodes.new result }
     ensures answer { ElementAnswers toks.now room at nodes.new result }
@@ -83,6 +85,7 @@ fn declaration(
     nodes: &mut Nodes,
 ) -> Result<Option<Found>, OutOfMemory>
     requires held { Holds toks.now functions.now at room nodes.old }
+    requires may_begin { MayBegin toks.now at }
     requires key { HasKey toks.now at keys.Function }
     ensures keeps { Keeps nodes.old nodes.new }
     ensures ends { FoundEnds toks.now at nodes.new result }

@@ -105,6 +105,9 @@ fn reads_functions(rt: HostRuntime) -> Result<(), Fail> {
         ("x.function(a)\n{ }", Some(2)),
         ("x.function(a) { }", None),
         ("x.function(a)\n{ a a }", None),
+        ("x.\nfunction(a)\n{ }", Some(2)),
+        ("x.function\nfunction f() { }", Some(2)),
+        ("x.y = function () { }", Some(1)),
         (
             "var o = {if: 1, class: 2,}; print(o.if + o.class);",
             Some(2),
@@ -201,5 +204,21 @@ fn reads_long_scripts(rt: HostRuntime) -> Result<(), Fail> {
             "{count} of {first}"
         );
     }
+    Ok(())
+}
+
+/// Were a function tried at each name behind a dot, these blocks would be read once for each that they stand in.
+#[test]
+fn reads_names_behind_dots_once(rt: HostRuntime) -> Result<(), Fail> {
+    let nested = repeated(rt.alloc(), "x.function(a)\n{", "", "}", 150)?;
+    let mut script = Vec::new(rt.alloc());
+    for _ in 0..400 {
+        script.extend_from_slice(nested.as_slice())?;
+    }
+    assert_eq!(rt;
+        elements(&rt, rt.alloc(), script.as_slice())?,
+        Some(800),
+        "400 times 150 of x.function(a)"
+    );
     Ok(())
 }

@@ -1,7 +1,9 @@
 //! Programs (ECMA-262, 3rd edition, section 14).
-ghost use Rattle.std.specs.Prelude.{◌≡◌, ◌+◌, [], OnOk, IfOk};
+ghost use Rattle.std.specs.Prelude.{◌≡◌, ◌+◌, ◌↔◌, [], OnOk, IfOk, IsTrue};
+ghost use Rattle.wjs_tree.specs.Ends.{HasKey};
 ghost use Rattle.wjs_tree.specs.Shows.{Keeps};
-ghost use Rattle.wjs_parse_expr.specs.Table.{Holds};
+ghost use Rattle.wjs_tree.specs.declared.keys.Key.TheVariants as keys;
+ghost use Rattle.wjs_parse_expr.specs.Table.{Holds, MayBegin};
 ghost use Rattle.wjs_parse.specs.Answers.{ProgramAnswers, WholeAnswers, AreBehind};
 
 use crate::function::function_at;
@@ -9,8 +11,8 @@ use crate::list::elements;
 use std::alloc::Global;
 use wjs_base::OutOfMemory;
 use wjs_jumps::jumps_are_right;
-use wjs_parse_expr::{Functions, ParseFault, has_key};
-use wjs_tree::{Key, Node, NodeId, Nodes, Program, Tok};
+use wjs_parse_expr::{Functions, ParseFault, has_key, has_sign};
+use wjs_tree::{Key, Node, NodeId, Nodes, Program, Sign, Tok};
 
 /// The program that the tokens spell: its tree is well formed, and no other well-formed tree spells them; trees are compared
 /// by their forms and parts. No node stands at two places of it. NotAScript exactly where no well-formed tree spells them.
@@ -58,8 +60,15 @@ fn functions(alloc: Global, toks: &[Tok], nodes: &mut Nodes) -> Result<Functions
     Ok(found)
 }
 
-/// Adds the function that begins at the place, if one does. Where its key stands and no function can be read, as may be
-/// behind a dot, none does.
+/// Whether a function may begin at the place: its key stands there, and not right behind a dot, where it is the name of a
+/// property.
+fn function_may_begin(toks: &[Tok], place: usize) -> bool
+    ensures { IsTrue result ↔ (HasKey toks.now place keys.Function × MayBegin toks.now place) }
+{
+    has_key(toks, place, Key::Function) && (place == 0 || !has_sign(toks, place - 1, Sign::Dot))
+}
+
+/// Adds the function that begins at the place, if one does.
 fn add_function(
     alloc: Global,
     toks: &[Tok],
@@ -73,7 +82,7 @@ fn add_function(
     ensures held { OnOk result (Holds toks.now functions.new place 200 nodes.new) }
     ensures behind { OnOk result (AreBehind functions.new place) }
 {
-    if !has_key(toks, place, Key::Function) {
+    if !function_may_begin(toks, place) {
         return Ok(());
     }
     let Some(found) = function_at(alloc, toks, place, functions, nodes)? else {

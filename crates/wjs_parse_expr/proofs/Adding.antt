@@ -15,7 +15,7 @@ use Rattle.wjs_tree.proofs.OneUse.{same_use}
 use Rattle.wjs_tree.proofs.Forward.{forward}
 use Rattle.wjs_parse_expr.specs.declared.functions.Functions.{Functions}
 use Rattle.wjs_parse_expr.specs.Readings.{FunctionReading}
-use Rattle.wjs_parse_expr.specs.Table.{entry_at, IsEntry, Holds, Owns}
+use Rattle.wjs_parse_expr.specs.Table.{entry_at, IsEntry, MayBegin, Holds, Owns}
 use Rattle.wjs_parse_expr.proofs.Entries.{held}
 
 -- what is made of new nodes, and of entries within its tokens, has no node of an entry behind them
@@ -62,8 +62,8 @@ module _ (toks : List Tok) (old new : Functions) (place next room : ℕ) (ns : L
       here q true f g = rw g refl
       here q false f g = cc
 
-  complete : (p : ℕ) (u : Expr) (m : ℕ) → place ≤ p → FunctionReading toks p u m → IsSome (entry_at new p)
-  complete p u m le r = ⊎_elim (λ lt. grows p (place == p) (put p) (h.complete p u m (omega arith) r)) (λ ge. there p (omega arith)) (cases_lt place p)
+  complete : (p : ℕ) (u : Expr) (m : ℕ) → place ≤ p → MayBegin toks p → FunctionReading toks p u m → IsSome (entry_at new p)
+  complete p u m le b r = ⊎_elim (λ lt. grows p (place == p) (put p) (h.complete p u m (omega arith) b r)) (λ ge. there p (omega arith)) (cases_lt place p)
 
   ahead : (q : ℕ) (node' : NodeId) (ends : ℕ) → Which q node' ends → q < ends
   ahead q node' ends w = let f = is_entry q node' ends w in forward toks f.tree q ends f.reading.reading.stands

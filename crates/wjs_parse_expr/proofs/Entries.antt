@@ -21,7 +21,7 @@ use Rattle.wjs_tree.proofs.Forward.{forward}
 use Rattle.wjs_parse_expr.specs.declared.functions.Functions.{Functions}
 use Rattle.wjs_parse_expr.specs.declared.parts.Part.{Part}
 use Rattle.wjs_parse_expr.specs.Readings.{Reading, FunctionReading, is_function}
-use Rattle.wjs_parse_expr.specs.Table.{entry_at, IsEntry, AreEntriesApart, Holds}
+use Rattle.wjs_parse_expr.specs.Table.{entry_at, IsEntry, AreEntriesApart, MayBegin, Holds}
 use Rattle.wjs_tree.specs.Used.{IsUsed}
 use Rattle.wjs_tree.proofs.OneUse.{same_use}
 use Rattle.wjs_parse_expr.proofs.Owning.{own_entry}
@@ -53,7 +53,7 @@ entries_apart toks functions at room a b h k p q node node' next next' e e' le t
 pub held : (toks : List Tok) (functions : Functions) (at at' room room' : ℕ) (a b : List Node) → Holds toks functions at room a → Keeps a b → at ≤ at' → room' ≤ room → Holds toks functions at' room' b
 held toks functions at at' room room' a b h k le lo = record {
   entries = λ p node next e. entry_kept toks a b p node next k (h.entries p node next e);
-  complete = λ p u m q r. h.complete p u m (omega arith) r;
+  complete = λ p u m q b r. h.complete p u m (omega arith) b r;
   apart = λ p q node node' next next' e e' le t u us vs s z. entries_apart toks functions at room a b h k p q node node' next next' e e' le t u us vs s z;
   low = (let l = h.low in omega arith);
 }
@@ -108,9 +108,9 @@ not_none : {A : Type 0} (o : Option A) → o ≡ None → IsSome o → ⊥
 not_none None e h = cc
 not_none (Some x) e h = cc
 
-pub function_none : (toks : List Tok) (functions : Functions) (no_in : Bool) (at room : ℕ) (ns : List Node) → Holds toks functions at room ns → HasKey toks at keys.Function → entry_at functions at ≡ None → Nothing toks 18 no_in room at
-function_none toks functions no_in at room ns h key e = record {
-  none = λ u m r. not_none (entry_at functions at) e (h.complete at u m (omega arith) (as_function toks functions no_in at room ns h key u m r));
+pub function_none : (toks : List Tok) (functions : Functions) (no_in : Bool) (at room : ℕ) (ns : List Node) → Holds toks functions at room ns → MayBegin toks at → HasKey toks at keys.Function → entry_at functions at ≡ None → Nothing toks 18 no_in room at
+function_none toks functions no_in at room ns h b key e = record {
+  none = λ u m r. not_none (entry_at functions at) e (h.complete at u m (omega arith) b (as_function toks functions no_in at room ns h key u m r));
 }
 
 -- where an entry ends, and that its node is there
@@ -152,7 +152,7 @@ pub empty_holds : (toks : List Tok) (functions : Functions) (at : ℕ) (ns : Lis
 empty_holds toks functions at ns none no_key = record {
   entries = λ p node next e. absurd (let q = none p in cc);
   apart = λ p q node node' next next' e f le t u us vs s z. absurd (let h = none p in cc);
-  complete = λ p u m le r. absurd (no_key p (function_key u p m r.is r.reading.stands));
+  complete = λ p u m le b r. absurd (no_key p (function_key u p m r.is r.reading.stands));
   low = omega arith;
 }
   where

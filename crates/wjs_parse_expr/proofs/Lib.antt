@@ -12,6 +12,7 @@ pub mod Suffixes
 pub mod Heads
 pub mod Targets
 pub mod Beginnings
+pub mod Places
 pub mod Unaries
 pub mod Gathering
 pub mod Properties

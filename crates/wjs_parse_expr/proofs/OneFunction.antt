@@ -138,7 +138,7 @@ module _ (toks : List Tok) (p : ℕ) (key : HasKey toks p keys.Function) (paren 
       entries = λ q node' next e.
           (let k = picked q node' next e in
           subst (λ (z : ℕ). IsEntry toks ns z node' next) k.0 (subst (λ (z : NodeId). IsEntry toks ns p z next) k.1 (subst (λ (z : ℕ). IsEntry toks ns p node z) k.2 is_entry)));
-      complete = λ q u m le r. there q (alone q (function_key u q m r.is r.reading.stands));
+      complete = λ q u m le b r. there q (alone q (function_key u q m r.is r.reading.stands));
       apart = λ q r node' node'' next next' e f le t u us vs s z. absurd (let k = picked q node' next e in let l = picked r node'' next' f in let x = k.0 in let y = l.0 in let w = k.2 in omega arith);
       low = omega arith;
     }

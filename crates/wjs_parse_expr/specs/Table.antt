@@ -1,14 +1,21 @@
 -- Functions that are read already.
-use Rattle.std.specs.Prelude.{◌≡◌, ℕ, ◌<◌, ◌≤◌, ◌⊎◌, nat_eq, List, length, Option, Some, IsSome}
+use Rattle.std.specs.Prelude.{◌≡◌, ℕ, ◌+◌, ◌<◌, ◌≤◌, ◌⊎◌, nat_eq, List, length, Option, Some, IsSome}
 use Rattle.std.specs.HashMap.{get}
 use Rattle.wjs_tree.specs.declared.tokens.Tok.{Tok}
+use Rattle.wjs_tree.specs.declared.signs.Sign.TheVariants as signs
+use Rattle.wjs_tree.specs.declared.keys.Key.TheVariants as keys
 use Rattle.wjs_tree.specs.declared.node.Node.{Node}
 use Rattle.wjs_tree.specs.declared.node.NodeId.{NodeId}
 use Rattle.wjs_tree.specs.Trees.{Expr}
+use Rattle.wjs_tree.specs.Ends.{HasSign, HasKey}
 use Rattle.wjs_tree.specs.Shows.{Shows}
 use Rattle.wjs_tree.specs.Used.{IsUsed, IsOnce, AreApart}
 use Rattle.wjs_parse_expr.specs.declared.functions.Functions.{Functions}
 use Rattle.wjs_parse_expr.specs.Readings.{FunctionReading}
+
+-- A tree may begin at the place: no `function` right behind a dot stands there, which is the name of a property.
+pub record MayBegin (toks : List Tok) (p : ℕ) : Type 0 where
+  pub undotted : (dot : ℕ) → p ≡ dot + 1 → HasSign toks dot signs.Dot → HasKey toks p keys.Function → ⊥
 
 -- the node of the function at a place, and the place after it
 abbrev pub entry_at : Functions → ℕ → Option (NodeId × ℕ)
@@ -30,11 +37,11 @@ AreEntriesApart functions ns =
     (p q : ℕ) (node node' : NodeId) (next next' : ℕ) → entry_at functions p ≡ Some (node, next) → entry_at functions q ≡ Some (node', next') → next ≤ q
     → (t u : Expr) (us vs : List ℕ) → Shows ns t node us → Shows ns u node' vs → AreApart us vs
 
--- Each entry is right, each function that is spelled at or after the place has an entry, and entries whose tokens don't
--- meet share no node. The height that is left is at most 200.
+-- Each entry is right, each function that is spelled at or after the place, where a tree may begin, has an entry, and
+-- entries whose tokens don't meet share no node. The height that is left is at most 200.
 pub record Holds (toks : List Tok) (functions : Functions) (at room : ℕ) (ns : List Node) : Type 0 where
   pub entries : (p : ℕ) (node : NodeId) (next : ℕ) → entry_at functions p ≡ Some (node, next) → IsEntry toks ns p node next
-  pub complete : (p : ℕ) (u : Expr) (m : ℕ) → at ≤ p → FunctionReading toks p u m → IsSome (entry_at functions p)
+  pub complete : (p : ℕ) (u : Expr) (m : ℕ) → at ≤ p → MayBegin toks p → FunctionReading toks p u m → IsSome (entry_at functions p)
   pub apart : AreEntriesApart functions ns
   pub low : room ≤ 200
 

@@ -6,7 +6,7 @@ ghost use Rattle.wjs_tree.specs.declared.signs.Sign.TheVariants as signs;
 ghost use Rattle.wjs_parse_expr.specs.Readings.{Continues};
 ghost use Rattle.wjs_parse_expr.specs.Steps.{BinaryStep, CommaStep, CondStep, AssignStep};
 ghost use Rattle.wjs_parse_expr.specs.Answers.{Answers, Steps, IsExpression, OperandAnswers, PartEnds, from};
-ghost use Rattle.wjs_parse_expr.specs.Table.{Holds};
+ghost use Rattle.wjs_parse_expr.specs.Table.{Holds, MayBegin};
 
 use crate::found::{Found, ParseFault};
 use crate::functions::Functions;
@@ -20,7 +20,8 @@ use wjs_tree::{Node, Nodes, PrefixOperator, Sign, Tok};
 /// The longest well-formed expression that begins at the place, and no other tree spells its tokens; NotAScript exactly
 /// where none begins there. Where `no_in` is true, no operator `in` stands outside brackets in it. Functions are taken
 /// from `functions`. The nodes that were there stay. No node stands at two places of the tree, and each node of it is new
-/// or belongs to an entry of `functions` within its tokens.
+/// or belongs to an entry of `functions` within its tokens. No expression begins at a `function` right behind a dot, which
+/// is the name of a property.
 pub fn expression(
     alloc: Global,
     toks: &[Tok],
@@ -29,7 +30,8 @@ pub fn expression(
     functions: &Functions,
     nodes: &mut Nodes,
 ) -> Result<Found, ParseFault>
-    requires { Holds toks.now functions.now at 200 nodes.old }
+    requires held { Holds toks.now functions.now at 200 nodes.old }
+    requires may_begin { MayBegin toks.now at }
     ensures keeps { Keeps nodes.old nodes.new }
     ensures ends { IfOk result (λ p. (at < p.next) × (p.next ≤ length toks.now) × (p.node.0 < length nodes.new)) }
     ensures answer { IsExpression toks.now functions.now no_in at nodes.old nodes.new result }
@@ -57,6 +59,7 @@ pub fn comma(
     nodes: &mut Nodes,
 ) -> Result<Option<Part>, OutOfMemory>
     requires held { Holds toks.now functions.now at room nodes.old }
+    requires may_begin { MayBegin toks.now at }
     ensures keeps { Keeps nodes.old nodes.new }
     ensures ends { PartEnds toks.now at nodes.new result }
     ensures answer { Answers (from toks.now functions.now nodes.old at) toks.now 0 no_in room at nodes.new result }
@@ -123,6 +126,7 @@ pub fn assignment(
     nodes: &mut Nodes,
 ) -> Result<Option<Part>, OutOfMemory>
     requires held { Holds toks.now functions.now at room nodes.old }
+    requires may_begin { MayBegin toks.now at }
     ensures keeps { Keeps nodes.old nodes.new }
     ensures ends { PartEnds toks.now at nodes.new result }
     ensures answer { Answers (from toks.now functions.now nodes.old at) toks.now 1 no_in room at nodes.new result }
@@ -246,6 +250,7 @@ fn binary(
     requires low { 3 ≤ level }
     requires high { level ≤ 13 }
     requires held { Holds toks.now functions.now at room nodes.old }
+    requires may_begin { MayBegin toks.now at }
     ensures keeps { Keeps nodes.old nodes.new }
     ensures ends { PartEnds toks.now at nodes.new result }
     ensures answer { Answers (from toks.now functions.now nodes.old at) toks.now level no_in room at nodes.new result }
@@ -321,6 +326,7 @@ fn unary(
     nodes: &mut Nodes,
 ) -> Result<Option<Part>, OutOfMemory>
     requires held { Holds toks.now functions.now at room nodes.old }
+    requires may_begin { MayBegin toks.now at }
     ensures keeps { Keeps nodes.old nodes.new }
     ensures ends { PartEnds toks.now at nodes.new result }
     ensures answer { Answers (from toks.now functions.now nodes.old at) toks.now 13 no_in room at nodes.new result }
@@ -355,6 +361,7 @@ fn operand(
     nodes: &mut Nodes,
 ) -> Result<Option<Part>, OutOfMemory>
     requires held { Holds toks.now functions.now at room nodes.old }
+    requires may_begin { MayBegin toks.now at }
     ensures keeps { Keeps nodes.old nodes.new }
     ensures ends { PartEnds toks.now at nodes.new result }
     ensures answer { OperandAnswers (from toks.now functions.now nodes.old at) op toks.now no_in room at nodes.new result }
@@ -378,6 +385,7 @@ fn postfix(
     nodes: &mut Nodes,
 ) -> Result<Option<Part>, OutOfMemory>
     requires held { Holds toks.now functions.now at room nodes.old }
+    requires may_begin { MayBegin toks.now at }
     ensures keeps { Keeps nodes.old nodes.new }
     ensures ends { PartEnds toks.now at nodes.new result }
     ensures answer { Answers (from toks.now functions.now nodes.old at) toks.now 14 no_in room at nodes.new result }

@@ -6,7 +6,7 @@ ghost use Rattle.wjs_tree.specs.declared.signs.Sign.TheVariants as signs;
 ghost use Rattle.wjs_tree.specs.declared.keys.Key.TheVariants as keys;
 ghost use Rattle.wjs_parse_expr.specs.Steps.{SuffixStep};
 ghost use Rattle.wjs_parse_expr.specs.Answers.{Steps, ListAnswers, HeadAnswers, ChainAnswers, Given, TargetAnswers, PartEnds, HeadEnds, ListEnds, from};
-ghost use Rattle.wjs_parse_expr.specs.Table.{Holds};
+ghost use Rattle.wjs_parse_expr.specs.Table.{Holds, MayBegin};
 ghost use Rattle.wjs_parse_expr.specs.declared.functions.Functions.{Functions};
 
 use crate::expr::{assignment, comma};
@@ -30,6 +30,7 @@ pub fn target(
     nodes: &mut Nodes,
 ) -> Result<Option<Part>, OutOfMemory>
     requires held { Holds toks.now functions.now at room nodes.old }
+    requires may_begin { MayBegin toks.now at }
     ensures keeps { Keeps nodes.old nodes.new }
     ensures ends { PartEnds toks.now at nodes.new result }
     ensures answer { TargetAnswers (from toks.now functions.now nodes.old at) toks.now no_in room at nodes.new result }
@@ -68,6 +69,7 @@ pub fn chain(
     nodes: &mut Nodes,
 ) -> Result<Option<Head>, OutOfMemory>
     requires held { Holds toks.now functions.now at room nodes.old }
+    requires may_begin { MayBegin toks.now at }
     ensures keeps { Keeps nodes.old nodes.new }
     ensures ends { HeadEnds toks.now at nodes.new result }
     ensures answer { ChainAnswers (from toks.now functions.now nodes.old at) toks.now calls no_in room at nodes.new result }
@@ -100,6 +102,7 @@ fn beginning(
     nodes: &mut Nodes,
 ) -> Result<Option<Head>, OutOfMemory>
     requires held { Holds toks.now functions.now at room nodes.old }
+    requires may_begin { MayBegin toks.now at }
     ensures keeps { Keeps nodes.old nodes.new }
     ensures ends { HeadEnds toks.now at nodes.new result }
     ensures answer { HeadAnswers (from toks.now functions.now nodes.old at) toks.now no_in room at nodes.new result }
@@ -345,6 +348,7 @@ fn arguments(
 ) -> Result<Option<Listed>, OutOfMemory>
     requires below { 0 < room }
     requires held { Holds toks.now functions.now at room nodes.old }
+    requires may_begin { MayBegin toks.now at }
     ensures keeps { Keeps nodes.old nodes.new }
     ensures ends { ListEnds toks.now at nodes.new result }
     ensures answer { ListAnswers (from toks.now functions.now nodes.old at) toks.now room at nodes.new result }

@@ -7,7 +7,7 @@ ghost use Rattle.wjs_tree.specs.declared.signs.Sign.TheVariants as signs;
 ghost use Rattle.wjs_tree.specs.declared.keys.Key.TheVariants as keys;
 ghost use Rattle.wjs_parse_expr.specs.Answers.{Answers, Adds, FunctionAnswers, ItemsAnswers, PropertiesAnswers, ValueAnswers, PartEnds, ItemsEnds, PropertiesEnds, ValueEnds, FunctionEnds, from};
 ghost use Rattle.wjs_parse_expr.specs.Reserved.{kind_of};
-ghost use Rattle.wjs_parse_expr.specs.Table.{Holds};
+ghost use Rattle.wjs_parse_expr.specs.Table.{Holds, MayBegin};
 
 use crate::expr::{assignment, comma};
 use crate::functions::Functions;
@@ -56,6 +56,7 @@ pub fn primary(
     nodes: &mut Nodes,
 ) -> Result<Option<Part>, OutOfMemory>
     requires held { Holds toks.now functions.now at room nodes.old }
+    requires may_begin { MayBegin toks.now at }
     ensures keeps { Keeps nodes.old nodes.new }
     ensures ends { PartEnds toks.now at nodes.new result }
     ensures answer { Answers (from toks.now functions.now nodes.old at) toks.now 18 no_in room at nodes.new result }
@@ -111,6 +112,7 @@ fn keyed(
     nodes: &mut Nodes,
 ) -> Result<Option<Part>, OutOfMemory>
     requires held { Holds toks.now functions.now at room nodes.old }
+    requires may_begin { MayBegin toks.now at }
     requires below { 0 < room }
     requires key { HasKey toks.now at key }
     ensures keeps { Keeps nodes.old nodes.new }
@@ -137,6 +139,7 @@ fn function(
     nodes: &Nodes,
 ) -> Option<Part>
     requires held { Holds toks.now functions.now at room nodes.now }
+    requires may_begin { MayBegin toks.now at }
     requires key { HasKey toks.now at keys.Function }
     ensures ends { FunctionEnds toks.now at nodes.now result }
     ensures answer { FunctionAnswers (from toks.now functions.now nodes.now at) toks.now no_in room at nodes.now result }
@@ -228,6 +231,7 @@ fn items(
 ) -> Result<Option<ListedItems>, OutOfMemory>
     requires below { 0 < room }
     requires held { Holds toks.now functions.now at room nodes.old }
+    requires may_begin { MayBegin toks.now at }
     ensures keeps { Keeps nodes.old nodes.new }
     ensures ends { ItemsEnds toks.now at nodes.new result }
     ensures answer { ItemsAnswers (from toks.now functions.now nodes.old at) toks.now room at nodes.new result }

@@ -131,6 +131,10 @@ kind_right (Some (tokens.Number x)) b = tt
 pub told : (toks : List Tok) (i : ℕ) (kind : Kind) → KindIs toks i kind → KindTokens (token_at toks i) (token_at toks (i + 1)) kind
 told toks i kind h = subst (λ (k : Kind). KindTokens (token_at toks i) (token_at toks (i + 1)) k) h (kind_right (token_at toks i) (token_at toks (i + 1)))
 
+-- no expression statement begins with `function` (section 12.4)
+pub told_no_function : (toks : List Tok) (i : ℕ) → KindIs toks i kinds.Plain → HasKey toks i keys.Function → ⊥
+told_no_function toks i h k = let e : kinds.Nothing ≡ kinds.Plain = subst (λ (o : Option Token). kind_of o (token_at toks (i + 1)) ≡ kinds.Plain) k h in cc
+
 -- the form that a kind tells
 pub of_kind : (toks : List Tok) (room i : ℕ) (kind : Kind) → KindIs toks i kind → (u : Stmt) (m : ℕ) → StmtReading toks room i u m → Stops toks m u → kind_of_stmt u ≡ kind
 of_kind toks room i kind h u m r s = sym (same_kind toks u i m r.formed r.stands s.no_colon) ∙ h

@@ -2,7 +2,7 @@
 ghost use Rattle.std.specs.Prelude.{◌≡◌, false};
 ghost use Rattle.wjs_tree.specs.Shows.{Keeps};
 ghost use Rattle.wjs_parse_expr.specs.Reach.{sign_reach};
-ghost use Rattle.wjs_parse_expr.specs.Table.{Holds};
+ghost use Rattle.wjs_parse_expr.specs.Table.{Holds, MayBegin};
 ghost use Rattle.wjs_parse_expr.proofs.Beginnings.{can_begin};
 ghost use Rattle.wjs_tree.specs.declared.tokens.Token.TheVariants as tokens;
 ghost use Rattle.wjs_parse_stmt.specs.Readings.{UpTo, TestForm, MaybeForm, ClauseHead};
@@ -27,6 +27,7 @@ pub fn up_to(
     nodes: &mut Nodes,
 ) -> Result<Option<Spot>, OutOfMemory>
     requires held { Holds toks.now functions.now at room nodes.old }
+    requires may_begin { MayBegin toks.now at }
     requires ends { sign_reach sign ≡ 0 }
     ensures keeps { Keeps nodes.old nodes.new }
     ensures ends { SpotEnds toks.now at nodes.new result }
@@ -92,6 +93,7 @@ pub fn maybe(
     nodes: &mut Nodes,
 ) -> Result<Option<Maybe>, OutOfMemory>
     requires held { Holds toks.now functions.now at room nodes.old }
+    requires may_begin { MayBegin toks.now at }
     requires ends { sign_reach sign ≡ 0 }
     requires begins { can_begin (tokens.Sign sign) ≡ false }
     ensures keeps { Keeps nodes.old nodes.new }
@@ -124,6 +126,7 @@ pub fn value(
     nodes: &mut Nodes,
 ) -> Result<Option<Valued>, OutOfMemory>
     requires held { Holds toks.now functions.now at room nodes.old }
+    requires may_begin { MayBegin toks.now at }
     ensures keeps { Keeps nodes.old nodes.new }
     ensures ends { ValuedEnds toks.now at nodes.new result }
     ensures answer { ValueAnswers toks.now room at nodes.new result }

@@ -22,6 +22,7 @@ use Rattle.wjs_parse_expr.proofs.Targets.{target_begin, target_step, target_end,
 use Rattle.wjs_parse_expr.proofs.Gathering.{start, ends, no_item, no_sign, one_more_item, empty, items_start, items_close, items_hole, items_last, items_neither, items_more}
 use Rattle.wjs_parse_expr.proofs.Properties.{properties_start, properties_close, properties_last, properties_neither, properties_more}
 use Rattle.wjs_parse_expr.proofs.Primaries.{name_found, number_found, text_found, parens_found, parens_nothing, parens_bare, array_found, object_found}
+use Rattle.wjs_parse_expr.proofs.Places.{behind, behind_sign, behind_key, behind_binary, behind_assign, behind_prefix}
 use Rattle.wjs_parse_expr.proofs.Entries.{held, leaf_ends, below_last, items_last_below, properties_last_below}
 use Rattle.wjs_parse_expr.proofs.+expression.Goals as goal
 
@@ -289,21 +290,21 @@ pub member::created-returns-then-room-eq0-clause-answer : goal.member::created-r
 member::created-returns-then-room-eq0-clause-answer t c = created_no_room c.args.functions.now c.args.nodes.now c.args.toks.now c.args.no_in c.args.room c.args.at c.requires.key c.if-room-eq0.true
 
 pub expr::after_comma-assignment-requires : goal.expr::after_comma-assignment-requires
-expr::after_comma-assignment-requires t c = (search rules, held c.args.toks.now c.args.functions.now c.args.left.next (c.args.left.next + 1) c.args.room (c.args.room - 1) c.args.nodes.now c.args.nodes.now c.requires.held (keeps_self c.args.nodes.now) (omega arith) (omega arith))
+expr::after_comma-assignment-requires t c = (search rules, (held c.args.toks.now c.args.functions.now c.args.left.next (c.args.left.next + 1) c.args.room (c.args.room - 1) c.args.nodes.now c.args.nodes.now c.requires.held (keeps_self c.args.nodes.now) (omega arith) (omega arith), behind_sign c.args.toks.now c.args.left.next signs.Comma (c.has_sign.ensures.0 c.if-not-has_sign.false) (λ e. cc)))
 
 pub expr::assigned-assignment-requires : goal.expr::assigned-assignment-requires
-expr::assigned-assignment-requires t c = (search rules, held c.args.toks.now c.args.functions.now c.args.left.next (c.args.left.next + 1) c.args.room (c.args.room - 1) c.args.nodes.now c.args.nodes.now c.requires.held (keeps_self c.args.nodes.now) (omega arith) (omega arith))
+expr::assigned-assignment-requires t c = (search rules, (held c.args.toks.now c.args.functions.now c.args.left.next (c.args.left.next + 1) c.args.room (c.args.room - 1) c.args.nodes.now c.args.nodes.now c.requires.held (keeps_self c.args.nodes.now) (omega arith) (omega arith), behind_assign c.args.toks.now c.args.left.next c.in-Some.op c.in-Some.ensures))
 
 pub expr::choice-assignment-requires : goal.expr::choice-assignment-requires
-expr::choice-assignment-requires t c = (search rules, held c.args.toks.now c.args.functions.now c.args.left.next (c.args.left.next + 1) c.args.room (c.args.room - 1) c.args.nodes.now c.args.nodes.now c.requires.held (keeps_self c.args.nodes.now) (omega arith) (omega arith))
+expr::choice-assignment-requires t c = (search rules, (held c.args.toks.now c.args.functions.now c.args.left.next (c.args.left.next + 1) c.args.room (c.args.room - 1) c.args.nodes.now c.args.nodes.now c.requires.held (keeps_self c.args.nodes.now) (omega arith) (omega arith), behind_sign c.args.toks.now c.args.left.next signs.Question c.requires.sign (λ e. cc)))
 
 pub member::indexed-comma-requires : goal.member::indexed-comma-requires
-member::indexed-comma-requires t c = (search rules, held c.args.toks.now c.args.functions.now c.args.left.next (c.args.left.next + 1) c.args.room (c.args.room - 1) c.args.nodes.now c.args.nodes.now c.requires.held (keeps_self c.args.nodes.now) (omega arith) (omega arith))
+member::indexed-comma-requires t c = (search rules, (held c.args.toks.now c.args.functions.now c.args.left.next (c.args.left.next + 1) c.args.room (c.args.room - 1) c.args.nodes.now c.args.nodes.now c.requires.held (keeps_self c.args.nodes.now) (omega arith) (omega arith), behind_sign c.args.toks.now c.args.left.next signs.OpenBracket c.requires.sign (λ e. cc)))
 
 pub expr::choice-assignment-requires-2 : goal.expr::choice-assignment-requires-2
 expr::choice-assignment-requires-2 t c =
     let e = rw c.in-Some.is at c.in_ok-yes.ensures.ends in
-    (search rules, held c.args.toks.now c.args.functions.now c.args.left.next (c.in-Some.yes.next + 1) c.args.room (c.args.room - 1) c.args.nodes.now c.assignment.new.nodes c.requires.held c.in_ok-yes.ensures.keeps (let x = e.0 in omega arith) (omega arith))
+    (search rules, (held c.args.toks.now c.args.functions.now c.args.left.next (c.in-Some.yes.next + 1) c.args.room (c.args.room - 1) c.args.nodes.now c.assignment.new.nodes c.requires.held c.in_ok-yes.ensures.keeps (let x = e.0 in omega arith) (omega arith), behind_sign c.args.toks.now c.in-Some.yes.next signs.Colon (c.has_sign.ensures.0 c.if-not-has_sign.false) (λ e. cc)))
 
 pub expr::assignment-assigned-requires : goal.expr::assignment-assigned-requires
 expr::assignment-assigned-requires t c =
@@ -345,19 +346,19 @@ pub expr::operation-binary-requires : goal.expr::operation-binary-requires
 expr::operation-binary-requires t c =
     let a = c.requires.low in
     let b = c.requires.high in
-    (search rules, ((omega arith), ((omega arith), held c.args.toks.now c.args.functions.now c.args.left.next (c.args.left.next + 1) c.args.room (c.args.room - 1) c.args.nodes.now c.args.nodes.now c.requires.held (keeps_self c.args.nodes.now) (omega arith) (omega arith))))
+    (search rules, ((omega arith), ((omega arith), (held c.args.toks.now c.args.functions.now c.args.left.next (c.args.left.next + 1) c.args.room (c.args.room - 1) c.args.nodes.now c.args.nodes.now c.requires.held (keeps_self c.args.nodes.now) (omega arith) (omega arith), behind_binary c.args.toks.now c.args.left.next c.in-Some.op c.in-Some.ensures.0))))
 
 pub expr::unary-operand-requires : goal.expr::unary-operand-requires
-expr::unary-operand-requires t c = (search rules, held c.args.toks.now c.args.functions.now c.args.at (c.args.at + 1) c.args.room (c.args.room - 1) c.args.nodes.now c.args.nodes.now c.requires.held (keeps_self c.args.nodes.now) (omega arith) (omega arith))
+expr::unary-operand-requires t c = (search rules, (held c.args.toks.now c.args.functions.now c.args.at (c.args.at + 1) c.args.room (c.args.room - 1) c.args.nodes.now c.args.nodes.now c.requires.held (keeps_self c.args.nodes.now) (omega arith) (omega arith), behind_prefix c.args.toks.now c.args.at c.in-Some.op c.in-Some.ensures))
 
 pub member::created-chain-requires : goal.member::created-chain-requires
-member::created-chain-requires t c = (search rules, held c.args.toks.now c.args.functions.now c.args.at (c.args.at + 1) c.args.room (c.args.room - 1) c.args.nodes.now c.args.nodes.now c.requires.held (keeps_self c.args.nodes.now) (omega arith) (omega arith))
+member::created-chain-requires t c = (search rules, (held c.args.toks.now c.args.functions.now c.args.at (c.args.at + 1) c.args.room (c.args.room - 1) c.args.nodes.now c.args.nodes.now c.requires.held (keeps_self c.args.nodes.now) (omega arith) (omega arith), behind_key c.args.toks.now c.args.at keys.New c.requires.key))
 
 pub primary::parens-comma-requires : goal.primary::parens-comma-requires
-primary::parens-comma-requires t c = (search rules, held c.args.toks.now c.args.functions.now c.args.at (c.args.at + 1) c.args.room (c.args.room - 1) c.args.nodes.now c.args.nodes.now c.requires.held (keeps_self c.args.nodes.now) (omega arith) (omega arith))
+primary::parens-comma-requires t c = (search rules, (held c.args.toks.now c.args.functions.now c.args.at (c.args.at + 1) c.args.room (c.args.room - 1) c.args.nodes.now c.args.nodes.now c.requires.held (keeps_self c.args.nodes.now) (omega arith) (omega arith), behind_sign c.args.toks.now c.args.at signs.OpenParen c.requires.sign (λ e. cc)))
 
 pub primary::property-assignment-requires : goal.primary::property-assignment-requires
-primary::property-assignment-requires t c = (search rules, held c.args.toks.now c.args.functions.now c.args.at (c.args.at + 2) c.args.room (c.args.room - 1) c.args.nodes.now c.args.nodes.now c.requires.held (keeps_self c.args.nodes.now) (omega arith) (omega arith))
+primary::property-assignment-requires t c = (search rules, (held c.args.toks.now c.args.functions.now c.args.at (c.args.at + 2) c.args.room (c.args.room - 1) c.args.nodes.now c.args.nodes.now c.requires.held (keeps_self c.args.nodes.now) (omega arith) (omega arith), behind c.args.toks.now (c.args.at + 1) (c.args.at + 2) (tokens.Sign signs.Colon) (omega arith) (c.has_sign.ensures.0 c.if-not-has_sign.false) (λ e. cc)))
 
 pub member::created-given-requires : goal.member::created-given-requires
 member::created-given-requires t c =
@@ -365,13 +366,13 @@ member::created-given-requires t c =
     (search rules, ((omega arith), held c.args.toks.now c.args.functions.now c.args.at (c.in-Some.callee.part.next) c.args.room (c.args.room) c.args.nodes.now c.chain.new.nodes c.requires.held c.in_ok-callee.ensures.keeps (let x = e.0 in omega arith) (omega arith)))
 
 pub member::given-arguments-requires : goal.member::given-arguments-requires
-member::given-arguments-requires t c = (search rules, (c.requires.below, held c.args.toks.now c.args.functions.now c.args.callee.part.next (c.args.callee.part.next + 1) c.args.room (c.args.room) c.args.nodes.now c.args.nodes.now c.requires.held (keeps_self c.args.nodes.now) (omega arith) (omega arith)))
+member::given-arguments-requires t c = (search rules, (c.requires.below, (held c.args.toks.now c.args.functions.now c.args.callee.part.next (c.args.callee.part.next + 1) c.args.room (c.args.room) c.args.nodes.now c.args.nodes.now c.requires.held (keeps_self c.args.nodes.now) (omega arith) (omega arith), behind_sign c.args.toks.now c.args.callee.part.next signs.OpenParen (c.has_sign.ensures.0 c.if-not-has_sign.false) (λ e. cc))))
 
 pub member::called-arguments-requires : goal.member::called-arguments-requires
-member::called-arguments-requires t c = (search rules, (c.requires.below, held c.args.toks.now c.args.functions.now c.args.left.next (c.args.left.next + 1) c.args.room (c.args.room) c.args.nodes.now c.args.nodes.now c.requires.held (keeps_self c.args.nodes.now) (omega arith) (omega arith)))
+member::called-arguments-requires t c = (search rules, (c.requires.below, (held c.args.toks.now c.args.functions.now c.args.left.next (c.args.left.next + 1) c.args.room (c.args.room) c.args.nodes.now c.args.nodes.now c.requires.held (keeps_self c.args.nodes.now) (omega arith) (omega arith), behind_sign c.args.toks.now c.args.left.next signs.OpenParen c.requires.sign (λ e. cc))))
 
 pub primary::array-items-requires : goal.primary::array-items-requires
-primary::array-items-requires t c = (search rules, (c.requires.below, held c.args.toks.now c.args.functions.now c.args.at (c.args.at + 1) c.args.room (c.args.room) c.args.nodes.now c.args.nodes.now c.requires.held (keeps_self c.args.nodes.now) (omega arith) (omega arith)))
+primary::array-items-requires t c = (search rules, (c.requires.below, (held c.args.toks.now c.args.functions.now c.args.at (c.args.at + 1) c.args.room (c.args.room) c.args.nodes.now c.args.nodes.now c.requires.held (keeps_self c.args.nodes.now) (omega arith) (omega arith), behind_sign c.args.toks.now c.args.at signs.OpenBracket c.requires.sign (λ e. cc))))
 
 pub primary::object-properties-requires : goal.primary::object-properties-requires
 primary::object-properties-requires t c = (search rules, (c.requires.below, held c.args.toks.now c.args.functions.now c.args.at (c.args.at + 1) c.args.room (c.args.room) c.args.nodes.now c.args.nodes.now c.requires.held (keeps_self c.args.nodes.now) (omega arith) (omega arith)))
@@ -418,7 +419,7 @@ pub member::arguments-returns-then-has_sign-clause-answer : goal.member::argumen
 member::arguments-returns-then-has_sign-clause-answer t c = empty (from c.args.toks.now c.args.functions.now c.args.nodes.now c.args.at) c.args.toks.now c.args.room c.args.at c.args.nodes.now _ c.requires.below (c.from_vec.ensures ∙ c.new-list.ensures.items) refl (c.has_sign.ensures.0 c.if-has_sign.true)
 
 pub member::arguments-loop-list-init : goal.member::arguments-loop-list-init
-member::arguments-loop-list-init t c = (start (from c.args.toks.now c.args.functions.now c.args.nodes.now c.args.at) (from c.args.toks.now c.args.functions.now c.args.nodes.now c.args.at) c.args.toks.now c.args.room c.args.at c.args.nodes.now c.new-list.result.items c.new-list.ensures.items c.requires.below (λ h. absurd (let a = c.has_sign.ensures.1 h in let b = c.if-has_sign.false in cc)), keeps_self _, (omega arith), rw c.new-list.ensures.items tt)
+member::arguments-loop-list-init t c = (start (from c.args.toks.now c.args.functions.now c.args.nodes.now c.args.at) (from c.args.toks.now c.args.functions.now c.args.nodes.now c.args.at) c.args.toks.now c.args.room c.args.at c.args.nodes.now c.new-list.result.items c.new-list.ensures.items c.requires.below (λ h. absurd (let a = c.has_sign.ensures.1 h in let b = c.if-has_sign.false in cc)), keeps_self _, (omega arith), rw c.new-list.ensures.items tt, c.requires.may_begin)
 
 pub member::arguments-loop-list-preserved : goal.member::arguments-loop-list-preserved
 member::arguments-loop-list-preserved t c =
@@ -426,12 +427,12 @@ member::arguments-loop-list-preserved t c =
     let e = rw c.in-Some.is at c.in_ok-item.ensures.ends in
     let x = e.0 in
     let b = c.loop-list.invariant.2 in
-    (one_more_item (from c.args.toks.now c.args.functions.now c.args.nodes.now c.args.at) (from c.args.toks.now c.args.functions.now c.loop-list.nodes c.loop-list.place) c.args.toks.now c.args.room c.args.at c.loop-list.nodes c.loop-list.list.items c.loop-list.place c.assignment.new.nodes c.in-Some.item c.push_last.new.list.items c.requires.below c.loop-list.invariant.0 c.in_ok-item.ensures.keeps f (λ us a d. own_both c.args.toks.now c.args.functions.now c.args.nodes.now c.args.at c.args.room c.requires.held c.loop-list.nodes c.assignment.new.nodes c.args.at c.loop-list.place c.loop-list.place c.in-Some.item.next us _ c.loop-list.invariant.1 c.in_ok-item.ensures.keeps (omega arith) (omega arith) (omega arith) a d) (c.has_sign-in-loop-list-2.ensures.0 c.if-not-has_sign.false) c.in_ok-push_last.ensures.ok, keeps_both _ _ _ c.loop-list.invariant.1 c.in_ok-item.ensures.keeps, (omega arith), rw c.in_ok-push_last.ensures.ok (below_last (length c.loop-list.nodes) (length c.assignment.new.nodes) c.loop-list.list.items c.in-Some.item.node c.in_ok-item.ensures.keeps.longer e.2 c.loop-list.invariant.3))
+    (one_more_item (from c.args.toks.now c.args.functions.now c.args.nodes.now c.args.at) (from c.args.toks.now c.args.functions.now c.loop-list.nodes c.loop-list.place) c.args.toks.now c.args.room c.args.at c.loop-list.nodes c.loop-list.list.items c.loop-list.place c.assignment.new.nodes c.in-Some.item c.push_last.new.list.items c.requires.below c.loop-list.invariant.0 c.in_ok-item.ensures.keeps f (λ us a d. own_both c.args.toks.now c.args.functions.now c.args.nodes.now c.args.at c.args.room c.requires.held c.loop-list.nodes c.assignment.new.nodes c.args.at c.loop-list.place c.loop-list.place c.in-Some.item.next us _ c.loop-list.invariant.1 c.in_ok-item.ensures.keeps (omega arith) (omega arith) (omega arith) a d) (c.has_sign-in-loop-list-2.ensures.0 c.if-not-has_sign.false) c.in_ok-push_last.ensures.ok, keeps_both _ _ _ c.loop-list.invariant.1 c.in_ok-item.ensures.keeps, (omega arith), rw c.in_ok-push_last.ensures.ok (below_last (length c.loop-list.nodes) (length c.assignment.new.nodes) c.loop-list.list.items c.in-Some.item.node c.in_ok-item.ensures.keeps.longer e.2 c.loop-list.invariant.3), behind_sign c.args.toks.now c.in-Some.item.next signs.Comma (c.has_sign-in-loop-list-2.ensures.0 c.if-not-has_sign.false) (λ e. cc))
 
 pub member::arguments-assignment-requires : goal.member::arguments-assignment-requires
 member::arguments-assignment-requires t c =
     let b = c.loop-list.invariant.2 in
-    (search rules, held c.args.toks.now c.args.functions.now c.args.at (c.loop-list.place) c.args.room (c.args.room - 1) c.args.nodes.now c.loop-list.nodes c.requires.held c.loop-list.invariant.1 (omega arith) (omega arith))
+    (search rules, (held c.args.toks.now c.args.functions.now c.args.at (c.loop-list.place) c.args.room (c.args.room - 1) c.args.nodes.now c.loop-list.nodes c.requires.held c.loop-list.invariant.1 (omega arith) (omega arith), c.loop-list.invariant.4))
 
 pub member::arguments-overflow_add-place : goal.member::arguments-overflow_add-place
 member::arguments-overflow_add-place t c =
@@ -495,12 +496,12 @@ primary::object-returns-clause-answer t c =
     object_found c.args.functions.now c.args.nodes.now c.args.at c.args.room c.args.toks.now c.args.no_in c.args.room c.args.at c.properties.new.nodes c.add.new.self c.in-Some.found c.in_ok-node.node c.requires.held c.requires.sign f c.in_ok-found.ensures.keeps c.in_ok-node.ensures.keeps c.in_ok-node.ensures.has c.in_ok-node.ensures.ok
 
 pub primary::items-loop-alloc-init : goal.primary::items-loop-alloc-init
-primary::items-loop-alloc-init t c = (items_start (from c.args.toks.now c.args.functions.now c.args.nodes.now c.args.at) (from c.args.toks.now c.args.functions.now c.args.nodes.now c.args.at) c.args.toks.now c.args.room c.args.at c.args.nodes.now c.new-list.result.items c.new-list.ensures.items, keeps_self _, (omega arith), rw c.new-list.ensures.items tt)
+primary::items-loop-alloc-init t c = (items_start (from c.args.toks.now c.args.functions.now c.args.nodes.now c.args.at) (from c.args.toks.now c.args.functions.now c.args.nodes.now c.args.at) c.args.toks.now c.args.room c.args.at c.args.nodes.now c.new-list.result.items c.new-list.ensures.items, keeps_self _, (omega arith), rw c.new-list.ensures.items tt, c.requires.may_begin)
 
 pub primary::items-loop-alloc-preserved-then-has_sign : goal.primary::items-loop-alloc-preserved-then-has_sign
 primary::items-loop-alloc-preserved-then-has_sign t c =
     let b = c.loop-alloc.invariant.2 in
-    (items_hole (from c.args.toks.now c.args.functions.now c.args.nodes.now c.args.at) (from c.args.toks.now c.args.functions.now c.args.nodes.now c.args.at) c.args.toks.now c.args.room c.args.at c.loop-alloc.nodes c.loop-alloc.list.items c.loop-alloc.tail c.loop-alloc.place c.push_last.new.list.items c.loop-alloc.invariant.0 (c.has_sign-in-loop-alloc.ensures.0 c.if-has_sign.true) c.in_ok-push_last.ensures.ok, c.loop-alloc.invariant.1, (omega arith), rw c.in_ok-push_last.ensures.ok (items_last_below (length c.loop-alloc.nodes) (length c.loop-alloc.nodes) c.loop-alloc.list.items None (omega arith) tt c.loop-alloc.invariant.3))
+    (items_hole (from c.args.toks.now c.args.functions.now c.args.nodes.now c.args.at) (from c.args.toks.now c.args.functions.now c.args.nodes.now c.args.at) c.args.toks.now c.args.room c.args.at c.loop-alloc.nodes c.loop-alloc.list.items c.loop-alloc.tail c.loop-alloc.place c.push_last.new.list.items c.loop-alloc.invariant.0 (c.has_sign-in-loop-alloc.ensures.0 c.if-has_sign.true) c.in_ok-push_last.ensures.ok, c.loop-alloc.invariant.1, (omega arith), rw c.in_ok-push_last.ensures.ok (items_last_below (length c.loop-alloc.nodes) (length c.loop-alloc.nodes) c.loop-alloc.list.items None (omega arith) tt c.loop-alloc.invariant.3), behind_sign c.args.toks.now c.loop-alloc.place signs.Comma (c.has_sign-in-loop-alloc.ensures.0 c.if-has_sign.true) (λ e. cc))
 
 pub primary::items-loop-alloc-smaller-then-has_sign : goal.primary::items-loop-alloc-smaller-then-has_sign
 primary::items-loop-alloc-smaller-then-has_sign t c =
@@ -509,7 +510,7 @@ primary::items-loop-alloc-smaller-then-has_sign t c =
 pub primary::items-assignment-requires : goal.primary::items-assignment-requires
 primary::items-assignment-requires t c =
     let b = c.loop-alloc.invariant.2 in
-    (search rules, held c.args.toks.now c.args.functions.now c.args.at (c.loop-alloc.place) c.args.room (c.args.room - 1) c.args.nodes.now c.loop-alloc.nodes c.requires.held c.loop-alloc.invariant.1 (omega arith) (omega arith))
+    (search rules, (held c.args.toks.now c.args.functions.now c.args.at (c.loop-alloc.place) c.args.room (c.args.room - 1) c.args.nodes.now c.loop-alloc.nodes c.requires.held c.loop-alloc.invariant.1 (omega arith) (omega arith), c.loop-alloc.invariant.4))
 
 pub primary::items-loop-alloc-preserved : goal.primary::items-loop-alloc-preserved
 primary::items-loop-alloc-preserved t c =
@@ -517,7 +518,7 @@ primary::items-loop-alloc-preserved t c =
     let e = rw c.in-Some.is at c.in_ok-item.ensures.ends in
     let x = e.0 in
     let b = c.loop-alloc.invariant.2 in
-    (items_more (from c.args.toks.now c.args.functions.now c.args.nodes.now c.args.at) (from c.args.toks.now c.args.functions.now c.loop-alloc.nodes c.loop-alloc.place) c.args.toks.now c.args.room c.args.at c.loop-alloc.place c.assignment.new.nodes c.in-Some.item f (λ h. absurd (let a = c.has_sign.ensures.1 h in let b = c.loop-alloc-test.true in cc)) (λ h. absurd (let a = c.has_sign-in-loop-alloc.ensures.1 h in let b = c.if-has_sign.false in cc)) c.loop-alloc.nodes c.loop-alloc.list.items c.loop-alloc.tail c.push_last-else-has_sign.new.list.items c.loop-alloc.invariant.0 c.in_ok-item.ensures.keeps (λ us a d. own_both c.args.toks.now c.args.functions.now c.args.nodes.now c.args.at c.args.room c.requires.held c.loop-alloc.nodes c.assignment.new.nodes c.args.at c.loop-alloc.place c.loop-alloc.place c.in-Some.item.next us _ c.loop-alloc.invariant.1 c.in_ok-item.ensures.keeps (omega arith) (omega arith) (omega arith) a d) (c.has_sign-else-has_sign-2.ensures.0 c.if-not-has_sign.false) c.in_ok-push_last-2.ensures.ok, keeps_both _ _ _ c.loop-alloc.invariant.1 c.in_ok-item.ensures.keeps, (omega arith), rw c.in_ok-push_last-2.ensures.ok (items_last_below (length c.loop-alloc.nodes) (length c.assignment.new.nodes) c.loop-alloc.list.items (Some c.in-Some.item.node) c.in_ok-item.ensures.keeps.longer e.2 c.loop-alloc.invariant.3))
+    (items_more (from c.args.toks.now c.args.functions.now c.args.nodes.now c.args.at) (from c.args.toks.now c.args.functions.now c.loop-alloc.nodes c.loop-alloc.place) c.args.toks.now c.args.room c.args.at c.loop-alloc.place c.assignment.new.nodes c.in-Some.item f (λ h. absurd (let a = c.has_sign.ensures.1 h in let b = c.loop-alloc-test.true in cc)) (λ h. absurd (let a = c.has_sign-in-loop-alloc.ensures.1 h in let b = c.if-has_sign.false in cc)) c.loop-alloc.nodes c.loop-alloc.list.items c.loop-alloc.tail c.push_last-else-has_sign.new.list.items c.loop-alloc.invariant.0 c.in_ok-item.ensures.keeps (λ us a d. own_both c.args.toks.now c.args.functions.now c.args.nodes.now c.args.at c.args.room c.requires.held c.loop-alloc.nodes c.assignment.new.nodes c.args.at c.loop-alloc.place c.loop-alloc.place c.in-Some.item.next us _ c.loop-alloc.invariant.1 c.in_ok-item.ensures.keeps (omega arith) (omega arith) (omega arith) a d) (c.has_sign-else-has_sign-2.ensures.0 c.if-not-has_sign.false) c.in_ok-push_last-2.ensures.ok, keeps_both _ _ _ c.loop-alloc.invariant.1 c.in_ok-item.ensures.keeps, (omega arith), rw c.in_ok-push_last-2.ensures.ok (items_last_below (length c.loop-alloc.nodes) (length c.assignment.new.nodes) c.loop-alloc.list.items (Some c.in-Some.item.node) c.in_ok-item.ensures.keeps.longer e.2 c.loop-alloc.invariant.3), behind_sign c.args.toks.now c.in-Some.item.next signs.Comma (c.has_sign-else-has_sign-2.ensures.0 c.if-not-has_sign.false) (λ e. cc))
 
 pub primary::items-returns-then-has_sign-2-clause-answer : goal.primary::items-returns-then-has_sign-2-clause-answer
 primary::items-returns-then-has_sign-2-clause-answer t c =

@@ -3,6 +3,7 @@ use Rattle.wjs_tree.specs.Children.{AreBelow, ItemsBelow, PropertiesBelow}
 use Rattle.wjs_tree.specs.Shows.{Keeps}
 use Rattle.wjs_parse_expr.specs.Steps.{BinaryStep, CommaStep}
 use Rattle.wjs_parse_expr.specs.Answers.{from, EndsAt}
+use Rattle.wjs_parse_expr.specs.Table.{MayBegin}
 use Rattle.wjs_parse_expr.proofs.Growth.{Growing}
 use Rattle.wjs_parse_expr.proofs.Gathering.{Gathered, GatheredItems}
 use Rattle.wjs_parse_expr.proofs.Properties.{GatheredProperties}
@@ -118,14 +119,14 @@ decreases-member::target-loop-longer l = length l.toks - l.left.next
 
 abbrev pub invariant-member::arguments-loop-list : goal.invariant-member::arguments-loop-list
 invariant-member::arguments-loop-list l =
-    Gathered (from l.toks l.functions l.fn.nodes l.at) l.toks l.room l.at l.nodes l.list.items l.place × Keeps l.fn.nodes l.nodes × (l.at ≤ l.place) × AreBelow (length l.nodes) l.list.items
+    Gathered (from l.toks l.functions l.fn.nodes l.at) l.toks l.room l.at l.nodes l.list.items l.place × Keeps l.fn.nodes l.nodes × (l.at ≤ l.place) × AreBelow (length l.nodes) l.list.items × MayBegin l.toks l.place
 
 abbrev pub decreases-member::arguments-loop-list : goal.decreases-member::arguments-loop-list
 decreases-member::arguments-loop-list l = length l.toks - l.place
 
 abbrev pub invariant-primary::items-loop-alloc : goal.invariant-primary::items-loop-alloc
 invariant-primary::items-loop-alloc l =
-    GatheredItems (from l.toks l.functions l.fn.nodes l.at) l.toks l.room l.at l.nodes l.list.items l.tail l.place × Keeps l.fn.nodes l.nodes × (l.at ≤ l.place) × ItemsBelow (length l.nodes) l.list.items
+    GatheredItems (from l.toks l.functions l.fn.nodes l.at) l.toks l.room l.at l.nodes l.list.items l.tail l.place × Keeps l.fn.nodes l.nodes × (l.at ≤ l.place) × ItemsBelow (length l.nodes) l.list.items × MayBegin l.toks l.place
 
 abbrev pub decreases-primary::items-loop-alloc : goal.decreases-primary::items-loop-alloc
 decreases-primary::items-loop-alloc l = length l.toks - l.place

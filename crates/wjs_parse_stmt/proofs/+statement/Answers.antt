@@ -7,6 +7,7 @@ use Rattle.wjs_tree.proofs.Kept.{keeps_self, keeps_both}
 use Rattle.wjs_parse_expr.specs.Answers.{from}
 use Rattle.wjs_parse_expr.proofs.Readings.{token_within, not_true, not_false}
 use Rattle.wjs_parse_expr.proofs.Entries.{held, below_last}
+use Rattle.wjs_parse_expr.proofs.Places.{behind, behind_sign, behind_key}
 use Rattle.wjs_parse_stmt.specs.declared.kind.Kind.TheVariants as kinds
 use Rattle.wjs_parse_stmt.proofs.Bounds.{ends_within}
 use Rattle.wjs_parse_stmt.proofs.Forms.{told}
@@ -144,6 +145,9 @@ stmt::labelled-returns-clause-answer t c =
     let f = rw c.in-Some.is at c.in_ok-body.ensures.answer in
     label_found c.args.toks.now c.args.room c.args.at c.args.text c.requires.kind c.statement.new.nodes c.add.new.self c.in-Some.body c.in_ok-node.node c.requires.below f c.in_ok-node.ensures.keeps c.in_ok-node.ensures.has
 
+pub stmt::within-up_to-requires-clause-may_begin : goal.stmt::within-up_to-requires-clause-may_begin
+stmt::within-up_to-requires-clause-may_begin t c = behind_key c.args.toks.now c.args.at keys.In (told c.args.toks.now c.args.at kinds.Within c.requires.kind)
+
 pub stmt::within-returns-in_default-clause-answer : goal.stmt::within-returns-in_default-clause-answer
 stmt::within-returns-in_default-clause-answer t c =
     let g = rw c.in_default.is at c.in_ok-world.ensures.answer in
@@ -264,7 +268,7 @@ iteration::rest-returns-then-not-has_sign-clause-answer t c =
 
 pub iteration::rest-maybe-requires : goal.iteration::rest-maybe-requires
 iteration::rest-maybe-requires t c =
-    record { held = held c.args.toks.now c.args.functions.now c.args.at (c.args.at + 1) c.args.room (c.args.room) c.args.nodes.now c.args.nodes.now c.requires.held (keeps_self _) (omega arith) (omega arith); ends = refl; begins = refl }
+    record { held = held c.args.toks.now c.args.functions.now c.args.at (c.args.at + 1) c.args.room (c.args.room) c.args.nodes.now c.args.nodes.now c.requires.held (keeps_self _) (omega arith) (omega arith); may_begin = behind_sign c.args.toks.now c.args.at signs.Semicolon (c.has_sign.ensures.0 c.if-not-has_sign.false) (λ e. cc); ends = refl; begins = refl }
 
 pub iteration::rest-returns-in_default-clause-answer : goal.iteration::rest-returns-in_default-clause-answer
 iteration::rest-returns-in_default-clause-answer t c =
@@ -278,6 +282,11 @@ iteration::rest-maybe-requires-2-clause-held t c =
     let y1 = e1.1 in
     let z1 = e1.2 in
     held c.args.toks.now c.args.functions.now c.args.at (c.in-Some.test.next + 1) c.args.room (c.args.room) c.args.nodes.now c.maybe.new.nodes c.requires.held (c.in_ok-test.ensures.keeps) (omega arith) (omega arith)
+
+pub iteration::rest-maybe-requires-2-clause-may_begin : goal.iteration::rest-maybe-requires-2-clause-may_begin
+iteration::rest-maybe-requires-2-clause-may_begin t c =
+    let f = rw c.in-Some.is at c.in_ok-test.ensures.answer in
+    behind_sign c.args.toks.now c.in-Some.test.next signs.Semicolon f.form.closes (λ e. cc)
 
 pub iteration::rest-returns-in_default-2-clause-answer : goal.iteration::rest-returns-in_default-2-clause-answer
 iteration::rest-returns-in_default-2-clause-answer t c =
@@ -339,7 +348,7 @@ iteration::each_variable-returns-in_default-clause-answer t c =
 
 pub iteration::each_variable-up_to-requires : goal.iteration::each_variable-up_to-requires
 iteration::each_variable-up_to-requires t c =
-    record { held = held c.args.toks.now c.args.functions.now c.args.at (c.args.at + 5) c.args.room (c.args.room - 1) c.args.nodes.now c.args.nodes.now c.requires.held (keeps_self _) (omega arith) (omega arith); ends = refl }
+    record { held = held c.args.toks.now c.args.functions.now c.args.at (c.args.at + 5) c.args.room (c.args.room - 1) c.args.nodes.now c.args.nodes.now c.requires.held (keeps_self _) (omega arith) (omega arith); may_begin = behind c.args.toks.now (c.args.at + 4) (c.args.at + 5) (tokens.Key keys.In) (omega arith) c.requires.inside (λ e. cc); ends = refl }
 
 pub iteration::each_variable-returns-in_default-2-clause-answer : goal.iteration::each_variable-returns-in_default-2-clause-answer
 iteration::each_variable-returns-in_default-2-clause-answer t c =
@@ -449,7 +458,7 @@ iteration::unstarted-returns-clause-answer t c =
 
 pub iteration::by_value-comma-requires : goal.iteration::by_value-comma-requires
 iteration::by_value-comma-requires t c =
-    record { held = held c.args.toks.now c.args.functions.now c.args.at (c.args.at + 2) c.args.room (c.args.room - 1) c.args.nodes.now c.args.nodes.now c.requires.held (keeps_self _) (omega arith) (omega arith) }
+    record { held = held c.args.toks.now c.args.functions.now c.args.at (c.args.at + 2) c.args.room (c.args.room - 1) c.args.nodes.now c.args.nodes.now c.requires.held (keeps_self _) (omega arith) (omega arith); may_begin = behind c.args.toks.now (c.args.at + 1) (c.args.at + 2) (tokens.Sign signs.OpenParen) (omega arith) c.requires.opens (λ e. cc) }
 
 pub iteration::by_value-returns-in_default-clause-answer : goal.iteration::by_value-returns-in_default-clause-answer
 iteration::by_value-returns-in_default-clause-answer t c =
@@ -490,7 +499,7 @@ iteration::each-returns-then-not-first-clause-answer t c =
 pub iteration::each-up_to-requires : goal.iteration::each-up_to-requires
 iteration::each-up_to-requires t c =
     let w = c.requires.there.0 in
-    record { held = held c.args.toks.now c.args.functions.now c.args.at (c.args.first.next + 1) c.args.room (c.args.room - 1) c.args.nodes.now c.args.nodes.now c.requires.held (keeps_self _) (omega arith) (omega arith); ends = refl }
+    record { held = held c.args.toks.now c.args.functions.now c.args.at (c.args.first.next + 1) c.args.room (c.args.room - 1) c.args.nodes.now c.args.nodes.now c.requires.held (keeps_self _) (omega arith) (omega arith); may_begin = behind_key c.args.toks.now c.args.first.next keys.In c.requires.inside; ends = refl }
 
 pub iteration::each-returns-in_default-clause-answer : goal.iteration::each-returns-in_default-clause-answer
 iteration::each-returns-in_default-clause-answer t c =

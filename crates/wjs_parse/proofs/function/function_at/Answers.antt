@@ -1,6 +1,9 @@
 use Rattle.std.proofs.Common.{◌+◌, arith}
+use Rattle.wjs_tree.specs.declared.tokens.Token.TheVariants as tokens
+use Rattle.wjs_tree.specs.declared.signs.Sign.TheVariants as signs
 use Rattle.wjs_tree.proofs.Kept.{keeps_self}
 use Rattle.wjs_parse_expr.proofs.Entries.{held}
+use Rattle.wjs_parse_expr.proofs.Places.{behind}
 use Rattle.wjs_parse.proofs.Functions.{function_headless, function_bodiless, function_found}
 use Rattle.wjs_parse.proofs.Making.{function_made}
 use Rattle.wjs_parse.proofs.function.function_at.Goals as goal
@@ -13,7 +16,9 @@ returns-in_default-clause-answer c =
 pub function_body-requires : goal.function_body-requires
 function_body-requires c =
     let e = rw c.in-Some.is at c.in_ok-head.ensures.ends in
-    record { held = held c.args.toks.now c.args.functions.now (c.args.at + 1) c.in-Some.head.next 200 200 c.args.nodes.now c.args.nodes.now c.requires.held (keeps_self _) (omega arith) (omega arith) }
+    let f = rw c.in-Some.is at c.in_ok-head.ensures.answer in
+    let g = f.form.ends in
+    record { held = held c.args.toks.now c.args.functions.now (c.args.at + 1) c.in-Some.head.next 200 200 c.args.nodes.now c.args.nodes.now c.requires.held (keeps_self _) (omega arith) (omega arith); may_begin = behind c.args.toks.now (f.form.close + 1) c.in-Some.head.next (tokens.Sign signs.OpenBrace) (omega arith) f.form.brace (λ e. cc) }
 
 pub returns-in_default-2-clause-answer : goal.returns-in_default-2-clause-answer
 returns-in_default-2-clause-answer c =

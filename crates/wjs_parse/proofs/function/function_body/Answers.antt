@@ -9,7 +9,7 @@ use Rattle.wjs_parse.proofs.Making.{elements_wide}
 use Rattle.wjs_parse.proofs.function.function_body.Goals as goal
 
 pub elements-requires : goal.elements-requires
-elements-requires c = record { held = held c.args.toks.now c.args.functions.now c.args.at c.args.at 200 199 c.args.nodes.now c.args.nodes.now c.requires.held (keeps_self _) (omega arith) (omega arith) }
+elements-requires c = record { held = held c.args.toks.now c.args.functions.now c.args.at c.args.at 200 199 c.args.nodes.now c.args.nodes.now c.requires.held (keeps_self _) (omega arith) (omega arith); may_begin = c.requires.may_begin }
 
 pub returns-in_default-clause-answer : goal.returns-in_default-clause-answer
 returns-in_default-clause-answer c =

@@ -8,7 +8,7 @@ pub height-requires : goal.height-requires
 height-requires c = (entry_ends c.args.toks.now c.args.functions.now c.args.at c.args.room c.args.nodes.now c.in-Some.function c.in-Some.next c.requires.held (sym c.at.ensures ∙ c.in-Some.is)).2
 
 pub returns-in_default-clause-answer : goal.returns-in_default-clause-answer
-returns-in_default-clause-answer c = declared_nowhere c.args.toks.now c.args.functions.now c.args.room c.args.at c.args.nodes.now c.requires.held c.requires.key (sym c.at.ensures ∙ c.in_default.is)
+returns-in_default-clause-answer c = declared_nowhere c.args.toks.now c.args.functions.now c.args.room c.args.at c.args.nodes.now c.requires.held c.requires.key c.requires.may_begin (sym c.at.ensures ∙ c.in_default.is)
 
 pub returns-then-height-room-clause-answer : goal.returns-then-height-room-clause-answer
 returns-then-height-room-clause-answer c =

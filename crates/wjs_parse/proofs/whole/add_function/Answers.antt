@@ -4,17 +4,18 @@ use Rattle.wjs_parse_expr.proofs.Entries.{held}
 use Rattle.wjs_parse.proofs.Table.{holds_before, keyless, holds_more, behind_more, behind_less, no_entry}
 use Rattle.wjs_parse.proofs.whole.add_function.Goals as goal
 
-pub returns-then-not-has_key-clause-held : goal.returns-then-not-has_key-clause-held
-returns-then-not-has_key-clause-held c =
-    holds_before c.args.toks.now c.args.functions.now c.args.place 200 c.args.nodes.now (keyless c.args.toks.now c.args.place (λ h. absurd (let a = c.has_key.ensures.1 h in let b = c.if-not-has_key.true in cc))) c.requires.held
+pub returns-then-not-function_may_begin-clause-held : goal.returns-then-not-function_may_begin-clause-held
+returns-then-not-function_may_begin-clause-held c =
+    holds_before c.args.toks.now c.args.functions.now c.args.place 200 c.args.nodes.now
+    (λ m. keyless c.args.toks.now c.args.place (λ h. absurd (let a = c.function_may_begin.ensures.1 (h, m) in let b = c.if-not-function_may_begin.true in cc))) c.requires.held
 
-pub returns-then-not-has_key-clause-behind : goal.returns-then-not-has_key-clause-behind
-returns-then-not-has_key-clause-behind c = behind_less c.args.functions.now c.args.place c.requires.behind
+pub returns-then-not-function_may_begin-clause-behind : goal.returns-then-not-function_may_begin-clause-behind
+returns-then-not-function_may_begin-clause-behind c = behind_less c.args.functions.now c.args.place c.requires.behind
 
 pub returns-in_default-clause-held : goal.returns-in_default-clause-held
 returns-in_default-clause-held c =
     let none = rw c.in_default.is at c.in_ok-found.ensures.answer in
-    holds_before c.args.toks.now c.args.functions.now c.args.place 200 c.function_at.new.nodes none
+    holds_before c.args.toks.now c.args.functions.now c.args.place 200 c.function_at.new.nodes (λ m. none)
     (held c.args.toks.now c.args.functions.now (c.args.place + 1) (c.args.place + 1) 200 200 c.args.nodes.now c.function_at.new.nodes c.requires.held c.in_ok-found.ensures.keeps (omega arith) (omega arith))
 
 pub returns-in_default-clause-behind : goal.returns-in_default-clause-behind

@@ -1,4 +1,5 @@
 use Rattle.std.proofs.Common.{false, arith}
+use Rattle.wjs_parse_expr.proofs.Places.{first}
 use Rattle.wjs_parse.proofs.Functions.{elements_there, jumps_of}
 use Rattle.wjs_parse.proofs.Programs.{program_none, program_longer, program_astray, program_found}
 use Rattle.wjs_parse.proofs.whole.body.Goals as goal
@@ -29,3 +30,6 @@ returns c =
     let j = jumps_of c.args.toks.now 200 0 c.elements.new.nodes c.in-Some.found _ false c.jumps_are_right.result f c.as_slice.ensures c.jumps_are_right.ensures in
     program_found c.args.toks.now c.elements.new.nodes c.in-Some.found f c.if-found-toks.false (j.0 (let b = c.if-not-jumps_are_right.false in cc)) c.in_ok-functions.functions c.functions.new.nodes o c.add.new.self c.in_ok-node.node
     (record { has = c.in_ok-node.ensures.has; is = c.in_ok-node.ensures.ok; keeps = c.in_ok-node.ensures.keeps })
+
+pub elements-requires-clause-may_begin : goal.elements-requires-clause-may_begin
+elements-requires-clause-may_begin c = first c.args.toks.now

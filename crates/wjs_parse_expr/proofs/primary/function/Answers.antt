@@ -17,4 +17,4 @@ returns-clause-answer c =
     function_found c.args.toks.now c.args.functions.now c.args.no_in c.args.at c.args.room c.args.nodes.now c.in-Some.node c.in-Some.next c.height.result c.requires.held c.requires.key (sym c.at.ensures ∙ c.in-Some.is) c.height.ensures.expr (omega arith)
 
 pub returns-in_default-clause-answer : goal.returns-in_default-clause-answer
-returns-in_default-clause-answer c = function_none c.args.toks.now c.args.functions.now c.args.no_in c.args.at c.args.room c.args.nodes.now c.requires.held c.requires.key (sym c.at.ensures ∙ c.in_default.is)
+returns-in_default-clause-answer c = function_none c.args.toks.now c.args.functions.now c.args.no_in c.args.at c.args.room c.args.nodes.now c.requires.held c.requires.may_begin c.requires.key (sym c.at.ensures ∙ c.in_default.is)

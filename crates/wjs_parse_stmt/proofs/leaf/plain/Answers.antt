@@ -1,6 +1,8 @@
 use Rattle.std.proofs.Common.{arith}
+use Rattle.wjs_parse_stmt.proofs.Forms.{told_no_function}
 use Rattle.wjs_parse_stmt.proofs.Simple.{plain_found, plain_none}
 use Rattle.wjs_parse_stmt.proofs.Making.{expr_stmt_made}
+use Rattle.wjs_parse_expr.proofs.Places.{no_function}
 use Rattle.wjs_parse_stmt.proofs.leaf.plain.Goals as goal
 
 pub returns-in_default-clause-answer : goal.returns-in_default-clause-answer
@@ -26,3 +28,6 @@ pub returns-clause-own : goal.returns-clause-own
 returns-clause-own c =
     let f = rw c.in-Some.is at c.in_ok-value.ensures.own in
     expr_stmt_made c.args.toks.now c.args.functions.now c.args.at c.args.room c.args.nodes.now c.requires.held c.value.new.nodes c.add.new.self c.args.at c.args.at c.in-Some.value.next c.in-Some.value.next c.in_ok-node.node (omega arith) (omega arith) c.in-Some.value.node c.in-Some.value.end f (record { has = c.in_ok-node.ensures.has; is = c.in_ok-node.ensures.ok; keeps = c.in_ok-node.ensures.keeps })
+
+pub value-requires-clause-may_begin : goal.value-requires-clause-may_begin
+value-requires-clause-may_begin c = no_function c.args.toks.now c.args.at (told_no_function c.args.toks.now c.args.at c.requires.kind)

@@ -8,6 +8,7 @@ use Rattle.wjs_parse_stmt.proofs.Bounds.{ends_within}
 use Rattle.wjs_parse_stmt.proofs.Forms.{told}
 use Rattle.wjs_parse_stmt.proofs.Simple.{bare_return, return_found, return_none}
 use Rattle.wjs_parse_stmt.proofs.Making.{bare_return_made, return_made}
+use Rattle.wjs_parse_expr.proofs.Places.{behind_key}
 use Rattle.wjs_parse_stmt.proofs.leaf.returned.Goals as goal
 
 pub overflow_add-at-2 : goal.overflow_add-at-2
@@ -64,3 +65,6 @@ pub returns-clause-own : goal.returns-clause-own
 returns-clause-own c =
     let f = rw c.in-Some-2.is at c.in_ok-value.ensures.own in
     return_made c.args.toks.now c.args.functions.now c.args.at c.args.room c.args.nodes.now c.requires.held c.value.new.nodes c.add-2.new.self c.args.at (c.args.at + 1) c.in-Some-2.value.next c.in-Some-2.value.next c.in_ok-node-2.node (omega arith) (omega arith) c.in-Some-2.value.node c.in-Some-2.value.end f (record { has = c.in_ok-node-2.ensures.has; is = c.in_ok-node-2.ensures.ok; keeps = c.in_ok-node-2.ensures.keeps })
+
+pub value-requires-clause-may_begin : goal.value-requires-clause-may_begin
+value-requires-clause-may_begin c = behind_key c.args.toks.now c.args.at keys.Return (told c.args.toks.now c.args.at kinds.Return c.requires.kind)

@@ -6,6 +6,7 @@ use Rattle.wjs_parse_stmt.specs.declared.kind.Kind.TheVariants as kinds
 use Rattle.wjs_parse_stmt.proofs.Forms.{told}
 use Rattle.wjs_parse_stmt.proofs.Simple.{throw_found, throw_none, throw_apart}
 use Rattle.wjs_parse_stmt.proofs.Making.{throw_made}
+use Rattle.wjs_parse_expr.proofs.Places.{behind_key}
 use Rattle.wjs_parse_stmt.proofs.leaf.thrown.Goals as goal
 
 pub returns-then-not-is_joined-clause-answer : goal.returns-then-not-is_joined-clause-answer
@@ -38,3 +39,6 @@ pub returns-clause-own : goal.returns-clause-own
 returns-clause-own c =
     let f = rw c.in-Some.is at c.in_ok-value.ensures.own in
     throw_made c.args.toks.now c.args.functions.now c.args.at c.args.room c.args.nodes.now c.requires.held c.value.new.nodes c.add.new.self c.args.at (c.args.at + 1) c.in-Some.value.next c.in-Some.value.next c.in_ok-node.node (omega arith) (omega arith) c.in-Some.value.node c.in-Some.value.end f (record { has = c.in_ok-node.ensures.has; is = c.in_ok-node.ensures.ok; keeps = c.in_ok-node.ensures.keeps })
+
+pub value-requires-clause-may_begin : goal.value-requires-clause-may_begin
+value-requires-clause-may_begin c = behind_key c.args.toks.now c.args.at keys.Throw (told c.args.toks.now c.args.at kinds.Throw c.requires.kind)

@@ -4,6 +4,7 @@ use Rattle.wjs_tree.specs.declared.keys.Key.TheVariants as keys
 use Rattle.wjs_parse_expr.proofs.Readings.{token_within}
 use Rattle.wjs_parse_stmt.proofs.Arms.{default_found, case_found}
 use Rattle.wjs_parse_stmt.proofs.Making.{absent, present}
+use Rattle.wjs_parse_expr.proofs.Places.{behind_key}
 use Rattle.wjs_parse_stmt.proofs.values.arm_head.Goals as goal
 
 pub returns-then-has_key-clause-answer : goal.returns-then-has_key-clause-answer
@@ -26,3 +27,6 @@ pub returns-clause-own : goal.returns-clause-own
 returns-clause-own c =
     let f = rw c.in-Some.is at c.in_ok-value.ensures.own in
     present c.args.functions.now c.args.nodes.now c.up_to.new.nodes (c.args.at + 1) c.args.at c.in-Some.value.next (c.in-Some.value.next + 1) c.in-Some.value.node (omega arith) (omega arith) f
+
+pub up_to-requires-clause-may_begin : goal.up_to-requires-clause-may_begin
+up_to-requires-clause-may_begin c = behind_key c.args.toks.now c.args.at keys.Case (c.has_key-2.ensures.0 c.if-not-has_key.false)

@@ -5,6 +5,7 @@ use Rattle.wjs_parse_expr.specs.Answers.{from}
 use Rattle.wjs_parse_expr.proofs.Readings.{token_within}
 use Rattle.wjs_parse_stmt.proofs.Declaring.{bare_variable, value_variable, value_missing}
 use Rattle.wjs_parse_stmt.proofs.Making.{expr_found, absent, present}
+use Rattle.wjs_parse_expr.proofs.Places.{behind}
 use Rattle.wjs_parse_stmt.proofs.variables.variable.Goals as goal
 
 pub returns-then-not-has_sign-clause-answer : goal.returns-then-not-has_sign-clause-answer
@@ -36,3 +37,6 @@ returns-clause-own c =
     let e0 = e.0 in
     let g = expr_found c.args.toks.now c.args.functions.now c.args.nodes.now c.assignment.new.nodes (c.args.at + 2) 1 c.args.no_in c.args.room c.in-Some-2.value f c.in_ok-value.ensures.keeps (omega arith) in
     present c.args.functions.now c.args.nodes.now c.assignment.new.nodes (c.args.at + 2) c.args.at c.in-Some-2.value.next c.in-Some-2.value.next c.in-Some-2.value.node (omega arith) (omega arith) g
+
+pub assignment-requires-clause-may_begin : goal.assignment-requires-clause-may_begin
+assignment-requires-clause-may_begin c = behind c.args.toks.now (c.args.at + 1) (c.args.at + 2) (tokens.Sign signs.Assign) (omega arith) (c.has_sign.ensures.0 c.if-not-has_sign.false) (λ e. cc)
