@@ -157,7 +157,7 @@ arithmetic_past _ p held env k n = absurd cc
 -- ---- what waits for a number
 
 -- a value that is none passes
-number_passes : (go : Whole → Act) (t : Table) (v : NumberedValue) → ((x : NumberedWhole) → v ≡ values.Number x → ⊥) → Ret (Gives (value_in t v)) ≡ then_number go (Gives (value_in t v))
+pub number_passes : (go : Whole → Act) (t : Table) (v : NumberedValue) → ((x : NumberedWhole) → v ≡ values.Number x → ⊥) → Ret (Gives (value_in t v)) ≡ then_number go (Gives (value_in t v))
 number_passes go t values.Undefined n = refl
 number_passes go t values.Null n = refl
 number_passes go t (values.Bool b) n = refl

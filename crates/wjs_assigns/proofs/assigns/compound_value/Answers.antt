@@ -1,0 +1,19 @@
+use Rattle.std.proofs.Common.{sym}
+use Rattle.wjs_moves.proofs.Shorter.{follows_shorter, shorten_ended}
+use Rattle.wjs_content.specs.Tables.{value_in}
+use Rattle.wjs_moves.specs.Parts.{env_in}
+use Rattle.wjs_content.specs.Values.{Number}
+use Rattle.wjs_meaning.specs.Deeds.{Gives, then_value}
+use Rattle.wjs_meaning.specs.Operators.{operate}
+use Rattle.wjs_meaning.specs.Expressions.{assign_value}
+use Rattle.wjs_model.specs.Contents.{reference_in, reference_held}
+use Rattle.wjs_assigns.proofs.assigns.compound_value.Goals as goal
+
+pub returns-in-Some : goal.returns-in-Some
+returns-in-Some g c =
+    let t = c.assign_value.new.config.heap.texts in
+    let env = env_in g.S.WorldStore.meaning c.args.config.now t c.args.frame in
+    rw (sym c.held_value-old.ensures.is) (follows_shorter g.S.WorldStore.meaning _ _ _ _ _ (shorten_ended (operate c.args.operator (value_in t c.held_value-old.result) (value_in t c.args.value) env) (Gives (Number c.in-Some.number.number)) (then_value (assign_value (reference_in t (reference_held c.args.frame.held)) env)) (c.in-Some.ensures t env)) c.assign_value.ensures)
+
+pub returns-in-None : goal.returns-in-None
+returns-in-None g c = rw (sym c.held_value-old.ensures.is) c.compound_nested.ensures

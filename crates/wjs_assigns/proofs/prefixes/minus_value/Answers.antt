@@ -1,0 +1,13 @@
+use Rattle.std.proofs.Common.{refl}
+use Rattle.std.proofs.Common.{◌∙◌}
+use Rattle.wjs_lines.proofs.Following.{follows_by}
+use Rattle.wjs_lines.proofs.Converting.{number_shortens}
+use Rattle.wjs_content.specs.Tables.{value_in}
+use Rattle.wjs_moves.specs.Parts.{env_in}
+use Rattle.wjs_meaning.specs.Expressions.{minus_number}
+use Rattle.wjs_assigns.proofs.prefixes.minus_value.Goals as goal
+
+pub returns-else-is_object : goal.returns-else-is_object
+returns-else-is_object g c =
+    let t = c.minus_number.new.config.heap.texts in
+    follows_by g.S.WorldStore.meaning _ _ _ _ _ _ (number_shortens (value_in t c.args.value) (env_in g.S.WorldStore.meaning c.args.config.now t c.args.frame) minus_number (c.is_object.ensures t ∙ c.if-is_object.false)) c.minus_number.ensures (λ grows. rw (c.to_number-number.ensures t grows) refl)

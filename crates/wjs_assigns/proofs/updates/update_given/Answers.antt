@@ -1,0 +1,30 @@
+use Rattle.std.proofs.Common.{refl, sym, ap, ◌∙◌}
+use Rattle.wjs_lines.proofs.Following.{follows_as}
+use Rattle.wjs_content.specs.Tables.{value_in}
+use Rattle.wjs_meaning.specs.Deeds.{Gives, then_number}
+use Rattle.wjs_meaning.specs.Expressions.{update_number}
+use Rattle.wjs_model.specs.Contents.{holding_in, reference_in, reference_held}
+use Rattle.wjs_moves.specs.Parts.{env_in}
+use Rattle.wjs_operators.proofs.Operators.{number_passes}
+use Rattle.wjs_assigns.specs.Updating.{fix_of}
+use Rattle.wjs_assigns.proofs.Places.{update_past}
+use Rattle.wjs_assigns.proofs.updates.update_given.Goals as goal
+
+pub returns-then-frame-eq1 : goal.returns-then-frame-eq1
+returns-then-frame-eq1 g c = follows_as _ _ _ _ _ _ (λ grows. rw (c.if-frame-eq1.true) refl) c.finish.ensures
+
+pub returns-in-Number : goal.returns-in-Number
+returns-in-Number g c =
+    let t = c.update_held.new.config.heap.texts in
+    let env = env_in g.S.WorldStore.meaning c.args.config.now t c.args.frame.now in
+    follows_as _ _ _ _ _ _ (λ grows.
+    sym (ap (λ v. then_number (update_number (fix_of c.args.fix) c.args.operator env (reference_in t (reference_held c.args.frame.now.held))) (Gives (value_in t v))) c.in-Number.is)
+    ∙ update_past c.args.frame.now.place (holding_in t c.args.frame.now.held) env c.if-frame-eq1.false (fix_of c.args.fix) c.args.operator (Gives (value_in t c.args.value))) c.update_held.ensures
+
+pub returns-in_default : goal.returns-in_default
+returns-in_default g c =
+    let t = c.finish-in_default.new.config.heap.texts in
+    let env = env_in g.S.WorldStore.meaning c.args.config.now t c.args.frame.now in
+    follows_as _ _ _ _ _ _ (λ grows.
+    number_passes (update_number (fix_of c.args.fix) c.args.operator env (reference_in t (reference_held c.args.frame.now.held))) t c.args.value c.in_default.not-Number
+    ∙ update_past c.args.frame.now.place (holding_in t c.args.frame.now.held) env c.if-frame-eq1.false (fix_of c.args.fix) c.args.operator (Gives (value_in t c.args.value))) c.finish-in_default.ensures

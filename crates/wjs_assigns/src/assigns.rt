@@ -1,0 +1,227 @@
+//! Assignments (ECMA-262, 3rd edition, section 11.13).
+ghost use Rattle.std.specs.Prelude.{◌≡◌, None, Some, OnOk};
+ghost use Rattle.wjs_tree.specs.Operators.{compound};
+ghost use Rattle.wjs_content.specs.Tables.{value_in};
+ghost use Rattle.wjs_meaning.specs.Deeds.{Eval, AtTarget, AtExpr, then_value, then_reference};
+ghost use Rattle.wjs_meaning.specs.Expressions as line;
+ghost use Rattle.wjs_model.specs.Contents.{reference_in, value_held, reference_held};
+ghost use Rattle.wjs_model.specs.Soundness.{Base, IsThere, HasValue, HasReference};
+ghost use Rattle.wjs_moves.specs.Parts.{env_in, node_now};
+ghost use Rattle.wjs_moves.specs.Following.{Follows};
+
+use wjs_base::{OutOfMemory, Value};
+use wjs_deeds::value_of;
+use wjs_lines::{held_reference, held_value, store_and_give};
+use wjs_model::{Completion, Config, Form, Frame, Held, Reference, State};
+use wjs_moves::{Part, enter, finish, hold, nest};
+use wjs_operators::quick;
+use wjs_store::WorldStore;
+use wjs_tree::{AssignOperator, BinaryOperator, Node, NodeId};
+
+/// The target is entered.
+pub(crate) fn assign_start<S: WorldStore>(
+    config: &mut Config<S>,
+    frame: Frame,
+    target: NodeId,
+    sign: AssignOperator,
+    right: NodeId,
+) -> Result<(), OutOfMemory>
+    requires running { config.old.state ≡ State.Running }
+    requires base { Base S.meaning config.old }
+    requires there { IsThere S.meaning config.old frame }
+    requires form { frame.form ≡ Form.Expr }
+    requires node { node_now S.meaning config.old frame ≡ Node.Assign target sign right }
+    ensures { let t = config.new.heap.texts in let env = env_in S.meaning config.old t frame in OnOk result (Follows S.meaning (Eval (AtTarget target.0) env (then_reference (line.assign_reference (compound sign) right.0 env))) config.old config.new) }
+{
+    enter(config, frame, 1, Part::Target(target))
+}
+
+/// After the target: `=` enters the right side, an operator with `=` first takes the target's value.
+pub(crate) fn assign_reference<S: WorldStore>(
+    config: &mut Config<S>,
+    frame: Frame,
+    target: NodeId,
+    sign: AssignOperator,
+    right: NodeId,
+    reference: Reference,
+) -> Result<(), OutOfMemory>
+    requires running { config.old.state ≡ State.Running }
+    requires base { Base S.meaning config.old }
+    requires there { IsThere S.meaning config.old frame }
+    requires form { frame.form ≡ Form.Expr }
+    requires node { node_now S.meaning config.old frame ≡ Node.Assign target sign right }
+    requires reference { HasReference config.old reference }
+    ensures { let t = config.new.heap.texts in let env = env_in S.meaning config.old t frame in OnOk result (Follows S.meaning (line.assign_reference (compound sign) right.0 env (reference_in t reference)) config.old config.new) }
+{
+    match operator_of(sign) {
+        None => assign_plain(config, frame, target, sign, right, reference),
+        Some(operator) => assign_compound(config, frame, target, sign, right, reference, operator),
+    }
+}
+
+/// The operator that an assignment applies.
+pub(crate) fn operator_of(sign: AssignOperator) -> Option<BinaryOperator>
+    ensures { result ≡ compound sign }
+{
+    match sign {
+        AssignOperator::Plain => None,
+        AssignOperator::Multiply => Some(BinaryOperator::Multiply),
+        AssignOperator::Divide => Some(BinaryOperator::Divide),
+        AssignOperator::Remainder => Some(BinaryOperator::Remainder),
+        AssignOperator::Add => Some(BinaryOperator::Add),
+        AssignOperator::Subtract => Some(BinaryOperator::Subtract),
+        AssignOperator::ShiftLeft => Some(BinaryOperator::ShiftLeft),
+        AssignOperator::ShiftRight => Some(BinaryOperator::ShiftRight),
+        AssignOperator::ShiftRightUnsigned => Some(BinaryOperator::ShiftRightUnsigned),
+        AssignOperator::BitAnd => Some(BinaryOperator::BitAnd),
+        AssignOperator::BitXor => Some(BinaryOperator::BitXor),
+        AssignOperator::BitOr => Some(BinaryOperator::BitOr),
+    }
+}
+
+/// `=`: the reference is held, and the right side is entered.
+fn assign_plain<S: WorldStore>(
+    config: &mut Config<S>,
+    frame: Frame,
+    target: NodeId,
+    sign: AssignOperator,
+    right: NodeId,
+    reference: Reference,
+) -> Result<(), OutOfMemory>
+    requires running { config.old.state ≡ State.Running }
+    requires base { Base S.meaning config.old }
+    requires there { IsThere S.meaning config.old frame }
+    requires form { frame.form ≡ Form.Expr }
+    requires node { node_now S.meaning config.old frame ≡ Node.Assign target sign right }
+    requires reference { HasReference config.old reference }
+    ensures { let t = config.new.heap.texts in let env = env_in S.meaning config.old t frame in OnOk result (Follows S.meaning (Eval (AtExpr right.0) env (then_value (line.assign_value (reference_in t reference) env))) config.old config.new) }
+{
+    let mut frame = frame;
+    hold(&mut frame, Held::Reference(reference))?;
+    enter(config, frame, 2, Part::Expr(right))
+}
+
+/// An operator with `=`: the target's value comes first.
+fn assign_compound<S: WorldStore>(
+    config: &mut Config<S>,
+    frame: Frame,
+    target: NodeId,
+    sign: AssignOperator,
+    right: NodeId,
+    reference: Reference,
+    operator: BinaryOperator,
+) -> Result<(), OutOfMemory>
+    requires running { config.old.state ≡ State.Running }
+    requires base { Base S.meaning config.old }
+    requires there { IsThere S.meaning config.old frame }
+    requires form { frame.form ≡ Form.Expr }
+    requires node { node_now S.meaning config.old frame ≡ Node.Assign target sign right }
+    requires operator { compound sign ≡ Some operator }
+    requires reference { HasReference config.old reference }
+    ensures { let t = config.new.heap.texts in let env = env_in S.meaning config.old t frame in OnOk result (Follows S.meaning (line.assign_reference (Some operator) right.0 env (reference_in t reference)) config.old config.new) }
+{
+    let answer = value_of(config, &frame, reference)?;
+    match answer {
+        Ok(old) => compound_old(config, frame, target, sign, right, reference, operator, old),
+        Err(error) => finish(config, &frame, Completion::Throws(error)),
+    }
+}
+
+/// The reference and its value are held, and the right side is entered.
+fn compound_old<S: WorldStore>(
+    config: &mut Config<S>,
+    frame: Frame,
+    target: NodeId,
+    sign: AssignOperator,
+    right: NodeId,
+    reference: Reference,
+    operator: BinaryOperator,
+    old: Value,
+) -> Result<(), OutOfMemory>
+    requires running { config.old.state ≡ State.Running }
+    requires base { Base S.meaning config.old }
+    requires there { IsThere S.meaning config.old frame }
+    requires form { frame.form ≡ Form.Expr }
+    requires node { node_now S.meaning config.old frame ≡ Node.Assign target sign right }
+    requires operator { compound sign ≡ Some operator }
+    requires reference { HasReference config.old reference }
+    requires old { HasValue config.old old }
+    ensures { let t = config.new.heap.texts in let env = env_in S.meaning config.old t frame in OnOk result (Follows S.meaning (line.compound_old operator right.0 (reference_in t reference) env (value_in t old)) config.old config.new) }
+{
+    let _operator = operator;
+    let mut frame = frame;
+    hold(&mut frame, Held::Reference(reference))?;
+    hold(&mut frame, Held::Value(old))?;
+    enter(config, frame, 5, Part::Expr(right))
+}
+
+/// After the value that is stored.
+pub(crate) fn assign_value<S: WorldStore>(
+    config: &mut Config<S>,
+    frame: &Frame,
+    value: Value,
+) -> Result<(), OutOfMemory>
+    requires running { config.old.state ≡ State.Running }
+    requires base { Base S.meaning config.old }
+    requires there { IsThere S.meaning config.old frame.now }
+    requires value { HasValue config.old value }
+    ensures { let t = config.new.heap.texts in let env = env_in S.meaning config.old t frame.now in OnOk result (Follows S.meaning (line.assign_value (reference_in t (reference_held frame.now.held)) env (value_in t value)) config.old config.new) }
+{
+    let reference = held_reference(config, frame);
+    store_and_give(config, frame, reference, value, value)
+}
+
+/// After the right value of an operator with `=`: two numbers need no frame.
+pub(crate) fn compound_value<S: WorldStore>(
+    config: &mut Config<S>,
+    frame: Frame,
+    target: NodeId,
+    sign: AssignOperator,
+    right: NodeId,
+    operator: BinaryOperator,
+    value: Value,
+) -> Result<(), OutOfMemory>
+    requires running { config.old.state ≡ State.Running }
+    requires base { Base S.meaning config.old }
+    requires there { IsThere S.meaning config.old frame }
+    requires form { frame.form ≡ Form.Expr }
+    requires node { node_now S.meaning config.old frame ≡ Node.Assign target sign right }
+    requires operator { compound sign ≡ Some operator }
+    requires value { HasValue config.old value }
+    ensures { let t = config.new.heap.texts in let env = env_in S.meaning config.old t frame in OnOk result (Follows S.meaning (line.compound_value operator (value_in t (value_held frame.held)) (reference_in t (reference_held frame.held)) env (value_in t value)) config.old config.new) }
+{
+    let old = held_value(config, &frame);
+    match quick(operator, old, value) {
+        Some(number) => assign_value(config, &frame, Value::Number(number)),
+        None => compound_nested(config, frame, target, sign, right, operator, old, value),
+    }
+}
+
+/// The operation is done above the frame, which waits for what is stored.
+fn compound_nested<S: WorldStore>(
+    config: &mut Config<S>,
+    frame: Frame,
+    target: NodeId,
+    sign: AssignOperator,
+    right: NodeId,
+    operator: BinaryOperator,
+    old: Value,
+    value: Value,
+) -> Result<(), OutOfMemory>
+    requires running { config.old.state ≡ State.Running }
+    requires base { Base S.meaning config.old }
+    requires there { IsThere S.meaning config.old frame }
+    requires form { frame.form ≡ Form.Expr }
+    requires node { node_now S.meaning config.old frame ≡ Node.Assign target sign right }
+    requires operator { compound sign ≡ Some operator }
+    requires old { HasValue config.old old }
+    requires value { HasValue config.old value }
+    ensures { let t = config.new.heap.texts in let env = env_in S.meaning config.old t frame in OnOk result (Follows S.meaning (line.compound_value operator (value_in t old) (reference_in t (reference_held frame.held)) env (value_in t value)) config.old config.new) }
+{
+    let (_target, _sign, _right, _operator) = (target, sign, right, operator);
+    let mut held = config.frames.nothing_held();
+    held.push(Held::Value(old))?;
+    held.push(Held::Value(value))?;
+    let node = frame.node;
+    nest(config, frame, 2, Form::Expr, node, 1, held)
+}

@@ -1,0 +1,143 @@
+//! `delete` (ECMA-262, 3rd edition, section 11.4.1).
+ghost use Rattle.std.specs.Prelude.{◌≡◌, OnOk};
+ghost use Rattle.wjs_base.specs.Text.{Table, Grows};
+ghost use Rattle.wjs_content.specs.Names.{length_name};
+ghost use Rattle.wjs_content.specs.Tables.{value_in, name_in};
+ghost use Rattle.wjs_content.specs.Values.{same_text};
+ghost use Rattle.wjs_meaning.specs.Deeds.{Gives, Member};
+ghost use Rattle.wjs_meaning.specs.Expressions as line;
+ghost use Rattle.wjs_meaning.specs.Operators.{give_truth};
+ghost use Rattle.wjs_meaning.specs.Properties as properties;
+ghost use Rattle.wjs_model.specs.Contents.{holding_in, reference_in};
+ghost use Rattle.wjs_model.specs.Soundness.{Base, IsThere, HasName, HasObject, HasReference, HasValue};
+ghost use Rattle.wjs_model.specs.Waiting.{after_prefix};
+ghost use Rattle.wjs_moves.specs.Following.{Follows};
+ghost use Rattle.wjs_moves.specs.Parts.{env_in};
+
+use wjs_base::{Name, ObjId, OutOfMemory, Value};
+use wjs_deeds::{delete, units_of};
+use wjs_model::{Completion, Config, Frame, Reference, State};
+use wjs_moves::finish;
+use wjs_store::WorldStore;
+use wjs_tree::PrefixOperator;
+
+const LENGTH: [u16; 6] = [108, 101, 110, 103, 116, 104];
+
+/// After the reference of what is deleted.
+pub(crate) fn delete_reference<S: WorldStore>(
+    config: &mut Config<S>,
+    frame: &Frame,
+    reference: Reference,
+) -> Result<(), OutOfMemory>
+    requires running { config.old.state ≡ State.Running }
+    requires base { Base S.meaning config.old }
+    requires there { IsThere S.meaning config.old frame.now }
+    requires reference { HasReference config.old reference }
+    ensures { let t = config.new.heap.texts in let env = env_in S.meaning config.old t frame.now in OnOk result (Follows S.meaning (line.delete_reference env (reference_in t reference)) config.old config.new) }
+{
+    match reference {
+        Reference::Local(_, _) => told(config, frame, false),
+        Reference::Global(name) => delete_global(config, frame, name),
+        Reference::Member(base, name) => delete_member(config, frame, base, name),
+    }
+}
+
+/// A property of the global object.
+fn delete_global<S: WorldStore>(
+    config: &mut Config<S>,
+    frame: &Frame,
+    name: Name,
+) -> Result<(), OutOfMemory>
+    requires running { config.old.state ≡ State.Running }
+    requires base { Base S.meaning config.old }
+    requires there { IsThere S.meaning config.old frame.now }
+    requires name { HasName config.old name }
+    ensures { let t = config.new.heap.texts in let env = env_in S.meaning config.old t frame.now in OnOk result (Follows S.meaning (properties.delete env.global (name_in t name) env give_truth) config.old config.new) }
+{
+    let global = config.global;
+    delete_property(config, frame, global, name)
+}
+
+/// A property of an object.
+fn delete_property<S: WorldStore>(
+    config: &mut Config<S>,
+    frame: &Frame,
+    object: ObjId,
+    name: Name,
+) -> Result<(), OutOfMemory>
+    requires running { config.old.state ≡ State.Running }
+    requires base { Base S.meaning config.old }
+    requires there { IsThere S.meaning config.old frame.now }
+    requires object { HasObject config.old object }
+    requires name { HasName config.old name }
+    ensures { let t = config.new.heap.texts in let env = env_in S.meaning config.old t frame.now in OnOk result (Follows S.meaning (properties.delete object (name_in t name) env give_truth) config.old config.new) }
+{
+    let answer = delete(config, frame, object, name)?;
+    told(config, frame, answer)
+}
+
+/// A member of a value: a text keeps its `length`.
+fn delete_member<S: WorldStore>(
+    config: &mut Config<S>,
+    frame: &Frame,
+    base: Value,
+    name: Name,
+) -> Result<(), OutOfMemory>
+    requires running { config.old.state ≡ State.Running }
+    requires base { Base S.meaning config.old }
+    requires there { IsThere S.meaning config.old frame.now }
+    requires value { HasValue config.old base }
+    requires name { HasName config.old name }
+    ensures { let t = config.new.heap.texts in let env = env_in S.meaning config.old t frame.now in OnOk result (Follows S.meaning (line.delete_reference env (Member (value_in t base) (name_in t name))) config.old config.new) }
+{
+    match base {
+        Value::Object(object) => delete_property(config, frame, object, name),
+        Value::Text(_) => {
+            let kept = is_length(config, name);
+            told(config, frame, !kept)
+        }
+        _ => told(config, frame, true),
+    }
+}
+
+/// Whether the name is `length`.
+fn is_length<S: WorldStore>(config: &Config<S>, name: Name) -> bool
+    requires { HasName config.now name }
+    ensures { (t : Table) → Grows config.now.heap.texts t → same_text (name_in t name) length_name ≡ result }
+{
+    match name {
+        Name::Index(_) => false,
+        Name::Text(id) => units_of(config, id) == LENGTH.as_slice(),
+    }
+}
+
+/// Ends with a truth value.
+fn told<S: WorldStore>(
+    config: &mut Config<S>,
+    frame: &Frame,
+    truth: bool,
+) -> Result<(), OutOfMemory>
+    requires running { config.old.state ≡ State.Running }
+    requires base { Base S.meaning config.old }
+    ensures { OnOk result (Follows S.meaning (give_truth truth) config.old config.new) }
+{
+    finish(config, frame, Completion::Gives(Value::Bool(truth)))
+}
+
+/// After a value, which is no reference.
+pub(crate) fn delete_given<S: WorldStore>(
+    config: &mut Config<S>,
+    frame: &Frame,
+    value: Value,
+) -> Result<(), OutOfMemory>
+    requires running { config.old.state ≡ State.Running }
+    requires base { Base S.meaning config.old }
+    requires value { HasValue config.old value }
+    ensures { let t = config.new.heap.texts in let env = env_in S.meaning config.old t frame.now in OnOk result (Follows S.meaning (after_prefix PrefixOperator.Delete frame.now.place (holding_in t frame.now.held) env (Gives (value_in t value))) config.old config.new) }
+{
+    if frame.place == 1 {
+        finish(config, frame, Completion::Gives(value))
+    } else {
+        told(config, frame, true)
+    }
+}

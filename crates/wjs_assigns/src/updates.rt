@@ -1,0 +1,246 @@
+//! `++` and `--` (ECMA-262, 3rd edition, sections 11.3, 11.4.4 and 11.4.5).
+ghost use Rattle.std.specs.Prelude.{◌≡◌, Some, pos, OnOk};
+ghost use Rattle.wjs_num.specs.Exact.{answer};
+ghost use Rattle.wjs_content.specs.Tables.{value_in};
+ghost use Rattle.wjs_meaning.specs.Conversions as conversions;
+ghost use Rattle.wjs_meaning.specs.Deeds.{Gives, Sub, then_number};
+ghost use Rattle.wjs_meaning.specs.Errors as errors;
+ghost use Rattle.wjs_meaning.specs.Expressions as line;
+ghost use Rattle.wjs_meaning.specs.Expressions.{Post};
+ghost use Rattle.wjs_model.specs.Contents.{holding_in, reference_in, reference_held};
+ghost use Rattle.wjs_model.specs.Soundness.{Base, IsThere, HasValue, HasReference};
+ghost use Rattle.wjs_model.specs.Waiting.{after_update};
+ghost use Rattle.wjs_moves.specs.Parts.{env_in, node_now};
+ghost use Rattle.wjs_moves.specs.Following.{Follows};
+ghost use Rattle.wjs_assigns.specs.Updating.{Updates, fix_of};
+
+use wjs_base::{OutOfMemory, Value, Whole};
+use wjs_deeds::value_of;
+use wjs_lines::{held_reference, is_object, store_and_give, throw, to_number};
+use wjs_model::{Completion, Config, Conversion, Form, Frame, Held, Reference, State, Trouble};
+use wjs_moves::{Part, convert, enter, finish, hold};
+use wjs_num::{NumFault, add, sub};
+use wjs_store::WorldStore;
+use wjs_tree::{Node, NodeId, UpdateOperator};
+
+/// Which number an operator gives: the old one behind a target, the new one before it.
+#[derive(Clone, Copy, Debug, PartialEq, Eq)]
+pub(crate) enum Fix {
+    Post,
+    Pre,
+}
+
+/// Behind a target: the target is entered.
+pub(crate) fn postfix_start<S: WorldStore>(
+    config: &mut Config<S>,
+    frame: Frame,
+    target: NodeId,
+    operator: UpdateOperator,
+) -> Result<(), OutOfMemory>
+    requires running { config.old.state ≡ State.Running }
+    requires base { Base S.meaning config.old }
+    requires there { IsThere S.meaning config.old frame }
+    requires form { frame.form ≡ Form.Expr }
+    requires node { node_now S.meaning config.old frame ≡ Node.Postfix target operator }
+    ensures { let t = config.new.heap.texts in let env = env_in S.meaning config.old t frame in OnOk result (Follows S.meaning (line.update_target Post operator target.0 env) config.old config.new) }
+{
+    let _operator = operator;
+    enter(config, frame, 1, Part::Target(target))
+}
+
+/// Behind a target: after its reference.
+pub(crate) fn postfix_reference<S: WorldStore>(
+    config: &mut Config<S>,
+    frame: Frame,
+    target: NodeId,
+    operator: UpdateOperator,
+    reference: Reference,
+) -> Result<(), OutOfMemory>
+    requires running { config.old.state ≡ State.Running }
+    requires base { Base S.meaning config.old }
+    requires there { IsThere S.meaning config.old frame }
+    requires form { frame.form ≡ Form.Expr }
+    requires node { node_now S.meaning config.old frame ≡ Node.Postfix target operator }
+    requires reference { HasReference config.old reference }
+    ensures { let t = config.new.heap.texts in let env = env_in S.meaning config.old t frame in OnOk result (Follows S.meaning (line.update_reference Post operator env (reference_in t reference)) config.old config.new) }
+{
+    let _target = target;
+    update_reference(config, frame, Fix::Post, operator, reference)
+}
+
+/// After the target: its value is made a number.
+pub(crate) fn update_reference<S: WorldStore>(
+    config: &mut Config<S>,
+    frame: Frame,
+    fix: Fix,
+    operator: UpdateOperator,
+    reference: Reference,
+) -> Result<(), OutOfMemory>
+    requires running { config.old.state ≡ State.Running }
+    requires base { Base S.meaning config.old }
+    requires there { IsThere S.meaning config.old frame }
+    requires updates { Updates config.old.units.items frame fix operator }
+    requires reference { HasReference config.old reference }
+    ensures { let t = config.new.heap.texts in let env = env_in S.meaning config.old t frame in OnOk result (Follows S.meaning (line.update_reference (fix_of fix) operator env (reference_in t reference)) config.old config.new) }
+{
+    let answer = value_of(config, &frame, reference)?;
+    match answer {
+        Ok(value) => update_value(config, frame, fix, operator, reference, value),
+        Err(error) => finish(config, &frame, Completion::Throws(error)),
+    }
+}
+
+/// After the value of the target: a primitive is a number at once.
+fn update_value<S: WorldStore>(
+    config: &mut Config<S>,
+    frame: Frame,
+    fix: Fix,
+    operator: UpdateOperator,
+    reference: Reference,
+    value: Value,
+) -> Result<(), OutOfMemory>
+    requires running { config.old.state ≡ State.Running }
+    requires base { Base S.meaning config.old }
+    requires there { IsThere S.meaning config.old frame }
+    requires updates { Updates config.old.units.items frame fix operator }
+    requires reference { HasReference config.old reference }
+    requires value { HasValue config.old value }
+    ensures { let t = config.new.heap.texts in let env = env_in S.meaning config.old t frame in OnOk result (Follows S.meaning (line.update_value (fix_of fix) operator env (reference_in t reference) (value_in t value)) config.old config.new) }
+{
+    if is_object(value) {
+        update_object(config, frame, fix, operator, reference, value)
+    } else {
+        let number = to_number(config, value);
+        update_number(config, &frame, fix, operator, reference, number)
+    }
+}
+
+/// An object is converted while the frame waits, and the reference is held.
+fn update_object<S: WorldStore>(
+    config: &mut Config<S>,
+    frame: Frame,
+    fix: Fix,
+    operator: UpdateOperator,
+    reference: Reference,
+    value: Value,
+) -> Result<(), OutOfMemory>
+    requires running { config.old.state ≡ State.Running }
+    requires base { Base S.meaning config.old }
+    requires there { IsThere S.meaning config.old frame }
+    requires updates { Updates config.old.units.items frame fix operator }
+    requires reference { HasReference config.old reference }
+    requires value { HasValue config.old value }
+    ensures { let t = config.new.heap.texts in let env = env_in S.meaning config.old t frame in OnOk result (Follows S.meaning (Sub (conversions.to_number (value_in t value) env) (then_number (line.update_number (fix_of fix) operator env (reference_in t reference)))) config.old config.new) }
+{
+    let _fix = (fix, operator);
+    let mut frame = frame;
+    hold(&mut frame, Held::Reference(reference))?;
+    convert(config, frame, 2, Conversion::Number, value)
+}
+
+/// After ToNumber of an object.
+pub(crate) fn update_given<S: WorldStore>(
+    config: &mut Config<S>,
+    frame: &Frame,
+    fix: Fix,
+    operator: UpdateOperator,
+    value: Value,
+) -> Result<(), OutOfMemory>
+    requires running { config.old.state ≡ State.Running }
+    requires base { Base S.meaning config.old }
+    requires there { IsThere S.meaning config.old frame.now }
+    requires value { HasValue config.old value }
+    ensures { let t = config.new.heap.texts in let env = env_in S.meaning config.old t frame.now in OnOk result (Follows S.meaning (after_update (fix_of fix) operator frame.now.place (holding_in t frame.now.held) env (Gives (value_in t value))) config.old config.new) }
+{
+    if frame.place == 1 {
+        return finish(config, frame, Completion::Gives(value));
+    }
+    match value {
+        Value::Number(number) => update_held(config, frame, fix, operator, number),
+        _ => finish(config, frame, Completion::Gives(value)),
+    }
+}
+
+/// After the number of the target that is held.
+fn update_held<S: WorldStore>(
+    config: &mut Config<S>,
+    frame: &Frame,
+    fix: Fix,
+    operator: UpdateOperator,
+    number: Whole,
+) -> Result<(), OutOfMemory>
+    requires running { config.old.state ≡ State.Running }
+    requires base { Base S.meaning config.old }
+    requires there { IsThere S.meaning config.old frame.now }
+    ensures { let t = config.new.heap.texts in let env = env_in S.meaning config.old t frame.now in OnOk result (Follows S.meaning (line.update_number (fix_of fix) operator env (reference_in t (reference_held frame.now.held)) number.number) config.old config.new) }
+{
+    let reference = held_reference(config, frame);
+    update_number(config, frame, fix, operator, reference, number)
+}
+
+/// After the number: the next or the previous one is stored.
+fn update_number<S: WorldStore>(
+    config: &mut Config<S>,
+    frame: &Frame,
+    fix: Fix,
+    operator: UpdateOperator,
+    reference: Reference,
+    number: Whole,
+) -> Result<(), OutOfMemory>
+    requires running { config.old.state ≡ State.Running }
+    requires base { Base S.meaning config.old }
+    requires there { IsThere S.meaning config.old frame.now }
+    requires reference { HasReference config.old reference }
+    ensures { let t = config.new.heap.texts in let env = env_in S.meaning config.old t frame.now in OnOk result (Follows S.meaning (line.update_number (fix_of fix) operator env (reference_in t reference) number.number) config.old config.new) }
+{
+    match updated(operator, number) {
+        Ok(new) => {
+            let given = given(fix, number, new);
+            store_and_give(
+                config,
+                frame,
+                reference,
+                Value::Number(new),
+                Value::Number(given),
+            )
+        }
+        Err(fault) => throw(config, frame, trouble_of(fault)),
+    }
+}
+
+/// The number after, or before.
+fn updated(operator: UpdateOperator, number: Whole) -> Result<Whole, NumFault>
+    ensures { answer result ≡ line.updated operator number.number }
+{
+    match operator {
+        UpdateOperator::Increment => add(number, one()),
+        UpdateOperator::Decrement => sub(number, one()),
+    }
+}
+
+/// 1.
+fn one() -> Whole
+    ensures { result.number ≡ Some (pos 1) }
+{
+    Whole::new(1).unwrap()
+}
+
+/// The number that is given.
+fn given(fix: Fix, old: Whole, new: Whole) -> Whole
+    ensures { result.number ≡ line.given (fix_of fix) old.number new.number }
+{
+    match fix {
+        Fix::Post => old,
+        Fix::Pre => new,
+    }
+}
+
+/// The error of a fault of arithmetic.
+fn trouble_of(fault: NumFault) -> Trouble
+    ensures { result ≡ errors.trouble_of fault }
+{
+    match fault {
+        NumFault::OutOfRange => Trouble::OutOfRange,
+        NumFault::NotWhole => Trouble::NotWhole,
+    }
+}
