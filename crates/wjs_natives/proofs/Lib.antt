@@ -1,0 +1,5 @@
+pub mod Tables
+pub mod Holding
+pub mod Pairs
+pub mod Waiting
+pub mod Coming

@@ -1,0 +1,14 @@
+//! What the native functions share: the conversions of their receivers and arguments, in order, and what they read of converted
+//! values (ECMA-262, 3rd edition, section 15).
+#![tactic(auto)]
+
+mod arguments;
+mod conversions;
+mod items;
+mod kinds;
+mod primitives;
+mod turns;
+
+pub use arguments::{number_of, text_at, text_of, value_at, whole_at};
+pub use conversions::Progress;
+pub use turns::{begin, resume};
