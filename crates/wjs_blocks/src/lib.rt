@@ -1,4 +1,5 @@
-//! Blocks, conditions, `switch`, `try`, `in` and the ends of functions (ECMA-262, 3rd edition, sections 12.1, 12.5, 12.9, 12.11, 12.13 and 12.14; ECOOP 2011, section 2).
+//! Blocks, expression statements, conditions, `return`, `throw`, `switch`, `try` and `in` (ECMA-262, 3rd edition, sections 12.1, 12.4, 12.5, 12.9,
+//! 12.11, 12.13 and 12.14; "Worlds: Controlling the Scope of Side Effects", ECOOP 2011, section 2).
 #![tactic(auto)]
 
 mod blocks;

@@ -1,0 +1,37 @@
+use Rattle.std.proofs.Common.{sym, subst}
+use Rattle.std.specs.Prelude.{OnOk}
+use Rattle.wjs_meaning.specs.Reading.{node_in}
+use Rattle.wjs_model.specs.declared.frame.Form.{Form}
+use Rattle.wjs_model.specs.Contents.{completion_in, holding_in}
+use Rattle.wjs_model.specs.Rest.{begin_form}
+use Rattle.wjs_model.specs.Waiting.{after}
+use Rattle.wjs_moves.specs.Following.{Follows}
+use Rattle.wjs_moves.specs.Parts.{env_in, node_now}
+use Rattle.wjs_eval_stmt.proofs.Tops.{top_is}
+use Rattle.wjs_eval_stmt.proofs.steps.step_stmt.Goals as goal
+
+pub returns-in-Begins : goal.returns-in-Begins
+returns-in-Begins g c =
+    let meaning = g.S.WorldStore.meaning in
+    let old = c.args.config.now in
+    let mid = c.take_top.new.config in
+    let new = c.begin.new.config in
+    let f = c.in-Begins.frame in
+    let takes = c.in-Begins.ensures in
+    let t = new.heap.texts in
+    let env = env_in meaning mid t f in
+    let P : Form → Type 0 = λ x. OnOk c.begin.result (Follows meaning (begin_form (node_in t (node_now meaning mid f)) x f.node.0 f.place (holding_in t f.held) env) mid new) in
+    takes.by new c.begin.result (subst P (sym (top_is old.state old.frames f c.requires.turn takes.taken)) c.begin.ensures)
+
+pub returns-in-Given : goal.returns-in-Given
+returns-in-Given g c =
+    let meaning = g.S.WorldStore.meaning in
+    let old = c.args.config.now in
+    let mid = c.take_top.new.config in
+    let new = c.resume.new.config in
+    let f = c.in-Given.frame in
+    let takes = c.in-Given.ensures.0 in
+    let t = new.heap.texts in
+    let env = env_in meaning mid t f in
+    let P : Form → Type 0 = λ x. OnOk c.resume.result (Follows meaning (after (node_in t (node_now meaning mid f)) x f.node.0 f.place (holding_in t f.held) env (completion_in t c.in-Given.completion)) mid new) in
+    takes.by new c.resume.result (subst P (sym (top_is old.state old.frames f c.requires.turn takes.taken)) c.resume.ensures)
