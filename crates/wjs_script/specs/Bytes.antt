@@ -1,0 +1,36 @@
+-- Which bytes spell a script, and why others don't.
+use Rattle.std.specs.Prelude.{ℕ, List}
+use Rattle.wjs_base.specs.Text.{Table}
+use Rattle.wjs_tree.specs.declared.tokens.Tok.{Tok}
+use Rattle.wjs_tree.specs.Trees.{Elements}
+use Rattle.wjs_lexer.specs.Lexing.{HasTokens, HasNoToken, IsNoText}
+use Rattle.wjs_parse.specs.Readings.{ProgramReading}
+use Rattle.wjs_script.specs.Answers.{FindsScript}
+use Rattle.wjs_script.specs.declared.script.Script.{Script}
+use Rattle.wjs_script.specs.declared.bytes.Refusal.{Refusal}
+use Rattle.wjs_script.specs.declared.bytes.Refusal.TheVariants as refusals
+use Rattle.wjs_script.specs.declared.bytes.ReadFault.{ReadFault}
+use Rattle.wjs_script.specs.declared.bytes.ReadFault.TheVariants as faults
+
+-- the bytes are tokens that the script spells, with the texts of the table
+pub record SpellScript (bytes : List ℕ) (texts : Table) (s : Script) : Type 0 where
+  pub toks : List Tok
+  pub tokens : HasTokens bytes texts toks
+  pub script : FindsScript texts toks s
+
+-- the bytes are tokens, and no well-formed program spells them
+pub record IsNoScript (bytes : List ℕ) : Type 0 where
+  pub texts : Table
+  pub toks : List Tok
+  pub tokens : HasTokens bytes texts toks
+  pub none : (u : Elements) → ProgramReading toks u → ⊥
+
+-- the bytes are no text; they are, and on a line stands a place up to which pieces stand and where none begins; they are tokens
+abbrev pub Refuses : List ℕ → Refusal → Type 0
+Refuses bytes refusals.NotUtf8 = (byte : ℕ) × IsNoText bytes byte
+Refuses bytes (refusals.NotAToken line) = (byte : ℕ) × HasNoToken bytes byte line
+Refuses bytes refusals.NotAScript = IsNoScript bytes
+
+abbrev pub IsRefused : List ℕ → ReadFault → Type 0
+IsRefused bytes (faults.Refused r) = Refuses bytes r
+IsRefused bytes faults.OutOfMemory = Unit {0}

@@ -1,0 +1,43 @@
+//! Bytes that are no script, and why.
+
+use crate::bytes::{ReadFault, Refusal, read_bytes};
+use std::alloc::Global;
+use std::test::Fail;
+use wjs_base::Texts;
+
+/// Why the bytes are refused, if they are.
+fn refusal(alloc: Global, bytes: &[u8]) -> Result<Option<Refusal>, Fail> {
+    if bytes.len() > 16_777_216 {
+        return Ok(None);
+    }
+    let mut texts = Texts::new(alloc)?;
+    match read_bytes(alloc, bytes, &mut texts) {
+        Ok(_) => Ok(None),
+        Err(ReadFault::Refused(refusal)) => Ok(Some(refusal)),
+        Err(ReadFault::OutOfMemory) => Err("out of memory")?,
+    }
+}
+
+/// The earliest fault of the text decides, and lines are counted from 1.
+#[test]
+fn refusals_of_bytes(rt: HostRuntime) -> Result<(), Fail> {
+    let alloc = rt.alloc();
+    let cases: [(&[u8], Option<Refusal>); 12] = [
+        (b"", None),
+        (b"x = 1; print(x);", None),
+        (b"\xEF\xBB\xBFx", None),
+        (b"\xFF", Some(Refusal::NotUtf8)),
+        (b"1.5 \xFF", Some(Refusal::NotUtf8)),
+        (b"@", Some(Refusal::NotAToken { line: 1 })),
+        (b"x\n\n 1.5", Some(Refusal::NotAToken { line: 3 })),
+        (b"x\r\ny\r@", Some(Refusal::NotAToken { line: 3 })),
+        (b"( @", Some(Refusal::NotAToken { line: 1 })),
+        (b"(", Some(Refusal::NotAScript)),
+        (b"return;", Some(Refusal::NotAScript)),
+        (b"x y", Some(Refusal::NotAScript)),
+    ];
+    for (bytes, expected) in cases {
+        assert_eq!(&rt; refusal(alloc, bytes)?, expected);
+    }
+    Ok(())
+}
