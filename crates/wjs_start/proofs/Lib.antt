@@ -1,0 +1,11 @@
+pub mod Appending
+pub mod Naming
+pub mod Placing
+pub mod Blueprinting
+pub mod Underneath
+pub mod Telling
+pub mod Creation
+pub mod Slotting
+pub mod Beginning
+pub mod Declares
+pub mod Readiness

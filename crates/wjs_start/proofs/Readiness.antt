@@ -1,0 +1,158 @@
+-- A run before its first step is sound, and is the machine's.
+use Rattle.std.proofs.Common.{◌≡◌, ℕ, false, List, [], ◌∷◌, Option, None, Some, Vec, Global, refl, sym, ap, ◌∙◌, subst, arith, IsTrue}
+use Rattle.std.specs.Prelude.{All, IfSome, map, is_some, unwrap_or}
+use Rattle.std.specs.Option.{option_map, option_and_then}
+use Rattle.std.proofs.lemmas.List.Elements.{All-nil, All-cons, All-head}
+use Rattle.wjs_base.specs.declared.ids.TextId.{TextId}
+use Rattle.wjs_base.specs.Text.{Table, IsTable}
+use Rattle.wjs_base.proofs.TextLaws.{Grows-refl}
+use Rattle.wjs_store.specs.Meaning.{Meaning, View}
+use Rattle.wjs_tree.specs.declared.node.NodeId.{NodeId}
+use Rattle.wjs_arena.specs.Entries.{Entry}
+use Rattle.wjs_content.specs.Carried.{tell}
+use Rattle.wjs_content.specs.Tables.{text_in}
+use Rattle.wjs_content.specs.Worlds.{told_by}
+use Rattle.wjs_props.specs.declared.heap.Heap.{Heap}
+use Rattle.wjs_props.specs.Means.{parts}
+use Rattle.wjs_meaning.specs.Trees.{Tree}
+use Rattle.wjs_meaning.specs.Deeds.{St}
+use Rattle.wjs_meaning.specs.Builtins.{global_object, first_world}
+use Rattle.wjs_meaning.specs.Programs.{machine}
+use Rattle.wjs_meaning.specs.Start.{start, first_arena, properties}
+use Rattle.wjs_model.specs.declared.config.Config.{Config}
+use Rattle.wjs_model.specs.declared.config.State.TheVariants as states
+use Rattle.wjs_model.specs.declared.frame.Frame.{Frame}
+use Rattle.wjs_model.specs.declared.frame.Phase.TheVariants as phases
+use Rattle.wjs_model.specs.declared.unit.Unit.{Unit as Program}
+use Rattle.wjs_model.specs.Configurations.{run_in, frames_in, state_in, rest, seen}
+use Rattle.wjs_model.specs.Contents.{frame_in}
+use Rattle.wjs_model.specs.Laws.{run_of, trees_of, script_names, first_frames}
+use Rattle.wjs_model.specs.Rest.{rest_of}
+use Rattle.wjs_model.specs.Soundness.{HasWorld, IsThere, Base, Sound}
+use Rattle.wjs_model.specs.Texts.{KnowsUnit}
+use Rattle.wjs_model.specs.Units.{unit_in}
+use Rattle.wjs_model.proofs.Starts.{start_lem}
+use Rattle.wjs_deeds.proofs.Staying.{units_stay}
+use Rattle.wjs_start.specs.Declaring.{declared_by_tree}
+use Rattle.wjs_start.specs.First.{IsFirst, writes_told}
+use Rattle.wjs_start.specs.Starting.{Starts, body_of, frame_at, frames_of, units_of}
+
+-- ---- programs and frames
+
+names_are : (library : Option Tree) (script : Tree) → script_names library script ≡ declared_by_tree script
+names_are None script = refl
+names_are (Some library) script = refl
+
+trees_are : (t : Table) (library : Option Program) (script : Program) → map (unit_in t) (units_of library script) ≡ trees_of (option_map (unit_in t) library) (unit_in t script)
+trees_are t None script = refl
+trees_are t (Some library) script = refl
+
+frames_are : (t : Table) (library : Option Program) (script : Program) → map (frame_in t) (frames_of (option_map body_of library) (body_of script)) ≡ first_frames (option_map (unit_in t) library) (unit_in t script)
+frames_are t None script = refl
+frames_are t (Some library) script = refl
+
+units_known : (t : Table) (library : Option Program) (script : Program) → IfSome library (KnowsUnit t) → KnowsUnit t script → All (KnowsUnit t) (units_of library script)
+units_known t None script h k = All-cons (KnowsUnit t) script [] k (All-nil (KnowsUnit t))
+units_known t (Some library) script h k = All-cons (KnowsUnit t) library (script ∷ []) h (All-cons (KnowsUnit t) script [] k (All-nil (KnowsUnit t)))
+
+some_frame : (library : Option NodeId) (script : NodeId) → frames_of library script ≡ [] → ⊥
+some_frame None script e = cc
+some_frame (Some library) script e = cc
+
+map_none : {A B : Type 0} (f : A → B) (o : Option A) → option_map f o ≡ None → o ≡ None
+map_none f None e = refl
+map_none f (Some a) e = absurd (cc)
+
+-- ---- the configuration
+
+module _ {S : Type 0} (meaning : S → Meaning) (texts : Table) (before : Meaning) (library : Option Program) (script : Program) (ids : List TextId)
+    (h : Heap S) (units : Vec Program Global) (frames : List Frame) (pending : Vec ℕ Global) (budget : ℕ)
+    (is : IsFirst texts before ids (parts meaning h)) (units_are : units.items ≡ units_of library script) (frames_there : frames ≡ frames_of (option_map body_of library) (body_of script)) (none_pending : pending.items ≡ [])
+    (names : (t : Table) → IsTable t → KnowsUnit t script → map (text_in t) ids ≡ declared_by_tree (unit_in t script)) (library_known : IfSome library (KnowsUnit texts)) (script_known : KnowsUnit texts script) where
+  abbrev c : Config S
+  c = record { heap = h; units = units; frames = frames; global = global_object; world = first_world; owner = 0; pending = pending; left = budget; state = states.Running }
+
+  abbrev t : Table
+  t = h.texts
+
+  all_known : All (KnowsUnit t) (units_of library script)
+  all_known = units_stay texts t is.grows (units_of library script) (units_known texts library script library_known script_known)
+
+  abbrev lib : Option Tree
+  lib = option_map (unit_in t) library
+
+  abbrev one : Tree
+  one = unit_in t script
+
+  script_there : KnowsUnit t script
+  script_there = All-head (KnowsUnit t) script [] (units_stay texts t is.grows (script ∷ []) (All-cons (KnowsUnit texts) script [] script_known (All-nil (KnowsUnit texts))))
+
+  names_so : map (text_in t) ids ≡ script_names lib one
+  names_so = names t is.heap.table script_there ∙ sym (names_are lib one)
+
+  run_so : run_in meaning t c ≡ run_of (trees_of lib one)
+  run_so = ap run_of (ap (map (unit_in t)) units_are ∙ trees_are t library script)
+
+  frames_so : frames_in meaning t c ≡ first_frames lib one
+  frames_so = ap (map (frame_in t)) frames_there ∙ frames_are t library script
+
+  state_so : (v : View) → IsTrue ((meaning h.store).admits v) → state_in meaning t v c ≡ record (start (script_names lib one)) { done = unwrap_or (told_by t (meaning h.store).told) [] }
+  state_so v ok =
+      let full = is.slots t (Grows-refl t) v ok in
+      let arena = is.arena t (Grows-refl t) ∙ ap first_arena names_so in
+      λ i. record { full = full i; arena = arena i; out = none_pending i; done = unwrap_or (told_by t (meaning h.store).told) [] }
+
+  module _ (quiet : before.told ≡ None) (v : View) (ok : IsTrue ((meaning h.store).admits v)) where
+    tells_nothing : (meaning h.store).told ≡ None
+    tells_nothing = map_none _ (meaning h.store).told (is.told t (Grows-refl t) v ok ∙ ap (λ o. tell (writes_told properties) (told_by t o)) quiet)
+
+    begins : state_in meaning t v c ≡ start (script_names lib one)
+    begins = state_so v ok ∙ ap (λ o. let st : St = record (start (script_names lib one)) { done = unwrap_or (told_by t o) [] } in st) tells_nothing
+
+    machine_so : (n : ℕ) → rest meaning t v c n ≡ seen false (machine lib one n)
+    machine_so n =
+        ap (λ o. seen (is_some o) (rest_of (run_in meaning t c) (frames_in meaning t c) (state_in meaning t v c) n)) tells_nothing
+        ∙ (λ i. seen false (rest_of (run_so i) (frames_so i) (begins i) n))
+        ∙ ap (seen false) (start_lem lib one n)
+
+  pub starts_so : Starts meaning texts before library script budget c
+  starts_so = record {
+    left = refl;
+    running = refl;
+    units = units_are;
+    run = run_so;
+    frames = frames_so;
+    state = state_so;
+    told = is.told t (Grows-refl t);
+    machine_run = λ quiet v ok n. machine_so quiet v ok n;
+    grows = is.grows;
+    narrows = is.narrows;
+    own = is.own;
+    around = is.around;
+    spent = is.spent;
+  }
+
+  due_there : (tree : ℕ) (body : NodeId) → IsThere meaning c (frame_at tree body phases.Due)
+  due_there tree body = record { scope = is.builtins 2 (omega arith); this = is.builtins 2 (omega arith); world = is.first; held = tt; phase = tt }
+
+  waiting_there : (tree : ℕ) (body : NodeId) → IsThere meaning c (frame_at tree body phases.Waiting)
+  waiting_there tree body = record { scope = is.builtins 2 (omega arith); this = is.builtins 2 (omega arith); world = is.first; held = tt; phase = tt }
+
+  all_there : (library : Option NodeId) (script : NodeId) → All (IsThere meaning c) (frames_of library script)
+  all_there None script = All-cons (IsThere meaning c) (frame_at 0 script phases.Due) [] (due_there 0 script) (All-nil (IsThere meaning c))
+  all_there (Some library) script = All-cons (IsThere meaning c) (frame_at 1 script phases.Waiting) (frame_at 0 library phases.Due ∷ []) (waiting_there 1 script) (All-cons (IsThere meaning c) (frame_at 0 library phases.Due) [] (due_there 0 library) (All-nil (IsThere meaning c)))
+
+  base_so : Base meaning c
+  base_so = record {
+    heap = is.heap;
+    global = is.builtins 2 (omega arith);
+    world = is.first;
+    builtins = λ n lt. is.builtins n (omega (arith, lt));
+    units = subst (All (KnowsUnit t)) (sym units_are) all_known;
+    own_worlds = λ o e w q r s. subst (HasWorld meaning c) (sym (is.own_worlds o w (ap (option_and_then (λ (x : Entry). (x.object).world)) q ∙ r))) is.first;
+    frames = subst (All (IsThere meaning c)) (sym frames_there) (all_there (option_map body_of library) (body_of script));
+    marks = is.marks;
+  }
+
+  pub sound_so : Sound meaning c
+  sound_so = record { base = base_so; thrown = tt; running = λ e f. some_frame (option_map body_of library) (body_of script) (sym frames_there ∙ f) }

@@ -1,0 +1,30 @@
+-- A heap on the way to the first one.
+use Rattle.std.specs.Prelude.{◌≡◌, ℕ, ◌<◌, List, Some, fold}
+use Rattle.wjs_base.specs.declared.ids.ObjId.{ObjId}
+use Rattle.wjs_base.specs.declared.ids.WorldId.{WorldId}
+use Rattle.wjs_base.specs.Text.{Table}
+use Rattle.wjs_arena.specs.Entries.{next_number, world_of}
+use Rattle.wjs_content.specs.Values.{Text}
+use Rattle.wjs_content.specs.Objects.{Arena, Internals, created}
+use Rattle.wjs_content.specs.Tables.{arena_in}
+use Rattle.wjs_props.specs.Heap.{Parts, IsHeap}
+use Rattle.wjs_meaning.specs.Builtins.{first_world}
+use Rattle.wjs_start.specs.declared.known.Known.{Known}
+use Rattle.wjs_start.specs.Known.{Knows, declared_in}
+
+-- objects 0 to n - 1 of owner 0 are there, and 13 alone stands for a world, the first
+pub record Building (h : Parts) (n : ℕ) : Type 0 where
+  pub heap : IsHeap h
+  pub count : (next_number h.arena 0).serial ≡ n
+  pub worlds : (o : ObjId) (w : WorldId) → world_of h.arena o ≡ Some w → (13 < n) × (w ≡ first_world)
+
+-- one object of owner 0 after another
+abbrev pub with_objects : Arena → List Internals → Arena
+with_objects arena objects = fold (λ (a : Arena) object. created a 0 object) arena objects
+
+-- objects were made, n being there then; they depend on the declared names
+pub record Makes (k : Known) (objects : List Text → List Internals) (n : ℕ) (old new : Parts) : Type 0 where
+  pub building : Building new n
+  pub arena : (t : Table) → Knows t k → arena_in t new.arena ≡ with_objects (arena_in t old.arena) (objects (declared_in t k))
+  pub texts : new.texts ≡ old.texts
+  pub store : new.store ≡ old.store

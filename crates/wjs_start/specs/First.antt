@@ -1,0 +1,50 @@
+-- The first heap.
+use Rattle.std.specs.Prelude.{◌≡◌, ℕ, ◌<◌, List, [], ◌∷◌, ◌++◌, map as each, Some, IsTrue}
+use Rattle.wjs_base.specs.declared.ids.ObjId.{ObjId}
+use Rattle.wjs_base.specs.declared.ids.TextId.{TextId}
+use Rattle.wjs_base.specs.declared.ids.WorldId.{WorldId}
+use Rattle.wjs_base.specs.Text.{Table, Grows}
+use Rattle.wjs_store.specs.State.{has_world, write}
+use Rattle.wjs_store.specs.Meaning.{Meaning, View, worlds}
+use Rattle.wjs_store.specs.Fixed.{fresh}
+use Rattle.wjs_arena.specs.Entries.{has, world_of}
+use Rattle.wjs_content.specs.Carried.{tell}
+use Rattle.wjs_content.specs.Plans.{Told, Wrote}
+use Rattle.wjs_content.specs.Tables.{text_in, arena_in}
+use Rattle.wjs_content.specs.Worlds.{worlds_in, told_by, KnowsWorlds}
+use Rattle.wjs_props.specs.Heap.{Parts, IsHeap}
+use Rattle.wjs_meaning.specs.Builtins.{builtin, first_world}
+use Rattle.wjs_meaning.specs.Start.{Property, properties, first_arena, first_full}
+
+-- the first world alone, with no slot and no mark, under each view
+pub record IsNew (m : Meaning) : Type 0 where
+  pub own : worlds m ≡ fresh
+  pub each_view : (v : View) → IsTrue (m.admits v) → m.full v ≡ fresh
+
+-- each slot was written, the last one first
+abbrev pub writes_told : List Property → List Told
+writes_told [] = []
+writes_told (p ∷ ps) = writes_told ps ++ (write first_world p.at (Some p.value), Wrote) ∷ []
+
+-- over a new store and where a script declares these names, what there is is what the meaning has before the first step
+pub record IsFirst (texts : Table) (before : Meaning) (declared : List TextId) (h : Parts) : Type 0 where
+  pub heap : IsHeap h
+  pub grows : Grows texts h.texts
+  -- the objects, under each later table
+  pub arena : (t : Table) → Grows h.texts t → arena_in t h.arena ≡ first_arena (each (text_in t) declared)
+  -- the first world with its slots, under each view that is admitted
+  pub slots : (t : Table) → Grows h.texts t → (v : View) → IsTrue (h.store.admits v) → worlds_in t (h.store.full v) ≡ first_full
+  -- what a store tells that tells its actions
+  pub told : (t : Table) → Grows h.texts t → (v : View) → IsTrue (h.store.admits v) → told_by t h.store.told ≡ tell (writes_told properties) (told_by t before.told)
+  -- the texts of the slots are there
+  pub knows : (v : View) → IsTrue (h.store.admits v) → KnowsWorlds h.texts (h.store.full v)
+  pub marks : KnowsWorlds h.texts (worlds h.store)
+  -- the first objects are there, and the first world, for which alone an object stands
+  pub builtins : (n : ℕ) → n < 64 → IsTrue (has h.arena (builtin n))
+  pub first : IsTrue (has_world (worlds h.store) first_world)
+  pub own_worlds : (o : ObjId) (w : WorldId) → world_of h.arena o ≡ Some w → w ≡ first_world
+  -- the store is as it was beside
+  pub narrows : (v : View) → IsTrue (h.store.admits v) → IsTrue (before.admits v)
+  pub own : h.store.own ≡ before.own
+  pub around : h.store.around ≡ before.around
+  pub spent : h.store.spent ≡ before.spent

@@ -1,0 +1,11 @@
+pub mod Rows
+pub mod Properties
+pub mod Names
+pub mod Known
+pub mod Blueprints
+pub mod Flags
+pub mod Building
+pub mod Writing
+pub mod First
+pub mod Declaring
+pub mod Starting
