@@ -1,0 +1,6 @@
+pub mod CallLines
+pub mod Forms
+pub mod Items
+pub mod Lines
+pub mod Links
+pub mod OperationLines

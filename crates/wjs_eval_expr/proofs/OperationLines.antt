@@ -1,0 +1,69 @@
+-- The operation of an assignment with an operator, on the values that are held (ECMA-262, 3rd edition, section 11.13.2).
+use Rattle.std.proofs.Common.{◌≡◌, ℕ, zero, suc, List, [], ◌∷◌, ◌++◌, Some, refl, sym, ap, ◌∙◌, subst}
+use Rattle.std.specs.Prelude.{map as each, slice_index_or, All}
+use Rattle.std.proofs.lemmas.List.Elements.{All-head, All-tail}
+use Rattle.std.proofs.lemmas.List.{map-append}
+use Rattle.wjs_base.specs.declared.values.Value.{Value as NumberedValue}
+use Rattle.wjs_base.specs.declared.values.Value.TheVariants as values
+use Rattle.wjs_base.specs.Text.{Table}
+use Rattle.wjs_tree.specs.declared.node.NodeId.{NodeId}
+use Rattle.wjs_tree.specs.declared.node.Node.{Node}
+use Rattle.wjs_tree.specs.declared.node.Node.TheVariants as nodes
+use Rattle.wjs_tree.specs.declared.operators.AssignOperator.{AssignOperator}
+use Rattle.wjs_tree.specs.declared.operators.BinaryOperator.{BinaryOperator}
+use Rattle.wjs_tree.specs.Operators.{compound}
+use Rattle.wjs_content.specs.Values.{Undefined}
+use Rattle.wjs_content.specs.Tables.{value_in}
+use Rattle.wjs_meaning.specs.Reading.{node_in}
+use Rattle.wjs_meaning.specs.Deeds.{Env}
+use Rattle.wjs_meaning.specs.NativesOfObjects.{value_at}
+use Rattle.wjs_model.specs.declared.frame.Form.{Form}
+use Rattle.wjs_model.specs.declared.frame.Form.TheVariants as form
+use Rattle.wjs_model.specs.Frames.{earliest_first}
+use Rattle.wjs_model.specs.declared.config.Config.{Config}
+use Rattle.wjs_model.specs.declared.frame.Held.{Held}
+use Rattle.wjs_model.specs.Contents.{Holding, values_held}
+use Rattle.wjs_model.specs.Soundness.{HasItems, HasValue}
+use Rattle.wjs_moves.proofs.Held.{values_there}
+use Rattle.wjs_meaning.specs.Operators.{operate}
+use Rattle.wjs_model.specs.Waiting.{after, after_assign, after_operand}
+
+-- an operator with `=` waits for its operands as the operator does
+pub left_waits : (t : Table) (n : Node) (f : Form) (here : ℕ) (held : Holding) (env : Env) (target right : NodeId) (sign : AssignOperator) (op : BinaryOperator) → f ≡ form.Expr → n ≡ nodes.Assign target sign right → compound sign ≡ Some op → after (node_in t n) f here 3 held env ≡ after_operand op 3 held env
+left_waits t n f here held env target right sign op ef en eo =
+    ap (λ g. after (node_in t n) g here 3 held env) ef ∙ ap (λ m. after (node_in t m) form.Expr here 3 held env) en ∙ ap (λ o. after_assign o right.0 3 held env) eo
+
+pub right_waits : (t : Table) (n : Node) (f : Form) (here : ℕ) (held : Holding) (env : Env) (target right : NodeId) (sign : AssignOperator) (op : BinaryOperator) → f ≡ form.Expr → n ≡ nodes.Assign target sign right → compound sign ≡ Some op → after (node_in t n) f here 4 held env ≡ after_operand op 4 held env
+right_waits t n f here held env target right sign op ef en eo =
+    ap (λ g. after (node_in t n) g here 4 held env) ef ∙ ap (λ m. after (node_in t m) form.Expr here 4 held env) en ∙ ap (λ o. after_assign o right.0 4 held env) eo
+
+-- ---- the values that are held
+
+each_earliest : {A B : Type 0} (f : A → B) (xs : List A) → each f (earliest_first xs) ≡ earliest_first (each f xs)
+each_earliest f [] = refl
+each_earliest f (x ∷ xs) = map-append f (earliest_first xs) (x ∷ []) ∙ ap (λ l. l ++ f x ∷ []) (each_earliest f xs)
+
+each_index : {A B : Type 0} (f : A → B) (xs : List A) (i : ℕ) (d : A) → f (slice_index_or xs i d) ≡ slice_index_or (each f xs) i (f d)
+each_index f [] i d = refl
+each_index f (x ∷ xs) zero d = refl
+each_index f (x ∷ xs) (suc i) d = each_index f xs i d
+
+-- the value of a number, under a table
+pub value_is : (t : Table) (held found : List NumberedValue) (i : ℕ) (v : NumberedValue) → found ≡ earliest_first held → v ≡ slice_index_or found i values.Undefined → value_in t v ≡ value_at (earliest_first (each (value_in t) held)) i
+value_is t held found i v ef ev =
+    ap (value_in t) (ev ∙ ap (λ l. slice_index_or l i values.Undefined) ef)
+    ∙ each_index (value_in t) (earliest_first held) i values.Undefined
+    ∙ ap (λ l. slice_index_or l i Undefined) (each_earliest (value_in t) held)
+
+pub operates_on : (t : Table) (held one two : List NumberedValue) (a b : NumberedValue) (op : BinaryOperator) (env : Env) → one ≡ earliest_first held → two ≡ earliest_first held → a ≡ slice_index_or one 0 values.Undefined → b ≡ slice_index_or two 1 values.Undefined
+    → operate op (value_in t a) (value_in t b) env ≡ operate op (value_at (earliest_first (each (value_in t) held)) 0) (value_at (earliest_first (each (value_in t) held)) 1) env
+operates_on t held one two a b op env e1 e2 ea eb = λ i. operate op (value_is t held one 0 a e1 ea i) (value_is t held two 1 b e2 eb i) env
+
+index_there : {A : Type 0} (P : A → Type 0) (xs : List A) (i : ℕ) (d : A) → All P xs → P d → P (slice_index_or xs i d)
+index_there P [] i d h k = k
+index_there P (x ∷ xs) zero d h k = All-head P x xs h
+index_there P (x ∷ xs) (suc i) d h k = index_there P xs i d (All-tail P x xs h) k
+
+-- it is there
+pub value_there : {S : Type 0} (c : Config S) (held : List Held) (found : List NumberedValue) (i : ℕ) (v : NumberedValue) → HasItems c held → found ≡ earliest_first (values_held held) → v ≡ slice_index_or found i values.Undefined → HasValue c v
+value_there c held found i v h ef ev = subst (HasValue c) (sym (ev ∙ ap (λ l. slice_index_or l i values.Undefined) ef)) (index_there (HasValue c) (earliest_first (values_held held)) i values.Undefined (values_there c held h) tt)

@@ -1,0 +1,79 @@
+//! What expressions and targets do with the completion that they waited for (ECMA-262, 3rd edition, section 11).
+ghost use Rattle.std.specs.Prelude.{◌≡◌, true, OnOk};
+ghost use Rattle.wjs_meaning.specs.Reading.{node_in};
+ghost use Rattle.wjs_model.specs.Contents.{completion_in, holding_in};
+ghost use Rattle.wjs_model.specs.Soundness.{Base, IsThere, HasCompletion};
+ghost use Rattle.wjs_moves.specs.Following.{Follows};
+ghost use Rattle.wjs_moves.specs.Parts.{env_in, node_now};
+ghost use Rattle.wjs_members.specs.Taking.{taken, takes_from};
+ghost use Rattle.wjs_eval_expr.specs.Links.{after_member, after_part};
+
+use crate::arrays::array_given;
+use crate::calls::call_given;
+use crate::news::new_given;
+use crate::objects::object_given;
+use wjs_assigns::operator_given;
+use wjs_base::OutOfMemory;
+use wjs_members::{at_given, dot_given};
+use wjs_model::{Completion, Config, Form, Frame, State};
+use wjs_moves::node_of;
+use wjs_store::WorldStore;
+use wjs_tree::Node;
+
+/// A member goes on as an expression or as a target. Every other form goes on in the same way as either.
+pub(crate) fn member_given<S: WorldStore>(
+    config: &mut Config<S>,
+    frame: Frame,
+    completion: Completion,
+) -> Result<(), OutOfMemory>
+    requires running { config.old.state ≡ State.Running }
+    requires base { Base S.meaning config.old }
+    requires there { IsThere S.meaning config.old frame }
+    requires form { takes_from frame.form ≡ true }
+    requires completion { HasCompletion config.old completion }
+    ensures { let t = config.new.heap.texts in let env = env_in S.meaning config.old t frame in OnOk result (Follows S.meaning (after_member (node_in t (node_now S.meaning config.old frame)) frame.place (holding_in t frame.held) env (taken frame.form env) (completion_in t completion)) config.old config.new) }
+{
+    match node_of(config, &frame) {
+        Some(Node::Dot(base, name)) => {
+            let (base, name) = (*base, *name);
+            dot_given(config, &frame, base, name, completion)
+        }
+        Some(Node::At(base, index)) => {
+            let (base, index) = (*base, *index);
+            at_given(config, frame, base, index, completion)
+        }
+        _ => part_given(config, as_expression(frame), completion),
+    }
+}
+
+/// The frame, of an expression.
+fn as_expression(frame: Frame) -> Frame
+    ensures { result ≡ record frame { form = Form.Expr } }
+{
+    let mut frame = frame;
+    frame.form = Form::Expr;
+    frame
+}
+
+/// A literal, a call, `new` or an operator goes on.
+fn part_given<S: WorldStore>(
+    config: &mut Config<S>,
+    frame: Frame,
+    completion: Completion,
+) -> Result<(), OutOfMemory>
+    requires running { config.old.state ≡ State.Running }
+    requires base { Base S.meaning config.old }
+    requires there { IsThere S.meaning config.old frame }
+    requires form { frame.form ≡ Form.Expr }
+    requires completion { HasCompletion config.old completion }
+    ensures { let t = config.new.heap.texts in let env = env_in S.meaning config.old t frame in OnOk result (Follows S.meaning (after_part (node_in t (node_now S.meaning config.old frame)) frame.place (holding_in t frame.held) env (completion_in t completion)) config.old config.new) }
+{
+    match node_of(config, &frame) {
+        Some(Node::ArrayLit(_, _)) => array_given(config, frame, completion),
+        Some(Node::ObjectLit(_, _)) => object_given(config, frame, completion),
+        Some(Node::Call(_, _)) => call_given(config, frame, completion),
+        Some(Node::NewWith(_, _)) => new_given(config, frame, completion),
+        Some(Node::NewBare(_)) => new_given(config, frame, completion),
+        _ => operator_given(config, frame, completion),
+    }
+}
