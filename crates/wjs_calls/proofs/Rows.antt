@@ -16,10 +16,6 @@ use Rattle.wjs_deeds.proofs.Later.{later_twice}
 use Rattle.wjs_calls.specs.Leaving.{Leaves}
 
 module _ {S : Type 0} (meaning : S → Meaning) where
-  -- deeds one after another
-  pub first_then : (one two : Table → Act → Act) (old mid new : Config S) → DoesFirst meaning one old mid → DoesFirst meaning two mid new → DoesFirst meaning (λ t act. one t (two t act)) old new
-  first_then one two old mid new f s = record { by = λ act later r h. f.by (two later.heap.texts act) later r (s.by act later r h) }
-
   -- the same deeds under every table that comes after
   pub first_same : (one two : Table → Act → Act) (old mid : Config S) → ((t : Table) → Grows mid.heap.texts t → (act : Act) → two t act ≡ one t act) → DoesFirst meaning one old mid → DoesFirst meaning two old mid
   first_same one two old mid e d = record {

@@ -1,12 +1,12 @@
 -- The parts of lists that stand in nodes.
-use Rattle.std.proofs.Common.{◌≡◌, ℕ, zero, suc, ◌+◌, List, [], ◌∷◌, Option, None, Some, refl, sym, ap, ◌∙◌, subst, drop, add-one, arith}
+use Rattle.std.proofs.Common.{◌≡◌, ℕ, zero, suc, ◌+◌, List, [], ◌∷◌, None, Some, refl, sym, ap, ◌∙◌, drop, arith}
 use Rattle.std.specs.Prelude.{map as each, slice_get}
 use Rattle.wjs_base.specs.Text.{Table}
 use Rattle.wjs_tree.specs.declared.node.NodeId.{NodeId}
 use Rattle.wjs_tree.specs.declared.node.Node.{Node as NumberedNode}
 use Rattle.wjs_tree.specs.declared.node.Node.TheVariants as nodes
-use Rattle.wjs_meaning.specs.Reading.{node_in, numbers}
-use Rattle.wjs_meaning.specs.Deeds.{Env, Act, Ret, Eval, AtStmt, Normal}
+use Rattle.wjs_meaning.specs.Reading.{node_in}
+use Rattle.wjs_meaning.specs.Deeds.{Env, Ret, Eval, AtStmt, Normal}
 use Rattle.wjs_meaning.specs.Statements.{block_from}
 use Rattle.wjs_model.specs.declared.frame.Form.{Form}
 use Rattle.wjs_model.specs.declared.frame.Form.TheVariants as form

@@ -1,4 +1,3 @@
-use Rattle.std.proofs.Common.{◌≡◌, sym, subst}
 use Rattle.wjs_moves.proofs.Held.{reference_there}
 use Rattle.wjs_lines.proofs.held.held_reference.Goals as goal
 

@@ -1,4 +1,3 @@
-use Rattle.std.proofs.Common.{◌≡◌, sym, subst}
 use Rattle.wjs_moves.proofs.Held.{value_there}
 use Rattle.wjs_lines.proofs.held.held_value.Goals as goal
 

@@ -1,5 +1,4 @@
 use Rattle.std.proofs.Common.{sym, ap, ◌∙◌}
-use Rattle.wjs_base.specs.Text.{Table}
 use Rattle.wjs_base.specs.declared.values.Value.{Value}
 use Rattle.wjs_content.specs.Tables.{value_in}
 use Rattle.wjs_convert.specs.Conversions.{primitive_text}

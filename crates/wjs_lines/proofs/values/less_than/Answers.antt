@@ -1,4 +1,4 @@
-use Rattle.std.proofs.Common.{sym, refl, ◌∙◌}
+use Rattle.std.proofs.Common.{sym}
 use Rattle.wjs_lines.proofs.Knowing.{knows, value_stays}
 use Rattle.wjs_lines.proofs.values.less_than.Goals as goal
 

@@ -1,0 +1,70 @@
+-- Objects that are asked by their methods for a primitive (ECMA-262, 3rd edition, section 8.6.2.6).
+use Rattle.std.proofs.Common.{◌≡◌, ℕ, true, [], Option, None, Some, sym, ap, ◌∙◌, subst}
+use Rattle.std.specs.Prelude.{Result, OnOk}
+use Rattle.wjs_base.specs.declared.ids.ObjId.{ObjId}
+use Rattle.wjs_base.specs.declared.ids.OutOfMemory.{OutOfMemory}
+use Rattle.wjs_base.specs.declared.values.Value.{Value as NumberedValue}
+use Rattle.wjs_base.specs.Text.{Table}
+use Rattle.wjs_store.specs.Meaning.{Meaning}
+use Rattle.wjs_content.specs.Objects.{Arena, function_of}
+use Rattle.wjs_content.specs.Tables.{value_in, arena_in}
+use Rattle.wjs_content.specs.Values.{Text, Value, Object}
+use Rattle.wjs_meaning.specs.Trees.{Node}
+use Rattle.wjs_meaning.specs.declared.trouble.Trouble.TheVariants.{NoPrimitiveValue}
+use Rattle.wjs_meaning.specs.Deeds.{Env, Act, Sub, Do, Look, then_value}
+use Rattle.wjs_meaning.specs.Calls.{call}
+use Rattle.wjs_meaning.specs.Conversions.{HintString, HintNumber, second_method, try_method, method_result}
+use Rattle.wjs_meaning.specs.Errors.{throw}
+use Rattle.wjs_meaning.specs.Properties.{get_value}
+use Rattle.wjs_model.specs.declared.config.Config.{Config}
+use Rattle.wjs_model.specs.declared.frame.Conversion.{Conversion}
+use Rattle.wjs_model.specs.declared.frame.Conversion.TheVariants as to
+use Rattle.wjs_model.specs.declared.frame.Form.{Form}
+use Rattle.wjs_model.specs.declared.frame.Form.TheVariants as form
+use Rattle.wjs_model.specs.Contents.{Holding}
+use Rattle.wjs_model.specs.Waiting.{after, after_method}
+use Rattle.wjs_moves.specs.Doing.{Does}
+use Rattle.wjs_moves.specs.Following.{Follows}
+use Rattle.wjs_moves.proofs.Shorter.{follows_look}
+use Rattle.wjs_eval_call.specs.Primitives.{hint_of, is_primitive_first}
+
+-- a method is called where it is a function
+abbrev pub method_then : ObjId → Env → Act → Option ObjId → Act
+method_then o env otherwise found = elim found [
+  | None ↦ otherwise
+  | Some f ↦ Sub (call f (Object o) [] env) (then_value (method_result otherwise))
+]
+
+-- a method was read, and is this function or none
+pub asked : {S : Type 0} (meaning : S → Meaning) (name text : Text) (o : ObjId) (env : Table → Env) (method : NumberedValue) (otherwise : Act) (found : Option ObjId) (old mid new : Config S) (r : Result (Unit {0}) OutOfMemory)
+    → Does meaning (λ t. get_value o name (env t)) (λ t. value_in t method) old mid → name ≡ text → ((t : Table) → function_of (arena_in t mid.heap.arena) (value_in t method) ≡ found)
+    → OnOk r (Follows meaning (method_then o (env new.heap.texts) otherwise found) mid new) → OnOk r (Follows meaning (try_method text o (env new.heap.texts) otherwise) old new)
+asked meaning name text o env method otherwise found old mid new r does same is h =
+    let t = new.heap.texts in
+    let then : Option ObjId → Act = method_then o (env t) otherwise in
+    subst (λ (n : Text). OnOk r (Follows meaning (try_method n o (env t) otherwise) old new)) same
+    (does.by (λ v. Do Look (λ arena. then (function_of arena v))) new r
+    (follows_look meaning (λ (arena : Arena). then (function_of arena (value_in t method))) mid new r
+    (subst (λ (f : Option ObjId). OnOk r (Follows meaning (then f) mid new)) (sym (is t)) h)))
+
+module _ (node : Node) (here : ℕ) (held : Holding) (env : Env) (o : ObjId) where
+  by_first : (k : Conversion) → is_primitive_first k ≡ true → held.value ≡ Object o → after node (form.Convert k) here 1 held env ≡ then_value (method_result (try_method (second_method (hint_of k)) o env (throw NoPrimitiveValue env)))
+  by_first to.TextFirst p e = ap (λ (v : Value). then_value (after_method HintString v 1 env)) e
+  by_first to.NumberFirst p e = ap (λ (v : Value). then_value (after_method HintNumber v 1 env)) e
+  by_first to.Number p e = absurd (cc)
+  by_first to.Text p e = absurd (cc)
+  by_first to.Integer p e = absurd (cc)
+
+  by_second : (k : Conversion) → is_primitive_first k ≡ true → held.value ≡ Object o → after node (form.Convert k) here 2 held env ≡ then_value (method_result (throw NoPrimitiveValue env))
+  by_second to.TextFirst p e = ap (λ (v : Value). then_value (after_method HintString v 2 env)) e
+  by_second to.NumberFirst p e = ap (λ (v : Value). then_value (after_method HintNumber v 2 env)) e
+  by_second to.Number p e = absurd (cc)
+  by_second to.Text p e = absurd (cc)
+  by_second to.Integer p e = absurd (cc)
+
+  -- the frame that waits for the first method, and for the second
+  pub waits_first : (f : Form) (k : Conversion) → f ≡ form.Convert k → is_primitive_first k ≡ true → held.value ≡ Object o → after node f here 1 held env ≡ then_value (method_result (try_method (second_method (hint_of k)) o env (throw NoPrimitiveValue env)))
+  waits_first f k ef p e = ap (λ (g : Form). after node g here 1 held env) ef ∙ by_first k p e
+
+  pub waits_second : (f : Form) (k : Conversion) → f ≡ form.Convert k → is_primitive_first k ≡ true → held.value ≡ Object o → after node f here 2 held env ≡ then_value (method_result (throw NoPrimitiveValue env))
+  waits_second f k ef p e = ap (λ (g : Form). after node g here 2 held env) ef ∙ by_second k p e

@@ -1,0 +1,105 @@
+-- Scopes that are filled, slot by slot.
+use Rattle.std.proofs.Common.{◌≡◌, ℕ, zero, suc, ◌+◌, ◌<◌, ◌≤◌, List, [], ◌∷◌, ◌++◌, Some, length, drop, refl, sym, ap, ◌∙◌, subst, arith}
+use Rattle.std.specs.Prelude.{map as each, slice_get, slice_index_or, unwrap_or, All}
+use Rattle.std.proofs.lemmas.List.Elements.{All-head, All-tail}
+use Rattle.wjs_base.specs.declared.ids.ObjId.{ObjId}
+use Rattle.wjs_base.specs.declared.ids.TextId.{TextId}
+use Rattle.wjs_base.specs.declared.ids.WorldId.{WorldId}
+use Rattle.wjs_base.specs.declared.values.Name.{Name}
+use Rattle.wjs_base.specs.declared.values.Name.TheVariants as names
+use Rattle.wjs_base.specs.declared.values.Value.{Value as NumberedValue}
+use Rattle.wjs_base.specs.declared.values.Value.TheVariants as values
+use Rattle.wjs_base.specs.Spelling.{IsName}
+use Rattle.wjs_base.specs.Text.{Table}
+use Rattle.wjs_rename.specs.Names.{Holds}
+use Rattle.wjs_arena.specs.declared.class.Class.TheVariants as class
+use Rattle.wjs_arena.specs.declared.object.Flags.{Flags}
+use Rattle.wjs_arena.specs.declared.object.Object.{Object}
+use Rattle.wjs_arena.specs.Entries.{Objects}
+use Rattle.wjs_content.specs.Names.{slot, index_name, callee_name, length_name}
+use Rattle.wjs_content.specs.Objects.{object_of, hidden_flags}
+use Rattle.wjs_content.specs.Tables.{text_in, name_in, value_in, under_in, object_in}
+use Rattle.wjs_props.specs.Heap.{HasNamed}
+use Rattle.wjs_meaning.specs.Builtins.{object_prototype}
+use Rattle.wjs_meaning.specs.Deeds.{Env, Act, Do, Write, write_all}
+use Rattle.wjs_meaning.specs.Functions.{arguments_object, hidden_indices, formal_slots, declare_variables}
+use Rattle.wjs_deeds.proofs.Making.{bare, flagged_named}
+use Rattle.wjs_calls.proofs.Elements.{left_here}
+use Rattle.wjs_eval_call.specs.Filling.{undefined_slots, hidden_from, variable_declared}
+
+-- ---- Arguments objects
+
+indices_hidden : (t : Table) (i : ℕ) (vs : List NumberedValue) → under_in t (λ (f : Flags). f) (hidden_from i (length vs)) ≡ hidden_indices i (each (value_in t) vs)
+indices_hidden t i [] = refl
+indices_hidden t i (v ∷ vs) = ap (λ l. (index_name i, hidden_flags) ∷ l) (indices_hidden t (i + 1) vs)
+
+pub arguments_is : (t : Table) (x : Object) (p : ObjId) (flags : List (Name × Flags)) (callee size : Name) (vs : List NumberedValue) → x ≡ bare class.Arguments (Some p) → p ≡ object_prototype
+    → flags ≡ (callee, hidden_flags) ∷ (size, hidden_flags) ∷ hidden_from 0 (length vs) → name_in t callee ≡ callee_name → name_in t size ≡ length_name → object_in t (record x { flags = flags }) ≡ arguments_object (each (value_in t) vs)
+arguments_is t x p flags callee size vs ex ep ef ec es =
+    ap (λ (y : Object). object_in t (record y { flags = flags })) ex
+    ∙ ap (λ (q : ObjId). object_in t (record (bare class.Arguments (Some q)) { flags = flags })) ep
+    ∙ ap (λ (fs : List (Name × Flags)). object_in t (record (bare class.Arguments (Some object_prototype)) { flags = fs })) ef
+    ∙ (λ i. record (object_of class.Arguments (Some object_prototype)) { flags = (ec i, hidden_flags) ∷ (es i, hidden_flags) ∷ indices_hidden t 0 vs i })
+
+indices_named : (texts : Table) (i n : ℕ) → i + n ≤ 4294967295 → Holds (λ e. IsName texts e.0) (hidden_from i n)
+indices_named texts i zero h = tt
+indices_named texts i (suc n) h = (omega arith, indices_named texts (i + 1) n (omega arith))
+
+pub arguments_named : (texts : Table) (arena : Objects) (x : Object) (p : ObjId) (flags : List (Name × Flags)) (callee size : Name) (n : ℕ) → x ≡ bare class.Arguments (Some p) → flags ≡ (callee, hidden_flags) ∷ (size, hidden_flags) ∷ hidden_from 0 n
+    → n ≤ 4294967295 → IsName texts callee → IsName texts size → HasNamed texts arena (record x { flags = flags })
+arguments_named texts arena x p flags callee size n ex ef small hc hs =
+    flagged_named texts arena x class.Arguments (Some p) ex flags (subst (λ (fs : List (Name × Flags)). Holds (λ e. IsName texts e.0) fs) (sym ef) (hc, (hs, indices_named texts 0 n (let s : 0 + n ≤ 4294967295 = omega arith in s))))
+
+hidden_more : (i n : ℕ) → hidden_from i n ++ hidden_from (i + n) 1 ≡ hidden_from i (suc n)
+hidden_more i zero = let e : i + 0 ≡ i = omega arith in ap (λ (k : ℕ). hidden_from k 1) e
+hidden_more i (suc n) =
+    let e : i + suc n ≡ (i + 1) + n = omega arith in
+    ap (λ l. (names.Index i, hidden_flags) ∷ l) (ap (λ k. hidden_from (i + 1) n ++ hidden_from k 1) e ∙ hidden_more (i + 1) n)
+
+-- one index more
+pub hidden_next : (n : ℕ) → hidden_from 0 n ++ hidden_from n 1 ≡ hidden_from 0 (n + 1)
+hidden_next n =
+    let e : n ≡ 0 + n = omega arith in
+    let s : suc n ≡ n + 1 = omega arith in
+    ap (λ (k : ℕ). hidden_from 0 n ++ hidden_from k 1) e ∙ hidden_more 0 n ∙ ap (hidden_from 0) s
+
+-- ---- slots in order
+
+module _ (t : Table) (w : WorldId) (s : ObjId) where
+  -- the first of the variables, and those after it
+  pub undefined_left : (ns : List TextId) (i : ℕ) (other : TextId) (act : Act) → i < length ns
+      → write_all w (undefined_slots s (each (text_in t) (drop i ns))) act ≡ Do (Write w (slot s (text_in t (slice_index_or ns i other))) (Some (value_in t values.Undefined))) (λ done. write_all w (undefined_slots s (each (text_in t) (drop (i + 1) ns))) act)
+  undefined_left ns i other act lt = ap (λ (l : List TextId). write_all w (undefined_slots s (each (text_in t) l)) act) (left_here ns i other lt)
+
+  -- the argument of a number
+  abbrev pub argument : List NumberedValue → ℕ → NumberedValue
+  argument vs i = unwrap_or (slice_get vs i) values.Undefined
+
+  formal_first : (k : TextId) (rest : List TextId) (vs : List NumberedValue) (i : ℕ) (act : Act)
+      → write_all w (formal_slots s (each (text_in t) (k ∷ rest)) (each (value_in t) (drop i vs))) act ≡ Do (Write w (slot s (text_in t k)) (Some (value_in t (argument vs i)))) (λ done. write_all w (formal_slots s (each (text_in t) rest) (each (value_in t) (drop (suc i) vs))) act)
+  formal_first k rest [] zero act = refl
+  formal_first k rest [] (suc i) act = refl
+  formal_first k rest (v ∷ vs) zero act = refl
+  formal_first k rest (v ∷ vs) (suc i) act = formal_first k rest vs i act
+
+  -- the first of the formals, and those after it
+  pub formal_left : (ns : List TextId) (vs : List NumberedValue) (i : ℕ) (other : TextId) (v : NumberedValue) (act : Act) → i < length ns → v ≡ argument vs i
+      → write_all w (formal_slots s (each (text_in t) (drop i ns)) (each (value_in t) (drop i vs))) act
+      ≡ Do (Write w (slot s (text_in t (slice_index_or ns i other))) (Some (value_in t v))) (λ done. write_all w (formal_slots s (each (text_in t) (drop (i + 1) ns)) (each (value_in t) (drop (i + 1) vs))) act)
+  formal_left ns vs i other v act lt e =
+      let x = slice_index_or ns i other in
+      let next : suc i ≡ i + 1 = omega arith in
+      ap (λ (l : List TextId). write_all w (formal_slots s (each (text_in t) l) (each (value_in t) (drop i vs))) act) (left_here ns i other lt)
+      ∙ formal_first x (drop (i + 1) ns) vs i act
+      ∙ ap (λ (k : ℕ). Do (Write w (slot s (text_in t x)) (Some (value_in t (argument vs i)))) (λ done. write_all w (formal_slots s (each (text_in t) (drop (i + 1) ns)) (each (value_in t) (drop k vs))) act)) next
+      ∙ ap (λ (u : NumberedValue). Do (Write w (slot s (text_in t x)) (Some (value_in t u))) (λ done. write_all w (formal_slots s (each (text_in t) (drop (i + 1) ns)) (each (value_in t) (drop (i + 1) vs))) act)) (sym e)
+
+pub argument_there : (P : NumberedValue → Type 0) → P values.Undefined → (vs : List NumberedValue) (i : ℕ) → All P vs → P (unwrap_or (slice_get vs i) values.Undefined)
+argument_there P none [] i h = none
+argument_there P none (v ∷ vs) zero h = All-head P v vs h
+argument_there P none (v ∷ vs) (suc i) h = argument_there P none vs i (All-tail P v vs h)
+
+-- the first of the variables of a program, and those after it
+pub variable_left : (t : Table) (env : Env) (ns : List TextId) (i : ℕ) (other : TextId) (act : Act) → i < length ns
+    → declare_variables (each (text_in t) (drop i ns)) env act ≡ variable_declared (text_in t (slice_index_or ns i other)) env (declare_variables (each (text_in t) (drop (i + 1) ns)) env act)
+variable_left t env ns i other act lt = ap (λ (l : List TextId). declare_variables (each (text_in t) l) env act) (left_here ns i other lt)

@@ -1,0 +1,5 @@
+use Rattle.wjs_props.specs.Means.{nothing}
+use Rattle.wjs_eval_call.proofs.arguments.arguments_names.Goals as goal
+
+pub returns-clause-does : goal.returns-clause-does
+returns-clause-does g c = record { by = λ go later r h. c.in_ok-callee.ensures.does.by (λ x. go nothing) later r (c.in_ok-length.ensures.does.by (λ x. go nothing) later r h) }

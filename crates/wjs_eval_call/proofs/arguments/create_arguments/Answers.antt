@@ -1,0 +1,26 @@
+use Rattle.wjs_base.specs.Text.{Table}
+use Rattle.wjs_content.specs.Tables.{value_in}
+use Rattle.std.specs.Prelude.{map}
+use Rattle.wjs_props.specs.Means.{nothing}
+use Rattle.wjs_meaning.specs.Functions.{arguments_object}
+use Rattle.wjs_deeds.proofs.Composing.{if_ok}
+use Rattle.wjs_deeds.proofs.Making.{made_after}
+use Rattle.wjs_calls.proofs.Rows.{any_later}
+use Rattle.wjs_eval_call.proofs.Filling.{arguments_is, arguments_named}
+use Rattle.wjs_eval_call.proofs.arguments.create_arguments.Goals as goal
+
+pub create-requires-clause-named : goal.create-requires-clause-named
+create-requires-clause-named g c =
+    let mid = c.arguments_names.new.config in
+    arguments_named mid.heap.texts mid.heap.arena c.object_of-object.result c.builtin-prototype.result c.in_ok-flags.flags c.in_ok-names.names.0 c.in_ok-names.names.1 _ c.object_of-object.ensures c.in_ok-flags.ensures.is c.in_ok-flags.ensures.small c.in_ok-names.ensures.callee c.in_ok-names.ensures.length
+
+pub returns-clause-does : goal.returns-clause-does
+returns-clause-does g c =
+    let said = λ (t : Table). arguments_object (map (value_in t) c.args.values.now) in
+    if_ok _ _ c.create.result
+    (λ o k. made_after g.S.WorldStore.meaning (λ t. nothing) (λ t. nothing) said o c.args.config.now c.arguments_names.new.config c.create.new.config c.in_ok-names.ensures.does c.in_ok-names.ensures.later
+    (k said (λ t more. arguments_is t c.object_of-object.result c.builtin-prototype.result c.in_ok-flags.flags c.in_ok-names.names.0 c.in_ok-names.names.1 c.args.values.now c.object_of-object.ensures c.builtin-prototype.ensures.number c.in_ok-flags.ensures.is (c.in_ok-names.ensures.callee_text t more) (c.in_ok-names.ensures.length_text t more))))
+    c.create.ensures.makes
+
+pub returns-clause-later : goal.returns-clause-later
+returns-clause-later g c = any_later g.S.WorldStore.meaning c.args.config.now c.arguments_names.new.config c.create.new.config c.create.result c.in_ok-names.ensures.later c.create.ensures.later

@@ -1,0 +1,69 @@
+use Rattle.wjs_base.specs.declared.ids.TextId.{TextId}
+use Rattle.wjs_tree.specs.declared.node.NodeId.{NodeId}
+use Rattle.std.proofs.Common.{List, ◌∷◌, sym, subst}
+use Rattle.std.specs.Prelude.{OnOk, map}
+use Rattle.std.proofs.lemmas.Result.{on_ok_weaker}
+use Rattle.wjs_content.specs.Names.{slot, arguments_name}
+use Rattle.wjs_content.specs.Tables.{text_in, value_in}
+use Rattle.wjs_content.specs.Values.{Object}
+use Rattle.wjs_meaning.specs.Deeds.{Env, Act, write_all}
+use Rattle.wjs_meaning.specs.Functions.{arguments_slots, formal_slots, declare_functions}
+use Rattle.wjs_meaning.specs.Reading.{numbers}
+use Rattle.wjs_moves.specs.Doing.{DoesFirst}
+use Rattle.wjs_moves.specs.Following.{Follows}
+use Rattle.wjs_moves.specs.Parts.{env_in}
+use Rattle.wjs_deeds.proofs.Composing.{env_later}
+use Rattle.wjs_deeds.proofs.Later.{later_twice}
+use Rattle.wjs_calls.proofs.Elements.{write-append}
+use Rattle.wjs_calls.proofs.Rows.{ok_later}
+use Rattle.wjs_eval_call.specs.Filling.{undefined_slots, scope_filled, arguments_written}
+use Rattle.wjs_eval_call.proofs.arguments.fill_scope.Goals as goal
+
+pub returns-clause-does : goal.returns-clause-does
+returns-clause-does g c =
+    let m = g.S.WorldStore.meaning in
+    let old = c.args.config.now in
+    let f = c.args.frame.now in
+    let w = f.world in
+    let s = f.scope in
+    let a = c.in_ok-arguments.arguments in
+    let fn = c.args.function in
+    let fns = numbers c.as_slice-2.result.now in
+    let others = c.args.others.now in
+    let c0 = c.create_arguments.new.config in
+    let c1 = c.write_arguments.new.config in
+    let c2 = c.write_known.new.config in
+    let c3 = c.write_formals.new.config in
+    let c4 = c.declare_functions.new.config in
+    let one = later_twice m old c0 c1 c.in_ok-arguments.ensures.later c.in_ok-write_arguments.ensures.later in
+    let two = later_twice m old c1 c2 one c.in_ok-write_known.ensures.later in
+    let three = later_twice m old c2 c3 two c.in_ok-write_formals.ensures.later in
+    on_ok_weaker c.write_undefined.result
+    (λ (last : DoesFirst m (λ t. write_all w (undefined_slots s (map (text_in t) others))) c4 c.write_undefined.new.config). record {
+      by = λ act later r h.
+          let t = later.heap.texts in
+          let xs = map (value_in t) c.args.values.now in
+          let formals = map (text_in t) c.as_slice.result.now in
+          let env = env_in m old t f in
+          let ended : Act = write_all w (undefined_slots s (map (text_in t) others)) act in
+          let filled : Act = declare_functions fns s env ended in
+          let behind : Act = write_all w ((slot s arguments_name, Object a) ∷ formal_slots s formals xs) filled in
+          let h4 = c.in_ok-declare_functions.ensures.does.by ended later r (last.by act later r h) in
+          let h3 = c.in_ok-write_formals.ensures.does.by filled later r (subst (λ (e : Env). OnOk r (Follows m (declare_functions fns s e ended) c3 later)) (env_later m old c3 t f three) h4) in
+          let h2 = c.in_ok-write_known.ensures.does.by (λ x. write_all w (formal_slots s formals xs) filled) later r h3 in
+          let h1 = c.in_ok-write_arguments.ensures.does.by behind later r h2 in
+          let joined = subst (λ (x : Act). OnOk r (Follows m x c0 later)) (sym (write-append w (arguments_slots a fn xs) ((slot s arguments_name, Object a) ∷ formal_slots s formals xs) filled)) h1 in
+          let all = c.in_ok-arguments.ensures.does.by (λ q. scope_filled formals fns (map (text_in t) others) fn q xs env act) later r joined in
+          subst (λ (gs : List NodeId). OnOk r (Follows m (arguments_written (map (text_in t) c.args.declared.now.formals) (numbers gs) (map (text_in t) others) fn xs env act) old later)) c.as_slice-2.ensures
+          (subst (λ (ns : List TextId). OnOk r (Follows m (arguments_written (map (text_in t) ns) fns (map (text_in t) others) fn xs env act) old later)) c.as_slice.ensures all);
+    })
+    c.write_undefined.ensures.does
+
+pub returns-clause-later : goal.returns-clause-later
+returns-clause-later g c =
+    let m = g.S.WorldStore.meaning in
+    let old = c.args.config.now in
+    let one = later_twice m old c.create_arguments.new.config c.write_arguments.new.config c.in_ok-arguments.ensures.later c.in_ok-write_arguments.ensures.later in
+    let two = later_twice m old c.write_arguments.new.config c.write_known.new.config one c.in_ok-write_known.ensures.later in
+    let three = later_twice m old c.write_known.new.config c.write_formals.new.config two c.in_ok-write_formals.ensures.later in
+    ok_later m old c.declare_functions.new.config c.write_undefined.new.config c.write_undefined.result (later_twice m old c.write_formals.new.config c.declare_functions.new.config three c.in_ok-declare_functions.ensures.later) c.write_undefined.ensures.later

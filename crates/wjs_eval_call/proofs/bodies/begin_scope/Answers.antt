@@ -1,0 +1,86 @@
+use Rattle.std.proofs.Common.{◌≡◌, ◌∷◌, ◌++◌, List, sym, ap, ◌∙◌, subst}
+use Rattle.std.specs.Prelude.{OnOk, Ok, map, filter, not, All}
+use Rattle.std.proofs.lemmas.Result.{on_ok_weaker}
+use Rattle.wjs_base.specs.declared.ids.ObjId.{ObjId}
+use Rattle.wjs_base.specs.declared.ids.TextId.{TextId}
+use Rattle.wjs_base.specs.Text.{Has}
+use Rattle.wjs_base.specs.declared.values.Value.{Value}
+use Rattle.wjs_base.proofs.TextLaws.{Grows-trans}
+use Rattle.wjs_content.specs.Names.{arguments_name}
+use Rattle.wjs_content.specs.Tables.{text_in, value_in}
+use Rattle.wjs_meaning.specs.Declarations.{declared_by}
+use Rattle.wjs_meaning.specs.Trees.{Node, has_text, elements_of}
+use Rattle.wjs_meaning.specs.Deeds.{Env, Act, Do, Create, tree_here}
+use Rattle.wjs_meaning.specs.Functions.{arguments_object, function_names, body_declare, body_from, body_run}
+use Rattle.wjs_meaning.specs.Reading.{numbers, node_in}
+use Rattle.wjs_model.specs.declared.frame.Frame.{Frame}
+use Rattle.wjs_model.specs.declared.unit.Unit.{Unit as Program}
+use Rattle.wjs_model.specs.Contents.{holding_in, values_held}
+use Rattle.wjs_model.specs.Soundness.{HasValue}
+use Rattle.wjs_moves.specs.Following.{Follows}
+use Rattle.wjs_moves.specs.Parts.{env_in, node_now, node_among}
+use Rattle.wjs_moves.proofs.Held.{values_there}
+use Rattle.wjs_deeds.proofs.Composing.{env_later}
+use Rattle.wjs_deeds.proofs.Later.{later_twice}
+use Rattle.wjs_calls.proofs.FunctionNodes.{node_is}
+use Rattle.wjs_calls.proofs.Rows.{same_units}
+use Rattle.wjs_eval_call.specs.Filling.{arguments_written}
+use Rattle.wjs_eval_call.proofs.Beginning.{values_later, texts_later, earliest_each, others_of, body_filled}
+use Rattle.wjs_eval_call.proofs.bodies.begin_scope.Goals as goal
+
+pub fill_scope-requires-clause-formals : goal.fill_scope-requires-clause-formals
+fill_scope-requires-clause-formals g c = texts_later g.S.WorldStore.meaning c.args.config.now c.create_scope.new.config c.in_ok-inner.ensures.later c.in_ok-declared.declared.formals c.in_ok-declared.ensures.formals_found
+
+pub fill_scope-requires-clause-others : goal.fill_scope-requires-clause-others
+fill_scope-requires-clause-others g c =
+    let old = c.args.config.now in
+    texts_later g.S.WorldStore.meaning old c.create_scope.new.config c.in_ok-inner.ensures.later c.as_slice.result.now
+    (subst (λ (ids : List TextId). All (Has old.heap.texts) ids) (sym c.as_slice.ensures.value) c.in_ok-others.ensures.found)
+
+pub fill_scope-requires-clause-values : goal.fill_scope-requires-clause-values
+fill_scope-requires-clause-values g c =
+    let old = c.args.config.now in
+    values_later g.S.WorldStore.meaning old c.create_scope.new.config c.in_ok-inner.ensures.later c.as_slice-2.result.now
+    (subst (λ (vs : List Value). All (HasValue old) vs) (sym (c.as_slice-2.ensures.value ∙ c.in_ok-values.ensures)) (values_there old c.args.frame.held c.requires.there.held))
+
+pub returns : goal.returns
+returns g c =
+    let m = g.S.WorldStore.meaning in
+    let old = c.args.config.now in
+    let mid = c.create_scope.new.config in
+    let c2 = c.fill_scope.new.config in
+    let new = c.run_body.new.config in
+    let r = c.run_body.result in
+    let t = new.heap.texts in
+    let f = c.args.frame in
+    let inner : Frame = record f { scope = c.in_ok-inner.inner } in
+    let d = c.in_ok-declared.declared in
+    let env = env_in m old t inner in
+    let body = f.node.0 in
+    let declared = declared_by (tree_here env) body in
+    let said = (holding_in t f.held).values in
+    let fn = c.args.function in
+    let first = c.in_ok-inner.ensures.later in
+    let both = later_twice m old mid c2 first c.in_ok-fill_scope.ensures.later in
+    let as_begun = λ (o : ObjId). Do (Create old.owner (arguments_object said)) (λ a. body_declare body declared fn a said (record (env_in m old t f) { scope = o })) in
+    let run1 : OnOk r (Follows m (body_from (elements_of (node_in t (node_now m c2 inner))) env) c2 new) = subst (λ (e : Env). OnOk r (Follows m (body_from (elements_of (node_in t (node_now m c2 inner))) e) c2 new)) (env_later m old c2 t inner both) c.run_body.ensures in
+    let node = node_is t old.units.items f.tree f.node (node_now m c2 inner) (ap (λ (us : List Program). node_among us f.tree f.node) (sym (same_units m old c2 both))) in
+    let run2 : OnOk r (Follows m (body_run body env) c2 new) = subst (λ (n : Node). OnOk r (Follows m (body_from (elements_of n) env) c2 new)) (sym node) run1 in
+    on_ok_weaker r
+    (λ (k : Follows m (body_run body env) c2 new).
+    let table = k.sound.base.heap.table in
+    let grows = Grows-trans old.heap.texts c2.heap.texts t both.texts k.keeps.stays.texts in
+    let formals = map (text_in t) d.formals in
+    let functions = numbers d.functions in
+    let others = map (text_in t) c.as_slice.result.now in
+    let args = map (value_in t) c.as_slice-2.result.now in
+    let ef = c.in_ok-declared.ensures.formals t in
+    let en = c.in_ok-declared.ensures.functions t in
+    let ev = c.in_ok-declared.ensures.variables t table grows in
+    let eo : others ≡ others_of env declared = ap (map (text_in t)) c.as_slice.ensures.value ∙ c.in_ok-others.ensures.is t table grows ∙ (λ i. filter (λ name. not (has_text (arguments_name ∷ ef i ++ function_names env (en i)) name)) (ev i)) in
+    let ea : args ≡ said = ap (map (value_in t)) (c.as_slice-2.ensures.value ∙ c.in_ok-values.ensures) ∙ earliest_each (value_in t) (values_held f.held) in
+    let filled : Follows m (arguments_written formals functions others fn args (env_in m mid t inner) (body_run body env)) mid new = c.in_ok-fill_scope.ensures.does.by (body_run body env) new (Ok tt) k in
+    let there : Follows m (arguments_written formals functions others fn args env (body_run body env)) mid new = subst (λ (e : Env). Follows m (arguments_written formals functions others fn args e (body_run body env)) mid new) (env_later m old mid t inner first) filled in
+    let begun : Follows m (as_begun inner.scope) mid new = subst (λ (a : Act). Follows m a mid new) (body_filled formals others functions args said declared body fn env ef en eo ea) there in
+    c.in_ok-inner.ensures.does.by as_begun new (Ok tt) begun)
+    run2

@@ -1,0 +1,52 @@
+use Rattle.std.proofs.Common.{[], None, Some, ap, subst}
+use Rattle.std.specs.Prelude.{OnOk}
+use Rattle.wjs_content.specs.Values.{Object}
+use Rattle.wjs_content.specs.Tables.{value_in}
+use Rattle.wjs_meaning.specs.declared.trouble.Trouble.TheVariants.{NoPrimitiveValue}
+use Rattle.wjs_meaning.specs.Deeds.{Env, Act, Completion, Sub, then_value}
+use Rattle.wjs_meaning.specs.Calls.{call}
+use Rattle.wjs_meaning.specs.Conversions.{first_method, second_method, try_method, method_result}
+use Rattle.wjs_meaning.specs.Errors.{throw}
+use Rattle.wjs_meaning.specs.Reading.{node_in}
+use Rattle.wjs_model.specs.Contents.{holding_in}
+use Rattle.wjs_moves.specs.Following.{Follows}
+use Rattle.wjs_moves.specs.Parts.{env_in, node_now}
+use Rattle.wjs_deeds.specs.Known.{text_of}
+use Rattle.wjs_deeds.proofs.Composing.{env_later}
+use Rattle.wjs_eval_call.specs.Primitives.{hint_of}
+use Rattle.wjs_eval_call.proofs.Asking.{asked, waits_first}
+use Rattle.wjs_eval_call.proofs.methods.try_first.Goals as goal
+
+pub returns-in-Some : goal.returns-in-Some
+returns-in-Some g c =
+    let m = g.S.WorldStore.meaning in
+    let old = c.args.config.now in
+    let mid = c.get_known.new.config in
+    let new = c.call_method.new.config in
+    let r = c.call_method.result in
+    let t = new.heap.texts in
+    let f = c.args.frame in
+    let o = c.args.object in
+    let k = c.args.conversion in
+    let otherwise = λ (env : Env). try_method (second_method (hint_of k)) o env (throw NoPrimitiveValue env) in
+    let called = λ (env : Env) (go : Completion → Act). Sub (call c.in-Some.function (Object o) [] env) go in
+    let env_mid = env_in m mid t f in
+    let waits = waits_first (node_in t (node_now m mid f)) f.node.0 (holding_in t f.held) env_mid o f.form k c.requires.form c.requires.first (ap (value_in t) c.requires.value) in
+    let h1 : OnOk r (Follows m (called env_mid (then_value (method_result (otherwise env_mid)))) mid new) = subst (λ (go : Completion → Act). OnOk r (Follows m (called env_mid go) mid new)) waits c.call_method.ensures in
+    let h2 : OnOk r (Follows m (called (env_in m old t f) (then_value (method_result (otherwise (env_in m old t f))))) mid new) = subst (λ (e : Env). OnOk r (Follows m (called e (then_value (method_result (otherwise e)))) mid new)) (env_later m old mid t f c.in_ok-method.ensures.later) h1 in
+    asked m (text_of c.first_method.result) (first_method (hint_of k)) o (λ u. env_in m old u f) c.in_ok-method.method (otherwise (env_in m old t f)) (Some c.in-Some.function) old mid new r c.in_ok-method.ensures.does c.first_method.ensures c.in-Some.ensures.is h2
+
+pub returns-in-None : goal.returns-in-None
+returns-in-None g c =
+    let m = g.S.WorldStore.meaning in
+    let old = c.args.config.now in
+    let mid = c.get_known.new.config in
+    let new = c.try_second.new.config in
+    let r = c.try_second.result in
+    let t = new.heap.texts in
+    let f = c.args.frame in
+    let o = c.args.object in
+    let k = c.args.conversion in
+    let otherwise = λ (env : Env). try_method (second_method (hint_of k)) o env (throw NoPrimitiveValue env) in
+    let h : OnOk r (Follows m (otherwise (env_in m old t f)) mid new) = subst (λ (e : Env). OnOk r (Follows m (otherwise e) mid new)) (env_later m old mid t f c.in_ok-method.ensures.later) c.try_second.ensures in
+    asked m (text_of c.first_method.result) (first_method (hint_of k)) o (λ u. env_in m old u f) c.in_ok-method.method (otherwise (env_in m old t f)) None old mid new r c.in_ok-method.ensures.does c.first_method.ensures c.in-None.ensures.is h

@@ -1,0 +1,14 @@
+use Rattle.std.proofs.Common.{List, sym, subst}
+use Rattle.std.specs.Prelude.{ℕ, OnOk}
+use Rattle.wjs_meaning.specs.Functions.{program_from}
+use Rattle.wjs_moves.specs.Following.{Follows}
+use Rattle.wjs_moves.specs.Parts.{env_in}
+use Rattle.wjs_eval_call.proofs.programs.run_program.Goals as goal
+
+pub returns-in-None : goal.returns-in-None
+returns-in-None g c =
+    let m = g.S.WorldStore.meaning in
+    let old = c.args.config.now in
+    let new = c.finish.new.config in
+    let t = new.heap.texts in
+    subst (λ (l : List ℕ). OnOk c.finish.result (Follows m (program_from l (env_in m old t c.args.frame)) old new)) (sym (c.in-None.ensures t)) c.finish.ensures

@@ -1,0 +1,4 @@
+pub mod Primitives
+pub mod Elements
+pub mod Filling
+pub mod Taking

@@ -1,0 +1,242 @@
+//! The scopes of calls (ECMA-262, 3rd edition, sections 10.1.6, 10.1.8 and 10.2.3).
+ghost use Rattle.std.specs.Prelude.{◌≡◌, ◌≤◌, ◌++◌, ◌∷◌, [], All, IfOk, OnOk, map, Some, slice_get, unwrap_or};
+ghost use Rattle.wjs_base.specs.Text.{Table, Grows, Has};
+ghost use Rattle.wjs_content.specs.Names.{slot, callee_name, length_name};
+ghost use Rattle.wjs_content.specs.Objects.{hidden_flags};
+ghost use Rattle.wjs_content.specs.Tables.{value_in, text_in, name_in};
+ghost use Rattle.wjs_content.specs.Values.{Object};
+ghost use Rattle.wjs_props.specs.Means.{nothing};
+ghost use Rattle.wjs_meaning.specs.Deeds.{Do, Create, Write, write_all};
+ghost use Rattle.wjs_meaning.specs.Functions as line;
+ghost use Rattle.wjs_meaning.specs.Reading.{numbers};
+ghost use Rattle.wjs_model.specs.Contents.{holding_in};
+ghost use Rattle.wjs_model.specs.Soundness.{Base, IsThere, HasName, HasObject, HasValue};
+ghost use Rattle.wjs_moves.specs.Doing.{Does, DoesFirst};
+ghost use Rattle.wjs_moves.specs.Parts.{env_in};
+ghost use Rattle.wjs_moves.specs.Following.{Later};
+ghost use Rattle.wjs_eval_call.specs.Filling.{arguments_written, undefined_slots, hidden_from};
+
+use std::alloc::Global;
+use wjs_arena::{Class, Flags, Under};
+use wjs_base::{Name, ObjId, OutOfMemory, TextId, Value};
+use wjs_calls::{declare_functions, whole_value, write_elements};
+use wjs_declared::Declared;
+use wjs_deeds::{
+    Known, builtin, create, create_scope, known_name, name_of, object_of, write, write_known,
+};
+use wjs_model::{Config, Frame};
+use wjs_store::WorldStore;
+use wjs_tree::NodeId;
+
+/// The greatest array index (section 15.4).
+const GREATEST_INDEX: usize = 4_294_967_294;
+
+/// Makes an Arguments object of the values of a call.
+fn create_arguments<S: WorldStore>(
+    config: &mut Config<S>,
+    values: &[Value],
+) -> Result<ObjId, OutOfMemory>
+    requires base { Base S.meaning config.old }
+    ensures does { IfOk result (λ o. Does S.meaning (λ t go. Do (Create config.old.owner (line.arguments_object (map (value_in t) values.now))) go) (λ t. o) config.old config.new) }
+    ensures later { OnOk result (Later S.meaning config.old config.new) }
+    ensures found { IfOk result (λ o. HasObject config.new o) }
+{
+    let names = arguments_names(config)?;
+    let alloc = config.heap.arena.allocator();
+    let flags = hidden_flags(alloc, names.0, names.1, values.len())?;
+    let prototype = builtin(config, 0);
+    let mut object = object_of(alloc, Class::Arguments, Some(prototype));
+    object.flags = flags;
+    create(config, object)
+}
+
+/// The names `callee` and `length`, whose texts are put last where they are new. No deed is done.
+fn arguments_names<S: WorldStore>(config: &mut Config<S>) -> Result<(Name, Name), OutOfMemory>
+    requires { Base S.meaning config.old }
+    ensures does { OnOk result (Does S.meaning (λ t go. go nothing) (λ t. nothing) config.old config.new) }
+    ensures later { OnOk result (Later S.meaning config.old config.new) }
+    ensures callee { IfOk result (λ names. HasName config.new names.0) }
+    ensures length { IfOk result (λ names. HasName config.new names.1) }
+    ensures callee_text { IfOk result (λ names. (t : Table) → Grows config.new.heap.texts t → name_in t names.0 ≡ callee_name) }
+    ensures length_text { IfOk result (λ names. (t : Table) → Grows config.new.heap.texts t → name_in t names.1 ≡ length_name) }
+{
+    let callee = known_name(config, Known::Callee)?;
+    let length = known_name(config, Known::Length)?;
+    Ok((callee, length))
+}
+
+/// `callee`, `length` and so many indices are hidden. No list in memory is longer than there are indices.
+fn hidden_flags(
+    alloc: Global,
+    callee: Name,
+    length: Name,
+    count: usize,
+) -> Result<Under<Flags>, OutOfMemory>
+    ensures small { IfOk result (λ under. count ≤ 4294967295) }
+    ensures is { IfOk result (λ under. under ≡ (callee, hidden_flags) ∷ (length, hidden_flags) ∷ hidden_from 0 count) }
+{
+    let mut flags = Vec::new(alloc);
+    push_hidden(&mut flags, callee)?;
+    push_hidden(&mut flags, length)?;
+    for index in 0..count {
+        push_hidden_index(&mut flags, index)?;
+    }
+    Ok(Under::from_vec(flags))
+}
+
+fn push_hidden_index(flags: &mut Vec<(Name, Flags)>, index: usize) -> Result<(), OutOfMemory>
+    ensures is { OnOk result (flags.new.items ≡ flags.old.items ++ hidden_from index 1) }
+    ensures small { OnOk result (index ≤ 4294967294) }
+{
+    if index > GREATEST_INDEX {
+        return Err(OutOfMemory);
+    }
+    push_hidden(flags, Name::Index(index as u32))
+}
+
+fn push_hidden(flags: &mut Vec<(Name, Flags)>, name: Name) -> Result<(), OutOfMemory>
+    ensures { OnOk result (flags.new.items ≡ flags.old.items ++ (name, hidden_flags) ∷ []) }
+{
+    let hidden = Flags {
+        hidden: true,
+        kept: false,
+    };
+    match flags.push((name, hidden)) {
+        Ok(()) => Ok(()),
+        Err(_) => Err(OutOfMemory),
+    }
+}
+
+/// Writes the formals, each with its argument; a missing one is undefined.
+fn write_formals<S: WorldStore>(
+    config: &mut Config<S>,
+    frame: &Frame,
+    scope: ObjId,
+    formals: &[TextId],
+    values: &[Value],
+) -> Result<(), OutOfMemory>
+    requires base { Base S.meaning config.old }
+    requires there { IsThere S.meaning config.old frame.now }
+    requires scope { HasObject config.old scope }
+    requires formals { All (Has config.old.heap.texts) formals.now }
+    requires values { All (HasValue config.old) values.now }
+    ensures does { OnOk result (DoesFirst S.meaning (λ t. write_all frame.now.world (line.formal_slots scope (map (text_in t) formals.now) (map (value_in t) values.now))) config.old config.new) }
+    ensures later { OnOk result (Later S.meaning config.old config.new) }
+{
+    for (i, formal) in formals.iter().enumerate() {
+        let value = argument_at(values, i);
+        write_variable(config, frame, scope, *formal, value)?;
+    }
+    Ok(())
+}
+
+/// The argument of a number; a missing one is undefined.
+fn argument_at(values: &[Value], i: usize) -> Value
+    ensures { result ≡ unwrap_or (slice_get values.now i) Value.Undefined }
+{
+    match values.get(i) {
+        Some(value) => *value,
+        None => Value::Undefined,
+    }
+}
+
+/// Writes variables as undefined.
+fn write_undefined<S: WorldStore>(
+    config: &mut Config<S>,
+    frame: &Frame,
+    scope: ObjId,
+    names: &[TextId],
+) -> Result<(), OutOfMemory>
+    requires base { Base S.meaning config.old }
+    requires there { IsThere S.meaning config.old frame.now }
+    requires scope { HasObject config.old scope }
+    requires names { All (Has config.old.heap.texts) names.now }
+    ensures does { OnOk result (DoesFirst S.meaning (λ t. write_all frame.now.world (undefined_slots scope (map (text_in t) names.now))) config.old config.new) }
+    ensures later { OnOk result (Later S.meaning config.old config.new) }
+{
+    for name in names {
+        write_variable(config, frame, scope, *name, Value::Undefined)?;
+    }
+    Ok(())
+}
+
+/// Writes a variable under the name of a text.
+fn write_variable<S: WorldStore>(
+    config: &mut Config<S>,
+    frame: &Frame,
+    object: ObjId,
+    id: TextId,
+    value: Value,
+) -> Result<(), OutOfMemory>
+    requires base { Base S.meaning config.old }
+    requires there { IsThere S.meaning config.old frame.now }
+    requires object { HasObject config.old object }
+    requires text { Has config.old.heap.texts id }
+    requires value { HasValue config.old value }
+    ensures does { OnOk result (DoesFirst S.meaning (λ t act. Do (Write frame.now.world (slot object (text_in t id)) (Some (value_in t value))) (λ done. act)) config.old config.new) }
+    ensures later { OnOk result (Later S.meaning config.old config.new) }
+{
+    let name = name_of(config, id);
+    write(config, frame, object, name, value)
+}
+
+/// Writes `callee`, `length` and the values at their indices to an Arguments object.
+fn write_arguments<S: WorldStore>(
+    config: &mut Config<S>,
+    frame: &Frame,
+    object: ObjId,
+    function: ObjId,
+    values: &[Value],
+) -> Result<(), OutOfMemory>
+    requires base { Base S.meaning config.old }
+    requires there { IsThere S.meaning config.old frame.now }
+    requires object { HasObject config.old object }
+    requires function { HasObject config.old function }
+    requires values { All (HasValue config.old) values.now }
+    ensures does { OnOk result (DoesFirst S.meaning (λ t. write_all frame.now.world (line.arguments_slots object function (map (value_in t) values.now))) config.old config.new) }
+    ensures later { OnOk result (Later S.meaning config.old config.new) }
+{
+    let length = whole_value(values.len())?;
+    write_known(
+        config,
+        frame,
+        object,
+        Known::Callee,
+        Value::Object(function),
+    )?;
+    write_known(config, frame, object, Known::Length, length)?;
+    write_elements(config, frame, object, values)
+}
+
+/// Fills the scope of a frame: `arguments`, the formals, the functions and the other variables.
+pub(crate) fn fill_scope<S: WorldStore>(
+    config: &mut Config<S>,
+    frame: &Frame,
+    function: ObjId,
+    declared: &Declared,
+    others: &[TextId],
+    values: &[Value],
+) -> Result<(), OutOfMemory>
+    requires base { Base S.meaning config.old }
+    requires there { IsThere S.meaning config.old frame.now }
+    requires function { HasObject config.old function }
+    requires formals { All (Has config.old.heap.texts) declared.now.formals }
+    requires others { All (Has config.old.heap.texts) others.now }
+    requires values { All (HasValue config.old) values.now }
+    ensures does { OnOk result (DoesFirst S.meaning (λ t. arguments_written (map (text_in t) declared.now.formals) (numbers declared.now.functions) (map (text_in t) others.now) function (map (value_in t) values.now) (env_in S.meaning config.old t frame.now)) config.old config.new) }
+    ensures later { OnOk result (Later S.meaning config.old config.new) }
+{
+    let scope = frame.scope;
+    let arguments = create_arguments(config, values)?;
+    write_arguments(config, frame, arguments, function, values)?;
+    write_known(
+        config,
+        frame,
+        scope,
+        Known::Arguments,
+        Value::Object(arguments),
+    )?;
+    write_formals(config, frame, scope, declared.formals.as_slice(), values)?;
+    declare_functions(config, frame, declared.functions.as_slice(), scope)?;
+    write_undefined(config, frame, scope, others)
+}

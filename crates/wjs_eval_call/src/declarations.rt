@@ -1,0 +1,118 @@
+//! What the body at a frame's node declares.
+ghost use Rattle.std.specs.Prelude.{◌≡◌, [], All, IfOk, OnOk, map};
+ghost use Rattle.wjs_base.specs.Text.{Table, Grows, Has, IsTable};
+ghost use Rattle.wjs_content.specs.Tables.{text_in};
+ghost use Rattle.wjs_meaning.specs.Deeds.{tree_here};
+ghost use Rattle.wjs_meaning.specs.Declarations.{declared_by};
+ghost use Rattle.wjs_meaning.specs.Functions as line;
+ghost use Rattle.wjs_meaning.specs.Reading.{numbers};
+ghost use Rattle.wjs_model.specs.Soundness.{Base, IsThere};
+ghost use Rattle.wjs_moves.specs.Doing.{DoesFirst};
+ghost use Rattle.wjs_moves.specs.Parts.{env_in};
+ghost use Rattle.wjs_moves.specs.Following.{Later};
+ghost use Rattle.wjs_eval_call.specs.Filling.{program_filled, variable_declared};
+
+use std::alloc::Global;
+use wjs_base::{Content, OutOfMemory, TextId, Value};
+use wjs_calls::declare_functions;
+use wjs_declared::{Declared, declared};
+use wjs_deeds::{name_of, read_content, write};
+use wjs_model::{Config, Frame};
+use wjs_store::WorldStore;
+use wjs_tree::{NodeId, Sequence};
+
+/// What the body at the frame's node declares.
+pub(crate) fn declared_at<S: WorldStore>(
+    config: &Config<S>,
+    frame: &Frame,
+) -> Result<Declared, OutOfMemory>
+    requires { Base S.meaning config.now }
+    ensures formals { IfOk result (λ d. (t : Table) → map (text_in t) d.formals ≡ (declared_by (tree_here (env_in S.meaning config.now t frame.now)) frame.now.node.0).formals) }
+    ensures functions { IfOk result (λ d. (t : Table) → numbers d.functions ≡ (declared_by (tree_here (env_in S.meaning config.now t frame.now)) frame.now.node.0).functions) }
+    ensures variables { IfOk result (λ d. (t : Table) → IsTable t → Grows config.now.heap.texts t → map (text_in t) d.variables ≡ (declared_by (tree_here (env_in S.meaning config.now t frame.now)) frame.now.node.0).vars) }
+    ensures formals_found { IfOk result (λ d. All (Has config.now.heap.texts) d.formals) }
+    ensures variables_found { IfOk result (λ d. All (Has config.now.heap.texts) d.variables) }
+{
+    let alloc = config.heap.arena.allocator();
+    match config.units.get(frame.tree as usize) {
+        Some(unit) => declared(alloc, unit, frame.node),
+        None => Ok(nothing_declared(alloc)),
+    }
+}
+
+/// Nothing declared.
+fn nothing_declared(alloc: Global) -> Declared
+    ensures formals { result.formals ≡ [] }
+    ensures functions { result.functions ≡ [] }
+    ensures variables { result.variables ≡ [] }
+{
+    Declared {
+        formals: Sequence::from_vec(Vec::new(alloc)),
+        functions: Sequence::from_vec(Vec::new(alloc)),
+        variables: Sequence::from_vec(Vec::new(alloc)),
+    }
+}
+
+/// Declares a program's functions and variables on the global object.
+pub(crate) fn declare_program<S: WorldStore>(
+    config: &mut Config<S>,
+    frame: &Frame,
+) -> Result<(), OutOfMemory>
+    requires base { Base S.meaning config.old }
+    requires there { IsThere S.meaning config.old frame.now }
+    ensures does { OnOk result (DoesFirst S.meaning (λ t. program_filled (declared_by (tree_here (env_in S.meaning config.old t frame.now)) frame.now.node.0) (env_in S.meaning config.old t frame.now)) config.old config.new) }
+    ensures later { OnOk result (Later S.meaning config.old config.new) }
+{
+    let declared = declared_at(config, frame)?;
+    let global = config.global;
+    declare_functions(config, frame, declared.functions.as_slice(), global)?;
+    declare_variables(config, frame, declared.variables.as_slice())
+}
+
+/// Reads each variable's slot of the global object, and where it is absent writes undefined.
+fn declare_variables<S: WorldStore>(
+    config: &mut Config<S>,
+    frame: &Frame,
+    names: &[TextId],
+) -> Result<(), OutOfMemory>
+    requires base { Base S.meaning config.old }
+    requires there { IsThere S.meaning config.old frame.now }
+    requires names { All (Has config.old.heap.texts) names.now }
+    ensures does { OnOk result (DoesFirst S.meaning (λ t. line.declare_variables (map (text_in t) names.now) (env_in S.meaning config.old t frame.now)) config.old config.new) }
+    ensures later { OnOk result (Later S.meaning config.old config.new) }
+{
+    for name in names {
+        declare_variable(config, frame, *name)?;
+    }
+    Ok(())
+}
+
+fn declare_variable<S: WorldStore>(
+    config: &mut Config<S>,
+    frame: &Frame,
+    id: TextId,
+) -> Result<(), OutOfMemory>
+    requires base { Base S.meaning config.old }
+    requires there { IsThere S.meaning config.old frame.now }
+    requires text { Has config.old.heap.texts id }
+    ensures does { OnOk result (DoesFirst S.meaning (λ t. variable_declared (text_in t id) (env_in S.meaning config.old t frame.now)) config.old config.new) }
+    ensures later { OnOk result (Later S.meaning config.old config.new) }
+{
+    let global = config.global;
+    let name = name_of(config, id);
+    let found = read_content(config, frame, global, name)?;
+    match found {
+        Content::Present(_) => Ok(()),
+        Content::Absent => write(config, frame, global, name, Value::Undefined),
+    }
+}
+
+/// The node of the body of the frame's program; where there is no such program, the first node.
+pub(crate) fn program_body<S: WorldStore>(config: &Config<S>, frame: &Frame) -> NodeId
+    ensures { (t : Table) → (tree_here (env_in S.meaning config.now t frame.now)).body ≡ result.0 }
+{
+    match config.units.get(frame.tree as usize) {
+        Some(unit) => unit.program.body,
+        None => NodeId(0),
+    }
+}

@@ -1,0 +1,37 @@
+//! The elements of bodies.
+ghost use Rattle.wjs_meaning.specs.Reading.{numbers};
+ghost use Rattle.wjs_base.specs.Text.{Table};
+ghost use Rattle.wjs_meaning.specs.Trees.{elements_of};
+ghost use Rattle.wjs_meaning.specs.Reading.{node_in};
+ghost use Rattle.wjs_moves.specs.Parts.{node_now};
+ghost use Rattle.wjs_eval_call.specs.Elements.{Begins};
+
+use wjs_model::{Config, Frame};
+use wjs_moves::node_of;
+use wjs_store::WorldStore;
+use wjs_tree::{Node, NodeId};
+
+/// The element of a number of the body that is the frame's node; None exactly past the last.
+pub(crate) fn element_at<S: WorldStore>(
+    config: &Config<S>,
+    frame: &Frame,
+    at: u32,
+) -> Option<NodeId>
+    ensures { (t : Table) → Begins (elements_of (node_in t (node_now S.meaning config.now frame.now))) at result }
+{
+    match node_of(config, frame) {
+        Some(Node::Function(_, _, elements)) => element_of(elements.as_slice(), at),
+        Some(Node::FunctionDecl(_, _, elements)) => element_of(elements.as_slice(), at),
+        Some(Node::Program(elements)) => element_of(elements.as_slice(), at),
+        _ => None,
+    }
+}
+
+fn element_of(elements: &[NodeId], at: u32) -> Option<NodeId>
+    ensures { Begins (numbers elements.now) at result }
+{
+    match elements.get(at as usize) {
+        Some(element) => Some(*element),
+        None => None,
+    }
+}

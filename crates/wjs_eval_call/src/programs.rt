@@ -1,0 +1,155 @@
+//! The bodies of programs (ECMA-262, 3rd edition, sections 10.2.1 and 14).
+ghost use Rattle.std.specs.Prelude.{◌≡◌, OnOk, drop, false, Some};
+ghost use Rattle.wjs_base.specs.Text.{Table};
+ghost use Rattle.wjs_content.specs.Tables.{value_in};
+ghost use Rattle.wjs_meaning.specs.Deeds.{Eval, AtProgram, Ret, then_normal};
+ghost use Rattle.wjs_meaning.specs.Trees.{elements_of};
+ghost use Rattle.wjs_meaning.specs.Functions as line;
+ghost use Rattle.wjs_meaning.specs.Reading.{node_in};
+ghost use Rattle.wjs_model.specs.Contents.{completion_in, callee_held};
+ghost use Rattle.wjs_model.specs.Waiting as waits;
+ghost use Rattle.wjs_model.specs.Soundness.{Base, IsThere, HasCompletion};
+ghost use Rattle.wjs_moves.specs.Parts.{env_in, node_now};
+ghost use Rattle.wjs_moves.specs.Following.{Follows};
+ghost use Rattle.wjs_eval_call.specs.Elements.{Begins, is_function};
+
+use crate::declarations::{declare_program, program_body};
+use crate::elements::element_at;
+use wjs_base::OutOfMemory;
+use wjs_lines::place_after;
+use wjs_model::{Completion, Config, Form, Frame, State};
+use wjs_moves::{Part, due_later, enter, finish};
+use wjs_store::WorldStore;
+use wjs_tree::NodeId;
+
+/// The program of the tree at hand: what it declares on the global object, and then its elements.
+pub(crate) fn begin_program<S: WorldStore>(
+    config: &mut Config<S>,
+    frame: Frame,
+) -> Result<(), OutOfMemory>
+    requires running { config.old.state ≡ State.Running }
+    requires base { Base S.meaning config.old }
+    requires there { IsThere S.meaning config.old frame }
+    requires form { frame.form ≡ Form.Body }
+    requires callee { is_function (callee_held frame.held).0 ≡ false }
+    ensures { let t = config.new.heap.texts in OnOk result (Follows S.meaning (line.program_of (env_in S.meaning config.old t frame)) config.old config.new) }
+{
+    let mut frame = frame;
+    frame.node = program_body(config, &frame);
+    declare_program(config, &frame)?;
+    run_program(config, frame, 0)
+}
+
+/// A program's body goes on: after the program before it, or after an element.
+pub(crate) fn after_program<S: WorldStore>(
+    config: &mut Config<S>,
+    frame: Frame,
+    completion: Completion,
+) -> Result<(), OutOfMemory>
+    requires running { config.old.state ≡ State.Running }
+    requires base { Base S.meaning config.old }
+    requires there { IsThere S.meaning config.old frame }
+    requires form { frame.form ≡ Form.Body }
+    requires callee { is_function (callee_held frame.held).0 ≡ false }
+    requires completion { HasCompletion config.old completion }
+    ensures { let t = config.new.heap.texts in OnOk result (Follows S.meaning (waits.after_body_of (value_in t (callee_held frame.held).0) frame.place (elements_of (node_in t (node_now S.meaning config.old frame))) (env_in S.meaning config.old t frame) (completion_in t completion)) config.old config.new) }
+{
+    if frame.place == 0 {
+        next_program(config, frame, completion)
+    } else {
+        after_element(config, frame, completion)
+    }
+}
+
+/// After an element of a program.
+fn after_element<S: WorldStore>(
+    config: &mut Config<S>,
+    frame: Frame,
+    completion: Completion,
+) -> Result<(), OutOfMemory>
+    requires running { config.old.state ≡ State.Running }
+    requires base { Base S.meaning config.old }
+    requires there { IsThere S.meaning config.old frame }
+    requires form { frame.form ≡ Form.Body }
+    requires callee { is_function (callee_held frame.held).0 ≡ false }
+    requires completion { HasCompletion config.old completion }
+    ensures { let t = config.new.heap.texts in OnOk result (Follows S.meaning (then_normal (line.program_from (drop frame.place (elements_of (node_in t (node_now S.meaning config.old frame)))) (env_in S.meaning config.old t frame)) (completion_in t completion)) config.old config.new) }
+{
+    match completion {
+        Completion::Normal => {
+            let place = frame.place;
+            run_program(config, frame, place)
+        }
+        _ => finish(config, &frame, completion),
+    }
+}
+
+/// After the program before it the body is entered, unless that one threw.
+fn next_program<S: WorldStore>(
+    config: &mut Config<S>,
+    frame: Frame,
+    completion: Completion,
+) -> Result<(), OutOfMemory>
+    requires running { config.old.state ≡ State.Running }
+    requires base { Base S.meaning config.old }
+    requires there { IsThere S.meaning config.old frame }
+    requires form { frame.form ≡ Form.Body }
+    requires callee { is_function (callee_held frame.held).0 ≡ false }
+    requires completion { HasCompletion config.old completion }
+    ensures { let t = config.new.heap.texts in OnOk result (Follows S.meaning (waits.next_program (env_in S.meaning config.old t frame) (completion_in t completion)) config.old config.new) }
+{
+    match completion {
+        Completion::Throws(_) => finish(config, &frame, completion),
+        _ => enter_program(config, frame),
+    }
+}
+
+/// The program's body is entered, in the place of the frame that was taken off.
+fn enter_program<S: WorldStore>(config: &mut Config<S>, frame: Frame) -> Result<(), OutOfMemory>
+    requires running { config.old.state ≡ State.Running }
+    requires base { Base S.meaning config.old }
+    requires there { IsThere S.meaning config.old frame }
+    requires form { frame.form ≡ Form.Body }
+    requires callee { is_function (callee_held frame.held).0 ≡ false }
+    ensures { let t = config.new.heap.texts in OnOk result (Follows S.meaning (Eval AtProgram (env_in S.meaning config.old t frame) Ret) config.old config.new) }
+{
+    due_later(config, frame, 0)
+}
+
+/// The elements of a program from one on.
+fn run_program<S: WorldStore>(
+    config: &mut Config<S>,
+    frame: Frame,
+    from: u32,
+) -> Result<(), OutOfMemory>
+    requires running { config.old.state ≡ State.Running }
+    requires base { Base S.meaning config.old }
+    requires there { IsThere S.meaning config.old frame }
+    requires form { frame.form ≡ Form.Body }
+    requires callee { is_function (callee_held frame.held).0 ≡ false }
+    ensures { let t = config.new.heap.texts in let env = env_in S.meaning config.old t frame in OnOk result (Follows S.meaning (line.program_from (drop from (elements_of (node_in t (node_now S.meaning config.old frame)))) env) config.old config.new) }
+{
+    match element_at(config, &frame, from) {
+        None => finish(config, &frame, Completion::Normal),
+        Some(element) => enter_element(config, frame, from, element),
+    }
+}
+
+/// An element of a program is entered, and the frame waits at the place of the next.
+fn enter_element<S: WorldStore>(
+    config: &mut Config<S>,
+    frame: Frame,
+    from: u32,
+    element: NodeId,
+) -> Result<(), OutOfMemory>
+    requires running { config.old.state ≡ State.Running }
+    requires base { Base S.meaning config.old }
+    requires there { IsThere S.meaning config.old frame }
+    requires form { frame.form ≡ Form.Body }
+    requires callee { is_function (callee_held frame.held).0 ≡ false }
+    requires element { (t : Table) → Begins (elements_of (node_in t (node_now S.meaning config.old frame))) from (Some element) }
+    ensures { let t = config.new.heap.texts in let env = env_in S.meaning config.old t frame in OnOk result (Follows S.meaning (line.program_from (drop from (elements_of (node_in t (node_now S.meaning config.old frame)))) env) config.old config.new) }
+{
+    let next = place_after(from, 1)?;
+    enter(config, frame, next, Part::Stmt(element))
+}
