@@ -1,5 +1,5 @@
 //! Programs (ECMA-262, 3rd edition, section 14).
-ghost use Rattle.std.specs.Prelude.{◌≡◌, ◌+◌, ◌↔◌, [], OnOk, IfOk, IsTrue};
+ghost use Rattle.std.specs.Prelude.{◌≡◌, ◌+◌, ◌↔◌, [], length, OnOk, IfOk, IfSome, IsTrue};
 ghost use Rattle.wjs_tree.specs.Ends.{HasKey};
 ghost use Rattle.wjs_tree.specs.Shows.{Keeps};
 ghost use Rattle.wjs_tree.specs.declared.keys.Key.TheVariants as keys;
@@ -15,9 +15,11 @@ use wjs_parse_expr::{Functions, ParseFault, has_key, has_sign};
 use wjs_tree::{Key, Node, NodeId, Nodes, Program, Sign, Tok};
 
 /// The program that the tokens spell: its tree is well formed, and no other well-formed tree spells them; trees are compared
-/// by their forms and parts. No node stands at two places of it. NotAScript exactly where no well-formed tree spells them.
+/// by their forms and parts. No node stands at two places of it, and its body is the last of them. NotAScript exactly where no
+/// well-formed tree spells them.
 pub fn program(alloc: Global, toks: &[Tok]) -> Result<Program, ParseFault>
-    ensures { ProgramAnswers toks.now result }
+    ensures answer { ProgramAnswers toks.now result }
+    ensures last { IfOk result (λ p. length p.nodes ≡ p.body.0 + 1) }
 {
     let mut nodes = Nodes::new(alloc);
     match body(alloc, toks, &mut nodes) {
@@ -27,10 +29,11 @@ pub fn program(alloc: Global, toks: &[Tok]) -> Result<Program, ParseFault>
     }
 }
 
-/// The node of the program that all the tokens spell.
+/// The node of the program that all the tokens spell, which is the last.
 fn body(alloc: Global, toks: &[Tok], nodes: &mut Nodes) -> Result<Option<NodeId>, OutOfMemory>
     requires { nodes.old ≡ [] }
-    ensures { WholeAnswers toks.now nodes.new result }
+    ensures answer { WholeAnswers toks.now nodes.new result }
+    ensures last { IfOk result (λ found. IfSome found (λ node. length nodes.new ≡ node.0 + 1)) }
 {
     let functions = functions(alloc, toks, nodes)?;
     let Some(found) = elements(alloc, toks, 0, 200, &functions, nodes)? else {

@@ -1,4 +1,5 @@
 //! A script and its names.
+ghost use Rattle.std.specs.Prelude.{◌≡◌, ◌+◌, length, IfOk};
 ghost use Rattle.wjs_script.specs.Answers.{ScriptAnswers};
 
 use std::alloc::Global;
@@ -15,10 +16,11 @@ pub struct Script {
     pub places: Places,
 }
 
-/// The script that the tokens spell, whose names are those of the table of texts. NotAScript comes exactly where no well-formed
-/// program spells them (ECMA-262, 3rd edition, section 14).
+/// The script that the tokens spell, whose names are those of the table of texts. Its body is the last of its nodes. NotAScript
+/// comes exactly where no well-formed program spells them (ECMA-262, 3rd edition, section 14).
 pub fn read(alloc: Global, texts: &Texts, toks: &[Tok]) -> Result<Script, ParseFault>
-    ensures { ScriptAnswers texts.now toks.now result }
+    ensures answer { ScriptAnswers texts.now toks.now result }
+    ensures last { IfOk result (λ s. length s.program.nodes ≡ s.program.body.0 + 1) }
 {
     let program = program(alloc, toks)?;
     match places(alloc, texts, &program) {

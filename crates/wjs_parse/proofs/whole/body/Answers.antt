@@ -4,11 +4,11 @@ use Rattle.wjs_parse.proofs.Functions.{elements_there, jumps_of}
 use Rattle.wjs_parse.proofs.Programs.{program_none, program_longer, program_astray, program_found}
 use Rattle.wjs_parse.proofs.whole.body.Goals as goal
 
-pub returns-in_default : goal.returns-in_default
-returns-in_default c = program_none c.args.toks.now (rw c.in_default.is at c.in_ok-found.ensures.answer)
+pub returns-in_default-clause-answer : goal.returns-in_default-clause-answer
+returns-in_default-clause-answer c = program_none c.args.toks.now (rw c.in_default.is at c.in_ok-found.ensures.answer)
 
-pub returns-then-found-toks : goal.returns-then-found-toks
-returns-then-found-toks c =
+pub returns-then-found-toks-clause-answer : goal.returns-then-found-toks-clause-answer
+returns-then-found-toks-clause-answer c =
     let f = rw c.in-Some.is at c.in_ok-found.ensures.answer in
     program_longer c.args.toks.now c.elements.new.nodes c.in-Some.found f c.if-found-toks.true
 
@@ -17,14 +17,14 @@ jumps_are_right-requires c =
     let f = rw c.in-Some.is at c.in_ok-found.ensures.answer in
     elements_there c.args.toks.now 200 0 c.elements.new.nodes c.in-Some.found _ f (omega arith) c.as_slice.ensures
 
-pub returns-then-not-jumps_are_right : goal.returns-then-not-jumps_are_right
-returns-then-not-jumps_are_right c =
+pub returns-then-not-jumps_are_right-clause-answer : goal.returns-then-not-jumps_are_right-clause-answer
+returns-then-not-jumps_are_right-clause-answer c =
     let f = rw c.in-Some.is at c.in_ok-found.ensures.answer in
     let j = jumps_of c.args.toks.now 200 0 c.elements.new.nodes c.in-Some.found _ false c.jumps_are_right.result f c.as_slice.ensures c.jumps_are_right.ensures in
     program_astray c.args.toks.now c.elements.new.nodes c.in-Some.found f (λ h. absurd (let a = j.1 h in let b = c.if-not-jumps_are_right.true in cc))
 
-pub returns : goal.returns
-returns c =
+pub returns-clause-answer : goal.returns-clause-answer
+returns-clause-answer c =
     let f = rw c.in-Some.is at c.in_ok-found.ensures.answer in
     let o = rw c.in-Some.is at c.in_ok-found.ensures.own in
     let j = jumps_of c.args.toks.now 200 0 c.elements.new.nodes c.in-Some.found _ false c.jumps_are_right.result f c.as_slice.ensures c.jumps_are_right.ensures in

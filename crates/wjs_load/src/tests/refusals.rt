@@ -1,6 +1,6 @@
 //! Bytes that are no script, and why.
 
-use crate::bytes::{ReadFault, Refusal, read_bytes};
+use crate::{LoadFault, Refusal, load};
 use std::alloc::Global;
 use std::test::Fail;
 use wjs_base::Texts;
@@ -8,13 +8,13 @@ use wjs_base::Texts;
 /// Why the bytes are refused, if they are.
 fn refusal(alloc: Global, bytes: &[u8]) -> Result<Option<Refusal>, Fail> {
     if bytes.len() > 16_777_216 {
-        return Ok(None);
+        return Err("too long")?;
     }
     let mut texts = Texts::new(alloc)?;
-    match read_bytes(alloc, bytes, &mut texts) {
+    match load(alloc, bytes, &mut texts) {
         Ok(_) => Ok(None),
-        Err(ReadFault::Refused(refusal)) => Ok(Some(refusal)),
-        Err(ReadFault::OutOfMemory) => Err("out of memory")?,
+        Err(LoadFault::Refused(refusal)) => Ok(Some(refusal)),
+        Err(LoadFault::OutOfMemory) => Err("out of memory")?,
     }
 }
 

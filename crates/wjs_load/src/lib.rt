@@ -1,0 +1,12 @@
+//! Scripts that are loaded: bytes as units of a run.
+#![tactic(auto)]
+
+mod known;
+mod tokens;
+mod units;
+
+pub use tokens::{LoadFault, Refusal};
+pub use units::{library, load};
+
+#[cfg(test)]
+mod tests;
