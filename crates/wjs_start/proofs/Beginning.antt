@@ -10,7 +10,7 @@ use Rattle.wjs_base.specs.Text.{Table, Grows}
 use Rattle.wjs_base.proofs.TextLaws.{Grows-refl, Grows-trans}
 use Rattle.wjs_store.specs.State.{State, write, after, after_write, find_world, has_world}
 use Rattle.wjs_store.specs.Meaning.{Meaning, View, worlds}
-use Rattle.wjs_store.specs.Fixed.{fresh}
+use Rattle.wjs_store.specs.Fixed.{fixed, fresh}
 use Rattle.wjs_store.specs.Naming.{plain}
 use Rattle.wjs_arena.specs.Entries.{Objects, Entry, has, next_number, world_of}
 use Rattle.wjs_rename.specs.Rename.{renamed}
@@ -104,6 +104,10 @@ fresh_known t = (record { copy = λ s v e. absurd (none_there s v e); first = λ
 pub fresh_first : IsTrue (has_world fresh first_world)
 unfolding find_world
 fresh_first = refl
+
+-- a store that has nothing beside the first world is new
+pub fixed_new : (m : Meaning) → m ≡ fixed fresh false → IsNew m
+fixed_new m e = subst IsNew (sym e) (record { own = refl; each_view = λ v ok. refl })
 
 -- ---- all together
 
