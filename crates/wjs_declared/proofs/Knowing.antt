@@ -26,7 +26,7 @@ module _ (t : Table) where
   formals_known (form.FunctionDecl name formals elements) h = h.1
   formals_known n h = All-nil (Has t)
 
-  node_known : (ns : List Node) (k : ℕ) → All (KnowsNode t) ns → KnowsNode t (node_at ns k)
+  pub node_known : (ns : List Node) (k : ℕ) → All (KnowsNode t) ns → KnowsNode t (node_at ns k)
   node_known [] k h = tt
   node_known (n ∷ more) zero h = All-head (KnowsNode t) n more h
   node_known (n ∷ more) (suc k) h = node_known more k (All-tail (KnowsNode t) n more h)
