@@ -1,0 +1,7 @@
+pub mod Groups
+pub mod Showing
+pub mod Looking
+pub mod Listing
+pub mod Applying
+pub mod Telling
+pub mod Running

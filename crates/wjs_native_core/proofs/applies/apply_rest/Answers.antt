@@ -1,0 +1,20 @@
+use Rattle.std.proofs.Common.{◌≡◌, ◌<◌, sym, ap, ◌∙◌, subst, arith, rules}
+use Rattle.wjs_content.specs.Tables.{value_in}
+use Rattle.wjs_model.specs.Contents.{elements_held}
+use Rattle.wjs_moves.specs.Parts.{env_in, node_now}
+use Rattle.wjs_lines.proofs.Following.{follows_as}
+use Rattle.wjs_meaning.specs.Reading.{node_in}
+use Rattle.wjs_native_core.proofs.Applying.{apply_due}
+use Rattle.wjs_native_core.proofs.applies.apply_rest.Goals as goal
+
+pub returns-then-read-count : goal.returns-then-read-count
+returns-then-read-count g c =
+    let m = g.S.WorldStore.meaning in
+    let old = c.args.config.now in
+    let new = c.due_later.new.config in
+    let t = new.heap.texts in
+    let f = c.args.frame in
+    let less : c.args.read < (elements_held f.held).1 = search rules in
+    follows_as m _ _ old new c.due_later.result
+    (λ grows. apply_due t f.held (node_in t (node_now m old f)) f.form f.node.0 c.args.function c.args.this c.args.read (env_in m old t f) c.requires.form c.requires.callee c.requires.read less)
+    c.due_later.ensures

@@ -1,0 +1,29 @@
+use Rattle.std.proofs.Common.{◌≡◌, ℕ, Option, Some, sym, subst}
+use Rattle.std.specs.Prelude.{OnOk}
+use Rattle.wjs_content.specs.Names.{slot, length_name}
+use Rattle.wjs_content.specs.Values.{Value, whole}
+use Rattle.wjs_meaning.specs.Deeds.{Act, Do, Write}
+use Rattle.wjs_meaning.specs.NativesOfObjects as line
+use Rattle.wjs_moves.specs.Following.{Follows}
+use Rattle.wjs_moves.specs.Parts.{env_in}
+use Rattle.wjs_deeds.proofs.Making.{number_there}
+use Rattle.wjs_native_core.proofs.arrays.array_of_length.Goals as goal
+
+pub write_known-requires-clause-value : goal.write_known-requires-clause-value
+write_known-requires-clause-value g c = let heap = c.create_array.new.config.heap in number_there heap.texts heap.texts heap.arena c.in_ok-value.value c.in-Some.length (c.in_ok-value.ensures heap.texts)
+
+pub returns : goal.returns
+returns g c =
+    let m = g.S.WorldStore.meaning in
+    let old = c.args.config.now in
+    let mid = c.create_array.new.config in
+    let new = c.give.new.config in
+    let t = new.heap.texts in
+    let r = c.give.result in
+    let o = c.in_ok-array.array in
+    let w = c.args.frame.now.world in
+    let n = c.in-Some.length in
+    let written = c.in_ok-write_known.ensures.does.by (λ x. line.give_object o) new r c.give.ensures in
+    let sized = subst (λ (v : Value). OnOk r (Follows m (Do (Write w (slot o length_name) (Some v)) (λ x. line.give_object o)) mid new)) (c.in_ok-value.ensures t) written in
+    subst (λ (x : Option ℕ). OnOk r (Follows m (line.array_of_length x (env_in m old t c.args.frame.now)) old new)) (sym c.in-Some.ensures)
+    (c.in_ok-array.ensures.does.by (λ q. Do (Write w (slot q length_name) (Some (whole n))) (λ x. line.give_object q)) new r sized)

@@ -1,0 +1,6 @@
+use Rattle.wjs_content.specs.Values.{Boolean}
+use Rattle.wjs_meaning.specs.Deeds.{give}
+use Rattle.wjs_native_core.proofs.arrays.give_is_array.Goals as goal
+
+pub returns-in-Object : goal.returns-in-Object
+returns-in-Object g c = rw c.in-Object.is (c.is_array-answer.ensures.does.by (λ b. give (Boolean b)) c.give.new.config c.give.result c.give.ensures)

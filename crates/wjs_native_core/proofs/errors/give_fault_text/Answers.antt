@@ -1,0 +1,32 @@
+use Rattle.std.proofs.Common.{◌≡◌, sym, ap, ◌∙◌, subst}
+use Rattle.std.specs.Prelude.{OnOk, Option}
+use Rattle.wjs_content.specs.Names.{message_name}
+use Rattle.wjs_content.specs.Tables.{content_in}
+use Rattle.wjs_content.specs.Values.{Value}
+use Rattle.wjs_meaning.specs.Deeds.{Act}
+use Rattle.wjs_meaning.specs.Errors.{give_text}
+use Rattle.wjs_meaning.specs.Properties.{get}
+use Rattle.wjs_meaning.specs.NativesOfObjects.{fault_text}
+use Rattle.wjs_moves.specs.Parts.{env_in}
+use Rattle.wjs_lines.proofs.Following.{follows_as, env_later}
+use Rattle.wjs_native_core.proofs.errors.give_fault_text.Goals as goal
+
+pub returns : goal.returns
+returns g c =
+    let m = g.S.WorldStore.meaning in
+    let old = c.args.config.now in
+    let mid = c.get_named.new.config in
+    let last = c.get_named-2.new.config in
+    let new = c.give_text.new.config in
+    let t = new.heap.texts in
+    let r = c.give_text.result in
+    let f = c.args.frame.now in
+    let env = env_in m old t f in
+    let o = c.args.object in
+    let one = env_later m old mid t f c.in_ok-name.ensures.later in
+    let two = env_later m mid last t f c.in_ok-message.ensures.later in
+    let go = λ (a b : Option Value). give_text (fault_text a b) env in
+    c.in_ok-name.ensures.does.by (λ a. get o message_name env (λ b. go a b)) new r
+    (follows_as m _ _ mid new r (λ grows. ap (λ e. get o message_name e (λ b. go (content_in t c.in_ok-name.name) b)) one)
+    (c.in_ok-message.ensures.does.by (λ b. go (content_in t c.in_ok-name.name) b) new r
+    (follows_as m _ _ last new r (λ grows. ap (λ e. give_text c.as_slice.result.now e) (two ∙ one) ∙ ap (λ u. give_text u env) (c.as_slice.ensures.value ∙ sym (c.in_ok-units.ensures t grows))) c.give_text.ensures)))

@@ -1,0 +1,39 @@
+use Rattle.std.proofs.Common.{◌≡◌, sym, ap, ◌∙◌, subst}
+use Rattle.std.specs.Prelude.{OnOk}
+use Rattle.wjs_arena.specs.declared.class.Class.{Class}
+use Rattle.wjs_content.specs.Objects.{Arena, object_at}
+use Rattle.wjs_content.specs.Values.{Text}
+use Rattle.wjs_meaning.specs.Deeds.{Act}
+use Rattle.wjs_meaning.specs.Errors.{give_text}
+use Rattle.wjs_meaning.specs.NativesOfObjects as line
+use Rattle.wjs_moves.specs.Following.{Follows}
+use Rattle.wjs_moves.specs.Parts.{env_in}
+use Rattle.wjs_moves.proofs.Shorter.{follows_look}
+use Rattle.wjs_lines.proofs.Following.{follows_as}
+use Rattle.wjs_native_core.proofs.Looking.{other_text}
+use Rattle.wjs_native_core.proofs.errors.give_object_text.Goals as goal
+
+pub returns-in-Fault : goal.returns-in-Fault
+returns-in-Fault g c =
+    let m = g.S.WorldStore.meaning in
+    let old = c.args.config.now in
+    let new = c.give_fault_text.new.config in
+    let t = new.heap.texts in
+    let r = c.give_fault_text.result in
+    let env = env_in m old t c.args.frame.now in
+    let by = λ (k : Class). line.object_text k c.args.object env (λ u. give_text u env) in
+    follows_look m (λ (arena : Arena). by (object_at arena c.args.object).class) old new r
+    (subst (λ (k : Class). OnOk r (Follows m (by k) old new)) (sym (c.in-Fault.ensures.is t)) c.give_fault_text.ensures)
+
+pub returns-in_default : goal.returns-in_default
+returns-in_default g c =
+    let m = g.S.WorldStore.meaning in
+    let old = c.args.config.now in
+    let new = c.give_text.new.config in
+    let t = new.heap.texts in
+    let r = c.give_text.result in
+    let env = env_in m old t c.args.frame.now in
+    let go : Text → Act = λ u. give_text u env in
+    let by = λ (k : Class). line.object_text k c.args.object env go in
+    follows_look m (λ (arena : Arena). by (object_at arena c.args.object).class) old new r
+    (follows_as m _ _ old new r (λ grows. ap go c.class_name.ensures ∙ other_text c.class_of.result c.args.object env go c.in_default.not-Fault ∙ ap by (sym (c.class_of.ensures.is t))) c.give_text.ensures)

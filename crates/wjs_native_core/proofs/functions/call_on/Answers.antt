@@ -1,0 +1,27 @@
+use Rattle.std.proofs.Common.{◌≡◌, List, [], sym, ap, subst}
+use Rattle.std.specs.Prelude.{OnOk, map}
+use Rattle.wjs_base.specs.declared.values.Value.{Value}
+use Rattle.wjs_content.specs.Tables.{value_in}
+use Rattle.wjs_meaning.specs.NativesOfObjects as line
+use Rattle.wjs_moves.specs.Following.{Follows}
+use Rattle.wjs_moves.specs.Parts.{env_in}
+use Rattle.wjs_native_core.proofs.Listing.{none_of}
+use Rattle.wjs_native_core.proofs.functions.call_on.Goals as goal
+
+pub returns-in-None : goal.returns-in-None
+returns-in-None g c =
+    let m = g.S.WorldStore.meaning in
+    let old = c.args.config.now in
+    let new = c.call_with.new.config in
+    let t = new.heap.texts in
+    let r = c.call_with.result in
+    subst (λ (vs : List Value). OnOk r (Follows m (line.function_call (value_in t c.args.this) (map (value_in t) vs) (env_in m old t c.args.frame)) old new)) (sym (none_of c.args.args.now c.in-None.ensures.cases)) c.call_with.ensures
+
+pub returns-in-Some : goal.returns-in-Some
+returns-in-Some g c =
+    let m = g.S.WorldStore.meaning in
+    let old = c.args.config.now in
+    let new = c.call_with-in-Some.new.config in
+    let t = new.heap.texts in
+    let r = c.call_with-in-Some.result in
+    subst (λ (vs : List Value). OnOk r (Follows m (line.function_call (value_in t c.args.this) (map (value_in t) vs) (env_in m old t c.args.frame)) old new)) (sym c.in-Some.ensures.cases.0) c.call_with-in-Some.ensures

@@ -1,0 +1,30 @@
+use Rattle.std.proofs.Common.{◌≡◌, ◌-◌, ◌≤◌, sym, ap, subst, rules}
+use Rattle.wjs_base.specs.Text.{Table}
+use Rattle.wjs_meaning.specs.Deeds.{Act, then_value}
+use Rattle.wjs_meaning.specs.Natives.{native_of}
+use Rattle.wjs_meaning.specs.Reading.{node_in}
+use Rattle.wjs_model.specs.declared.frame.Form.{Form}
+use Rattle.wjs_model.specs.Contents.{holding_in, completion_in}
+use Rattle.wjs_model.specs.Waiting.{after, after_argument}
+use Rattle.wjs_moves.specs.Parts.{env_in, node_now}
+use Rattle.wjs_lines.proofs.Following.{follows_as}
+use Rattle.wjs_natives.specs.declared.conversions.Progress.{Progress}
+use Rattle.wjs_natives.specs.Converting.{Progresses}
+use Rattle.wjs_native_core.proofs.Running.{runs_on, begins_first}
+use Rattle.wjs_native_core.proofs.step.begin_at.Goals as goal
+
+pub returns-in-Runs : goal.returns-in-Runs
+returns-in-Runs g c =
+    let m = g.S.WorldStore.meaning in
+    let old = c.args.config.now in
+    let mid = c.begin.new.config in
+    let new = c.run.new.config in
+    let t = new.heap.texts in
+    let r = c.run.result in
+    let f = c.args.frame in
+    let k = c.args.native in
+    let none : f.place ≤ 0 = search rules in
+    let deeds : Table → Act = λ x. native_of k (holding_in x f.held).by_new (holding_in x f.held).values (env_in m old x f) in
+    let ready = subst (λ (p : Progress). Progresses m k f deeds p old mid) c.in-Runs.is c.in_ok-begin.ensures in
+    follows_as m _ _ old new r (λ grows. begins_first k f.place (holding_in t f.held) (env_in m old t f) none)
+    (runs_on m k f c.in-Runs.frame deeds c.in-Runs.values.items c.deref.result.now old mid new r ready.0 ready.1 c.deref.ensures.value c.run.ensures)

@@ -1,0 +1,201 @@
+//! `apply`: the elements of a list are read, one step each, and then the call is made (ECMA-262, 3rd edition, section 15.3.4.3).
+ghost use Rattle.std.specs.Prelude.{◌≡◌, ◌-◌, ◌<◌, IfOk, OnOk, All, map, length};
+ghost use Rattle.wjs_base.specs.Text.{Table, Grows};
+ghost use Rattle.wjs_content.specs.Names.{index_name};
+ghost use Rattle.wjs_content.specs.Tables.{value_in};
+ghost use Rattle.wjs_meaning.specs.NativesOfObjects as line;
+ghost use Rattle.wjs_meaning.specs.Properties as properties;
+ghost use Rattle.wjs_model.specs.Contents.{holding_in, values_held, callee_held, elements_held};
+ghost use Rattle.wjs_model.specs.Rest.{begin_native};
+ghost use Rattle.wjs_model.specs.Soundness.{Base, IsThere, HasObject, HasValue};
+ghost use Rattle.wjs_moves.specs.Doing.{Does};
+ghost use Rattle.wjs_moves.specs.Parts.{env_in};
+ghost use Rattle.wjs_moves.specs.Following.{Follows, Later};
+ghost use Rattle.wjs_native_core.specs.Owning.{apply_elements};
+
+use crate::items::elements_for;
+use wjs_arena::{Class, Native};
+use wjs_base::{Name, ObjId, OutOfMemory, Value};
+use wjs_calls::call;
+use wjs_deeds::{Known, class_of, function_of, get_known, get_value};
+use wjs_lines::{held_callee, throw, to_number};
+use wjs_model::{Completion, Config, Form, Frame, Held, State, Trouble};
+use wjs_moves::{due_later, finish};
+use wjs_natives::value_at;
+use wjs_num::to_uint32;
+use wjs_store::WorldStore;
+
+/// The greatest array index (section 15.4).
+const GREATEST_INDEX: usize = 4_294_967_294;
+
+/// Calls the receiver on a list of arguments.
+pub(crate) fn apply<S: WorldStore>(
+    config: &mut Config<S>,
+    frame: Frame,
+    this: Value,
+    args: &[Value],
+) -> Result<(), OutOfMemory>
+    requires running { config.old.state ≡ State.Running }
+    requires base { Base S.meaning config.old }
+    requires there { IsThere S.meaning config.old frame }
+    requires form { frame.form ≡ Form.Native Native.Apply }
+    requires this { HasValue config.old this }
+    requires args { All (HasValue config.old) args.now }
+    ensures { let t = config.new.heap.texts in OnOk result (Follows S.meaning (line.function_apply (value_in t this) (map (value_in t) args.now) (env_in S.meaning config.old t frame)) config.old config.new) }
+{
+    match function_of(config, this) {
+        Some(function) => {
+            apply_to(
+                config,
+                frame,
+                function,
+                value_at(args, 0),
+                value_at(args, 1),
+            )
+        }
+        None => throw(config, &frame, Trouble::NotAFunction),
+    }
+}
+
+/// The list of the arguments: none for undefined and null, and else an Array or an `arguments` object.
+fn apply_to<S: WorldStore>(
+    config: &mut Config<S>,
+    mut frame: Frame,
+    function: ObjId,
+    this: Value,
+    list: Value,
+) -> Result<(), OutOfMemory>
+    requires running { config.old.state ≡ State.Running }
+    requires base { Base S.meaning config.old }
+    requires there { IsThere S.meaning config.old frame }
+    requires form { frame.form ≡ Form.Native Native.Apply }
+    requires function { HasObject config.old function }
+    requires this { HasValue config.old this }
+    requires list { HasValue config.old list }
+    ensures { let t = config.new.heap.texts in OnOk result (Follows S.meaning (line.apply_list function (value_in t this) (value_in t list) (env_in S.meaning config.old t frame)) config.old config.new) }
+{
+    match list {
+        Value::Undefined | Value::Null => {
+            frame.held = config.frames.nothing_held();
+            call(config, frame, function, this)
+        }
+        Value::Object(object) => apply_elements(config, frame, function, this, object),
+        Value::Bool(_) | Value::Number(_) | Value::Text(_) => {
+            throw(config, &frame, Trouble::NotAnObject)
+        }
+    }
+}
+
+/// Begins with the elements of an object.
+fn apply_elements<S: WorldStore>(
+    config: &mut Config<S>,
+    mut frame: Frame,
+    function: ObjId,
+    this: Value,
+    object: ObjId,
+) -> Result<(), OutOfMemory>
+    requires running { config.old.state ≡ State.Running }
+    requires base { Base S.meaning config.old }
+    requires there { IsThere S.meaning config.old frame }
+    requires form { frame.form ≡ Form.Native Native.Apply }
+    requires function { HasObject config.old function }
+    requires this { HasValue config.old this }
+    requires object { HasObject config.old object }
+    ensures { let t = config.new.heap.texts in OnOk result (Follows S.meaning (apply_elements function (value_in t this) object (env_in S.meaning config.old t frame)) config.old config.new) }
+{
+    if !is_list_class(class_of(config, object)) {
+        return throw(config, &frame, Trouble::NotAnObject);
+    }
+    let length = get_known(config, &frame, object, Known::Length)?;
+    let count = apply_length(config, length);
+    frame.held = elements_for(config, object, count, function, this)?;
+    apply_rest(config, frame, function, this, 0)
+}
+
+/// Whether it is the class of what `apply` takes as a list.
+fn is_list_class(class: Class) -> bool
+    ensures { line.is_list_class class ≡ result }
+{
+    matches!(class, Class::Array | Class::Arguments)
+}
+
+/// How many elements a `length` tells of; none where it is an object.
+fn apply_length<S: WorldStore>(config: &Config<S>, length: Value) -> u32
+    requires base { Base S.meaning config.now }
+    requires value { HasValue config.now length }
+    ensures { (t : Table) → Grows config.now.heap.texts t → line.apply_length (value_in t length) ≡ result }
+{
+    match length {
+        Value::Object(_) => 0,
+        _ => to_uint32(to_number(config, length)),
+    }
+}
+
+/// The call, where all elements are read; else a further step is due, in which the next one is read.
+fn apply_rest<S: WorldStore>(
+    config: &mut Config<S>,
+    frame: Frame,
+    function: ObjId,
+    this: Value,
+    read: usize,
+) -> Result<(), OutOfMemory>
+    requires running { config.old.state ≡ State.Running }
+    requires base { Base S.meaning config.old }
+    requires there { IsThere S.meaning config.old frame }
+    requires form { frame.form ≡ Form.Native Native.Apply }
+    requires function { HasObject config.old function }
+    requires this { HasValue config.old this }
+    requires callee { callee_held frame.held ≡ (Value.Object function, this) }
+    requires read { read ≡ length (values_held frame.held) }
+    ensures { let t = config.new.heap.texts in OnOk result (Follows S.meaning (let elements = elements_held frame.held in line.apply_from (elements.1 - read) read (holding_in t frame.held).values elements.0 function (value_in t this) (env_in S.meaning config.old t frame)) config.old config.new) }
+{
+    let (_, count) = frame.held.elements();
+    if read < count as usize {
+        due_later(config, frame, 1)
+    } else {
+        call(config, frame, function, this)
+    }
+}
+
+/// Reads the element whose index is the number of those that are held.
+pub(crate) fn apply_on<S: WorldStore>(
+    config: &mut Config<S>,
+    mut frame: Frame,
+) -> Result<(), OutOfMemory>
+    requires running { config.old.state ≡ State.Running }
+    requires base { Base S.meaning config.old }
+    requires there { IsThere S.meaning config.old frame }
+    requires form { frame.form ≡ Form.Native Native.Apply }
+    requires place { 0 < frame.place }
+    ensures { let t = config.new.heap.texts in OnOk result (Follows S.meaning (begin_native Native.Apply frame.place (holding_in t frame.held) (env_in S.meaning config.old t frame)) config.old config.new) }
+{
+    let (callee, this) = held_callee(config, &frame);
+    let Value::Object(function) = callee else {
+        return finish(config, &frame, Completion::Normal);
+    };
+    let read = frame.held.values(config.heap.arena.allocator())?.len();
+    let (object, _) = frame.held.elements();
+    let value = read_element(config, &frame, object, read)?;
+    frame.held.push(Held::Value(value))?;
+    apply_rest(config, frame, function, this, read + 1)
+}
+
+/// What [[Get]] finds at an index. No list in memory is so long that it has a greater one than there are.
+fn read_element<S: WorldStore>(
+    config: &mut Config<S>,
+    frame: &Frame,
+    object: ObjId,
+    index: usize,
+) -> Result<Value, OutOfMemory>
+    requires base { Base S.meaning config.old }
+    requires there { IsThere S.meaning config.old frame.now }
+    requires object { HasObject config.old object }
+    ensures does { IfOk result (λ value. Does S.meaning (λ t. properties.get_value object (index_name index) (env_in S.meaning config.old t frame.now)) (λ t. value_in t value) config.old config.new) }
+    ensures later { OnOk result (Later S.meaning config.old config.new) }
+    ensures found { IfOk result (λ value. HasValue config.new value) }
+{
+    if index > GREATEST_INDEX {
+        return Err(OutOfMemory);
+    }
+    get_value(config, frame, object, Name::Index(index as u32))
+}

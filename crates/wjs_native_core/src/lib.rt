@@ -1,0 +1,19 @@
+//! The step of the native functions of Object, Function, Error, World and Array (ECMA-262, 3rd edition, sections 15.2 to 15.4 and
+//! 15.11; ECOOP 2011, section 2).
+#![tactic(auto)]
+
+mod applies;
+mod arrays;
+mod classes;
+mod ends;
+mod errors;
+mod functions;
+mod items;
+mod names;
+mod objects;
+mod runs;
+mod sources;
+mod step;
+mod worlds;
+
+pub use step::step_core;

@@ -1,0 +1,115 @@
+//! The texts of functions (ECMA-262, 3rd edition, section 15.3.4.2).
+ghost use Rattle.std.specs.Prelude.{◌≡◌, ◌++◌, ◌∷◌, [], IfOk, OnOk, MatchOption, codes};
+ghost use Rattle.std.specs.Option.{option_map};
+ghost use Rattle.wjs_base.specs.Text.{Table, Grows};
+ghost use Rattle.wjs_content.specs.Tables.{text_in};
+ghost use Rattle.wjs_meaning.specs.NativesOfObjects as line;
+ghost use Rattle.wjs_meaning.specs.Reading.{node_in};
+ghost use Rattle.wjs_meaning.specs.Table.{row_of};
+ghost use Rattle.wjs_meaning.specs.Trees as trees;
+ghost use Rattle.wjs_model.specs.Soundness.{Base};
+ghost use Rattle.wjs_model.specs.Texts as known;
+ghost use Rattle.wjs_moves.specs.Parts.{env_in, node_among};
+
+use crate::names::native_name;
+use std::alloc::Global;
+use wjs_arena::Code;
+use wjs_base::{OutOfMemory, TextId};
+use wjs_deeds::units_of;
+use wjs_model::{Config, Frame};
+use wjs_store::WorldStore;
+use wjs_strings::function_text;
+use wjs_tree::{Node, NodeId};
+
+/// The name of a function that has none.
+const ANONYMOUS: [u16; 9] = [97, 110, 111, 110, 121, 109, 111, 117, 115];
+
+/// The text of a function by its code.
+pub(crate) fn source_of<S: WorldStore>(
+    config: &Config<S>,
+    frame: &Frame,
+    code: Code,
+) -> Result<Vec<u16>, OutOfMemory>
+    requires base { Base S.meaning config.now }
+    ensures { IfOk result (λ units. (t : Table) → Grows config.now.heap.texts t → codes "function " ++ line.code_name code (λ k. (row_of k).name) (env_in S.meaning config.now t frame.now) ++ codes "() { }" ≡ units.items) }
+{
+    let alloc = config.heap.arena.allocator();
+    match code {
+        Code::None => function_text(alloc, &[]),
+        Code::Script { tree, node } => function_text(alloc, script_name(config, frame, tree, node)),
+        Code::Native(native) => {
+            let name = units_of_ascii(alloc, native_name(native))?;
+            function_text(alloc, name.as_slice())
+        }
+    }
+}
+
+/// The name of the function of a node.
+fn script_name<'a, S: WorldStore>(
+    config: &'a Config<S>,
+    frame: &Frame,
+    tree: u32,
+    node: wjs_base::NodeId,
+) -> &'a [u16]
+    requires { Base S.meaning config.now }
+    ensures { (t : Table) → Grows config.now.heap.texts t → line.code_name (Code.Script tree node) (λ k. (row_of k).name) (env_in S.meaning config.now t frame.now) ≡ result.now }
+{
+    let _frame = frame;
+    match name_at(config, tree, NodeId(node.0)) {
+        Some(id) => units_of(config, id),
+        None => &ANONYMOUS,
+    }
+}
+
+/// A function's own name, by its node; none where there is no such node.
+fn name_at<S: WorldStore>(config: &Config<S>, tree: u32, node: NodeId) -> Option<TextId>
+    requires { Base S.meaning config.now }
+    ensures is { (t : Table) → trees.name_of (node_in t (node_among config.now.units.items tree node)) ≡ option_map (text_in t) result }
+    ensures found { known.HasText config.now.heap.texts result }
+{
+    match node_at(config, tree, node) {
+        Some(node) => name_in_node(node),
+        None => None,
+    }
+}
+
+fn node_at<'a, S: WorldStore>(config: &'a Config<S>, tree: u32, id: NodeId) -> Option<&'a Node>
+    ensures { MatchOption result (node_among config.now.units.items tree id ≡ Node.Empty) (λ node. node_among config.now.units.items tree id ≡ node.now) }
+{
+    match config.units.get(tree as usize) {
+        Some(unit) => unit.node(id),
+        None => None,
+    }
+}
+
+fn name_in_node(node: &Node) -> Option<TextId>
+    ensures is { (t : Table) → trees.name_of (node_in t node.now) ≡ option_map (text_in t) result }
+    ensures found { (t : Table) → known.KnowsNode t node.now → known.HasText t result }
+{
+    match node {
+        Node::Function(name, _, _) => *name,
+        Node::FunctionDecl(name, _, _) => Some(*name),
+        _ => None,
+    }
+}
+
+/// The code units of ASCII.
+fn units_of_ascii(alloc: Global, bytes: &[u8]) -> Result<Vec<u16>, OutOfMemory>
+    ensures { IfOk result (λ units. units.items ≡ bytes.now) }
+{
+    let mut units = Vec::new(alloc);
+    for byte in bytes {
+        push_ascii(&mut units, *byte)?;
+    }
+    Ok(units)
+}
+
+/// Puts the code unit of an ASCII character last.
+fn push_ascii(units: &mut Vec<u16>, byte: u8) -> Result<(), OutOfMemory>
+    ensures { OnOk result (units.new.items ≡ units.old.items ++ byte ∷ []) }
+{
+    match units.push(byte as u16) {
+        Ok(()) => Ok(()),
+        Err(_) => Err(OutOfMemory),
+    }
+}

@@ -1,0 +1,90 @@
+//! The native functions of World ("Worlds: Controlling the Scope of Side Effects", ECOOP 2011, section 2).
+ghost use Rattle.std.specs.Prelude.{◌≡◌, OnOk};
+ghost use Rattle.wjs_content.specs.Tables.{value_in};
+ghost use Rattle.wjs_meaning.specs.Deeds as deed;
+ghost use Rattle.wjs_meaning.specs.NativesOfObjects as line;
+ghost use Rattle.wjs_meaning.specs.WorldValues.{world_object_of};
+ghost use Rattle.wjs_model.specs.Soundness.{Base, IsThere, HasValue, HasWorld};
+ghost use Rattle.wjs_moves.specs.Parts.{env_in};
+ghost use Rattle.wjs_moves.specs.Following.{Follows};
+
+use wjs_base::{OutOfMemory, Value, WorldId};
+use wjs_deeds::{commit, create_world_object, sprout, world_of};
+use wjs_lines::{give, throw};
+use wjs_model::{Completion, Config, Frame, State, Trouble};
+use wjs_moves::finish;
+use wjs_store::{Verdict, WorldStore};
+
+/// `sprout` and `sproutStrict`: a child of the receiver's world, as a World object.
+pub(crate) fn give_child<S: WorldStore>(
+    config: &mut Config<S>,
+    frame: &Frame,
+    strict: bool,
+    this: Value,
+) -> Result<(), OutOfMemory>
+    requires running { config.old.state ≡ State.Running }
+    requires base { Base S.meaning config.old }
+    requires there { IsThere S.meaning config.old frame.now }
+    requires this { HasValue config.old this }
+    ensures { let t = config.new.heap.texts in OnOk result (Follows S.meaning (line.sprout strict (value_in t this) (env_in S.meaning config.old t frame.now)) config.old config.new) }
+{
+    match world_of(config, frame, this)? {
+        Ok(world) => sprout_of(config, frame, strict, world),
+        Err(error) => finish(config, frame, Completion::Throws(error)),
+    }
+}
+
+/// A child of a world.
+fn sprout_of<S: WorldStore>(
+    config: &mut Config<S>,
+    frame: &Frame,
+    strict: bool,
+    world: WorldId,
+) -> Result<(), OutOfMemory>
+    requires running { config.old.state ≡ State.Running }
+    requires base { Base S.meaning config.old }
+    requires there { IsThere S.meaning config.old frame.now }
+    requires world { HasWorld S.meaning config.old world }
+    ensures { let t = config.new.heap.texts in OnOk result (Follows S.meaning (deed.Do (deed.Sprout world (env_in S.meaning config.old t frame.now).owner strict) (λ child. deed.Do (deed.Create (env_in S.meaning config.old t frame.now).owner (world_object_of child)) line.give_object)) config.old config.new) }
+{
+    let child = sprout(config, world, strict)?;
+    let object = create_world_object(config, child)?;
+    give(config, frame, Value::Object(object))
+}
+
+/// `commit`: what the receiver's world has written moves to its parent, unless what it has read differs there.
+pub(crate) fn commit_to_parent<S: WorldStore>(
+    config: &mut Config<S>,
+    frame: &Frame,
+    this: Value,
+) -> Result<(), OutOfMemory>
+    requires running { config.old.state ≡ State.Running }
+    requires base { Base S.meaning config.old }
+    requires there { IsThere S.meaning config.old frame.now }
+    requires this { HasValue config.old this }
+    ensures { let t = config.new.heap.texts in OnOk result (Follows S.meaning (line.commit (value_in t this) (env_in S.meaning config.old t frame.now)) config.old config.new) }
+{
+    match world_of(config, frame, this)? {
+        Ok(world) => commit_world(config, frame, world),
+        Err(error) => finish(config, frame, Completion::Throws(error)),
+    }
+}
+
+/// Commits a world.
+fn commit_world<S: WorldStore>(
+    config: &mut Config<S>,
+    frame: &Frame,
+    world: WorldId,
+) -> Result<(), OutOfMemory>
+    requires running { config.old.state ≡ State.Running }
+    requires base { Base S.meaning config.old }
+    requires there { IsThere S.meaning config.old frame.now }
+    requires world { HasWorld S.meaning config.old world }
+    ensures { let t = config.new.heap.texts in OnOk result (Follows S.meaning (deed.Do (deed.Commit world) (line.commit_answer (env_in S.meaning config.old t frame.now))) config.old config.new) }
+{
+    match commit(config, world)? {
+        Verdict::Moved => give(config, frame, Value::Undefined),
+        Verdict::Disagrees(_) => throw(config, frame, Trouble::CommitFailed),
+        Verdict::NoParent => throw(config, frame, Trouble::NoParentWorld),
+    }
+}
