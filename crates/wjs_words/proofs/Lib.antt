@@ -1,0 +1,7 @@
+mod AlikeFaults
+mod AlikeWalks
+mod CommandFacts
+mod DefaultReads
+mod LineLemmas
+mod ReadLemmas
+mod SameCommand

@@ -1,0 +1,35 @@
+//! What the words ask for.
+ghost use Rattle.std.specs.Prelude.{◌≡◌};
+
+use crate::mode::Mode;
+use std::alloc::AllocError;
+
+/// What the words ask for.
+#[derive(Clone, Copy, Debug, PartialEq, Eq)]
+pub struct Options {
+    /// The most steps that the run may take, from 1 to 1,000,000,000,000.
+    pub steps: u64,
+    /// What to do.
+    pub mode: Mode,
+    /// The number that the generated script is made from, from 1 to 50,000.
+    pub number: u64,
+}
+
+/// Why the words give no options.
+#[derive(Debug, Drop)]
+pub enum WordsFault {
+    /// They are not the command's, or ask for its help. This is the line for standard error:
+    /// `usage: `, the first line of `clap`'s fault, and a line feed.
+    Usage(String),
+    OutOfMemory,
+}
+
+impl From<AllocError> for WordsFault {
+    ghost use Rattle.wjs_words.specs.declared.answer.WordsFault.TheVariants.{OutOfMemory};
+
+    ghost from_gives = { λ _ fault. fault ≡ OutOfMemory };
+
+    fn from(_error: AllocError) -> WordsFault {
+        WordsFault::OutOfMemory
+    }
+}

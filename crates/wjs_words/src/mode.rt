@@ -1,0 +1,34 @@
+//! What the program is asked to do.
+ghost use Rattle.std.specs.Prelude.{◌≡◌};
+ghost use Rattle.wjs_words.specs.Options.{mode_named};
+
+/// What the program is asked to do.
+#[derive(Clone, Copy, Debug, PartialEq, Eq)]
+pub enum Mode {
+    /// Run the script.
+    Run,
+    /// Read and parse the script, and run nothing.
+    Check,
+    /// Run the script, and then write a line for each world.
+    Tree,
+    /// Run a generated script in place of one that is read.
+    Gen,
+}
+
+/// The names of the modes.
+pub(crate) static MODES: [&str; 4] = ["run", "check", "tree", "gen"];
+
+impl Mode {
+    /// The mode of this name, where it is one's.
+    pub(crate) fn named(name: &str) -> Option<Mode>
+        ensures { result ≡ mode_named name.now }
+    {
+        match name {
+            "run" => Some(Mode::Run),
+            "check" => Some(Mode::Check),
+            "tree" => Some(Mode::Tree),
+            "gen" => Some(Mode::Gen),
+            _ => None,
+        }
+    }
+}
