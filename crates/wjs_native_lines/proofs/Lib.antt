@@ -1,0 +1,5 @@
+pub mod Receiving
+pub mod Lengths
+pub mod Joining
+pub mod Limits
+pub mod Interning

@@ -1,0 +1,76 @@
+//! The global functions (ECMA-262, 3rd edition, section 15.1.2).
+ghost use Rattle.std.specs.Prelude.{◌≡◌, OnOk, All, map, false};
+ghost use Rattle.wjs_content.specs.Tables.{value_in};
+ghost use Rattle.wjs_num.specs.Bits.{int32};
+ghost use Rattle.wjs_num.specs.Exact.{answer};
+ghost use Rattle.wjs_num.specs.Numerals.{integer_of_text};
+ghost use Rattle.wjs_meaning.specs.Natives.{native_line};
+ghost use Rattle.wjs_model.specs.Soundness.{Base, HasValue};
+ghost use Rattle.wjs_moves.specs.Parts.{env_in};
+ghost use Rattle.wjs_moves.specs.Following.{Follows};
+
+use wjs_arena::Native;
+use wjs_base::{OutOfMemory, Value, Whole};
+use wjs_deeds::emit;
+use wjs_lines::{give, give_result};
+use wjs_model::{Config, Frame, State};
+use wjs_natives::{text_at, whole_at};
+use wjs_num::{NumFault, to_int32};
+use wjs_store::WorldStore;
+use wjs_strings::line_of;
+
+/// Writes a text and the end of its line.
+pub fn print<S: WorldStore>(
+    config: &mut Config<S>,
+    frame: &Frame,
+    this: Value,
+    args: &[Value],
+) -> Result<(), OutOfMemory>
+    requires running { config.old.state ≡ State.Running }
+    requires base { Base S.meaning config.old }
+    requires args { All (HasValue config.old) args.now }
+    ensures { let t = config.new.heap.texts in OnOk result (Follows S.meaning (native_line Native.Print false (value_in t this) (map (value_in t) args.now) (env_in S.meaning config.old t frame.now)) config.old config.new) }
+{
+    let alloc = config.heap.arena.allocator();
+    let bytes = line_of(alloc, text_at(config, args, 0))?;
+    emit(config, bytes.as_slice())?;
+    give(config, frame, Value::Undefined)
+}
+
+/// The integer at the front of a text (section 15.1.2.2).
+pub fn parse_int<S: WorldStore>(
+    config: &mut Config<S>,
+    frame: &Frame,
+    this: Value,
+    args: &[Value],
+) -> Result<(), OutOfMemory>
+    requires running { config.old.state ≡ State.Running }
+    requires base { Base S.meaning config.old }
+    requires args { All (HasValue config.old) args.now }
+    ensures { let t = config.new.heap.texts in OnOk result (Follows S.meaning (native_line Native.ParseInt false (value_in t this) (map (value_in t) args.now) (env_in S.meaning config.old t frame.now)) config.old config.new) }
+{
+    let outcome = integer_of(text_at(config, args, 0), whole_at(args, 1));
+    give_result(config, frame, outcome)
+}
+
+/// The integer at the front of a text, whose digits are of a radix.
+fn integer_of(text: &[u16], radix: Whole) -> Result<Whole, NumFault>
+    ensures { answer result ≡ integer_of_text text.now (int32 radix.number) }
+{
+    wjs_num::parse_int(text, to_int32(radix))
+}
+
+/// Whether a number is NaN (section 15.1.2.4).
+pub fn is_nan<S: WorldStore>(
+    config: &mut Config<S>,
+    frame: &Frame,
+    this: Value,
+    args: &[Value],
+) -> Result<(), OutOfMemory>
+    requires running { config.old.state ≡ State.Running }
+    requires base { Base S.meaning config.old }
+    ensures { let t = config.new.heap.texts in OnOk result (Follows S.meaning (native_line Native.IsNaN false (value_in t this) (map (value_in t) args.now) (env_in S.meaning config.old t frame.now)) config.old config.new) }
+{
+    let answer = whole_at(args, 0).get().is_none();
+    give(config, frame, Value::Bool(answer))
+}

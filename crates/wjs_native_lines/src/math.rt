@@ -1,0 +1,89 @@
+//! Math (ECMA-262, 3rd edition, section 15.8).
+ghost use Rattle.std.specs.Prelude.{◌≡◌, OnOk, All, map, [], false};
+ghost use Rattle.wjs_content.specs.Tables.{value_in};
+ghost use Rattle.wjs_content.specs.Values.{Undefined};
+ghost use Rattle.wjs_meaning.specs.Natives.{native_line};
+ghost use Rattle.wjs_model.specs.Soundness.{Base, HasValue};
+ghost use Rattle.wjs_moves.specs.Parts.{env_in};
+ghost use Rattle.wjs_moves.specs.Following.{Follows};
+
+use wjs_arena::Native;
+use wjs_base::{OutOfMemory, Value};
+use wjs_lines::{give, give_result, throw};
+use wjs_model::{Config, Frame, State, Trouble};
+use wjs_natives::whole_at;
+use wjs_num::pow;
+use wjs_store::WorldStore;
+use wjs_strings::{absolute, greatest, least};
+
+/// The number without its sign (section 15.8.2.1).
+pub fn abs<S: WorldStore>(
+    config: &mut Config<S>,
+    frame: &Frame,
+    args: &[Value],
+) -> Result<(), OutOfMemory>
+    requires running { config.old.state ≡ State.Running }
+    requires base { Base S.meaning config.old }
+    ensures { let t = config.new.heap.texts in OnOk result (Follows S.meaning (native_line Native.Abs false Undefined (map (value_in t) args.now) (env_in S.meaning config.old t frame.now)) config.old config.new) }
+{
+    give(config, frame, Value::Number(absolute(whole_at(args, 0))))
+}
+
+/// The number, which is whole: also what `floor`, `ceil` and `round` give (sections 15.8.2.6, 15.8.2.9 and 15.8.2.15).
+pub fn whole<S: WorldStore>(
+    config: &mut Config<S>,
+    frame: &Frame,
+    args: &[Value],
+) -> Result<(), OutOfMemory>
+    requires running { config.old.state ≡ State.Running }
+    requires base { Base S.meaning config.old }
+    ensures { let t = config.new.heap.texts in OnOk result (Follows S.meaning (native_line Native.Floor false Undefined (map (value_in t) args.now) (env_in S.meaning config.old t frame.now)) config.old config.new) }
+{
+    give(config, frame, Value::Number(whole_at(args, 0)))
+}
+
+/// The greatest of the numbers (section 15.8.2.11).
+pub fn max<S: WorldStore>(
+    config: &mut Config<S>,
+    frame: &Frame,
+    args: &[Value],
+) -> Result<(), OutOfMemory>
+    requires running { config.old.state ≡ State.Running }
+    requires base { Base S.meaning config.old }
+    ensures { let t = config.new.heap.texts in OnOk result (Follows S.meaning (native_line Native.Max false Undefined (map (value_in t) args.now) (env_in S.meaning config.old t frame.now)) config.old config.new) }
+{
+    match args.split_first() {
+        None => throw(config, frame, Trouble::OutOfRange),
+        Some((first, others)) => give(config, frame, Value::Number(greatest(*first, others))),
+    }
+}
+
+/// The least of the numbers (section 15.8.2.12).
+pub fn min<S: WorldStore>(
+    config: &mut Config<S>,
+    frame: &Frame,
+    args: &[Value],
+) -> Result<(), OutOfMemory>
+    requires running { config.old.state ≡ State.Running }
+    requires base { Base S.meaning config.old }
+    ensures { let t = config.new.heap.texts in OnOk result (Follows S.meaning (native_line Native.Min false Undefined (map (value_in t) args.now) (env_in S.meaning config.old t frame.now)) config.old config.new) }
+{
+    match args.split_first() {
+        None => throw(config, frame, Trouble::OutOfRange),
+        Some((first, others)) => give(config, frame, Value::Number(least(*first, others))),
+    }
+}
+
+/// A power (section 15.8.2.13).
+pub fn power<S: WorldStore>(
+    config: &mut Config<S>,
+    frame: &Frame,
+    args: &[Value],
+) -> Result<(), OutOfMemory>
+    requires running { config.old.state ≡ State.Running }
+    requires base { Base S.meaning config.old }
+    ensures { let t = config.new.heap.texts in OnOk result (Follows S.meaning (native_line Native.Pow false Undefined (map (value_in t) args.now) (env_in S.meaning config.old t frame.now)) config.old config.new) }
+{
+    let outcome = pow(whole_at(args, 0), whole_at(args, 1));
+    give_result(config, frame, outcome)
+}
