@@ -77,7 +77,7 @@ pub record Parted (s t : Text) (limit : Option ℕ) (pieces : List Piece) (start
   pub few : AtMost limit (length pieces)
 
 -- one more is allowed
-room_more : (limit : Option ℕ) (n : ℕ) → has_room limit n ≡ true → AtMost limit (n + 1)
+pub room_more : (limit : Option ℕ) (n : ℕ) → has_room limit n ≡ true → AtMost limit (n + 1)
 room_more None n h = tt
 room_more (Some limit) n h = omega (arith, ltb-true n limit h)
 

@@ -1,12 +1,12 @@
 -- The units of a text, each a piece.
 use Rattle.std.proofs.Common.{◌≡◌, ℕ, ◌+◌, ◌-◌, ◌<◌, ◌≤◌, true, false, Option, Some, None, List, [], ◌∷◌, ◌++◌, length, take, drop, map, get_or, subst, refl, ap, sym, ◌∙◌, arith}
 use Rattle.std.proofs.lemmas.List.{map-append, length-map, take_more, drop_more, take_all, take-map}
-use Rattle.std.proofs.lemmas.Bool.{ltb-true, ltb-false, false≢true}
+use Rattle.std.proofs.lemmas.Bool.{ltb-false, false≢true}
 use Rattle.wjs_content.specs.Values.{Text, String}
 use Rattle.wjs_meaning.specs.NativesOfTexts.{part_of, parts_of}
 use Rattle.wjs_strings.specs.declared.pieces.Piece.{Piece}
 use Rattle.wjs_strings.specs.Pieces.{texts_of, up_to, has_room}
-use Rattle.wjs_strings.proofs.Parting.{AtMost, up_to_all}
+use Rattle.wjs_strings.proofs.Parting.{AtMost, room_more, up_to_all}
 
 -- the first units
 pub record Unitwise (t : Text) (limit : Option ℕ) (pieces : List Piece) (start : ℕ) : Type 0 where
@@ -21,10 +21,6 @@ unitwise_start t (Some limit) = record { inside = omega arith; same = refl; few 
 -- one unit
 one_unit : (t : Text) (start : ℕ) → start < length t → part_of t start (start + 1) ≡ get_or t start 0 ∷ []
 one_unit t start h = ap (λ x. take x (drop start t)) (let q : start + 1 - start ≡ 1 = omega arith in q) ∙ ap (take 1) (drop_more t start 0 h)
-
-room_more : (limit : Option ℕ) (n : ℕ) → has_room limit n ≡ true → AtMost limit (n + 1)
-room_more None n h = tt
-room_more (Some limit) n h = omega (arith, ltb-true n limit h)
 
 pub unitwise_more : (t : Text) (limit : Option ℕ) (pieces : List Piece) (start : ℕ) → Unitwise t limit pieces start → start < length t → has_room limit start ≡ true → Unitwise t limit (pieces ++ record { start = start; end = start + 1 } ∷ []) (start + 1)
 unitwise_more t limit pieces start units h room = record {
