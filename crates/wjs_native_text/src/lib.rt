@@ -1,0 +1,9 @@
+//! The step of the native functions on texts and numbers: print, parseInt, isNaN, and those of String, Number, Boolean and Math
+//! (ECMA-262, 3rd edition, sections 15.1.2 and 15.5 to 15.8).
+#![tactic(auto)]
+
+mod glue;
+mod runs;
+mod step;
+
+pub use step::step_text;

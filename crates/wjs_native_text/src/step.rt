@@ -1,0 +1,92 @@
+//! A turn of a native function on texts or numbers.
+ghost use Rattle.std.specs.Prelude.{◌≡◌, OnOk};
+ghost use Rattle.wjs_model.specs.Contents.{completion_in, holding_in};
+ghost use Rattle.wjs_model.specs.Rest.{begin_native};
+ghost use Rattle.wjs_model.specs.Soundness.{Base, Sound, IsThere, HasCompletion};
+ghost use Rattle.wjs_model.specs.Turns.{turn_of, turn_of_form, turn_of_native};
+ghost use Rattle.wjs_moves.specs.Parts.{env_in, begins_at, then_at};
+ghost use Rattle.wjs_moves.specs.Following.{Follows};
+ghost use Rattle.wjs_moves.specs.Taking.{Turns};
+
+use crate::glue::glue_on;
+use crate::runs::run;
+use wjs_arena::Native;
+use wjs_base::OutOfMemory;
+use wjs_model::{Completion, Config, Form, Frame, State, Turn};
+use wjs_moves::{Top, finish, take_top};
+use wjs_natives::{Progress, begin, resume};
+use wjs_store::WorldStore;
+
+/// Takes the turn of a native function on texts or numbers.
+pub fn step_text<S: WorldStore>(config: &mut Config<S>) -> Result<(), OutOfMemory>
+    requires turn { turn_of config.old.state config.old.frames ≡ Turn.TextNative }
+    requires sound { Sound S.meaning config.old }
+    ensures { OnOk result (Turns S.meaning config.old config.new) }
+{
+    match take_top(config) {
+        Top::Stops => Ok(()),
+        Top::Begins(frame) => begin_text(config, frame),
+        Top::Given(frame, completion) => resume_text(config, frame, completion),
+    }
+}
+
+/// The frame begins.
+fn begin_text<S: WorldStore>(config: &mut Config<S>, frame: Frame) -> Result<(), OutOfMemory>
+    requires running { config.old.state ≡ State.Running }
+    requires base { Base S.meaning config.old }
+    requires there { IsThere S.meaning config.old frame }
+    requires turn { turn_of_form frame.form ≡ Turn.TextNative }
+    ensures { let t = config.new.heap.texts in OnOk result (Follows S.meaning (begins_at S.meaning config.old frame frame.place t (env_in S.meaning config.old t frame)) config.old config.new) }
+{
+    match frame.form {
+        Form::Native(native) => begin_at(config, frame, native),
+        _ => unreachable!(),
+    }
+}
+
+/// The native function begins, or reads the next slot.
+fn begin_at<S: WorldStore>(
+    config: &mut Config<S>,
+    frame: Frame,
+    native: Native,
+) -> Result<(), OutOfMemory>
+    requires running { config.old.state ≡ State.Running }
+    requires base { Base S.meaning config.old }
+    requires there { IsThere S.meaning config.old frame }
+    requires form { frame.form ≡ Form.Native native }
+    requires turn { turn_of_native native ≡ Turn.TextNative }
+    ensures { let t = config.new.heap.texts in OnOk result (Follows S.meaning (begin_native native frame.place (holding_in t frame.held) (env_in S.meaning config.old t frame)) config.old config.new) }
+{
+    if frame.place > 0 {
+        return match native {
+            Native::Glue => glue_on(config, frame),
+            _ => finish(config, &frame, Completion::Normal),
+        };
+    }
+    match begin(config, frame, native)? {
+        Progress::Over => Ok(()),
+        Progress::Runs(frame, values) => run(config, frame, native, &values),
+    }
+}
+
+/// The frame goes on with the completion that it waited for.
+fn resume_text<S: WorldStore>(
+    config: &mut Config<S>,
+    frame: Frame,
+    completion: Completion,
+) -> Result<(), OutOfMemory>
+    requires running { config.old.state ≡ State.Running }
+    requires base { Base S.meaning config.old }
+    requires there { IsThere S.meaning config.old frame }
+    requires completion { HasCompletion config.old completion }
+    requires turn { turn_of_form frame.form ≡ Turn.TextNative }
+    ensures { let t = config.new.heap.texts in OnOk result (Follows S.meaning (then_at S.meaning config.old frame frame.place t (env_in S.meaning config.old t frame) (completion_in t completion)) config.old config.new) }
+{
+    let Form::Native(native) = frame.form else {
+        unreachable!()
+    };
+    match resume(config, frame, native, completion)? {
+        Progress::Over => Ok(()),
+        Progress::Runs(frame, values) => run(config, frame, native, &values),
+    }
+}
