@@ -1,2 +1,3 @@
 -- Lemmas on what a source lost and a sink gained.
 pub mod Pieces
+pub mod Written

@@ -5,3 +5,4 @@ pub mod Stops
 pub mod Calls
 pub mod Memory
 pub mod Standard
+pub mod Streams

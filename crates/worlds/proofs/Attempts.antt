@@ -13,13 +13,14 @@ use Rattle.worlds.specs.declared.command.Stop.TheVariants.{Refused, ReadFault, O
 use Rattle.worlds.specs.declared.script.Statement.{Statement}
 use Rattle.worlds.specs.Script.{IsScript}
 use Rattle.worlds.specs.Output.{start, output}
-use Rattle.worlds.specs.Table.{Due, Stream, stream, Failed, Had, Gave, Got, GotPrefix, GotLess, AsDue, EndsBy, line}
-use Rattle.worlds.specs.Writes.{Stops, Runs}
+use Rattle.wjs_io.specs.Streams.{Stream, stream, Failed, Had, Gave, Got, GotPrefix, GotLess, Stops}
+use Rattle.worlds.specs.Table.{Due, AsDue, EndsBy, line}
+use Rattle.worlds.specs.Writes.{Runs}
 use Rattle.worlds.specs.Due.{IsDue, IsUsage, IsTooLong, IsNotBuilt, IsRun, refusal, most_bytes, usage, too_long, not_built, runs}
 use Rattle.worlds.specs.Attempt.{text_of_refusal, status_of_refusal, Performs, Reaches, HasCauses, Attempts, Reports, Finishes, stop_of}
 use Rattle.worlds.specs.Command.{Ends, IsComplete}
 use Rattle.worlds.proofs.Statements.{spells_once}
-use Rattle.worlds.proofs.Written.{Appends-nil, got_none}
+use Rattle.wjs_io.proofs.Written.{Appends-nil, got_none}
 
 -- ---- running
 

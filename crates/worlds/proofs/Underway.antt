@@ -20,11 +20,11 @@ use Rattle.worlds.specs.declared.script.Statement.TheVariants.{Assign, Print as 
 use Rattle.worlds.specs.Script.{all_assigned}
 use Rattle.worlds.specs.Output.{by_name, first, start, text_of, value_of, after_statement, printed_by, output}
 use Rattle.worlds.specs.Numbers.{Holds, CanDo, Steps}
-use Rattle.worlds.specs.Table.{stream, Got, GotPrefix, GotLess}
-use Rattle.worlds.specs.Writes.{Stops, Passes}
+use Rattle.wjs_io.specs.Streams.{stream, Got, GotPrefix, GotLess, Stops}
+use Rattle.worlds.specs.Writes.{Passes}
 use Rattle.worlds.proofs.Machine.{content_after_write, content_after_read}
 use Rattle.worlds.proofs.Steps.{letters_tie, letters_tied}
-use Rattle.worlds.proofs.Written.{Appends-then, Appends-nil}
+use Rattle.wjs_io.proofs.Written.{Appends-then, Appends-nil}
 
 -- ---- the first world of a store
 

@@ -11,8 +11,8 @@ use Rattle.worlds.specs.declared.run.RunFault.TheVariants.{OutFault as RunOutFau
 use Rattle.worlds.specs.declared.script.Statement.{Statement}
 use Rattle.worlds.specs.Script.{IsScript}
 use Rattle.worlds.specs.Output.{start, output}
-use Rattle.worlds.specs.Table.{Due, Stream, Failed, Had, Gave, Got, GotPrefix, line}
-use Rattle.worlds.specs.Writes.{Stops}
+use Rattle.wjs_io.specs.Streams.{Stream, Failed, Had, Gave, Got, GotPrefix, Stops}
+use Rattle.worlds.specs.Table.{Due, line}
 use Rattle.worlds.specs.Due.{IsDue, refusal}
 
 abbrev pub text_of_refusal : Refusal → List ℕ

@@ -2,7 +2,8 @@
 use Rattle.std.specs.Prelude.{◌≡◌, ℕ, List, length, ◌⊎◌}
 use Rattle.worlds.specs.declared.status.Status.{Status}
 use Rattle.worlds.specs.declared.status.Status.TheVariants.{Done, Threw, StepsSpent, OutOfMemory, Refused, Usage, ReadFault, OutFault, ErrFault}
-use Rattle.worlds.specs.Table.{Due, Stream, Failed, Had, EndsBy, AsDue}
+use Rattle.wjs_io.specs.Streams.{Stream, Failed, Had}
+use Rattle.worlds.specs.Table.{Due, EndsBy, AsDue}
 use Rattle.worlds.specs.Due.{IsDue}
 
 -- the bytes are those that the source had, where it tells them, and what is due for them decides by the table

@@ -2,12 +2,7 @@
 use Rattle.std.specs.Prelude.{◌≡◌, List, ℕ, Result, Ok, Err}
 use Rattle.worlds.specs.declared.run.RunFault.{RunFault}
 use Rattle.worlds.specs.declared.run.RunFault.TheVariants.{OutFault, OutOfMemory}
-use Rattle.worlds.specs.Table.{Stream, Failed, Got, GotPrefix, GotLess}
-
--- the sink failed before all of the bytes were written
-pub record Stops (s : Stream) (bytes : List ℕ) : Type 0 where
-  pub cause : Failed s
-  pub wrote : GotLess s bytes
+use Rattle.wjs_io.specs.Streams.{Stream, Got, GotPrefix, Stops}
 
 -- a front of what waited was written, and this waits still
 abbrev pub Passes : Stream → List ℕ → List ℕ → Type 0

@@ -1,7 +1,8 @@
 //! The work of the program, from its words and the bytes of its source to what it writes.
 ghost use Rattle.std.specs.Prelude.{◌≡◌, map, codes, ◌++◌, ◌∷◌, [], Err};
 ghost use Rattle.std.specs.String.{string_bytes};
-ghost use Rattle.worlds.specs.Table.{stream, line, Got};
+ghost use Rattle.wjs_io.specs.Streams.{stream, Got};
+ghost use Rattle.worlds.specs.Table.{line};
 ghost use Rattle.worlds.specs.Attempt.{text_of_refusal, status_of_refusal, Performs, Attempts, Reports, Finishes};
 ghost use Rattle.worlds.specs.Command.{Ends, Causes};
 

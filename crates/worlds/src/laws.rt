@@ -3,7 +3,8 @@ ghost use Rattle.std.specs.Prelude.{◌≡◌, ℕ, List};
 ghost use Rattle.worlds.specs.declared.script.Statement.{Statement};
 ghost use Rattle.worlds.specs.declared.status.Status.{Status};
 ghost use Rattle.worlds.specs.Script.{IsScript};
-ghost use Rattle.worlds.specs.Table.{Due, Stream, EndsBy};
+ghost use Rattle.wjs_io.specs.Streams.{Stream};
+ghost use Rattle.worlds.specs.Table.{Due, EndsBy};
 ghost use Rattle.worlds.specs.Due.{IsDue};
 ghost use Rattle.worlds.specs.Command.{IsComplete};
 

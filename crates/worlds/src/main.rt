@@ -4,7 +4,6 @@
 
 mod command;
 pub mod laws;
-mod pieces;
 mod run;
 mod script;
 mod status;

@@ -9,15 +9,14 @@ ghost use Rattle.worlds.specs.Token.{IsLetter, IsNumber};
 ghost use Rattle.worlds.specs.Script.{all_assigned, IsStatement};
 ghost use Rattle.worlds.specs.Output.{start, output};
 ghost use Rattle.worlds.specs.Numbers.{number_at, number_in, SetsNumber, KeepsNumbers, IsSlotOf, Steps};
-ghost use Rattle.worlds.specs.Table.{stream};
-ghost use Rattle.worlds.specs.Writes.{Runs, Stops, Passes};
+ghost use Rattle.wjs_io.specs.Streams.{stream, Stops};
+ghost use Rattle.worlds.specs.Writes.{Runs, Passes};
 
-use crate::pieces::write_pieces;
 use crate::script::Statement;
 use std::alloc::Global;
 use std::fmt::Write;
 use wjs_base::{Content, Name, ObjId, OutOfMemory, Slot, Texts, Value, Whole, WorldId};
-use wjs_io::{Failed, Sink};
+use wjs_io::{Failed, Sink, write_pieces};
 use wjs_store::WorldStore;
 
 /// Why a run ended before the script did.

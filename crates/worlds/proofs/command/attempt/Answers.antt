@@ -4,7 +4,7 @@ use Rattle.std.specs.Result.{IfErr}
 use Rattle.std.specs.String.{string_bytes}
 use Rattle.wjs_io.specs.Stops.{StopsAfter}
 use Rattle.wjs_io.specs.declared.loops.ReadFault.{ReadFault}
-use Rattle.worlds.specs.Table.{stream}
+use Rattle.wjs_io.specs.Streams.{stream}
 use Rattle.worlds.specs.Due.{most_bytes}
 use Rattle.worlds.specs.Attempt.{Performs}
 use Rattle.worlds.proofs.Attempts.{usage_attempt, failed_attempt, spent_attempt, long_attempt, performed_attempt}

@@ -1,6 +1,6 @@
 use Rattle.std.proofs.Common.{map as each}
 use Rattle.std.specs.String.{string_bytes}
-use Rattle.worlds.specs.Table.{stream}
+use Rattle.wjs_io.specs.Streams.{stream}
 use Rattle.worlds.proofs.Attempts.{ends_from}
 use Rattle.worlds.proofs.command.command.Goals as goal
 

@@ -1,9 +1,10 @@
 use Rattle.std.proofs.Common.{Err, refl, subst, sym, codes}
 use Rattle.worlds.specs.declared.command.Stop.{Stop}
 use Rattle.worlds.specs.declared.status.Status.TheVariants.{OutOfMemory}
-use Rattle.worlds.specs.Table.{stream, line}
+use Rattle.wjs_io.specs.Streams.{stream}
+use Rattle.worlds.specs.Table.{line}
 use Rattle.worlds.specs.Attempt.{Finishes}
-use Rattle.worlds.proofs.Written.{tried}
+use Rattle.wjs_io.proofs.Written.{tried}
 use Rattle.worlds.proofs.command.explain.Goals as goal
 
 pub returns-in-OutOfMemory : goal.returns-in-OutOfMemory

@@ -2,7 +2,7 @@ use Rattle.std.proofs.Common.{Err, List, subst}
 use Rattle.std.proofs.lemmas.Result.{err_from_is_err_and}
 use Rattle.worlds.specs.declared.script.Statement.{Statement}
 use Rattle.worlds.specs.Output.{start, output}
-use Rattle.worlds.specs.Table.{stream}
+use Rattle.wjs_io.specs.Streams.{stream}
 use Rattle.worlds.specs.Writes.{Runs}
 use Rattle.worlds.proofs.Attempts.{performs_fault}
 use Rattle.worlds.proofs.command.perform.Goals as goal

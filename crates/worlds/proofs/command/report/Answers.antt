@@ -1,7 +1,6 @@
 use Rattle.std.proofs.Common.{inr, refl, List, ℕ, subst}
-use Rattle.worlds.specs.Table.{stream}
-use Rattle.worlds.specs.Writes.{Stops}
-use Rattle.worlds.proofs.Written.{stops_at}
+use Rattle.wjs_io.specs.Streams.{stream, Stops}
+use Rattle.wjs_io.proofs.Written.{stops_at}
 use Rattle.worlds.proofs.command.report.Goals as goal
 
 pub returns-in-Err : goal.returns-in-Err

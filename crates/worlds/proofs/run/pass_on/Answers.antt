@@ -1,7 +1,8 @@
 use Rattle.std.proofs.Common.{[], refl, sym, ◌∙◌, ap, append-nil}
 use Rattle.std.specs.String.{string_bytes}
 use Rattle.std.specs.Io.KnownBytes.{Appends}
-use Rattle.worlds.proofs.Written.{Appends-nil, passes_none, passes_all}
+use Rattle.wjs_io.proofs.Written.{Appends-nil}
+use Rattle.worlds.proofs.Written.{passes_none, passes_all}
 use Rattle.worlds.proofs.run.pass_on.Goals as goal
 
 pub returns-then-len-lt-WAITING-clause-ok : goal.returns-then-len-lt-WAITING-clause-ok

@@ -4,8 +4,7 @@ use Rattle.std.proofs.lemmas.Result.{err_from_is_err_and}
 use Rattle.wjs_store.specs.Meaning.{worlds}
 use Rattle.worlds.specs.declared.script.Statement.TheVariants.{Assign}
 use Rattle.worlds.specs.Output.{start, output}
-use Rattle.worlds.specs.Table.{stream, Got}
-use Rattle.worlds.specs.Writes.{Stops}
+use Rattle.wjs_io.specs.Streams.{stream, Got, Stops}
 use Rattle.worlds.proofs.Underway.{Underway, has_first, underway_none, underway_pass, underway_fails, underway_ends, underway_at, underway_over}
 use Rattle.worlds.proofs.run.run.Goals as goal
 

@@ -1,7 +1,7 @@
 use Rattle.std.proofs.Common.{◌∙◌, ◌++◌, sym}
 use Rattle.std.proofs.lemmas.List.{take-append-drop}
-use Rattle.worlds.proofs.Written.{written_stops, written_more}
-use Rattle.worlds.proofs.pieces.write_pieces.Goals as goal
+use Rattle.wjs_io.proofs.Written.{written_stops, written_more}
+use Rattle.wjs_io.proofs.writing.write_pieces.Goals as goal
 
 pub returns-in-Err-clause-err : goal.returns-in-Err-clause-err
 returns-in-Err-clause-err g c =

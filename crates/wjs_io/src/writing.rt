@@ -1,12 +1,12 @@
 //! Output in pieces.
 ghost use Rattle.std.specs.Prelude.{OnOk, OnErr, ◌≤◌};
-ghost use Rattle.worlds.specs.Table.{stream, Got};
-ghost use Rattle.worlds.specs.Writes.{Stops};
+ghost use Rattle.wjs_io.specs.Streams.{stream, Got, Stops};
 
-use wjs_io::{Failed, Sink, write_all_of};
+use crate::loops::write_all_of;
+use crate::traits::{Failed, Sink};
 
-// The longest piece that is handed to a sink.
-const PIECE: usize = 4096;
+/// The longest piece that is handed to a sink.
+pub const PIECE: usize = 4096;
 
 /// Writes all of the bytes, in pieces of at most 4,096 bytes.
 pub fn write_pieces<O: Sink>(out: &mut O, bytes: &[u8]) -> Result<(), Failed>

@@ -1,6 +1,6 @@
 use Rattle.std.proofs.Common.{◌≡◌, ◌≤◌, ◌++◌, List, ℕ, length}
-use Rattle.worlds.proofs.Written.{Written}
-use Rattle.worlds.proofs.pieces.write_pieces.Given as goal
+use Rattle.wjs_io.proofs.Written.{Written}
+use Rattle.wjs_io.proofs.writing.write_pieces.Given as goal
 
 -- what is gone, and the rest
 abbrev pub invariant-loop-rest : goal.invariant-loop-rest

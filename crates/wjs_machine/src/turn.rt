@@ -1,0 +1,55 @@
+//! One turn of a configuration, and its output.
+ghost use Rattle.std.specs.Prelude.{◌≡◌, ◌≤◌, OnOk, IfErr};
+ghost use Rattle.wjs_io.specs.Streams.{stream};
+ghost use Rattle.wjs_model.specs.Soundness.{Sound};
+ghost use Rattle.wjs_moves.specs.Taking.{Turns};
+ghost use Rattle.wjs_machine.specs.Runs.{IsPlain, Advances, Halts};
+
+use crate::flush::flush;
+use crate::halt::Halt;
+use wjs_base::OutOfMemory;
+use wjs_eval_call::step_call;
+use wjs_eval_expr::step_expr;
+use wjs_eval_stmt::step_stmt;
+use wjs_io::Sink;
+use wjs_model::{Config, State, Turn};
+use wjs_native_core::step_core;
+use wjs_native_text::step_text;
+use wjs_store::WorldStore;
+
+/// Takes one turn, and writes pieces of exactly 4,096 bytes until fewer are pending.
+///
+/// SinkFailed comes only where the sink's count of faults rose in this call. After a halt the configuration isn't used again.
+pub fn advance<S: WorldStore, O: Sink>(config: &mut Config<S>, out: &mut O) -> Result<(), Halt>
+    requires plain { IsPlain S.meaning }
+    requires running { config.old.state ≡ State.Running }
+    requires sound { Sound S.meaning config.old }
+    ensures ok { OnOk result (Advances S.meaning (stream (O.held out.old) (O.held out.new) (O.faults out.old) (O.faults out.new)) config.old config.new) }
+    ensures err { IfErr result (Halts S.meaning (stream (O.held out.old) (O.held out.new) (O.faults out.old) (O.faults out.new)) config.old) }
+    ensures never_falls { O.faults out.old ≤ O.faults out.new }
+{
+    match step(config) {
+        Ok(()) => {}
+        Err(OutOfMemory) => return Err(Halt::OutOfMemory),
+    }
+    match flush(config, out) {
+        Ok(()) => Ok(()),
+        Err(_) => Err(Halt::SinkFailed),
+    }
+}
+
+/// The turn of the frame that runs.
+fn step<S: WorldStore>(config: &mut Config<S>) -> Result<(), OutOfMemory>
+    requires running { config.old.state ≡ State.Running }
+    requires sound { Sound S.meaning config.old }
+    ensures { OnOk result (Turns S.meaning config.old config.new) }
+{
+    match config.turn() {
+        Turn::Expr => step_expr(config),
+        Turn::Stmt => step_stmt(config),
+        Turn::Call => step_call(config),
+        Turn::CoreNative => step_core(config),
+        Turn::TextNative => step_text(config),
+        Turn::Ended => unreachable!(),
+    }
+}
