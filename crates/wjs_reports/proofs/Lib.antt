@@ -1,0 +1,4 @@
+pub mod Carried
+pub mod Errors
+pub mod Places
+pub mod Named

@@ -1,0 +1,35 @@
+use Rattle.std.proofs.Common.{refl, ap, ◌∙◌}
+use Rattle.wjs_base.proofs.TextLaws.{Denotes-Has, Grows-trans, IsNameOf-IsName}
+use Rattle.wjs_content.specs.Tables.{name_in, content_in, arena_in}
+use Rattle.wjs_props.specs.Means.{parts}
+use Rattle.wjs_props.specs.Properties as plan
+use Rattle.wjs_props.proofs.Growing.{heap_grows, performs_grown}
+use Rattle.wjs_props.proofs.Turns.{performs_same}
+use Rattle.wjs_deeds.proofs.Spelling.{denotes_in, named_in}
+use Rattle.wjs_reports.proofs.thrown.property.Goals as goal
+
+pub get-requires-clause-heap : goal.get-requires-clause-heap
+get-requires-clause-heap g c = heap_grows (parts g.S.WorldStore.meaning c.args.heap.now) c.intern.new.self c.in-Ok.ensures.table c.in-Ok.ensures.grows c.requires.heap
+
+pub get-requires-clause-name : goal.get-requires-clause-name
+get-requires-clause-name g c = IsNameOf-IsName c.intern.new.self c.in-Ok.id c.name_of-name.result (Denotes-Has c.intern.new.self c.in-Ok.id c.args.units.now c.in-Ok.ensures.ok.denotes) c.name_of-name.ensures
+
+pub returns-clause-gets : goal.returns-clause-gets
+returns-clause-gets g c =
+    let m = g.S.WorldStore.meaning in
+    let texts = c.intern.new.self in
+    let arena = c.args.heap.now.arena in
+    let o = c.args.object in
+    let did = c.in_ok-found.ensures.gets in
+    performs_same c.args.world
+    (λ t. plan.get (arena_in t arena) o (name_in t c.name_of-name.result))
+    (λ t. plan.get (arena_in t arena) o c.args.units.now)
+    (λ t. content_in t c.in_ok-found.found)
+    (λ t. content_in t c.in_ok-found.found)
+    (parts m c.args.heap.now)
+    (parts m c.get.new.heap)
+    (λ t more.
+    let later = Grows-trans texts c.get.new.heap.texts t did.texts more in
+    ap (plan.get (arena_in t arena) o) (named_in texts t c.in-Ok.id c.name_of-name.result c.name_of-name.ensures later ∙ denotes_in texts t c.in-Ok.id c.args.units.now c.in-Ok.ensures.ok.denotes later))
+    (λ t more. refl)
+    (performs_grown (parts m c.args.heap.now) texts c.in-Ok.ensures.table c.in-Ok.ensures.grows c.args.world (λ t. plan.get (arena_in t arena) o (name_in t c.name_of-name.result)) (λ t. content_in t c.in_ok-found.found) (parts m c.get.new.heap) did)

@@ -1,0 +1,27 @@
+use Rattle.std.proofs.Common.{◌≡◌, sym, ap, ◌∙◌}
+use Rattle.wjs_base.specs.declared.values.Value.{Value}
+use Rattle.wjs_base.specs.Unicode.{utf8_of}
+use Rattle.wjs_content.specs.Tables.{value_in, arena_in}
+use Rattle.wjs_content.specs.Worlds.{worlds_in}
+use Rattle.wjs_store.specs.Meaning.{worlds}
+use Rattle.wjs_props.proofs.Actions.{value_knows}
+use Rattle.wjs_props.proofs.Putting.{if_ok}
+use Rattle.wjs_reports.specs.Thrown.{Shows, shown_object, shown_value}
+use Rattle.wjs_reports.proofs.Carried.{shows_value}
+use Rattle.wjs_reports.proofs.thrown.show_thrown.Goals as goal
+
+pub show_primitive-requires : goal.show_primitive-requires
+show_primitive-requires g c = value_knows c.args.config.now.heap.texts c.args.config.now.heap.arena c.args.value c.requires.base.heap.table c.requires.value
+
+pub returns-in-Object : goal.returns-in-Object
+returns-in-Object g c =
+    let m = g.S.WorldStore.meaning in
+    let config = c.args.config.now in
+    let t = config.heap.texts in
+    let arena = arena_in t config.heap.arena in
+    let full = worlds_in t (worlds (m config.heap.store)) in
+    if_ok c.show_object.result
+    (λ bytes. bytes.items ≡ utf8_of (shown_object arena full config.world c.in-Object.object))
+    (λ bytes. Shows m config c.args.value bytes.items)
+    (λ bytes is. shows_value m config c.args.value bytes.items c.requires.first (is ∙ ap (λ (v : Value). utf8_of (shown_value (value_in t v) arena full config.world)) (sym c.in-Object.is)))
+    c.show_object.ensures
