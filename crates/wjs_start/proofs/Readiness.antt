@@ -119,6 +119,8 @@ module _ {S : Type 0} (meaning : S → Meaning) (texts : Table) (before : Meanin
   starts_so = record {
     left = refl;
     running = refl;
+    world = refl;
+    owner = refl;
     units = units_are;
     run = run_so;
     frames = frames_so;

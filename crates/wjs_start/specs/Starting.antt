@@ -42,6 +42,9 @@ units_of (Some library) script = library ∷ script ∷ []
 pub record Starts {S : Type 0} (meaning : S → Meaning) (texts : Table) (before : Meaning) (library : Option Program) (script : Program) (budget : ℕ) (c : Config S) : Type 0 where
   pub left : c.left ≡ budget
   pub running : c.state ≡ states.Running
+  -- it runs in the first world, and makes what owner 0 makes
+  pub world : c.world ≡ first_world
+  pub owner : c.owner ≡ 0
   pub units : c.units.items ≡ units_of library script
   pub run : let t = c.heap.texts in run_in meaning t c ≡ run_of (trees_of (option_map (unit_in t) library) (unit_in t script))
   pub frames : let t = c.heap.texts in frames_in meaning t c ≡ first_frames (option_map (unit_in t) library) (unit_in t script)

@@ -29,6 +29,7 @@ fn places(rt: HostRuntime) -> Result<(), Fail> {
     ] {
         let text = units(rt.alloc(), text)?;
         let pattern = units(rt.alloc(), pattern)?;
+        assert!(rt; place <= text.len());
         let found = first_from(rt.alloc(), text.as_slice(), pattern.as_slice(), place);
         assert_eq!(rt; found, Ok(first));
         let found = last_place(rt.alloc(), text.as_slice(), pattern.as_slice(), place);
