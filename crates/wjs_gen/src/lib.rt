@@ -1,7 +1,7 @@
 //! The script that the program generates: many worlds over many slots, and their commits.
 #![tactic(auto)]
 
-ghost use Rattle.std.specs.Prelude.{◌≡◌, ◌≤◌, IfOk};
+ghost use Rattle.std.specs.Prelude.{◌≡◌, ◌≤◌, length, IfOk};
 ghost use Rattle.wjs_gen.specs.Script.{script, rest};
 
 use std::alloc::Global;
@@ -17,7 +17,8 @@ use wjs_base::OutOfMemory;
 pub fn script_of(alloc: Global, number: u64) -> Result<Vec<u8>, OutOfMemory>
     requires least { 1 ≤ number }
     requires greatest { number ≤ 50000 }
-    ensures { IfOk result (λ bytes. bytes.items ≡ script number) }
+    ensures script { IfOk result (λ bytes. bytes.items ≡ script number) }
+    ensures short { IfOk result (λ bytes. length bytes.items ≤ 1000) }
 {
     let rest = rest();
     match format!(in alloc; "var n = {number}{rest}") {
