@@ -57,6 +57,7 @@ module _ {S : Type 0} (meaning : S → Meaning) (plain : IsPlain meaning) where
         ends = ap (λ q. q.0) run ∙ ap (λ q. q.0) r ∙ seen_ending b last;
         worlds = ap (λ q. (q.1).full) run ∙ ap (λ q. (q.1).full) r ∙ seen_full b last;
         arena = ap (λ q. (q.1).arena) run ∙ ap (λ q. (q.1).arena) r ∙ seen_arena b last;
+        world = ap (λ (c : Config S). c.world) f.out.same;
         sound = sound_out meaning old new f.out.same sound;
       }
 
@@ -83,6 +84,7 @@ module _ {S : Type 0} (meaning : S → Meaning) (plain : IsPlain meaning) where
     ends = ap (λ q. q.0) a.run ∙ e.ends;
     worlds = ap (λ q. (q.1).full) a.run ∙ e.worlds;
     arena = ap (λ q. (q.1).arena) a.run ∙ e.arena;
+    world = e.world ∙ a.world;
     sound = e.sound;
   }
 

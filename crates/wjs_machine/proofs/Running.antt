@@ -52,6 +52,10 @@ module _ {S : Type 0} (meaning : S → Meaning) (plain : IsPlain meaning) where
         r.1,
       )
 
+  -- and the first world
+  turn_world : (old new : Config S) → Sound meaning old → Turned meaning old new → new.world ≡ old.world
+  turn_world old new sound turned = (turn_reaches meaning old new sound (silent_steady meaning old (plain.silent old.heap.store)) (plain.admits_own new.heap.store) turned).0.stays.world
+
   -- output that goes out leaves it too
   pub out_run : (gone : List ℕ) (old new : Config S) → GoesOut gone old new → run_of meaning old ≡ after_output gone (run_of meaning new)
   out_run gone old new h =
@@ -77,6 +81,7 @@ module _ {S : Type 0} (meaning : S → Meaning) (plain : IsPlain meaning) where
         got = f.got;
         run = r.0 ∙ out_run f.gone mid new f.out;
         falls = out_falls f.gone old mid new f.out r.1;
+        world = ap (λ (c : Config S). c.world) f.out.same ∙ turn_world old mid sound turns.turned;
         sound = sound_out meaning mid new f.out.same turns.sound;
         few = f.few;
       }

@@ -53,7 +53,7 @@ module _ {S : Type 0} (meaning : S → Meaning) where
 
   -- at first nothing has gone out
   pub reach_none : (one : Option (List ℕ)) (faults : ℕ) (c : Config S) → Sound meaning c → Reaches meaning (stream one one faults faults) c c
-  reach_none one faults c sound = record { gone = []; got = Appends-nil one; run = refl; sound = sound }
+  reach_none one faults c sound = record { gone = []; got = Appends-nil one; run = refl; world = refl; sound = sound }
 
   pub under_none : (one : Option (List ℕ)) (faults : ℕ) (c : Config S) → Sound meaning c → Under (stream one one faults faults) c c
   under_none one faults c sound = record { reaches = reach_none one faults c sound; left = inr refl }
@@ -64,6 +64,7 @@ module _ {S : Type 0} (meaning : S → Meaning) where
     gone = a.gone ++ b.gone;
     got = Appends-then before middle after a.gone b.gone a.got b.got;
     run = a.run ∙ ap (after_output a.gone) b.run ∙ after_both a.gone b.gone (run_of meaning new);
+    world = b.world ∙ a.world;
     sound = b.sound;
   }
 
@@ -107,7 +108,7 @@ module _ {S : Type 0} (meaning : S → Meaning) where
   turn_halts_on before middle after f0 f1 f2 old mid e le a h = halts_on before middle after f0 f1 f2 old mid e le a (turn_halts (stream middle after f1 f2) mid e h)
 
   advance_reaches : (s : Stream) (old new : Config S) → Advances meaning s old new → Reaches meaning s old new
-  advance_reaches s old new a = record { gone = a.gone; got = a.got; run = a.run; sound = a.sound }
+  advance_reaches s old new a = record { gone = a.gone; got = a.got; run = a.run; world = a.world; sound = a.sound }
 
   -- ---- how far
 

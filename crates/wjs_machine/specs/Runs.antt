@@ -52,6 +52,7 @@ module _ {S : Type 0} (meaning : S → Meaning) where
     pub got : Got s gone
     pub run : run_of old ≡ after_output gone (run_of new)
     pub falls : Falls meaning old new
+    pub world : new.world ≡ old.world
     pub sound : Sound meaning new
     pub few : length new.pending.items < 4096
 
@@ -65,6 +66,7 @@ module _ {S : Type 0} (meaning : S → Meaning) where
     pub gone : List ℕ
     pub got : Got s gone
     pub run : run_of old ≡ after_output gone (run_of new)
+    pub world : new.world ≡ old.world
     pub sound : Sound meaning new
 
   -- a step was among them, or the run has ended
@@ -77,12 +79,13 @@ module _ {S : Type 0} (meaning : S → Meaning) where
   HaltsAfter s old halts.SinkFailed = Stops s (output_of old)
   HaltsAfter s old halts.OutOfMemory = GotPrefix s (output_of old)
 
-  -- the run ended so, in the configuration's state, and all its output was written
+  -- the run ended so, in the configuration's state, and all its output was written; its first world is the one that it had
   pub record EndsAs (s : Stream) (old new : Config S) (ending : Ending) : Type 0 where
     pub got : Got s (output_of old)
     pub ends : (run_of old).0 ≡ ending
     pub worlds : ((run_of old).1).full ≡ worlds_in new.heap.texts (worlds (meaning new.heap.store))
     pub arena : ((run_of old).1).arena ≡ arena_in new.heap.texts new.heap.arena
+    pub world : new.world ≡ old.world
     pub sound : Sound meaning new
 
   -- how a run ended, and what of its output was written
