@@ -1,12 +1,5 @@
-pub mod Fronts
-pub mod Numerals
-pub mod Statements
-pub mod Takes
-pub mod Words
-pub mod Machine
-pub mod Stores
-pub mod Written
-pub mod Steps
-pub mod Underway
-pub mod Attempts
-pub mod Dues
+mod Deliveries
+mod Beginnings
+mod Endings
+mod Scripts
+mod Attempts

@@ -1,11 +1,7 @@
-pub mod Blank
-pub mod Token
-pub mod Script
 pub mod Status
-pub mod Output
 pub mod Table
-pub mod Writes
+pub mod Scripts
+pub mod Runs
 pub mod Due
-pub mod Numbers
 pub mod Command
 pub mod Attempt

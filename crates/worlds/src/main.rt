@@ -4,12 +4,12 @@
 
 mod command;
 pub mod laws;
-mod run;
-mod script;
+mod perform;
+mod report;
+mod running;
 mod status;
 #[cfg(test)]
 mod tests;
-mod token;
 
 use crate::command::command;
 use std::env;

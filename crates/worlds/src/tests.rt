@@ -1,225 +1,238 @@
-//! The worked rows of the program, and the edges of its limits.
+//! The worked rows of the program: what it writes for its words and its script, and how it ends.
 ghost use Rattle.std.specs.Prelude.{◌<◌};
+
+mod asked;
+mod copies;
+mod faults;
+mod limits;
+mod scripts;
+mod turns;
 
 use crate::command::command;
 use crate::status::Status;
+use crate::tests::scripts::SCRIPTS;
 use std::alloc::{AllocError, Global};
+use std::process::Abort;
 use std::test::Fail;
-use wjs_io::{MemSink, MemSource, read_all};
+use wjs_io::{MemSink, MemSource};
 
-/// The most bytes that a script has.
-const MOST: usize = 16_777_216;
-
-/// A run: its words are so many, the source gives the script in pieces, and of each stream the calls
-/// that are named fail.
+/// A stream in memory: the most bytes of a call, and the number of the call that fails, from 1, or 0.
 #[derive(Clone, Copy)]
-struct Run {
-    words: usize,
-    script: &'static str,
+struct Flow {
     piece: usize,
-    source_fails: &'static [u64],
-    out_fails: &'static [u64],
-    err_fails: &'static [u64],
+    fails: u64,
 }
 
-/// A run that meets no fault.
+/// A stream that doesn't fail.
+const WHOLE: Flow = Flow {
+    piece: 4096,
+    fails: 0,
+};
+
+/// A stream of which this call fails.
+fn failing(piece: usize, fails: u64) -> Flow {
+    Flow { piece, fails }
+}
+
+/// A run: the words after the program's name, the script and the streams.
+#[derive(Clone, Copy)]
+struct Run {
+    words: &'static [&'static str],
+    script: &'static str,
+    source: Flow,
+    out: Flow,
+    err: Flow,
+}
+
+/// What a run wrote, and how it ended.
+#[derive(Drop)]
+struct Ended {
+    out: Vec<u8>,
+    err: Vec<u8>,
+    status: Status,
+}
+
+/// A run without words whose streams don't fail.
 fn plain(script: &'static str) -> Run {
     Run {
-        words: 1,
+        words: &[],
         script,
-        piece: 4096,
-        source_fails: &[],
-        out_fails: &[],
-        err_fails: &[],
+        source: WHOLE,
+        out: WHOLE,
+        err: WHOLE,
     }
 }
 
-fn words(alloc: Global, count: usize) -> Result<Vec<String>, AllocError> {
+fn words(alloc: Global, line: &[&str]) -> Result<Vec<String>, AllocError> {
     let mut words = Vec::new(alloc);
-    for _ in 0..count {
-        words.push(String::from_str(alloc, "worlds")?)?;
+    words.push(String::from_str(alloc, "worlds")?)?;
+    for word in line {
+        words.push(String::from_str(alloc, word)?)?;
     }
     Ok(words)
 }
 
-fn source(
-    alloc: Global,
-    bytes: Vec<u8>,
-    fails: &[u64],
-    piece: usize,
-) -> Result<MemSource, AllocError>
-    requires { 0 < piece }
+fn source(alloc: Global, bytes: Vec<u8>, flow: Flow) -> Result<MemSource, AllocError>
+    requires { 0 < flow.piece }
 {
-    Ok(MemSource::new(bytes, fails.to_vec(alloc)?, piece))
+    Ok(MemSource::new(bytes, [flow.fails].to_vec(alloc)?, flow.piece))
 }
 
-/// What came on out and on err, and the status.
-fn outcome(alloc: Global, run: Run) -> Result<(Vec<u8>, Vec<u8>, Status), AllocError>
-    requires { 0 < run.piece }
+fn sink(alloc: Global, flow: Flow) -> Result<MemSink, AllocError>
+    requires { 0 < flow.piece }
+{
+    Ok(MemSink::new(alloc, [flow.fails].to_vec(alloc)?, flow.piece))
+}
+
+/// The run with these bytes in place of its script.
+fn outcome(alloc: Global, run: Run, script: &[u8]) -> Result<Ended, AllocError>
+    requires source { 0 < run.source.piece }
+    requires out { 0 < run.out.piece }
+    requires err { 0 < run.err.piece }
 {
     let words = words(alloc, run.words)?;
-    let script = run.script.as_bytes().to_vec(alloc)?;
-    let mut source = source(alloc, script, run.source_fails, run.piece)?;
-    let mut out = MemSink::new(alloc, run.out_fails.to_vec(alloc)?, 4096);
-    let mut err = MemSink::new(alloc, run.err_fails.to_vec(alloc)?, 4096);
+    let mut source = source(alloc, script.to_vec(alloc)?, run.source)?;
+    let mut out = sink(alloc, run.out)?;
+    let mut err = sink(alloc, run.err)?;
     let status = command(alloc, words.as_slice(), &mut source, &mut out, &mut err);
-    Ok((
-        out.content().to_vec(alloc)?,
-        err.content().to_vec(alloc)?,
+    Ok(Ended {
+        out: out.content().to_vec(alloc)?,
+        err: err.content().to_vec(alloc)?,
         status,
-    ))
+    })
+}
+
+fn check(
+    rt: &impl Abort,
+    alloc: Global,
+    run: Run,
+    out: &[u8],
+    err: &[u8],
+    status: Status,
+) -> Result<(), Fail> {
+    assert!(rt; run.source.piece > 0);
+    assert!(rt; run.out.piece > 0);
+    assert!(rt; run.err.piece > 0);
+    let ended = outcome(alloc, run, run.script.as_bytes())?;
+    assert_eq!(rt; ended.out.as_slice(), out, "{}", run.script);
+    assert_eq!(rt; ended.err.as_slice(), err, "{}", run.script);
+    assert_eq!(rt; ended.status, status, "{}", run.script);
+    Ok(())
 }
 
 #[test]
-fn worked_rows(rt: HostRuntime) -> Result<(), Fail> {
-    let first = plain("x = 1; print(x);");
-    let refused = plain("x = 1.5;");
-    let rows = [
-        (first, "1\n", "", Status::Done),
-        (plain("a = 5; a = 6; print(a);"), "6\n", "", Status::Done),
-        (plain(""), "", "", Status::Done),
-        (
-            plain("\n a=999999999999999;print\n( a ) ;b=0;print(b);print(a);"),
-            "999999999999999\n0\n999999999999999\n",
-            "",
+fn scripts_that_end_normally(rt: HostRuntime) -> Result<(), Fail> {
+    for (script, out) in SCRIPTS {
+        check(
+            &rt,
+            rt.alloc(),
+            plain(script),
+            out.as_bytes(),
+            b"",
             Status::Done,
-        ),
-        (refused, "", "not built\n", Status::Refused),
-        (plain("print(x);"), "", "not built\n", Status::Refused),
-        (
-            plain("print(x); x = 1;"),
-            "",
-            "not built\n",
-            Status::Refused,
-        ),
-        (plain("x = 01;"), "", "not built\n", Status::Refused),
-        (
-            plain("x = 1000000000000000;"),
-            "",
-            "not built\n",
-            Status::Refused,
-        ),
-        (plain("xy = 1;"), "", "not built\n", Status::Refused),
-        (plain("x = 1"), "", "not built\n", Status::Refused),
-        (
-            plain("x = 1;\tprint(x);"),
-            "",
-            "not built\n",
-            Status::Refused,
-        ),
-        (
-            Run {
-                words: 2,
-                source_fails: &[1],
-                ..first
-            },
-            "",
-            "usage: worlds\n",
-            Status::Usage,
-        ),
-        (
-            Run { words: 0, ..first },
-            "",
-            "usage: worlds\n",
-            Status::Usage,
-        ),
-        (
-            Run {
-                piece: 4,
-                source_fails: &[2],
-                ..plain("print(x);")
-            },
-            "",
-            "read failed\n",
-            Status::ReadFault,
-        ),
-        (
-            Run {
-                out_fails: &[1],
-                ..first
-            },
-            "",
-            "",
-            Status::OutFault,
-        ),
-        (
-            Run {
-                err_fails: &[1],
-                ..refused
-            },
-            "",
-            "",
-            Status::ErrFault,
-        ),
-        (
-            Run {
-                source_fails: &[1],
-                err_fails: &[1],
-                ..first
-            },
-            "",
-            "",
-            Status::ErrFault,
-        ),
-    ];
-    for (run, out, err, status) in rows {
-        assert!(rt; run.piece > 0);
-        let (on_out, on_err, ended) = outcome(rt.alloc(), run)?;
-        assert_eq!(rt; on_out.as_slice(), out.as_bytes(), "{}", run.script);
-        assert_eq!(rt; on_err.as_slice(), err.as_bytes(), "{}", run.script);
-        assert_eq!(rt; ended, status, "{}", run.script);
+        )?;
+    }
+    Ok(())
+}
+
+/// Scripts that end otherwise: what comes on out and on err, and the status.
+const OTHER_ENDS: [(&str, &str, &str, Status); 13] = [
+    (
+        "x = 1; w = thisWorld.sprout(); in w { print(x); } x = 5; in w { print(x); } w.commit();",
+        "1\n1\n",
+        "uncaught CommitFailed: commit failed\n",
+        Status::Threw,
+    ),
+    (
+        "in 3 { print(1); }",
+        "",
+        "uncaught TypeError: not a world\n",
+        Status::Threw,
+    ),
+    (
+        "thisWorld.commit();",
+        "",
+        "uncaught TypeError: no parent world\n",
+        Status::Threw,
+    ),
+    (
+        "print(9007199254740991 + 1);",
+        "",
+        "uncaught RangeError: number out of range\n",
+        Status::Threw,
+    ),
+    (
+        "print(7 / 2);",
+        "",
+        "uncaught RangeError: not a whole number\n",
+        Status::Threw,
+    ),
+    (
+        "print(y);",
+        "",
+        "uncaught ReferenceError: y is not defined\n",
+        Status::Threw,
+    ),
+    (
+        "throw new TypeError(\"bad\");",
+        "",
+        "uncaught TypeError: bad\n",
+        Status::Threw,
+    ),
+    ("throw {};", "", "uncaught Object\n", Status::Threw),
+    ("print(1.5);", "", "line 1: not a token\n", Status::Refused),
+    ("x = 1;\n#", "", "line 2: not a token\n", Status::Refused),
+    ("print(\"a", "", "line 1: not a token\n", Status::Refused),
+    ("print(1", "", "syntax error\n", Status::Refused),
+    (
+        "var w = thisWorld.sprout()\nin w { print(1); }",
+        "",
+        "syntax error\n",
+        Status::Refused,
+    ),
+];
+
+#[test]
+fn scripts_that_end_otherwise(rt: HostRuntime) -> Result<(), Fail> {
+    for (script, out, err, status) in OTHER_ENDS {
+        check(
+            &rt,
+            rt.alloc(),
+            plain(script),
+            out.as_bytes(),
+            err.as_bytes(),
+            status,
+        )?;
     }
     Ok(())
 }
 
 #[test]
-fn the_longest_script(rt: HostRuntime) -> Result<(), Fail> {
-    let alloc = rt.alloc();
-    let words = words(alloc, 1)?;
-    let rows = [
-        (MOST, "", Status::Done, 0),
-        (MOST + 1, "too long\n", Status::Refused, 0),
-        (MOST + 4, "too long\n", Status::Refused, 3),
-    ];
-    for (length, line, status, left) in rows {
-        let mut source = source(alloc, vec![in alloc; b' '; length]?, &[], 65_536)?;
-        let mut out = MemSink::new(alloc, Vec::new(alloc), 4096);
-        let mut err = MemSink::new(alloc, Vec::new(alloc), 4096);
-        let ended = command(alloc, words.as_slice(), &mut source, &mut out, &mut err);
-        assert_eq!(rt; ended, status, "{length} bytes");
-        assert_eq!(rt; out.content(), b"".as_slice(), "{length} bytes");
-        assert_eq!(rt; err.content(), line.as_bytes(), "{length} bytes");
-        assert_eq!(rt;
-            read_all(alloc, &mut source, 8)?.len(),
-            left,
-            "{length} bytes"
-        );
-    }
+fn bytes_that_are_no_text(rt: HostRuntime) -> Result<(), Fail> {
+    let run = plain("");
+    assert!(rt; run.source.piece > 0);
+    assert!(rt; run.out.piece > 0);
+    assert!(rt; run.err.piece > 0);
+    let ended = outcome(rt.alloc(), run, &[0xFF])?;
+    assert_eq!(rt; ended.out.as_slice(), b"".as_slice());
+    assert_eq!(rt; ended.err.as_slice(), b"not UTF-8\n".as_slice());
+    assert_eq!(rt; ended.status, Status::Refused);
     Ok(())
 }
 
 #[test]
-fn output_goes_in_pieces(rt: HostRuntime) -> Result<(), Fail> {
-    let alloc = rt.alloc();
-    let mut script = String::from_str(alloc, "a = 123456789012345;")?;
-    let mut printed = String::new(alloc);
-    for _ in 0..600 {
-        script.push_str("print(a);")?;
-        printed.push_str("123456789012345\n")?;
-    }
-    let words = words(alloc, 1)?;
-    for (fails, gone, status) in [
-        ([9].as_slice(), 9600, Status::Done),
-        ([2].as_slice(), 4096, Status::OutFault),
-        ([3].as_slice(), 8192, Status::OutFault),
+fn numbers_of_statuses(rt: HostRuntime) {
+    for (status, number) in [
+        (Status::Done, 0),
+        (Status::Threw, 1),
+        (Status::StepsSpent, 2),
+        (Status::OutOfMemory, 3),
+        (Status::Refused, 4),
+        (Status::Usage, 5),
+        (Status::ReadFault, 6),
+        (Status::OutFault, 7),
+        (Status::ErrFault, 8),
     ] {
-        let mut source = source(alloc, script.as_bytes().to_vec(alloc)?, &[], 100)?;
-        let mut out = MemSink::new(alloc, fails.to_vec(alloc)?, 100_000);
-        let mut err = MemSink::new(alloc, Vec::new(alloc), 4096);
-        let ended = command(alloc, words.as_slice(), &mut source, &mut out, &mut err);
-        assert_eq!(rt; ended, status, "{gone} bytes");
-        assert!(rt; gone <= printed.len());
-        assert_eq!(rt; out.content(), &printed.as_bytes()[..gone], "{gone} bytes");
+        assert_eq!(rt; status.code(), number, "{status:?}");
     }
-    Ok(())
 }

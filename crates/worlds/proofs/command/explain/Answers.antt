@@ -1,5 +1,5 @@
 use Rattle.std.proofs.Common.{Err, refl, subst, sym, codes}
-use Rattle.worlds.specs.declared.command.Stop.{Stop}
+use Rattle.worlds.specs.declared.report.Stop.{Stop}
 use Rattle.worlds.specs.declared.status.Status.TheVariants.{OutOfMemory}
 use Rattle.wjs_io.specs.Streams.{stream}
 use Rattle.worlds.specs.Table.{line}
