@@ -1,6 +1,6 @@
 #!/usr/bin/env python3
-"""Runs the definitions of the meaning on scripts, inside the prover: each row of rows.jsonl and steps.jsonl that takes few enough
-steps becomes a theorem, that the run of its tree gives the bytes and the ending of the row, which is proved by computation alone.
+"""Runs the definitions of the meaning on scripts, inside the prover: each row of ../rows.jsonl and ../steps.jsonl that takes few
+enough steps becomes a theorem, that the run of its tree gives the bytes and the ending of the row, which is proved by computation alone.
 
 usage: tests/meaning/run.py [WORD..]     only the rows whose id begins with a WORD
 
@@ -114,7 +114,7 @@ def wanted(row, words):
 
 
 def rows_of(words):
-    found = [json.loads(line) for name in ('rows.jsonl', 'steps.jsonl') for line in open(os.path.join(HERE, name))]
+    found = [json.loads(line) for name in ('rows.jsonl', 'steps.jsonl') for line in open(os.path.join(os.path.dirname(HERE), name))]
     return [row for row in found if wanted(row, words)]
 
 

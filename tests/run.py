@@ -1,0 +1,115 @@
+#!/usr/bin/env python3
+"""Runs tables of rows, and the examples, on the built program.
+
+usage: tests/run.py [TABLE..] [-- COMMAND..]     no TABLE: all of tests/*.jsonl, and the examples
+
+A table has a row a line, a JSON object: `id`, `words`, `stdin` (or `stdin_hex`), and the `out`, `err` and `status` that are due.
+An `err` of `usage: ` stands for one line that begins so. Of an example, examples/NAME.js, examples/NAME.out is due, nothing on
+standard error, and status 0. A row may have besides:
+  times        standard input is that many times `stdin`
+  stdin_from   standard input is this file or folder
+  full         `out` or `err`: the stream whose writes all fail
+  memory_mb    the program has so much address space
+
+Without a COMMAND the program is what ./worlds runs, which is proved and built first where a source is newer.
+Each row that differs has a line here. The last line counts, and the status is 1 where a row differs.
+"""
+import concurrent.futures
+import contextlib
+import glob
+import json
+import os
+import resource
+import subprocess
+import sys
+
+TOP = os.path.dirname(os.path.dirname(os.path.abspath(__file__)))
+SECONDS = 120
+SHOWN = 300
+
+
+def rows_of_table(path):
+    with open(path, encoding='utf-8') as table:
+        return [json.loads(line) for line in table]
+
+
+def rows_of_examples():
+    for path in sorted(glob.glob(os.path.join(TOP, 'examples', '*.js'))):
+        with open(path, 'rb') as script, open(path[:-len('.js')] + '.out', encoding='utf-8', newline='') as out:
+            yield {'id': 'examples/' + os.path.basename(path), 'words': [], 'stdin_hex': script.read().hex(),
+                   'out': out.read(), 'err': '', 'status': 0}
+
+
+def built():
+    """The program itself, since ./worlds looks for newer sources each time."""
+    if subprocess.run([os.path.join(TOP, 'worlds'), '--mode', 'check'], stdin=subprocess.DEVNULL, stdout=subprocess.DEVNULL).returncode:
+        sys.exit('tests/run.py: ./worlds does not run')
+    return [os.path.join(TOP, 'crates', 'worlds', 'out', 'worlds')]
+
+
+def streams_of(row, opened):
+    full = opened.enter_context(open('/dev/full', 'wb'))
+    streams = {name: full if row.get('full') == short else subprocess.PIPE for name, short in (('stdout', 'out'), ('stderr', 'err'))}
+    if 'stdin_from' in row:
+        # a folder too, which `open` refuses
+        source = os.open(row['stdin_from'], os.O_RDONLY)
+        opened.callback(os.close, source)
+        return streams | {'stdin': source}
+    given = bytes.fromhex(row['stdin_hex']) if 'stdin_hex' in row else row['stdin'].encode()
+    return streams | {'input': given * row.get('times', 1)}
+
+
+def limits_of(row):
+    if 'memory_mb' not in row:
+        return None
+    size = row['memory_mb'] << 20
+    return lambda: resource.setrlimit(resource.RLIMIT_AS, (size, size))
+
+
+def is_due(row, out, err, status):
+    if row['err'] == 'usage: ':
+        err_is_due = err.startswith(b'usage: ') and err.endswith(b'\n') and err.count(b'\n') == 1
+    else:
+        err_is_due = err == row['err'].encode()
+    return out == row['out'].encode() and err_is_due and status == row['status']
+
+
+def shown(out, err, status):
+    return ' '.join(text if len(text) <= SHOWN else text[:SHOWN] + '..' for text in (repr(out), repr(err))) + f' {status}'
+
+
+def difference(row, command):
+    """What was got in place of what is due, None where that is the same."""
+    try:
+        with contextlib.ExitStack() as opened:
+            done = subprocess.run(command + row['words'], timeout=SECONDS, preexec_fn=limits_of(row), **streams_of(row, opened))
+    except subprocess.TimeoutExpired:
+        return f'no end in {SECONDS} seconds'
+    out, err = done.stdout or b'', done.stderr or b''
+    if is_due(row, out, err, done.returncode):
+        return None
+    return shown(out.decode('utf-8', 'replace'), err.decode('utf-8', 'replace'), done.returncode)
+
+
+def main(words):
+    command = []
+    if '--' in words:
+        command = words[words.index('--') + 1:]
+        words = words[:words.index('--')]
+    if any(word.startswith('-') for word in words):
+        sys.exit(__doc__)
+    tables = words or sorted(glob.glob(os.path.join(TOP, 'tests', '*.jsonl')))
+    rows = [row for table in tables for row in rows_of_table(table)] + ([] if words else list(rows_of_examples()))
+    command = command or built()
+    failed = 0
+    with concurrent.futures.ThreadPoolExecutor(os.cpu_count()) as pool:
+        for row, got in zip(rows, pool.map(lambda row: difference(row, command), rows)):
+            if got is not None:
+                failed += 1
+                print(row['id'], 'wanted', shown(row['out'], row['err'], row['status']), 'got', got, flush=True)
+    print(f'{len(rows) - failed} passed, {failed} failed')
+    return 1 if failed else 0
+
+
+if __name__ == '__main__':
+    sys.exit(main(sys.argv[1:]))
