@@ -1,0 +1,111 @@
+#!/usr/bin/env python3
+"""Times the program on scripts, beside other interpreters that are on PATH, and on generated scripts. It is run by hand, and is no
+part of the gate.
+
+usage: bench/run.py [--runs N] [--steps] [COMMAND..]
+
+COMMAND runs the program, with its words; left out, it is crates/worlds/out/worlds. Each script of bench/scripts runs N times (3 if
+left out), and the least time of the processor counts; every interpreter must print what the program prints. A script's comment
+`// steps: N` tells how many steps it takes; --steps finds that by bisection, and writes it there.
+
+For a script the columns are seconds, nanoseconds a step, and seconds as a multiple of mujs's; for a generated script seconds,
+megabytes at the peak, and bytes a world. The peak is the kernel's, which counts no less than this runner itself had.
+"""
+import glob
+import os
+import re
+import shutil
+import subprocess
+import sys
+import tempfile
+
+HERE = os.path.dirname(os.path.abspath(__file__))
+PROGRAM = os.path.join(os.path.dirname(HERE), 'crates/worlds/out/worlds')
+MOST_STEPS = 10**12
+STEPS_SPENT = 2
+# what each needs in front of a script
+OTHERS = {'mujs': '', 'qjs': '', 'node': 'var print = console.log;\n'}
+NUMBERS = (1000, 20000, 50000)
+
+
+def run(words, given=''):
+    """The status, what was printed, the seconds of the processor, and the peak of memory in bytes."""
+    with tempfile.TemporaryFile() as source, tempfile.TemporaryFile() as out:
+        source.write(given.encode())
+        source.seek(0)
+        started = subprocess.Popen(words, stdin=source, stdout=out, stderr=subprocess.DEVNULL)
+        _, status, used = os.wait4(started.pid, 0)
+        started.returncode = os.waitstatus_to_exitcode(status)
+        out.seek(0)
+        return started.returncode, out.read(), used.ru_utime + used.ru_stime, used.ru_maxrss * 1024
+
+
+def best(runs, words, given=''):
+    return min((run(words, given) for _ in range(runs)), key=lambda it: it[2])
+
+
+def steps_of(program, text):
+    """The least number of steps with which a script ends."""
+    spends = lambda steps: run([*program, '--steps', str(steps)], text)[0] == STEPS_SPENT
+    least, most = 0, 1000
+    while spends(most):
+        least, most = most, most * 2
+    while most - least > 1:
+        middle = (least + most) // 2
+        least, most = (middle, most) if spends(middle) else (least, middle)
+    return most
+
+
+def time_script(runs, program, path, finds):
+    name = os.path.basename(path)[:-3]
+    with open(path, encoding='utf-8') as it:
+        text = it.read()
+    if finds:
+        text = re.sub(r'^// steps: .*\n', '', text)
+        text = f'// steps: {steps_of(program, text)}\n{text}'
+        with open(path, 'w', encoding='utf-8') as it:
+            it.write(text)
+    said = re.match(r'// steps: (\d+)\n', text)
+    status, printed, seconds, _ = best(runs, [*program, '--steps', str(MOST_STEPS)], text)
+    if status:
+        sys.exit(f'{name}: the program ended with {status}')
+    others = {}
+    for other, prelude in OTHERS.items():
+        if not shutil.which(other):
+            continue
+        with tempfile.NamedTemporaryFile('w', suffix='.js') as it:
+            it.write(prelude + text)
+            it.flush()
+            _, theirs, others[other], _ = best(runs, [other, it.name])
+        if theirs != printed:
+            sys.exit(f'{name}: {other} prints {theirs!r}, and the program {printed!r}')
+    a_step = f'{seconds * 1e9 / int(said[1]):8.0f} ns a step' if said else ''
+    times = f'{seconds / others["mujs"]:8.1f} x mujs' if others.get('mujs') else ''
+    beside = ''.join(f'  {other} {theirs:.3f} s' for other, theirs in others.items())
+    print(f'{name:8} {seconds:8.3f} s {a_step} {times} {beside}', flush=True)
+
+
+def time_generated(runs, program, number):
+    words = [*program, '--mode', 'gen', '--number', str(number), '--steps', str(MOST_STEPS)]
+    status, _, seconds, peak = best(runs, words)
+    if status:
+        sys.exit(f'gen {number}: the program ended with {status}')
+    print(f'gen {number:5} {seconds:7.3f} s {peak / 1e6:8.1f} MB {peak / number:8.0f} bytes a world', flush=True)
+
+
+def main(words):
+    runs, finds = 3, False
+    while words and words[0] in ('--runs', '--steps'):
+        if words.pop(0) == '--steps':
+            finds = True
+        else:
+            runs = int(words.pop(0))
+    program = words or [PROGRAM]
+    for path in sorted(glob.glob(os.path.join(HERE, 'scripts', '*.js'))):
+        time_script(runs, program, path, finds)
+    for number in NUMBERS:
+        time_generated(runs, program, number)
+
+
+if __name__ == '__main__':
+    main(sys.argv[1:])
