@@ -1,9 +1,9 @@
 //! What a frame holds is there.
 ghost use Rattle.std.specs.Prelude.{◌≡◌};
-ghost use Rattle.wjs_model.specs.Contents.{value_held, reference_held, callee_held};
-ghost use Rattle.wjs_model.specs.Soundness.{IsThere, HasValue, HasReference};
+ghost use Rattle.wjs_model.specs.Contents.{value_held, reference_held, callee_held, elements_held};
+ghost use Rattle.wjs_model.specs.Soundness.{Base, IsThere, HasObject, HasValue, HasReference};
 
-use wjs_base::Value;
+use wjs_base::{ObjId, Value};
 use wjs_model::{Config, Frame, Reference};
 use wjs_store::WorldStore;
 
@@ -36,4 +36,15 @@ pub fn held_callee<S: WorldStore>(config: &Config<S>, frame: &Frame) -> (Value, 
 {
     let _config = config;
     frame.held.callee()
+}
+
+/// The object whose elements are read, and how many they are.
+pub fn held_elements<S: WorldStore>(config: &Config<S>, frame: &Frame) -> (ObjId, u32)
+    requires base { Base S.meaning config.now }
+    requires there { IsThere S.meaning config.now frame.now }
+    ensures is { result ≡ elements_held frame.now.held }
+    ensures found { HasObject config.now result.0 }
+{
+    let _config = config;
+    frame.held.elements()
 }

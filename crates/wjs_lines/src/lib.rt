@@ -10,7 +10,7 @@ mod texts;
 mod values;
 
 pub use ends::{give, give_result, give_text, throw, throw_undefined};
-pub use held::{held_callee, held_reference, held_value};
+pub use held::{held_callee, held_elements, held_reference, held_value};
 pub use objects::{this_or_global, to_object};
 pub use places::{place_after, place_at};
 pub use references::{give_value_of, store_and_give};

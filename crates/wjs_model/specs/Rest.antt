@@ -1,5 +1,5 @@
 -- What is left to do of a configuration, and in how many turns.
-use Rattle.std.specs.Prelude.{ℕ, zero, suc, ◌+◌, ◌-◌, List, [], ◌∷◌, ◌++◌, length, Option, None, Some}
+use Rattle.std.specs.Prelude.{ℕ, zero, suc, ◌+◌, ◌-◌, List, [], ◌∷◌, ◌++◌, drop, Option, None, Some}
 use Rattle.wjs_base.specs.declared.ids.ObjId.{ObjId}
 use Rattle.wjs_arena.specs.declared.native.Native.{Native}
 use Rattle.wjs_arena.specs.declared.native.Native.TheVariants as native
@@ -17,7 +17,7 @@ use Rattle.wjs_meaning.specs.Operators.{operate}
 use Rattle.wjs_meaning.specs.Expressions.{expr_of, target_of}
 use Rattle.wjs_meaning.specs.Statements.{vars_from, stmt_of, again_of}
 use Rattle.wjs_meaning.specs.NativesOfObjects.{apply_from, text_of, value_at}
-use Rattle.wjs_meaning.specs.NativesOfTexts.{glue_from, glued}
+use Rattle.wjs_meaning.specs.NativesOfTexts.{glue_from, joined}
 use Rattle.wjs_meaning.specs.Natives.{native_of}
 use Rattle.wjs_meaning.specs.Programs.{eval, Ending, Done, run_next}
 use Rattle.wjs_model.specs.declared.frame.Conversion.{Conversion}
@@ -70,24 +70,24 @@ begin_conversion to.Number v env = to_number v env
 begin_conversion to.Text v env = to_text v env
 begin_conversion to.Integer v env = to_integer v env
 
--- `apply` reads the next element
-abbrev pub apply_next_to : Value → Value → List Value → ObjId → ℕ → Env → Act
-apply_next_to (Object f) this vs o count env = get_value o (index_name (length vs)) env (λ v. apply_from (count - (length vs + 1)) (length vs + 1) (vs ++ v ∷ []) o f this env)
-apply_next_to v this vs o count env = Ret Normal
+-- `apply` reads element i
+abbrev pub apply_next_to : ℕ → Value → Value → List Value → ObjId → ℕ → Env → Act
+apply_next_to i (Object f) this vs o count env = get_value o (index_name i) env (λ v. apply_from (count - (i + 1)) (i + 1) (vs ++ v ∷ []) o f this env)
+apply_next_to i v this vs o count env = Ret Normal
 
-abbrev pub apply_next : Holding → Env → Act
-apply_next held env = apply_next_to held.callee.0 held.callee.1 held.values held.elements.0 held.elements.1 env
+abbrev pub apply_next : ℕ → Holding → Env → Act
+apply_next i held env = apply_next_to i held.callee.0 held.callee.1 held.values held.elements.0 held.elements.1 env
 
--- `glue` reads element i; the separator is held, and then the text so far
-abbrev pub glue_next : ℕ → Value → Value → Holding → Env → Act
-glue_next i separator t held env = Do (Read env.world (slot held.elements.0 (index_name i))) (λ found.
-    glue_from (held.elements.1 - (i + 1)) (i + 1) (glued i (text_of t) (text_of separator) (text_of (value_or_undefined found))) (text_of separator) held.elements.0 env)
+-- `glue` reads slot i; the separator is held, and then what was read, with the separator behind each
+abbrev pub glue_next : ℕ → Holding → Env → Act
+glue_next i held env = Do (Read env.world (slot held.elements.0 (index_name i))) (λ found.
+    glue_from (held.elements.1 - (i + 1)) (i + 1) (joined (drop 1 (held.values ++ value_or_undefined found ∷ []))) (text_of held.value) held.elements.0 env)
 
 -- a native function at its entry, or at the next element that `apply` or `glue` reads: with its own step each
 abbrev pub begin_native : Native → ℕ → Holding → Env → Act
 begin_native k zero held env = native_of k held.by_new held.values env
-begin_native native.Apply (suc i) held env = apply_next held env
-begin_native native.Glue (suc i) held env = glue_next i (value_at held.values 0) (value_at held.values 1) held env
+begin_native native.Apply (suc i) held env = apply_next i held env
+begin_native native.Glue (suc i) held env = glue_next i held env
 begin_native k (suc i) held env = Ret Normal
 
 -- one line per form

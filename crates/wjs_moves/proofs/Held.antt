@@ -7,8 +7,9 @@ use Rattle.wjs_model.specs.declared.config.Config.{Config}
 use Rattle.wjs_model.specs.declared.frame.Held.{Held}
 use Rattle.wjs_model.specs.declared.frame.Held.TheVariants as holds
 use Rattle.wjs_model.specs.Frames.{earliest_first}
-use Rattle.wjs_model.specs.Contents.{value_held, values_held, reference_held, callee_held, earlier_held, visits_held}
-use Rattle.wjs_model.specs.Soundness.{HasValue, HasReference, HasCompletion, HasItems}
+use Rattle.wjs_model.specs.Contents.{value_held, values_held, reference_held, callee_held, elements_held, earlier_held, visits_held}
+use Rattle.wjs_model.specs.Soundness.{HasObject, HasValue, HasReference, HasCompletion, HasItems}
+use Rattle.wjs_meaning.specs.Builtins.{builtin}
 use Rattle.wjs_props.specs.Heap.{HasSlot}
 
 module _ {S : Type 0} (c : Config S) where
@@ -51,6 +52,17 @@ module _ {S : Type 0} (c : Config S) where
   callee_there (holds.Elements o count ∷ held) has = callee_there held has.1
   callee_there (holds.Earlier e ∷ held) has = callee_there held has.1
   callee_there (holds.Visit s ∷ held) has = callee_there held has.1
+
+  -- where none is held it is an object that was there before the first step
+  pub elements_there : (held : List Held) → HasItems c held → HasObject c (builtin 0) → HasObject c (elements_held held).0
+  elements_there [] has first = first
+  elements_there (holds.Value v ∷ held) has first = elements_there held has.1 first
+  elements_there (holds.Reference r ∷ held) has first = elements_there held has.1 first
+  elements_there (holds.Callee f this ∷ held) has first = elements_there held has.1 first
+  elements_there (holds.ByNew ∷ held) has first = elements_there held has.1 first
+  elements_there (holds.Elements o count ∷ held) has first = has.0
+  elements_there (holds.Earlier e ∷ held) has first = elements_there held has.1 first
+  elements_there (holds.Visit s ∷ held) has first = elements_there held has.1 first
 
   pub earlier_there : (held : List Held) → HasItems c held → HasCompletion c (earlier_held held)
   earlier_there [] has = tt
