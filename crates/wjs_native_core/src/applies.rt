@@ -1,32 +1,26 @@
 //! `apply`: the elements of a list are read, one step each, and then the call is made (ECMA-262, 3rd edition, section 15.3.4.3).
-ghost use Rattle.std.specs.Prelude.{◌≡◌, ◌-◌, ◌<◌, IfOk, OnOk, All, map, length};
+ghost use Rattle.std.specs.Prelude.{◌≡◌, ◌-◌, ◌<◌, OnOk, All, map};
 ghost use Rattle.wjs_base.specs.Text.{Table, Grows};
-ghost use Rattle.wjs_content.specs.Names.{index_name};
 ghost use Rattle.wjs_content.specs.Tables.{value_in};
 ghost use Rattle.wjs_meaning.specs.NativesOfObjects as line;
-ghost use Rattle.wjs_meaning.specs.Properties as properties;
-ghost use Rattle.wjs_model.specs.Contents.{holding_in, values_held, callee_held, elements_held};
+ghost use Rattle.wjs_model.specs.Contents.{holding_in, callee_held, elements_held};
 ghost use Rattle.wjs_model.specs.Rest.{begin_native};
 ghost use Rattle.wjs_model.specs.Soundness.{Base, IsThere, HasObject, HasValue};
-ghost use Rattle.wjs_moves.specs.Doing.{Does};
 ghost use Rattle.wjs_moves.specs.Parts.{env_in};
-ghost use Rattle.wjs_moves.specs.Following.{Follows, Later};
+ghost use Rattle.wjs_moves.specs.Following.{Follows};
 ghost use Rattle.wjs_native_core.specs.Owning.{apply_elements};
 
-use crate::items::elements_for;
+use crate::items::{elements_for, hold_element};
 use wjs_arena::{Class, Native};
 use wjs_base::{Name, ObjId, OutOfMemory, Value};
 use wjs_calls::call;
 use wjs_deeds::{Known, class_of, function_of, get_known, get_value};
-use wjs_lines::{held_callee, throw, to_number};
-use wjs_model::{Completion, Config, Form, Frame, Held, State, Trouble};
+use wjs_lines::{held_callee, held_elements, throw, to_number};
+use wjs_model::{Completion, Config, Form, Frame, State, Trouble};
 use wjs_moves::{due_later, finish};
 use wjs_natives::value_at;
 use wjs_num::to_uint32;
 use wjs_store::WorldStore;
-
-/// The greatest array index (section 15.4).
-const GREATEST_INDEX: usize = 4_294_967_294;
 
 /// Calls the receiver on a list of arguments.
 pub(crate) fn apply<S: WorldStore>(
@@ -131,13 +125,13 @@ fn apply_length<S: WorldStore>(config: &Config<S>, length: Value) -> u32
     }
 }
 
-/// The call, where all elements are read; else a further step is due, in which the next one is read.
+/// The call, where so many elements are read that there are no more; else a further step is due, in which the next one is read.
 fn apply_rest<S: WorldStore>(
     config: &mut Config<S>,
     frame: Frame,
     function: ObjId,
     this: Value,
-    read: usize,
+    read: u32,
 ) -> Result<(), OutOfMemory>
     requires running { config.old.state ≡ State.Running }
     requires base { Base S.meaning config.old }
@@ -146,18 +140,17 @@ fn apply_rest<S: WorldStore>(
     requires function { HasObject config.old function }
     requires this { HasValue config.old this }
     requires callee { callee_held frame.held ≡ (Value.Object function, this) }
-    requires read { read ≡ length (values_held frame.held) }
     ensures { let t = config.new.heap.texts in OnOk result (Follows S.meaning (let elements = elements_held frame.held in line.apply_from (elements.1 - read) read (holding_in t frame.held).values elements.0 function (value_in t this) (env_in S.meaning config.old t frame)) config.old config.new) }
 {
     let (_, count) = frame.held.elements();
-    if read < count as usize {
-        due_later(config, frame, 1)
+    if read < count {
+        due_later(config, frame, read + 1)
     } else {
         call(config, frame, function, this)
     }
 }
 
-/// Reads the element whose index is the number of those that are held.
+/// Reads the element before the frame's place.
 pub(crate) fn apply_on<S: WorldStore>(
     config: &mut Config<S>,
     mut frame: Frame,
@@ -173,29 +166,10 @@ pub(crate) fn apply_on<S: WorldStore>(
     let Value::Object(function) = callee else {
         return finish(config, &frame, Completion::Normal);
     };
-    let read = frame.held.values(config.heap.arena.allocator())?.len();
-    let (object, _) = frame.held.elements();
-    let value = read_element(config, &frame, object, read)?;
-    frame.held.push(Held::Value(value))?;
-    apply_rest(config, frame, function, this, read + 1)
-}
-
-/// What [[Get]] finds at an index. No list in memory is so long that it has a greater one than there are.
-fn read_element<S: WorldStore>(
-    config: &mut Config<S>,
-    frame: &Frame,
-    object: ObjId,
-    index: usize,
-) -> Result<Value, OutOfMemory>
-    requires base { Base S.meaning config.old }
-    requires there { IsThere S.meaning config.old frame.now }
-    requires object { HasObject config.old object }
-    ensures does { IfOk result (λ value. Does S.meaning (λ t. properties.get_value object (index_name index) (env_in S.meaning config.old t frame.now)) (λ t. value_in t value) config.old config.new) }
-    ensures later { OnOk result (Later S.meaning config.old config.new) }
-    ensures found { IfOk result (λ value. HasValue config.new value) }
-{
-    if index > GREATEST_INDEX {
-        return Err(OutOfMemory);
-    }
-    get_value(config, frame, object, Name::Index(index as u32))
+    let (object, count) = held_elements(config, &frame);
+    let name = Name::Index(frame.place - 1);
+    let value = get_value(config, &frame, object, name)?;
+    hold_element(&mut frame.held, value, object, count, function, this)?;
+    let read = frame.place;
+    apply_rest(config, frame, function, this, read)
 }

@@ -1,5 +1,5 @@
 //! What frames hold: the arguments of a call, and what `apply` reads.
-ghost use Rattle.std.specs.Prelude.{◌≡◌, ◌∷◌, [], IfOk, All};
+ghost use Rattle.std.specs.Prelude.{◌≡◌, ◌∷◌, [], IfOk, OnOk, All};
 ghost use Rattle.wjs_model.specs.Contents.{values_held};
 ghost use Rattle.wjs_model.specs.Frames.{earliest_first};
 ghost use Rattle.wjs_model.specs.Soundness.{HasValue, HasItems};
@@ -38,4 +38,21 @@ pub(crate) fn elements_for<S: WorldStore>(
     items.push(Held::Elements(object, count))?;
     items.push(Held::Callee(Value::Object(function), this))?;
     Ok(items)
+}
+
+/// Holds an element, and again the object and what is called, so that no search for them passes the elements.
+pub(crate) fn hold_element(
+    items: &mut Items,
+    value: Value,
+    object: ObjId,
+    count: u32,
+    function: ObjId,
+    this: Value,
+) -> Result<(), OutOfMemory>
+    ensures { OnOk result (items.new ≡ Held.Callee (Value.Object function) this ∷ Held.Elements object count ∷ Held.Value value ∷ items.old) }
+{
+    items.push(Held::Value(value))?;
+    items.push(Held::Elements(object, count))?;
+    items.push(Held::Callee(Value::Object(function), this))?;
+    Ok(())
 }

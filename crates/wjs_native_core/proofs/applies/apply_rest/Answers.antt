@@ -1,4 +1,4 @@
-use Rattle.std.proofs.Common.{◌≡◌, ◌<◌, sym, ap, ◌∙◌, subst, arith, rules}
+use Rattle.std.proofs.Common.{◌≡◌, suc, ◌+◌, ◌<◌, arith, rules}
 use Rattle.wjs_content.specs.Tables.{value_in}
 use Rattle.wjs_model.specs.Contents.{elements_held}
 use Rattle.wjs_moves.specs.Parts.{env_in, node_now}
@@ -15,6 +15,7 @@ returns-then-read-count g c =
     let t = new.heap.texts in
     let f = c.args.frame in
     let less : c.args.read < (elements_held f.held).1 = search rules in
+    let after : c.args.read + 1 ≡ suc c.args.read = omega arith in
     follows_as m _ _ old new c.due_later.result
-    (λ grows. apply_due t f.held (node_in t (node_now m old f)) f.form f.node.0 c.args.function c.args.this c.args.read (env_in m old t f) c.requires.form c.requires.callee c.requires.read less)
+    (λ grows. apply_due t f.held (node_in t (node_now m old f)) f.form f.node.0 (c.args.read + 1) c.args.function c.args.this c.args.read (env_in m old t f) c.requires.form after c.requires.callee less)
     c.due_later.ensures
