@@ -1,9 +1,14 @@
 -- Texts of several values, one after another.
-use Rattle.std.proofs.Common.{◌≡◌, ℕ, ◌+◌, ◌%◌, ◌<◌, List, [], ◌∷◌, ◌++◌, length, get_or, take, refl, sym, ap, ◌∙◌}
+use Rattle.std.proofs.Common.{◌≡◌, ℕ, ◌+◌, ◌%◌, ◌<◌, Bool, true, false, List, [], ◌∷◌, ◌++◌, length, get_or, take, drop, refl, sym, ap, ◌∙◌, arith}
 use Rattle.std.specs.Prelude.{map}
-use Rattle.std.proofs.lemmas.List.{take_more, map-append, append_assoc, append-nil}
+use Rattle.std.proofs.lemmas.Bool.{lt-ltb}
+use Rattle.std.proofs.lemmas.List.{take_more, take-append-drop, map-append, append_assoc, append-nil, length-append}
+use Rattle.wjs_base.specs.Text.{longest}
 use Rattle.wjs_num.specs.Bits.{uint32}
-use Rattle.wjs_content.specs.Values.{Text, Whole, Value}
+use Rattle.wjs_content.specs.Values.{Text, Whole, Value, String}
+use Rattle.wjs_meaning.specs.declared.trouble.Trouble.TheVariants.{TextTooLong}
+use Rattle.wjs_meaning.specs.Deeds.{Env, Act, give}
+use Rattle.wjs_meaning.specs.Errors.{throw, give_text}
 use Rattle.wjs_meaning.specs.NativesOfObjects.{text_of, whole_of}
 use Rattle.wjs_meaning.specs.NativesOfTexts.{joined}
 
@@ -34,3 +39,23 @@ joined_more f xs i x start units more below is so em =
     ∙ joined-append (map f (take i xs)) (f x ∷ [])
     ∙ ap (λ l. joined (map f (take i xs)) ++ l) (append-nil (text_of (f x)) ∙ em) in
     ap (λ u. u ++ more) so ∙ append_assoc start (joined (map f (take i xs))) more ∙ ap (λ l. start ++ l) (sym now)
+
+-- what is given of a text that is too long
+abbrev given_by : Text → Env → Bool → Act
+given_by t env long = elim long as (λ b. Act) [ true ↦ throw TextTooLong env | false ↦ give (String t) ]
+
+too_long : (t : Text) (env : Env) → longest < length t → give_text t env ≡ throw TextTooLong env
+too_long t env h = ap (given_by t env) (lt-ltb longest (length t) h)
+
+-- whatever stands behind it
+pub still_too_long : (s t : Text) (env : Env) → longest < length s → give_text s env ≡ give_text (s ++ t) env
+still_too_long s t env h =
+    let all = length-append s t in
+    too_long s env h ∙ sym (too_long (s ++ t) env (omega (arith, h, all)))
+
+-- the first so many values, and the others
+pub joined_parts : {A : Type 0} (f : A → Value) (xs : List A) (i : ℕ) → joined (map f xs) ≡ joined (map f (take i xs)) ++ joined (map f (drop i xs))
+joined_parts f xs i =
+    ap (λ l. joined (map f l)) (sym (take-append-drop i xs))
+    ∙ ap joined (map-append f (take i xs) (drop i xs))
+    ∙ joined-append (map f (take i xs)) (map f (drop i xs))

@@ -17,4 +17,4 @@ pub use numbers::{new_boolean, new_number, number_text};
 pub use places::{char_at, char_code_at, give_slice, give_substring, index_of, last_index_of};
 pub use receivers::{own_number, own_text, own_truth, truth_text};
 pub use splits::give_parts;
-pub use strings::{concat, from_char_code, new_string};
+pub use strings::{concat, from_char_code, give_joined, new_string};

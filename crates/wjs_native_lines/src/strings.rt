@@ -4,6 +4,8 @@ ghost use Rattle.wjs_content.specs.Tables.{value_in};
 ghost use Rattle.wjs_content.specs.Values.{Undefined, String};
 ghost use Rattle.wjs_base.specs.Text.{Table, Grows};
 ghost use Rattle.wjs_num.specs.Bits.{uint32};
+ghost use Rattle.wjs_meaning.specs.Deeds.{Env};
+ghost use Rattle.wjs_meaning.specs.Errors as errors;
 ghost use Rattle.wjs_meaning.specs.Natives.{native_line};
 ghost use Rattle.wjs_meaning.specs.NativesOfObjects.{whole_of};
 ghost use Rattle.wjs_meaning.specs.NativesOfTexts as line;
@@ -15,7 +17,7 @@ use crate::ends::copied;
 use crate::receivers::wrapped;
 use std::alloc::Global;
 use wjs_arena::Native;
-use wjs_base::{OutOfMemory, Value};
+use wjs_base::{LONGEST_TEXT, OutOfMemory, Value};
 use wjs_deeds::intern;
 use wjs_lines::give_text;
 use wjs_model::{Config, Frame, State};
@@ -100,16 +102,35 @@ pub fn concat<S: WorldStore>(
     give_text(config, frame, units.as_slice())
 }
 
-/// Puts the code units of texts behind others.
+/// Ends with the texts of values, one behind the other.
+pub fn give_joined<S: WorldStore>(
+    config: &mut Config<S>,
+    frame: &Frame,
+    values: &[Value],
+) -> Result<(), OutOfMemory>
+    requires running { config.old.state ≡ State.Running }
+    requires base { Base S.meaning config.old }
+    requires values { All (HasValue config.old) values.now }
+    ensures { let t = config.new.heap.texts in OnOk result (Follows S.meaning (errors.give_text (line.joined (map (value_in t) values.now)) (env_in S.meaning config.old t frame.now)) config.old config.new) }
+{
+    let mut units = Vec::new(config.heap.arena.allocator());
+    join_texts(config, &mut units, values)?;
+    give_text(config, frame, units.as_slice())
+}
+
+/// Puts the code units of texts behind others, and stops once they are too long for a text: what is given is then the same.
 fn join_texts<S: WorldStore>(
     config: &Config<S>,
     units: &mut Vec<u16>,
     values: &[Value],
 ) -> Result<(), OutOfMemory>
     requires { All (HasValue config.now) values.now }
-    ensures { OnOk result ((t : Table) → Grows config.now.heap.texts t → units.new.items ≡ units.old.items ++ line.joined (map (value_in t) values.now)) }
+    ensures { OnOk result ((t : Table) → Grows config.now.heap.texts t → (env : Env) → errors.give_text units.new.items env ≡ errors.give_text (units.old.items ++ line.joined (map (value_in t) values.now)) env) }
 {
     for value in values {
+        if units.len() > LONGEST_TEXT {
+            return Ok(());
+        }
         if units.extend_from_slice(text_of(config, *value)).is_err() {
             return Err(OutOfMemory);
         }

@@ -16,4 +16,8 @@ returns g c =
     let vs = map (value_in t) c.args.args.now in
     let env = env_in m old t c.args.frame.now in
     follows_as m _ _ old new c.give_text.result
-    (λ grows. ap (λ u. give_text u env) (c.as_slice.ensures.value ∙ c.in_ok-join_texts.ensures t grows ∙ ap (λ u. u ++ line.joined vs) (c.in_ok-units.ensures ∙ sym (c.text_of.ensures.text t grows)))) c.give_text.ensures
+    (λ grows.
+    ap (λ u. give_text u env) c.as_slice.ensures.value
+    ∙ c.in_ok-join_texts.ensures t grows env
+    ∙ ap (λ u. give_text (u ++ line.joined vs) env) (c.in_ok-units.ensures ∙ sym (c.text_of.ensures.text t grows)))
+    c.give_text.ensures
