@@ -1,8 +1,8 @@
 -- One slot of `glue` after another.
-use Rattle.std.proofs.Common.{◌≡◌, ℕ, suc, ◌+◌, ◌-◌, ◌<◌, ◌≤◌, List, [], ◌∷◌, length, get_or, sym, ap, ◌∙◌, subst, arith, inl, inr}
+use Rattle.std.proofs.Common.{◌≡◌, ℕ, suc, ◌+◌, ◌-◌, ◌<◌, List, [], ◌∷◌, ◌++◌, length, get_or, take, drop, sym, ap, ◌∙◌, subst, arith, inl, inr}
 use Rattle.std.specs.Prelude.{map, All}
 use Rattle.std.proofs.lemmas.Bool.{cases_lt}
-use Rattle.std.proofs.lemmas.List.{get_or_past}
+use Rattle.std.proofs.lemmas.List.{append-nil, append_assoc, drop-map, length-drop, take_all, get_or_past}
 use Rattle.std.proofs.lemmas.List.Elements.{All-get_or}
 use Rattle.wjs_base.specs.declared.ids.ObjId.{ObjId}
 use Rattle.wjs_base.specs.declared.values.Value.{Value as NumberedValue}
@@ -11,67 +11,96 @@ use Rattle.wjs_base.specs.Text.{Table}
 use Rattle.wjs_arena.specs.declared.native.Native.TheVariants as native
 use Rattle.wjs_content.specs.Names.{slot, index_name}
 use Rattle.wjs_content.specs.Tables.{value_in}
-use Rattle.wjs_content.specs.Values.{Value, value_or_undefined}
+use Rattle.wjs_content.specs.Values.{Text, Value, value_or_undefined}
 use Rattle.wjs_meaning.specs.Trees.{Node}
 use Rattle.wjs_meaning.specs.Deeds.{Env, Act, Tick, Do, Read}
-use Rattle.wjs_meaning.specs.NativesOfObjects.{text_of, value_at}
-use Rattle.wjs_meaning.specs.Builtins.{builtin}
-use Rattle.wjs_meaning.specs.NativesOfTexts.{glue_from, glued}
+use Rattle.wjs_meaning.specs.NativesOfObjects.{text_of}
+use Rattle.wjs_meaning.specs.NativesOfTexts.{glue_from, glued, joined}
 use Rattle.wjs_model.specs.declared.frame.Form.{Form}
 use Rattle.wjs_model.specs.declared.frame.Form.TheVariants as form
 use Rattle.wjs_model.specs.declared.frame.Held.{Held}
 use Rattle.wjs_model.specs.declared.frame.Held.TheVariants as holds
-use Rattle.wjs_model.specs.Contents.{Holding, holding_in, values_held, elements_held}
-use Rattle.wjs_model.specs.declared.config.Config.{Config}
+use Rattle.wjs_model.specs.Contents.{Holding, holding_in, value_held, values_held, elements_held}
 use Rattle.wjs_model.specs.Frames.{earliest_first}
-use Rattle.wjs_model.specs.Soundness.{HasObject, HasValue, HasItems}
 use Rattle.wjs_natives.proofs.Waiting.{earliest-map}
+use Rattle.wjs_native_lines.proofs.Joining.{joined-append}
+use Rattle.wjs_model.specs.declared.config.Config.{Config}
+use Rattle.wjs_model.specs.Soundness.{HasValue}
 use Rattle.wjs_model.specs.Rest.{begin_form, begin_native}
-
--- what is held between two steps
-abbrev pub held_glue : NumberedValue → NumberedValue → ObjId → ℕ → List Held
-held_glue separator text o count = holds.Value text ∷ holds.Value separator ∷ holds.Elements o count ∷ []
-
-glue_begins : (t : Table) (i count : ℕ) (separator text : NumberedValue) (o : ObjId) (env : Env) → i < count → Tick (begin_native native.Glue (suc i) (holding_in t (held_glue separator text o count)) env) ≡ glue_from (count - i) i (text_of (value_in t text)) (text_of (value_in t separator)) o env
-glue_begins t i count separator text o env h =
-    let n : suc (count - (i + 1)) ≡ count - i = omega arith in
-    ap (λ k. glue_from k i (text_of (value_in t text)) (text_of (value_in t separator)) o env) n
-
--- the next slot is read by a step of its own
-pub glue_due : (t : Table) (n : Node) (what : Form) (here place i count : ℕ) (separator text : NumberedValue) (o : ObjId) (env : Env) → what ≡ form.Native native.Glue → place ≡ suc i → place ≤ count
-    → Tick (begin_form n what here place (holding_in t (held_glue separator text o count)) env) ≡ glue_from (count - (place - 1)) (place - 1) (text_of (value_in t text)) (text_of (value_in t separator)) o env
-glue_due t n what here place i count separator text o env ef ep h =
-    let held = holding_in t (held_glue separator text o count) in
-    let before : i ≡ place - 1 = omega (arith, ep) in
-    ap (λ q. Tick (begin_form n q here place held env)) ef
-    ∙ ap (λ p. Tick (begin_native native.Glue p held env)) ep
-    ∙ glue_begins t i count separator text o env (omega (arith, ep))
-    ∙ ap (λ j. glue_from (count - j) j (text_of (value_in t text)) (text_of (value_in t separator)) o env) before
 
 -- what is done with the value of a slot
 abbrev pub glue_rest : ℕ → Holding → Env → Value → Act
-glue_rest i held env v = glue_from (held.elements.1 - (i + 1)) (i + 1) (glued i (text_of (value_at held.values 1)) (text_of (value_at held.values 0)) (text_of v)) (text_of (value_at held.values 0)) held.elements.0 env
+glue_rest i held env v = glue_from (held.elements.1 - (i + 1)) (i + 1) (joined (drop 1 (held.values ++ v ∷ []))) (text_of held.value) held.elements.0 env
 
 pub glue_reads : (place i : ℕ) (held : Holding) (env : Env) → place ≡ suc i → Do (Read env.world (slot held.elements.0 (index_name i))) (λ found. glue_rest i held env (value_or_undefined found)) ≡ begin_native native.Glue place held env
 glue_reads place i held env e = ap (λ p. begin_native native.Glue p held env) (sym e)
 
--- the values that are held, in order
-pub held_values : (t : Table) (held : List Held) (values : List NumberedValue) (i : ℕ) (v : NumberedValue) → values ≡ earliest_first (values_held held) → value_at (map (value_in t) values) i ≡ value_in t v → value_at (holding_in t held).values i ≡ value_in t v
-held_values t held values i v e h = ap (λ l. value_at l i) (earliest-map (value_in t) (values_held held) ∙ ap (map (value_in t)) (sym e)) ∙ h
+-- the next slot is read by a step of its own, where what is held then joins the text so far
+glue_due : (t : Table) (held : List Held) (node : Node) (what : Form) (here place i : ℕ) (so_far : Text) (env : Env) → what ≡ form.Native native.Glue → place ≡ suc i → i < (elements_held held).1
+    → ((w : Value) → joined (drop 1 ((holding_in t held).values ++ w ∷ [])) ≡ glued i so_far (text_of (value_in t (value_held held))) (text_of w))
+    → Tick (begin_form node what here place (holding_in t held) env) ≡ glue_from ((elements_held held).1 - i) i so_far (text_of (value_in t (value_held held))) (elements_held held).0 env
+glue_due t held node what here place i so_far env eo ep less joins =
+    let all = holding_in t held in
+    let o = (elements_held held).0 in
+    let left = (elements_held held).1 - (i + 1) in
+    let separator = text_of (value_in t (value_held held)) in
+    let n : suc left ≡ (elements_held held).1 - i = omega (arith, less) in
+    ap (λ q. Tick (begin_form node q here place all env)) eo
+    ∙ ap (λ p. Tick (begin_native native.Glue p all env)) ep
+    ∙ (λ j. Tick (Do (Read env.world (slot o (index_name i))) (λ found. glue_from left (i + 1) (joins (value_or_undefined found) j) separator o env)))
+    ∙ ap (λ k. glue_from k i so_far separator o env) n
 
-module _ {S : Type 0} (c : Config S) where
-  pub elements_there : (held : List Held) → HasItems c held → HasObject c (builtin 0) → HasObject c (elements_held held).0
-  elements_there [] has first = first
-  elements_there (holds.Value v ∷ held) has first = elements_there held has.1 first
-  elements_there (holds.Reference r ∷ held) has first = elements_there held has.1 first
-  elements_there (holds.Callee f this ∷ held) has first = elements_there held has.1 first
-  elements_there (holds.ByNew ∷ held) has first = elements_there held has.1 first
-  elements_there (holds.Elements o count ∷ held) has first = has.0
-  elements_there (holds.Earlier e ∷ held) has first = elements_there held has.1 first
-  elements_there (holds.Visit s ∷ held) has first = elements_there held has.1 first
+-- the first slot: nothing but the separator is held
+pub glue_first : (t : Table) (held : List Held) (node : Node) (what : Form) (here : ℕ) (separator : NumberedValue) (o : ObjId) (count : ℕ) (env : Env) → what ≡ form.Native native.Glue → held ≡ holds.Elements o count ∷ holds.Value separator ∷ [] → ¬ (count ≡ 0)
+    → Tick (begin_form node what here 1 (holding_in t held) env) ≡ glue_from count 0 [] (text_of (value_in t separator)) o env
+glue_first t held node what here separator o count env eo e some =
+    let items = holds.Elements o count ∷ holds.Value separator ∷ [] in
+    let all : count - 0 ≡ count = omega arith in
+    let first : 1 ≡ suc 0 = omega arith in
+    ap (λ (l : List Held). Tick (begin_form node what here 1 (holding_in t l) env)) e
+    ∙ glue_due t items node what here 1 0 [] env eo first (omega (arith, some)) (λ w. append-nil (text_of w))
+    ∙ ap (λ k. glue_from k 0 [] (text_of (value_in t separator)) o env) all
 
-  pub value_there_at : (vs : List NumberedValue) (i : ℕ) (v : NumberedValue) → All (HasValue c) vs → v ≡ get_or vs i values.Undefined → HasValue c v
-  value_there_at vs i v all e = subst (λ (x : NumberedValue). HasValue c x) (sym e) (elim (cases_lt i (length vs)) [
-    | inl below ↦ All-get_or (HasValue c) vs i values.Undefined below all
-    | inr past ↦ subst (λ (x : NumberedValue). HasValue c x) (sym (get_or_past vs i values.Undefined past)) tt
-  ])
+-- a further piece, and the separator before it
+joined_more : (us : List Value) (v s w : Value) → joined (drop 1 (((us ++ v ∷ []) ++ s ∷ []) ++ w ∷ [])) ≡ joined (drop 1 (us ++ v ∷ [])) ++ text_of s ++ text_of w
+joined_more [] v s w = ap (λ l. text_of s ++ l) (append-nil (text_of w))
+joined_more (u ∷ us) v s w =
+    let read = us ++ v ∷ [] in
+    ap joined (append_assoc read (s ∷ []) (w ∷ []))
+    ∙ joined-append read (s ∷ w ∷ [])
+    ∙ ap (λ l. joined read ++ (text_of s ++ l)) (append-nil (text_of w))
+    ∙ sym (append_assoc (joined read) (text_of s) (text_of w))
+
+-- the slot behind one that was read
+pub glue_onward : (t : Table) (held items : List Held) (node : Node) (what : Form) (here place i : ℕ) (piece separator : NumberedValue) (elements : ObjId × ℕ) (env : Env) → what ≡ form.Native native.Glue → place ≡ suc (suc i) → items ≡ holds.Elements elements.0 elements.1 ∷ holds.Value separator ∷ holds.Value piece ∷ held → separator ≡ value_held held → elements ≡ elements_held held → suc i < elements.1
+    → Tick (begin_form node what here place (holding_in t items) env) ≡ glue_rest i (holding_in t held) env (value_in t piece)
+glue_onward t held items node what here place i piece separator elements env eo ep e es same less =
+    let now = holds.Elements elements.0 elements.1 ∷ holds.Value separator ∷ holds.Value piece ∷ held in
+    let vs = (holding_in t held).values in
+    let so_far = joined (drop 1 (vs ++ value_in t piece ∷ [])) in
+    let next : suc i ≡ i + 1 = omega arith in
+    ap (λ (l : List Held). Tick (begin_form node what here place (holding_in t l) env)) e
+    ∙ glue_due t now node what here place (suc i) so_far env eo ep less (joined_more vs (value_in t piece) (value_in t separator))
+    ∙ ap (λ (k : ObjId × ℕ). glue_from (k.1 - suc i) (suc i) so_far (text_of (value_in t separator)) k.0 env) same
+    ∙ ap (λ (s : NumberedValue). glue_from ((elements_held held).1 - suc i) (suc i) so_far (text_of (value_in t s)) (elements_held held).0 env) es
+    ∙ ap (λ n. glue_from ((elements_held held).1 - n) n so_far (text_of (value_in t (value_held held))) (elements_held held).0 env) next
+
+pub behind_first : {A : Type 0} (xs : List A) → take (length xs - 1) (drop 1 xs) ≡ drop 1 xs
+behind_first xs = let n = length-drop 1 xs in take_all (length xs - 1) (drop 1 xs) (omega (arith, n))
+
+-- all pieces, behind the separator that was held first
+pub all_pieces : (t : Table) (held items : List Held) (piece : NumberedValue) (found : List NumberedValue) → items ≡ holds.Value piece ∷ held → found ≡ earliest_first (values_held items)
+    → joined (map (value_in t) (take (length found - 1) (drop 1 found))) ≡ joined (drop 1 ((holding_in t held).values ++ value_in t piece ∷ []))
+all_pieces t held items piece found e is =
+    ap (λ (l : List NumberedValue). joined (map (value_in t) l)) (behind_first found)
+    ∙ ap joined (sym (drop-map (value_in t) 1 found))
+    ∙ ap (λ (l : List NumberedValue). joined (drop 1 (map (value_in t) l))) is
+    ∙ ap (λ (l : List Value). joined (drop 1 l)) (sym (earliest-map (value_in t) (values_held items)))
+    ∙ ap (λ (l : List Held). joined (drop 1 (holding_in t l).values)) e
+
+-- an argument is there
+pub argument_there : {S : Type 0} (c : Config S) (vs : List NumberedValue) (i : ℕ) (v : NumberedValue) → All (HasValue c) vs → v ≡ get_or vs i values.Undefined → HasValue c v
+argument_there c vs i v all e = subst (λ (x : NumberedValue). HasValue c x) (sym e) (elim (cases_lt i (length vs)) [
+  | inl below ↦ All-get_or (HasValue c) vs i values.Undefined below all
+  | inr past ↦ subst (λ (x : NumberedValue). HasValue c x) (sym (get_or_past vs i values.Undefined past)) tt
+])
