@@ -50,6 +50,9 @@ glue_due t held node what here place i so_far env eo ep less joins =
     ∙ (λ j. Tick (Do (Read env.world (slot o (index_name i))) (λ found. glue_from left (i + 1) (joins (value_or_undefined found) j) separator o env)))
     ∙ ap (λ k. glue_from k i so_far separator o env) n
 
+pub held_first : (items under : List Held) (separator : NumberedValue) (o : ObjId) (count : ℕ) → items ≡ holds.Elements o count ∷ holds.Value separator ∷ under → under ≡ [] → items ≡ holds.Elements o count ∷ holds.Value separator ∷ []
+held_first items under separator o count e none = e ∙ ap (λ (l : List Held). holds.Elements o count ∷ holds.Value separator ∷ l) none
+
 -- the first slot: nothing but the separator is held
 pub glue_first : (t : Table) (held : List Held) (node : Node) (what : Form) (here : ℕ) (separator : NumberedValue) (o : ObjId) (count : ℕ) (env : Env) → what ≡ form.Native native.Glue → held ≡ holds.Elements o count ∷ holds.Value separator ∷ [] → ¬ (count ≡ 0)
     → Tick (begin_form node what here 1 (holding_in t held) env) ≡ glue_from count 0 [] (text_of (value_in t separator)) o env

@@ -1,4 +1,4 @@
-use Rattle.std.proofs.Common.{◌≡◌, List, [], ◌∷◌, sym, ap, ◌∙◌, subst}
+use Rattle.std.proofs.Common.{List, [], sym, ap, ◌∙◌, subst}
 use Rattle.std.specs.Prelude.{map}
 use Rattle.wjs_base.specs.declared.values.Value.{Value as NumberedValue}
 use Rattle.wjs_num.specs.Bits.{uint32}
@@ -7,11 +7,10 @@ use Rattle.wjs_meaning.specs.NativesOfObjects.{text_at, whole_at, text_of}
 use Rattle.wjs_meaning.specs.NativesOfTexts as line
 use Rattle.wjs_meaning.specs.Reading.{node_in}
 use Rattle.wjs_model.specs.declared.frame.Held.{Held}
-use Rattle.wjs_model.specs.declared.frame.Held.TheVariants as holds
 use Rattle.wjs_model.specs.Soundness.{HasValue, HasItems}
 use Rattle.wjs_moves.specs.Parts.{env_in, node_now}
 use Rattle.wjs_lines.proofs.Following.{follows_as}
-use Rattle.wjs_native_text.proofs.Gluing.{glue_first, argument_there}
+use Rattle.wjs_native_text.proofs.Gluing.{held_first, glue_first, argument_there}
 use Rattle.wjs_native_text.proofs.glue.glue.Goals as goal
 
 pub returns-then-count-eq0 : goal.returns-then-count-eq0
@@ -33,7 +32,7 @@ returns-then-count-eq0 g c =
 pub due_later-requires-clause-there : goal.due_later-requires-clause-there
 due_later-requires-clause-there g c =
     let old = c.args.config.now in
-    let items = c.in_ok-hold_separator.ensures ∙ ap (λ (l : List Held). holds.Elements c.in-Object.object c.to_uint32-count.result ∷ holds.Value c.value_at-2.result ∷ l) c.nothing_held.ensures in
+    let items = held_first c.hold_separator.new.items c.nothing_held.result c.value_at-2.result c.in-Object.object c.to_uint32-count.result c.in_ok-hold_separator.ensures c.nothing_held.ensures in
     let vs = c.args.args.now in
     let object = subst (λ (x : NumberedValue). HasValue old x) c.in-Object.is (argument_there old vs 0 c.value_at.result c.requires.args c.value_at.ensures.is) in
     record {
@@ -57,7 +56,7 @@ returns g c =
     let o = c.in-Object.object in
     let sep = c.value_at-2.result in
     let count = c.to_uint32-count.result in
-    let items = c.in_ok-hold_separator.ensures ∙ ap (λ (l : List Held). holds.Elements o count ∷ holds.Value sep ∷ l) c.nothing_held.ensures in
+    let items = held_first c.hold_separator.new.items c.nothing_held.result sep o count c.in_ok-hold_separator.ensures c.nothing_held.ensures in
     follows_as m _ _ old new c.due_later.result
     (λ grows.
     glue_first t c.hold_separator.new.items n f.form f.node.0 sep o count env c.requires.form items (λ zero. absurd (c.if-count-eq0.false zero))
