@@ -1,7 +1,5 @@
 -- What is left of `apply` is a step for each element, and then the call.
-use Rattle.std.proofs.Common.{◌≡◌, ℕ, zero, suc, ◌+◌, ◌-◌, ◌<◌, ◌≤◌, Bool, true, false, List, [], ◌∷◌, ◌++◌, length, refl, sym, ap, ◌∙◌, arith}
-use Rattle.std.specs.Prelude.{map}
-use Rattle.std.proofs.lemmas.List.{length-map, length-append}
+use Rattle.std.proofs.Common.{◌≡◌, ℕ, zero, suc, ◌+◌, ◌-◌, ◌<◌, Bool, true, false, List, [], ◌∷◌, ◌++◌, sym, ap, ◌∙◌, arith}
 use Rattle.wjs_base.specs.declared.ids.ObjId.{ObjId}
 use Rattle.wjs_base.specs.declared.values.Value.{Value as NumberedValue}
 use Rattle.wjs_base.specs.declared.values.Value.TheVariants as values
@@ -10,7 +8,6 @@ use Rattle.wjs_arena.specs.declared.native.Native.TheVariants as native
 use Rattle.wjs_content.specs.Values.{Value}
 use Rattle.wjs_content.specs.Names.{index_name, length_name}
 use Rattle.wjs_content.specs.Tables.{value_in}
-use Rattle.wjs_meaning.specs.Builtins.{builtin}
 use Rattle.wjs_meaning.specs.Trees.{Node}
 use Rattle.wjs_meaning.specs.Deeds.{Env, Act, Tick}
 use Rattle.wjs_meaning.specs.Properties.{get_value}
@@ -21,11 +18,8 @@ use Rattle.wjs_model.specs.declared.frame.Form.{Form}
 use Rattle.wjs_model.specs.declared.frame.Form.TheVariants as form
 use Rattle.wjs_model.specs.declared.frame.Held.{Held}
 use Rattle.wjs_model.specs.declared.frame.Held.TheVariants as holds
-use Rattle.wjs_model.specs.Frames.{earliest_first}
-use Rattle.wjs_model.specs.Contents.{Holding, holding_in, values_held, callee_held, elements_held}
-use Rattle.wjs_model.specs.declared.config.Config.{Config}
-use Rattle.wjs_model.specs.Soundness.{HasObject, HasItems}
-use Rattle.wjs_model.specs.Rest.{begin_form, begin_native, apply_next, apply_next_to}
+use Rattle.wjs_model.specs.Contents.{holding_in, callee_held, elements_held}
+use Rattle.wjs_model.specs.Rest.{begin_form, begin_native, apply_next_to}
 
 one_less : (count read : ℕ) → read < count → suc (count - (read + 1)) ≡ count - read
 one_less count read h = omega (arith, h)

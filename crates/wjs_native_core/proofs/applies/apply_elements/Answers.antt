@@ -1,11 +1,8 @@
-use Rattle.std.proofs.Common.{◌≡◌, Bool, true, false, not, [], sym, ap, ◌∙◌, subst, rules}
-use Rattle.std.specs.Prelude.{OnOk}
-use Rattle.wjs_content.specs.Names.{length_name}
+use Rattle.std.proofs.Common.{◌≡◌, Bool, true, false, [], sym, ap, ◌∙◌, rules}
 use Rattle.wjs_content.specs.Objects.{Arena, object_at}
 use Rattle.wjs_content.specs.Tables.{value_in}
 use Rattle.wjs_content.specs.Values.{Value}
-use Rattle.wjs_meaning.specs.Deeds.{Env, Act}
-use Rattle.wjs_meaning.specs.Properties.{get_value}
+use Rattle.wjs_meaning.specs.Deeds.{Act}
 use Rattle.wjs_meaning.specs.NativesOfObjects as line
 use Rattle.wjs_moves.specs.Parts.{env_in}
 use Rattle.wjs_moves.proofs.Shorter.{follows_look}

@@ -1,5 +1,4 @@
 use Rattle.std.proofs.Common.{◌≡◌, suc, ◌+◌, ◌<◌, arith, rules}
-use Rattle.wjs_content.specs.Tables.{value_in}
 use Rattle.wjs_model.specs.Contents.{elements_held}
 use Rattle.wjs_moves.specs.Parts.{env_in, node_now}
 use Rattle.wjs_lines.proofs.Following.{follows_as}
