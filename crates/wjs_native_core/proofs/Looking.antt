@@ -1,20 +1,15 @@
 -- What is done with what was looked up.
-use Rattle.std.proofs.Common.{◌≡◌, ℕ, Bool, true, false, not, List, [], ◌∷◌, ◌++◌, Option, None, Some, refl, sym, ap, ◌∙◌}
+use Rattle.std.proofs.Common.{◌≡◌, Bool, true, false, not, Option, None, Some, refl, ap}
 use Rattle.std.specs.Prelude.{◌&&◌, is_some}
 use Rattle.std.specs.Option.{option_map}
 use Rattle.wjs_base.specs.declared.ids.ObjId.{ObjId}
-use Rattle.wjs_base.specs.declared.values.Value.{Value as NumberedValue}
-use Rattle.wjs_base.specs.declared.values.Value.TheVariants as values
-use Rattle.wjs_base.specs.Text.{Table}
 use Rattle.wjs_arena.specs.declared.class.Class.{Class}
 use Rattle.wjs_arena.specs.declared.class.Class.TheVariants as class
 use Rattle.wjs_content.specs.Values.{Text, Value, Undefined, Null, Boolean, Number, String, Object}
 use Rattle.wjs_content.specs.Names.{slot}
-use Rattle.wjs_content.specs.Objects.{Arena, fixed, is_hidden}
-use Rattle.wjs_content.specs.Tables.{value_in}
-use Rattle.wjs_convert.specs.Conversions.{primitive_text}
+use Rattle.wjs_content.specs.Objects.{fixed}
 use Rattle.wjs_meaning.specs.Builtins.{shown_class}
-use Rattle.wjs_meaning.specs.Deeds.{Env, Act, Do, Read, Look, give}
+use Rattle.wjs_meaning.specs.Deeds.{Env, Act, Do, Read}
 use Rattle.wjs_meaning.specs.Operators.{give_truth}
 use Rattle.wjs_meaning.specs.NativesOfObjects as line
 use Rattle.wjs_native_core.specs.Owning.{found_text}

@@ -1,6 +1,6 @@
 -- A native function runs once all is converted.
-use Rattle.std.proofs.Common.{◌≡◌, ℕ, zero, suc, ◌≤◌, List, refl, sym, subst, arith}
-use Rattle.std.specs.Prelude.{map, Result, OnOk, All}
+use Rattle.std.proofs.Common.{◌≡◌, ℕ, zero, suc, ◌≤◌, List, refl, subst, arith}
+use Rattle.std.specs.Prelude.{map, Result, OnOk}
 use Rattle.wjs_base.specs.declared.ids.OutOfMemory.{OutOfMemory}
 use Rattle.wjs_base.specs.declared.values.Value.{Value}
 use Rattle.wjs_base.specs.Text.{Table}

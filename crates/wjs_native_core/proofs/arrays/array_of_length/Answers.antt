@@ -1,8 +1,8 @@
-use Rattle.std.proofs.Common.{◌≡◌, ℕ, Option, Some, sym, subst}
+use Rattle.std.proofs.Common.{ℕ, Option, Some, sym, subst}
 use Rattle.std.specs.Prelude.{OnOk}
 use Rattle.wjs_content.specs.Names.{slot, length_name}
 use Rattle.wjs_content.specs.Values.{Value, whole}
-use Rattle.wjs_meaning.specs.Deeds.{Act, Do, Write}
+use Rattle.wjs_meaning.specs.Deeds.{Do, Write}
 use Rattle.wjs_meaning.specs.NativesOfObjects as line
 use Rattle.wjs_moves.specs.Following.{Follows}
 use Rattle.wjs_moves.specs.Parts.{env_in}

@@ -1,4 +1,4 @@
-use Rattle.std.proofs.Common.{◌≡◌, length, sym, ◌∙◌, arith, rules}
+use Rattle.std.proofs.Common.{◌≡◌, length, sym, ◌∙◌, rules}
 use Rattle.wjs_native_core.proofs.Listing.{of_number, of_more, of_other}
 use Rattle.wjs_native_core.proofs.arrays.only_number.Goals as goal
 

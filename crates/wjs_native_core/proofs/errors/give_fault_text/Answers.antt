@@ -1,9 +1,8 @@
-use Rattle.std.proofs.Common.{◌≡◌, sym, ap, ◌∙◌, subst}
-use Rattle.std.specs.Prelude.{OnOk, Option}
+use Rattle.std.proofs.Common.{sym, ap, ◌∙◌}
+use Rattle.std.specs.Prelude.{Option}
 use Rattle.wjs_content.specs.Names.{message_name}
 use Rattle.wjs_content.specs.Tables.{content_in}
 use Rattle.wjs_content.specs.Values.{Value}
-use Rattle.wjs_meaning.specs.Deeds.{Act}
 use Rattle.wjs_meaning.specs.Errors.{give_text}
 use Rattle.wjs_meaning.specs.Properties.{get}
 use Rattle.wjs_meaning.specs.NativesOfObjects.{fault_text}

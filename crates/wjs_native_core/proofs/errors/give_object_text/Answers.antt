@@ -1,4 +1,4 @@
-use Rattle.std.proofs.Common.{◌≡◌, sym, ap, ◌∙◌, subst}
+use Rattle.std.proofs.Common.{sym, ap, ◌∙◌, subst}
 use Rattle.std.specs.Prelude.{OnOk}
 use Rattle.wjs_arena.specs.declared.class.Class.{Class}
 use Rattle.wjs_content.specs.Objects.{Arena, object_at}

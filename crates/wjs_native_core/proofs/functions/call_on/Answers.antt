@@ -1,4 +1,4 @@
-use Rattle.std.proofs.Common.{◌≡◌, List, [], sym, ap, subst}
+use Rattle.std.proofs.Common.{List, sym, subst}
 use Rattle.std.specs.Prelude.{OnOk, map}
 use Rattle.wjs_base.specs.declared.values.Value.{Value}
 use Rattle.wjs_content.specs.Tables.{value_in}

@@ -1,4 +1,4 @@
-use Rattle.std.proofs.Common.{◌≡◌, List, sym, ap, ◌∙◌}
+use Rattle.std.proofs.Common.{List, ap, ◌∙◌}
 use Rattle.std.specs.Prelude.{map}
 use Rattle.wjs_content.specs.Values.{Value}
 use Rattle.wjs_content.specs.Tables.{value_in}

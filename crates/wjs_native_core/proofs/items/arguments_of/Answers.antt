@@ -1,4 +1,4 @@
-use Rattle.std.proofs.Common.{◌+◌, ◌∷◌, List, false, refl, sym, subst}
+use Rattle.std.proofs.Common.{◌+◌, List, false, refl, sym, subst}
 use Rattle.wjs_model.specs.declared.frame.Held.{Held}
 use Rattle.wjs_natives.proofs.Holding.{Holds, holds_none, holds_more, holds_all}
 use Rattle.wjs_native_core.proofs.items.arguments_of.Goals as goal

@@ -1,12 +1,8 @@
-use Rattle.std.proofs.Common.{◌≡◌, Bool, true, false, not, Option, refl, sym, ap, ◌∙◌, subst}
-use Rattle.std.specs.Prelude.{◌&&◌, is_some, OnOk}
-use Rattle.wjs_content.specs.Names.{slot}
+use Rattle.std.proofs.Common.{false, not, sym, ap, ◌∙◌}
+use Rattle.std.specs.Prelude.{◌&&◌, is_some}
 use Rattle.wjs_content.specs.Objects.{Arena, fixed, is_hidden}
-use Rattle.wjs_content.specs.Tables.{name_in, arena_in, value_in, content_in}
-use Rattle.wjs_content.specs.Values.{Value, Boolean}
-use Rattle.wjs_meaning.specs.Deeds.{Act, give}
+use Rattle.wjs_content.specs.Tables.{name_in, arena_in, value_in}
 use Rattle.wjs_meaning.specs.Operators.{give_truth}
-use Rattle.wjs_moves.specs.Following.{Follows}
 use Rattle.wjs_moves.specs.Parts.{env_in}
 use Rattle.wjs_moves.proofs.Shorter.{follows_look}
 use Rattle.wjs_lines.proofs.Following.{follows_as}

@@ -1,12 +1,9 @@
-use Rattle.std.proofs.Common.{◌≡◌, ◌-◌, ◌≤◌, sym, ap, subst, rules}
+use Rattle.std.proofs.Common.{◌≤◌, subst, rules}
 use Rattle.wjs_base.specs.Text.{Table}
-use Rattle.wjs_meaning.specs.Deeds.{Act, then_value}
+use Rattle.wjs_meaning.specs.Deeds.{Act}
 use Rattle.wjs_meaning.specs.Natives.{native_of}
-use Rattle.wjs_meaning.specs.Reading.{node_in}
-use Rattle.wjs_model.specs.declared.frame.Form.{Form}
-use Rattle.wjs_model.specs.Contents.{holding_in, completion_in}
-use Rattle.wjs_model.specs.Waiting.{after, after_argument}
-use Rattle.wjs_moves.specs.Parts.{env_in, node_now}
+use Rattle.wjs_model.specs.Contents.{holding_in}
+use Rattle.wjs_moves.specs.Parts.{env_in}
 use Rattle.wjs_lines.proofs.Following.{follows_as}
 use Rattle.wjs_natives.specs.declared.conversions.Progress.{Progress}
 use Rattle.wjs_natives.specs.Converting.{Progresses}

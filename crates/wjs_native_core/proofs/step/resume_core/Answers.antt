@@ -1,7 +1,6 @@
-use Rattle.std.proofs.Common.{◌≡◌, ◌-◌, ◌≤◌, sym, ap, subst, rules}
+use Rattle.std.proofs.Common.{◌-◌, sym, ap, subst}
 use Rattle.wjs_base.specs.Text.{Table}
 use Rattle.wjs_meaning.specs.Deeds.{Act, then_value}
-use Rattle.wjs_meaning.specs.Natives.{native_of}
 use Rattle.wjs_meaning.specs.Reading.{node_in}
 use Rattle.wjs_model.specs.declared.frame.Form.{Form}
 use Rattle.wjs_model.specs.Contents.{holding_in, completion_in}

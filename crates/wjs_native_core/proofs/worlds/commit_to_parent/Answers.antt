@@ -4,7 +4,6 @@ use Rattle.wjs_base.specs.declared.ids.WorldId.{WorldId}
 use Rattle.wjs_meaning.specs.Deeds as deed
 use Rattle.wjs_meaning.specs.Deeds.{Env, Act, Do}
 use Rattle.wjs_meaning.specs.NativesOfObjects as line
-use Rattle.wjs_meaning.specs.WorldValues.{world_object_of}
 use Rattle.wjs_moves.specs.Following.{Follows}
 use Rattle.wjs_moves.specs.Parts.{env_in}
 use Rattle.wjs_lines.proofs.Following.{env_later}
