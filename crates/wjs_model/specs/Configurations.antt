@@ -65,12 +65,13 @@ module _ {S : Type 0} (meaning : S → Meaning) where
 
   -- ---- what a call on a configuration keeps
 
-  -- the units, the global object, the world and the owner; the numbers of texts; the objects, to which the owner's may be added; the store's own view and its surroundings
+  -- the units, the global object, the world, the owner and who is kept apart; the numbers of texts; the objects, to which the owner's may be added; the store's own view and its surroundings
   pub record Stays (old new : Config S) : Type 0 where
     pub units : new.units ≡ old.units
     pub global : new.global ≡ old.global
     pub world : new.world ≡ old.world
     pub owner : new.owner ≡ old.owner
+    pub apart : new.apart ≡ old.apart
     pub texts : Grows old.heap.texts new.heap.texts
     pub objects : (o : ObjId) (e : Entry) → map.get old.heap.arena o ≡ Some e → map.get new.heap.arena o ≡ Some e
     pub made : (o : ObjId) (e : Entry) → map.get old.heap.arena o ≡ None → map.get new.heap.arena o ≡ Some e → o.owner ≡ old.owner

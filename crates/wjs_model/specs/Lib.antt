@@ -7,4 +7,5 @@ pub mod Waiting
 pub mod Rest
 pub mod Laws
 pub mod Configurations
+pub mod Apart
 pub mod Soundness

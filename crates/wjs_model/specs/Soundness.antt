@@ -1,20 +1,22 @@
--- When a configuration is sound: everything that it names is there.
-use Rattle.std.specs.Prelude.{◌≡◌, ℕ, ◌<◌, List, [], ◌∷◌, Option, None, Some, All, IsTrue}
+-- When a configuration is sound: everything that it names is there, and of no owner that is kept apart.
+use Rattle.std.specs.Prelude.{◌≡◌, ℕ, ◌<◌, not, List, [], ◌∷◌, Option, None, Some, All, IsTrue}
 use Rattle.std.specs.FinMap as map
 use Rattle.wjs_base.specs.declared.ids.ObjId.{ObjId}
 use Rattle.wjs_base.specs.declared.ids.TextId.{TextId}
 use Rattle.wjs_base.specs.declared.ids.WorldId.{WorldId}
 use Rattle.wjs_base.specs.declared.values.Name.{Name}
+use Rattle.wjs_base.specs.declared.values.Slot.{Slot}
 use Rattle.wjs_base.specs.declared.values.Value.{Value}
+use Rattle.wjs_base.specs.declared.values.Value.TheVariants as values
 use Rattle.wjs_base.specs.declared.values.Content.{Content}
+use Rattle.wjs_base.specs.declared.values.Content.TheVariants as contents
 use Rattle.wjs_base.specs.Spelling.{IsName}
 use Rattle.wjs_base.specs.Text.{Has}
 use Rattle.wjs_store.specs.State.{has_world}
-use Rattle.wjs_store.specs.Shown.{content_of}
 use Rattle.wjs_store.specs.Meaning.{Meaning, worlds}
 use Rattle.wjs_arena.specs.Entries.{Entry, has}
 use Rattle.wjs_content.specs.Worlds.{KnowsWorlds}
-use Rattle.wjs_props.specs.Heap.{HasValue as HasValueIn, HasContent as HasContentIn, HasSlot as HasSlotIn, IsHeap}
+use Rattle.wjs_props.specs.Heap.{IsHeap}
 use Rattle.wjs_props.specs.Means.{parts}
 use Rattle.wjs_meaning.specs.Builtins.{builtin}
 use Rattle.wjs_model.specs.declared.frame.Reference.{Reference}
@@ -30,21 +32,30 @@ use Rattle.wjs_model.specs.declared.config.Config.{Config}
 use Rattle.wjs_model.specs.declared.config.State.{State}
 use Rattle.wjs_model.specs.declared.config.State.TheVariants as states
 use Rattle.wjs_model.specs.Texts.{KnowsUnit}
+use Rattle.wjs_model.specs.Apart.{is_apart, IsNear, NearSlots, NamesNear}
 
 -- ---- what is named is there
 
 module _ {S : Type 0} (c : Config S) where
+  -- of no owner that is kept apart
   abbrev pub HasObject : ObjId → Type 0
-  HasObject o = IsTrue (has c.heap.arena o)
+  HasObject o = IsTrue (has c.heap.arena o) × IsNear c.apart.items o
 
   abbrev pub HasName : Name → Type 0
   HasName name = IsName c.heap.texts name
 
   abbrev pub HasValue : Value → Type 0
-  HasValue v = HasValueIn c.heap.texts c.heap.arena v
+  HasValue (values.Text id) = Has c.heap.texts id
+  HasValue (values.Object o) = HasObject o
+  HasValue v = Unit {0}
 
   abbrev pub HasContent : Content → Type 0
-  HasContent x = HasContentIn c.heap.texts c.heap.arena (content_of x)
+  HasContent contents.Absent = Unit {0}
+  HasContent (contents.Present v) = HasValue v
+
+  pub record HasSlot (s : Slot) : Type 0 where
+    pub object : HasObject s.object
+    pub name : HasName s.name
 
   abbrev pub HasLabel : Option TextId → Type 0
   HasLabel None = Unit {0}
@@ -71,7 +82,7 @@ module _ {S : Type 0} (c : Config S) where
   HasItem holds.ByNew = Unit {0}
   HasItem (holds.Elements o count) = HasObject o
   HasItem (holds.Earlier e) = HasCompletion e
-  HasItem (holds.Visit s) = HasSlotIn c.heap.texts c.heap.arena s
+  HasItem (holds.Visit s) = HasSlot s
 
   abbrev pub HasItems : List Held → Type 0
   HasItems [] = Unit {0}
@@ -100,8 +111,9 @@ module _ {S : Type 0} (meaning : S → Meaning) where
 
   -- all but how it ended
   pub record Base (c : Config S) : Type 0 where
-    -- its heap is one, and its global object and first world are there
+    -- its heap is one, its store works, and its global object and first world are there
     pub heap : IsHeap (parts meaning c.heap)
+    pub works : IsTrue (not (meaning c.heap.store).spent)
     pub global : HasObject c c.global
     pub world : HasWorld c c.world
     -- the objects that were there before the first step are there
@@ -110,6 +122,12 @@ module _ {S : Type 0} (meaning : S → Meaning) where
     pub units : All (KnowsUnit c.heap.texts) c.units.items
     -- a world of its owner that an object stands for is in the store
     pub own_worlds : (o : ObjId) (e : Entry) (w : WorldId) → map.get c.heap.arena o ≡ Some e → e.object.world ≡ Some w → w.owner ≡ c.owner → HasWorld c w
+    -- its own owner is not kept apart, and where an owner is, no object of it has a world of the store
+    pub own : IsTrue (not (is_apart c.apart.items c.owner))
+    pub no_worlds : (o : ObjId) (e : Entry) (w : WorldId) → map.get c.heap.arena o ≡ Some e → IsTrue (is_apart c.apart.items o.owner) → e.object.world ≡ Some w → ¬ HasWorld c w
+    -- the objects of the others name none of it, and neither do the present slots
+    pub near_objects : (o : ObjId) (e : Entry) → map.get c.heap.arena o ≡ Some e → IsNear c.apart.items o → NamesNear c.apart.items e.object
+    pub near_slots : NearSlots c.apart.items (worlds (meaning c.heap.store))
     pub frames : All (IsThere c) c.frames
     -- the texts that marks name are there
     pub marks : KnowsWorlds c.heap.texts (worlds (meaning c.heap.store))

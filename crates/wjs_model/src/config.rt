@@ -26,6 +26,8 @@ pub struct Config<S: WorldStore> {
     pub world: WorldId,
     /// Who makes its objects and worlds.
     pub owner: u32,
+    /// Owners whose objects are kept apart: the run never names one. No step reads it.
+    pub apart: Vec<u32>,
     /// Output that has not gone to the sink.
     pub pending: Vec<u8>,
     /// How many steps are left.
