@@ -53,9 +53,8 @@ module _ {S : Type 0} (c : Config S) where
   HasContent contents.Absent = Unit {0}
   HasContent (contents.Present v) = HasValue v
 
-  pub record HasSlot (s : Slot) : Type 0 where
-    pub object : HasObject s.object
-    pub name : HasName s.name
+  abbrev pub HasSlot : Slot → Type 0
+  HasSlot s = HasObject s.object × HasName s.name
 
   abbrev pub HasLabel : Option TextId → Type 0
   HasLabel None = Unit {0}

@@ -124,7 +124,7 @@ module _ {S : Type 0} (meaning : S → Meaning) where
         let eg : each (frame_in t) frames ≡ frames_in meaning t old ++ frame_in t w ∷ [] = ap (each (frame_in t)) ef ∙ each_snoc (frame_in t) old.frames w in
         let s = k.stays in
         record {
-          stays = record { units = s.units; global = s.global; world = s.world; owner = s.owner; texts = s.texts; objects = s.objects; made = s.made; own = s.own; around = s.around; narrows = s.narrows };
+          stays = record { units = s.units; global = s.global; world = s.world; owner = s.owner; apart = s.apart; texts = s.texts; objects = s.objects; made = s.made; own = s.own; around = s.around; narrows = s.narrows };
           left = k.left;
           alive = k.alive;
           kept = λ v a h n.

@@ -125,7 +125,7 @@ module _ {S : Type 0} (c : Config S) (new : Table) (g : Grows c.heap.texts new) 
   held_visits_grow (holds.ByNew ∷ held) k = held_visits_grow held k.1
   held_visits_grow (holds.Elements o count ∷ held) k = held_visits_grow held k.1
   held_visits_grow (holds.Earlier e ∷ held) k = held_visits_grow held k.1
-  held_visits_grow (holds.Visit s ∷ held) k = let e = name_grows s.name (k.0).name in let more = held_visits_grow held k.1 in λ i. slot s.object (e i) ∷ more i
+  held_visits_grow (holds.Visit s ∷ held) k = let e = name_grows s.name (k.0).1 in let more = held_visits_grow held k.1 in λ i. slot s.object (e i) ∷ more i
 
   holding_grows : (held : List Held) → HasItems c held → holding_in new held ≡ holding_in c.heap.texts held
   holding_grows held k =

@@ -8,9 +8,8 @@ use Rattle.wjs_model.specs.declared.frame.Held.{Held}
 use Rattle.wjs_model.specs.declared.frame.Held.TheVariants as holds
 use Rattle.wjs_model.specs.Frames.{earliest_first}
 use Rattle.wjs_model.specs.Contents.{value_held, values_held, reference_held, callee_held, elements_held, earlier_held, visits_held}
-use Rattle.wjs_model.specs.Soundness.{HasObject, HasValue, HasReference, HasCompletion, HasItems}
+use Rattle.wjs_model.specs.Soundness.{HasObject, HasValue, HasSlot, HasReference, HasCompletion, HasItems}
 use Rattle.wjs_meaning.specs.Builtins.{builtin}
-use Rattle.wjs_props.specs.Heap.{HasSlot}
 
 module _ {S : Type 0} (c : Config S) where
   pub value_there : (held : List Held) → HasItems c held → HasValue c (value_held held)
@@ -74,15 +73,15 @@ module _ {S : Type 0} (c : Config S) where
   earlier_there (holds.Earlier e ∷ held) has = has.0
   earlier_there (holds.Visit s ∷ held) has = earlier_there held has.1
 
-  pub visits_there : (held : List Held) → HasItems c held → All (HasSlot c.heap.texts c.heap.arena) (visits_held held)
-  visits_there [] has = All-nil (HasSlot c.heap.texts c.heap.arena)
+  pub visits_there : (held : List Held) → HasItems c held → All (HasSlot c) (visits_held held)
+  visits_there [] has = All-nil (HasSlot c)
   visits_there (holds.Value v ∷ held) has = visits_there held has.1
   visits_there (holds.Reference r ∷ held) has = visits_there held has.1
   visits_there (holds.Callee f this ∷ held) has = visits_there held has.1
   visits_there (holds.ByNew ∷ held) has = visits_there held has.1
   visits_there (holds.Elements o count ∷ held) has = visits_there held has.1
   visits_there (holds.Earlier e ∷ held) has = visits_there held has.1
-  visits_there (holds.Visit s ∷ held) has = All-cons (HasSlot c.heap.texts c.heap.arena) s (visits_held held) has.0 (visits_there held has.1)
+  visits_there (holds.Visit s ∷ held) has = All-cons (HasSlot c) s (visits_held held) has.0 (visits_there held has.1)
 
   all_earliest : (vs : List Value) → All (HasValue c) vs → All (HasValue c) (earliest_first vs)
   all_earliest [] has = All-nil (HasValue c)

@@ -38,6 +38,7 @@ module _ {S : Type 0} (meaning : S → Meaning) where
     global = refl;
     world = refl;
     owner = refl;
+    apart = refl;
     texts = grows_same old.heap.texts;
     objects = λ o e h. h;
     made = λ o e h k. absurd (not_both old o e h k);

@@ -33,7 +33,12 @@ module _ {S : Type 0} (meaning : S → Meaning) where
     world = b.world;
     builtins = b.builtins;
     units = b.units;
+    works = b.works;
     own_worlds = b.own_worlds;
+    own = b.own;
+    no_worlds = b.no_worlds;
+    near_objects = b.near_objects;
+    near_slots = b.near_slots;
     frames = All-weaker (IsThere meaning old) (IsThere meaning (record old { frames = frames; left = left; state = state })) (λ f. there_framed old frames left state f) frames h;
     marks = b.marks;
   }

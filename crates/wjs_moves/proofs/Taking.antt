@@ -96,7 +96,7 @@ seen_spent t (Some told) e full arena out = refl
 
 module _ {S : Type 0} (meaning : S → Meaning) where
   stays_after : (old later : Config S) (frames : List NumberedFrame) (left : ℕ) → Stays meaning (record old { frames = frames; left = left }) later → Stays meaning old later
-  stays_after old later frames left s = record { units = s.units; global = s.global; world = s.world; owner = s.owner; texts = s.texts; objects = s.objects; made = s.made; own = s.own; around = s.around; narrows = s.narrows }
+  stays_after old later frames left s = record { units = s.units; global = s.global; world = s.world; owner = s.owner; apart = s.apart; texts = s.texts; objects = s.objects; made = s.made; own = s.own; around = s.around; narrows = s.narrows }
 
   -- what was left with the frame on top
   rest_taken : (t : Table) (old : Config S) (fs : List NumberedFrame) (f : NumberedFrame) (m : Moment) (st : St) (n : ℕ) → old.state ≡ states.Running → old.frames ≡ fs ++ f ∷ [] → moment_in t f.phase ≡ m → rest_by t old.state (run_in meaning t old) (frames_in meaning t old) st n ≡ rest_with (run_in meaning t old) (act_at (run_in meaning t old) (frame_in t f) m) (each (frame_in t) fs) st n
