@@ -1,14 +1,15 @@
 -- After each kind of deed what was there is there.
 use Rattle.std.proofs.Common.{◌≡◌, Bool, true, false, cond, Option, None, Some, refl, sym, ap, ◌∙◌, subst, IsTrue}
-use Rattle.std.specs.Prelude.{is_some}
+use Rattle.std.specs.Prelude.{is_some, not}
 use Rattle.std.specs.FinMap as map
 use Rattle.std.specs.Ordering.{eq_by_cmp}
+use Rattle.std.specs.Cmp.{Equal-is}
 use Rattle.wjs_base.specs.declared.ids.ObjId.{ObjId}
 use Rattle.wjs_base.specs.declared.ids.WorldId.{WorldId}
-use Rattle.wjs_base.specs.Order.{obj_cmp, obj_total}
+use Rattle.wjs_base.specs.Order.{obj_cmp, obj_total, obj_exact}
 use Rattle.wjs_base.specs.Text.{Table, IsTable, Grows}
 use Rattle.wjs_base.proofs.TextLaws.{Grows-refl, Grows-trans}
-use Rattle.wjs_store.specs.State.{Act as Action, has_world}
+use Rattle.wjs_store.specs.State.{Act as Action, commit, has_world}
 use Rattle.wjs_store.specs.Meaning.{Meaning, worlds}
 use Rattle.wjs_arena.specs.declared.object.Object.{Object}
 use Rattle.wjs_arena.specs.Entries.{Objects, Entry, has, next_number, entry_over}
@@ -23,11 +24,17 @@ use Rattle.wjs_props.specs.Heap.{Performs}
 use Rattle.wjs_props.specs.Means.{parts}
 use Rattle.wjs_props.proofs.Growing.{heap_grows}
 use Rattle.wjs_model.specs.declared.config.Config.{Config}
-use Rattle.wjs_model.specs.Soundness.{HasWorld, Base}
+use Rattle.wjs_model.specs.Soundness.{HasObject, HasWorld, Base}
+use Rattle.wjs_model.specs.Apart.{is_apart, IsNear, NearSlots, NamesNear}
 use Rattle.wjs_moves.specs.Following.{Later}
-use Rattle.wjs_deeds.proofs.Staying.{later_on, later_there}
+use Rattle.wjs_deeds.proofs.Staying.{StaysApart, later_on, later_there}
+use Rattle.wjs_deeds.proofs.Nearing.{Left}
 
 module _ {S : Type 0} (meaning : S → Meaning) where
+  not_both : (b : Bool) → IsTrue b → IsTrue (not b) → ⊥
+  not_both true h k = absurd (cc)
+  not_both false h k = absurd (cc)
+
   pub later_same : (old : Config S) → Base meaning old → Later meaning old old
   later_same old b = later_there old old (Grows-refl old.heap.texts) (λ o h. h) meaning (λ w h. h) refl refl refl refl b
 
@@ -53,21 +60,33 @@ module _ {S : Type 0} (meaning : S → Meaning) where
   same_objects : (old new : Objects) → new ≡ old → (o : ObjId) → IsTrue (has old o) → IsTrue (has new o)
   same_objects old new e o h = subst (λ (m : Objects). IsTrue (has m o)) (sym e) h
 
-  pub later_plan : {A : Type 0} (w : WorldId) (plan : Table → Plan A) (answer : Table → A) (old : Config S) (heap : Heap S) → Base meaning old → Performs w plan answer (parts meaning old.heap) (parts meaning heap) → Later meaning old (record old { heap = heap })
-  later_plan w plan answer old heap b p = later_on meaning old heap p.texts (same_objects old.heap.arena heap.arena p.arena) p.still_there b p.heap (p.marks b.marks)
-      (λ o e v h k l. p.still_there v (b.own_worlds o e v (ap (λ (m : Objects). map.get m o) (sym p.arena) ∙ h) k l))
+  -- where the objects stay, and no world is new
+  stays_apart : (old : Config S) (heap : Heap S) → Base meaning old → heap.arena ≡ old.heap.arena → Left meaning old heap → StaysApart meaning old heap
+  stays_apart old heap b arena left = record {
+    no_worlds = λ o e w h a k there. b.no_worlds o e w (ap (λ (m : Objects). map.get m o) (sym arena) ∙ h) a k (left.were w there);
+    objects = λ o e h. b.near_objects o e (ap (λ (m : Objects). map.get m o) (sym arena) ∙ h);
+    slots = left.slots;
+  }
 
-  pub later_acted : (act : Action Slot Value) (answer : Heard) (old : Config S) (heap : Heap S) → Base meaning old → Acts act answer (parts meaning old.heap) (parts meaning heap) → Later meaning old (record old { heap = heap })
-  later_acted act answer old heap b p = later_on meaning old heap (subst (Grows old.heap.texts) (sym p.texts) (Grows-refl old.heap.texts)) (same_objects old.heap.arena heap.arena p.arena) p.still_there b p.heap (p.marks b.marks)
-      (λ o e v h k l. p.still_there v (b.own_worlds o e v (ap (λ (m : Objects). map.get m o) (sym p.arena) ∙ h) k l))
+  pub later_plan : {A : Type 0} (w : WorldId) (plan : Table → Plan A) (answer : Table → A) (old : Config S) (heap : Heap S) → Base meaning old → Performs w plan answer (parts meaning old.heap) (parts meaning heap) → Left meaning old heap → Later meaning old (record old { heap = heap })
+  later_plan w plan answer old heap b p left = later_on meaning old heap p.texts (same_objects old.heap.arena heap.arena p.arena) p.still_there b p.heap (p.marks b.marks) left.works
+      (λ o e v h k l. p.still_there v (b.own_worlds o e v (ap (λ (m : Objects). map.get m o) (sym p.arena) ∙ h) k l)) (stays_apart old heap b p.arena left)
+
+  pub later_acted : (act : Action Slot Value) (answer : Heard) (old : Config S) (heap : Heap S) → Base meaning old → Acts act answer (parts meaning old.heap) (parts meaning heap) → StaysApart meaning old heap → Later meaning old (record old { heap = heap })
+  later_acted act answer old heap b p apart = later_on meaning old heap (subst (Grows old.heap.texts) (sym p.texts) (Grows-refl old.heap.texts)) (same_objects old.heap.arena heap.arena p.arena) p.still_there b p.heap (p.marks b.marks) (ap not p.spent ∙ b.works)
+      (λ o e v h k l. p.still_there v (b.own_worlds o e v (ap (λ (m : Objects). map.get m o) (sym p.arena) ∙ h) k l)) apart
+
+  pub later_committed : (w : WorldId) (answer : Heard) (old : Config S) (heap : Heap S) → Base meaning old → Acts (commit w) answer (parts meaning old.heap) (parts meaning heap) → Left meaning old heap → Later meaning old (record old { heap = heap })
+  later_committed w answer old heap b p left = later_acted (commit w) answer old heap b p (stays_apart old heap b p.arena left)
 
   -- more texts
   pub later_texts : (old : Config S) (texts : Table) → Base meaning old → IsTable texts → Grows old.heap.texts texts → Later meaning old (record old { heap = record old.heap { texts = texts } })
-  later_texts old texts b table g = later_on meaning old (record old.heap { texts = texts }) g (λ o h. h) (λ w h. h) b (heap_grows (parts meaning old.heap) texts table g b.heap) (worlds_grow old.heap.texts texts g (worlds (meaning old.heap.store)) b.marks).0 b.own_worlds
+  later_texts old texts b table g = later_on meaning old (record old.heap { texts = texts }) g (λ o h. h) (λ w h. h) b (heap_grows (parts meaning old.heap) texts table g b.heap) (worlds_grow old.heap.texts texts g (worlds (meaning old.heap.store)) b.marks).0 b.works b.own_worlds
+      (record { no_worlds = b.no_worlds; objects = b.near_objects; slots = b.near_slots })
 
   -- one object more, whose world is there
-  pub later_create : (x : Object) (id : ObjId) (old : Config S) (heap : Heap S) → Base meaning old → Creates old.owner x id (parts meaning old.heap) (parts meaning heap) → ((w : WorldId) → x.world ≡ Some w → HasWorld meaning old w) → Later meaning old (record old { heap = heap })
-  later_create x id old heap b c own = later_on meaning old heap texts objects (λ w h. subst (λ (m : Meaning). IsTrue (has_world (worlds m) w)) (sym c.store) h) b c.heap marks worlds_there
+  pub later_create : (x : Object) (id : ObjId) (old : Config S) (heap : Heap S) → Base meaning old → Creates old.owner x id (parts meaning old.heap) (parts meaning heap) → NamesNear old.apart.items x → ((w : WorldId) → x.world ≡ Some w → HasWorld meaning old w) → Later meaning old (record old { heap = heap })
+  later_create x id old heap b c near own = later_on meaning old heap texts objects (λ w h. subst (λ (m : Meaning). IsTrue (has_world (worlds m) w)) (sym c.store) h) b c.heap marks (subst (λ (m : Meaning). IsTrue (not m.spent)) (sym c.store) b.works) worlds_there apart
     where
       texts : Grows old.heap.texts heap.texts
       texts = subst (Grows old.heap.texts) (sym c.texts) (Grows-refl old.heap.texts)
@@ -86,7 +105,31 @@ module _ {S : Type 0} (meaning : S → Meaning) where
       world_there o e w true q k l = let is : entry_over old.heap.arena x ≡ e = cc in own w (ap (λ (z : Entry). z.object.world) is ∙ k)
       world_there o e w false q k l = b.own_worlds o e w q k l
 
+      -- where it is found
+      found : (o : ObjId) (e : Entry) → map.get heap.arena o ≡ Some e → cond (eq_by_cmp obj_cmp o (next_number old.heap.arena old.owner)) (Some (entry_over old.heap.arena x)) (map.get old.heap.arena o) ≡ Some e
+      found o e h = sym (map.get-insert obj_total old.heap.arena (next_number old.heap.arena old.owner) (entry_over old.heap.arena x) o) ∙ ap (λ (m : Objects). map.get m o) (sym c.arena) ∙ h
+
+      near_object : (o : ObjId) (e : Entry) (same : Bool) → cond same (Some (entry_over old.heap.arena x)) (map.get old.heap.arena o) ≡ Some e → IsNear old.apart.items o → NamesNear old.apart.items e.object
+      near_object o e true q h = let is : entry_over old.heap.arena x ≡ e = cc in subst (λ (z : Entry). NamesNear old.apart.items z.object) is near
+      near_object o e false q h = b.near_objects o e q h
+
+      no_world : (o : ObjId) (e : Entry) (w : WorldId) (same : Bool) → eq_by_cmp obj_cmp o (next_number old.heap.arena old.owner) ≡ same → cond same (Some (entry_over old.heap.arena x)) (map.get old.heap.arena o) ≡ Some e → IsTrue (is_apart old.apart.items o.owner) → e.object.world ≡ Some w → HasWorld meaning old w → ⊥
+      no_world o e w true is q a k h =
+          let owner : o.owner ≡ old.owner = ap (λ (p : ObjId). p.owner) (obj_exact o (next_number old.heap.arena old.owner) ((Equal-is (obj_cmp o (next_number old.heap.arena old.owner))).0 is)) in
+          not_both (is_apart old.apart.items old.owner) (subst (λ n. IsTrue (is_apart old.apart.items n)) owner a) b.own
+      no_world o e w false is q a k h = b.no_worlds o e w q a k h
+
+      apart : StaysApart meaning old heap
+      apart = record {
+        no_worlds = λ o e w h a k there. no_world o e w (eq_by_cmp obj_cmp o (next_number old.heap.arena old.owner)) refl (found o e h) a k (subst (λ (m : Meaning). IsTrue (has_world (worlds m) w)) c.store there);
+        objects = λ o e h. near_object o e (eq_by_cmp obj_cmp o (next_number old.heap.arena old.owner)) (found o e h);
+        slots = subst (λ (m : Meaning). NearSlots old.apart.items (worlds m)) (sym c.store) b.near_slots;
+      }
+
       worlds_there : (o : ObjId) (e : Entry) (w : WorldId) → map.get heap.arena o ≡ Some e → e.object.world ≡ Some w → w.owner ≡ old.owner → IsTrue (has_world (worlds (meaning heap.store)) w)
       worlds_there o e w h k l =
-          let found = sym (map.get-insert obj_total old.heap.arena (next_number old.heap.arena old.owner) (entry_over old.heap.arena x) o) ∙ ap (λ (m : Objects). map.get m o) (sym c.arena) ∙ h in
-          subst (λ (m : Meaning). IsTrue (has_world (worlds m) w)) (sym c.store) (world_there o e w (eq_by_cmp obj_cmp o (next_number old.heap.arena old.owner)) found k l)
+          subst (λ (m : Meaning). IsTrue (has_world (worlds m) w)) (sym c.store) (world_there o e w (eq_by_cmp obj_cmp o (next_number old.heap.arena old.owner)) (found o e h) k l)
+
+  -- the new object is the owner's
+  pub created_there : (x : Object) (id : ObjId) (old : Config S) (heap : Heap S) → Base meaning old → Creates old.owner x id (parts meaning old.heap) (parts meaning heap) → HasObject (record old { heap = heap }) id
+  created_there x id old heap b c = (c.there, subst (λ n. IsTrue (not (is_apart old.apart.items n))) (sym (ap (λ (o : ObjId). o.owner) c.number)) b.own)

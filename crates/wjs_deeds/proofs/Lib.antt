@@ -1,6 +1,11 @@
 pub mod Blind
 pub mod Running
 pub mod Steps
+pub mod NearPlans
+pub mod NearWorlds
+pub mod Having
+pub mod Nearing
+pub mod NearDeeds
 pub mod Staying
 pub mod Later
 pub mod Composing

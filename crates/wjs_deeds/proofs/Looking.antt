@@ -1,24 +1,31 @@
 -- Looks at objects by content and by number.
-use Rattle.std.proofs.Common.{◌≡◌, ℕ, suc, ◌<◌, true, false, ◌||◌, [], Option, None, Some, refl, sym, ap, ◌∙◌, subst, arith, IsTrue}
+use Rattle.std.proofs.Common.{◌≡◌, ℕ, suc, ◌<◌, Bool, true, false, not, cond, ◌||◌, List, [], ◌∷◌, Option, None, Some, refl, sym, ap, ◌∙◌, subst, arith, IsTrue}
 use Rattle.std.specs.Prelude.{IfSome, IfNone, is_some, unwrap_or}
 use Rattle.std.specs.Option.{option_map, option_map_or, option_and_then}
 use Rattle.std.specs.FinMap as map
 use Rattle.wjs_base.specs.declared.ids.ObjId.{ObjId}
 use Rattle.wjs_base.specs.declared.ids.WorldId.{WorldId}
+use Rattle.wjs_base.specs.declared.values.Name.{Name}
 use Rattle.wjs_base.specs.declared.values.Value.{Value}
 use Rattle.wjs_base.specs.declared.values.Value.TheVariants as values
 use Rattle.wjs_base.specs.Text.{Table}
 use Rattle.wjs_arena.specs.declared.class.Class.TheVariants as class
 use Rattle.wjs_arena.specs.declared.object.Object.{Object}
 use Rattle.wjs_arena.specs.Entries.{Objects, Entry, IsArena, IsThere, has, prototype_of, world_of, depth_at, depth_of}
-use Rattle.wjs_arena.specs.Chains.{chain_from}
+use Rattle.wjs_arena.specs.AtName.{same_name, at_name}
+use Rattle.wjs_arena.specs.Chains.{chain_from, fixed}
 use Rattle.wjs_arena.proofs.Walks.{there_next, less_deep, enough, chain_step, chain_none}
+use Rattle.wjs_store.specs.Meaning.{Meaning}
+use Rattle.wjs_rename.specs.Names.{Holds}
 use Rattle.wjs_content.specs.Objects.{Arena, Entry as Placed, object_of, object_at, scope_up, function_of, world_object, is_past, is_among, chain_of}
 use Rattle.wjs_content.specs.Values.{same_object}
 use Rattle.wjs_content.specs.Tables.{value_in, object_in, entry_in, arena_in}
 use Rattle.wjs_content.proofs.ArenaMaps.{object_found, prototype_same, depth_same, chain_of_same}
 use Rattle.wjs_content.proofs.WorldObjects.{world_object_there, world_object_none}
 use Rattle.wjs_props.specs.Heap.{Parts, HasNamed, IsHeap}
+use Rattle.wjs_model.specs.declared.config.Config.{Config}
+use Rattle.wjs_model.specs.Apart.{is_apart, NearValue, NamesNear}
+use Rattle.wjs_model.specs.Soundness.{HasObject, HasWorld, Base}
 
 -- an object that is there
 placed : (r : Option Entry) (x : Object) → is_some r ≡ true → IfSome r (λ e. x ≡ e.object) → (t : Table) → option_map_or (λ (e : Placed). e.object) (option_map (entry_in t) r) (object_of class.Plain None) ≡ object_in t x
@@ -35,6 +42,10 @@ found_by (Some y) x P h e f = subst P (sym e) (f y refl)
 
 pub named_there : (h : Parts) (o : ObjId) (x : Object) → IsHeap h → IsTrue (has h.arena o) → IfSome (map.get h.arena o) (λ e. x ≡ e.object) → HasNamed h.texts h.arena x
 named_there h o x heap is e = found_by (map.get h.arena o) x (HasNamed h.texts h.arena) is e (heap.objects o)
+
+-- and near, where the object is
+pub near_there : {S : Type 0} (meaning : S → Meaning) (c : Config S) (o : ObjId) (x : Object) → Base meaning c → HasObject c o → IfSome (map.get c.heap.arena o) (λ e. x ≡ e.object) → NamesNear c.apart.items x
+near_there meaning c o x b h e = found_by (map.get c.heap.arena o) x (NamesNear c.apart.items) h.0 e (λ y q. b.near_objects o y q h.1)
 
 -- its prototype and its scope are there
 link : (r : Option Entry) (x : Object) (f : Object → Option ObjId) → is_some r ≡ true → IfSome r (λ e. x ≡ e.object) → option_and_then (λ (e : Entry). f e.object) r ≡ f x
@@ -133,6 +144,31 @@ scope_end arena hops left scope at l h = h ∙ ap (λ n. scope_up arena n at) l
 pub out_of : (arena : Arena) (scope out : ObjId) (r : Option ObjId) → (object_at arena scope).scope ≡ r → unwrap_or r scope ≡ out → unwrap_or (object_at arena scope).scope scope ≡ out
 out_of arena scope out r e h = ap (λ (q : Option ObjId). unwrap_or q scope) e ∙ h
 
-pub found_or : (arena : Objects) (w : WorldId) (r : Option ObjId) → IfSome r (λ o. world_of arena o ≡ Some w) → IfSome r (λ o. IsTrue (has arena o))
-found_or arena w None f = tt
-found_or arena w (Some o) f = world_there arena w o f
+-- no object that is kept apart stands for a world that is there
+pub found_or : {S : Type 0} (meaning : S → Meaning) (c : Config S) (w : WorldId) (r : Option ObjId) → Base meaning c → HasWorld meaning c w → IfSome r (λ o. world_of c.heap.arena o ≡ Some w) → IfSome r (λ o. HasObject c o)
+found_or meaning c w None b h f = tt
+found_or meaning c w (Some o) b h f = (world_there c.heap.arena w o f, by (is_apart c.apart.items o.owner) refl)
+  where
+    no_entry : (r : Option Entry) → map.get c.heap.arena o ≡ r → option_and_then (λ (e : Entry). e.object.world) r ≡ Some w → is_apart c.apart.items o.owner ≡ true → ⊥
+    no_entry None q k a = cc
+    no_entry (Some e) q k a = b.no_worlds o e w q a k h
+
+    by : (a : Bool) → is_apart c.apart.items o.owner ≡ a → IsTrue (not a)
+    by true a = absurd (no_entry (map.get c.heap.arena o) refl f a)
+    by false a = refl
+
+-- a fixed value of a near object is near
+pub fixed_is_near : {S : Type 0} (meaning : S → Meaning) (c : Config S) (o : ObjId) (name : Name) (v : Value) → Base meaning c → HasObject c o → fixed c.heap.arena o name ≡ Some v → NearValue c.apart.items v
+fixed_is_near meaning c o name v b h = by (map.get c.heap.arena o) refl
+  where
+    split : (u : Value) → NearValue c.apart.items u → (s : Bool) (rest : Option Value) → (rest ≡ Some v → NearValue c.apart.items v) → cond s (Some u) rest ≡ Some v → NearValue c.apart.items v
+    split u k true rest more q = let same : u ≡ v = cc in subst (NearValue c.apart.items) same k
+    split u k false rest more q = more q
+
+    among : (xs : List (Name × Value)) → Holds (λ e. NearValue c.apart.items e.1) xs → at_name xs name ≡ Some v → NearValue c.apart.items v
+    among [] k e = absurd (cc)
+    among (x ∷ xs) k e = split x.1 k.0 (same_name x.0 name) (at_name xs name) (among xs k.1) e
+
+    by : (r : Option Entry) → map.get c.heap.arena o ≡ r → option_and_then (λ (e : Entry). at_name e.object.fixed name) r ≡ Some v → NearValue c.apart.items v
+    by None q e = absurd (cc)
+    by (Some x) q e = among x.object.fixed (b.near_objects o x q h.1).fixed e

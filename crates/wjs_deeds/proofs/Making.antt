@@ -1,5 +1,5 @@
 -- Objects that are made.
-use Rattle.std.proofs.Common.{◌≡◌, ℕ, ◌≤◌, false, List, [], ◌∷◌, length, take, arith, Option, None, Some, refl, sym, ap, ◌∙◌, subst}
+use Rattle.std.proofs.Common.{◌≡◌, ℕ, ◌≤◌, true, false, List, [], ◌∷◌, length, take, arith, Option, None, Some, refl, sym, ap, ◌∙◌, subst}
 use Rattle.std.specs.Prelude.{IfSome, OnOk}
 use Rattle.wjs_base.specs.declared.ids.ObjId.{ObjId}
 use Rattle.wjs_base.specs.declared.ids.WorldId.{WorldId}
@@ -31,6 +31,7 @@ use Rattle.wjs_meaning.specs.NewObjects.{array_object}
 use Rattle.wjs_meaning.specs.WorldValues.{world_object_of}
 use Rattle.wjs_meaning.specs.Deeds.{Do, Create}
 use Rattle.wjs_model.specs.declared.config.Config.{Config}
+use Rattle.wjs_model.specs.Apart.{IsNear, NearValue, NearIf, NamesNear}
 use Rattle.wjs_moves.specs.Doing.{Does}
 use Rattle.wjs_moves.specs.Following.{Follows, Later}
 
@@ -117,6 +118,38 @@ module _ (texts : Table) (arena : Objects) (x : Object) (kind : Class) (p : Opti
 
   pub world_named : (w : Option WorldId) → HasNamed texts arena (record x { world = w })
   world_named w = subst (λ (y : Object). HasNamed texts arena (record y { world = w })) (sym xe) (record { primitive = tt; fixed = tt; flags = tt })
+
+-- and near
+module _ (apart : List ℕ) (x : Object) (kind : Class) (p : Option ObjId) (xe : x ≡ bare kind p) (hp : NearIf apart p) where
+  pub near_bare : NamesNear apart x
+  near_bare = subst (NamesNear apart) (sym xe) (record { prototype = hp; scope = tt; primitive = tt; fixed = tt })
+
+  pub near_flagged : (flags : List (Name × Flags)) → NamesNear apart (record x { flags = flags })
+  near_flagged flags = subst (λ (y : Object). NamesNear apart (record y { flags = flags })) (sym xe) (record { prototype = hp; scope = tt; primitive = tt; fixed = tt })
+
+  pub near_scope : (outer : ObjId) → IsNear apart outer → NamesNear apart (record x { scope = Some outer; all_kept = true })
+  near_scope outer h = subst (λ (y : Object). NamesNear apart (record y { scope = Some outer; all_kept = true })) (sym xe) (record { prototype = hp; scope = h; primitive = tt; fixed = tt })
+
+  pub near_holding : (v : NumberedValue) (fixed : List (Name × NumberedValue)) → NearValue apart v → Holds (λ e. NearValue apart e.1) fixed → NamesNear apart (record x { primitive = v; fixed = fixed })
+  near_holding v fixed hv hf = subst (λ (y : Object). NamesNear apart (record y { primitive = v; fixed = fixed })) (sym xe) (record { prototype = hp; scope = tt; primitive = hv; fixed = hf })
+
+  pub near_fixed : (fixed : List (Name × NumberedValue)) → Holds (λ e. NearValue apart e.1) fixed → NamesNear apart (record x { fixed = fixed })
+  near_fixed fixed hf = subst (λ (y : Object). NamesNear apart (record y { fixed = fixed })) (sym xe) (record { prototype = hp; scope = tt; primitive = tt; fixed = hf })
+
+  pub near_primitive : (v : NumberedValue) → NearValue apart v → NamesNear apart (record x { primitive = v })
+  near_primitive v hv = subst (λ (y : Object). NamesNear apart (record y { primitive = v })) (sym xe) (record { prototype = hp; scope = tt; primitive = hv; fixed = tt })
+
+  pub near_world : (w : Option WorldId) → NamesNear apart (record x { world = w })
+  near_world w = subst (λ (y : Object). NamesNear apart (record y { world = w })) (sym xe) (record { prototype = hp; scope = tt; primitive = tt; fixed = tt })
+
+-- a number names no object
+pub number_near : (apart : List ℕ) (t : Table) (v : NumberedValue) (n : ℕ) → value_in t v ≡ whole n → NearValue apart v
+number_near apart t values.Undefined n e = tt
+number_near apart t values.Null n e = tt
+number_near apart t (values.Bool b) n e = tt
+number_near apart t (values.Number x) n e = tt
+number_near apart t (values.Text id) n e = tt
+number_near apart t (values.Object o) n e = absurd (cc)
 
 module _ {S : Type 0} (meaning : S → Meaning) where
   -- something is found without a deed, and then an object is made

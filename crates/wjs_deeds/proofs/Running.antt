@@ -42,6 +42,7 @@ module _ {S : Type 0} (meaning : S → Meaning) where
     global = s.global ∙ f.global;
     world = s.world ∙ f.world;
     owner = s.owner ∙ f.owner;
+    apart = s.apart ∙ f.apart;
     texts = Grows-trans old.heap.texts mid.heap.texts new.heap.texts f.texts s.texts;
     objects = λ o e h. s.objects o e (f.objects o e h);
     made = λ o e h k. by o e h k (map.get mid.heap.arena o) refl;

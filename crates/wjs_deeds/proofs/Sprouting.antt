@@ -6,24 +6,30 @@ use Rattle.wjs_base.specs.declared.ids.ObjId.{ObjId}
 use Rattle.wjs_base.specs.declared.ids.WorldId.{WorldId}
 use Rattle.wjs_base.specs.Text.{Table}
 use Rattle.wjs_base.proofs.TextLaws.{Grows-refl}
-use Rattle.wjs_store.specs.State.{has_world, count_of, next_id, sprout}
+use Rattle.wjs_store.specs.State.{State, Act as Action, has_world, count_of, next_id, same_world, sprout}
 use Rattle.wjs_store.specs.Meaning.{Meaning, Worlds, IsSound, worlds}
-use Rattle.wjs_store.proofs.Writes.{serial_below}
+use Rattle.wjs_store.proofs.Writes.{serial_below, world_is}
 use Rattle.wjs_arena.specs.Entries.{Objects, Entry, world_of as world_by}
 use Rattle.wjs_content.specs.Objects.{object_at}
+use Rattle.wjs_content.specs.Names.{Slot, content}
 use Rattle.wjs_content.specs.Values.{Value, Undefined, Null, Boolean, Number, String, Object}
 use Rattle.wjs_content.specs.Plans.{Sprouted}
 use Rattle.wjs_content.specs.Worlds.{worlds_in}
 use Rattle.wjs_props.specs.declared.heap.Heap.{Heap}
 use Rattle.wjs_props.specs.Acts.{Acts}
 use Rattle.wjs_props.specs.Means.{parts}
+use Rattle.wjs_props.proofs.Kept.{within_sprout}
 use Rattle.wjs_meaning.specs.declared.trouble.Trouble.TheVariants.{NotAWorld}
 use Rattle.wjs_meaning.specs.Deeds.{Env, Act, Do, Look, HasWorld}
 use Rattle.wjs_meaning.specs.Errors.{throw}
 use Rattle.wjs_meaning.specs.WorldValues.{world_found, world_of}
 use Rattle.wjs_model.specs.declared.config.Config.{Config}
-use Rattle.wjs_model.specs.Soundness.{Base}
+use Rattle.wjs_model.specs.Soundness.{HasWorld as WorldThere, Base}
+use Rattle.wjs_model.specs.Apart.{is_apart, IsNear}
 use Rattle.wjs_deeds.specs.Worlds.{found_then, world_then}
+use Rattle.wjs_deeds.proofs.NearPlans.{NearSlot}
+use Rattle.wjs_deeds.proofs.Nearing.{has_named, one_by_sprout, before, before_near, act_slots, act_were}
+use Rattle.wjs_deeds.proofs.Staying.{StaysApart}
 
 -- goes on with a world, or throws
 abbrev pub or_throw : Env → (WorldId → Act) → Option WorldId → Act
@@ -84,3 +90,32 @@ module _ {S : Type 0} (meaning : S → Meaning) (old : Config S) (heap : Heap S)
       by : child ≡ next_id (worlds (meaning old.heap.store)) old.owner → (r : Option Entry) → map.get old.heap.arena o ≡ r → option_and_then (λ (x : Entry). x.object.world) r ≡ Some child → ⊥
       by e None q k = cc
       by e (Some x) q k = new_world child e (b.own_worlds o x child q k (ap (λ (i : WorldId). i.owner) e))
+
+  -- and what is kept apart is so still
+  pub sprout_apart : (w : WorldId) (strict : Bool) (child : WorldId) → WorldThere meaning old w → Acts (sprout w old.owner strict) (Sprouted child) (parts meaning old.heap) (parts meaning heap) → StaysApart meaning old heap
+  sprout_apart w strict child there f = record {
+    no_worlds = λ o e i h a k now. split o e i h a k now (same_world (next_id F old.owner) i) refl;
+    objects = λ o e h. b.near_objects o e (same o ∙ h);
+    slots = act_slots meaning old heap (λ _. later) b act (Sprouted child) f (within_sprout (NearSlot (IsNear old.apart.items)) F w old.owner strict here (before_near meaning old heap (λ _. later) b f.own));
+  }
+    where
+      act : Action Slot Value
+      act = sprout w old.owner strict
+
+      F : State content
+      F = worlds_in heap.texts (before meaning old heap (λ _. later) b)
+
+      same : (o : ObjId) → map.get old.heap.arena o ≡ map.get heap.arena o
+      same o = ap (λ (m : Objects). map.get m o) (sym f.arena)
+
+      here : has_world F w ≡ true
+      here = has_named heap.texts (before meaning old heap (λ _. later) b) w ∙ ap (λ v. has_world ((meaning old.heap.store).full v) w) f.own ∙ there
+
+      number : next_id F old.owner ≡ child
+      number =
+          let e = counted heap.texts old.owner (before meaning old heap (λ _. later) b) ∙ ap (λ v. count_of old.owner ((meaning old.heap.store).full v)) f.own in
+          (λ i. record { owner = old.owner; serial = e i }) ∙ sym (child_is w strict child f)
+
+      split : (o : ObjId) (e : Entry) (i : WorldId) → map.get heap.arena o ≡ Some e → IsTrue (is_apart old.apart.items o.owner) → e.object.world ≡ Some i → has_world (worlds (meaning heap.store)) i ≡ true → (s : Bool) → same_world (next_id F old.owner) i ≡ s → ⊥
+      split o e i h a k now true s = child_fresh w strict child f o (ap (option_and_then (λ (x : Entry). x.object.world)) h ∙ k ∙ ap Some (sym (world_is (next_id F old.owner) i s) ∙ number))
+      split o e i h a k now false s = b.no_worlds o e i (same o ∙ h) a k (act_were meaning old heap (λ _. later) b act (Sprouted child) f i (one_by_sprout F w old.owner strict i s) now)

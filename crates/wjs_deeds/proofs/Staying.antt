@@ -1,6 +1,6 @@
 -- What was there is there after a deed.
 use Rattle.std.proofs.Common.{◌≡◌, List, [], ◌∷◌, Option, None, Some, refl, IsTrue}
-use Rattle.std.specs.Prelude.{All}
+use Rattle.std.specs.Prelude.{not, All}
 use Rattle.std.specs.FinMap as map
 use Rattle.std.proofs.lemmas.List.Elements.{All-weaker}
 use Rattle.wjs_base.specs.declared.ids.ObjId.{ObjId}
@@ -28,7 +28,7 @@ use Rattle.wjs_tree.specs.declared.node.Node.{Node}
 use Rattle.wjs_tree.specs.declared.node.Node.TheVariants as form
 use Rattle.wjs_content.specs.Worlds.{KnowsWorlds}
 use Rattle.wjs_props.specs.declared.heap.Heap.{Heap}
-use Rattle.wjs_props.specs.Heap.{HasSlot, IsHeap}
+use Rattle.wjs_props.specs.Heap.{IsHeap}
 use Rattle.wjs_props.specs.Means.{parts}
 use Rattle.wjs_model.specs.declared.unit.Unit.{Unit as Program}
 use Rattle.wjs_model.specs.declared.frame.Reference.{Reference}
@@ -41,7 +41,8 @@ use Rattle.wjs_model.specs.declared.frame.Phase.{Phase}
 use Rattle.wjs_model.specs.declared.frame.Phase.TheVariants as phases
 use Rattle.wjs_model.specs.declared.frame.Frame.{Frame}
 use Rattle.wjs_model.specs.declared.config.Config.{Config}
-use Rattle.wjs_model.specs.Soundness.{HasObject, HasName, HasValue, HasLabel, HasReference, HasCompletion, HasItem, HasItems, HasPhase, HasWorld, IsThere, Base}
+use Rattle.wjs_model.specs.Soundness.{HasObject, HasName, HasValue, HasSlot, HasLabel, HasReference, HasCompletion, HasItem, HasItems, HasPhase, HasWorld, IsThere, Base}
+use Rattle.wjs_model.specs.Apart.{is_apart, IsNear, NearSlots, NamesNear}
 use Rattle.wjs_model.specs.Texts.{HasText, KnowsSpelt, KnowsKey, KnowsInit, KnowsHandler, KnowsNode, KnowsUnit}
 use Rattle.wjs_moves.specs.Following.{Later}
 
@@ -130,8 +131,8 @@ module _ {S : Type 0} (old new : Config S) (g : Grows old.heap.texts new.heap.te
   completion_there (completions.Returns v) h = value_there v h
   completion_there (completions.Throws v) h = value_there v h
 
-  slot_there : (s : Slot) → HasSlot old.heap.texts old.heap.arena s → HasSlot new.heap.texts new.heap.arena s
-  slot_there s h = record { object = objects s.object h.object; name = name_there s.name h.name }
+  pub slot_there : (s : Slot) → HasSlot old s → HasSlot new s
+  slot_there s h = (objects s.object h.0, name_there s.name h.1)
 
   item_there : (i : Held) → HasItem old i → HasItem new i
   item_there (holds.Value v) h = value_there v h
@@ -181,22 +182,37 @@ module _ {S : Type 0} (old new : Config S) (g : Grows old.heap.texts new.heap.te
       texts = g;
     }
 
+-- on another heap what is kept apart is so
+module _ {S : Type 0} (meaning : S → Meaning) where
+  pub record StaysApart (old : Config S) (heap : Heap S) : Type 0 where
+    pub no_worlds : (o : ObjId) (e : Entry) (w : WorldId) → map.get heap.arena o ≡ Some e → IsTrue (is_apart old.apart.items o.owner) → e.object.world ≡ Some w → IsTrue (has_world (worlds (meaning heap.store)) w) → ⊥
+    pub objects : (o : ObjId) (e : Entry) → map.get heap.arena o ≡ Some e → IsNear old.apart.items o → NamesNear old.apart.items e.object
+    pub slots : NearSlots old.apart.items (worlds (meaning heap.store))
+
 -- on another heap
 module _ {S : Type 0} (meaning : S → Meaning) (old : Config S) (heap : Heap S) (g : Grows old.heap.texts heap.texts) (objects : (o : ObjId) → IsTrue (has old.heap.arena o) → IsTrue (has heap.arena o))
     (has_worlds : (w : WorldId) → HasWorld meaning old w → IsTrue (has_world (worlds (meaning heap.store)) w)) where
-  pub base_on : Base meaning old → IsHeap (parts meaning heap) → KnowsWorlds heap.texts (worlds (meaning heap.store))
-      → ((o : ObjId) (e : Entry) (w : WorldId) → map.get heap.arena o ≡ Some e → e.object.world ≡ Some w → w.owner ≡ old.owner → IsTrue (has_world (worlds (meaning heap.store)) w)) → Base meaning (record old { heap = heap })
-  base_on b is_heap marks own = record {
+  objects_on : (o : ObjId) → HasObject old o → HasObject (record old { heap = heap }) o
+  objects_on o h = (objects o h.0, h.1)
+
+  pub base_on : Base meaning old → IsHeap (parts meaning heap) → KnowsWorlds heap.texts (worlds (meaning heap.store)) → IsTrue (not (meaning heap.store).spent)
+      → ((o : ObjId) (e : Entry) (w : WorldId) → map.get heap.arena o ≡ Some e → e.object.world ≡ Some w → w.owner ≡ old.owner → IsTrue (has_world (worlds (meaning heap.store)) w)) → StaysApart meaning old heap → Base meaning (record old { heap = heap })
+  base_on b is_heap marks works own apart = record {
     heap = is_heap;
-    global = objects old.global b.global;
+    works = works;
+    global = objects_on old.global b.global;
     world = has_worlds old.world b.world;
-    builtins = λ n l. objects _ (b.builtins n l);
+    builtins = λ n l. objects_on _ (b.builtins n l);
     units = units_stay old.heap.texts heap.texts g old.units.items b.units;
     own_worlds = own;
-    frames = All-weaker (IsThere meaning old) (IsThere meaning (record old { heap = heap })) (frame_there old (record old { heap = heap }) g objects meaning has_worlds) old.frames b.frames;
+    own = b.own;
+    no_worlds = apart.no_worlds;
+    near_objects = apart.objects;
+    near_slots = apart.slots;
+    frames = All-weaker (IsThere meaning old) (IsThere meaning (record old { heap = heap })) (frame_there old (record old { heap = heap }) g objects_on meaning has_worlds) old.frames b.frames;
     marks = marks;
   }
 
-  pub later_on : Base meaning old → IsHeap (parts meaning heap) → KnowsWorlds heap.texts (worlds (meaning heap.store))
-      → ((o : ObjId) (e : Entry) (w : WorldId) → map.get heap.arena o ≡ Some e → e.object.world ≡ Some w → w.owner ≡ old.owner → IsTrue (has_world (worlds (meaning heap.store)) w)) → Later meaning old (record old { heap = heap })
-  later_on b is_heap marks own = later_there old (record old { heap = heap }) g objects meaning has_worlds refl refl refl refl (base_on b is_heap marks own)
+  pub later_on : Base meaning old → IsHeap (parts meaning heap) → KnowsWorlds heap.texts (worlds (meaning heap.store)) → IsTrue (not (meaning heap.store).spent)
+      → ((o : ObjId) (e : Entry) (w : WorldId) → map.get heap.arena o ≡ Some e → e.object.world ≡ Some w → w.owner ≡ old.owner → IsTrue (has_world (worlds (meaning heap.store)) w)) → StaysApart meaning old heap → Later meaning old (record old { heap = heap })
+  later_on b is_heap marks works own apart = later_there old (record old { heap = heap }) g objects_on meaning has_worlds refl refl refl refl (base_on b is_heap marks works own apart)

@@ -85,6 +85,7 @@ module _ {S : Type 0} (meaning : S → Meaning) where
     global = refl;
     world = refl;
     owner = refl;
+    apart = refl;
     texts = Grows-refl old.heap.texts;
     objects = λ o e h. h;
     made = λ o e h k. absurd (both old o e h k);
@@ -101,6 +102,7 @@ module _ {S : Type 0} (meaning : S → Meaning) where
     global = refl;
     world = refl;
     owner = refl;
+    apart = refl;
     texts = g;
     objects = λ o e h. ap (λ (m : Objects). map.get m o) arena ∙ h;
     made = λ o e h k. absurd (both old o e h (ap (λ (m : Objects). map.get m o) (sym arena) ∙ k));
@@ -185,6 +187,7 @@ module _ {S : Type 0} (meaning : S → Meaning) where
       global = refl;
       world = refl;
       owner = refl;
+      apart = refl;
       texts = Grows-refl old.heap.texts;
       objects = λ o e h. h;
       made = λ o e h k. absurd (both old o e h k);
@@ -241,6 +244,7 @@ module _ {S : Type 0} (meaning : S → Meaning) where
       global = refl;
       world = refl;
       owner = refl;
+      apart = refl;
       texts = subst (Grows old.heap.texts) (sym c.texts) (Grows-refl old.heap.texts);
       objects = c.keeps;
       made = λ o y h k. made_by o y h (eq_by_cmp obj_cmp o (next_by old.heap.arena old.owner)) refl (sym (map.get-insert obj_total old.heap.arena (next_by old.heap.arena old.owner) (entry_over old.heap.arena x) o) ∙ ap (λ (m : Objects). map.get m o) (sym c.arena) ∙ k);

@@ -8,7 +8,7 @@ ghost use Rattle.wjs_content.specs.Objects as objects;
 ghost use Rattle.wjs_content.specs.Tables.{name_in, value_in, arena_in};
 ghost use Rattle.wjs_content.specs.Values.{same_object};
 ghost use Rattle.wjs_meaning.specs.Deeds.{Do, Look};
-ghost use Rattle.wjs_model.specs.Soundness.{Base, HasObject, HasName, HasValue};
+ghost use Rattle.wjs_model.specs.Soundness.{Base, HasObject, HasName, HasValue, HasWorld};
 ghost use Rattle.wjs_moves.specs.Doing.{Does};
 
 use wjs_arena::{Class, Code};
@@ -219,9 +219,10 @@ fn same_object(a: ObjId, b: ObjId) -> bool
     a.owner == b.owner && a.serial == b.serial
 }
 
-/// The object that stands for a world; None exactly where none does.
+/// The object that stands for a world that is there; None exactly where none does.
 pub fn world_object<S: WorldStore>(config: &Config<S>, world: WorldId) -> Option<ObjId>
-    requires { Base S.meaning config.now }
+    requires base { Base S.meaning config.now }
+    requires world { HasWorld S.meaning config.now world }
     ensures does { Does S.meaning (λ t go. Do Look (λ arena. go (objects.world_object arena world))) (λ t. result) config.now config.now }
     ensures is { (t : Table) → objects.world_object (arena_in t config.now.heap.arena) world ≡ result }
     ensures found { IfSome result (λ object. HasObject config.now object) }

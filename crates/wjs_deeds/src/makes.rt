@@ -11,6 +11,7 @@ ghost use Rattle.wjs_props.specs.Heap.{HasNamed};
 ghost use Rattle.wjs_meaning.specs.Builtins as first;
 ghost use Rattle.wjs_meaning.specs.Deeds.{Do, Create};
 ghost use Rattle.wjs_meaning.specs.NewObjects.{plain_object, array_object, scope_object};
+ghost use Rattle.wjs_model.specs.Apart.{NamesNear};
 ghost use Rattle.wjs_model.specs.Soundness.{Base, HasObject, HasValue};
 ghost use Rattle.wjs_moves.specs.Doing.{Does};
 ghost use Rattle.wjs_moves.specs.Following.{Later};
@@ -59,6 +60,7 @@ pub fn create<S: WorldStore>(config: &mut Config<S>, object: Object) -> Result<O
     requires base { Base S.meaning config.old }
     requires prototype { IsThere config.old.heap.arena object.prototype }
     requires scope { IsThere config.old.heap.arena object.scope }
+    requires near { NamesNear config.old.apart.items object }
     requires named { HasNamed config.old.heap.texts config.old.heap.arena object }
     requires world { object.world ≡ None }
     ensures does { IfOk result (λ o. Does S.meaning (λ t go. Do (Create config.old.owner (object_in t object)) go) (λ t. o) config.old config.new) }

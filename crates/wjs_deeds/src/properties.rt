@@ -2,12 +2,13 @@
 ghost use Rattle.std.specs.Prelude.{IfOk, OnOk};
 ghost use Rattle.wjs_content.specs.Tables.{name_in, value_in, content_in};
 ghost use Rattle.wjs_rename.specs.Names.{Holds};
-ghost use Rattle.wjs_props.specs.Visits.{visits_in, HasVisit};
+ghost use Rattle.wjs_props.specs.Visits.{visits_in};
 ghost use Rattle.wjs_meaning.specs.Properties as line;
 ghost use Rattle.wjs_model.specs.Soundness.{Base, IsThere, HasObject, HasName, HasValue, HasContent};
 ghost use Rattle.wjs_moves.specs.Doing.{Does};
 ghost use Rattle.wjs_moves.specs.Following.{Later};
 ghost use Rattle.wjs_moves.specs.Parts.{env_in};
+ghost use Rattle.wjs_deeds.specs.Visits.{HasVisit};
 
 use wjs_base::{Content, Name, ObjId, OutOfMemory, Value};
 use wjs_model::{Config, Frame};
@@ -122,7 +123,7 @@ pub fn visits<S: WorldStore>(
     requires object { HasObject config.old object }
     ensures does { IfOk result (λ visits. Does S.meaning (λ t. line.visits object (env_in S.meaning config.old t frame.now)) (λ t. visits_in t visits) config.old config.new) }
     ensures later { OnOk result (Later S.meaning config.old config.new) }
-    ensures found { IfOk result (λ visits. Holds (HasVisit config.new.heap.texts config.new.heap.arena) visits) }
+    ensures found { IfOk result (λ visits. Holds (HasVisit config.new) visits) }
 {
     let visits = wjs_props::list_names(&mut config.heap, frame.world, object)?;
     Ok(visits)

@@ -8,6 +8,10 @@ use Rattle.wjs_meaning.specs.Errors.{error_of, fixed_name}
 use Rattle.wjs_deeds.proofs.Composing.{if_ok}
 use Rattle.wjs_deeds.proofs.Later.{later_twice}
 use Rattle.wjs_deeds.proofs.Making.{fault_is, made_after}
+use Rattle.std.proofs.Common.{Some}
+use Rattle.wjs_arena.specs.declared.class.Class.TheVariants as class
+use Rattle.wjs_deeds.proofs.Having.{fixed_here, fixed_near}
+use Rattle.wjs_deeds.proofs.Making.{fixed_named, near_fixed}
 use Rattle.wjs_deeds.proofs.errors.create_with.Goals as goal
 use Rattle.std.proofs.Common.{◌∙◌}
 
@@ -24,3 +28,13 @@ returns-clause-does g c =
 
 pub returns-clause-later : goal.returns-clause-later
 returns-clause-later g c = on_ok_weaker c.create.result (later_twice g.S.WorldStore.meaning c.args.config.now c.fixed_of_fault.new.config c.create.new.config c.in_ok-fixed.ensures.later) c.create.ensures.later
+
+pub create-requires-clause-near : goal.create-requires-clause-near
+create-requires-clause-near g c = 
+    let mid = c.fixed_of_fault.new.config in
+    near_fixed mid.apart.items c.object_of-object.result class.Fault (Some c.builtin-prototype.result) c.object_of-object.ensures c.builtin-prototype.ensures.found.1 c.in_ok-fixed.fixed (fixed_near mid c.in_ok-fixed.fixed c.in_ok-fixed.ensures.found)
+
+pub create-requires-clause-named : goal.create-requires-clause-named
+create-requires-clause-named g c =
+    let mid = c.fixed_of_fault.new.config in
+    fixed_named mid.heap.texts mid.heap.arena c.object_of-object.result class.Fault (Some c.builtin-prototype.result) c.object_of-object.ensures c.in_ok-fixed.fixed (fixed_here mid c.in_ok-fixed.fixed c.in_ok-fixed.ensures.found)

@@ -3,12 +3,13 @@ use Rattle.std.specs.Option.{option_map}
 use Rattle.wjs_content.specs.Objects.{fixed}
 use Rattle.wjs_content.specs.Tables.{value_in, name_in}
 use Rattle.wjs_props.specs.Means.{parts}
+use Rattle.wjs_deeds.proofs.Having.{value_both}
 use Rattle.wjs_deeds.proofs.Running.{does_ran}
 use Rattle.wjs_deeds.proofs.Steps.{ran_look}
 use Rattle.wjs_props.proofs.ByContent.{fixed_in}
 use Rattle.wjs_props.proofs.Getting.{fixed_there}
 use Rattle.wjs_model.specs.Soundness.{HasValue}
-use Rattle.wjs_deeds.proofs.Looking.{found_so}
+use Rattle.wjs_deeds.proofs.Looking.{found_so, fixed_is_near}
 use Rattle.wjs_deeds.proofs.looks.fixed.Goals as goal
 
 pub returns-clause-does : goal.returns-clause-does
@@ -21,4 +22,7 @@ pub returns-clause-is : goal.returns-clause-is
 returns-clause-is g c = λ t more. fixed_in (parts g.S.WorldStore.meaning c.args.config.now.heap) c.requires.base.heap t more c.args.object c.args.name c.requires.name ∙ ap (option_map (value_in t)) (sym c.fixed.ensures.fixed)
 
 pub returns-clause-found : goal.returns-clause-found
-returns-clause-found g c = found_so c.fixed.result (HasValue c.args.config.now) (λ v e. fixed_there (parts g.S.WorldStore.meaning c.args.config.now.heap) c.requires.base.heap c.args.object c.args.name v (sym c.fixed.ensures.fixed ∙ e))
+returns-clause-found g c = found_so c.fixed.result (HasValue c.args.config.now) (λ v e.
+    let m = g.S.WorldStore.meaning in
+    let now = c.args.config.now in
+    value_both now v (fixed_there (parts m now.heap) c.requires.base.heap c.args.object c.args.name v (sym c.fixed.ensures.fixed ∙ e)) (fixed_is_near m now c.args.object c.args.name v c.requires.base c.requires.object (sym c.fixed.ensures.fixed ∙ e)))

@@ -8,10 +8,10 @@ pub returns-clause-does : goal.returns-clause-does
 returns-clause-does g c =
     let m = g.S.WorldStore.meaning in
     let old = c.args.config.now in
-    does_ran m _ _ old old (ran_look m (λ t arena. world_object arena c.args.world) (λ t. c.world_object.result) old (λ t more. world_is t old.heap.arena c.args.world c.world_object.result c.requires.heap.arena c.world_object.ensures.found c.world_object.ensures.none))
+    does_ran m _ _ old old (ran_look m (λ t arena. world_object arena c.args.world) (λ t. c.world_object.result) old (λ t more. world_is t old.heap.arena c.args.world c.world_object.result c.requires.base.heap.arena c.world_object.ensures.found c.world_object.ensures.none))
 
 pub returns-clause-is : goal.returns-clause-is
-returns-clause-is g c = λ t. world_is t c.args.config.now.heap.arena c.args.world c.world_object.result c.requires.heap.arena c.world_object.ensures.found c.world_object.ensures.none
+returns-clause-is g c = λ t. world_is t c.args.config.now.heap.arena c.args.world c.world_object.result c.requires.base.heap.arena c.world_object.ensures.found c.world_object.ensures.none
 
 pub returns-clause-found : goal.returns-clause-found
-returns-clause-found g c = found_or c.args.config.now.heap.arena c.args.world c.world_object.result c.world_object.ensures.found
+returns-clause-found g c = found_or g.S.WorldStore.meaning c.args.config.now c.args.world c.world_object.result c.requires.base c.requires.world c.world_object.ensures.found

@@ -3,6 +3,7 @@ use Rattle.wjs_content.specs.Tables.{name_in}
 use Rattle.wjs_deeds.proofs.Running.{does_ran}
 use Rattle.wjs_deeds.proofs.Steps.{ran_plan}
 use Rattle.wjs_deeds.proofs.Later.{later_plan}
+use Rattle.wjs_deeds.proofs.NearDeeds.{delete_left}
 use Rattle.wjs_deeds.proofs.properties.delete.Goals as goal
 
 pub returns-clause-does : goal.returns-clause-does
@@ -11,4 +12,9 @@ returns-clause-does g c =
     does_ran m _ _ c.args.config.now _ (ran_plan m c.args.frame.now.world (λ t arena. plan.delete arena c.args.object (name_in t c.args.name)) (λ t. c.in_ok-answer.answer) c.args.config.now c.delete.new.heap c.in_ok-answer.ensures)
 
 pub returns-clause-later : goal.returns-clause-later
-returns-clause-later g c = later_plan g.S.WorldStore.meaning _ _ _ c.args.config.now c.delete.new.heap c.requires.base c.in_ok-answer.ensures
+returns-clause-later g c =
+    let m = g.S.WorldStore.meaning in
+    let old = c.args.config.now in
+    let heap = c.delete.new.heap in
+    let left = delete_left m old heap (g.met.S.WorldStore.sound heap.store) c.requires.base c.args.frame.now.world c.args.object c.requires.object.1 c.args.name _ c.in_ok-answer.ensures in
+    later_plan m _ _ _ old heap c.requires.base c.in_ok-answer.ensures left

@@ -5,6 +5,9 @@ use Rattle.wjs_props.specs.Means.{nothing}
 use Rattle.wjs_deeds.proofs.Running.{does_ran}
 use Rattle.wjs_deeds.proofs.Steps.{ran_actions}
 use Rattle.wjs_deeds.proofs.Later.{later_plan}
+use Rattle.wjs_deeds.proofs.NearDeeds.{write_left}
+use Rattle.wjs_deeds.proofs.Having.{value_near}
+use Rattle.wjs_deeds.proofs.Having.{value_here}
 use Rattle.wjs_deeds.proofs.slots.write.Goals as goal
 
 pub returns-clause-does : goal.returns-clause-does
@@ -13,4 +16,12 @@ returns-clause-does g c =
     does_ran m _ _ c.args.config.now _ (ran_actions m c.args.frame.now.world (λ t. Writes (slot_in t (record { object = c.args.object; name = c.args.name })) (Some (value_in t c.args.value)) (Gives nothing)) (λ t. nothing) c.args.config.now c.write.new.heap c.in_ok-write.ensures)
 
 pub returns-clause-later : goal.returns-clause-later
-returns-clause-later g c = later_plan g.S.WorldStore.meaning _ _ _ c.args.config.now c.write.new.heap c.requires.base c.in_ok-write.ensures
+returns-clause-later g c =
+    let m = g.S.WorldStore.meaning in
+    let old = c.args.config.now in
+    let heap = c.write.new.heap in
+    let left = write_left m old heap (g.met.S.WorldStore.sound heap.store) c.requires.base c.args.frame.now.world c.args.object c.requires.object.1 c.args.name c.args.value _ (value_near old c.args.value c.requires.value) c.in_ok-write.ensures in
+    later_plan m _ _ _ old heap c.requires.base c.in_ok-write.ensures left
+
+pub write-requires-clause-content : goal.write-requires-clause-content
+write-requires-clause-content g c = value_here c.args.config.now c.args.value c.requires.value

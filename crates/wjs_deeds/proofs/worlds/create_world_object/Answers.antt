@@ -5,8 +5,8 @@ use Rattle.wjs_meaning.specs.WorldValues.{world_object_of}
 use Rattle.wjs_model.specs.Soundness.{HasWorld}
 use Rattle.wjs_deeds.proofs.Running.{does_ran}
 use Rattle.wjs_deeds.proofs.Steps.{ran_create}
-use Rattle.wjs_deeds.proofs.Later.{later_create}
-use Rattle.wjs_deeds.proofs.Making.{world_object_is, world_named}
+use Rattle.wjs_deeds.proofs.Later.{later_create, created_there}
+use Rattle.wjs_deeds.proofs.Making.{world_object_is, world_named, near_world}
 use Rattle.wjs_deeds.proofs.worlds.create_world_object.Goals as goal
 
 pub create-requires-clause-named : goal.create-requires-clause-named
@@ -27,4 +27,8 @@ returns-clause-later g c =
     let m = g.S.WorldStore.meaning in
     let old = c.args.config.now in
     let x = record c.object_of-object.result { world = Some c.args.world } in
-    later_create m x c.in_ok-o.o old c.create.new.heap c.requires.base c.in_ok-o.ensures.creates (λ w h. subst (HasWorld m old) (one_world c.args.world w h) c.requires.world)
+    later_create m x c.in_ok-o.o old c.create.new.heap c.requires.base c.in_ok-o.ensures.creates
+    (near_world old.apart.items c.object_of-object.result class.World (Some c.builtin-prototype.result) c.object_of-object.ensures c.builtin-prototype.ensures.found.1 (Some c.args.world)) (λ w h. subst (HasWorld m old) (one_world c.args.world w h) c.requires.world)
+
+pub returns-clause-found : goal.returns-clause-found
+returns-clause-found g c = created_there g.S.WorldStore.meaning (record c.object_of-object.result { world = Some c.args.world }) c.in_ok-o.o c.args.config.now c.create.new.heap c.requires.base c.in_ok-o.ensures.creates

@@ -3,7 +3,7 @@ use Rattle.std.specs.Prelude.{not}
 use Rattle.wjs_deeds.proofs.Running.{does_ran}
 use Rattle.wjs_deeds.proofs.Steps.{ran_sprout}
 use Rattle.wjs_deeds.proofs.Later.{later_acted}
-use Rattle.wjs_deeds.proofs.Sprouting.{child_fresh}
+use Rattle.wjs_deeds.proofs.Sprouting.{child_fresh, sprout_apart}
 use Rattle.wjs_deeds.proofs.worlds.sprout.Goals as goal
 
 pub returns-clause-does : goal.returns-clause-does
@@ -13,7 +13,13 @@ returns-clause-does g c =
     does_ran m _ _ old _ (ran_sprout m c.args.world c.args.strict c.in_ok-child.child old c.sprout.new.heap c.in_ok-child.ensures.sprouts)
 
 pub returns-clause-later : goal.returns-clause-later
-returns-clause-later g c = later_acted g.S.WorldStore.meaning _ _ c.args.config.now c.sprout.new.heap c.requires.base c.in_ok-child.ensures.sprouts
+returns-clause-later g c =
+    let m = g.S.WorldStore.meaning in
+    let old = c.args.config.now in
+    let heap = c.sprout.new.heap in
+    let works = ap not (sym c.is_spent.ensures ∙ c.if-is_spent.false) in
+    let did = c.in_ok-child.ensures.sprouts in
+    later_acted m _ _ old heap c.requires.base did (sprout_apart m old heap c.requires.base (g.met.S.WorldStore.sound old.heap.store works) (g.met.S.WorldStore.sound heap.store (ap not did.spent ∙ works)) c.args.world c.args.strict c.in_ok-child.child c.requires.world did)
 
 pub returns-clause-fresh : goal.returns-clause-fresh
 returns-clause-fresh g c =
