@@ -2,3 +2,4 @@ pub mod Tops
 pub mod Starts
 pub mod Latest
 pub mod Holdings
+pub mod Others

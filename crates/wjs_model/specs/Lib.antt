@@ -9,3 +9,4 @@ pub mod Laws
 pub mod Configurations
 pub mod Apart
 pub mod Soundness
+pub mod Others
