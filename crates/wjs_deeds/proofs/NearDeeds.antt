@@ -1,10 +1,9 @@
 -- What each operation on properties finds and leaves is near.
-use Rattle.std.proofs.Common.{◌≡◌, Option, None, Some, refl, IsTrue}
+use Rattle.std.proofs.Common.{Option, Some, IsTrue}
 use Rattle.std.specs.Prelude.{Bool, not, List}
 use Rattle.wjs_base.specs.declared.ids.ObjId.{ObjId}
 use Rattle.wjs_base.specs.declared.ids.WorldId.{WorldId}
 use Rattle.wjs_base.specs.declared.values.Name.{Name}
-use Rattle.wjs_base.specs.declared.values.Slot.{Slot as NumberedSlot}
 use Rattle.wjs_base.specs.declared.values.Value.{Value as NumberedValue}
 use Rattle.wjs_base.specs.Text.{Table}
 use Rattle.wjs_store.specs.Meaning.{Meaning, IsSound}
@@ -12,7 +11,7 @@ use Rattle.wjs_rename.specs.Names.{Holds}
 use Rattle.wjs_content.specs.Values.{Value}
 use Rattle.wjs_content.specs.Names.{Slot}
 use Rattle.wjs_content.specs.Tables.{name_in, value_in, slot_in, arena_in}
-use Rattle.wjs_content.specs.Plans.{Plan, Gives, Reads, Writes}
+use Rattle.wjs_content.specs.Plans.{Gives, Reads, Writes}
 use Rattle.wjs_props.specs.declared.answers.PutAnswer.{PutAnswer}
 use Rattle.wjs_props.specs.declared.heap.Heap.{Heap}
 use Rattle.wjs_props.specs.Heap.{Performs}

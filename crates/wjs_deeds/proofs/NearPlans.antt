@@ -1,14 +1,14 @@
 -- Plans that write only what is near answer by what is near, and keep worlds that hold no more.
-use Rattle.std.proofs.Common.{◌≡◌, ℕ, zero, suc, ◌+◌, ◌-◌, Bool, true, false, not, cond, ◌||◌, ◌++◌, List, [], ◌∷◌, Option, None, Some, refl, subst, filter, map as each, IsTrue}
+use Rattle.std.proofs.Common.{◌≡◌, ℕ, zero, suc, ◌+◌, ◌-◌, Bool, true, false, not, ◌||◌, ◌++◌, List, [], ◌∷◌, Option, None, Some, refl, subst, filter, map as each}
 use Rattle.std.specs.Prelude.{is_some, is_none, nat_le, nat_lt}
 use Rattle.std.specs.List.{list_any}
 use Rattle.wjs_base.specs.declared.ids.ObjId.{ObjId}
 use Rattle.wjs_base.specs.declared.ids.WorldId.{WorldId}
-use Rattle.wjs_store.specs.State.{State, read, list, write, after_read, after_write, after_list, content_at}
+use Rattle.wjs_store.specs.State.{State, after_read, after_write, after_list, content_at}
 use Rattle.wjs_rename.specs.Names.{Holds}
-use Rattle.wjs_content.specs.Values.{Text, Value, Undefined, Null, Boolean, Number, String, Object, whole, same_text}
+use Rattle.wjs_content.specs.Values.{Text, Value, Object, whole, same_text}
 use Rattle.wjs_content.specs.Names.{Slot, slot, content, length_name, index_of, index_name}
-use Rattle.wjs_content.specs.Objects.{Arena, object_at, depth_at, chain_of, chain, fixed, at_name, is_hidden, is_kept, is_puttable, is_array}
+use Rattle.wjs_content.specs.Objects.{Arena, object_at, depth_at, chain_of, chain, fixed, is_hidden, is_kept, is_puttable, is_array}
 use Rattle.wjs_content.specs.Plans.{Plan, Gives, Reads, Writes, Lists, answer_of, worlds_after, names_at, then_plan}
 use Rattle.wjs_props.specs.declared.answers.PutAnswer.{PutAnswer}
 use Rattle.wjs_props.specs.Properties.{get_along, get, has, length_of, length_of_value, put_index, cut_each, is_index_within, cut_listed, cut, put_length, put_slot, put_in_array, put, delete, visits_along, visits}

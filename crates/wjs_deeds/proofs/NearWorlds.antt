@@ -4,20 +4,18 @@ use Rattle.std.specs.Option.{option_map, option_and_then}
 use Rattle.std.specs.Ordering.{eq_by_cmp}
 use Rattle.std.specs.Cmp.{Equal-is}
 use Rattle.std.specs.FinMap as map
-use Rattle.std.specs.FinMap.{FinMap, IsAntisymmetric}
-use Rattle.wjs_base.specs.declared.ids.ObjId.{ObjId}
+use Rattle.std.specs.FinMap.{IsAntisymmetric}
 use Rattle.wjs_base.specs.declared.ids.WorldId.{WorldId}
 use Rattle.wjs_base.specs.declared.values.Slot.{Slot as NumberedSlot}
 use Rattle.wjs_base.specs.declared.values.Value.{Value as NumberedValue}
 use Rattle.wjs_base.specs.declared.values.Value.TheVariants as values
 use Rattle.wjs_base.specs.Text.{Table}
 use Rattle.wjs_store.specs.Naming.{plain}
-use Rattle.wjs_store.specs.State.{World, State, same_world, find_world, content_at}
+use Rattle.wjs_store.specs.State.{World, same_world, find_world, content_at}
 use Rattle.wjs_store.specs.Meaning.{Worlds}
-use Rattle.wjs_rename.specs.Names.{Holds, named_world, named_state}
+use Rattle.wjs_rename.specs.Names.{Holds, named_world}
 use Rattle.wjs_rename.proofs.Known.{entries_hold, named_content}
-use Rattle.wjs_content.specs.Values.{Value}
-use Rattle.wjs_content.specs.Names.{Slot, content}
+use Rattle.wjs_content.specs.Names.{content}
 use Rattle.wjs_content.specs.Tables.{slot_in, value_in, knows_slot}
 use Rattle.wjs_content.specs.Telling.{names_of}
 use Rattle.wjs_content.specs.Worlds.{worlds_in, KnowsWorlds}

@@ -6,23 +6,22 @@ use Rattle.std.specs.FinMap as map
 use Rattle.wjs_base.specs.declared.ids.ObjId.{ObjId}
 use Rattle.wjs_base.specs.declared.ids.WorldId.{WorldId}
 use Rattle.wjs_base.specs.declared.values.Name.{Name}
-use Rattle.wjs_base.specs.declared.values.Slot.{Slot as NumberedSlot}
 use Rattle.wjs_base.specs.declared.values.Value.{Value as NumberedValue}
 use Rattle.wjs_base.specs.Text.{Table}
 use Rattle.wjs_base.proofs.TextLaws.{Grows-refl}
-use Rattle.wjs_store.specs.State.{State, World, Act as Action, read, list, sprout, commit, read_in, list_in, same_world, content_at, has_world, find_world, after, after_read, after_write, after_list, after_sprout, after_commit, next_id, child_of, with_parent, fault_in, settle}
-use Rattle.wjs_store.specs.Meaning.{Meaning, View, Worlds, IsSound, worlds}
+use Rattle.wjs_store.specs.State.{State, World, Act as Action, commit, read_in, list_in, same_world, content_at, has_world, find_world, after, after_read, after_write, after_list, after_sprout, after_commit, next_id, child_of, with_parent, fault_in, settle}
+use Rattle.wjs_store.specs.Meaning.{Meaning, Worlds, IsSound, worlds}
 use Rattle.wjs_store.proofs.Writes.{has_at, has_after_write, has_settle}
 use Rattle.wjs_store.proofs.Marks.{marks_read, marks_list}
 use Rattle.wjs_rename.specs.Names.{Holds, named_world}
 use Rattle.wjs_arena.specs.declared.class.Class.TheVariants as class
-use Rattle.wjs_arena.specs.Entries.{Entry, prototype_of}
+use Rattle.wjs_arena.specs.Entries.{Entry}
 use Rattle.wjs_content.specs.Values.{Text, Value, same_text}
 use Rattle.wjs_content.specs.Names.{Slot, content}
-use Rattle.wjs_content.specs.Objects.{Entry as Placed, object_of, object_at, at_name, fixed}
-use Rattle.wjs_content.specs.Tables.{name_in, value_in, under_in, entry_in, arena_in, knows_slot}
+use Rattle.wjs_content.specs.Objects.{Entry as Placed, object_of, at_name}
+use Rattle.wjs_content.specs.Tables.{name_in, value_in, under_in, entry_in, arena_in}
 use Rattle.wjs_content.specs.Telling.{names_of}
-use Rattle.wjs_content.specs.Plans.{Plan, Gives, Reads, Writes, Lists, Heard, Sprouted, answer_of, worlds_after, names_at}
+use Rattle.wjs_content.specs.Plans.{Plan, Gives, Reads, Writes, Lists, Heard, worlds_after, names_at}
 use Rattle.wjs_content.specs.Worlds.{worlds_in, KnowsWorlds}
 use Rattle.wjs_content.proofs.ArenaMaps.{object_found, prototype_same}
 use Rattle.wjs_props.specs.declared.heap.Heap.{Heap}
@@ -30,7 +29,7 @@ use Rattle.wjs_props.specs.Acts.{Acts}
 use Rattle.wjs_props.specs.Heap.{IsHeap, Performs}
 use Rattle.wjs_props.specs.Means.{parts}
 use Rattle.wjs_props.proofs.Actions.{slot_knows}
-use Rattle.wjs_props.proofs.Kept.{Within, within_sprout, within_commit}
+use Rattle.wjs_props.proofs.Kept.{Within, within_commit}
 use Rattle.wjs_model.specs.declared.config.Config.{Config}
 use Rattle.wjs_model.specs.Apart.{IsNear, NearValue, NearIf, NearSlots}
 use Rattle.wjs_model.specs.Soundness.{Base}
