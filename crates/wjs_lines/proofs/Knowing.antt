@@ -7,11 +7,12 @@ use Rattle.wjs_content.specs.Tables.{value_in, knows_value}
 use Rattle.wjs_content.proofs.Growth.{value_grows}
 use Rattle.wjs_props.proofs.Actions.{value_knows}
 use Rattle.wjs_model.specs.declared.config.Config.{Config}
+use Rattle.wjs_deeds.proofs.Having.{value_here}
 use Rattle.wjs_model.specs.Soundness.{Base, HasValue}
 
 module _ {S : Type 0} (meaning : S → Meaning) (c : Config S) where
   pub knows : (v : Value) → Base meaning c → HasValue c v → knows_value c.heap.texts v ≡ true
-  knows v b h = value_knows c.heap.texts c.heap.arena v b.heap.table h
+  knows v b h = value_knows c.heap.texts c.heap.arena v b.heap.table (value_here c v h)
 
   pub knows_later : (t : Table) (v : Value) → Base meaning c → HasValue c v → Grows c.heap.texts t → knows_value t v ≡ true
   knows_later t v b h g = (value_grows c.heap.texts t g v (knows v b h)).0
