@@ -18,7 +18,8 @@ use Rattle.wjs_content.specs.Tables.{name_in, value_in, object_in}
 use Rattle.wjs_props.specs.Heap.{HasNamed}
 use Rattle.wjs_meaning.specs.Builtins.{object_prototype, function_prototype}
 use Rattle.wjs_meaning.specs.Functions.{prototype_object, function_object}
-use Rattle.wjs_deeds.proofs.Making.{bare, number_there}
+use Rattle.wjs_model.specs.Apart.{IsNear, NamesNear}
+use Rattle.wjs_deeds.proofs.Making.{bare, number_there, number_near}
 
 pub prototype_is : (t : Table) (x : Object) (p : ObjId) (flags : List (Name × Flags)) (name : Name) → x ≡ bare class.Plain (Some p) → p ≡ object_prototype → flags ≡ (name, hidden_flags) ∷ [] → name_in t name ≡ constructor_name → object_in t (record x { flags = flags }) ≡ prototype_object
 prototype_is t x p flags name ex ep ef en =
@@ -50,3 +51,11 @@ function_named texts arena x p scope tree body n fixed flags length prototype co
     subst (λ (fs : List (Name × NumberedValue)). HasNamed texts arena (filled (bare class.Function (Some p)) scope tree body fs flags)) (sym ef) (
     subst (λ (fs : List (Name × Flags)). HasNamed texts arena (filled (bare class.Function (Some p)) scope tree body ((length, count) ∷ []) fs)) (sym eg) (
     record { primitive = tt; fixed = ((hl, number_there texts texts arena count n ev), tt); flags = (hp, tt) })))
+
+-- and near
+pub function_near : (apart : List ℕ) (texts : Table) (x : Object) (p scope : ObjId) (tree : ℕ) (body : NodeId) (n : ℕ) (fixed : List (Name × NumberedValue)) (flags : List (Name × Flags)) (length : Name) (count : NumberedValue)
+    → x ≡ bare class.Function (Some p) → fixed ≡ (length, count) ∷ [] → value_in texts count ≡ whole n → IsNear apart p → IsNear apart scope → NamesNear apart (filled x scope tree body fixed flags)
+function_near apart texts x p scope tree body n fixed flags length count ex ef ev hp hs =
+    subst (λ (y : Object). NamesNear apart (filled y scope tree body fixed flags)) (sym ex) (
+    subst (λ (fs : List (Name × NumberedValue)). NamesNear apart (filled (bare class.Function (Some p)) scope tree body fs flags)) (sym ef) (
+    record { prototype = hp; scope = hs; primitive = tt; fixed = (number_near apart texts count n ev, tt) }))

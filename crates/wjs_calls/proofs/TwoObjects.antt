@@ -27,6 +27,7 @@ use Rattle.wjs_meaning.specs.Programs.{eval}
 use Rattle.wjs_model.specs.declared.config.Config.{Config}
 use Rattle.wjs_model.specs.Rest.{turns_act}
 use Rattle.wjs_model.specs.Configurations.{state_in}
+use Rattle.wjs_model.specs.Apart.{NamesNear}
 use Rattle.wjs_model.specs.Soundness.{Base}
 use Rattle.wjs_moves.specs.Doing.{Does}
 use Rattle.wjs_moves.specs.Following.{Later}
@@ -121,6 +122,7 @@ module _ {S : Type 0} (meaning : S → Meaning) where
       global = refl;
       world = refl;
       owner = refl;
+      apart = refl;
       texts = Grows-refl old.heap.texts;
       objects = keeps;
       made = λ o y h k. made_by o y h (eq_by_cmp obj_cmp o (number_of_next old.heap.arena old.owner)) refl (sym (found old.heap.arena arena old.owner x is o) ∙ k);
@@ -185,8 +187,8 @@ module _ {S : Type 0} (meaning : S → Meaning) where
     no_world z e w arena none same is = let q : z.world ≡ Some w = ap (λ (r : Entry). r.object.world) same ∙ is in cc
 
     -- and all that was there is there
-    pub later_pair : Base meaning old → IsArena new → NamesSecond old.heap.texts old.heap.arena old.owner x → NamesSecond old.heap.texts old.heap.arena old.owner y → IsTrue (has new (second_number old.heap.arena old.owner)) → x.world ≡ None → y.world ≡ None → Later meaning old (with_objects old new)
-    later_pair b arena one two there none_x none_y = later_on meaning old (with_objects old new).heap (Grows-refl old.heap.texts) more (λ w h. h) b (heap_pair b.heap arena (one new more there) (two new more there)) b.marks
+    pub later_pair : Base meaning old → IsArena new → NamesSecond old.heap.texts old.heap.arena old.owner x → NamesSecond old.heap.texts old.heap.arena old.owner y → IsTrue (has new (second_number old.heap.arena old.owner)) → NamesNear old.apart.items x → NamesNear old.apart.items y → x.world ≡ None → y.world ≡ None → Later meaning old (with_objects old new)
+    later_pair b arena one two there near_x near_y none_x none_y = later_on meaning old (with_objects old new).heap (Grows-refl old.heap.texts) more (λ w h. h) b (heap_pair b.heap arena (one new more there) (two new more there)) b.marks b.works
         (λ o e w q k l. elim (new_or_old mid new old.owner y is_new o e q) [
           | inl same ↦ absurd (no_world y e w mid none_y same k)
           | inr q' ↦ elim (new_or_old old.heap.arena mid old.owner x is_mid o e q') [
@@ -194,3 +196,20 @@ module _ {S : Type 0} (meaning : S → Meaning) where
             | inr q'' ↦ b.own_worlds o e w q'' k l
           ]
         ])
+        (record {
+          no_worlds = λ o e w q a k. elim (new_or_old mid new old.owner y is_new o e q) [
+            | inl same ↦ absurd (no_world y e w mid none_y same k)
+            | inr q' ↦ elim (new_or_old old.heap.arena mid old.owner x is_mid o e q') [
+              | inl same ↦ absurd (no_world x e w old.heap.arena none_x same k)
+              | inr q'' ↦ b.no_worlds o e w q'' a k
+            ]
+          ];
+          objects = λ o e q h. elim (new_or_old mid new old.owner y is_new o e q) [
+            | inl same ↦ subst (λ (z : Entry). NamesNear old.apart.items z.object) same near_y
+            | inr q' ↦ elim (new_or_old old.heap.arena mid old.owner x is_mid o e q') [
+              | inl same ↦ subst (λ (z : Entry). NamesNear old.apart.items z.object) same near_x
+              | inr q'' ↦ b.near_objects o e q'' h
+            ]
+          ];
+          slots = b.near_slots;
+        })

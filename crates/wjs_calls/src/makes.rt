@@ -9,6 +9,7 @@ ghost use Rattle.wjs_meaning.specs.Builtins.{function_prototype};
 ghost use Rattle.wjs_meaning.specs.Deeds.{Do, Create, node_here};
 ghost use Rattle.wjs_meaning.specs.Trees.{formals_of};
 ghost use Rattle.wjs_meaning.specs.Functions as line;
+ghost use Rattle.wjs_model.specs.Apart.{IsNear, NamesNear};
 ghost use Rattle.wjs_model.specs.Soundness.{Base, HasObject, HasName};
 ghost use Rattle.wjs_moves.specs.Doing.{Does};
 ghost use Rattle.wjs_moves.specs.Parts.{env_in};
@@ -57,6 +58,7 @@ pub(crate) fn function_object<S: WorldStore>(
     names: FunctionNames,
 ) -> Result<Object, OutOfMemory>
     requires base { Base S.meaning config.now }
+    requires near { IsNear config.now.apart.items scope }
     requires length { HasName config.now names.length }
     requires prototype { HasName config.now names.prototype }
     requires length_text { (t : Table) → Grows config.now.heap.texts t → name_in t names.length ≡ length_name }
@@ -65,6 +67,7 @@ pub(crate) fn function_object<S: WorldStore>(
     ensures prototype { IfOk result (λ x. x.prototype ≡ Some function_prototype) }
     ensures scope { IfOk result (λ x. x.scope ≡ Some scope) }
     ensures world { IfOk result (λ x. x.world ≡ None) }
+    ensures near { IfOk result (λ x. NamesNear config.now.apart.items x) }
     ensures named { IfOk result (λ x. HasNamed config.now.heap.texts config.now.heap.arena x) }
 {
     let alloc = config.heap.arena.allocator();

@@ -6,6 +6,7 @@ ghost use Rattle.wjs_arena.specs.Entries.{IsThere, next_number};
 ghost use Rattle.wjs_content.specs.Objects.{Internals};
 ghost use Rattle.wjs_content.specs.Tables.{object_in};
 ghost use Rattle.wjs_meaning.specs.Deeds.{Do, Create};
+ghost use Rattle.wjs_model.specs.Apart.{NamesNear};
 ghost use Rattle.wjs_model.specs.Soundness.{Base, HasObject};
 ghost use Rattle.wjs_moves.specs.Doing.{Does};
 ghost use Rattle.wjs_moves.specs.Following.{Later};
@@ -26,10 +27,12 @@ pub(crate) fn create_pair<S: WorldStore>(
     requires prototype { IsThere config.old.heap.arena first.prototype }
     requires scope { IsThere config.old.heap.arena first.scope }
     requires named { NamesSecond config.old.heap.texts config.old.heap.arena config.old.owner first }
+    requires near { NamesNear config.old.apart.items first }
     requires world { first.world ≡ None }
     requires second_prototype { IsThere config.old.heap.arena second.prototype }
     requires second_scope { second.scope ≡ Some (next_number config.old.heap.arena config.old.owner) }
     requires second_named { NamesSecond config.old.heap.texts config.old.heap.arena config.old.owner second }
+    requires second_near { NamesNear config.old.apart.items second }
     requires second_world { second.world ≡ None }
     ensures does { IfOk result (λ o. (one : Table → Internals) (two : Table → ObjId → Internals) → ((t : Table) → Grows config.old.heap.texts t → object_in t first ≡ one t) → ((t : Table) → Grows config.old.heap.texts t → object_in t second ≡ two t (next_number config.old.heap.arena config.old.owner)) → Does S.meaning (λ t go. Do (Create config.old.owner (one t)) (λ s. Do (Create config.old.owner (two t s)) go)) (λ t. o) config.old config.new) }
     ensures later { OnOk result (Later S.meaning config.old config.new) }

@@ -7,7 +7,8 @@ use Rattle.wjs_meaning.specs.Deeds.{Act, Do, Write, write_all}
 use Rattle.wjs_meaning.specs.NewObjects.{elements_from}
 use Rattle.wjs_moves.specs.Following.{Follows}
 use Rattle.wjs_deeds.proofs.Later.{later_twice}
-use Rattle.wjs_deeds.proofs.Making.{number_there}
+use Rattle.wjs_deeds.proofs.Having.{value_both}
+use Rattle.wjs_deeds.proofs.Making.{number_there, number_near}
 use Rattle.wjs_calls.proofs.Elements.{write-append, length-each}
 use Rattle.wjs_calls.proofs.arrays.make_array.Goals as goal
 
@@ -42,4 +43,6 @@ pub returns-clause-found : goal.returns-clause-found
 returns-clause-found g c = c.in_ok-write_known.ensures.later.objects _ (c.in_ok-write_elements.ensures.later.objects _ c.in_ok-array.ensures.found)
 
 pub write_known-requires-clause-value : goal.write_known-requires-clause-value
-write_known-requires-clause-value g c = let heap = c.write_elements.new.config.heap in number_there heap.texts heap.texts heap.arena c.in_ok-length.length (length c.args.values.now) (c.in_ok-length.ensures heap.texts)
+write_known-requires-clause-value g c =
+    let mid = c.write_elements.new.config in
+    value_both mid c.in_ok-length.length (number_there mid.heap.texts mid.heap.texts mid.heap.arena c.in_ok-length.length (length c.args.values.now) (c.in_ok-length.ensures mid.heap.texts)) (number_near mid.apart.items mid.heap.texts c.in_ok-length.length (length c.args.values.now) (c.in_ok-length.ensures mid.heap.texts))

@@ -25,3 +25,6 @@ returns-clause-does g c =
 
 pub returns-clause-later : goal.returns-clause-later
 returns-clause-later g c = any_later g.S.WorldStore.meaning c.args.config.now c.function_names.new.config c.create.new.config c.create.result c.in_ok-names.ensures.later c.create.ensures.later
+
+pub function_object-requires-clause-near : goal.function_object-requires-clause-near
+function_object-requires-clause-near g c = (c.in_ok-names.ensures.later.objects c.args.scope c.requires.scope).1

@@ -1,8 +1,10 @@
+use Rattle.std.proofs.Common.{Some}
+use Rattle.wjs_arena.specs.declared.class.Class.TheVariants as class
 use Rattle.wjs_content.specs.Names.{constructor_name}
 use Rattle.wjs_content.specs.Tables.{name_in}
 use Rattle.wjs_meaning.specs.Functions.{prototype_object}
 use Rattle.wjs_deeds.proofs.Composing.{if_ok}
-use Rattle.wjs_deeds.proofs.Making.{made_after}
+use Rattle.wjs_deeds.proofs.Making.{made_after, near_flagged}
 use Rattle.wjs_calls.proofs.FunctionObjects.{prototype_is}
 use Rattle.wjs_calls.proofs.Rows.{any_later}
 use Rattle.wjs_calls.proofs.makes.create_prototype.Goals as goal
@@ -16,3 +18,6 @@ returns-clause-does g c =
 
 pub returns-clause-later : goal.returns-clause-later
 returns-clause-later g c = any_later g.S.WorldStore.meaning c.args.config.now c.known_name.new.config c.create.new.config c.create.result c.in_ok-name.ensures.later c.create.ensures.later
+
+pub create-requires-clause-near : goal.create-requires-clause-near
+create-requires-clause-near g c = near_flagged c.known_name.new.config.apart.items c.object_of-object.result class.Plain (Some c.builtin-prototype.result) c.object_of-object.ensures c.builtin-prototype.ensures.found.1 c.in_ok-flags.flags

@@ -11,8 +11,9 @@ use Rattle.wjs_meaning.specs.Trees.{formals_of}
 use Rattle.wjs_moves.specs.Following.{Follows}
 use Rattle.wjs_moves.specs.Parts.{env_in}
 use Rattle.wjs_deeds.proofs.Composing.{if_ok, env_later}
+use Rattle.wjs_deeds.proofs.Having.{owner_near}
 use Rattle.wjs_calls.specs.Making.{named_made}
-use Rattle.wjs_calls.proofs.NamedFunctions.{number_behind, scope_is, scope_named, behind}
+use Rattle.wjs_calls.proofs.NamedFunctions.{number_behind, scope_is, scope_named, scope_near, behind}
 use Rattle.wjs_calls.proofs.Rows.{any_later}
 use Rattle.wjs_calls.proofs.TwoObjects.{named_more}
 use Rattle.wjs_calls.proofs.named.create_named.Goals as goal
@@ -26,6 +27,19 @@ create_pair-requires-clause-named g c = λ new more there.
     let next : c.in-Some.serial ≡ s.serial + 1 = grind (arith, c.in-Some.ensures) in
     let here : IsTrue (has new f) = subst (λ (o : ObjId). IsTrue (has new o)) (sym (behind s c.in-Some.serial next ∙ ap number_behind first)) there in
     scope_named mid.heap.texts new c.in_ok-named.named c.args.frame.now.scope f c.name_of-name.result c.in_ok-named.ensures c.name_of-name.ensures.found here
+
+pub function_object-requires-clause-near : goal.function_object-requires-clause-near
+function_object-requires-clause-near g c =
+    let mid = c.function_names.new.config in
+    owner_near mid c.in_ok-names.ensures.later.base.own c.next_number-scope.result (ap (λ (o : ObjId). o.owner) (sym (c.next_number-scope.ensures.is []) ∙ number_same [] mid.heap.arena mid.owner))
+
+pub create_pair-requires-clause-near : goal.create_pair-requires-clause-near
+create_pair-requires-clause-near g c =
+    let mid = c.function_names.new.config in
+    let s = c.next_number-scope.result in
+    let f : ObjId = record { owner = s.owner; serial = c.in-Some.serial } in
+    let owner = ap (λ (o : ObjId). o.owner) (sym (c.next_number-scope.ensures.is []) ∙ number_same [] mid.heap.arena mid.owner) in
+    scope_near mid.apart.items c.in_ok-named.named c.args.frame.now.scope f c.name_of-name.result c.in_ok-named.ensures (c.in_ok-names.ensures.later.objects c.args.frame.now.scope c.requires.there.scope).1 (owner_near mid c.in_ok-names.ensures.later.base.own f owner)
 
 pub create_pair-requires-clause-second_scope : goal.create_pair-requires-clause-second_scope
 create_pair-requires-clause-second_scope g c =

@@ -18,6 +18,7 @@ use Rattle.wjs_deeds.proofs.Composing.{env_later}
 use Rattle.wjs_calls.specs.Callees.{is_new}
 use Rattle.wjs_calls.proofs.NewFrames.{new_waits}
 use Rattle.wjs_calls.proofs.Rows.{same_units}
+use Rattle.wjs_deeds.proofs.Making.{near_bare}
 use Rattle.wjs_calls.proofs.news.construct_on.Goals as goal
 
 pub returns : goal.returns
@@ -37,3 +38,6 @@ returns g c =
     let h2 : OnOk r (Follows m (Sub (call f (Object o) vs (env_in m mid t held)) (then_value (new_result o))) mid new) = subst (λ (go : Completion → Act). OnOk r (Follows m (Sub (call f (Object o) vs (env_in m mid t held)) go) mid new)) (new_waits t (node_now m mid held) c.args.frame.form c.args.frame.node.0 (holding_in t held.held) (env_in m mid t held) c.requires.form new_there) h1 in
     let h3 : OnOk r (Follows m (Sub (call f (Object o) vs (env_in m old t c.args.frame)) (then_value (new_result o))) mid new) = subst (λ (env : Env). OnOk r (Follows m (Sub (call f (Object o) vs env) (then_value (new_result o))) mid new)) (env_later m old mid t c.args.frame c.in_ok-object.ensures.later) h2 in
     (c.in_ok-object.ensures.makes (λ u. object_of class.Plain (Some c.args.prototype)) (λ u more. ap (object_in u) c.object_of.ensures)).by (λ q. Sub (call f (Object q) vs (env_in m old t c.args.frame)) (then_value (new_result q))) new r h3
+
+pub create-requires-clause-near : goal.create-requires-clause-near
+create-requires-clause-near g c = near_bare c.args.config.now.apart.items c.object_of.result class.Plain (Some c.args.prototype) c.object_of.ensures c.requires.prototype.1

@@ -3,6 +3,7 @@ use Rattle.std.specs.Prelude.{is_some}
 use Rattle.wjs_base.specs.declared.ids.ObjId.{ObjId}
 use Rattle.wjs_meaning.specs.Deeds.{Do, Create}
 use Rattle.wjs_moves.specs.Doing.{Does}
+use Rattle.wjs_deeds.proofs.Having.{owner_near}
 use Rattle.wjs_calls.proofs.TwoObjects.{with_objects, does_pair, second_there, later_pair}
 use Rattle.wjs_calls.proofs.pairs.create_pair.Goals as goal
 
@@ -24,4 +25,9 @@ returns-clause-later g c =
     let one_made = c.in_ok-create.ensures in
     let two_made = c.in_ok-made.ensures in
     let there = second_there m c.args.first c.args.second old mid new one_made.created two_made.created one_made.keeps two_made.keeps c.in_ok-create.field-0 c.in_ok-made.made c.requires.base.heap.arena one_made.arena one_made.number (ap is_some one_made.there) two_made.number (ap is_some two_made.there) in
-    later_pair m c.args.first c.args.second old mid new one_made.created two_made.created one_made.keeps two_made.keeps c.requires.base two_made.arena c.requires.named c.requires.second_named there c.requires.world c.requires.second_world
+    later_pair m c.args.first c.args.second old mid new one_made.created two_made.created one_made.keeps two_made.keeps c.requires.base two_made.arena c.requires.named c.requires.second_named there c.requires.near c.requires.second_near c.requires.world c.requires.second_world
+
+pub returns-clause-found : goal.returns-clause-found
+returns-clause-found g c =
+    let two_made = c.in_ok-made.ensures in
+    (ap is_some two_made.there, owner_near c.args.config.now c.requires.base.own c.in_ok-made.made (ap (λ (o : ObjId). o.owner) two_made.number))
