@@ -107,7 +107,7 @@ fresh_first = refl
 
 -- a store that has nothing beside the first world is new
 pub fixed_new : (m : Meaning) → m ≡ fixed fresh false → IsNew m
-fixed_new m e = subst IsNew (sym e) (record { own = refl; each_view = λ v ok. refl })
+fixed_new m e = subst IsNew (sym e) (record { own = refl; each_view = λ v ok. refl; works = refl })
 
 -- ---- all together
 

@@ -9,3 +9,4 @@ pub mod Slotting
 pub mod Beginning
 pub mod Declares
 pub mod Readiness
+pub mod NoneApart

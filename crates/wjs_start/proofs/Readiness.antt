@@ -1,12 +1,12 @@
 -- A run before its first step is sound, and is the machine's.
-use Rattle.std.proofs.Common.{◌≡◌, ℕ, false, List, [], ◌∷◌, Option, None, Some, Vec, Global, refl, sym, ap, ◌∙◌, subst, arith, IsTrue}
+use Rattle.std.proofs.Common.{◌≡◌, ℕ, ◌<◌, false, not, List, [], ◌∷◌, Option, None, Some, Vec, Global, refl, sym, ap, ◌∙◌, subst, arith, IsTrue}
 use Rattle.std.specs.Prelude.{All, IfSome, map, is_some, unwrap_or}
 use Rattle.std.specs.Option.{option_map, option_and_then}
 use Rattle.std.proofs.lemmas.List.Elements.{All-nil, All-cons, All-head}
 use Rattle.wjs_base.specs.declared.ids.TextId.{TextId}
 use Rattle.wjs_base.specs.Text.{Table, IsTable}
 use Rattle.wjs_base.proofs.TextLaws.{Grows-refl}
-use Rattle.wjs_store.specs.Meaning.{Meaning, View}
+use Rattle.wjs_store.specs.Meaning.{Meaning, View, worlds}
 use Rattle.wjs_tree.specs.declared.node.NodeId.{NodeId}
 use Rattle.wjs_arena.specs.Entries.{Entry}
 use Rattle.wjs_content.specs.Carried.{tell}
@@ -16,7 +16,7 @@ use Rattle.wjs_props.specs.declared.heap.Heap.{Heap}
 use Rattle.wjs_props.specs.Means.{parts}
 use Rattle.wjs_meaning.specs.Trees.{Tree}
 use Rattle.wjs_meaning.specs.Deeds.{St}
-use Rattle.wjs_meaning.specs.Builtins.{global_object, first_world}
+use Rattle.wjs_meaning.specs.Builtins.{builtin, global_object, first_world}
 use Rattle.wjs_meaning.specs.Programs.{machine}
 use Rattle.wjs_meaning.specs.Start.{start, first_arena, properties}
 use Rattle.wjs_model.specs.declared.config.Config.{Config}
@@ -28,11 +28,12 @@ use Rattle.wjs_model.specs.Configurations.{run_in, frames_in, state_in, rest, se
 use Rattle.wjs_model.specs.Contents.{frame_in}
 use Rattle.wjs_model.specs.Laws.{run_of, trees_of, script_names, first_frames}
 use Rattle.wjs_model.specs.Rest.{rest_of}
-use Rattle.wjs_model.specs.Soundness.{HasWorld, IsThere, Base, Sound}
+use Rattle.wjs_model.specs.Soundness.{HasObject, HasWorld, IsThere, Base, Sound}
 use Rattle.wjs_model.specs.Texts.{KnowsUnit}
 use Rattle.wjs_model.specs.Units.{unit_in}
 use Rattle.wjs_model.proofs.Starts.{start_lem}
 use Rattle.wjs_deeds.proofs.Staying.{units_stay}
+use Rattle.wjs_start.proofs.NoneApart.{all_near, none_apart, objects_near, slots_near}
 use Rattle.wjs_start.specs.Declaring.{declared_by_tree}
 use Rattle.wjs_start.specs.First.{IsFirst, writes_told}
 use Rattle.wjs_start.specs.Starting.{Starts, body_of, frame_at, frames_of, units_of}
@@ -66,11 +67,11 @@ map_none f (Some a) e = absurd (cc)
 -- ---- the configuration
 
 module _ {S : Type 0} (meaning : S → Meaning) (texts : Table) (before : Meaning) (library : Option Program) (script : Program) (ids : List TextId)
-    (h : Heap S) (units : Vec Program Global) (frames : List Frame) (pending : Vec ℕ Global) (budget : ℕ)
-    (is : IsFirst texts before ids (parts meaning h)) (units_are : units.items ≡ units_of library script) (frames_there : frames ≡ frames_of (option_map body_of library) (body_of script)) (none_pending : pending.items ≡ [])
+    (h : Heap S) (units : Vec Program Global) (frames : List Frame) (apart pending : Vec ℕ Global) (budget : ℕ)
+    (is : IsFirst texts before ids (parts meaning h)) (units_are : units.items ≡ units_of library script) (frames_there : frames ≡ frames_of (option_map body_of library) (body_of script)) (none_kept : apart.items ≡ []) (none_pending : pending.items ≡ []) (works : IsTrue (not before.spent))
     (names : (t : Table) → IsTable t → KnowsUnit t script → map (text_in t) ids ≡ declared_by_tree (unit_in t script)) (library_known : IfSome library (KnowsUnit texts)) (script_known : KnowsUnit texts script) where
   abbrev c : Config S
-  c = record { heap = h; units = units; frames = frames; global = global_object; world = first_world; owner = 0; pending = pending; left = budget; state = states.Running }
+  c = record { heap = h; units = units; frames = frames; global = global_object; world = first_world; owner = 0; apart = apart; pending = pending; left = budget; state = states.Running }
 
   abbrev t : Table
   t = h.texts
@@ -134,11 +135,14 @@ module _ {S : Type 0} (meaning : S → Meaning) (texts : Table) (before : Meanin
     spent = is.spent;
   }
 
+  builtin_there : (n : ℕ) → n < 64 → HasObject c (builtin n)
+  builtin_there n lt = (is.builtins n lt, all_near apart.items none_kept (builtin n))
+
   due_there : (tree : ℕ) (body : NodeId) → IsThere meaning c (frame_at tree body phases.Due)
-  due_there tree body = record { scope = is.builtins 2 (omega arith); this = is.builtins 2 (omega arith); world = is.first; held = tt; phase = tt }
+  due_there tree body = record { scope = builtin_there 2 (omega arith); this = builtin_there 2 (omega arith); world = is.first; held = tt; phase = tt }
 
   waiting_there : (tree : ℕ) (body : NodeId) → IsThere meaning c (frame_at tree body phases.Waiting)
-  waiting_there tree body = record { scope = is.builtins 2 (omega arith); this = is.builtins 2 (omega arith); world = is.first; held = tt; phase = tt }
+  waiting_there tree body = record { scope = builtin_there 2 (omega arith); this = builtin_there 2 (omega arith); world = is.first; held = tt; phase = tt }
 
   all_there : (library : Option NodeId) (script : NodeId) → All (IsThere meaning c) (frames_of library script)
   all_there None script = All-cons (IsThere meaning c) (frame_at 0 script phases.Due) [] (due_there 0 script) (All-nil (IsThere meaning c))
@@ -147,11 +151,16 @@ module _ {S : Type 0} (meaning : S → Meaning) (texts : Table) (before : Meanin
   base_so : Base meaning c
   base_so = record {
     heap = is.heap;
-    global = is.builtins 2 (omega arith);
+    works = ap not is.spent ∙ works;
+    global = builtin_there 2 (omega arith);
     world = is.first;
-    builtins = λ n lt. is.builtins n (omega (arith, lt));
+    builtins = λ n lt. builtin_there n (omega (arith, lt));
     units = subst (All (KnowsUnit t)) (sym units_are) all_known;
     own_worlds = λ o e w q r s. subst (HasWorld meaning c) (sym (is.own_worlds o w (ap (option_and_then (λ (x : Entry). (x.object).world)) q ∙ r))) is.first;
+    own = all_near apart.items none_kept (builtin 0);
+    no_worlds = λ o e w q a. absurd (none_apart apart.items none_kept o.owner a);
+    near_objects = λ o e q h. objects_near apart.items none_kept e.object;
+    near_slots = slots_near apart.items none_kept (worlds (meaning h.store));
     frames = subst (All (IsThere meaning c)) (sym frames_there) (all_there (option_map body_of library) (body_of script));
     marks = is.marks;
   }

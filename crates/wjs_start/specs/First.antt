@@ -1,5 +1,5 @@
 -- The first heap.
-use Rattle.std.specs.Prelude.{◌≡◌, ℕ, ◌<◌, List, [], ◌∷◌, ◌++◌, map as each, Some, IsTrue}
+use Rattle.std.specs.Prelude.{◌≡◌, ℕ, ◌<◌, not, List, [], ◌∷◌, ◌++◌, map as each, Some, IsTrue}
 use Rattle.wjs_base.specs.declared.ids.ObjId.{ObjId}
 use Rattle.wjs_base.specs.declared.ids.TextId.{TextId}
 use Rattle.wjs_base.specs.declared.ids.WorldId.{WorldId}
@@ -16,10 +16,11 @@ use Rattle.wjs_props.specs.Heap.{Parts, IsHeap}
 use Rattle.wjs_meaning.specs.Builtins.{builtin, first_world}
 use Rattle.wjs_meaning.specs.Start.{Property, properties, first_arena, first_full}
 
--- the first world alone, with no slot and no mark, under each view
+-- the first world alone, with no slot and no mark, under each view; and the store works
 pub record IsNew (m : Meaning) : Type 0 where
   pub own : worlds m ≡ fresh
   pub each_view : (v : View) → IsTrue (m.admits v) → m.full v ≡ fresh
+  pub works : IsTrue (not m.spent)
 
 -- each slot was written, the last one first
 abbrev pub writes_told : List Property → List Told

@@ -46,6 +46,7 @@ pub fn start<S: WorldStore + Drop>(
         global: GLOBAL_OBJECT,
         world: FIRST_WORLD,
         owner: 0,
+        apart: Vec::new(alloc),
         pending: Vec::new(alloc),
         left: budget,
         state: State::Running,
