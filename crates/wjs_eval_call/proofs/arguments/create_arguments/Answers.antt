@@ -1,10 +1,12 @@
+use Rattle.std.proofs.Common.{Some}
+use Rattle.wjs_arena.specs.declared.class.Class.TheVariants as class
 use Rattle.wjs_base.specs.Text.{Table}
 use Rattle.wjs_content.specs.Tables.{value_in}
 use Rattle.std.specs.Prelude.{map}
 use Rattle.wjs_props.specs.Means.{nothing}
 use Rattle.wjs_meaning.specs.Functions.{arguments_object}
 use Rattle.wjs_deeds.proofs.Composing.{if_ok}
-use Rattle.wjs_deeds.proofs.Making.{made_after}
+use Rattle.wjs_deeds.proofs.Making.{made_after, near_flagged}
 use Rattle.wjs_calls.proofs.Rows.{any_later}
 use Rattle.wjs_eval_call.proofs.Filling.{arguments_is, arguments_named}
 use Rattle.wjs_eval_call.proofs.arguments.create_arguments.Goals as goal
@@ -24,3 +26,6 @@ returns-clause-does g c =
 
 pub returns-clause-later : goal.returns-clause-later
 returns-clause-later g c = any_later g.S.WorldStore.meaning c.args.config.now c.arguments_names.new.config c.create.new.config c.create.result c.in_ok-names.ensures.later c.create.ensures.later
+
+pub create-requires-clause-near : goal.create-requires-clause-near
+create-requires-clause-near g c = near_flagged c.arguments_names.new.config.apart.items c.object_of-object.result class.Arguments (Some c.builtin-prototype.result) c.object_of-object.ensures c.builtin-prototype.ensures.found.1 c.in_ok-flags.flags

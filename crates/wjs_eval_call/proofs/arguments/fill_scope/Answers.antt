@@ -3,6 +3,9 @@ use Rattle.wjs_tree.specs.declared.node.NodeId.{NodeId}
 use Rattle.std.proofs.Common.{List, ◌∷◌, sym, subst}
 use Rattle.std.specs.Prelude.{OnOk, map}
 use Rattle.std.proofs.lemmas.Result.{on_ok_weaker}
+use Rattle.std.proofs.lemmas.List.Elements.{All-weaker}
+use Rattle.wjs_base.specs.Text.{Has}
+use Rattle.wjs_base.proofs.TextLaws.{Grows-Has}
 use Rattle.wjs_content.specs.Names.{slot, arguments_name}
 use Rattle.wjs_content.specs.Tables.{text_in, value_in}
 use Rattle.wjs_content.specs.Values.{Object}
@@ -67,3 +70,24 @@ returns-clause-later g c =
     let two = later_twice m old c.write_arguments.new.config c.write_known.new.config one c.in_ok-write_known.ensures.later in
     let three = later_twice m old c.write_known.new.config c.write_formals.new.config two c.in_ok-write_formals.ensures.later in
     ok_later m old c.declare_functions.new.config c.write_undefined.new.config c.write_undefined.result (later_twice m old c.write_formals.new.config c.declare_functions.new.config three c.in_ok-declare_functions.ensures.later) c.write_undefined.ensures.later
+
+pub write_undefined-requires-clause-there : goal.write_undefined-requires-clause-there
+write_undefined-requires-clause-there g c =
+    let m = g.S.WorldStore.meaning in
+    let old = c.args.config.now in
+    let one = later_twice m old c.create_arguments.new.config c.write_arguments.new.config c.in_ok-arguments.ensures.later c.in_ok-write_arguments.ensures.later in
+    let two = later_twice m old c.write_arguments.new.config c.write_known.new.config one c.in_ok-write_known.ensures.later in
+    let three = later_twice m old c.write_known.new.config c.write_formals.new.config two c.in_ok-write_formals.ensures.later in
+    let four = later_twice m old c.write_formals.new.config c.declare_functions.new.config three c.in_ok-declare_functions.ensures.later in
+    four.frames c.args.frame.now c.requires.there
+
+pub write_undefined-requires-clause-names : goal.write_undefined-requires-clause-names
+write_undefined-requires-clause-names g c =
+    let m = g.S.WorldStore.meaning in
+    let old = c.args.config.now in
+    let one = later_twice m old c.create_arguments.new.config c.write_arguments.new.config c.in_ok-arguments.ensures.later c.in_ok-write_arguments.ensures.later in
+    let two = later_twice m old c.write_arguments.new.config c.write_known.new.config one c.in_ok-write_known.ensures.later in
+    let three = later_twice m old c.write_known.new.config c.write_formals.new.config two c.in_ok-write_formals.ensures.later in
+    let four = later_twice m old c.write_formals.new.config c.declare_functions.new.config three c.in_ok-declare_functions.ensures.later in
+    let new = c.declare_functions.new.config in
+    All-weaker (Has old.heap.texts) (Has new.heap.texts) (λ id. Grows-Has old.heap.texts new.heap.texts id four.texts) c.args.others.now c.requires.others

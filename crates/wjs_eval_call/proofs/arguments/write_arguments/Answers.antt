@@ -9,13 +9,16 @@ use Rattle.wjs_meaning.specs.NewObjects.{elements_from}
 use Rattle.wjs_moves.specs.Doing.{DoesFirst}
 use Rattle.wjs_moves.specs.Following.{Follows}
 use Rattle.wjs_deeds.proofs.Later.{later_twice}
-use Rattle.wjs_deeds.proofs.Making.{number_there}
+use Rattle.wjs_deeds.proofs.Having.{value_both}
+use Rattle.wjs_deeds.proofs.Making.{number_there, number_near}
 use Rattle.wjs_calls.proofs.Elements.{length-each}
 use Rattle.wjs_calls.proofs.Rows.{ok_later}
 use Rattle.wjs_eval_call.proofs.arguments.write_arguments.Goals as goal
 
 pub write_known-requires-2-clause-value : goal.write_known-requires-2-clause-value
-write_known-requires-2-clause-value g c = let heap = c.write_known.new.config.heap in number_there heap.texts heap.texts heap.arena c.in_ok-length.length (length c.args.values.now) (c.in_ok-length.ensures heap.texts)
+write_known-requires-2-clause-value g c =
+    let mid = c.write_known.new.config in
+    value_both mid c.in_ok-length.length (number_there mid.heap.texts mid.heap.texts mid.heap.arena c.in_ok-length.length (length c.args.values.now) (c.in_ok-length.ensures mid.heap.texts)) (number_near mid.apart.items mid.heap.texts c.in_ok-length.length (length c.args.values.now) (c.in_ok-length.ensures mid.heap.texts))
 
 pub returns-clause-does : goal.returns-clause-does
 returns-clause-does g c =
