@@ -11,7 +11,7 @@ use Rattle.wjs_content.specs.Values.{Value, Undefined, Null, Boolean, Number, St
 use Rattle.wjs_content.specs.Names.{Slot}
 use Rattle.wjs_content.specs.Tables.{name_in, slot_in}
 use Rattle.wjs_props.specs.declared.visits.Visit.{Visit}
-use Rattle.wjs_props.specs.Visits.{visits_in, HasVisit}
+use Rattle.wjs_props.specs.Visits.{visits_in}
 use Rattle.wjs_meaning.specs.declared.trouble.Trouble.TheVariants.{NotAnObject}
 use Rattle.wjs_meaning.specs.Builtins.{class_prototype}
 use Rattle.wjs_meaning.specs.Errors.{error_of, throw}
@@ -27,6 +27,7 @@ use Rattle.wjs_model.specs.Soundness.{HasItems, IsThere}
 use Rattle.wjs_moves.specs.Parts.{env_in}
 use Rattle.wjs_moves.specs.Following.{Follows}
 use Rattle.wjs_moves.specs.Doing.{Does}
+use Rattle.wjs_deeds.specs.Visits.{HasVisit}
 use Rattle.wjs_deeds.proofs.Composing.{throwing}
 use Rattle.wjs_lines.specs.Lists.{visits_as_items}
 use Rattle.wjs_rename.specs.Names.{Holds}
@@ -121,7 +122,7 @@ module _ {S : Type 0} (meaning : S → Meaning) where
   }
 
 -- what is held of visits that are there is there
-pub items_there : {S : Type 0} (c : Config S) (vs : List Visit) → Holds (HasVisit c.heap.texts c.heap.arena) vs → HasItems c (visits_as_items vs ++ [])
+pub items_there : {S : Type 0} (c : Config S) (vs : List Visit) → Holds (HasVisit c) vs → HasItems c (visits_as_items vs ++ [])
 items_there c [] h = tt
 items_there c (v ∷ vs) h = (h.0, items_there c vs h.1)
 

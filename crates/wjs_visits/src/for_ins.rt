@@ -1,10 +1,9 @@
 //! The loop `for`-`in` (section 12.6.4). Its places: 1 is behind the object, 2 the target of a visit, 3 the body.
 ghost use Rattle.std.specs.Prelude.{◌≡◌, Some, OnOk};
 ghost use Rattle.wjs_content.specs.Tables.{text_in, name_in, value_in};
-ghost use Rattle.wjs_props.specs.Heap.{HasSlot};
 ghost use Rattle.wjs_meaning.specs.Loops.{TargetNode, VarName, after_body, for_in_value, visits_from, visit_body};
 ghost use Rattle.wjs_model.specs.Contents.{completion_in, holding_in, reference_in};
-ghost use Rattle.wjs_model.specs.Soundness.{Base, IsThere, HasValue, HasReference, HasCompletion};
+ghost use Rattle.wjs_model.specs.Soundness.{Base, IsThere, HasValue, HasReference, HasCompletion, HasSlot};
 ghost use Rattle.wjs_model.specs.Waiting.{visit_taken, after_for_in};
 ghost use Rattle.wjs_moves.specs.Parts.{env_in, node_now};
 ghost use Rattle.wjs_moves.specs.Following.{Follows};
@@ -174,7 +173,7 @@ fn visit<S: WorldStore>(
     requires there { IsThere S.meaning config.old frame }
     requires form { frame.form ≡ Form.Stmt }
     requires node { IsForIn (node_now S.meaning config.old frame) taker s }
-    requires slot { HasSlot config.old.heap.texts config.old.heap.arena slot }
+    requires slot { HasSlot config.old slot }
     ensures { let texts = config.new.heap.texts in let env = env_in S.meaning config.old texts frame in OnOk result (Follows S.meaning (visit_goes frame.node.0 (taker_in texts taker) s.0 (Some (name_in texts slot.name)) (holding_in texts frame.held).visits env) config.old config.new) }
 {
     match taker {
@@ -200,7 +199,7 @@ fn visit_variable<S: WorldStore>(
     requires there { IsThere S.meaning config.old frame }
     requires form { frame.form ≡ Form.Stmt }
     requires node { IsForIn (node_now S.meaning config.old frame) (Taker.Variable name) s }
-    requires slot { HasSlot config.old.heap.texts config.old.heap.arena slot }
+    requires slot { HasSlot config.old slot }
     ensures { let texts = config.new.heap.texts in let env = env_in S.meaning config.old texts frame in OnOk result (Follows S.meaning (visit_goes frame.node.0 (VarName (text_in texts name)) s.0 (Some (name_in texts slot.name)) (holding_in texts frame.held).visits env) config.old config.new) }
 {
     let place = place_of(config, &frame, 0);
@@ -248,7 +247,7 @@ fn visit_stored<S: WorldStore>(
     requires there { IsThere S.meaning config.old frame }
     requires form { frame.form ≡ Form.Stmt }
     requires node { IsForIn (node_now S.meaning config.old frame) taker s }
-    requires slot { HasSlot config.old.heap.texts config.old.heap.arena slot }
+    requires slot { HasSlot config.old slot }
     requires reference { HasReference config.old reference }
     ensures { let texts = config.new.heap.texts in let env = env_in S.meaning config.old texts frame in OnOk result (Follows S.meaning (visit_body frame.node.0 s.0 (name_in texts slot.name) env (visits_from frame.node.0 (taker_in texts taker) s.0 (holding_in texts frame.held).visits env) (reference_in texts reference)) config.old config.new) }
 {

@@ -4,12 +4,11 @@ ghost use Rattle.std.specs.Option.{option_map};
 ghost use Rattle.wjs_base.specs.Text.{Table};
 ghost use Rattle.wjs_content.specs.Tables.{name_in, value_in, slot_in};
 ghost use Rattle.wjs_rename.specs.Names.{Holds};
-ghost use Rattle.wjs_props.specs.Heap.{HasSlot};
-ghost use Rattle.wjs_props.specs.Visits.{HasVisit};
+ghost use Rattle.wjs_deeds.specs.Visits.{HasVisit};
 ghost use Rattle.wjs_meaning.specs.Deeds.{Do, Read};
 ghost use Rattle.wjs_model.specs.Contents.{holding_in, visits_held};
 ghost use Rattle.wjs_model.specs.Frames.{Uncovers};
-ghost use Rattle.wjs_model.specs.Soundness.{Base, IsThere, HasObject, HasValue};
+ghost use Rattle.wjs_model.specs.Soundness.{Base, IsThere, HasObject, HasValue, HasSlot};
 ghost use Rattle.wjs_moves.specs.Doing.{Does};
 ghost use Rattle.wjs_moves.specs.Following.{Later};
 ghost use Rattle.wjs_moves.specs.Parts.{env_in};
@@ -29,7 +28,7 @@ pub(crate) fn next_visit<S: WorldStore>(config: &Config<S>, frame: &mut Frame) -
     ensures next { Uncovers (visits_held frame.old.held) result (visits_held frame.new.held) }
     ensures frame { frame.new ≡ record frame.old { held = frame.new.held } }
     ensures there { IsThere S.meaning config.now frame.new }
-    ensures found { IfSome result (HasSlot config.now.heap.texts config.now.heap.arena) }
+    ensures found { IfSome result (HasSlot config.now) }
     ensures shorter { IfSome result (λ _. length frame.new.held < length frame.old.held) }
 {
     let _config = config;
@@ -49,7 +48,7 @@ fn is_present<S: WorldStore>(
 ) -> Result<bool, OutOfMemory>
     requires base { Base S.meaning config.old }
     requires there { IsThere S.meaning config.old frame.now }
-    requires slot { HasSlot config.old.heap.texts config.old.heap.arena slot }
+    requires slot { HasSlot config.old slot }
     ensures does { IfOk result (λ answer. Does S.meaning (λ t go. Do (Read frame.now.world (slot_in t slot)) (λ found. go (is_some found))) (λ t. answer) config.old config.new) }
     ensures later { OnOk result (Later S.meaning config.old config.new) }
 {
@@ -71,7 +70,7 @@ pub(crate) fn next_present<S: WorldStore>(
     ensures later { OnOk result (Later S.meaning config.old config.new) }
     ensures frame { OnOk result (frame.new ≡ record frame.old { held = frame.new.held }) }
     ensures there { OnOk result (IsThere S.meaning config.new frame.new) }
-    ensures found { IfOk result (λ found. IfSome found (HasSlot config.new.heap.texts config.new.heap.arena)) }
+    ensures found { IfOk result (λ found. IfSome found (HasSlot config.new)) }
 {
     while let Some(slot) = next_visit(config, frame) {
         if is_present(config, frame, slot)? {
