@@ -6,12 +6,13 @@ use Rattle.wjs_content.specs.Worlds.{worlds_in}
 use Rattle.wjs_store.specs.Meaning.{worlds}
 use Rattle.wjs_props.proofs.Actions.{value_knows}
 use Rattle.wjs_props.proofs.Putting.{if_ok}
+use Rattle.wjs_deeds.proofs.Having.{value_here}
 use Rattle.wjs_reports.specs.Thrown.{Shows, shown_object, shown_value}
 use Rattle.wjs_reports.proofs.Carried.{shows_value}
 use Rattle.wjs_reports.proofs.thrown.show_thrown.Goals as goal
 
 pub show_primitive-requires : goal.show_primitive-requires
-show_primitive-requires g c = value_knows c.args.config.now.heap.texts c.args.config.now.heap.arena c.args.value c.requires.base.heap.table c.requires.value
+show_primitive-requires g c = value_knows c.args.config.now.heap.texts c.args.config.now.heap.arena c.args.value c.requires.base.heap.table (value_here c.args.config.now c.args.value c.requires.value)
 
 pub returns-in-Object : goal.returns-in-Object
 returns-in-Object g c =
