@@ -6,11 +6,14 @@ use Rattle.wjs_meaning.specs.Deeds.{Do, Write}
 use Rattle.wjs_meaning.specs.NativesOfObjects as line
 use Rattle.wjs_moves.specs.Following.{Follows}
 use Rattle.wjs_moves.specs.Parts.{env_in}
-use Rattle.wjs_deeds.proofs.Making.{number_there}
+use Rattle.wjs_deeds.proofs.Having.{value_both}
+use Rattle.wjs_deeds.proofs.Making.{number_there, number_near}
 use Rattle.wjs_native_core.proofs.arrays.array_of_length.Goals as goal
 
 pub write_known-requires-clause-value : goal.write_known-requires-clause-value
-write_known-requires-clause-value g c = let heap = c.create_array.new.config.heap in number_there heap.texts heap.texts heap.arena c.in_ok-value.value c.in-Some.length (c.in_ok-value.ensures heap.texts)
+write_known-requires-clause-value g c =
+    let mid = c.create_array.new.config in
+    value_both mid c.in_ok-value.value (number_there mid.heap.texts mid.heap.texts mid.heap.arena c.in_ok-value.value c.in-Some.length (c.in_ok-value.ensures mid.heap.texts)) (number_near mid.apart.items mid.heap.texts c.in_ok-value.value c.in-Some.length (c.in_ok-value.ensures mid.heap.texts))
 
 pub returns : goal.returns
 returns g c =
