@@ -1,12 +1,14 @@
 //! `typeof` (ECMA-262, 3rd edition, section 11.4.3).
 ghost use Rattle.std.specs.Prelude.{◌≡◌, ◌≤◌, length, OnOk};
 ghost use Rattle.wjs_base.specs.Text.{Table, longest};
-ghost use Rattle.wjs_content.specs.Tables.{value_in, name_in, arena_in};
+ghost use Rattle.wjs_content.specs.Objects.{Arena};
+ghost use Rattle.wjs_content.specs.Tables.{value_in, name_in};
 ghost use Rattle.wjs_meaning.specs.Deeds.{Gives};
 ghost use Rattle.wjs_meaning.specs.Expressions as line;
 ghost use Rattle.wjs_meaning.specs.Properties.{get_value};
 ghost use Rattle.wjs_meaning.specs.References as references;
 ghost use Rattle.wjs_model.specs.Contents.{holding_in, reference_in};
+ghost use Rattle.wjs_model.specs.Outside.{Sees};
 ghost use Rattle.wjs_model.specs.Soundness.{Base, IsThere, HasName, HasReference, HasValue};
 ghost use Rattle.wjs_model.specs.Waiting.{after_prefix};
 ghost use Rattle.wjs_moves.specs.Following.{Follows};
@@ -34,7 +36,7 @@ const FUNCTION: [u16; 8] = [102, 117, 110, 99, 116, 105, 111, 110];
 /// The name of the value's type.
 fn type_name<S: WorldStore>(config: &Config<S>, value: Value) -> &'static [u16]
     requires { HasValue config.now value }
-    ensures name { (t : Table) → line.type_name (arena_in t config.now.heap.arena) (value_in t value) ≡ result.now }
+    ensures name { (t : Table) (arena : Arena) → Sees S.meaning config.now t arena → line.type_name arena (value_in t value) ≡ result.now }
     ensures short { length result.now ≤ longest }
 {
     match value {

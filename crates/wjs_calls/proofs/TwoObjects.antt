@@ -16,7 +16,7 @@ use Rattle.wjs_base.proofs.TextLaws.{Grows-refl}
 use Rattle.wjs_store.specs.Meaning.{Meaning}
 use Rattle.wjs_rename.specs.Names.{Holds}
 use Rattle.wjs_arena.specs.declared.object.Object.{Object}
-use Rattle.wjs_arena.specs.Entries.{Objects, Entry, IsArena, Keeps, has, created as numbered_created, next_number as number_of_next, entry_over}
+use Rattle.wjs_arena.specs.Entries.{Objects, Entry, IsArena, IsThere, Keeps, has, created as numbered_created, next_number as number_of_next, entry_over}
 use Rattle.wjs_content.specs.Objects.{Internals, created, next_number}
 use Rattle.wjs_content.specs.Tables.{arena_in, object_in}
 use Rattle.wjs_content.proofs.ArenaMaps.{number_same, created_same}
@@ -26,13 +26,16 @@ use Rattle.wjs_meaning.specs.Deeds.{St, Do, Create, interp}
 use Rattle.wjs_meaning.specs.Programs.{eval}
 use Rattle.wjs_model.specs.declared.config.Config.{Config}
 use Rattle.wjs_model.specs.Rest.{turns_act}
+use Rattle.wjs_model.specs.Outside.{beside}
 use Rattle.wjs_model.specs.Configurations.{state_in}
+use Rattle.wjs_model.proofs.Beside.{number_beside, created_beside}
 use Rattle.wjs_model.specs.Apart.{NamesNear}
 use Rattle.wjs_model.specs.Soundness.{Base}
 use Rattle.wjs_moves.specs.Doing.{Does}
 use Rattle.wjs_moves.specs.Following.{Later}
 use Rattle.wjs_deeds.proofs.Composing.{does_then}
 use Rattle.wjs_deeds.proofs.Running.{Ran, does_ran, told_same}
+use Rattle.wjs_deeds.proofs.Steps.{there_named}
 use Rattle.wjs_deeds.proofs.Staying.{later_on}
 use Rattle.wjs_calls.specs.TwoObjects.{second_number, NamesSecond}
 
@@ -86,6 +89,10 @@ keeps_twice old mid new f s o e h = s o e (f o e h)
 
 -- ---- what is named is there
 
+pub named_still : (old new : Objects) → Keeps old new → (o : Option ObjId) → IsThere old o → IsThere new o
+named_still old new keeps None h = tt
+named_still old new keeps (Some o) h = has_more old new keeps o h
+
 module _ (texts : Table) (old new : Objects) (more : (o : ObjId) → IsTrue (has old o) → IsTrue (has new o)) where
   value_more : (v : Value) → HasValue texts old v → HasValue texts new v
   value_more values.Undefined h = tt
@@ -113,9 +120,9 @@ with_objects c arena = record c { heap = record c.heap { arena = arena } }
 
 module _ {S : Type 0} (meaning : S → Meaning) where
   -- one object more, whatever it names
-  ran_made : (internals : Table → Internals) (x : Object) (old : Config S) (arena : Objects) → arena ≡ numbered_created old.heap.arena old.owner x → Keeps old.heap.arena arena → ((t : Table) → Grows old.heap.texts t → object_in t x ≡ internals t)
+  ran_made : (internals : Table → Internals) (x : Object) (old : Config S) (arena : Objects) → arena ≡ numbered_created old.heap.arena old.owner x → Keeps old.heap.arena arena → IsThere old.heap.arena x.prototype → IsThere old.heap.arena x.scope → ((t : Table) → Grows old.heap.texts t → object_in t x ≡ internals t)
       → Ran meaning (λ t go. Do (Create old.owner (internals t)) go) (λ t. number_of_next old.heap.arena old.owner) old (with_objects old arena)
-  ran_made internals x old arena is keeps e = record {
+  ran_made internals x old arena is keeps on in_scope e = record {
     same = refl;
     stays = record {
       units = refl;
@@ -132,9 +139,12 @@ module _ {S : Type 0} (meaning : S → Meaning) where
     };
     by = λ t gt v a k.
         let st = state_in meaning t v old in
-        let grown : created st.arena old.owner (internals t) ≡ arena_in t arena = ap (created st.arena old.owner) (sym (e t gt)) ∙ sym (created_same t old.heap.arena old.owner x) ∙ sym (ap (arena_in t) is) in
+        let grown : created st.arena old.owner (internals t) ≡ beside (arena_in t arena) v.more =
+        ap (created st.arena old.owner) (sym (e t gt))
+        ∙ created_beside (arena_in t old.heap.arena) v.more old.owner a.further.apart (object_in t x) (there_named t old.heap.arena x.prototype on) (there_named t old.heap.arena x.scope in_scope)
+        ∙ ap (λ m. beside m v.more) (sym (created_same t old.heap.arena old.owner x) ∙ sym (ap (arena_in t) is)) in
         let leaves : record st { arena = created st.arena old.owner (internals t) } ≡ record (state_in meaning t v (with_objects old arena)) { done = st.done ++ [] } = state_as _ _ refl grown refl (sym (append-nil st.done)) in
-        let number : next_number st.arena old.owner ≡ number_of_next old.heap.arena old.owner = number_same t old.heap.arena old.owner in
+        let number : next_number st.arena old.owner ≡ number_of_next old.heap.arena old.owner = number_beside (arena_in t old.heap.arena) v.more old.owner a.further.apart ∙ number_same t old.heap.arena old.owner in
         record {
           acts = [];
           knows = k;
@@ -154,12 +164,13 @@ module _ {S : Type 0} (meaning : S → Meaning) where
   module _ (x y : Object) (old : Config S) (mid new : Objects) (is_mid : mid ≡ numbered_created old.heap.arena old.owner x) (is_new : new ≡ numbered_created mid old.owner y) (keeps_mid : Keeps old.heap.arena mid) (keeps_new : Keeps mid new) where
     -- the two deeds
     pub does_pair : (first : Table → Internals) (second : Table → ObjId → Internals) → ((t : Table) → Grows old.heap.texts t → object_in t x ≡ first t) → ((t : Table) → Grows old.heap.texts t → object_in t y ≡ second t (number_of_next old.heap.arena old.owner))
+        → IsThere old.heap.arena x.prototype → IsThere old.heap.arena x.scope → IsThere mid y.prototype → IsThere mid y.scope
         → Does meaning (λ t go. Do (Create old.owner (first t)) (λ s. Do (Create old.owner (second t s)) go)) (λ t. number_of_next mid old.owner) old (with_objects old new)
-    does_pair first second one two =
+    does_pair first second one two on in_scope on_second in_second =
         let s = number_of_next old.heap.arena old.owner in
         does_then meaning (λ t go. Do (Create old.owner (first t)) go) (λ t. s) (λ t o go. Do (Create old.owner (second t o)) go) (λ t. number_of_next mid old.owner) old (with_objects old mid) (with_objects old new)
-        (does_ran meaning _ _ old (with_objects old mid) (ran_made first x old mid is_mid keeps_mid one))
-        (does_ran meaning _ _ (with_objects old mid) (with_objects old new) (ran_made (λ t. second t s) y (with_objects old mid) new is_new keeps_new two))
+        (does_ran meaning _ _ old (with_objects old mid) (ran_made first x old mid is_mid keeps_mid on in_scope one))
+        (does_ran meaning _ _ (with_objects old mid) (with_objects old new) (ran_made (λ t. second t s) y (with_objects old mid) new is_new keeps_new on_second in_second two))
 
     more : (o : ObjId) → IsTrue (has old.heap.arena o) → IsTrue (has new o)
     more = has_more old.heap.arena new (keeps_twice old.heap.arena mid new keeps_mid keeps_new)
@@ -188,7 +199,7 @@ module _ {S : Type 0} (meaning : S → Meaning) where
 
     -- and all that was there is there
     pub later_pair : Base meaning old → IsArena new → NamesSecond old.heap.texts old.heap.arena old.owner x → NamesSecond old.heap.texts old.heap.arena old.owner y → IsTrue (has new (second_number old.heap.arena old.owner)) → NamesNear old.apart.items x → NamesNear old.apart.items y → x.world ≡ None → y.world ≡ None → Later meaning old (with_objects old new)
-    later_pair b arena one two there near_x near_y none_x none_y = later_on meaning old (with_objects old new).heap (Grows-refl old.heap.texts) more (λ w h. h) b (heap_pair b.heap arena (one new more there) (two new more there)) b.marks b.works
+    later_pair b arena one two there near_x near_y none_x none_y = later_on meaning old (with_objects old new).heap (Grows-refl old.heap.texts) more (λ w h. h) b (heap_pair b.heap arena (one new more there) (two new more there)) b.marks b.told b.works
         (λ o e w q k l. elim (new_or_old mid new old.owner y is_new o e q) [
           | inl same ↦ absurd (no_world y e w mid none_y same k)
           | inr q' ↦ elim (new_or_old old.heap.arena mid old.owner x is_mid o e q') [

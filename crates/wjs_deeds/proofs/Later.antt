@@ -20,7 +20,7 @@ use Rattle.wjs_content.specs.Worlds.{KnowsWorlds}
 use Rattle.wjs_content.proofs.Growth.{worlds_grow}
 use Rattle.wjs_props.specs.declared.heap.Heap.{Heap}
 use Rattle.wjs_props.specs.Acts.{Acts, Creates}
-use Rattle.wjs_props.specs.Heap.{Performs}
+use Rattle.wjs_props.specs.Heap.{Performs, KnowsTold}
 use Rattle.wjs_props.specs.Means.{parts}
 use Rattle.wjs_props.proofs.Growing.{heap_grows}
 use Rattle.wjs_model.specs.declared.config.Config.{Config}
@@ -69,11 +69,11 @@ module _ {S : Type 0} (meaning : S → Meaning) where
   }
 
   pub later_plan : {A : Type 0} (w : WorldId) (plan : Table → Plan A) (answer : Table → A) (old : Config S) (heap : Heap S) → Base meaning old → Performs w plan answer (parts meaning old.heap) (parts meaning heap) → Left meaning old heap → Later meaning old (record old { heap = heap })
-  later_plan w plan answer old heap b p left = later_on meaning old heap p.texts (same_objects old.heap.arena heap.arena p.arena) p.still_there b p.heap (p.marks b.marks) left.works
+  later_plan w plan answer old heap b p left = later_on meaning old heap p.texts (same_objects old.heap.arena heap.arena p.arena) p.still_there b p.heap (p.marks b.marks) (p.told b.marks b.told) left.works
       (λ o e v h k l. p.still_there v (b.own_worlds o e v (ap (λ (m : Objects). map.get m o) (sym p.arena) ∙ h) k l)) (stays_apart old heap b p.arena left)
 
   pub later_acted : (act : Action Slot Value) (answer : Heard) (old : Config S) (heap : Heap S) → Base meaning old → Acts act answer (parts meaning old.heap) (parts meaning heap) → StaysApart meaning old heap → Later meaning old (record old { heap = heap })
-  later_acted act answer old heap b p apart = later_on meaning old heap (subst (Grows old.heap.texts) (sym p.texts) (Grows-refl old.heap.texts)) (same_objects old.heap.arena heap.arena p.arena) p.still_there b p.heap (p.marks b.marks) (ap not p.spent ∙ b.works)
+  later_acted act answer old heap b p apart = later_on meaning old heap (subst (Grows old.heap.texts) (sym p.texts) (Grows-refl old.heap.texts)) (same_objects old.heap.arena heap.arena p.arena) p.still_there b p.heap (p.marks b.marks) (p.told b.marks b.told) (ap not p.spent ∙ b.works)
       (λ o e v h k l. p.still_there v (b.own_worlds o e v (ap (λ (m : Objects). map.get m o) (sym p.arena) ∙ h) k l)) apart
 
   pub later_committed : (w : WorldId) (answer : Heard) (old : Config S) (heap : Heap S) → Base meaning old → Acts (commit w) answer (parts meaning old.heap) (parts meaning heap) → Left meaning old heap → Later meaning old (record old { heap = heap })
@@ -81,12 +81,12 @@ module _ {S : Type 0} (meaning : S → Meaning) where
 
   -- more texts
   pub later_texts : (old : Config S) (texts : Table) → Base meaning old → IsTable texts → Grows old.heap.texts texts → Later meaning old (record old { heap = record old.heap { texts = texts } })
-  later_texts old texts b table g = later_on meaning old (record old.heap { texts = texts }) g (λ o h. h) (λ w h. h) b (heap_grows (parts meaning old.heap) texts table g b.heap) (worlds_grow old.heap.texts texts g (worlds (meaning old.heap.store)) b.marks).0 b.works b.own_worlds
+  later_texts old texts b table g = later_on meaning old (record old.heap { texts = texts }) g (λ o h. h) (λ w h. h) b (heap_grows (parts meaning old.heap) texts table g b.heap) (worlds_grow old.heap.texts texts g (worlds (meaning old.heap.store)) b.marks).0 (λ t later. b.told t (Grows-trans old.heap.texts texts t g later) ∙ sym (b.told texts g)) b.works b.own_worlds
       (record { no_worlds = b.no_worlds; objects = b.near_objects; slots = b.near_slots })
 
   -- one object more, whose world is there
   pub later_create : (x : Object) (id : ObjId) (old : Config S) (heap : Heap S) → Base meaning old → Creates old.owner x id (parts meaning old.heap) (parts meaning heap) → NamesNear old.apart.items x → ((w : WorldId) → x.world ≡ Some w → HasWorld meaning old w) → Later meaning old (record old { heap = heap })
-  later_create x id old heap b c near own = later_on meaning old heap texts objects (λ w h. subst (λ (m : Meaning). IsTrue (has_world (worlds m) w)) (sym c.store) h) b c.heap marks (subst (λ (m : Meaning). IsTrue (not m.spent)) (sym c.store) b.works) worlds_there apart
+  later_create x id old heap b c near own = later_on meaning old heap texts objects (λ w h. subst (λ (m : Meaning). IsTrue (has_world (worlds m) w)) (sym c.store) h) b c.heap marks told (subst (λ (m : Meaning). IsTrue (not m.spent)) (sym c.store) b.works) worlds_there apart
     where
       texts : Grows old.heap.texts heap.texts
       texts = subst (Grows old.heap.texts) (sym c.texts) (Grows-refl old.heap.texts)
@@ -100,6 +100,9 @@ module _ {S : Type 0} (meaning : S → Meaning) where
 
       marks : KnowsWorlds heap.texts (worlds (meaning heap.store))
       marks = subst (λ (m : Meaning). KnowsWorlds heap.texts (worlds m)) (sym c.store) (subst (λ t. KnowsWorlds t (worlds (meaning old.heap.store))) (sym c.texts) b.marks)
+
+      told : KnowsTold heap.texts (meaning heap.store).told
+      told = subst (λ (m : Meaning). KnowsTold heap.texts m.told) (sym c.store) (subst (λ t. KnowsTold t (meaning old.heap.store).told) (sym c.texts) b.told)
 
       world_there : (o : ObjId) (e : Entry) (w : WorldId) (same : Bool) → cond same (Some (entry_over old.heap.arena x)) (map.get old.heap.arena o) ≡ Some e → e.object.world ≡ Some w → w.owner ≡ old.owner → HasWorld meaning old w
       world_there o e w true q k l = let is : entry_over old.heap.arena x ≡ e = cc in own w (ap (λ (z : Entry). z.object.world) is ∙ k)

@@ -10,6 +10,7 @@ pub mod Staying
 pub mod Later
 pub mod Composing
 pub mod Spelling
+pub mod Seeing
 pub mod Looking
 pub mod Making
 pub mod Referring

@@ -22,6 +22,9 @@ use Rattle.wjs_content.specs.Values.{same_object}
 use Rattle.wjs_content.specs.Tables.{value_in, object_in, entry_in, arena_in}
 use Rattle.wjs_content.proofs.ArenaMaps.{object_found, prototype_same, depth_same, chain_of_same}
 use Rattle.wjs_content.proofs.WorldObjects.{world_object_there, world_object_none}
+use Rattle.wjs_store.specs.Meaning.{Meaning}
+use Rattle.wjs_model.specs.Outside.{Finds}
+use Rattle.wjs_deeds.proofs.Seeing.{object_found_as}
 use Rattle.wjs_props.specs.Heap.{Parts, HasNamed, IsHeap}
 use Rattle.wjs_model.specs.declared.config.Config.{Config}
 use Rattle.wjs_model.specs.Apart.{is_apart, NearValue, NamesNear}
@@ -34,6 +37,10 @@ placed (Some y) x h e t = ap (object_in t) (sym e)
 
 pub object_is : (arena : Objects) (o : ObjId) (x : Object) → IsTrue (has arena o) → IfSome (map.get arena o) (λ e. x ≡ e.object) → (t : Table) → object_at (arena_in t arena) o ≡ object_in t x
 object_is arena o x h e t = ap (λ (r : Option Placed). option_map_or (λ (y : Placed). y.object) r (object_of class.Plain None)) (object_found t arena o) ∙ placed (map.get arena o) x h e t
+
+-- with further ones beside it
+pub seen_is : {m : Meaning} {owner : ℕ} (objects : Objects) (o : ObjId) (x : Object) → IsTrue (has objects o) → IfSome (map.get objects o) (λ e. x ≡ e.object) → (t : Table) (arena : Arena) → Finds m owner objects t arena → object_at arena o ≡ object_in t x
+seen_is objects o x h e t arena s = object_found_as objects t arena s o h ∙ object_is objects o x h e t
 
 -- what it names is there
 found_by : (r : Option Entry) (x : Object) (P : Object → Type 0) → is_some r ≡ true → IfSome r (λ e. x ≡ e.object) → ((e : Entry) → r ≡ Some e → P e.object) → P x

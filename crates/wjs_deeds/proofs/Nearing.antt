@@ -152,12 +152,14 @@ module _ {S : Type 0} (meaning : S → Meaning) (old : Config S) (heap : Heap S)
         let own = (meaning heap.store).own in
         let works = works_still p.spent in
         let c = p.carries t (Grows-refl t) own (sound works).admits_own (before_known p.own) in
-        let r = reached near_old P (plan t) w (worlds_in t before) reaches (before_near p.own) in
-        (subst P (sym c.answers) r.0, record {
-          works = works;
-          slots = numbered p.heap c.knows (subst (Within (NearSlot near_old)) (sym c.worlds) r.1);
-          were = λ i. were_there (worlds_after (plan t) w (worlds_in t before)) c.worlds p.own i (λ h. sym (none_made (plan t) w (worlds_in t before) i) ∙ h);
-        })
+        let r = reached near_old P (plan t) w (worlds_in t before) reaches (before_near p.own) in (
+          subst P (sym c.answers) r.0,
+          record {
+            works = works;
+            slots = numbered p.heap c.knows (subst (Within (NearSlot near_old)) (sym c.worlds) r.1);
+            were = λ i. were_there (worlds_after (plan t) w (worlds_in t before)) c.worlds p.own i (λ h. sym (none_made (plan t) w (worlds_in t before) i) ∙ h);
+          },
+        )
 
   module _ (act : Action Slot Value) (answer : Heard) (p : Acts act answer (parts meaning old.heap) (parts meaning heap)) where
     pub act_slots : Within (NearSlot near_old) (after (worlds_in heap.texts before) act) → NearSlots old.apart.items (worlds (meaning heap.store))

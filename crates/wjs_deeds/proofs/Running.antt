@@ -1,12 +1,12 @@
 -- Deeds that were done, and what they leave of the state.
 use Rattle.std.proofs.Common.{◌≡◌, ℕ, suc, ◌+◌, ◌≤◌, List, [], ◌++◌, false, Option, None, Some, refl, sym, ap, ◌∙◌, subst, append-nil}
-use Rattle.std.specs.Prelude.{is_some, unwrap_or, IsTrue}
+use Rattle.std.specs.Prelude.{is_some, unwrap_or}
 use Rattle.std.specs.FinMap as map
 use Rattle.std.proofs.lemmas.Result.{on_ok_weaker}
 use Rattle.wjs_base.specs.declared.ids.ObjId.{ObjId}
 use Rattle.wjs_base.specs.Text.{Table, Grows}
 use Rattle.wjs_base.proofs.TextLaws.{Grows-trans}
-use Rattle.wjs_store.specs.Meaning.{Meaning, View, PlainAct, PlainReply}
+use Rattle.wjs_store.specs.Meaning.{Meaning, PlainAct, PlainReply}
 use Rattle.wjs_arena.specs.Entries.{Entry}
 use Rattle.wjs_content.specs.Plans.{Told}
 use Rattle.wjs_content.specs.Worlds.{told_by, KnowsWorlds}
@@ -16,6 +16,7 @@ use Rattle.wjs_meaning.specs.Programs.{Ending, Done, run_next, eval}
 use Rattle.wjs_meaning.specs.Deeds.{St}
 use Rattle.wjs_model.specs.declared.config.Config.{Config}
 use Rattle.wjs_model.specs.Rest.{Count, under, turns_act, turns_under, turns_over}
+use Rattle.wjs_model.specs.Outside.{Outside, Admits}
 use Rattle.wjs_model.specs.Configurations.{seen, tells, run_in, state_in, frames_in, turns, Stays}
 use Rattle.wjs_moves.specs.Keeping.{rest_with, Keeps}
 use Rattle.wjs_moves.specs.Following.{Follows}
@@ -55,10 +56,10 @@ module _ {S : Type 0} (meaning : S → Meaning) where
       by o e h k None q = s.made o e q k ∙ f.owner
       by o e h k (Some x) q = f.made o x h q
 
-  -- under a table and a view: the deeds run to their answer and the middle configuration's state, with these actions told more
-  pub record Runs {A : Type 0} (deeds : (A → Act) → Act) (answer : A) (t : Table) (v : View) (old mid : Config S) : Type 0 where
+  -- under a table and what stands outside: the deeds run to their answer and the middle configuration's state, with these actions told more
+  pub record Runs {A : Type 0} (deeds : (A → Act) → Act) (answer : A) (t : Table) (v : Outside) (old mid : Config S) : Type 0 where
     pub acts : List Told
-    pub knows : KnowsWorlds mid.heap.texts ((meaning mid.heap.store).full v)
+    pub knows : KnowsWorlds mid.heap.texts ((meaning mid.heap.store).full v.view)
     pub told : told_by t (meaning mid.heap.store).told ≡ tell acts (told_by t (meaning old.heap.store).told)
     pub runs : (go : A → Act) (n : ℕ) → interp eval (deeds go) (state_in meaning t v old) n ≡ interp eval (go answer) (record (state_in meaning t v mid) { done = (state_in meaning t v old).done ++ acts }) n
     pub counts : (go : A → Act) (k : Count) → turns_act (deeds go) (state_in meaning t v old) k ≡ turns_act (go answer) (record (state_in meaning t v mid) { done = (state_in meaning t v old).done ++ acts }) k
@@ -67,7 +68,7 @@ module _ {S : Type 0} (meaning : S → Meaning) where
   pub record Ran {A : Type 0} (deeds : Table → (A → Act) → Act) (answer : Table → A) (old mid : Config S) : Type 0 where
     pub same : mid ≡ record old { heap = mid.heap; pending = mid.pending }
     pub stays : Stays meaning old mid
-    pub by : (t : Table) → Grows mid.heap.texts t → (v : View) → IsTrue ((meaning mid.heap.store).admits v) → KnowsWorlds old.heap.texts ((meaning old.heap.store).full v) → Runs (deeds t) (answer t) t v old mid
+    pub by : (t : Table) → Grows mid.heap.texts t → (v : Outside) → Admits meaning mid v → KnowsWorlds old.heap.texts ((meaning old.heap.store).full v.view) → Runs (deeds t) (answer t) t v old mid
 
   module _ {A : Type 0} (deeds : Table → (A → Act) → Act) (answer : Table → A) (old mid : Config S) (ran : Ran deeds answer old mid) where
     kept_ran : (go : A → Act) (later : Config S) → Keeps meaning later.heap.texts 1 (go (answer later.heap.texts)) mid later → Keeps meaning later.heap.texts 1 (deeds later.heap.texts go) old later

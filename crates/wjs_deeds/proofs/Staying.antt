@@ -28,7 +28,7 @@ use Rattle.wjs_tree.specs.declared.node.Node.{Node}
 use Rattle.wjs_tree.specs.declared.node.Node.TheVariants as form
 use Rattle.wjs_content.specs.Worlds.{KnowsWorlds}
 use Rattle.wjs_props.specs.declared.heap.Heap.{Heap}
-use Rattle.wjs_props.specs.Heap.{IsHeap}
+use Rattle.wjs_props.specs.Heap.{IsHeap, KnowsTold}
 use Rattle.wjs_props.specs.Means.{parts}
 use Rattle.wjs_model.specs.declared.unit.Unit.{Unit as Program}
 use Rattle.wjs_model.specs.declared.frame.Reference.{Reference}
@@ -195,9 +195,9 @@ module _ {S : Type 0} (meaning : S → Meaning) (old : Config S) (heap : Heap S)
   objects_on : (o : ObjId) → HasObject old o → HasObject (record old { heap = heap }) o
   objects_on o h = (objects o h.0, h.1)
 
-  pub base_on : Base meaning old → IsHeap (parts meaning heap) → KnowsWorlds heap.texts (worlds (meaning heap.store)) → IsTrue (not (meaning heap.store).spent)
+  pub base_on : Base meaning old → IsHeap (parts meaning heap) → KnowsWorlds heap.texts (worlds (meaning heap.store)) → KnowsTold heap.texts (meaning heap.store).told → IsTrue (not (meaning heap.store).spent)
       → ((o : ObjId) (e : Entry) (w : WorldId) → map.get heap.arena o ≡ Some e → e.object.world ≡ Some w → w.owner ≡ old.owner → IsTrue (has_world (worlds (meaning heap.store)) w)) → StaysApart meaning old heap → Base meaning (record old { heap = heap })
-  base_on b is_heap marks works own apart = record {
+  base_on b is_heap marks told works own apart = record {
     heap = is_heap;
     works = works;
     global = objects_on old.global b.global;
@@ -211,8 +211,9 @@ module _ {S : Type 0} (meaning : S → Meaning) (old : Config S) (heap : Heap S)
     near_slots = apart.slots;
     frames = All-weaker (IsThere meaning old) (IsThere meaning (record old { heap = heap })) (frame_there old (record old { heap = heap }) g objects_on meaning has_worlds) old.frames b.frames;
     marks = marks;
+    told = told;
   }
 
-  pub later_on : Base meaning old → IsHeap (parts meaning heap) → KnowsWorlds heap.texts (worlds (meaning heap.store)) → IsTrue (not (meaning heap.store).spent)
+  pub later_on : Base meaning old → IsHeap (parts meaning heap) → KnowsWorlds heap.texts (worlds (meaning heap.store)) → KnowsTold heap.texts (meaning heap.store).told → IsTrue (not (meaning heap.store).spent)
       → ((o : ObjId) (e : Entry) (w : WorldId) → map.get heap.arena o ≡ Some e → e.object.world ≡ Some w → w.owner ≡ old.owner → IsTrue (has_world (worlds (meaning heap.store)) w)) → StaysApart meaning old heap → Later meaning old (record old { heap = heap })
-  later_on b is_heap marks works own apart = later_there old (record old { heap = heap }) g objects_on meaning has_worlds refl refl refl refl (base_on b is_heap marks works own apart)
+  later_on b is_heap marks told works own apart = later_there old (record old { heap = heap }) g objects_on meaning has_worlds refl refl refl refl (base_on b is_heap marks told works own apart)

@@ -1,5 +1,5 @@
 -- Each kind of deed runs so.
-use Rattle.std.proofs.Common.{◌≡◌, ℕ, List, [], ◌∷◌, ◌++◌, Bool, true, false, cond, None, Some, refl, sym, ap, ◌∙◌, subst, append_assoc, append-nil, IsTrue}
+use Rattle.std.proofs.Common.{◌≡◌, ℕ, List, [], ◌∷◌, ◌++◌, Bool, true, false, cond, Option, None, Some, refl, sym, ap, ◌∙◌, subst, append_assoc, append-nil, IsTrue}
 use Rattle.std.specs.Prelude.{is_some}
 use Rattle.std.specs.FinMap as map
 use Rattle.std.specs.Ordering.{eq_by_cmp}
@@ -15,7 +15,7 @@ use Rattle.wjs_store.proofs.RunLaws.{has_same}
 use Rattle.wjs_rename.specs.Rename.{shape}
 use Rattle.wjs_rename.specs.Names.{named_world}
 use Rattle.wjs_arena.specs.declared.object.Object.{Object}
-use Rattle.wjs_arena.specs.Entries.{Entry, Objects, next_number as next_by, entry_over}
+use Rattle.wjs_arena.specs.Entries.{Entry, Objects, IsThere, next_number as next_by, entry_over}
 use Rattle.wjs_content.specs.Values.{Value}
 use Rattle.wjs_content.specs.Names.{Slot}
 use Rattle.wjs_content.specs.Objects.{Arena, Internals, created, next_number}
@@ -32,7 +32,9 @@ use Rattle.wjs_meaning.specs.Deeds.{St, Act, Do, Look, Create, Sprout, Commit, H
 use Rattle.wjs_meaning.specs.Programs.{eval}
 use Rattle.wjs_model.specs.declared.config.Config.{Config}
 use Rattle.wjs_model.specs.Rest.{Count, turns_act}
+use Rattle.wjs_model.specs.Outside.{Outside, beside, IsFurther, IsOutside, Admits, Sees}
 use Rattle.wjs_model.specs.Configurations.{state_in, Stays}
+use Rattle.wjs_model.proofs.Beside.{IsIn, number_beside, created_beside, there_in}
 use Rattle.wjs_deeds.proofs.Running.{Ran, told_same}
 
 -- states with the same parts
@@ -75,6 +77,15 @@ carry_turns (Lists o next) w go st k =
 
 -- ---- configurations
 
+-- an object that is named is in the arena by content
+pub there_named : (t : Table) (objects : Objects) (o : Option ObjId) → IsThere objects o → IsIn (arena_in t objects) o
+there_named t objects None h = tt
+there_named t objects (Some o) h = there_in t objects o h
+
+-- where worlds were added, what is further now was further before
+further_before : (old new : Meaning) (owner : ℕ) (more : Arena) → ((w : WorldId) → IsTrue (has_world (worlds old) w) → IsTrue (has_world (worlds new) w)) → IsFurther new owner more → IsFurther old owner more
+further_before old new owner more still f = record { apart = f.apart; worlds = λ o e w h k. let p = f.worlds o e w h k in ((λ there. p.0 (still w there)), p.1) }
+
 module _ {S : Type 0} (meaning : S → Meaning) where
   both : (old : Config S) (o : ObjId) (e : Entry) → map.get old.heap.arena o ≡ None → map.get old.heap.arena o ≡ Some e → ⊥
   both old o e h k = cc
@@ -96,8 +107,9 @@ module _ {S : Type 0} (meaning : S → Meaning) where
 
   -- where the objects stay
   stays_so : (old : Config S) (heap : Heap S) → Grows old.heap.texts heap.texts → heap.arena ≡ old.heap.arena → (meaning heap.store).own ≡ (meaning old.heap.store).own → (meaning heap.store).around ≡ (meaning old.heap.store).around
-      → ((v : View) → IsTrue ((meaning heap.store).admits v) → IsTrue ((meaning old.heap.store).admits v)) → Stays meaning old (record old { heap = heap })
-  stays_so old heap g arena own around narrows = record {
+      → ((v : View) → IsTrue ((meaning heap.store).admits v) → IsTrue ((meaning old.heap.store).admits v))
+      → ((w : WorldId) → IsTrue (has_world (worlds (meaning old.heap.store)) w) → IsTrue (has_world (worlds (meaning heap.store)) w)) → Stays meaning old (record old { heap = heap })
+  stays_so old heap g arena own around narrows still = record {
     units = refl;
     global = refl;
     world = refl;
@@ -108,33 +120,42 @@ module _ {S : Type 0} (meaning : S → Meaning) where
     made = λ o e h k. absurd (both old o e h (ap (λ (m : Objects). map.get m o) (sym arena) ∙ k));
     own = own;
     around = around;
-    narrows = narrows;
+    narrows = λ v a. record { view = narrows v.view a.view; further = further_before (meaning old.heap.store) (meaning heap.store) old.owner v.more still a.further };
   }
 
-  -- a plan for the objects that are there
+  -- what the state has is seen
+  sees_state : (old : Config S) (t : Table) (v : Outside) → Admits meaning old v → Sees meaning old t (state_in meaning t v old).arena
+  sees_state old t v a = record { more = v.more; further = a.further; is = refl }
+
+  -- a plan for the objects that are there, whatever stands beside them
   pub ran_plan : {A : Type 0} (w : WorldId) (plan : Table → Arena → Plan A) (answer : Table → A) (old : Config S) (heap : Heap S)
+      → ((t : Table) (arena : Arena) → Sees meaning old t arena → plan t arena ≡ plan t (arena_in t old.heap.arena))
       → Performs w (λ t. plan t (arena_in t old.heap.arena)) answer (parts meaning old.heap) (parts meaning heap) → Ran meaning (λ t go. Do Look (λ arena. carry_out (plan t arena) w go)) answer old (record old { heap = heap })
-  ran_plan w plan answer old heap p = record {
+  ran_plan w plan answer old heap alike p = record {
     same = refl;
-    stays = stays_so old heap p.texts p.arena p.own p.around p.narrows;
+    stays = stays;
     by = λ t g v a k.
         let st = state_in meaning t v old in
-        let c = p.carries t g v a k in
+        let c = p.carries t g v.view a.view k in
         let todo = plan t (arena_in t old.heap.arena) in
-        let leaves : planned todo w st ≡ record (state_in meaning t v (record old { heap = heap })) { done = st.done ++ actions_of todo w st.full } = state_same _ _ (sym c.worlds) (sym (ap (arena_in t) p.arena)) refl refl in
+        let seen : plan t st.arena ≡ todo = alike t st.arena (sees_state old t v (stays.narrows v a)) in
+        let leaves : planned todo w st ≡ record (state_in meaning t v (record old { heap = heap })) { done = st.done ++ actions_of todo w st.full } = state_same _ _ (sym c.worlds) (ap (λ (m : Objects). beside (arena_in t m) v.more) (sym p.arena)) refl refl in
         record {
           acts = actions_of todo w st.full;
-          knows = (p.carries heap.texts (Grows-refl heap.texts) v a k).knows;
+          knows = (p.carries heap.texts (Grows-refl heap.texts) v.view a.view k).knows;
           told = c.told;
-          runs = λ go n. carry_interp todo w go st n ∙ (λ i. interp eval (go (sym c.answers i)) (leaves i) n);
-          counts = λ go m. carry_turns todo w go st m ∙ (λ i. turns_act (go (sym c.answers i)) (leaves i) m);
+          runs = λ go n. ap (λ todo. interp eval (carry_out todo w go) st n) seen ∙ carry_interp todo w go st n ∙ (λ i. interp eval (go (sym c.answers i)) (leaves i) n);
+          counts = λ go m. ap (λ todo. turns_act (carry_out todo w go) st m) seen ∙ carry_turns todo w go st m ∙ (λ i. turns_act (go (sym c.answers i)) (leaves i) m);
         };
   }
+    where
+      stays : Stays meaning old (record old { heap = heap })
+      stays = stays_so old heap p.texts p.arena p.own p.around p.narrows p.still_there
 
   -- a plan without a look
   pub ran_actions : {A : Type 0} (w : WorldId) (plan : Table → Plan A) (answer : Table → A) (old : Config S) (heap : Heap S)
       → Performs w plan answer (parts meaning old.heap) (parts meaning heap) → Ran meaning (λ t go. carry_out (plan t) w go) answer old (record old { heap = heap })
-  ran_actions w plan answer old heap p = let r = ran_plan w (λ t arena. plan t) answer old heap p in record {
+  ran_actions w plan answer old heap p = let r = ran_plan w (λ t arena. plan t) answer old heap (λ t arena s. refl) p in record {
     same = r.same;
     stays = r.stays;
     by = λ t g v a k. let e = r.by t g v a k in record { acts = e.acts; knows = e.knows; told = e.told; runs = e.runs; counts = e.counts };
@@ -147,13 +168,13 @@ module _ {S : Type 0} (meaning : S → Meaning) where
       → Ran meaning (λ t go. go (said t)) shown old (record old { heap = heap })
   ran_nothing said shown old heap g arena store e = record {
     same = refl;
-    stays = stays_so old heap g arena (ap (λ (s : S). (meaning s).own) store) (ap (λ (s : S). (meaning s).around) store) (λ v a. subst (λ (s : S). IsTrue ((meaning s).admits v)) store a);
+    stays = stays_so old heap g arena (ap (λ (s : S). (meaning s).own) store) (ap (λ (s : S). (meaning s).around) store) (λ v a. subst (λ (s : S). IsTrue ((meaning s).admits v)) store a) (λ w h. subst (λ (s : S). IsTrue (has_world (worlds (meaning s)) w)) (sym store) h);
     by = λ t gt v a k.
         let st = state_in meaning t v old in
-        let leaves : st ≡ record (state_in meaning t v (record old { heap = heap })) { done = st.done ++ [] } = state_same _ _ (ap (λ (s : S). worlds_in t ((meaning s).full v)) (sym store)) (ap (arena_in t) (sym arena)) refl (sym (append-nil st.done)) in
+        let leaves : st ≡ record (state_in meaning t v (record old { heap = heap })) { done = st.done ++ [] } = state_same _ _ (ap (λ (s : S). worlds_in t ((meaning s).full v.view)) (sym store)) (ap (λ (m : Objects). beside (arena_in t m) v.more) (sym arena)) refl (sym (append-nil st.done)) in
         record {
           acts = [];
-          knows = subst (λ (s : S). KnowsWorlds heap.texts ((meaning s).full v)) (sym store) (worlds_grow old.heap.texts heap.texts g ((meaning old.heap.store).full v) k).0;
+          knows = subst (λ (s : S). KnowsWorlds heap.texts ((meaning s).full v.view)) (sym store) (worlds_grow old.heap.texts heap.texts g ((meaning old.heap.store).full v.view) k).0;
           told = ap (λ (s : S). told_by t (meaning s).told) store ∙ told_same t (meaning old.heap.store).told;
           runs = λ go n i. interp eval (go (e t gt i)) (leaves i) n;
           counts = λ go m i. turns_act (go (e t gt i)) (leaves i) m;
@@ -161,7 +182,7 @@ module _ {S : Type 0} (meaning : S → Meaning) where
   }
 
   -- a look at the objects
-  pub ran_look : {A : Type 0} (seen : Table → Arena → A) (answer : Table → A) (old : Config S) → ((t : Table) → Grows old.heap.texts t → seen t (arena_in t old.heap.arena) ≡ answer t)
+  pub ran_look : {A : Type 0} (seen : Table → Arena → A) (answer : Table → A) (old : Config S) → ((t : Table) → Grows old.heap.texts t → (arena : Arena) → Sees meaning old t arena → seen t arena ≡ answer t)
       → Ran meaning (λ t go. Do Look (λ arena. go (seen t arena))) answer old old
   ran_look seen answer old e = record {
     same = refl;
@@ -169,12 +190,13 @@ module _ {S : Type 0} (meaning : S → Meaning) where
     by = λ t gt v a k.
         let st = state_in meaning t v old in
         let leaves : st ≡ record st { done = st.done ++ [] } = state_same _ _ refl refl refl (sym (append-nil st.done)) in
+        let found = e t gt st.arena (sees_state old t v a) in
         record {
           acts = [];
           knows = k;
           told = told_same t (meaning old.heap.store).told;
-          runs = λ go n i. interp eval (go (e t gt i)) (leaves i) n;
-          counts = λ go m i. turns_act (go (e t gt i)) (leaves i) m;
+          runs = λ go n i. interp eval (go (found i)) (leaves i) n;
+          counts = λ go m i. turns_act (go (found i)) (leaves i) m;
         };
   }
 
@@ -224,7 +246,7 @@ module _ {S : Type 0} (meaning : S → Meaning) where
     by = λ t gt v a k.
         let st = state_in meaning t v old in
         let leaves : st ≡ record st { done = st.done ++ [] } = state_same _ _ refl refl refl (sym (append-nil st.done)) in
-        let e : has_world st.full w ≡ answer = named_has t ((meaning old.heap.store).full v) w ∙ has_same (meaning old.heap.store) sound v a w ∙ sym is in
+        let e : has_world st.full w ≡ answer = named_has t ((meaning old.heap.store).full v.view) w ∙ has_same (meaning old.heap.store) sound v.view a.view w ∙ sym is in
         record {
           acts = [];
           knows = k;
@@ -235,9 +257,9 @@ module _ {S : Type 0} (meaning : S → Meaning) where
   }
 
   -- a new object
-  pub ran_create : (internals : Table → Internals) (x : Object) (id : ObjId) (old : Config S) (heap : Heap S) → Creates old.owner x id (parts meaning old.heap) (parts meaning heap) → ((t : Table) → Grows heap.texts t → object_in t x ≡ internals t)
+  pub ran_create : (internals : Table → Internals) (x : Object) (id : ObjId) (old : Config S) (heap : Heap S) → Creates old.owner x id (parts meaning old.heap) (parts meaning heap) → IsThere old.heap.arena x.prototype → IsThere old.heap.arena x.scope → ((t : Table) → Grows heap.texts t → object_in t x ≡ internals t)
       → Ran meaning (λ t go. Do (Create old.owner (internals t)) go) (λ t. id) old (record old { heap = heap })
-  ran_create internals x id old heap c e = record {
+  ran_create internals x id old heap c on in_scope e = record {
     same = refl;
     stays = record {
       units = refl;
@@ -250,16 +272,19 @@ module _ {S : Type 0} (meaning : S → Meaning) where
       made = λ o y h k. made_by o y h (eq_by_cmp obj_cmp o (next_by old.heap.arena old.owner)) refl (sym (map.get-insert obj_total old.heap.arena (next_by old.heap.arena old.owner) (entry_over old.heap.arena x) o) ∙ ap (λ (m : Objects). map.get m o) (sym c.arena) ∙ k);
       own = ap (λ (m : Meaning). m.own) c.store;
       around = ap (λ (m : Meaning). m.around) c.store;
-      narrows = λ v a. subst (λ (m : Meaning). IsTrue (m.admits v)) c.store a;
+      narrows = λ v a. subst (λ (m : Meaning). IsOutside m old.owner v) c.store a;
     };
     by = λ t gt v a k.
         let st = state_in meaning t v old in
         let leaves : record st { arena = created st.arena old.owner (internals t) } ≡ record (state_in meaning t v (record old { heap = heap })) { done = st.done ++ [] } =
-        state_same _ _ (ap (λ (m : Meaning). worlds_in t (m.full v)) (sym c.store)) (ap (created st.arena old.owner) (sym (e t gt)) ∙ sym (c.arena_by t)) refl (sym (append-nil st.done)) in
-        let number : next_number st.arena old.owner ≡ id = sym (c.number_in t) in
+        state_same _ _ (ap (λ (m : Meaning). worlds_in t (m.full v.view)) (sym c.store))
+        (ap (created st.arena old.owner) (sym (e t gt))
+        ∙ created_beside (arena_in t old.heap.arena) v.more old.owner a.further.apart (object_in t x) (there_named t old.heap.arena x.prototype on) (there_named t old.heap.arena x.scope in_scope)
+        ∙ ap (λ m. beside m v.more) (sym (c.arena_by t))) refl (sym (append-nil st.done)) in
+        let number : next_number st.arena old.owner ≡ id = number_beside (arena_in t old.heap.arena) v.more old.owner a.further.apart ∙ sym (c.number_in t) in
         record {
           acts = [];
-          knows = subst (λ (m : Meaning). KnowsWorlds heap.texts (m.full v)) (sym c.store) (subst (λ texts. KnowsWorlds texts ((meaning old.heap.store).full v)) (sym c.texts) k);
+          knows = subst (λ (m : Meaning). KnowsWorlds heap.texts (m.full v.view)) (sym c.store) (subst (λ texts. KnowsWorlds texts ((meaning old.heap.store).full v.view)) (sym c.texts) k);
           told = ap (λ (m : Meaning). told_by t m.told) c.store ∙ told_same t (meaning old.heap.store).told;
           runs = λ go n i. interp eval (go (number i)) (leaves i) n;
           counts = λ go m i. turns_act (go (number i)) (leaves i) m;
@@ -273,7 +298,7 @@ module _ {S : Type 0} (meaning : S → Meaning) where
   -- ---- actions of worlds that no plan has
 
   stays_acted : (act : Action Slot Value) (answer : Heard) (old : Config S) (heap : Heap S) → Acts act answer (parts meaning old.heap) (parts meaning heap) → Stays meaning old (record old { heap = heap })
-  stays_acted act answer old heap f = stays_so old heap (subst (Grows old.heap.texts) (sym f.texts) (Grows-refl old.heap.texts)) f.arena f.own f.around f.narrows
+  stays_acted act answer old heap f = stays_so old heap (subst (Grows old.heap.texts) (sym f.texts) (Grows-refl old.heap.texts)) f.arena f.own f.around f.narrows f.still_there
 
   pub ran_sprout : (w : WorldId) (strict : Bool) (child : WorldId) (old : Config S) (heap : Heap S) → Acts (sprout w old.owner strict) (Sprouted child) (parts meaning old.heap) (parts meaning heap)
       → Ran meaning (λ t go. Do (Sprout w old.owner strict) go) (λ t. child) old (record old { heap = heap })
@@ -283,12 +308,12 @@ module _ {S : Type 0} (meaning : S → Meaning) where
     by = λ t g v a k.
         let st = state_in meaning t v old in
         let act : Action Slot Value = sprout w old.owner strict in
-        let c = f.acts t g v a k in
-        let leaves : acted_first act st ≡ record (state_in meaning t v (record old { heap = heap })) { done = st.done ++ told_of st.full act ∷ [] } = state_same _ _ (sym c.worlds) (sym (ap (arena_in t) f.arena)) refl refl in
+        let c = f.acts t g v.view a.view k in
+        let leaves : acted_first act st ≡ record (state_in meaning t v (record old { heap = heap })) { done = st.done ++ told_of st.full act ∷ [] } = state_same _ _ (sym c.worlds) (ap (λ (m : Objects). beside (arena_in t m) v.more) (sym f.arena)) refl refl in
         let number : next_id st.full old.owner ≡ child = is_child child (next_id st.full old.owner) c.answers in
         record {
           acts = told_of st.full act ∷ [];
-          knows = (f.acts heap.texts (Grows-refl heap.texts) v a k).knows;
+          knows = (f.acts heap.texts (Grows-refl heap.texts) v.view a.view k).knows;
           told = c.told;
           runs = λ go n i. interp eval (go (number i)) (leaves i) n;
           counts = λ go m i. turns_act (go (number i)) (leaves i) m;
@@ -306,12 +331,12 @@ module _ {S : Type 0} (meaning : S → Meaning) where
     by = λ t g v a k.
         let st = state_in meaning t v old in
         let act : Action Slot Value = commit w in
-        let c = f.acts t g v a k in
-        let leaves : acted_first act st ≡ record (state_in meaning t v (record old { heap = heap })) { done = st.done ++ told_of st.full act ∷ [] } = state_same _ _ (sym c.worlds) (sym (ap (arena_in t) f.arena)) refl refl in
+        let c = f.acts t g v.view a.view k in
+        let leaves : acted_first act st ≡ record (state_in meaning t v (record old { heap = heap })) { done = st.done ++ told_of st.full act ∷ [] } = state_same _ _ (sym c.worlds) (ap (λ (m : Objects). beside (arena_in t m) v.more) (sym f.arena)) refl refl in
         let says : shape (verdict_at st.full w) ≡ verdict = is_verdict verdict (shape (verdict_at st.full w)) c.answers in
         record {
           acts = told_of st.full act ∷ [];
-          knows = (f.acts heap.texts (Grows-refl heap.texts) v a k).knows;
+          knows = (f.acts heap.texts (Grows-refl heap.texts) v.view a.view k).knows;
           told = c.told;
           runs = λ go n i. interp eval (go (says i)) (leaves i) n;
           counts = λ go m i. turns_act (go (says i)) (leaves i) m;

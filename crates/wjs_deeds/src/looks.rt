@@ -1,13 +1,15 @@
 //! Looks at objects, which change nothing.
 //!
-//! Each says what the look at the objects by content gives, and that it is a deed of a line.
+//! Each says what the look at the objects by content gives, whatever further ones stand beside them, and that it is a deed of a line.
 ghost use Rattle.std.specs.Prelude.{◌≡◌, IfSome, unwrap_or};
 ghost use Rattle.std.specs.Option.{option_map};
 ghost use Rattle.wjs_base.specs.Text.{Table, Grows};
 ghost use Rattle.wjs_content.specs.Objects as objects;
-ghost use Rattle.wjs_content.specs.Tables.{name_in, value_in, arena_in};
+ghost use Rattle.wjs_content.specs.Objects.{Arena};
+ghost use Rattle.wjs_content.specs.Tables.{name_in, value_in};
 ghost use Rattle.wjs_content.specs.Values.{same_object};
 ghost use Rattle.wjs_meaning.specs.Deeds.{Do, Look};
+ghost use Rattle.wjs_model.specs.Outside.{Sees};
 ghost use Rattle.wjs_model.specs.Soundness.{Base, HasObject, HasName, HasValue, HasWorld};
 ghost use Rattle.wjs_moves.specs.Doing.{Does};
 
@@ -20,7 +22,7 @@ use wjs_store::WorldStore;
 pub fn code_of<S: WorldStore>(config: &Config<S>, object: ObjId) -> Code
     requires { HasObject config.now object }
     ensures does { Does S.meaning (λ t go. Do Look (λ arena. go (objects.object_at arena object).code)) (λ t. result) config.now config.now }
-    ensures is { (t : Table) → (objects.object_at (arena_in t config.now.heap.arena) object).code ≡ result }
+    ensures is { (t : Table) (arena : Arena) → Sees S.meaning config.now t arena → (objects.object_at arena object).code ≡ result }
 {
     config.heap.arena.object(object).code
 }
@@ -29,7 +31,7 @@ pub fn code_of<S: WorldStore>(config: &Config<S>, object: ObjId) -> Code
 pub fn class_of<S: WorldStore>(config: &Config<S>, object: ObjId) -> Class
     requires { HasObject config.now object }
     ensures does { Does S.meaning (λ t go. Do Look (λ arena. go (objects.object_at arena object).class)) (λ t. result) config.now config.now }
-    ensures is { (t : Table) → (objects.object_at (arena_in t config.now.heap.arena) object).class ≡ result }
+    ensures is { (t : Table) (arena : Arena) → Sees S.meaning config.now t arena → (objects.object_at arena object).class ≡ result }
 {
     config.heap.arena.object(object).class
 }
@@ -39,7 +41,7 @@ pub fn prototype_of<S: WorldStore>(config: &Config<S>, object: ObjId) -> Option<
     requires base { Base S.meaning config.now }
     requires object { HasObject config.now object }
     ensures does { Does S.meaning (λ t go. Do Look (λ arena. go (objects.object_at arena object).prototype)) (λ t. result) config.now config.now }
-    ensures is { (t : Table) → (objects.object_at (arena_in t config.now.heap.arena) object).prototype ≡ result }
+    ensures is { (t : Table) (arena : Arena) → Sees S.meaning config.now t arena → (objects.object_at arena object).prototype ≡ result }
     ensures found { IfSome result (λ prototype. HasObject config.now prototype) }
 {
     config.heap.arena.object(object).prototype
@@ -50,7 +52,7 @@ pub fn scope_of<S: WorldStore>(config: &Config<S>, object: ObjId) -> Option<ObjI
     requires base { Base S.meaning config.now }
     requires object { HasObject config.now object }
     ensures does { Does S.meaning (λ t go. Do Look (λ arena. go (objects.object_at arena object).scope)) (λ t. result) config.now config.now }
-    ensures is { (t : Table) → (objects.object_at (arena_in t config.now.heap.arena) object).scope ≡ result }
+    ensures is { (t : Table) (arena : Arena) → Sees S.meaning config.now t arena → (objects.object_at arena object).scope ≡ result }
     ensures found { IfSome result (λ scope. HasObject config.now scope) }
 {
     config.heap.arena.object(object).scope
@@ -60,7 +62,7 @@ pub fn scope_of<S: WorldStore>(config: &Config<S>, object: ObjId) -> Option<ObjI
 pub fn world_for<S: WorldStore>(config: &Config<S>, object: ObjId) -> Option<WorldId>
     requires { HasObject config.now object }
     ensures does { Does S.meaning (λ t go. Do Look (λ arena. go (objects.object_at arena object).world)) (λ t. result) config.now config.now }
-    ensures is { (t : Table) → (objects.object_at (arena_in t config.now.heap.arena) object).world ≡ result }
+    ensures is { (t : Table) (arena : Arena) → Sees S.meaning config.now t arena → (objects.object_at arena object).world ≡ result }
 {
     config.heap.arena.object(object).world
 }
@@ -70,7 +72,7 @@ pub fn primitive_of<S: WorldStore>(config: &Config<S>, object: ObjId) -> Value
     requires base { Base S.meaning config.now }
     requires object { HasObject config.now object }
     ensures does { Does S.meaning (λ t go. Do Look (λ arena. go (objects.object_at arena object).primitive)) (λ t. value_in t result) config.now config.now }
-    ensures is { (t : Table) → (objects.object_at (arena_in t config.now.heap.arena) object).primitive ≡ value_in t result }
+    ensures is { (t : Table) (arena : Arena) → Sees S.meaning config.now t arena → (objects.object_at arena object).primitive ≡ value_in t result }
     ensures found { HasValue config.now result }
 {
     config.heap.arena.object(object).primitive
@@ -80,7 +82,7 @@ pub fn primitive_of<S: WorldStore>(config: &Config<S>, object: ObjId) -> Value
 pub fn is_callable<S: WorldStore>(config: &Config<S>, object: ObjId) -> bool
     requires { HasObject config.now object }
     ensures does { Does S.meaning (λ t go. Do Look (λ arena. go (objects.is_callable arena object))) (λ t. result) config.now config.now }
-    ensures is { (t : Table) → objects.is_callable (arena_in t config.now.heap.arena) object ≡ result }
+    ensures is { (t : Table) (arena : Arena) → Sees S.meaning config.now t arena → objects.is_callable arena object ≡ result }
 {
     has_code(config.heap.arena.object(object).code)
 }
@@ -100,7 +102,7 @@ fn has_code(code: Code) -> bool
 pub fn function_of<S: WorldStore>(config: &Config<S>, value: Value) -> Option<ObjId>
     requires { HasValue config.now value }
     ensures does { Does S.meaning (λ t go. Do Look (λ arena. go (objects.function_of arena (value_in t value)))) (λ t. result) config.now config.now }
-    ensures is { (t : Table) → objects.function_of (arena_in t config.now.heap.arena) (value_in t value) ≡ result }
+    ensures is { (t : Table) (arena : Arena) → Sees S.meaning config.now t arena → objects.function_of arena (value_in t value) ≡ result }
     ensures found { IfSome result (λ function. HasObject config.now function) }
 {
     function_if(config, value)
@@ -109,7 +111,7 @@ pub fn function_of<S: WorldStore>(config: &Config<S>, value: Value) -> Option<Ob
 /// The value's object, if it is a function.
 fn function_if<S: WorldStore>(config: &Config<S>, value: Value) -> Option<ObjId>
     requires { HasValue config.now value }
-    ensures is { (t : Table) → objects.function_of (arena_in t config.now.heap.arena) (value_in t value) ≡ result }
+    ensures is { (t : Table) (arena : Arena) → Sees S.meaning config.now t arena → objects.function_of arena (value_in t value) ≡ result }
     ensures found { IfSome result (λ function. HasObject config.now function) }
 {
     match value {
@@ -128,7 +130,7 @@ fn function_if<S: WorldStore>(config: &Config<S>, value: Value) -> Option<ObjId>
 pub fn is_array<S: WorldStore>(config: &Config<S>, object: ObjId) -> bool
     requires { HasObject config.now object }
     ensures does { Does S.meaning (λ t go. Do Look (λ arena. go (objects.is_array arena object))) (λ t. result) config.now config.now }
-    ensures is { (t : Table) → objects.is_array (arena_in t config.now.heap.arena) object ≡ result }
+    ensures is { (t : Table) (arena : Arena) → Sees S.meaning config.now t arena → objects.is_array arena object ≡ result }
 {
     is_array_class(config.heap.arena.object(object).class)
 }
@@ -149,7 +151,7 @@ pub fn fixed<S: WorldStore>(config: &Config<S>, object: ObjId, name: Name) -> Op
     requires object { HasObject config.now object }
     requires name { HasName config.now name }
     ensures does { Does S.meaning (λ t go. Do Look (λ arena. go (objects.fixed arena object (name_in t name)))) (λ t. option_map (value_in t) result) config.now config.now }
-    ensures is { (t : Table) → Grows config.now.heap.texts t → objects.fixed (arena_in t config.now.heap.arena) object (name_in t name) ≡ option_map (value_in t) result }
+    ensures is { (t : Table) → Grows config.now.heap.texts t → (arena : Arena) → Sees S.meaning config.now t arena → objects.fixed arena object (name_in t name) ≡ option_map (value_in t) result }
     ensures found { IfSome result (λ value. HasValue config.now value) }
 {
     config.heap.arena.fixed(object, name)
@@ -161,7 +163,7 @@ pub fn is_hidden<S: WorldStore>(config: &Config<S>, object: ObjId, name: Name) -
     requires object { HasObject config.now object }
     requires name { HasName config.now name }
     ensures does { Does S.meaning (λ t go. Do Look (λ arena. go (objects.is_hidden arena object (name_in t name)))) (λ t. result) config.now config.now }
-    ensures is { (t : Table) → Grows config.now.heap.texts t → objects.is_hidden (arena_in t config.now.heap.arena) object (name_in t name) ≡ result }
+    ensures is { (t : Table) → Grows config.now.heap.texts t → (arena : Arena) → Sees S.meaning config.now t arena → objects.is_hidden arena object (name_in t name) ≡ result }
 {
     config.heap.arena.flags(object, name).hidden
 }
@@ -171,7 +173,7 @@ pub fn scope_up<S: WorldStore>(config: &Config<S>, scope: ObjId, hops: u32) -> O
     requires base { Base S.meaning config.now }
     requires scope { HasObject config.now scope }
     ensures does { Does S.meaning (λ t go. Do Look (λ arena. go (objects.scope_up arena hops scope))) (λ t. result) config.now config.now }
-    ensures is { (t : Table) → objects.scope_up (arena_in t config.now.heap.arena) hops scope ≡ result }
+    ensures is { (t : Table) (arena : Arena) → Sees S.meaning config.now t arena → objects.scope_up arena hops scope ≡ result }
     ensures found { HasObject config.now result }
 {
     let mut at = scope;
@@ -187,7 +189,7 @@ pub fn scope_up<S: WorldStore>(config: &Config<S>, scope: ObjId, hops: u32) -> O
 fn scope_out<S: WorldStore>(config: &Config<S>, scope: ObjId) -> ObjId
     requires base { Base S.meaning config.now }
     requires scope { HasObject config.now scope }
-    ensures is { (t : Table) → unwrap_or (objects.object_at (arena_in t config.now.heap.arena) scope).scope scope ≡ result }
+    ensures is { (t : Table) (arena : Arena) → Sees S.meaning config.now t arena → unwrap_or (objects.object_at arena scope).scope scope ≡ result }
     ensures found { HasObject config.now result }
 {
     match scope_of(config, scope) {
@@ -201,7 +203,7 @@ pub fn is_past<S: WorldStore>(config: &Config<S>, prototype: ObjId, object: ObjI
     requires base { Base S.meaning config.now }
     requires object { HasObject config.now object }
     ensures does { Does S.meaning (λ t go. Do Look (λ arena. go (objects.is_past arena prototype object))) (λ t. result) config.now config.now }
-    ensures is { (t : Table) → objects.is_past (arena_in t config.now.heap.arena) prototype object ≡ result }
+    ensures is { (t : Table) (arena : Arena) → Sees S.meaning config.now t arena → objects.is_past arena prototype object ≡ result }
 {
     let mut at = prototype_of(config, object);
     'up: while let Some(next) = at {
@@ -224,7 +226,7 @@ pub fn world_object<S: WorldStore>(config: &Config<S>, world: WorldId) -> Option
     requires base { Base S.meaning config.now }
     requires world { HasWorld S.meaning config.now world }
     ensures does { Does S.meaning (λ t go. Do Look (λ arena. go (objects.world_object arena world))) (λ t. result) config.now config.now }
-    ensures is { (t : Table) → objects.world_object (arena_in t config.now.heap.arena) world ≡ result }
+    ensures is { (t : Table) (arena : Arena) → Sees S.meaning config.now t arena → objects.world_object arena world ≡ result }
     ensures found { IfSome result (λ object. HasObject config.now object) }
 {
     config.heap.arena.world_object(world)
@@ -233,7 +235,7 @@ pub fn world_object<S: WorldStore>(config: &Config<S>, world: WorldId) -> Option
 /// The number of the next object that is made.
 pub fn next_number<S: WorldStore>(config: &Config<S>) -> ObjId
     ensures does { Does S.meaning (λ t go. Do Look (λ arena. go (objects.next_number arena config.now.owner))) (λ t. result) config.now config.now }
-    ensures is { (t : Table) → objects.next_number (arena_in t config.now.heap.arena) config.now.owner ≡ result }
+    ensures is { (t : Table) (arena : Arena) → Sees S.meaning config.now t arena → objects.next_number arena config.now.owner ≡ result }
 {
     config.heap.arena.next_number(config.owner)
 }

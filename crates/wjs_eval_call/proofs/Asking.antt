@@ -1,5 +1,5 @@
 -- Objects that are asked by their methods for a primitive (ECMA-262, 3rd edition, section 8.6.2.6).
-use Rattle.std.proofs.Common.{◌≡◌, ℕ, true, [], Option, None, Some, sym, ap, ◌∙◌, subst}
+use Rattle.std.proofs.Common.{◌≡◌, ℕ, true, [], Option, None, Some, ap, ◌∙◌, subst}
 use Rattle.std.specs.Prelude.{Result, OnOk}
 use Rattle.wjs_base.specs.declared.ids.ObjId.{ObjId}
 use Rattle.wjs_base.specs.declared.ids.OutOfMemory.{OutOfMemory}
@@ -7,7 +7,7 @@ use Rattle.wjs_base.specs.declared.values.Value.{Value as NumberedValue}
 use Rattle.wjs_base.specs.Text.{Table}
 use Rattle.wjs_store.specs.Meaning.{Meaning}
 use Rattle.wjs_content.specs.Objects.{Arena, function_of}
-use Rattle.wjs_content.specs.Tables.{value_in, arena_in}
+use Rattle.wjs_content.specs.Tables.{value_in}
 use Rattle.wjs_content.specs.Values.{Text, Value, Object}
 use Rattle.wjs_meaning.specs.Trees.{Node}
 use Rattle.wjs_meaning.specs.declared.trouble.Trouble.TheVariants.{NoPrimitiveValue}
@@ -22,6 +22,7 @@ use Rattle.wjs_model.specs.declared.frame.Conversion.TheVariants as to
 use Rattle.wjs_model.specs.declared.frame.Form.{Form}
 use Rattle.wjs_model.specs.declared.frame.Form.TheVariants as form
 use Rattle.wjs_model.specs.Contents.{Holding}
+use Rattle.wjs_model.specs.Outside.{Sees}
 use Rattle.wjs_model.specs.Waiting.{after, after_method}
 use Rattle.wjs_moves.specs.Doing.{Does}
 use Rattle.wjs_moves.specs.Following.{Follows}
@@ -37,15 +38,14 @@ method_then o env otherwise found = elim found [
 
 -- a method was read, and is this function or none
 pub asked : {S : Type 0} (meaning : S → Meaning) (name text : Text) (o : ObjId) (env : Table → Env) (method : NumberedValue) (otherwise : Act) (found : Option ObjId) (old mid new : Config S) (r : Result (Unit {0}) OutOfMemory)
-    → Does meaning (λ t. get_value o name (env t)) (λ t. value_in t method) old mid → name ≡ text → ((t : Table) → function_of (arena_in t mid.heap.arena) (value_in t method) ≡ found)
+    → Does meaning (λ t. get_value o name (env t)) (λ t. value_in t method) old mid → name ≡ text → ((t : Table) (arena : Arena) → Sees meaning mid t arena → function_of arena (value_in t method) ≡ found)
     → OnOk r (Follows meaning (method_then o (env new.heap.texts) otherwise found) mid new) → OnOk r (Follows meaning (try_method text o (env new.heap.texts) otherwise) old new)
 asked meaning name text o env method otherwise found old mid new r does same is h =
     let t = new.heap.texts in
     let then : Option ObjId → Act = method_then o (env t) otherwise in
     subst (λ (n : Text). OnOk r (Follows meaning (try_method n o (env t) otherwise) old new)) same
     (does.by (λ v. Do Look (λ arena. then (function_of arena v))) new r
-    (follows_look meaning (λ (arena : Arena). then (function_of arena (value_in t method))) mid new r
-    (subst (λ (f : Option ObjId). OnOk r (Follows meaning (then f) mid new)) (sym (is t)) h)))
+    (follows_look meaning (λ (arena : Arena). then (function_of arena (value_in t method))) (then found) mid new r (λ arena s. ap then (is t arena s)) h))
 
 module _ (node : Node) (here : ℕ) (held : Holding) (env : Env) (o : ObjId) where
   by_first : (k : Conversion) → is_primitive_first k ≡ true → held.value ≡ Object o → after node (form.Convert k) here 1 held env ≡ then_value (method_result (try_method (second_method (hint_of k)) o env (throw NoPrimitiveValue env)))

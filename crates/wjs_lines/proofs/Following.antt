@@ -4,12 +4,14 @@ use Rattle.std.specs.Prelude.{Result, OnOk, Ok, Err}
 use Rattle.wjs_base.specs.declared.ids.OutOfMemory.{OutOfMemory}
 use Rattle.wjs_base.specs.Text.{Table, Grows}
 use Rattle.wjs_store.specs.Meaning.{Meaning}
-use Rattle.wjs_meaning.specs.Deeds.{Act}
+use Rattle.wjs_content.specs.Objects.{Arena}
+use Rattle.wjs_meaning.specs.Deeds.{Act, Do, Look}
 use Rattle.wjs_model.specs.declared.config.Config.{Config}
+use Rattle.wjs_model.specs.Outside.{Sees}
 use Rattle.wjs_moves.specs.Following.{Follows}
 use Rattle.wjs_moves.specs.Doing.{Does}
 use Rattle.wjs_moves.specs.Shortening.{Shortens}
-use Rattle.wjs_moves.proofs.Shorter.{follows_shorter}
+use Rattle.wjs_moves.proofs.Shorter.{follows_shorter, follows_look}
 pub use Rattle.wjs_deeds.proofs.Composing.{env_later}
 pub use Rattle.wjs_deeds.proofs.Later.{later_same}
 
@@ -17,6 +19,11 @@ pub use Rattle.wjs_deeds.proofs.Later.{later_same}
 pub follows_as : {S : Type 0} (meaning : S → Meaning) (done due : Act) (old new : Config S) (r : Result (Unit {0}) OutOfMemory) → (Grows old.heap.texts new.heap.texts → done ≡ due) → OnOk r (Follows meaning done old new) → OnOk r (Follows meaning due old new)
 follows_as meaning done due old new (Ok x) same h = let P : Act → Type 0 = λ act. Follows meaning act old new in subst P (same h.keeps.stays.texts) h
 follows_as meaning done due old new (Err x) same h = tt
+
+-- a look after which the same deeds come, where the texts have grown, whatever further objects it finds
+pub follows_found : {S : Type 0} (meaning : S → Meaning) (go : Arena → Act) (act : Act) (old new : Config S) (r : Result (Unit {0}) OutOfMemory) → (Grows old.heap.texts new.heap.texts → (arena : Arena) → Sees meaning old new.heap.texts arena → go arena ≡ act) → OnOk r (Follows meaning act old new) → OnOk r (Follows meaning (Do Look go) old new)
+follows_found meaning go act old new (Ok x) same h = follows_look meaning go act old new (Ok x) (same h.keeps.stays.texts) h
+follows_found meaning go act old new (Err x) same h = tt
 
 -- deeds that come to the same in more turns than others that are the same where the texts have grown
 pub follows_by : {S : Type 0} (meaning : S → Meaning) (long short done : Act) (old new : Config S) (r : Result (Unit {0}) OutOfMemory) → Shortens long short → OnOk r (Follows meaning done old new) → (Grows old.heap.texts new.heap.texts → done ≡ short) → OnOk r (Follows meaning long old new)

@@ -2,7 +2,7 @@
 use Rattle.std.proofs.Common.{◌≡◌, ℕ, zero, suc, Bool, true, false, List, [], ◌∷◌, ◌++◌, Option, None, Some, refl, sym, ap, ◌∙◌, append_assoc}
 use Rattle.std.proofs.lemmas.List.{append-nil}
 use Rattle.wjs_base.specs.Text.{Table}
-use Rattle.wjs_store.specs.Meaning.{Meaning, View}
+use Rattle.wjs_store.specs.Meaning.{Meaning}
 use Rattle.wjs_meaning.specs.Deeds.{St, Env, Goal, Completion, Gives, Refers, Normal, Breaks, Continues, Returns, Throws, Read, Write, Listing, Sprout, Commit, HasWorld, Look, Create, Emit, Act, Ret, Tick, Eval, Sub, Do, Outcome, Ends, Spent, Next, interp, then_do}
 use Rattle.wjs_meaning.specs.Programs.{entry, eval_to, eval, Ending, Done, run_next}
 use Rattle.wjs_model.specs.declared.config.Config.{Config}
@@ -11,6 +11,7 @@ use Rattle.wjs_model.specs.declared.config.State.TheVariants as states
 use Rattle.wjs_model.specs.Contents.{Frame, Moment, Due, Ready, Waiting, Given, Run}
 use Rattle.wjs_model.specs.Frames.{last, front}
 use Rattle.wjs_model.specs.Rest.{Go, under, act_of, act_at, given, rest_over, rest_top, rest_of, Count, turns_act, turns_under, turns_over, turns_at, turns_top}
+use Rattle.wjs_model.specs.Outside.{Outside}
 use Rattle.wjs_model.specs.Configurations.{rest_by, turns_by, seen, run_in, state_in, frames_in, tells, rest, turns}
 use Rattle.wjs_machine.specs.Flushing.{after_output, GoesOut, OutputGoesOut, OutputTakesNoTurn}
 
@@ -157,26 +158,26 @@ by_turns p states.StepsSpent run fs st = refl
 
 module _ {S : Type 0} (meaning : S → Meaning) where
   -- the state of a configuration before whose output these bytes went out
-  state_put : (gone : List ℕ) (old new : Config S) (t : Table) (v : View) → GoesOut gone old new → state_in meaning t v old ≡ put gone (state_in meaning t v new)
+  state_put : (gone : List ℕ) (old new : Config S) (t : Table) (v : Outside) → GoesOut gone old new → state_in meaning t v old ≡ put gone (state_in meaning t v new)
   state_put gone old new t v h =
       ap (λ out. record (state_in meaning t v old) { out = out }) h.pending
       ∙ sym (ap (λ c. put gone (state_in meaning t v c)) h.same)
 
-  rest_same : (gone : List ℕ) (old new : Config S) (t : Table) (v : View) (n : ℕ) → GoesOut gone old new → rest meaning t v old n ≡ after_output gone (rest meaning t v new n)
+  rest_same : (gone : List ℕ) (old new : Config S) (t : Table) (v : Outside) (n : ℕ) → GoesOut gone old new → rest meaning t v old n ≡ after_output gone (rest meaning t v new n)
   rest_same gone old new t v n h =
       ap (λ st. seen (tells meaning old) (rest_by t old.state (run_in meaning t old) (frames_in meaning t old) st n)) (state_put gone old new t v h)
       ∙ ap (seen (tells meaning old)) (by_put gone t old.state (run_in meaning t old) (frames_in meaning t old) (state_in meaning t v new) n)
       ∙ seen_put gone (tells meaning old) (rest_by t old.state (run_in meaning t old) (frames_in meaning t old) (state_in meaning t v new) n)
       ∙ sym (ap (λ (c : Config S). after_output gone (seen (tells meaning c) (rest_by t c.state (run_in meaning t c) (frames_in meaning t c) (state_in meaning t v new) n))) h.same)
 
-  turns_same : (gone : List ℕ) (old new : Config S) (t : Table) (v : View) → GoesOut gone old new → turns meaning t v old ≡ turns meaning t v new
+  turns_same : (gone : List ℕ) (old new : Config S) (t : Table) (v : Outside) → GoesOut gone old new → turns meaning t v old ≡ turns meaning t v new
   turns_same gone old new t v h =
       ap (λ st. turns_by old.state (run_in meaning t old) (frames_in meaning t old) st) (state_put gone old new t v h)
       ∙ by_turns gone old.state (run_in meaning t old) (frames_in meaning t old) (state_in meaning t v new)
       ∙ sym (ap (λ (c : Config S). turns_by c.state (run_in meaning t c) (frames_in meaning t c) (state_in meaning t v new)) h.same)
 
   -- what is pending is a front of all output
-  pub output_first : (c : Config S) (t : Table) (v : View) (n : ℕ) → (later : List ℕ) × ((rest meaning t v c n).1.out ≡ c.pending.items ++ later)
+  pub output_first : (c : Config S) (t : Table) (v : Outside) (n : ℕ) → (later : List ℕ) × ((rest meaning t v c n).1.out ≡ c.pending.items ++ later)
   output_first c t v n =
       let bare = record (state_in meaning t v c) { out = [] } in
       let without = seen (tells meaning c) (rest_by t c.state (run_in meaning t c) (frames_in meaning t c) bare n) in (

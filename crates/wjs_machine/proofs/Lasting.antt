@@ -4,12 +4,13 @@ use Rattle.std.proofs.lemmas.List.{append-nil}
 use Rattle.wjs_store.specs.Meaning.{Meaning}
 use Rattle.wjs_io.specs.Streams.{Stream, stream, Got, Stops}
 use Rattle.wjs_io.proofs.Written.{Appends-then}
-use Rattle.wjs_content.specs.Tables.{value_in}
+use Rattle.wjs_content.specs.Tables.{value_in, arena_in}
 use Rattle.wjs_meaning.specs.Deeds.{St}
 use Rattle.wjs_meaning.specs.Programs.{Ending, Done, Threw, StepsSpent}
 use Rattle.wjs_model.specs.declared.config.Config.{Config}
 use Rattle.wjs_model.specs.declared.config.State.{State}
 use Rattle.wjs_model.specs.declared.config.State.TheVariants as states
+use Rattle.wjs_model.proofs.Beside.{beside_nothing}
 use Rattle.wjs_model.specs.Configurations.{rest_by, seen, tells, run_in, frames_in, state_in}
 use Rattle.wjs_model.specs.Soundness.{HasThrown, Sound}
 use Rattle.wjs_moves.specs.Reaching.{own_view}
@@ -56,7 +57,7 @@ module _ {S : Type 0} (meaning : S → Meaning) (plain : IsPlain meaning) where
         got = subst (Got s) (sym all) f.got;
         ends = ap (λ q. q.0) run ∙ ap (λ q. q.0) r ∙ seen_ending b last;
         worlds = ap (λ q. (q.1).full) run ∙ ap (λ q. (q.1).full) r ∙ seen_full b last;
-        arena = ap (λ q. (q.1).arena) run ∙ ap (λ q. (q.1).arena) r ∙ seen_arena b last;
+        arena = ap (λ q. (q.1).arena) run ∙ ap (λ q. (q.1).arena) r ∙ seen_arena b last ∙ beside_nothing (arena_in new.heap.texts new.heap.arena);
         world = ap (λ (c : Config S). c.world) f.out.same;
         sound = sound_out meaning old new f.out.same sound;
       }

@@ -15,9 +15,15 @@ module _ {S : Type 0} (meaning : S → Meaning) (old new : Config S) where
     world = b.world;
     builtins = b.builtins;
     units = b.units;
+    works = b.works;
     own_worlds = b.own_worlds;
+    own = b.own;
+    no_worlds = b.no_worlds;
+    near_objects = b.near_objects;
+    near_slots = b.near_slots;
     frames = All-weaker (IsThere meaning old) (IsThere meaning (record old { pending = new.pending })) (λ f h. record { scope = h.scope; this = h.this; world = h.world; held = h.held; phase = h.phase }) old.frames b.frames;
     marks = b.marks;
+    told = b.told;
   }
 
   thrown_out : (s : State) → HasThrown old s → HasThrown (record old { pending = new.pending }) s

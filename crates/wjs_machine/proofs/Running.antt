@@ -1,16 +1,17 @@
 -- Turns and output one after another.
 use Rattle.std.proofs.Common.{◌≡◌, ℕ, ◌<◌, List, ◌++◌, inl, inr, sym, ap, ◌∙◌, subst, arith, append_assoc, length, length-append}
-use Rattle.wjs_store.specs.Meaning.{Meaning, View}
+use Rattle.wjs_store.specs.Meaning.{Meaning}
 use Rattle.wjs_io.specs.Streams.{Stream, Stops}
 use Rattle.wjs_content.specs.Worlds.{KnowsWorlds}
 use Rattle.wjs_meaning.specs.Deeds.{St}
 use Rattle.wjs_meaning.specs.Programs.{Ending}
 use Rattle.wjs_model.specs.declared.config.Config.{Config}
+use Rattle.wjs_model.specs.Outside.{Outside, alone}
 use Rattle.wjs_model.specs.Configurations.{rest, turns, Turned}
 use Rattle.wjs_model.specs.Soundness.{Sound}
 use Rattle.wjs_moves.specs.Taking.{Turns}
 use Rattle.wjs_moves.specs.Reaching.{own_view, Falls, turns_now}
-use Rattle.wjs_moves.proofs.Reaching.{turn_reaches, silent_steady}
+use Rattle.wjs_moves.proofs.Reaching.{turn_reaches}
 use Rattle.wjs_moves.proofs.Growing.{left_alike}
 use Rattle.wjs_machine.specs.Flushing.{after_output, GoesOut, Flushes}
 use Rattle.wjs_machine.specs.Runs.{IsPlain, run_of, output_of, Advances}
@@ -43,18 +44,17 @@ module _ {S : Type 0} (meaning : S → Meaning) (plain : IsPlain meaning) where
   -- a turn leaves what was left to do
   pub turn_run : (old new : Config S) → Sound meaning old → Turned meaning old new → (run_of meaning old ≡ run_of meaning new) × Falls meaning old new
   turn_run old new sound turned =
-      let steady = silent_steady meaning old (plain.silent old.heap.store) in
-      let r = turn_reaches meaning old new sound steady (plain.admits_own new.heap.store) turned in
+      let r = turn_reaches meaning old new sound (plain.admits_own new.heap.store) turned in
       let t = new.heap.texts in
-      let known : (v : View) → v ≡ own_view meaning old → KnowsWorlds old.heap.texts ((meaning old.heap.store).full v) = λ v e. subst (λ w. KnowsWorlds old.heap.texts ((meaning old.heap.store).full w)) (sym e) sound.base.marks in
-      let alike = left_alike meaning t (own_view meaning new) old sound r.0.stays.texts (known (own_view meaning new) r.0.stays.own) (steady t r.0.stays.texts) in (
-        ap (λ v. rest meaning old.heap.texts v old old.left) (sym r.0.stays.own) ∙ sym (alike.rest old.left) ∙ r.0.kept,
+      let known : (v : Outside) → v ≡ own_view meaning old → KnowsWorlds old.heap.texts ((meaning old.heap.store).full v.view) = λ v e. subst (λ (w : Outside). KnowsWorlds old.heap.texts ((meaning old.heap.store).full w.view)) (sym e) sound.base.marks in
+      let alike = left_alike meaning t (own_view meaning new) old sound r.0.stays.texts (known (own_view meaning new) (ap alone r.0.stays.own)) in (
+        ap (λ v. rest meaning old.heap.texts v old old.left) (sym (ap alone r.0.stays.own)) ∙ sym (alike.rest old.left) ∙ r.0.kept,
         r.1,
       )
 
   -- and the first world
   turn_world : (old new : Config S) → Sound meaning old → Turned meaning old new → new.world ≡ old.world
-  turn_world old new sound turned = (turn_reaches meaning old new sound (silent_steady meaning old (plain.silent old.heap.store)) (plain.admits_own new.heap.store) turned).0.stays.world
+  turn_world old new sound turned = (turn_reaches meaning old new sound (plain.admits_own new.heap.store) turned).0.stays.world
 
   -- output that goes out leaves it too
   pub out_run : (gone : List ℕ) (old new : Config S) → GoesOut gone old new → run_of meaning old ≡ after_output gone (run_of meaning new)

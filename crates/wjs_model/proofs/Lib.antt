@@ -1,3 +1,4 @@
+pub mod Beside
 pub mod Tops
 pub mod Starts
 pub mod Latest

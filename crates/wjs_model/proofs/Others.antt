@@ -276,6 +276,7 @@ module _ {S : Type 0} (c new : Config S) where
             near_slots = λ i s v q. (near_by s.object.owner (λ u a. ((kept u a).slots i s v q).0), near_value v (λ u a. ((kept u a).slots i s v q).1));
             frames = frames_listed c.frames b.frames (λ u a. (kept u a).frames);
             marks = b.marks;
+            told = b.told;
           }
 
       pub sound_listed : new ≡ listed → Sound meaning new

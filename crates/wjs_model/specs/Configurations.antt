@@ -1,9 +1,9 @@
--- What a configuration of the code means under a table of texts and a view of its store, and what a call on it keeps.
-use Rattle.std.specs.Prelude.{◌≡◌, ℕ, suc, ◌<◌, Bool, true, false, List, [], map as each, None, Some, is_some, unwrap_or, IsTrue}
+-- What a configuration of the code means under a table of texts and what stands outside it, and what a call on it keeps.
+use Rattle.std.specs.Prelude.{◌≡◌, ℕ, suc, ◌<◌, Bool, true, false, List, [], map as each, None, Some, is_some, unwrap_or}
 use Rattle.std.specs.FinMap as map
 use Rattle.wjs_base.specs.declared.ids.ObjId.{ObjId}
 use Rattle.wjs_base.specs.Text.{Table, Grows}
-use Rattle.wjs_store.specs.Meaning.{Meaning, View}
+use Rattle.wjs_store.specs.Meaning.{Meaning}
 use Rattle.wjs_arena.specs.Entries.{Entry}
 use Rattle.wjs_content.specs.Tables.{value_in, arena_in}
 use Rattle.wjs_content.specs.Worlds.{worlds_in, told_by, KnowsWorlds}
@@ -15,6 +15,7 @@ use Rattle.wjs_model.specs.declared.config.State.TheVariants as states
 use Rattle.wjs_model.specs.Units.{unit_in}
 use Rattle.wjs_model.specs.Contents.{Frame, Run, frame_in}
 use Rattle.wjs_model.specs.Rest.{rest_of, turns_of}
+use Rattle.wjs_model.specs.Outside.{Outside, Admits, beside}
 
 -- ---- what is left to do
 
@@ -39,11 +40,11 @@ module _ {S : Type 0} (meaning : S → Meaning) where
   abbrev pub run_in : Table → Config S → Run
   run_in texts c = record { trees = each (unit_in texts) c.units.items; global = c.global; owner = c.owner }
 
-  -- the worlds under the view, the objects, the output that has not gone out, and the actions that the store tells
-  abbrev pub state_in : Table → View → Config S → St
-  state_in texts view c = record {
-    full = worlds_in texts ((meaning c.heap.store).full view);
-    arena = arena_in texts c.heap.arena;
+  -- the worlds under the view, the objects with the further ones beside them, the output that has not gone out, and the actions that the store tells
+  abbrev pub state_in : Table → Outside → Config S → St
+  state_in texts v c = record {
+    full = worlds_in texts ((meaning c.heap.store).full v.view);
+    arena = beside (arena_in texts c.heap.arena) v.more;
     out = c.pending.items;
     done = unwrap_or (told_by texts (meaning c.heap.store).told) [];
   }
@@ -56,16 +57,16 @@ module _ {S : Type 0} (meaning : S → Meaning) where
   tells c = is_some (meaning c.heap.store).told
 
   -- the output still to come, the ending and the final state, with so many steps left; the actions in it are those that the store tells
-  abbrev pub rest : Table → View → Config S → ℕ → Ending × St
-  rest texts view c n = seen (tells c) (rest_by texts c.state (run_in texts c) (frames_in texts c) (state_in texts view c) n)
+  abbrev pub rest : Table → Outside → Config S → ℕ → Ending × St
+  rest texts v c n = seen (tells c) (rest_by texts c.state (run_in texts c) (frames_in texts c) (state_in texts v c) n)
 
   -- the turns before the next step that is due, or the end
-  abbrev pub turns : Table → View → Config S → ℕ
-  turns texts view c = turns_by c.state (run_in texts c) (frames_in texts c) (state_in texts view c)
+  abbrev pub turns : Table → Outside → Config S → ℕ
+  turns texts v c = turns_by c.state (run_in texts c) (frames_in texts c) (state_in texts v c)
 
   -- ---- what a call on a configuration keeps
 
-  -- the units, the global object, the world, the owner and who is kept apart; the numbers of texts; the objects, to which the owner's may be added; the store's own view and its surroundings
+  -- the units, the global object, the world, the owner and who is kept apart; the numbers of texts; the objects, to which the owner's may be added; the store's own view and its surroundings; what is admitted outside was admitted before
   pub record Stays (old new : Config S) : Type 0 where
     pub units : new.units ≡ old.units
     pub global : new.global ≡ old.global
@@ -77,18 +78,18 @@ module _ {S : Type 0} (meaning : S → Meaning) where
     pub made : (o : ObjId) (e : Entry) → map.get old.heap.arena o ≡ None → map.get new.heap.arena o ≡ Some e → o.owner ≡ old.owner
     pub own : (meaning new.heap.store).own ≡ (meaning old.heap.store).own
     pub around : (meaning new.heap.store).around ≡ (meaning old.heap.store).around
-    pub narrows : (v : View) → IsTrue ((meaning new.heap.store).admits v) → IsTrue ((meaning old.heap.store).admits v)
+    pub narrows : (v : Outside) → Admits meaning new v → Admits meaning old v
 
-  -- under each view that is admitted afterwards and whose slots the old texts know, what is left to do with some steps is what was left with others; in the new texts, and so in all later ones
+  -- under each view that is admitted afterwards and whose slots the old texts know, and with any further objects of other owners, what is left to do with some steps is what was left with others; in the new texts, and so in all later ones
   abbrev pub RestIs : Config S → Config S → (ℕ → ℕ) → Type 0
-  RestIs old new before = let t = new.heap.texts in (v : View) → IsTrue ((meaning new.heap.store).admits v) → KnowsWorlds old.heap.texts ((meaning old.heap.store).full v) → (n : ℕ) → rest t v old (before n) ≡ rest t v new n
+  RestIs old new before = let t = new.heap.texts in (v : Outside) → Admits meaning new v → KnowsWorlds old.heap.texts ((meaning old.heap.store).full v.view) → (n : ℕ) → rest t v old (before n) ≡ rest t v new n
 
-  -- a turn that takes no step: under each such view there are fewer turns left before the next
+  -- a turn that takes no step: under each such view, and with such objects, there are fewer turns left before the next
   pub record Quiet (old new : Config S) : Type 0 where
     pub stays : Stays old new
     pub left : new.left ≡ old.left
     pub kept : RestIs old new (λ n. n)
-    pub falls : let t = new.heap.texts in (v : View) → IsTrue ((meaning new.heap.store).admits v) → KnowsWorlds old.heap.texts ((meaning old.heap.store).full v) → turns t v new < turns t v old
+    pub falls : let t = new.heap.texts in (v : Outside) → Admits meaning new v → KnowsWorlds old.heap.texts ((meaning old.heap.store).full v.view) → turns t v new < turns t v old
     pub alive : ¬ (new.state ≡ states.StepsSpent)
 
   -- a turn that takes a step
@@ -102,7 +103,7 @@ module _ {S : Type 0} (meaning : S → Meaning) where
   pub record Stopped (old new : Config S) : Type 0 where
     pub left : old.left ≡ 0
     pub same : new ≡ record old { state = states.StepsSpent }
-    pub due : let t = old.heap.texts in (v : View) → rest t v old 0 ≡ (StepsSpent, state_in t v old)
+    pub due : let t = old.heap.texts in (v : Outside) → rest t v old 0 ≡ (StepsSpent, state_in t v old)
 
   -- what each turn does
   pub data Turned (old new : Config S) : Type 0 where

@@ -6,6 +6,7 @@ pub mod Contents
 pub mod Waiting
 pub mod Rest
 pub mod Laws
+pub mod Outside
 pub mod Configurations
 pub mod Apart
 pub mod Soundness

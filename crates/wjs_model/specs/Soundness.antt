@@ -16,7 +16,7 @@ use Rattle.wjs_store.specs.State.{has_world}
 use Rattle.wjs_store.specs.Meaning.{Meaning, worlds}
 use Rattle.wjs_arena.specs.Entries.{Entry, has}
 use Rattle.wjs_content.specs.Worlds.{KnowsWorlds}
-use Rattle.wjs_props.specs.Heap.{IsHeap}
+use Rattle.wjs_props.specs.Heap.{IsHeap, KnowsTold}
 use Rattle.wjs_props.specs.Means.{parts}
 use Rattle.wjs_meaning.specs.Builtins.{builtin}
 use Rattle.wjs_model.specs.declared.frame.Reference.{Reference}
@@ -128,8 +128,9 @@ module _ {S : Type 0} (meaning : S → Meaning) where
     pub near_objects : (o : ObjId) (e : Entry) → map.get c.heap.arena o ≡ Some e → IsNear c.apart.items o → NamesNear c.apart.items e.object
     pub near_slots : NearSlots c.apart.items (worlds (meaning c.heap.store))
     pub frames : All (IsThere c) c.frames
-    -- the texts that marks name are there
+    -- the texts that marks name are there, and those that told actions and their answers name
     pub marks : KnowsWorlds c.heap.texts (worlds (meaning c.heap.store))
+    pub told : KnowsTold c.heap.texts (meaning c.heap.store).told
 
   pub record Sound (c : Config S) : Type 0 where
     pub base : Base c

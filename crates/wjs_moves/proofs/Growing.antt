@@ -6,12 +6,12 @@ use Rattle.wjs_base.specs.declared.values.Value.{Value}
 use Rattle.wjs_base.specs.declared.values.Value.TheVariants as values
 use Rattle.wjs_base.specs.Spelling.{IsName}
 use Rattle.wjs_base.specs.Text.{Table, IsTable, Grows}
-use Rattle.wjs_store.specs.Meaning.{Meaning, View}
+use Rattle.wjs_store.specs.Meaning.{Meaning}
 use Rattle.wjs_arena.specs.declared.object.Object.{Object}
 use Rattle.wjs_arena.specs.Entries.{Objects}
 use Rattle.wjs_rename.specs.Names.{Holds}
 use Rattle.wjs_content.specs.Tables.{knows_value, KnowsUnder, KnowsObject, KnowsArena}
-use Rattle.wjs_content.specs.Worlds.{told_by, KnowsWorlds}
+use Rattle.wjs_content.specs.Worlds.{KnowsWorlds}
 use Rattle.wjs_content.proofs.Known.{text_known, name_known}
 use Rattle.wjs_content.proofs.Growth.{worlds_grow}
 use Rattle.wjs_content.proofs.ArenaGrowth.{arena_grows}
@@ -25,6 +25,7 @@ use Rattle.wjs_model.specs.Contents.{Frame, Run, frame_in}
 use Rattle.wjs_model.specs.Units.{unit_in}
 use Rattle.wjs_model.specs.Texts.{KnowsUnit}
 use Rattle.wjs_model.specs.Soundness.{HasThrown, IsThere, Sound}
+use Rattle.wjs_model.specs.Outside.{Outside, beside}
 use Rattle.wjs_model.specs.Configurations.{seen, tells, run_in, state_in, frames_in, rest_by, turns_by}
 use Rattle.wjs_moves.specs.Growing.{LeftAlike}
 use Rattle.wjs_moves.proofs.Lists.{each_alike}
@@ -55,7 +56,7 @@ module _ (texts : Table) (arena : Objects) (table : IsTable texts) where
 pub arena_known : (h : Parts) → IsHeap h → KnowsArena h.texts h.arena
 arena_known h k o e at = object_known h.texts h.arena k.table e.object (k.objects o e at)
 
-module _ {S : Type 0} (meaning : S → Meaning) (t : Table) (v : View) (c : Config S) (s : Sound meaning c) (g : Grows c.heap.texts t) (k : KnowsWorlds c.heap.texts ((meaning c.heap.store).full v)) where
+module _ {S : Type 0} (meaning : S → Meaning) (t : Table) (v : Outside) (c : Config S) (s : Sound meaning c) (g : Grows c.heap.texts t) (k : KnowsWorlds c.heap.texts ((meaning c.heap.store).full v.view)) where
   run_grows : run_in meaning t c ≡ run_in meaning c.heap.texts c
   run_grows =
       let trees = each_alike (unit_in t) (unit_in c.heap.texts) (KnowsUnit c.heap.texts) (unit_grows c.heap.texts t g) c.units.items s.base.units in
@@ -64,12 +65,12 @@ module _ {S : Type 0} (meaning : S → Meaning) (t : Table) (v : View) (c : Conf
   frames_grow : frames_in meaning t c ≡ frames_in meaning c.heap.texts c
   frames_grow = each_alike (frame_in t) (frame_in c.heap.texts) (IsThere meaning c) (frame_grows c t g meaning) c.frames s.base.frames
 
-  -- but for the actions
-  state_grows : told_by t (meaning c.heap.store).told ≡ told_by c.heap.texts (meaning c.heap.store).told → state_in meaning t v c ≡ state_in meaning c.heap.texts v c
-  state_grows h =
-      let full = (worlds_grow c.heap.texts t g ((meaning c.heap.store).full v) k).1 in
+  state_grows : state_in meaning t v c ≡ state_in meaning c.heap.texts v c
+  state_grows =
+      let h = s.base.told t g in
+      let full = (worlds_grow c.heap.texts t g ((meaning c.heap.store).full v.view) k).1 in
       let arena = (arena_grows c.heap.texts t g c.heap.arena (arena_known _ s.base.heap)).1 in
-      λ i. record { full = full i; arena = arena i; out = c.pending.items; done = unwrap_or (h i) [] }
+      λ i. record { full = full i; arena = beside (arena i) v.more; out = c.pending.items; done = unwrap_or (h i) [] }
 
   rest_grows : (q : State) → HasThrown c q → (run : Run) (fs : List Frame) (st : St) (n : ℕ) → rest_by t q run fs st n ≡ rest_by c.heap.texts q run fs st n
   rest_grows states.Running h run fs st n = refl
@@ -77,11 +78,11 @@ module _ {S : Type 0} (meaning : S → Meaning) (t : Table) (v : View) (c : Conf
   rest_grows (states.Threw x) h run fs st n = ap (λ e. (Threw e, st)) (value_grows c t g x h)
   rest_grows states.StepsSpent h run fs st n = refl
 
-  pub left_alike : told_by t (meaning c.heap.store).told ≡ told_by c.heap.texts (meaning c.heap.store).told → LeftAlike meaning t v c
-  left_alike h = record {
+  pub left_alike : LeftAlike meaning t v c
+  left_alike = record {
     rest = λ n.
         ap (seen (tells meaning c)) (
         rest_grows c.state s.thrown (run_in meaning t c) (frames_in meaning t c) (state_in meaning t v c) n
-        ∙ (λ i. rest_by c.heap.texts c.state (run_grows i) (frames_grow i) (state_grows h i) n));
-    turns = λ i. turns_by c.state (run_grows i) (frames_grow i) (state_grows h i);
+        ∙ (λ i. rest_by c.heap.texts c.state (run_grows i) (frames_grow i) (state_grows i) n));
+    turns = λ i. turns_by c.state (run_grows i) (frames_grow i) (state_grows i);
   }

@@ -1,16 +1,18 @@
 -- Deeds that come to the same in fewer turns are followed by what those are followed by.
-use Rattle.std.proofs.Common.{ℕ, suc, ◌+◌, ◌≤◌, refl, ap, ◌∙◌, arith}
+use Rattle.std.proofs.Common.{◌≡◌, ℕ, suc, ◌+◌, ◌≤◌, refl, sym, ap, ◌∙◌, subst, arith}
 use Rattle.std.specs.Prelude.{Result, OnOk, Ok, Err}
 use Rattle.wjs_base.specs.declared.ids.OutOfMemory.{OutOfMemory}
 use Rattle.wjs_base.specs.declared.ids.WorldId.{WorldId}
 use Rattle.wjs_store.specs.Meaning.{Meaning}
 use Rattle.wjs_content.specs.Plans.{Plan, Gives, Reads, Writes, Lists}
-use Rattle.wjs_content.specs.Tables.{arena_in}
+use Rattle.wjs_content.specs.Objects.{Arena}
 use Rattle.wjs_meaning.specs.Deeds.{Completion, Act, Ret, Sub, Do, Look, Deed, Answer, Ends, interp, then_do, answer_of, state_after, carry_out}
 use Rattle.wjs_meaning.specs.Programs.{eval, Done, run_next}
 use Rattle.wjs_model.specs.declared.config.Config.{Config}
-use Rattle.wjs_model.specs.Rest.{under, turns_act, turns_under}
-use Rattle.wjs_model.specs.Configurations.{seen, tells, run_in, state_in, frames_in}
+use Rattle.wjs_model.specs.Rest.{under, turns_act, turns_under, turns_over}
+use Rattle.wjs_model.specs.Outside.{Outside, Admits, Sees}
+use Rattle.wjs_model.specs.Configurations.{seen, tells, run_in, state_in, frames_in, turns}
+use Rattle.wjs_moves.specs.Keeping.{rest_with}
 use Rattle.wjs_moves.specs.Following.{Follows}
 use Rattle.wjs_moves.specs.Shortening.{Shortens}
 
@@ -94,12 +96,23 @@ module _ {S : Type 0} (meaning : S → Meaning) where
   pub follows_ret : (c : Completion) (go : Completion → Act) (old new : Config S) (r : Result (Unit {0}) OutOfMemory) → OnOk r (Follows meaning (go c) old new) → OnOk r (Follows meaning (Sub (Ret c) go) old new)
   follows_ret c go old new r k = follows_shorter (Sub (Ret c) go) (go c) old new r (shorten_ret c go) k
 
-  look_follows : (old new : Config S) (go : Answer Look → Act) → Follows meaning (go (arena_in new.heap.texts old.heap.arena)) old new → Follows meaning (Do Look go) old new
-  look_follows old new go f = record {
-    keeps = record { stays = f.keeps.stays; left = f.keeps.left; alive = f.keeps.alive; kept = f.keeps.kept; falls = f.keeps.falls };
-    sound = f.sound;
-  }
+  look_follows : (old new : Config S) (go : Arena → Act) (act : Act) → ((arena : Arena) → Sees meaning old new.heap.texts arena → go arena ≡ act) → Follows meaning act old new → Follows meaning (Do Look go) old new
+  look_follows old new go act h f =
+      let t = new.heap.texts in
+      let run = run_in meaning t old in
+      let fs = frames_in meaning t old in
+      let seen_as : (v : Outside) → Admits meaning new v → go (state_in meaning t v old).arena ≡ act = λ v a. h (state_in meaning t v old).arena (record { more = v.more; further = (f.keeps.stays.narrows v a).further; is = refl }) in
+      record {
+        keeps = record {
+          stays = f.keeps.stays;
+          left = f.keeps.left;
+          alive = f.keeps.alive;
+          kept = λ v a k n. ap (λ q. seen (tells meaning old) (rest_with run q fs (state_in meaning t v old) n)) (seen_as v a) ∙ f.keeps.kept v a k n;
+          falls = λ v a k. subst (λ q. turns meaning t v new + 1 ≤ suc (turns_over run q fs (state_in meaning t v old))) (sym (seen_as v a)) (f.keeps.falls v a k);
+        };
+        sound = f.sound;
+      }
 
   -- a look at the objects
-  pub follows_look : (go : Answer Look → Act) (old new : Config S) (r : Result (Unit {0}) OutOfMemory) → OnOk r (Follows meaning (go (arena_in new.heap.texts old.heap.arena)) old new) → OnOk r (Follows meaning (Do Look go) old new)
-  follows_look go old new r k = on_ok r (look_follows old new go) k
+  pub follows_look : (go : Arena → Act) (act : Act) (old new : Config S) (r : Result (Unit {0}) OutOfMemory) → ((arena : Arena) → Sees meaning old new.heap.texts arena → go arena ≡ act) → OnOk r (Follows meaning act old new) → OnOk r (Follows meaning (Do Look go) old new)
+  follows_look go act old new r h k = on_ok r (look_follows old new go act h) k

@@ -41,6 +41,7 @@ module _ {S : Type 0} (meaning : S → Meaning) where
     near_slots = b.near_slots;
     frames = All-weaker (IsThere meaning old) (IsThere meaning (record old { frames = frames; left = left; state = state })) (λ f. there_framed old frames left state f) frames h;
     marks = b.marks;
+    told = b.told;
   }
 
   -- with one more on top

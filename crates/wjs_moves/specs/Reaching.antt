@@ -1,24 +1,19 @@
 -- Turns one after another, under the store's own view.
-use Rattle.std.specs.Prelude.{◌≡◌, ℕ, ◌<◌, ◌⊎◌, None, IsTrue}
-use Rattle.wjs_base.specs.Text.{Table, Grows}
-use Rattle.wjs_store.specs.Meaning.{Meaning, View}
-use Rattle.wjs_content.specs.Worlds.{told_by}
+use Rattle.std.specs.Prelude.{◌≡◌, ℕ, ◌<◌, ◌⊎◌, IsTrue}
+use Rattle.wjs_store.specs.Meaning.{Meaning}
 use Rattle.wjs_model.specs.declared.config.Config.{Config}
 use Rattle.wjs_model.specs.declared.config.State.TheVariants as states
 use Rattle.wjs_model.specs.Soundness.{Sound}
+use Rattle.wjs_model.specs.Outside.{Outside, alone}
 use Rattle.wjs_model.specs.Configurations.{rest, turns, Stays, Turned}
 
 module _ {S : Type 0} (meaning : S → Meaning) where
-  -- the store's own view
-  abbrev pub own_view : Config S → View
-  own_view c = (meaning c.heap.store).own
+  -- the store's own view, and no further objects
+  abbrev pub own_view : Config S → Outside
+  own_view c = alone (meaning c.heap.store).own
 
   abbrev pub AdmitsOwn : Config S → Type 0
-  AdmitsOwn c = IsTrue ((meaning c.heap.store).admits (own_view c))
-
-  -- the actions that were told mean the same under each table that has grown from the texts; so it is where the store tells none
-  abbrev pub Steady : Config S → Type 0
-  Steady c = (t : Table) → Grows c.heap.texts t → told_by t (meaning c.heap.store).told ≡ told_by c.heap.texts (meaning c.heap.store).told
+  AdmitsOwn c = IsTrue ((meaning c.heap.store).admits (meaning c.heap.store).own)
 
   -- what was left to do with the steps that were left is what is left with those that are
   pub record Reaches (old new : Config S) : Type 0 where
@@ -37,12 +32,8 @@ module _ {S : Type 0} (meaning : S → Meaning) where
 
   -- a turn reaches what it leaves, and takes less than for ever
   abbrev pub TurnsReach : Type 0
-  TurnsReach = (old new : Config S) → Sound meaning old → Steady old → AdmitsOwn new → Turned meaning old new → Reaches old new × Falls old new
+  TurnsReach = (old new : Config S) → Sound meaning old → AdmitsOwn new → Turned meaning old new → Reaches old new × Falls old new
 
   -- what is reached from what was reached is reached
   abbrev pub ReachedIsReached : Type 0
-  ReachedIsReached = (old mid new : Config S) → Sound meaning old → Steady old → Sound meaning mid → Steady mid → Reaches old mid → Reaches mid new → Reaches old new
-
-  -- a store that tells nothing is steady
-  abbrev pub SilentIsSteady : Type 0
-  SilentIsSteady = (c : Config S) → (meaning c.heap.store).told ≡ None → Steady c
+  ReachedIsReached = (old mid new : Config S) → Sound meaning old → Sound meaning mid → Reaches old mid → Reaches mid new → Reaches old new

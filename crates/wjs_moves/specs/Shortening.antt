@@ -3,11 +3,11 @@ use Rattle.std.specs.Prelude.{◌≡◌, ℕ, ◌≤◌, Result, OnOk}
 use Rattle.wjs_base.specs.declared.ids.OutOfMemory.{OutOfMemory}
 use Rattle.wjs_store.specs.Meaning.{Meaning}
 use Rattle.wjs_content.specs.Objects.{Arena}
-use Rattle.wjs_content.specs.Tables.{arena_in}
 use Rattle.wjs_meaning.specs.Deeds.{St, Completion, Act, Ret, Sub, Do, Look, interp}
 use Rattle.wjs_meaning.specs.Programs.{eval}
 use Rattle.wjs_model.specs.declared.config.Config.{Config}
 use Rattle.wjs_model.specs.Rest.{Count, turns_act}
+use Rattle.wjs_model.specs.Outside.{Sees}
 use Rattle.wjs_moves.specs.Following.{Follows}
 
 -- the same outcome from each state, and no more turns
@@ -25,6 +25,6 @@ module _ {S : Type 0} (meaning : S → Meaning) where
   abbrev pub ShorterFollow : Type 0
   ShorterFollow = (long short : Act) (old new : Config S) (r : Result (Unit {0}) OutOfMemory) → Shortens long short → OnOk r (Follows meaning short old new) → OnOk r (Follows meaning long old new)
 
-  -- a look finds the objects that are there
+  -- a look after which the same deeds come whatever further objects it finds beside those that are there
   abbrev pub LooksFollow : Type 0
-  LooksFollow = (go : Arena → Act) (old new : Config S) (r : Result (Unit {0}) OutOfMemory) → OnOk r (Follows meaning (go (arena_in new.heap.texts old.heap.arena)) old new) → OnOk r (Follows meaning (Do Look go) old new)
+  LooksFollow = (go : Arena → Act) (act : Act) (old new : Config S) (r : Result (Unit {0}) OutOfMemory) → ((arena : Arena) → Sees meaning old new.heap.texts arena → go arena ≡ act) → OnOk r (Follows meaning act old new) → OnOk r (Follows meaning (Do Look go) old new)

@@ -1,7 +1,7 @@
 //! Laws of what is followed and of what is left to do, each the contract of a function that does nothing.
 ghost use Rattle.wjs_moves.specs.Shortening.{NestedEndsShorten, ShorterFollow, LooksFollow};
 ghost use Rattle.wjs_moves.specs.Growing.{MoreTextsChangeNothing};
-ghost use Rattle.wjs_moves.specs.Reaching.{TurnsReach, ReachedIsReached, SilentIsSteady};
+ghost use Rattle.wjs_moves.specs.Reaching.{TurnsReach, ReachedIsReached};
 
 use wjs_store::WorldStore;
 
@@ -35,9 +35,4 @@ pub fn turns_reach<S: WorldStore>()
 /// Turns one after another keep together what each of them keeps.
 pub fn reached_is_reached<S: WorldStore>()
     ensures { ReachedIsReached S.meaning }
-{}
-
-/// Of a store that tells no actions those that it told mean the same under every table.
-pub fn silent_is_steady<S: WorldStore>()
-    ensures { SilentIsSteady S.meaning }
 {}

@@ -3,6 +3,7 @@ use Rattle.std.proofs.Common.{◌≡◌, ℕ, ◌∷◌, [], Bool, true, List, O
 use Rattle.wjs_base.specs.declared.ids.ObjId.{ObjId}
 use Rattle.wjs_base.specs.declared.ids.WorldId.{WorldId}
 use Rattle.wjs_base.specs.declared.values.Content.{Content}
+use Rattle.wjs_base.specs.declared.values.Content.TheVariants as contents
 use Rattle.wjs_base.specs.declared.values.Name.{Name}
 use Rattle.wjs_base.specs.declared.values.Slot.{Slot}
 use Rattle.wjs_base.specs.declared.values.Value.{Value}
@@ -22,7 +23,7 @@ use Rattle.wjs_rename.proofs.Sorted.{slots_ascend}
 use Rattle.wjs_arena.specs.Entries.{Objects}
 use Rattle.wjs_content.specs.Names as content
 use Rattle.wjs_content.specs.Values as values
-use Rattle.wjs_content.specs.Plans.{Plan, Gives, Reads, Writes, Lists, Heard, Sprouted, Committed, heard, told_of}
+use Rattle.wjs_content.specs.Plans.{Plan, Gives, Reads, Writes, Lists, Heard, Sprouted, Committed, heard, told_of, actions_of}
 use Rattle.wjs_content.specs.Tables.{slot_in, content_in, knows_slot, knows_value}
 use Rattle.wjs_content.specs.Telling.{names_of}
 use Rattle.wjs_content.specs.Worlds.{listing, worlds_in, act_in, heard_in, told_by, KnowsWorlds, KnowsAct}
@@ -75,12 +76,19 @@ module _ (h : Parts) (new : Meaning) (heap : IsHeap h) (sound : IsSound new) whe
 
   did : {A : Type 0} (w : WorldId) (a : PlainAct) (answer : PlainReply) (plan : Table → Plan A) (shows : Table → A) → Does h.store a answer new
       → ((t : Table) → Grows h.texts t → (v : View) → IsTrue (new.admits v) → KnowsWorlds t (h.store.full v) → Carries t w (plan t) (shows t) h.store new v)
+      → ((t : Table) → Grows h.texts t → plan t ≡ plan h.texts)
       → Within IsHeld (after (worlds h.store) a)
       → Performs w plan shows h (record { texts = h.texts; arena = h.arena; store = new })
-  did w a answer plan shows does carries slots = record {
+  did w a answer plan shows does carries still slots = record {
     narrows = does.narrows;
     carries = λ t g v ok k. carries t g v ok (worlds_grow h.texts t g (h.store.full v) k).0;
     marks = λ k. (carries h.texts (grows_itself h.texts) new.own sound.admits_own (own_known a answer does k)).knows;
+    told = λ k d t g.
+        let known = own_known a answer does k in
+        let grown = worlds_grow h.texts t g (h.store.full new.own) known in
+        (carries t g new.own sound.admits_own grown.0).told
+        ∙ (λ i. tell (actions_of (still t g i) w (grown.1 i)) (d t g i))
+        ∙ sym (carries h.texts (grows_itself h.texts) new.own sound.admits_own known).told;
     texts = grows_itself h.texts;
     arena = refl;
     own = does.own;
@@ -90,10 +98,19 @@ module _ (h : Parts) (new : Meaning) (heap : IsHeap h) (sound : IsSound new) whe
     spent = does.spent;
   }
 
+  -- what names what is there is the same under a later table
+  slot_still : (t : Table) → Grows h.texts t → (s : Slot) → HasSlot h.texts h.arena s → slot_in t s ≡ slot_in h.texts s
+  slot_still t g s has = (slot_grows h.texts t g s (name_known h.texts heap.table s.name has.name)).1
+
+  content_still : (t : Table) → Grows h.texts t → (c : Content) → HasContent h.texts h.arena (content_of c) → content_in t c ≡ content_in h.texts c
+  content_still t g contents.Absent has = refl
+  content_still t g (contents.Present v) has = ap (λ x. Some x) (value_grows h.texts t g v (value_knows h.texts h.arena v heap.table has)).1
+
   pub did_read : (w : WorldId) (s : Slot) (c : Content) → HasSlot h.texts h.arena s → Does h.store (read w s) (found (content_of c)) new
       → Performs w (λ t. Reads (slot_in t s) Gives) (λ t. content_in t c) h (record { texts = h.texts; arena = h.arena; store = new })
   did_read w s c has does = did w (read w s) (found (content_of c)) _ _ does
       (λ t g v ok k. carries_read t w s c h.store new does v ok k (slot_knows h.texts t h.arena s heap.table g has))
+      (λ t g. ap (λ (x : content.Slot). Reads x Gives) (slot_still t g s has))
       (within_read IsHeld (worlds h.store) w s heap.slots)
 
   -- what a read found is there
@@ -111,12 +128,14 @@ module _ (h : Parts) (new : Meaning) (heap : IsHeap h) (sound : IsSound new) whe
       → Performs w (λ t. Writes (slot_in t s) (content_in t c) (Gives nothing)) (λ t. nothing) h (record { texts = h.texts; arena = h.arena; store = new })
   did_write w s c has there does = did w (write w s (content_of c)) wrote _ _ does
       (λ t g v ok k. carries_write t w s c h.store new does v ok k (slot_knows h.texts t h.arena s heap.table g has) (content_knows h.texts t h.arena (content_of c) heap.table g there))
+      (λ t g i. Writes (slot_still t g s has i) (content_still t g c there i) (Gives nothing))
       (within_write IsHeld (worlds h.store) w s (content_of c) (λ v e. (has, subst (HasContent h.texts h.arena) e there)) heap.slots)
 
   pub did_list : (w : WorldId) (o : ObjId) (names : List Name) → Does h.store (list w o) (listed (slots_of o names)) new
       → Performs w (λ t. Lists o Gives) (λ t. listing t o names) h (record { texts = h.texts; arena = h.arena; store = new })
   did_list w o names does = did w (list w o) (listed (slots_of o names)) _ _ does
       (λ t g v ok k. carries_list t w o names h.store new does v ok k)
+      (λ t g. refl)
       (within_list IsHeld (worlds h.store) w o heap.slots)
 
   -- what is listed is there, ascending
@@ -141,6 +160,12 @@ module _ (h : Parts) (new : Meaning) (heap : IsHeap h) (sound : IsSound new) whe
     narrows = does.narrows;
     acts = λ t g v ok k. by t v ok (worlds_grow h.texts t g (h.store.full v) k).0;
     marks = λ k. knows_so h.texts h.store a answer new does new.own sound.admits_own (own_known a answer does k) (known h.texts);
+    told = λ k d t g.
+        let seen = own_known a answer does k in
+        let grown = worlds_grow h.texts t g (h.store.full new.own) seen in
+        (by t new.own sound.admits_own grown.0).told
+        ∙ (λ i. tell (told_of (grown.1 i) b ∷ []) (d t g i))
+        ∙ sym (by h.texts new.own sound.admits_own seen).told;
     texts = refl;
     arena = refl;
     own = does.own;

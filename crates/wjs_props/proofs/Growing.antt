@@ -69,6 +69,7 @@ module _ (h : Parts) (new : Table) (table : IsTable new) (g : Grows h.texts new)
     narrows = f.narrows;
     carries = λ t gt v ok k. f.carries t gt v ok (worlds_grow h.texts new g (h.store.full v) k).0;
     marks = λ k. f.marks (worlds_grow h.texts new g (worlds h.store) k).0;
+    told = λ k d. f.told (worlds_grow h.texts new g (worlds h.store) k).0 (λ t gt. d t (grows_twice h.texts new t g gt) ∙ sym (d new g));
     texts = grows_twice h.texts new after.texts g f.texts;
     arena = f.arena;
     own = f.own;

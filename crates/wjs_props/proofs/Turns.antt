@@ -20,6 +20,7 @@ performs_nothing w a h heap = record {
   narrows = λ v ok. ok;
   carries = λ t g v ok k. carries_nothing t w (a t) h.store v (worlds_grow h.texts t g (h.store.full v) k).0;
   marks = λ k. k;
+  told = λ k d. d;
   texts = grows_itself h.texts;
   arena = refl;
   own = refl;
@@ -39,6 +40,7 @@ performs_then w p go a b old mid new f s = record {
       (f.carries t (grows_twice mid.texts new.texts t s.texts g) v (s.narrows v ok) k)
       (s.carries t g v ok (f.carries mid.texts (grows_itself mid.texts) v (s.narrows v ok) k).knows);
   marks = λ k. s.marks (f.marks k);
+  told = λ k d. s.told (f.marks k) (f.told k d);
   texts = grows_twice old.texts mid.texts new.texts f.texts s.texts;
   arena = s.arena ∙ f.arena;
   own = s.own ∙ f.own;
@@ -54,6 +56,7 @@ performs_same w p q a b old new e d f = record {
   narrows = f.narrows;
   carries = λ t g v ok k. subst (λ x. Carries t w (q t) x old.store new.store v) (d t g) (subst (λ x. Carries t w x (a t) old.store new.store v) (e t g) (f.carries t g v ok k));
   marks = f.marks;
+  told = f.told;
   texts = f.texts;
   arena = f.arena;
   own = f.own;

@@ -14,7 +14,7 @@ use Rattle.wjs_content.specs.Values.{Value}
 use Rattle.wjs_content.specs.Plans.{Heard, heard, told_of}
 use Rattle.wjs_content.specs.Worlds.{worlds_in, told_by, KnowsWorlds}
 use Rattle.wjs_content.specs.Carried.{tell}
-use Rattle.wjs_props.specs.Heap.{Parts, IsHeap}
+use Rattle.wjs_props.specs.Heap.{Parts, IsHeap, KnowsTold}
 
 -- a store went from one meaning to another by an action, under a view and in the contents that the table gives
 pub record ActsBy (texts : Table) (act : Act Slot Value) (answer : Heard) (old new : Meaning) (v : View) : Type 0 where
@@ -30,6 +30,7 @@ pub record Acts (act : Act Slot Value) (answer : Heard) (old new : Parts) : Type
   pub narrows : (v : View) → IsTrue (new.store.admits v) → IsTrue (old.store.admits v)
   pub acts : (t : Table) → Grows new.texts t → (v : View) → IsTrue (new.store.admits v) → KnowsWorlds old.texts (old.store.full v) → ActsBy t act answer old.store new.store v
   pub marks : KnowsWorlds old.texts (worlds old.store) → KnowsWorlds new.texts (worlds new.store)
+  pub told : KnowsWorlds old.texts (worlds old.store) → KnowsTold old.texts old.store.told → KnowsTold new.texts new.store.told
   pub texts : new.texts ≡ old.texts
   pub arena : new.arena ≡ old.arena
   pub own : new.store.own ≡ old.store.own

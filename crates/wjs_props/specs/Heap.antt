@@ -1,5 +1,5 @@
 -- A heap: texts, objects and a store of worlds. Each text and object is there that a present slot or its content, under the store's own view, or an object names.
-use Rattle.std.specs.Prelude.{◌≡◌, Option, None, Some, IsTrue}
+use Rattle.std.specs.Prelude.{◌≡◌, List, Option, None, Some, IsTrue}
 use Rattle.std.specs.FinMap as map
 use Rattle.wjs_base.specs.declared.ids.ObjId.{ObjId}
 use Rattle.wjs_base.specs.declared.ids.WorldId.{WorldId}
@@ -9,12 +9,12 @@ use Rattle.wjs_base.specs.declared.values.Value.TheVariants as value
 use Rattle.wjs_base.specs.Spelling.{IsName}
 use Rattle.wjs_base.specs.Text.{Table, Has, IsTable, Grows}
 use Rattle.wjs_store.specs.State.{has_world, content_at}
-use Rattle.wjs_store.specs.Meaning.{Meaning, View, worlds}
+use Rattle.wjs_store.specs.Meaning.{Meaning, View, PlainAct, PlainReply, worlds}
 use Rattle.wjs_arena.specs.declared.object.Object.{Object}
 use Rattle.wjs_arena.specs.Entries.{Objects, Entry, IsArena, has}
 use Rattle.wjs_rename.specs.Names.{Holds}
 use Rattle.wjs_content.specs.Plans.{Plan}
-use Rattle.wjs_content.specs.Worlds.{KnowsWorlds}
+use Rattle.wjs_content.specs.Worlds.{told_by, KnowsWorlds}
 use Rattle.wjs_content.specs.Carried.{Carries}
 
 -- what a heap means: its texts, its objects, and what its store means
@@ -52,12 +52,18 @@ pub record IsHeap (h : Parts) : Type 0 where
   pub objects : (o : ObjId) (e : Entry) → map.get h.arena o ≡ Some e → HasNamed h.texts h.arena e.object
   pub slots : (i : WorldId) (s : Slot) (v : Value) → content_at (worlds h.store) i s ≡ Some v → HasSlot h.texts h.arena s × HasValue h.texts h.arena v
 
+-- the texts that the told actions and their answers name are there: under each table that has grown from the texts they are the same
+abbrev pub KnowsTold : Table → Option (List (PlainAct × PlainReply)) → Type 0
+KnowsTold texts told = (t : Table) → Grows texts t → told_by t told ≡ told_by texts told
+
 -- a call did in a world what the plan asks, and gave its answer: in the contents that the table gives or any table that has grown from it, and under each view that is admitted afterwards and whose slots the table knows
 pub record Performs {A : Type 0} (w : WorldId) (plan : Table → Plan A) (answer : Table → A) (old new : Parts) : Type 0 where
   pub narrows : (v : View) → IsTrue (new.store.admits v) → IsTrue (old.store.admits v)
   pub carries : (t : Table) → Grows new.texts t → (v : View) → IsTrue (new.store.admits v) → KnowsWorlds old.texts (old.store.full v) → Carries t w (plan t) (answer t) old.store new.store v
   -- where the table knows what the worlds and their marks name, it does so afterwards
   pub marks : KnowsWorlds old.texts (worlds old.store) → KnowsWorlds new.texts (worlds new.store)
+  -- and where the texts of the told actions are there, they are afterwards
+  pub told : KnowsWorlds old.texts (worlds old.store) → KnowsTold old.texts old.store.told → KnowsTold new.texts new.store.told
   -- texts keep their numbers
   pub texts : Grows old.texts new.texts
   -- objects, the store's own view and its surroundings are as before

@@ -1,6 +1,6 @@
 -- The first heap is what the meaning has before the first step.
-use Rattle.std.proofs.Common.{◌≡◌, ℕ, zero, suc, ◌<◌, true, false, List, [], ◌∷◌, ◌++◌, None, Some, refl, sym, ap, ◌∙◌, subst, arith, IsTrue}
-use Rattle.std.specs.Prelude.{map, is_some}
+use Rattle.std.proofs.Common.{◌≡◌, ℕ, zero, suc, ◌<◌, true, false, List, [], ◌∷◌, ◌++◌, Option, None, Some, refl, sym, ap, ◌∙◌, subst, arith, IsTrue}
+use Rattle.std.specs.Prelude.{map, is_some, IfSome}
 use Rattle.std.specs.Option.{option_and_then, option_map}
 use Rattle.std.specs.FinMap as finite
 use Rattle.wjs_base.specs.declared.ids.TextId.{TextId}
@@ -9,7 +9,7 @@ use Rattle.wjs_base.specs.Order.{obj_cmp}
 use Rattle.wjs_base.specs.Text.{Table, Grows}
 use Rattle.wjs_base.proofs.TextLaws.{Grows-refl, Grows-trans}
 use Rattle.wjs_store.specs.State.{State, write, after, after_write, find_world, has_world}
-use Rattle.wjs_store.specs.Meaning.{Meaning, View, worlds}
+use Rattle.wjs_store.specs.Meaning.{Meaning, View, PlainAct, PlainReply, worlds}
 use Rattle.wjs_store.specs.Fixed.{fixed, fresh}
 use Rattle.wjs_store.specs.Naming.{plain}
 use Rattle.wjs_arena.specs.Entries.{Objects, Entry, has, next_number, world_of}
@@ -25,7 +25,7 @@ use Rattle.wjs_rename.specs.Names.{Holds}
 use Rattle.wjs_content.specs.Tables.{text_in, arena_in, entry_in}
 use Rattle.wjs_content.specs.Telling.{names_of}
 use Rattle.wjs_content.specs.Worlds.{worlds_in, told_by, KnowsWorlds}
-use Rattle.wjs_props.specs.Heap.{Parts, IsHeap, Performs}
+use Rattle.wjs_props.specs.Heap.{Parts, IsHeap, Performs, KnowsTold}
 use Rattle.wjs_props.specs.Means.{nothing}
 use Rattle.wjs_meaning.specs.Builtins.{builtin, first_world}
 use Rattle.wjs_meaning.specs.Start.{Property, properties, first_copy, first_objects, native_objects}
@@ -107,9 +107,14 @@ fresh_first = refl
 
 -- a store that has nothing beside the first world is new
 pub fixed_new : (m : Meaning) → m ≡ fixed fresh false → IsNew m
-fixed_new m e = subst IsNew (sym e) (record { own = refl; each_view = λ v ok. refl; works = refl })
+fixed_new m e = subst IsNew (sym e) (record { own = refl; each_view = λ v ok. refl; works = refl; silent = tt })
 
 -- ---- all together
+
+-- what has told nothing names no text
+silent_known : (texts : Table) (told : Option (List (PlainAct × PlainReply))) → IfSome told (λ done. done ≡ []) → KnowsTold texts told
+silent_known texts None h t g = refl
+silent_known texts (Some done) h t g = ap (λ (l : List (PlainAct × PlainReply)). told_by t (Some l)) h ∙ sym (ap (λ (l : List (PlainAct × PlainReply)). told_by texts (Some l)) h)
 
 pub begun : (texts : Table) (before : Meaning) (ids : List TextId) (k : Known) (bs : List Blueprint) (places : List Place) (mid new : Parts) → IsNew before → Grows texts mid.texts → mid.store ≡ before
     → ((t : Table) → Grows mid.texts t → Knows t k) → ((t : Table) → Grows mid.texts t → declared_in t k ≡ map (text_in t) ids)
@@ -136,6 +141,7 @@ begun texts before ids k bs places mid new is_new grows same knows names built b
       ∙ ap (λ (m : Meaning). tell (writes_told properties) (told_by t m.told)) same;
   knows = λ v ok. (done.carries new.texts (Grows-refl new.texts) v ok (known v ok)).knows;
   marks = done.marks (subst (KnowsWorlds mid.texts) (sym own) (fresh_known mid.texts));
+  tells = done.told (subst (KnowsWorlds mid.texts) (sym own) (fresh_known mid.texts)) (subst (λ (m : Meaning). KnowsTold mid.texts m.told) (sym same) (silent_known mid.texts before.told is_new.silent));
   builtins = λ n lt. subst (λ (m : Objects). IsTrue (has m (builtin n))) (sym done.arena) (below_there mid 64 building (builtin n) refl lt);
   first = done.still_there first_world (subst (λ F. IsTrue (has_world F first_world)) (sym own) fresh_first);
   own_worlds = λ o w e. (building.worlds o w (ap (λ (m : Objects). world_of m o) (sym done.arena) ∙ e)).1;

@@ -10,7 +10,7 @@ use Rattle.wjs_store.specs.Meaning.{Meaning, View, worlds}
 use Rattle.wjs_tree.specs.declared.node.NodeId.{NodeId}
 use Rattle.wjs_arena.specs.Entries.{Entry}
 use Rattle.wjs_content.specs.Carried.{tell}
-use Rattle.wjs_content.specs.Tables.{text_in}
+use Rattle.wjs_content.specs.Tables.{text_in, arena_in}
 use Rattle.wjs_content.specs.Worlds.{told_by}
 use Rattle.wjs_props.specs.declared.heap.Heap.{Heap}
 use Rattle.wjs_props.specs.Means.{parts}
@@ -24,6 +24,8 @@ use Rattle.wjs_model.specs.declared.config.State.TheVariants as states
 use Rattle.wjs_model.specs.declared.frame.Frame.{Frame}
 use Rattle.wjs_model.specs.declared.frame.Phase.TheVariants as phases
 use Rattle.wjs_model.specs.declared.unit.Unit.{Unit as Program}
+use Rattle.wjs_model.specs.Outside.{alone}
+use Rattle.wjs_model.proofs.Beside.{beside_nothing}
 use Rattle.wjs_model.specs.Configurations.{run_in, frames_in, state_in, rest, seen}
 use Rattle.wjs_model.specs.Contents.{frame_in}
 use Rattle.wjs_model.specs.Laws.{run_of, trees_of, script_names, first_frames}
@@ -97,22 +99,22 @@ module _ {S : Type 0} (meaning : S → Meaning) (texts : Table) (before : Meanin
   frames_so : frames_in meaning t c ≡ first_frames lib one
   frames_so = ap (map (frame_in t)) frames_there ∙ frames_are t library script
 
-  state_so : (v : View) → IsTrue ((meaning h.store).admits v) → state_in meaning t v c ≡ record (start (script_names lib one)) { done = unwrap_or (told_by t (meaning h.store).told) [] }
+  state_so : (v : View) → IsTrue ((meaning h.store).admits v) → state_in meaning t (alone v) c ≡ record (start (script_names lib one)) { done = unwrap_or (told_by t (meaning h.store).told) [] }
   state_so v ok =
       let full = is.slots t (Grows-refl t) v ok in
-      let arena = is.arena t (Grows-refl t) ∙ ap first_arena names_so in
+      let arena = beside_nothing (arena_in t h.arena) ∙ is.arena t (Grows-refl t) ∙ ap first_arena names_so in
       λ i. record { full = full i; arena = arena i; out = none_pending i; done = unwrap_or (told_by t (meaning h.store).told) [] }
 
   module _ (quiet : before.told ≡ None) (v : View) (ok : IsTrue ((meaning h.store).admits v)) where
     tells_nothing : (meaning h.store).told ≡ None
     tells_nothing = map_none _ (meaning h.store).told (is.told t (Grows-refl t) v ok ∙ ap (λ o. tell (writes_told properties) (told_by t o)) quiet)
 
-    begins : state_in meaning t v c ≡ start (script_names lib one)
+    begins : state_in meaning t (alone v) c ≡ start (script_names lib one)
     begins = state_so v ok ∙ ap (λ o. let st : St = record (start (script_names lib one)) { done = unwrap_or (told_by t o) [] } in st) tells_nothing
 
-    machine_so : (n : ℕ) → rest meaning t v c n ≡ seen false (machine lib one n)
+    machine_so : (n : ℕ) → rest meaning t (alone v) c n ≡ seen false (machine lib one n)
     machine_so n =
-        ap (λ o. seen (is_some o) (rest_of (run_in meaning t c) (frames_in meaning t c) (state_in meaning t v c) n)) tells_nothing
+        ap (λ o. seen (is_some o) (rest_of (run_in meaning t c) (frames_in meaning t c) (state_in meaning t (alone v) c) n)) tells_nothing
         ∙ (λ i. seen false (rest_of (run_so i) (frames_so i) (begins i) n))
         ∙ ap (seen false) (start_lem lib one n)
 
@@ -163,6 +165,7 @@ module _ {S : Type 0} (meaning : S → Meaning) (texts : Table) (before : Meanin
     near_slots = slots_near apart.items none_kept (worlds (meaning h.store));
     frames = subst (All (IsThere meaning c)) (sym frames_there) (all_there (option_map body_of library) (body_of script));
     marks = is.marks;
+    told = is.tells;
   }
 
   pub sound_so : Sound meaning c

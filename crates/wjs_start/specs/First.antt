@@ -1,5 +1,5 @@
 -- The first heap.
-use Rattle.std.specs.Prelude.{◌≡◌, ℕ, ◌<◌, not, List, [], ◌∷◌, ◌++◌, map as each, Some, IsTrue}
+use Rattle.std.specs.Prelude.{◌≡◌, ℕ, ◌<◌, not, List, [], ◌∷◌, ◌++◌, map as each, Some, IfSome, IsTrue}
 use Rattle.wjs_base.specs.declared.ids.ObjId.{ObjId}
 use Rattle.wjs_base.specs.declared.ids.TextId.{TextId}
 use Rattle.wjs_base.specs.declared.ids.WorldId.{WorldId}
@@ -12,15 +12,16 @@ use Rattle.wjs_content.specs.Carried.{tell}
 use Rattle.wjs_content.specs.Plans.{Told, Wrote}
 use Rattle.wjs_content.specs.Tables.{text_in, arena_in}
 use Rattle.wjs_content.specs.Worlds.{worlds_in, told_by, KnowsWorlds}
-use Rattle.wjs_props.specs.Heap.{Parts, IsHeap}
+use Rattle.wjs_props.specs.Heap.{Parts, IsHeap, KnowsTold}
 use Rattle.wjs_meaning.specs.Builtins.{builtin, first_world}
 use Rattle.wjs_meaning.specs.Start.{Property, properties, first_arena, first_full}
 
--- the first world alone, with no slot and no mark, under each view; and the store works
+-- the first world alone, with no slot and no mark, under each view; the store works, and has told nothing yet
 pub record IsNew (m : Meaning) : Type 0 where
   pub own : worlds m ≡ fresh
   pub each_view : (v : View) → IsTrue (m.admits v) → m.full v ≡ fresh
   pub works : IsTrue (not m.spent)
+  pub silent : IfSome m.told (λ done. done ≡ [])
 
 -- each slot was written, the last one first
 abbrev pub writes_told : List Property → List Told
@@ -37,9 +38,10 @@ pub record IsFirst (texts : Table) (before : Meaning) (declared : List TextId) (
   pub slots : (t : Table) → Grows h.texts t → (v : View) → IsTrue (h.store.admits v) → worlds_in t (h.store.full v) ≡ first_full
   -- what a store tells that tells its actions
   pub told : (t : Table) → Grows h.texts t → (v : View) → IsTrue (h.store.admits v) → told_by t h.store.told ≡ tell (writes_told properties) (told_by t before.told)
-  -- the texts of the slots are there
+  -- the texts of the slots are there, and those of what was told
   pub knows : (v : View) → IsTrue (h.store.admits v) → KnowsWorlds h.texts (h.store.full v)
   pub marks : KnowsWorlds h.texts (worlds h.store)
+  pub tells : KnowsTold h.texts h.store.told
   -- the first objects are there, and the first world, for which alone an object stands
   pub builtins : (n : ℕ) → n < 64 → IsTrue (has h.arena (builtin n))
   pub first : IsTrue (has_world (worlds h.store) first_world)

@@ -17,6 +17,7 @@ use Rattle.wjs_model.specs.declared.frame.Frame.{Frame}
 use Rattle.wjs_model.specs.declared.frame.Phase.{Phase}
 use Rattle.wjs_model.specs.declared.frame.Phase.TheVariants as phases
 use Rattle.wjs_model.specs.declared.unit.Unit.{Unit as Program}
+use Rattle.wjs_model.specs.Outside.{alone}
 use Rattle.wjs_model.specs.Configurations.{run_in, frames_in, state_in, rest, seen}
 use Rattle.wjs_model.specs.Laws.{run_of, trees_of, script_names, first_frames}
 use Rattle.wjs_model.specs.Units.{unit_in}
@@ -49,10 +50,10 @@ pub record Starts {S : Type 0} (meaning : S → Meaning) (texts : Table) (before
   pub run : let t = c.heap.texts in run_in meaning t c ≡ run_of (trees_of (option_map (unit_in t) library) (unit_in t script))
   pub frames : let t = c.heap.texts in frames_in meaning t c ≡ first_frames (option_map (unit_in t) library) (unit_in t script)
   -- the state is the meaning's; done are the writes of the first slots, where the store tells its actions
-  pub state : let t = c.heap.texts in (v : View) → IsTrue ((meaning c.heap.store).admits v) → state_in meaning t v c ≡ record (start (script_names (option_map (unit_in t) library) (unit_in t script))) { done = unwrap_or (told_by t (meaning c.heap.store).told) [] }
+  pub state : let t = c.heap.texts in (v : View) → IsTrue ((meaning c.heap.store).admits v) → state_in meaning t (alone v) c ≡ record (start (script_names (option_map (unit_in t) library) (unit_in t script))) { done = unwrap_or (told_by t (meaning c.heap.store).told) [] }
   pub told : let t = c.heap.texts in (v : View) → IsTrue ((meaning c.heap.store).admits v) → told_by t (meaning c.heap.store).told ≡ tell (writes_told properties) (told_by t before.told)
   -- over a store that tells nothing, what is left is the machine's run
-  pub machine_run : before.told ≡ None → let t = c.heap.texts in (v : View) → IsTrue ((meaning c.heap.store).admits v) → (n : ℕ) → rest meaning t v c n ≡ seen false (machine (option_map (unit_in t) library) (unit_in t script) n)
+  pub machine_run : before.told ≡ None → let t = c.heap.texts in (v : View) → IsTrue ((meaning c.heap.store).admits v) → (n : ℕ) → rest meaning t (alone v) c n ≡ seen false (machine (option_map (unit_in t) library) (unit_in t script) n)
   -- texts keep their numbers, and the store is as it was beside
   pub grows : Grows texts c.heap.texts
   pub narrows : (v : View) → IsTrue ((meaning c.heap.store).admits v) → IsTrue (before.admits v)

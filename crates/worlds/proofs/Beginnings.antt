@@ -14,7 +14,6 @@ use Rattle.wjs_model.specs.Configurations.{seen}
 use Rattle.wjs_model.specs.Soundness.{Sound}
 use Rattle.wjs_model.specs.Texts.{KnowsUnit}
 use Rattle.wjs_model.specs.Units.{unit_in}
-use Rattle.wjs_moves.specs.Reaching.{own_view}
 use Rattle.wjs_moves.proofs.NodesGrow.{unit_grows}
 use Rattle.wjs_deeds.proofs.Staying.{units_stay}
 use Rattle.wjs_start.specs.Starting.{Starts}
@@ -41,7 +40,7 @@ module _ {S : Type 0} (meaning : S → Meaning) (plain : IsPlain meaning) where
       record {
         library = lib;
         first = library_is grown t library starts.grows table loads known;
-        run = starts.machine_run (plain.silent store) (own_view meaning c) (plain.admits_own c.heap.store) c.left
+        run = starts.machine_run (plain.silent store) (meaning c.heap.store).own (plain.admits_own c.heap.store) c.left
             ∙ (λ i. seen false (machine lib (later i) (starts.left i)));
         sound = sound;
         world = starts.world;

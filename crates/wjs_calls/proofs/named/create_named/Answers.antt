@@ -11,6 +11,7 @@ use Rattle.wjs_meaning.specs.Trees.{formals_of}
 use Rattle.wjs_moves.specs.Following.{Follows}
 use Rattle.wjs_moves.specs.Parts.{env_in}
 use Rattle.wjs_deeds.proofs.Composing.{if_ok, env_later}
+use Rattle.wjs_deeds.proofs.Seeing.{plainly}
 use Rattle.wjs_deeds.proofs.Having.{owner_near}
 use Rattle.wjs_calls.specs.Making.{named_made}
 use Rattle.wjs_calls.proofs.NamedFunctions.{number_behind, scope_is, scope_named, scope_near, behind}
@@ -23,7 +24,7 @@ create_pair-requires-clause-named g c = λ new more there.
     let mid = c.function_names.new.config in
     let s = c.next_number-scope.result in
     let f : ObjId = record { owner = s.owner; serial = c.in-Some.serial } in
-    let first : s ≡ number_of_next mid.heap.arena mid.owner = sym (c.next_number-scope.ensures.is []) ∙ number_same [] mid.heap.arena mid.owner in
+    let first : s ≡ number_of_next mid.heap.arena mid.owner = sym (c.next_number-scope.ensures.is [] _ (plainly mid.heap.arena [])) ∙ number_same [] mid.heap.arena mid.owner in
     let next : c.in-Some.serial ≡ s.serial + 1 = grind (arith, c.in-Some.ensures) in
     let here : IsTrue (has new f) = subst (λ (o : ObjId). IsTrue (has new o)) (sym (behind s c.in-Some.serial next ∙ ap number_behind first)) there in
     scope_named mid.heap.texts new c.in_ok-named.named c.args.frame.now.scope f c.name_of-name.result c.in_ok-named.ensures c.name_of-name.ensures.found here
@@ -31,20 +32,20 @@ create_pair-requires-clause-named g c = λ new more there.
 pub function_object-requires-clause-near : goal.function_object-requires-clause-near
 function_object-requires-clause-near g c =
     let mid = c.function_names.new.config in
-    owner_near mid c.in_ok-names.ensures.later.base.own c.next_number-scope.result (ap (λ (o : ObjId). o.owner) (sym (c.next_number-scope.ensures.is []) ∙ number_same [] mid.heap.arena mid.owner))
+    owner_near mid c.in_ok-names.ensures.later.base.own c.next_number-scope.result (ap (λ (o : ObjId). o.owner) (sym (c.next_number-scope.ensures.is [] _ (plainly mid.heap.arena [])) ∙ number_same [] mid.heap.arena mid.owner))
 
 pub create_pair-requires-clause-near : goal.create_pair-requires-clause-near
 create_pair-requires-clause-near g c =
     let mid = c.function_names.new.config in
     let s = c.next_number-scope.result in
     let f : ObjId = record { owner = s.owner; serial = c.in-Some.serial } in
-    let owner = ap (λ (o : ObjId). o.owner) (sym (c.next_number-scope.ensures.is []) ∙ number_same [] mid.heap.arena mid.owner) in
+    let owner = ap (λ (o : ObjId). o.owner) (sym (c.next_number-scope.ensures.is [] _ (plainly mid.heap.arena [])) ∙ number_same [] mid.heap.arena mid.owner) in
     scope_near mid.apart.items c.in_ok-named.named c.args.frame.now.scope f c.name_of-name.result c.in_ok-named.ensures (c.in_ok-names.ensures.later.objects c.args.frame.now.scope c.requires.there.scope).1 (owner_near mid c.in_ok-names.ensures.later.base.own f owner)
 
 pub create_pair-requires-clause-second_scope : goal.create_pair-requires-clause-second_scope
 create_pair-requires-clause-second_scope g c =
     let mid = c.function_names.new.config in
-    c.in_ok-object.ensures.scope ∙ ap (λ (o : ObjId). Some o) (sym (c.next_number-scope.ensures.is []) ∙ number_same [] mid.heap.arena mid.owner)
+    c.in_ok-object.ensures.scope ∙ ap (λ (o : ObjId). Some o) (sym (c.next_number-scope.ensures.is [] _ (plainly mid.heap.arena [])) ∙ number_same [] mid.heap.arena mid.owner)
 
 pub create_pair-requires-clause-second_named : goal.create_pair-requires-clause-second_named
 create_pair-requires-clause-second_named g c = λ new more there. let heap = c.function_names.new.config.heap in named_more heap.texts heap.arena new more c.in_ok-object.object c.in_ok-object.ensures.named
@@ -56,7 +57,7 @@ returns-clause-does g c =
     let mid = c.function_names.new.config in
     let f = c.args.frame.now in
     let s = c.next_number-scope.result in
-    let first : s ≡ number_of_next mid.heap.arena mid.owner = sym (c.next_number-scope.ensures.is []) ∙ number_same [] mid.heap.arena mid.owner in
+    let first : s ≡ number_of_next mid.heap.arena mid.owner = sym (c.next_number-scope.ensures.is [] _ (plainly mid.heap.arena [])) ∙ number_same [] mid.heap.arena mid.owner in
     let next : c.in-Some.serial ≡ s.serial + 1 = grind (arith, c.in-Some.ensures) in
     let named = λ (t : Table) (o : ObjId). name_scope (text_in t c.args.id) f.scope o in
     let made = λ (t : Table) (o : ObjId). function_object f.tree c.args.body.0 (length (formals_of (node_here (env_in m mid t f) c.args.body.0))) o in

@@ -30,7 +30,7 @@ pub returns-clause-later : goal.returns-clause-later
 returns-clause-later g c = on_ok_weaker c.create.result (later_twice g.S.WorldStore.meaning c.args.config.now c.fixed_of_fault.new.config c.create.new.config c.in_ok-fixed.ensures.later) c.create.ensures.later
 
 pub create-requires-clause-near : goal.create-requires-clause-near
-create-requires-clause-near g c = 
+create-requires-clause-near g c =
     let mid = c.fixed_of_fault.new.config in
     near_fixed mid.apart.items c.object_of-object.result class.Fault (Some c.builtin-prototype.result) c.object_of-object.ensures c.builtin-prototype.ensures.found.1 c.in_ok-fixed.fixed (fixed_near mid c.in_ok-fixed.fixed c.in_ok-fixed.ensures.found)
 

@@ -9,6 +9,7 @@ use Rattle.wjs_deeds.proofs.Steps.{ran_look}
 use Rattle.wjs_props.proofs.ByContent.{fixed_in}
 use Rattle.wjs_props.proofs.Getting.{fixed_there}
 use Rattle.wjs_model.specs.Soundness.{HasValue}
+use Rattle.wjs_deeds.proofs.Seeing.{fixed_found}
 use Rattle.wjs_deeds.proofs.Looking.{found_so, fixed_is_near}
 use Rattle.wjs_deeds.proofs.looks.fixed.Goals as goal
 
@@ -16,10 +17,10 @@ pub returns-clause-does : goal.returns-clause-does
 returns-clause-does g c =
     let m = g.S.WorldStore.meaning in
     let old = c.args.config.now in
-    does_ran m _ _ old old (ran_look m (λ t arena. fixed arena c.args.object (name_in t c.args.name)) (λ t. option_map (value_in t) c.fixed.result) old (λ t more. fixed_in (parts m old.heap) c.requires.base.heap t more c.args.object c.args.name c.requires.name ∙ ap (option_map (value_in t)) (sym c.fixed.ensures.fixed)))
+    does_ran m _ _ old old (ran_look m (λ t arena. fixed arena c.args.object (name_in t c.args.name)) (λ t. option_map (value_in t) c.fixed.result) old (λ t more arena s. fixed_found _ t arena s c.args.object (name_in t c.args.name) c.requires.object.0 ∙ fixed_in (parts m old.heap) c.requires.base.heap t more c.args.object c.args.name c.requires.name ∙ ap (option_map (value_in t)) (sym c.fixed.ensures.fixed)))
 
 pub returns-clause-is : goal.returns-clause-is
-returns-clause-is g c = λ t more. fixed_in (parts g.S.WorldStore.meaning c.args.config.now.heap) c.requires.base.heap t more c.args.object c.args.name c.requires.name ∙ ap (option_map (value_in t)) (sym c.fixed.ensures.fixed)
+returns-clause-is g c = λ t more arena s. fixed_found _ t arena s c.args.object (name_in t c.args.name) c.requires.object.0 ∙ fixed_in (parts g.S.WorldStore.meaning c.args.config.now.heap) c.requires.base.heap t more c.args.object c.args.name c.requires.name ∙ ap (option_map (value_in t)) (sym c.fixed.ensures.fixed)
 
 pub returns-clause-found : goal.returns-clause-found
 returns-clause-found g c = found_so c.fixed.result (HasValue c.args.config.now) (λ v e.

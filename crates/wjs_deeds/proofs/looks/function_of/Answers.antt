@@ -8,4 +8,4 @@ pub returns-clause-does : goal.returns-clause-does
 returns-clause-does g c =
     let m = g.S.WorldStore.meaning in
     let old = c.args.config.now in
-    does_ran m _ _ old old (ran_look m (λ t arena. function_of arena (value_in t c.args.value)) (λ t. c.function_if.result) old (λ t more. c.function_if.ensures.is t))
+    does_ran m _ _ old old (ran_look m (λ t arena. function_of arena (value_in t c.args.value)) (λ t. c.function_if.result) old (λ t more arena s. c.function_if.ensures.is t arena s))

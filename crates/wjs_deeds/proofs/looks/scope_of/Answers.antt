@@ -3,17 +3,17 @@ use Rattle.wjs_content.specs.Objects.{Internals, object_at}
 use Rattle.wjs_deeds.proofs.Having.{object_both}
 use Rattle.wjs_deeds.proofs.Running.{does_ran}
 use Rattle.wjs_deeds.proofs.Steps.{ran_look}
-use Rattle.wjs_deeds.proofs.Looking.{object_is, scope_there, near_there}
+use Rattle.wjs_deeds.proofs.Looking.{seen_is, scope_there, near_there}
 use Rattle.wjs_deeds.proofs.looks.scope_of.Goals as goal
 
 pub returns-clause-does : goal.returns-clause-does
 returns-clause-does g c =
     let m = g.S.WorldStore.meaning in
     let old = c.args.config.now in
-    does_ran m _ _ old old (ran_look m (λ t arena. (object_at arena c.args.object).scope) (λ t. c.object.result.now.scope) old (λ t more. ap (λ (x : Internals). x.scope) (object_is old.heap.arena c.args.object c.object.result.now c.requires.object.0 c.object.ensures.object t)))
+    does_ran m _ _ old old (ran_look m (λ t arena. (object_at arena c.args.object).scope) (λ t. c.object.result.now.scope) old (λ t more arena s. ap (λ (x : Internals). x.scope) (seen_is old.heap.arena c.args.object c.object.result.now c.requires.object.0 c.object.ensures.object t arena s)))
 
 pub returns-clause-is : goal.returns-clause-is
-returns-clause-is g c = λ t. ap (λ (x : Internals). x.scope) (object_is c.args.config.now.heap.arena c.args.object c.object.result.now c.requires.object.0 c.object.ensures.object t)
+returns-clause-is g c = λ t arena s. ap (λ (x : Internals). x.scope) (seen_is c.args.config.now.heap.arena c.args.object c.object.result.now c.requires.object.0 c.object.ensures.object t arena s)
 
 pub returns-clause-found : goal.returns-clause-found
 returns-clause-found g c =

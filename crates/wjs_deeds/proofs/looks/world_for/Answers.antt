@@ -2,14 +2,14 @@ use Rattle.std.proofs.Common.{ap}
 use Rattle.wjs_content.specs.Objects.{Internals, object_at}
 use Rattle.wjs_deeds.proofs.Running.{does_ran}
 use Rattle.wjs_deeds.proofs.Steps.{ran_look}
-use Rattle.wjs_deeds.proofs.Looking.{object_is}
+use Rattle.wjs_deeds.proofs.Looking.{seen_is}
 use Rattle.wjs_deeds.proofs.looks.world_for.Goals as goal
 
 pub returns-clause-does : goal.returns-clause-does
 returns-clause-does g c =
     let m = g.S.WorldStore.meaning in
     let old = c.args.config.now in
-    does_ran m _ _ old old (ran_look m (λ t arena. (object_at arena c.args.object).world) (λ t. c.object.result.now.world) old (λ t more. ap (λ (x : Internals). x.world) (object_is old.heap.arena c.args.object c.object.result.now c.requires.0 c.object.ensures.object t)))
+    does_ran m _ _ old old (ran_look m (λ t arena. (object_at arena c.args.object).world) (λ t. c.object.result.now.world) old (λ t more arena s. ap (λ (x : Internals). x.world) (seen_is old.heap.arena c.args.object c.object.result.now c.requires.0 c.object.ensures.object t arena s)))
 
 pub returns-clause-is : goal.returns-clause-is
-returns-clause-is g c = λ t. ap (λ (x : Internals). x.world) (object_is c.args.config.now.heap.arena c.args.object c.object.result.now c.requires.0 c.object.ensures.object t)
+returns-clause-is g c = λ t arena s. ap (λ (x : Internals). x.world) (seen_is c.args.config.now.heap.arena c.args.object c.object.result.now c.requires.0 c.object.ensures.object t arena s)

@@ -14,13 +14,13 @@ pub returns-clause-does : goal.returns-clause-does
 returns-clause-does g c =
     let m = g.S.WorldStore.meaning in
     let old = c.args.config.now in
-    does_ran m _ _ old _ (ran_create m (λ t. object_in t c.args.object) c.args.object c.in_ok-o.o old c.create.new.heap c.in_ok-o.ensures.creates (λ t more. refl))
+    does_ran m _ _ old _ (ran_create m (λ t. object_in t c.args.object) c.args.object c.in_ok-o.o old c.create.new.heap c.in_ok-o.ensures.creates c.requires.prototype c.requires.scope (λ t more. refl))
 
 pub returns-clause-makes : goal.returns-clause-makes
 returns-clause-makes g c = λ internals e.
     let m = g.S.WorldStore.meaning in
     let old = c.args.config.now in
-    does_ran m _ _ old _ (ran_create m internals c.args.object c.in_ok-o.o old c.create.new.heap c.in_ok-o.ensures.creates (λ t more. e t (subst (λ (x : Table). Grows x t) c.in_ok-o.ensures.creates.texts more)))
+    does_ran m _ _ old _ (ran_create m internals c.args.object c.in_ok-o.o old c.create.new.heap c.in_ok-o.ensures.creates c.requires.prototype c.requires.scope (λ t more. e t (subst (λ (x : Table). Grows x t) c.in_ok-o.ensures.creates.texts more)))
 
 pub returns-clause-later : goal.returns-clause-later
 returns-clause-later g c = later_create g.S.WorldStore.meaning c.args.object c.in_ok-o.o c.args.config.now c.create.new.heap c.requires.base c.in_ok-o.ensures.creates c.requires.near (λ w h. none_some c.args.object.world w c.requires.world h)

@@ -39,7 +39,7 @@ pub returns-clause-later : goal.returns-clause-later
 returns-clause-later g c = on_ok_weaker c.create.result (later_twice g.S.WorldStore.meaning c.args.config.now c.known_name.new.config c.create.new.config c.in_ok-name.ensures.later) c.create.ensures.later
 
 pub create-requires-clause-near : goal.create-requires-clause-near
-create-requires-clause-near g c = 
+create-requires-clause-near g c =
     let mid = c.known_name.new.config in
     near_holding mid.apart.items c.object_of-object.result class.Text (Some c.builtin-prototype.result) c.object_of-object.ensures c.builtin-prototype.ensures.found.1 (values.Text c.args.id) c.in_ok-object.field-0 tt
     (subst (Holds (λ (e : Name × Value). NearValue mid.apart.items e.1)) (sym c.in_ok-object.ensures) (number_near mid.apart.items mid.heap.texts c.length_value-length.result _ (c.length_value-length.ensures mid.heap.texts), tt))

@@ -1,6 +1,7 @@
 use Rattle.wjs_props.specs.Properties as plan
 use Rattle.wjs_content.specs.Tables.{name_in, value_in}
 use Rattle.wjs_deeds.proofs.Running.{does_ran}
+use Rattle.wjs_deeds.proofs.Seeing.{put_found}
 use Rattle.wjs_deeds.proofs.Steps.{ran_plan}
 use Rattle.wjs_deeds.proofs.Later.{later_plan}
 use Rattle.wjs_deeds.proofs.NearDeeds.{put_left}
@@ -11,7 +12,7 @@ use Rattle.wjs_deeds.proofs.properties.put.Goals as goal
 pub returns-clause-does : goal.returns-clause-does
 returns-clause-does g c =
     let m = g.S.WorldStore.meaning in
-    does_ran m _ _ c.args.config.now _ (ran_plan m c.args.frame.now.world (λ t arena. plan.put arena c.args.object (name_in t c.args.name) (value_in t c.args.value)) (λ t. c.in_ok-answer.answer) c.args.config.now c.put.new.heap c.in_ok-answer.ensures)
+    does_ran m _ _ c.args.config.now _ (ran_plan m c.args.frame.now.world (λ t arena. plan.put arena c.args.object (name_in t c.args.name) (value_in t c.args.value)) (λ t. c.in_ok-answer.answer) c.args.config.now c.put.new.heap (λ t arena s. put_found _ t arena s c.requires.base.heap.arena c.args.object (name_in t c.args.name) (value_in t c.args.value) c.requires.object.0) c.in_ok-answer.ensures)
 
 pub returns-clause-later : goal.returns-clause-later
 returns-clause-later g c =

@@ -1,6 +1,7 @@
 use Rattle.wjs_props.specs.Properties as plan
 use Rattle.wjs_props.specs.Visits.{visits_in}
 use Rattle.wjs_deeds.proofs.Running.{does_ran}
+use Rattle.wjs_deeds.proofs.Seeing.{visits_found}
 use Rattle.wjs_deeds.proofs.Steps.{ran_plan}
 use Rattle.wjs_deeds.proofs.Later.{later_plan}
 use Rattle.wjs_deeds.proofs.NearDeeds.{visits_left}
@@ -10,7 +11,7 @@ use Rattle.wjs_deeds.proofs.properties.visits.Goals as goal
 pub returns-clause-does : goal.returns-clause-does
 returns-clause-does g c =
     let m = g.S.WorldStore.meaning in
-    does_ran m _ _ c.args.config.now _ (ran_plan m c.args.frame.now.world (λ t arena. plan.visits arena c.args.object) (λ t. visits_in t c.in_ok-visits.visits) c.args.config.now c.list_names.new.heap c.in_ok-visits.ensures.lists)
+    does_ran m _ _ c.args.config.now _ (ran_plan m c.args.frame.now.world (λ t arena. plan.visits arena c.args.object) (λ t. visits_in t c.in_ok-visits.visits) c.args.config.now c.list_names.new.heap (λ t arena s. visits_found _ t arena s c.requires.base.heap.arena c.args.object c.requires.object.0) c.in_ok-visits.ensures.lists)
 
 pub returns-clause-later : goal.returns-clause-later
 returns-clause-later g c =

@@ -1,6 +1,8 @@
-use Rattle.std.proofs.Common.{◌≡◌, Some, subst}
+use Rattle.std.proofs.Common.{◌≡◌, Some, sym, subst}
 use Rattle.wjs_base.specs.declared.ids.WorldId.{WorldId}
 use Rattle.wjs_arena.specs.declared.class.Class.TheVariants as class
+use Rattle.wjs_arena.specs.declared.object.Object.{Object}
+use Rattle.wjs_arena.specs.Entries.{IsThere}
 use Rattle.wjs_meaning.specs.WorldValues.{world_object_of}
 use Rattle.wjs_model.specs.Soundness.{HasWorld}
 use Rattle.wjs_deeds.proofs.Running.{does_ran}
@@ -17,7 +19,8 @@ returns-clause-does g c =
     let m = g.S.WorldStore.meaning in
     let old = c.args.config.now in
     let x = record c.object_of-object.result { world = Some c.args.world } in
-    does_ran m _ _ old _ (ran_create m (λ t. world_object_of c.args.world) x c.in_ok-o.o old c.create.new.heap c.in_ok-o.ensures.creates (λ t more. world_object_is t c.object_of-object.result c.builtin-prototype.result c.args.world c.object_of-object.ensures c.builtin-prototype.ensures.number))
+    does_ran m _ _ old _ (ran_create m (λ t. world_object_of c.args.world) x c.in_ok-o.o old c.create.new.heap c.in_ok-o.ensures.creates
+    (subst (λ (y : Object). IsThere old.heap.arena y.prototype) (sym c.object_of-object.ensures) c.builtin-prototype.ensures.found.0) (subst (λ (y : Object). IsThere old.heap.arena y.scope) (sym c.object_of-object.ensures) tt) (λ t more. world_object_is t c.object_of-object.result c.builtin-prototype.result c.args.world c.object_of-object.ensures c.builtin-prototype.ensures.number))
 
 one_world : (a b : WorldId) → Some a ≡ Some b → a ≡ b
 one_world a b e = cc

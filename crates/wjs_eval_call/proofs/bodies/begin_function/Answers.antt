@@ -1,13 +1,9 @@
-use Rattle.std.proofs.Common.{sym, subst}
-use Rattle.std.specs.Prelude.{OnOk}
-use Rattle.wjs_arena.specs.declared.object.Code.{Code}
 use Rattle.wjs_content.specs.Objects.{Arena, object_at}
-use Rattle.wjs_content.specs.Tables.{arena_in}
 use Rattle.wjs_meaning.specs.Functions.{body_code}
 use Rattle.wjs_model.specs.Contents.{holding_in}
-use Rattle.wjs_moves.specs.Following.{Follows}
 use Rattle.wjs_moves.specs.Parts.{env_in}
 use Rattle.wjs_moves.proofs.Shorter.{follows_look}
+use Rattle.wjs_deeds.proofs.Seeing.{object_found_as}
 use Rattle.wjs_eval_call.proofs.bodies.begin_function.Goals as goal
 
 pub returns-in-None : goal.returns-in-None
@@ -20,8 +16,7 @@ returns-in-None g c =
     let f = c.args.function in
     let vs = (holding_in t c.args.frame.held).values in
     let env = env_in m old t c.args.frame in
-    follows_look m (λ (arena : Arena). body_code (object_at arena f).code (object_at arena f).scope f vs env) old new r
-    (subst (λ (k : Code). OnOk r (Follows m (body_code k (object_at (arena_in t old.heap.arena) f).scope f vs env) old new)) (sym (c.in-None.ensures.is t)) c.throw.ensures)
+    follows_look m (λ (arena : Arena). body_code (object_at arena f).code (object_at arena f).scope f vs env) _ old new r (λ arena s i. body_code (c.in-None.ensures.is t arena s i) (object_found_as old.heap.arena t arena s f c.requires.function.0 i).scope f vs env) c.throw.ensures
 
 pub returns-in-Native : goal.returns-in-Native
 returns-in-Native g c =
@@ -33,8 +28,7 @@ returns-in-Native g c =
     let f = c.args.function in
     let vs = (holding_in t c.args.frame.held).values in
     let env = env_in m old t c.args.frame in
-    follows_look m (λ (arena : Arena). body_code (object_at arena f).code (object_at arena f).scope f vs env) old new r
-    (subst (λ (k : Code). OnOk r (Follows m (body_code k (object_at (arena_in t old.heap.arena) f).scope f vs env) old new)) (sym (c.in-Native.ensures.is t)) c.throw-in-Native.ensures)
+    follows_look m (λ (arena : Arena). body_code (object_at arena f).code (object_at arena f).scope f vs env) _ old new r (λ arena s i. body_code (c.in-Native.ensures.is t arena s i) (object_found_as old.heap.arena t arena s f c.requires.function.0 i).scope f vs env) c.throw-in-Native.ensures
 
 pub returns-in-Script : goal.returns-in-Script
 returns-in-Script g c =
@@ -46,5 +40,4 @@ returns-in-Script g c =
     let f = c.args.function in
     let vs = (holding_in t c.args.frame.held).values in
     let env = env_in m old t c.args.frame in
-    follows_look m (λ (arena : Arena). body_code (object_at arena f).code (object_at arena f).scope f vs env) old new r
-    (subst (λ (k : Code). OnOk r (Follows m (body_code k (object_at (arena_in t old.heap.arena) f).scope f vs env) old new)) (sym (c.in-Script.ensures.is t)) c.begin_script.ensures)
+    follows_look m (λ (arena : Arena). body_code (object_at arena f).code (object_at arena f).scope f vs env) _ old new r (λ arena s i. body_code (c.in-Script.ensures.is t arena s i) (object_found_as old.heap.arena t arena s f c.requires.function.0 i).scope f vs env) c.begin_script.ensures

@@ -6,6 +6,7 @@ use Rattle.wjs_meaning.specs.Functions.{body_code}
 use Rattle.wjs_model.specs.Contents.{holding_in}
 use Rattle.wjs_moves.specs.Following.{Follows}
 use Rattle.wjs_moves.specs.Parts.{env_in}
+use Rattle.wjs_deeds.proofs.Seeing.{plainly}
 use Rattle.wjs_eval_call.proofs.bodies.begin_script.Goals as goal
 
 pub returns-in-None : goal.returns-in-None
@@ -14,7 +15,7 @@ returns-in-None g c =
     let old = c.args.config.now in
     let new = c.throw.new.config in
     let t = new.heap.texts in
-    subst (λ (s : Option ObjId). OnOk c.throw.result (Follows m (body_code (code.Script c.args.tree c.args.node) s c.args.function (holding_in t c.args.frame.held).values (env_in m old t c.args.frame)) old new)) (sym (c.in-None.ensures.is t)) c.throw.ensures
+    subst (λ (s : Option ObjId). OnOk c.throw.result (Follows m (body_code (code.Script c.args.tree c.args.node) s c.args.function (holding_in t c.args.frame.held).values (env_in m old t c.args.frame)) old new)) (sym (c.in-None.ensures.is t _ (plainly old.heap.arena t))) c.throw.ensures
 
 pub returns-in-Some : goal.returns-in-Some
 returns-in-Some g c =
@@ -22,4 +23,4 @@ returns-in-Some g c =
     let old = c.args.config.now in
     let new = c.begin_scope.new.config in
     let t = new.heap.texts in
-    subst (λ (s : Option ObjId). OnOk c.begin_scope.result (Follows m (body_code (code.Script c.args.tree c.args.node) s c.args.function (holding_in t c.args.frame.held).values (env_in m old t c.args.frame)) old new)) (sym (c.in-Some.ensures.is t)) c.begin_scope.ensures
+    subst (λ (s : Option ObjId). OnOk c.begin_scope.result (Follows m (body_code (code.Script c.args.tree c.args.node) s c.args.function (holding_in t c.args.frame.held).values (env_in m old t c.args.frame)) old new)) (sym (c.in-Some.ensures.is t _ (plainly old.heap.arena t))) c.begin_scope.ensures

@@ -19,8 +19,9 @@ returns-then-not-is_list_class g c =
     let r = c.throw.result in
     let env = env_in m old t c.args.frame in
     let by : Bool → Act = if_list c.args.function (value_in t c.args.this) c.args.object env in
-    follows_look m (λ (arena : Arena). by (line.is_list_class (object_at arena c.args.object).class)) old new r
-    (follows_as m _ _ old new r (λ grows. ap by (sym (ap line.is_list_class (c.class_of.ensures.is t) ∙ c.is_list_class.ensures ∙ (let no : c.is_list_class.result ≡ false = search rules in no)))) c.throw.ensures)
+    follows_look m (λ (arena : Arena). by (line.is_list_class (object_at arena c.args.object).class)) _ old new r
+    (λ arena s. ap by (ap line.is_list_class (c.class_of.ensures.is t arena s) ∙ c.is_list_class.ensures ∙ (let no : c.is_list_class.result ≡ false = search rules in no)))
+    c.throw.ensures
 
 pub returns : goal.returns
 returns g c =
@@ -37,12 +38,12 @@ returns g c =
     let this = value_in t c.args.this in
     let by : Bool → Act = if_list fn this o env in
     let to : Value → Act = λ v. line.apply_from (line.apply_length v) 0 [] o fn this env in
-    follows_look m (λ (arena : Arena). by (line.is_list_class (object_at arena o).class)) old new r
-    (follows_as m _ _ old new r (λ grows. ap by (sym (ap line.is_list_class (c.class_of.ensures.is t) ∙ c.is_list_class.ensures ∙ (let yes : c.is_list_class.result ≡ true = search rules in yes))))
+    follows_look m (λ (arena : Arena). by (line.is_list_class (object_at arena o).class)) _ old new r
+    (λ arena s. ap by (ap line.is_list_class (c.class_of.ensures.is t arena s) ∙ c.is_list_class.ensures ∙ (let yes : c.is_list_class.result ≡ true = search rules in yes)))
     (c.in_ok-length.ensures.does.by to new r
     (follows_as m _ _ mid new r
     (λ grows.
     apply_starts t c.in_ok-frame.field-0 o fn c.args.this c.apply_length-count.result (env_in m mid t f) c.in_ok-frame.ensures
     ∙ ap (λ e. line.apply_from c.apply_length-count.result 0 [] o fn this e) (env_later m old mid t f c.in_ok-length.ensures.later)
     ∙ ap (λ k. line.apply_from k 0 [] o fn this env) (sym (c.apply_length-count.ensures t grows)))
-    c.apply_rest.ensures)))
+    c.apply_rest.ensures))

@@ -1,12 +1,10 @@
-use Rattle.std.proofs.Common.{sym, ap, ◌∙◌, subst}
-use Rattle.std.specs.Prelude.{OnOk}
+use Rattle.std.proofs.Common.{ap, ◌∙◌}
 use Rattle.wjs_arena.specs.declared.class.Class.{Class}
 use Rattle.wjs_content.specs.Objects.{Arena, object_at}
 use Rattle.wjs_content.specs.Values.{Text}
 use Rattle.wjs_meaning.specs.Deeds.{Act}
 use Rattle.wjs_meaning.specs.Errors.{give_text}
 use Rattle.wjs_meaning.specs.NativesOfObjects as line
-use Rattle.wjs_moves.specs.Following.{Follows}
 use Rattle.wjs_moves.specs.Parts.{env_in}
 use Rattle.wjs_moves.proofs.Shorter.{follows_look}
 use Rattle.wjs_lines.proofs.Following.{follows_as}
@@ -22,8 +20,7 @@ returns-in-Fault g c =
     let r = c.give_fault_text.result in
     let env = env_in m old t c.args.frame.now in
     let by = λ (k : Class). line.object_text k c.args.object env (λ u. give_text u env) in
-    follows_look m (λ (arena : Arena). by (object_at arena c.args.object).class) old new r
-    (subst (λ (k : Class). OnOk r (Follows m (by k) old new)) (sym (c.in-Fault.ensures.is t)) c.give_fault_text.ensures)
+    follows_look m (λ (arena : Arena). by (object_at arena c.args.object).class) _ old new r (λ arena s. ap by (c.in-Fault.ensures.is t arena s)) c.give_fault_text.ensures
 
 pub returns-in_default : goal.returns-in_default
 returns-in_default g c =
@@ -35,5 +32,5 @@ returns-in_default g c =
     let env = env_in m old t c.args.frame.now in
     let go : Text → Act = λ u. give_text u env in
     let by = λ (k : Class). line.object_text k c.args.object env go in
-    follows_look m (λ (arena : Arena). by (object_at arena c.args.object).class) old new r
-    (follows_as m _ _ old new r (λ grows. ap go c.class_name.ensures ∙ other_text c.class_of.result c.args.object env go c.in_default.not-Fault ∙ ap by (sym (c.class_of.ensures.is t))) c.give_text.ensures)
+    follows_look m (λ (arena : Arena). by (object_at arena c.args.object).class) _ old new r (λ arena s. ap by (c.class_of.ensures.is t arena s))
+    (follows_as m _ _ old new r (λ grows. ap go c.class_name.ensures ∙ other_text c.class_of.result c.args.object env go c.in_default.not-Fault) c.give_text.ensures)

@@ -5,6 +5,7 @@ use Rattle.wjs_meaning.specs.NativesOfObjects as line
 use Rattle.wjs_meaning.specs.Table.{row_of}
 use Rattle.wjs_moves.specs.Parts.{env_in}
 use Rattle.wjs_lines.proofs.Following.{follows_as}
+use Rattle.wjs_deeds.proofs.Seeing.{plainly}
 use Rattle.wjs_native_core.proofs.functions.give_source_of.Goals as goal
 
 pub returns : goal.returns
@@ -15,5 +16,5 @@ returns g c =
     let t = new.heap.texts in
     let env = env_in m old t c.args.frame.now in
     follows_as m _ _ old new c.give_text.result
-    (λ grows. ap (λ u. give_text u env) (c.as_slice.ensures.value ∙ sym (c.in_ok-units.ensures t grows) ∙ ap (λ k. codes "function " ++ line.code_name k (λ k. (row_of k).name) env ++ codes "() { }") (sym (c.code_of.ensures.is t))))
+    (λ grows. ap (λ u. give_text u env) (c.as_slice.ensures.value ∙ sym (c.in_ok-units.ensures t grows) ∙ ap (λ k. codes "function " ++ line.code_name k (λ k. (row_of k).name) env ++ codes "() { }") (sym (c.code_of.ensures.is t _ (plainly old.heap.arena t)))))
     c.give_text.ensures

@@ -1,6 +1,7 @@
 use Rattle.std.proofs.Common.{◌≤◌, ◌++◌, List, ℕ, length, sym, ap, ◌∙◌, subst}
 use Rattle.std.specs.Prelude.{codes}
 use Rattle.wjs_base.specs.Text.{longest}
+use Rattle.wjs_arena.specs.declared.class.Class.{Class}
 use Rattle.wjs_content.specs.Objects.{Arena, object_at}
 use Rattle.wjs_content.specs.Values.{String}
 use Rattle.wjs_meaning.specs.Builtins.{shown_class}
@@ -22,6 +23,7 @@ returns g c =
     let new = c.give_short.new.config in
     let t = new.heap.texts in
     let r = c.give_short.result in
-    let said = c.as_slice.ensures.value ∙ c.in_ok-units.ensures ∙ ap (λ u. codes "[object " ++ u ++ codes "]") (c.class_name.ensures ∙ ap shown_class (sym (c.class_of-class.ensures.is t))) in
-    follows_look m (λ (arena : Arena). give (String (codes "[object " ++ shown_class (object_at arena c.args.object).class ++ codes "]"))) old new r
+    let said = c.as_slice.ensures.value ∙ c.in_ok-units.ensures ∙ ap (λ u. codes "[object " ++ u ++ codes "]") c.class_name.ensures in
+    let by = λ (k : Class). give (String (codes "[object " ++ shown_class k ++ codes "]")) in
+    follows_look m (λ (arena : Arena). by (object_at arena c.args.object).class) _ old new r (λ arena s. ap by (c.class_of-class.ensures.is t arena s))
     (follows_as m _ _ old new r (λ grows. ap (λ u. give (String u)) said) c.give_short.ensures)

@@ -1,11 +1,11 @@
-use Rattle.std.proofs.Common.{false, not, sym, ap, ◌∙◌}
+use Rattle.std.proofs.Common.{Bool, false, not, sym, ap, ◌∙◌}
 use Rattle.std.specs.Prelude.{◌&&◌, is_some}
 use Rattle.wjs_content.specs.Objects.{Arena, fixed, is_hidden}
-use Rattle.wjs_content.specs.Tables.{name_in, arena_in, value_in}
+use Rattle.wjs_content.specs.Tables.{name_in, value_in}
+use Rattle.wjs_meaning.specs.Deeds.{Act}
 use Rattle.wjs_meaning.specs.Operators.{give_truth}
 use Rattle.wjs_moves.specs.Parts.{env_in}
-use Rattle.wjs_moves.proofs.Shorter.{follows_look}
-use Rattle.wjs_lines.proofs.Following.{follows_as}
+use Rattle.wjs_lines.proofs.Following.{follows_as, follows_found}
 use Rattle.wjs_native_core.proofs.Looking.{owned, is_some_map}
 use Rattle.wjs_native_core.proofs.objects.give_own.Goals as goal
 
@@ -16,11 +16,11 @@ returns-then-is_some g c =
     let new = c.give.new.config in
     let t = new.heap.texts in
     let r = c.give.result in
-    let env = env_in m old t c.args.frame.now in
     let n = name_in t c.args.name in
-    let at = arena_in t old.heap.arena in
-    follows_look m (λ (arena : Arena). owned c.args.enumerable c.args.object n env (is_some (fixed arena c.args.object n)) (is_hidden arena c.args.object n)) old new r
-    (follows_as m _ _ old new r (λ grows. ap (λ b. owned c.args.enumerable c.args.object n env b (is_hidden at c.args.object n)) (sym (ap is_some (c.fixed.ensures.is t grows) ∙ is_some_map (value_in t) c.fixed.result ∙ sym c.is_some.ensures ∙ c.if-is_some.true))) c.give.ensures)
+    let by : Bool → Bool → Act = owned c.args.enumerable c.args.object n (env_in m old t c.args.frame.now) in
+    follows_found m (λ (arena : Arena). by (is_some (fixed arena c.args.object n)) (is_hidden arena c.args.object n)) _ old new r
+    (λ grows arena s. ap (λ b. by b (is_hidden arena c.args.object n)) (ap is_some (c.fixed.ensures.is t grows arena s) ∙ is_some_map (value_in t) c.fixed.result ∙ sym c.is_some.ensures ∙ c.if-is_some.true))
+    c.give.ensures
 
 pub returns : goal.returns
 returns g c =
@@ -29,10 +29,11 @@ returns g c =
     let new = c.give-2.new.config in
     let t = new.heap.texts in
     let r = c.give-2.result in
-    let env = env_in m old t c.args.frame.now in
     let n = name_in t c.args.name in
-    let at = arena_in t old.heap.arena in
-    follows_look m (λ (arena : Arena). owned c.args.enumerable c.args.object n env (is_some (fixed arena c.args.object n)) (is_hidden arena c.args.object n)) old new r
-    (follows_as m _ _ old new r (λ grows. ap (λ h. owned c.args.enumerable c.args.object n env false h) (sym (c.is_hidden-hidden.ensures.is t grows)) ∙ ap (λ b. owned c.args.enumerable c.args.object n env b (is_hidden at c.args.object n)) (sym (ap is_some (c.fixed.ensures.is t grows) ∙ is_some_map (value_in t) c.fixed.result ∙ sym c.is_some.ensures ∙ c.if-is_some.false)))
+    let by : Bool → Bool → Act = owned c.args.enumerable c.args.object n (env_in m old t c.args.frame.now) in
+    follows_found m (λ (arena : Arena). by (is_some (fixed arena c.args.object n)) (is_hidden arena c.args.object n)) _ old new r
+    (λ grows arena s.
+    ap (λ b. by b (is_hidden arena c.args.object n)) (ap is_some (c.fixed.ensures.is t grows arena s) ∙ is_some_map (value_in t) c.fixed.result ∙ sym c.is_some.ensures ∙ c.if-is_some.false)
+    ∙ ap (by false) (c.is_hidden-hidden.ensures.is t grows arena s))
     (c.in_ok-found.ensures.does.by (λ found. give_truth (is_some found && not (c.args.enumerable && c.is_hidden-hidden.result))) new r
-    (follows_as m _ _ c.read_content.new.config new r (λ grows. ap give_truth (sym (c.shows.ensures t))) c.give-2.ensures)))
+    (follows_as m _ _ c.read_content.new.config new r (λ grows. ap give_truth (sym (c.shows.ensures t))) c.give-2.ensures))
