@@ -15,3 +15,4 @@ pub mod Keeping
 pub mod Placing
 pub mod Texts
 pub mod Bodies
+pub mod Arguments

@@ -1,7 +1,7 @@
 -- The places of the names of a script (ECMA-262, 3rd edition, section 10.1.4).
 use Rattle.std.specs.Prelude.{◌≡◌, ℕ, true, ◌+◌, ◌≤◌, ◌<◌, List, [], ◌∷◌, ◌++◌, length, map, codes, Option, None, Some, IsSome, slice_get}
 use Rattle.wjs_base.specs.declared.ids.TextId.{TextId}
-use Rattle.wjs_base.specs.Text.{Units}
+use Rattle.wjs_base.specs.Text.{Units, Table, Has as HasText, Finds, Grows}
 use Rattle.wjs_tree.specs.declared.node.Node.{Node}
 use Rattle.wjs_tree.specs.declared.node.NodeId.{NodeId}
 use Rattle.wjs_tree.specs.declared.node.Node.TheVariants as nodes
@@ -79,3 +79,18 @@ pub record ArePlaces (ns : List Node) (arguments : Option TextId) (body : NodeId
 -- each body in the tree of a script is one that `declared` takes
 abbrev pub BodiesAreThere : Type 0
 BodiesAreThere = (ns : List Node) (body i : NodeId) (node : Node) → IsScript ns body → StandsIn ns body i → Has ns i node → is_body node ≡ true → BodyThere ns i
+
+-- a program's places are right: it is a script, and they are those of its names, with the text of `arguments` where the table has it
+pub record IsPlaced (texts : Table) (ns : List Node) (body : NodeId) (rows : Rows) : Type 0 where
+  pub script : IsScript ns body
+  pub arguments : Option TextId
+  pub found : Finds texts arguments_text arguments
+  pub places : ArePlaces ns arguments body rows
+
+-- all names that have places are in the table
+abbrev pub KnowsPlaced : Table → List Node → Type 0
+KnowsPlaced texts ns = (i : NodeId) (node : Node) (k : ℕ) (x : TextId) → Has ns i node → slice_get (placed_names node) k ≡ Some x → HasText texts x
+
+-- as the table grows, a program whose names it knows keeps its places right
+abbrev pub PlacesStay : Type 0
+PlacesStay = (old new : Table) (ns : List Node) (body : NodeId) (rows : Rows) → Grows old new → KnowsPlaced old ns → IsPlaced old ns body rows → IsPlaced new ns body rows

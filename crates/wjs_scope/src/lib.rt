@@ -17,7 +17,7 @@ mod walk;
 
 pub use body::declared;
 pub use declarations::Declared;
-pub use laws::{bodies_are_there, places_are_of_texts};
+pub use laws::{bodies_are_there, places_are_of_texts, places_stay};
 pub use place::Place;
 pub use script::places;
 pub use table::Places;
