@@ -1,6 +1,6 @@
 //! Operands that may be targets (ECMA-262, 3rd edition, sections 8.7 and 11.4).
 ghost use Rattle.std.specs.Prelude.{◌≡◌, OnOk};
-ghost use Rattle.wjs_model.specs.Soundness.{Base, IsThere};
+ghost use Rattle.wjs_model.specs.Soundness.{Base, IsThere, StandsHere};
 ghost use Rattle.wjs_moves.specs.Parts.{env_in, then_at};
 ghost use Rattle.wjs_moves.specs.Following.{Follows};
 ghost use Rattle.wjs_assigns.specs.Operands.{operand_at};
@@ -22,6 +22,7 @@ pub(crate) fn enter_operand<S: WorldStore>(
     requires running { config.old.state ≡ State.Running }
     requires base { Base S.meaning config.old }
     requires there { IsThere S.meaning config.old frame }
+    requires part { StandsHere config.old frame operand }
     ensures { let t = config.new.heap.texts in let env = env_in S.meaning config.old t frame in OnOk result (Follows S.meaning (operand_at operand.0 env (then_at S.meaning config.old frame 1 t env) (then_at S.meaning config.old frame 2 t env)) config.old config.new) }
 {
     if is_target(config, &frame, operand) {

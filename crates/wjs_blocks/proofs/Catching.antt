@@ -1,5 +1,5 @@
 -- The deeds of a handler: a scope is made, the name is written there, and then the block is entered.
-use Rattle.std.proofs.Common.{◌≡◌, ℕ, List, Option, Some, ap, ◌∙◌, subst}
+use Rattle.std.proofs.Common.{◌≡◌, ℕ, List, Option, Some, inl, inr, refl, ap, ◌∙◌, subst}
 use Rattle.std.specs.Prelude.{Result, OnOk}
 use Rattle.wjs_base.specs.declared.ids.OutOfMemory.{OutOfMemory}
 use Rattle.wjs_base.specs.declared.ids.ObjId.{ObjId}
@@ -19,6 +19,7 @@ use Rattle.wjs_meaning.specs.Reading.{node_in, number}
 use Rattle.wjs_meaning.specs.Deeds.{Env, Act, Completion, Eval, Do, Create, Write, AtStmt}
 use Rattle.wjs_meaning.specs.NewObjects.{scope_object}
 use Rattle.wjs_meaning.specs.Statements.{try_catch, try_finally}
+use Rattle.wjs_arena.specs.Entries.{scope_of}
 use Rattle.wjs_model.specs.declared.config.Config.{Config}
 use Rattle.wjs_model.specs.declared.frame.Form.{Form}
 use Rattle.wjs_model.specs.declared.frame.Form.TheVariants as form
@@ -26,9 +27,12 @@ use Rattle.wjs_model.specs.declared.frame.Frame.{Frame}
 use Rattle.wjs_model.specs.declared.unit.Unit.{Unit as Program}
 use Rattle.wjs_model.specs.Contents.{Holding, holding_in}
 use Rattle.wjs_model.specs.Waiting.{after}
+use Rattle.wjs_model.specs.Standing.{Stands}
+use Rattle.wjs_model.specs.Soundness.{IsThere}
 use Rattle.wjs_moves.specs.Doing.{Does}
 use Rattle.wjs_moves.specs.Following.{Follows, Later}
 use Rattle.wjs_moves.specs.Parts.{env_in, then_at, node_among, node_now}
+use Rattle.wjs_moves.proofs.Parting.{caught_here, stands_later}
 use Rattle.wjs_deeds.proofs.Later.{later_twice}
 use Rattle.wjs_deeds.proofs.Composing.{env_later}
 use Rattle.wjs_lines.proofs.Following.{follows_as}
@@ -60,3 +64,10 @@ module _ {S : Type 0} (meaning : S → Meaning) (old mid late new : Config S) (f
       let put : Text → Act = λ x. Do (Write frame.world (slot scope x) (Some (value_in t v))) (λ done. go) in
       made.by (λ s. Do (Write frame.world (slot s (text_in t h.name)) (Some (value_in t v))) (λ done. Eval (AtStmt h.block.0) (record env { scope = s }) (try_finally (number f) env))) new r
       (follows_as meaning (put (name_in t name)) (put (text_in t h.name)) mid new r (λ grows. ap put (named t grows)) (wrote.by (λ done. go) new r block))
+
+-- the block stands in the scope that was made, and does after the write
+pub caught_stands_later : {S : Type 0} (meaning : S → Meaning) (old mid late : Config S) (frame : Frame) (b : NodeId) (h : Handler) (f : Option NodeId) (scope : ObjId) → IsThere meaning old frame → node_now meaning old frame ≡ nodes.Try b (Some h) f
+    → Later meaning old mid → scope_of mid.heap.arena scope ≡ Some frame.scope → Later meaning mid late → Stands late.units.items late.heap.arena frame.tree h.block scope 0
+caught_stands_later meaning old mid late frame b h f scope there is later_mid outer later_late =
+    let is_mid : node_now meaning mid frame ≡ nodes.Try b (Some h) f = ap (λ (us : List Program). node_among us frame.tree frame.node) (λ i. (later_mid.units i).items) ∙ is in
+    stands_later meaning mid (record frame { scope = scope }) late h.block later_late (caught_here meaning mid frame (nodes.Try b (Some h) f) h.block (later_mid.frames frame there) is_mid h.name scope (inr (inl refl)) outer)

@@ -1,4 +1,5 @@
 pub mod Cases
 pub mod Catching
 pub mod Inner
+pub mod Standing
 pub mod Switching

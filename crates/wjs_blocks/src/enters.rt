@@ -1,8 +1,10 @@
 //! Parts that are entered elsewhere than where the frame is run.
-ghost use Rattle.std.specs.Prelude.{◌≡◌, [], OnOk};
+ghost use Rattle.std.specs.Prelude.{◌≡◌, [], Some, OnOk};
+ghost use Rattle.wjs_arena.specs.Entries.{scope_of};
 ghost use Rattle.wjs_meaning.specs.Deeds.{Eval, Ret};
-ghost use Rattle.wjs_model.specs.Soundness.{Base, IsThere, HasObject, HasWorld};
-ghost use Rattle.wjs_moves.specs.Parts.{env_in, then_at, goal_of};
+ghost use Rattle.wjs_model.specs.Soundness.{Base, IsThere, HasObject, HasWorld, StandsHere};
+ghost use Rattle.wjs_model.specs.Standing.{Stands, IsShown};
+ghost use Rattle.wjs_moves.specs.Parts.{env_in, then_at, goal_of, node_of};
 ghost use Rattle.wjs_moves.specs.Following.{Follows};
 
 use wjs_base::{ObjId, OutOfMemory, WorldId};
@@ -27,7 +29,7 @@ fn like(frame: &Frame, scope: ObjId, world: WorldId, held: Items) -> Frame
     }
 }
 
-/// The frame waits at a place for a part, which is entered in a scope.
+/// The frame waits at a place for a part, which is entered in a scope inside the frame's.
 pub(crate) fn enter_in<S: WorldStore>(
     config: &mut Config<S>,
     frame: Frame,
@@ -39,6 +41,8 @@ pub(crate) fn enter_in<S: WorldStore>(
     requires base { Base S.meaning config.old }
     requires there { IsThere S.meaning config.old frame }
     requires scope { HasObject config.old scope }
+    requires outer { scope_of config.old.heap.arena scope ≡ Some frame.scope }
+    requires part { Stands config.old.units.items config.old.heap.arena frame.tree (node_of part) scope 0 }
     ensures { let t = config.new.heap.texts in let env = env_in S.meaning config.old t frame in OnOk result (Follows S.meaning (Eval (goal_of part) (record env { scope = scope }) (then_at S.meaning config.old frame place t env)) config.old config.new) }
 {
     let inner = like(&frame, scope, frame.world, config.frames.nothing_held());
@@ -57,6 +61,8 @@ pub(crate) fn enter_within<S: WorldStore>(
     requires base { Base S.meaning config.old }
     requires there { IsThere S.meaning config.old frame }
     requires world { HasWorld S.meaning config.old world }
+    requires shown { IsShown config.old.heap.arena world }
+    requires part { StandsHere config.old frame (node_of part) }
     ensures { let t = config.new.heap.texts in let env = env_in S.meaning config.old t frame in OnOk result (Follows S.meaning (Eval (goal_of part) (record env { world = world }) Ret) config.old config.new) }
 {
     let mut frame = frame;

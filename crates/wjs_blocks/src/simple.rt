@@ -1,12 +1,12 @@
 //! Statements of one expression (sections 12.4, 12.5, 12.9 and 12.13).
-ghost use Rattle.std.specs.Prelude.{◌≡◌, OnOk};
+ghost use Rattle.std.specs.Prelude.{◌≡◌, IfSome, OnOk};
 ghost use Rattle.wjs_content.specs.Tables.{value_in};
 ghost use Rattle.wjs_meaning.specs.Trees.{Return};
 ghost use Rattle.wjs_meaning.specs.Deeds.{then_value};
 ghost use Rattle.wjs_meaning.specs.Reading.{number};
 ghost use Rattle.wjs_meaning.specs.Statements.{stmt_of, expr_done, if_test, else_of, return_value, throw_value};
 ghost use Rattle.wjs_model.specs.Contents.{completion_in};
-ghost use Rattle.wjs_model.specs.Soundness.{Base, IsThere, HasValue, HasCompletion};
+ghost use Rattle.wjs_model.specs.Soundness.{Base, IsThere, HasValue, HasCompletion, StandsHere};
 ghost use Rattle.wjs_moves.specs.Parts.{env_in, node_now};
 ghost use Rattle.wjs_moves.specs.Following.{Follows};
 
@@ -46,6 +46,8 @@ pub fn if_next<S: WorldStore>(
     requires running { config.old.state ≡ State.Running }
     requires base { Base S.meaning config.old }
     requires there { IsThere S.meaning config.old frame }
+    requires yes { StandsHere config.old frame s }
+    requires no { IfSome other (StandsHere config.old frame) }
     requires completion { HasCompletion config.old completion }
     ensures { let t = config.new.heap.texts in let env = env_in S.meaning config.old t frame in OnOk result (Follows S.meaning (then_value (if_test s.0 (number other) env) (completion_in t completion)) config.old config.new) }
 {
@@ -66,6 +68,8 @@ fn if_test<S: WorldStore>(
     requires running { config.old.state ≡ State.Running }
     requires base { Base S.meaning config.old }
     requires there { IsThere S.meaning config.old frame }
+    requires yes { StandsHere config.old frame s }
+    requires no { IfSome other (StandsHere config.old frame) }
     requires value { HasValue config.old value }
     ensures { let t = config.new.heap.texts in let env = env_in S.meaning config.old t frame in OnOk result (Follows S.meaning (if_test s.0 (number other) env (value_in t value)) config.old config.new) }
 {
@@ -85,6 +89,7 @@ fn else_start<S: WorldStore>(
     requires running { config.old.state ≡ State.Running }
     requires base { Base S.meaning config.old }
     requires there { IsThere S.meaning config.old frame }
+    requires no { IfSome other (StandsHere config.old frame) }
     ensures { let t = config.new.heap.texts in let env = env_in S.meaning config.old t frame in OnOk result (Follows S.meaning (else_of (number other) env) config.old config.new) }
 {
     match other {

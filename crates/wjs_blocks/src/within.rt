@@ -4,7 +4,7 @@ ghost use Rattle.wjs_content.specs.Tables.{value_in};
 ghost use Rattle.wjs_meaning.specs.Deeds.{then_value};
 ghost use Rattle.wjs_meaning.specs.Statements.{within_value};
 ghost use Rattle.wjs_model.specs.Contents.{completion_in};
-ghost use Rattle.wjs_model.specs.Soundness.{Base, IsThere, HasValue, HasCompletion};
+ghost use Rattle.wjs_model.specs.Soundness.{Base, IsThere, HasValue, HasCompletion, StandsHere};
 ghost use Rattle.wjs_moves.specs.Parts.{env_in};
 ghost use Rattle.wjs_moves.specs.Following.{Follows};
 
@@ -26,6 +26,7 @@ pub fn within_next<S: WorldStore>(
     requires running { config.old.state ≡ State.Running }
     requires base { Base S.meaning config.old }
     requires there { IsThere S.meaning config.old frame }
+    requires part { StandsHere config.old frame b }
     requires completion { HasCompletion config.old completion }
     ensures { let t = config.new.heap.texts in let env = env_in S.meaning config.old t frame in OnOk result (Follows S.meaning (then_value (within_value b.0 env) (completion_in t completion)) config.old config.new) }
 {
@@ -45,6 +46,7 @@ fn within<S: WorldStore>(
     requires running { config.old.state ≡ State.Running }
     requires base { Base S.meaning config.old }
     requires there { IsThere S.meaning config.old frame }
+    requires part { StandsHere config.old frame b }
     requires value { HasValue config.old value }
     ensures { let t = config.new.heap.texts in let env = env_in S.meaning config.old t frame in OnOk result (Follows S.meaning (within_value b.0 env (value_in t value)) config.old config.new) }
 {

@@ -1,5 +1,7 @@
 pub mod Rows
+pub mod StandingFunctions
 pub mod Entered
+pub mod Frames
 pub mod FunctionNodes
 pub mod FunctionObjects
 pub mod Elements

@@ -1,6 +1,7 @@
 -- Two objects that are made at once, of which the first may name the second.
 use Rattle.std.proofs.Common.{◌≡◌, ℕ, ◌+◌, ◌<◌, List, [], ◌∷◌, ◌++◌, Bool, true, false, cond, ◌⊎◌, inl, inr, Option, None, Some, refl, sym, ap, ◌∙◌, subst, append-nil, IsTrue, arith}
 use Rattle.std.specs.Prelude.{is_some}
+use Rattle.std.specs.Option.{option_and_then}
 use Rattle.std.specs.FinMap as map
 use Rattle.std.specs.Ordering.{eq_by_cmp}
 use Rattle.std.specs.Cmp.{Equal-is}
@@ -15,8 +16,10 @@ use Rattle.wjs_base.specs.Text.{Table, Grows}
 use Rattle.wjs_base.proofs.TextLaws.{Grows-refl}
 use Rattle.wjs_store.specs.Meaning.{Meaning}
 use Rattle.wjs_rename.specs.Names.{Holds}
+use Rattle.wjs_arena.specs.declared.object.Code.TheVariants as code
 use Rattle.wjs_arena.specs.declared.object.Object.{Object}
-use Rattle.wjs_arena.specs.Entries.{Objects, Entry, IsArena, IsThere, Keeps, has, created as numbered_created, next_number as number_of_next, entry_over}
+use Rattle.wjs_arena.specs.Entries.{Objects, Entry, IsArena, IsThere, Keeps, has, created as numbered_created, next_number as number_of_next, entry_over, scope_of}
+use Rattle.wjs_arena.proofs.Owners.{key_itself}
 use Rattle.wjs_content.specs.Objects.{Internals, created, next_number}
 use Rattle.wjs_content.specs.Tables.{arena_in, object_in}
 use Rattle.wjs_content.proofs.ArenaMaps.{number_same, created_same}
@@ -31,13 +34,16 @@ use Rattle.wjs_model.specs.Configurations.{state_in}
 use Rattle.wjs_model.proofs.Beside.{number_beside, created_beside}
 use Rattle.wjs_model.specs.Apart.{NamesNear}
 use Rattle.wjs_model.specs.Soundness.{Base}
+use Rattle.wjs_model.specs.Standing.{FunctionStands}
+use Rattle.wjs_model.proofs.Standing.{code_kept}
 use Rattle.wjs_moves.specs.Doing.{Does}
 use Rattle.wjs_moves.specs.Following.{Later}
 use Rattle.wjs_deeds.proofs.Composing.{does_then}
+use Rattle.wjs_deeds.proofs.Making.{no_code}
 use Rattle.wjs_deeds.proofs.Running.{Ran, does_ran, told_same}
 use Rattle.wjs_deeds.proofs.Steps.{there_named}
 use Rattle.wjs_deeds.proofs.Staying.{later_on}
-use Rattle.wjs_calls.specs.TwoObjects.{second_number, NamesSecond}
+use Rattle.wjs_calls.specs.TwoObjects.{second_number, NamesSecond, StandsSecond}
 
 -- ---- numbers
 
@@ -172,8 +178,17 @@ module _ {S : Type 0} (meaning : S → Meaning) where
         (does_ran meaning _ _ old (with_objects old mid) (ran_made first x old mid is_mid keeps_mid on in_scope one))
         (does_ran meaning _ _ (with_objects old mid) (with_objects old new) (ran_made (λ t. second t s) y (with_objects old mid) new is_new keeps_new on_second in_second two))
 
+    keeps : Keeps old.heap.arena new
+    keeps = keeps_twice old.heap.arena mid new keeps_mid keeps_new
+
     more : (o : ObjId) → IsTrue (has old.heap.arena o) → IsTrue (has new o)
-    more = has_more old.heap.arena new (keeps_twice old.heap.arena mid new keeps_mid keeps_new)
+    more = has_more old.heap.arena new keeps
+
+    -- the first leads outwards
+    first_outwards : scope_of new (number_of_next old.heap.arena old.owner) ≡ x.scope
+    first_outwards =
+        let o = number_of_next old.heap.arena old.owner in
+        ap (option_and_then (λ (e : Entry). e.object.scope)) (keeps_new o (entry_over old.heap.arena x) (found old.heap.arena mid old.owner x is_mid o ∙ ap (λ b. cond b (Some (entry_over old.heap.arena x)) (map.get old.heap.arena o)) (key_itself o)))
 
     -- the second is there under its number
     pub second_there : (one two : ObjId) → IsArena old.heap.arena → IsArena mid → one ≡ number_of_next old.heap.arena old.owner → IsTrue (has mid one) → two ≡ number_of_next mid old.owner → IsTrue (has new two) → IsTrue (has new (second_number old.heap.arena old.owner))
@@ -198,8 +213,8 @@ module _ {S : Type 0} (meaning : S → Meaning) where
     no_world z e w arena none same is = let q : z.world ≡ Some w = ap (λ (r : Entry). r.object.world) same ∙ is in cc
 
     -- and all that was there is there
-    pub later_pair : Base meaning old → IsArena new → NamesSecond old.heap.texts old.heap.arena old.owner x → NamesSecond old.heap.texts old.heap.arena old.owner y → IsTrue (has new (second_number old.heap.arena old.owner)) → NamesNear old.apart.items x → NamesNear old.apart.items y → x.world ≡ None → y.world ≡ None → Later meaning old (with_objects old new)
-    later_pair b arena one two there near_x near_y none_x none_y = later_on meaning old (with_objects old new).heap (Grows-refl old.heap.texts) more (λ w h. h) b (heap_pair b.heap arena (one new more there) (two new more there)) b.marks b.told b.works
+    pub later_pair : Base meaning old → IsArena new → NamesSecond old.heap.texts old.heap.arena old.owner x → NamesSecond old.heap.texts old.heap.arena old.owner y → IsTrue (has new (second_number old.heap.arena old.owner)) → NamesNear old.apart.items x → NamesNear old.apart.items y → x.world ≡ None → y.world ≡ None → x.code ≡ code.None → StandsSecond old.units.items old.heap.arena old.owner x y → Later meaning old (with_objects old new)
+    later_pair b arena one two there near_x near_y none_x none_y no_function stands = later_on meaning old (with_objects old new).heap (Grows-refl old.heap.texts) keeps (λ w h. h) b (heap_pair b.heap arena (one new more there) (two new more there)) b.marks b.told b.works
         (λ o e w q k l. elim (new_or_old mid new old.owner y is_new o e q) [
           | inl same ↦ absurd (no_world y e w mid none_y same k)
           | inr q' ↦ elim (new_or_old old.heap.arena mid old.owner x is_mid o e q') [
@@ -223,4 +238,11 @@ module _ {S : Type 0} (meaning : S → Meaning) where
             ]
           ];
           slots = b.near_slots;
+          functions = λ o e q. elim (new_or_old mid new old.owner y is_new o e q) [
+            | inl same ↦ subst (λ (z : Entry). FunctionStands old.units.items new z.object.code z.object.scope) same (stands new keeps first_outwards)
+            | inr q' ↦ elim (new_or_old old.heap.arena mid old.owner x is_mid o e q') [
+              | inl same ↦ subst (λ (z : Entry). FunctionStands old.units.items new z.object.code z.object.scope) same (no_code old.units.items new x x.scope no_function)
+              | inr q'' ↦ code_kept old.heap.arena new keeps old.units.items e.object.code e.object.scope (b.functions o e q'')
+            ]
+          ];
         })

@@ -1,4 +1,5 @@
 pub mod Callees
 pub mod Making
 pub mod Leaving
+pub mod Standing
 pub mod TwoObjects

@@ -1,5 +1,5 @@
 //! Functions that scripts make (ECMA-262, 3rd edition, sections 10.1.3 and 13).
-ghost use Rattle.std.specs.Prelude.{◌≡◌, IfOk, OnOk, Some};
+ghost use Rattle.std.specs.Prelude.{◌≡◌, All, IfOk, OnOk, Some};
 ghost use Rattle.std.specs.Option.{option_map};
 ghost use Rattle.wjs_base.specs.Text.{Has};
 ghost use Rattle.wjs_content.specs.Tables.{text_in};
@@ -7,10 +7,12 @@ ghost use Rattle.wjs_model.specs.Texts.{HasText};
 ghost use Rattle.wjs_meaning.specs.Reading.{numbers};
 ghost use Rattle.wjs_meaning.specs.Functions as line;
 ghost use Rattle.wjs_model.specs.Soundness.{Base, IsThere, HasObject};
+ghost use Rattle.wjs_model.specs.Standing.{IsFunction};
 ghost use Rattle.wjs_moves.specs.Doing.{Does, DoesFirst};
 ghost use Rattle.wjs_moves.specs.Parts.{env_in};
 ghost use Rattle.wjs_moves.specs.Following.{Later};
 ghost use Rattle.wjs_calls.specs.Making.{prototype_given, declare_one, declared_as};
+ghost use Rattle.wjs_calls.specs.Standing.{StandsNamed};
 
 use crate::bodies::own_name;
 use crate::makes::{create_function, create_prototype};
@@ -31,6 +33,7 @@ pub fn make_function_in<S: WorldStore>(
     requires base { Base S.meaning config.old }
     requires there { IsThere S.meaning config.old frame.now }
     requires scope { HasObject config.old scope }
+    requires stands { IsFunction config.old.units.items config.old.heap.arena frame.now.tree body scope 0 }
     ensures does { IfOk result (λ o. Does S.meaning (λ t. line.make_function_in body.0 scope (env_in S.meaning config.old t frame.now)) (λ t. o) config.old config.new) }
     ensures later { OnOk result (Later S.meaning config.old config.new) }
     ensures found { IfOk result (λ o. HasObject config.new o) }
@@ -50,6 +53,7 @@ pub fn make_function<S: WorldStore>(
     requires base { Base S.meaning config.old }
     requires there { IsThere S.meaning config.old frame.now }
     requires name { HasText config.old.heap.texts name }
+    requires stands { StandsNamed config.old.units.items config.old.heap.arena frame.now.tree body frame.now.scope name }
     ensures does { IfOk result (λ o. Does S.meaning (λ t. line.make_function body.0 (option_map (text_in t) name) (env_in S.meaning config.old t frame.now)) (λ t. o) config.old config.new) }
     ensures later { OnOk result (Later S.meaning config.old config.new) }
     ensures found { IfOk result (λ o. HasObject config.new o) }
@@ -70,6 +74,7 @@ fn make_named<S: WorldStore>(
     requires base { Base S.meaning config.old }
     requires there { IsThere S.meaning config.old frame.now }
     requires name { Has config.old.heap.texts name }
+    requires stands { StandsNamed config.old.units.items config.old.heap.arena frame.now.tree body frame.now.scope (Some name) }
     ensures does { IfOk result (λ o. Does S.meaning (λ t. line.make_function body.0 (Some (text_in t name)) (env_in S.meaning config.old t frame.now)) (λ t. o) config.old config.new) }
     ensures later { OnOk result (Later S.meaning config.old config.new) }
     ensures found { IfOk result (λ o. HasObject config.new o) }
@@ -113,6 +118,7 @@ pub fn declare_functions<S: WorldStore>(
     requires base { Base S.meaning config.old }
     requires there { IsThere S.meaning config.old frame.now }
     requires holder { HasObject config.old holder }
+    requires stand { All (λ i. IsFunction config.old.units.items config.old.heap.arena frame.now.tree i frame.now.scope 0) functions.now }
     ensures does { OnOk result (DoesFirst S.meaning (λ t. line.declare_functions (numbers functions.now) holder (env_in S.meaning config.old t frame.now)) config.old config.new) }
     ensures later { OnOk result (Later S.meaning config.old config.new) }
 {
@@ -132,6 +138,7 @@ fn declare_function<S: WorldStore>(
     requires base { Base S.meaning config.old }
     requires there { IsThere S.meaning config.old frame.now }
     requires holder { HasObject config.old holder }
+    requires stands { IsFunction config.old.units.items config.old.heap.arena frame.now.tree function frame.now.scope 0 }
     ensures does { OnOk result (DoesFirst S.meaning (λ t. declare_one function.0 holder (env_in S.meaning config.old t frame.now)) config.old config.new) }
     ensures later { OnOk result (Later S.meaning config.old config.new) }
 {

@@ -11,6 +11,7 @@ ghost use Rattle.wjs_meaning.specs.Trees.{formals_of};
 ghost use Rattle.wjs_meaning.specs.Functions as line;
 ghost use Rattle.wjs_model.specs.Apart.{IsNear, NamesNear};
 ghost use Rattle.wjs_model.specs.Soundness.{Base, HasObject, HasName};
+ghost use Rattle.wjs_model.specs.Standing.{IsFunction};
 ghost use Rattle.wjs_moves.specs.Doing.{Does};
 ghost use Rattle.wjs_moves.specs.Parts.{env_in};
 ghost use Rattle.wjs_moves.specs.Following.{Later};
@@ -66,6 +67,7 @@ pub(crate) fn function_object<S: WorldStore>(
     ensures is { IfOk result (λ x. (t : Table) → Grows config.now.heap.texts t → object_in t x ≡ line.function_object frame.now.tree body.0 (length (formals_of (node_here (env_in S.meaning config.now t frame.now) body.0))) scope) }
     ensures prototype { IfOk result (λ x. x.prototype ≡ Some function_prototype) }
     ensures scope { IfOk result (λ x. x.scope ≡ Some scope) }
+    ensures code { IfOk result (λ x. x.code ≡ Code.Script frame.now.tree (record { 0 = body.0 })) }
     ensures world { IfOk result (λ x. x.world ≡ None) }
     ensures near { IfOk result (λ x. NamesNear config.now.apart.items x) }
     ensures named { IfOk result (λ x. HasNamed config.now.heap.texts config.now.heap.arena x) }
@@ -99,6 +101,7 @@ pub(crate) fn create_function<S: WorldStore>(
 ) -> Result<ObjId, OutOfMemory>
     requires base { Base S.meaning config.old }
     requires scope { HasObject config.old scope }
+    requires stands { IsFunction config.old.units.items config.old.heap.arena frame.now.tree body scope 0 }
     ensures does { IfOk result (λ o. Does S.meaning (λ t go. Do (Create config.old.owner (line.function_object frame.now.tree body.0 (length (formals_of (node_here (env_in S.meaning config.old t frame.now) body.0))) scope)) go) (λ t. o) config.old config.new) }
     ensures later { OnOk result (Later S.meaning config.old config.new) }
     ensures found { IfOk result (λ o. HasObject config.new o) }

@@ -1,5 +1,5 @@
 //! Functions with a name of their own (ECMA-262, 3rd edition, section 13).
-ghost use Rattle.std.specs.Prelude.{◌≡◌, IfOk, OnOk};
+ghost use Rattle.std.specs.Prelude.{◌≡◌, IfOk, OnOk, Some};
 ghost use Rattle.wjs_base.specs.Text.{Has};
 ghost use Rattle.wjs_content.specs.Tables.{text_in};
 ghost use Rattle.wjs_model.specs.Soundness.{Base, IsThere, HasObject};
@@ -7,6 +7,7 @@ ghost use Rattle.wjs_moves.specs.Doing.{Does};
 ghost use Rattle.wjs_moves.specs.Parts.{env_in};
 ghost use Rattle.wjs_moves.specs.Following.{Later};
 ghost use Rattle.wjs_calls.specs.Making.{named_made, scope_of_name};
+ghost use Rattle.wjs_calls.specs.Standing.{StandsNamed};
 
 use crate::makes::{function_names, function_object};
 use crate::pairs::create_pair;
@@ -29,6 +30,7 @@ pub(crate) fn create_named<S: WorldStore>(
     requires base { Base S.meaning config.old }
     requires there { IsThere S.meaning config.old frame.now }
     requires text { Has config.old.heap.texts id }
+    requires stands { StandsNamed config.old.units.items config.old.heap.arena frame.now.tree body frame.now.scope (Some id) }
     ensures does { IfOk result (λ o. Does S.meaning (λ t. named_made body.0 (text_in t id) (env_in S.meaning config.old t frame.now)) (λ t. o) config.old config.new) }
     ensures later { OnOk result (Later S.meaning config.old config.new) }
     ensures found { IfOk result (λ o. HasObject config.new o) }

@@ -1,7 +1,9 @@
 -- After each kind of deed what was there is there.
-use Rattle.std.proofs.Common.{◌≡◌, Bool, true, false, cond, Option, None, Some, refl, sym, ap, ◌∙◌, subst, IsTrue}
-use Rattle.std.specs.Prelude.{is_some, not}
+use Rattle.std.proofs.Common.{◌≡◌, ℕ, Vec, Global, Bool, true, false, cond, Option, None, Some, refl, sym, ap, ◌∙◌, subst, IsTrue}
+use Rattle.std.specs.Prelude.{not}
+use Rattle.std.specs.Option.{option_and_then}
 use Rattle.std.specs.FinMap as map
+use Rattle.std.proofs.lemmas.List.Elements.{All-weaker}
 use Rattle.std.specs.Ordering.{eq_by_cmp}
 use Rattle.std.specs.Cmp.{Equal-is}
 use Rattle.wjs_base.specs.declared.ids.ObjId.{ObjId}
@@ -12,7 +14,8 @@ use Rattle.wjs_base.proofs.TextLaws.{Grows-refl, Grows-trans}
 use Rattle.wjs_store.specs.State.{Act as Action, commit, has_world}
 use Rattle.wjs_store.specs.Meaning.{Meaning, worlds}
 use Rattle.wjs_arena.specs.declared.object.Object.{Object}
-use Rattle.wjs_arena.specs.Entries.{Objects, Entry, has, next_number, entry_over}
+use Rattle.wjs_arena.specs.Entries.{Objects, Entry, Keeps, next_number, entry_over, created, scope_of}
+use Rattle.wjs_arena.proofs.Owners.{key_itself}
 use Rattle.wjs_content.specs.Names.{Slot}
 use Rattle.wjs_content.specs.Values.{Value}
 use Rattle.wjs_content.specs.Plans.{Plan, Heard}
@@ -24,8 +27,10 @@ use Rattle.wjs_props.specs.Heap.{Performs, KnowsTold}
 use Rattle.wjs_props.specs.Means.{parts}
 use Rattle.wjs_props.proofs.Growing.{heap_grows}
 use Rattle.wjs_model.specs.declared.config.Config.{Config}
-use Rattle.wjs_model.specs.Soundness.{HasObject, HasWorld, Base}
+use Rattle.wjs_model.specs.Soundness.{HasObject, HasWorld, IsThere, Base}
 use Rattle.wjs_model.specs.Apart.{is_apart, IsNear, NearSlots, NamesNear}
+use Rattle.wjs_model.specs.Standing.{FunctionStands}
+use Rattle.wjs_model.proofs.Standing.{code_kept}
 use Rattle.wjs_moves.specs.Following.{Later}
 use Rattle.wjs_deeds.proofs.Staying.{StaysApart, later_on, later_there}
 use Rattle.wjs_deeds.proofs.Nearing.{Left}
@@ -36,7 +41,7 @@ module _ {S : Type 0} (meaning : S → Meaning) where
   not_both false h k = absurd (cc)
 
   pub later_same : (old : Config S) → Base meaning old → Later meaning old old
-  later_same old b = later_there old old (Grows-refl old.heap.texts) (λ o h. h) meaning (λ w h. h) refl refl refl refl b
+  later_same old b = later_there old old (Grows-refl old.heap.texts) (λ o h. h) meaning (λ w h. h) (λ o e h. h) refl refl refl refl b
 
   pub later_twice : (old mid new : Config S) → Later meaning old mid → Later meaning mid new → Later meaning old new
   later_twice old mid new f s = record {
@@ -53,12 +58,13 @@ module _ {S : Type 0} (meaning : S → Meaning) where
     completions = λ x h. s.completions x (f.completions x h);
     items = λ x h. s.items x (f.items x h);
     worlds = λ x h. s.worlds x (f.worlds x h);
+    arena = λ o e h. s.arena o e (f.arena o e h);
     texts = Grows-trans old.heap.texts mid.heap.texts new.heap.texts f.texts s.texts;
   }
 
   -- the objects stay
-  same_objects : (old new : Objects) → new ≡ old → (o : ObjId) → IsTrue (has old o) → IsTrue (has new o)
-  same_objects old new e o h = subst (λ (m : Objects). IsTrue (has m o)) (sym e) h
+  same_objects : (old new : Objects) → new ≡ old → Keeps old new
+  same_objects old new e o x h = ap (λ (m : Objects). map.get m o) e ∙ h
 
   -- where the objects stay, and no world is new
   stays_apart : (old : Config S) (heap : Heap S) → Base meaning old → heap.arena ≡ old.heap.arena → Left meaning old heap → StaysApart meaning old heap
@@ -66,6 +72,7 @@ module _ {S : Type 0} (meaning : S → Meaning) where
     no_worlds = λ o e w h a k there. b.no_worlds o e w (ap (λ (m : Objects). map.get m o) (sym arena) ∙ h) a k (left.were w there);
     objects = λ o e h. b.near_objects o e (ap (λ (m : Objects). map.get m o) (sym arena) ∙ h);
     slots = left.slots;
+    functions = λ o e h. subst (λ (m : Objects). FunctionStands old.units.items m e.object.code e.object.scope) (sym arena) (b.functions o e (ap (λ (m : Objects). map.get m o) (sym arena) ∙ h));
   }
 
   pub later_plan : {A : Type 0} (w : WorldId) (plan : Table → Plan A) (answer : Table → A) (old : Config S) (heap : Heap S) → Base meaning old → Performs w plan answer (parts meaning old.heap) (parts meaning heap) → Left meaning old heap → Later meaning old (record old { heap = heap })
@@ -81,22 +88,39 @@ module _ {S : Type 0} (meaning : S → Meaning) where
 
   -- more texts
   pub later_texts : (old : Config S) (texts : Table) → Base meaning old → IsTable texts → Grows old.heap.texts texts → Later meaning old (record old { heap = record old.heap { texts = texts } })
-  later_texts old texts b table g = later_on meaning old (record old.heap { texts = texts }) g (λ o h. h) (λ w h. h) b (heap_grows (parts meaning old.heap) texts table g b.heap) (worlds_grow old.heap.texts texts g (worlds (meaning old.heap.store)) b.marks).0 (λ t later. b.told t (Grows-trans old.heap.texts texts t g later) ∙ sym (b.told texts g)) b.works b.own_worlds
-      (record { no_worlds = b.no_worlds; objects = b.near_objects; slots = b.near_slots })
+  later_texts old texts b table g = later_on meaning old (record old.heap { texts = texts }) g (λ o e h. h) (λ w h. h) b (heap_grows (parts meaning old.heap) texts table g b.heap) (worlds_grow old.heap.texts texts g (worlds (meaning old.heap.store)) b.marks).0 (λ t later. b.told t (Grows-trans old.heap.texts texts t g later) ∙ sym (b.told texts g)) b.works b.own_worlds
+      (record { no_worlds = b.no_worlds; objects = b.near_objects; slots = b.near_slots; functions = b.functions })
+
+  -- other output
+  pub base_out : (old : Config S) (pending : Vec ℕ Global) → Base meaning old → Base meaning (record old { pending = pending })
+  base_out old pending b = record {
+    heap = b.heap;
+    works = b.works;
+    global = b.global;
+    world = b.world;
+    builtins = b.builtins;
+    units = b.units;
+    places = b.places;
+    functions = b.functions;
+    own_worlds = b.own_worlds;
+    own = b.own;
+    no_worlds = b.no_worlds;
+    near_objects = b.near_objects;
+    near_slots = b.near_slots;
+    frames = All-weaker (IsThere meaning old) (IsThere meaning (record old { pending = pending })) (λ f h. record { scope = h.scope; this = h.this; world = h.world; held = h.held; phase = h.phase; stands = h.stands }) old.frames b.frames;
+    marks = b.marks;
+    told = b.told;
+  }
+
+  pub later_out : (old : Config S) (pending : Vec ℕ Global) → Base meaning old → Later meaning old (record old { pending = pending })
+  later_out old pending b = later_there old (record old { pending = pending }) (Grows-refl old.heap.texts) (λ o h. h) meaning (λ w h. h) (λ o e h. h) refl refl refl refl (base_out old pending b)
 
   -- one object more, whose world is there
-  pub later_create : (x : Object) (id : ObjId) (old : Config S) (heap : Heap S) → Base meaning old → Creates old.owner x id (parts meaning old.heap) (parts meaning heap) → NamesNear old.apart.items x → ((w : WorldId) → x.world ≡ Some w → HasWorld meaning old w) → Later meaning old (record old { heap = heap })
-  later_create x id old heap b c near own = later_on meaning old heap texts objects (λ w h. subst (λ (m : Meaning). IsTrue (has_world (worlds m) w)) (sym c.store) h) b c.heap marks told (subst (λ (m : Meaning). IsTrue (not m.spent)) (sym c.store) b.works) worlds_there apart
+  pub later_create : (x : Object) (id : ObjId) (old : Config S) (heap : Heap S) → Base meaning old → Creates old.owner x id (parts meaning old.heap) (parts meaning heap) → NamesNear old.apart.items x → FunctionStands old.units.items old.heap.arena x.code x.scope → ((w : WorldId) → x.world ≡ Some w → HasWorld meaning old w) → Later meaning old (record old { heap = heap })
+  later_create x id old heap b c near code own = later_on meaning old heap texts c.keeps (λ w h. subst (λ (m : Meaning). IsTrue (has_world (worlds m) w)) (sym c.store) h) b c.heap marks told (subst (λ (m : Meaning). IsTrue (not m.spent)) (sym c.store) b.works) worlds_there apart
     where
       texts : Grows old.heap.texts heap.texts
       texts = subst (Grows old.heap.texts) (sym c.texts) (Grows-refl old.heap.texts)
-
-      kept : (o : ObjId) (r : Option Entry) → map.get old.heap.arena o ≡ r → IsTrue (is_some r) → IsTrue (has heap.arena o)
-      kept o None q h = absurd (cc)
-      kept o (Some e) q h = ap is_some (c.keeps o e q)
-
-      objects : (o : ObjId) → IsTrue (has old.heap.arena o) → IsTrue (has heap.arena o)
-      objects o h = kept o (map.get old.heap.arena o) refl h
 
       marks : KnowsWorlds heap.texts (worlds (meaning heap.store))
       marks = subst (λ (m : Meaning). KnowsWorlds heap.texts (worlds m)) (sym c.store) (subst (λ t. KnowsWorlds t (worlds (meaning old.heap.store))) (sym c.texts) b.marks)
@@ -116,6 +140,10 @@ module _ {S : Type 0} (meaning : S → Meaning) where
       near_object o e true q h = let is : entry_over old.heap.arena x ≡ e = cc in subst (λ (z : Entry). NamesNear old.apart.items z.object) is near
       near_object o e false q h = b.near_objects o e q h
 
+      function : (o : ObjId) (e : Entry) (same : Bool) → cond same (Some (entry_over old.heap.arena x)) (map.get old.heap.arena o) ≡ Some e → FunctionStands old.units.items heap.arena e.object.code e.object.scope
+      function o e true q = let is : entry_over old.heap.arena x ≡ e = cc in subst (λ (z : Entry). FunctionStands old.units.items heap.arena z.object.code z.object.scope) is (code_kept old.heap.arena heap.arena c.keeps old.units.items x.code x.scope code)
+      function o e false q = code_kept old.heap.arena heap.arena c.keeps old.units.items e.object.code e.object.scope (b.functions o e q)
+
       no_world : (o : ObjId) (e : Entry) (w : WorldId) (same : Bool) → eq_by_cmp obj_cmp o (next_number old.heap.arena old.owner) ≡ same → cond same (Some (entry_over old.heap.arena x)) (map.get old.heap.arena o) ≡ Some e → IsTrue (is_apart old.apart.items o.owner) → e.object.world ≡ Some w → HasWorld meaning old w → ⊥
       no_world o e w true is q a k h =
           let owner : o.owner ≡ old.owner = ap (λ (p : ObjId). p.owner) (obj_exact o (next_number old.heap.arena old.owner) ((Equal-is (obj_cmp o (next_number old.heap.arena old.owner))).0 is)) in
@@ -127,11 +155,20 @@ module _ {S : Type 0} (meaning : S → Meaning) where
         no_worlds = λ o e w h a k there. no_world o e w (eq_by_cmp obj_cmp o (next_number old.heap.arena old.owner)) refl (found o e h) a k (subst (λ (m : Meaning). IsTrue (has_world (worlds m) w)) c.store there);
         objects = λ o e h. near_object o e (eq_by_cmp obj_cmp o (next_number old.heap.arena old.owner)) (found o e h);
         slots = subst (λ (m : Meaning). NearSlots old.apart.items (worlds m)) (sym c.store) b.near_slots;
+        functions = λ o e h. function o e (eq_by_cmp obj_cmp o (next_number old.heap.arena old.owner)) (found o e h);
       }
 
       worlds_there : (o : ObjId) (e : Entry) (w : WorldId) → map.get heap.arena o ≡ Some e → e.object.world ≡ Some w → w.owner ≡ old.owner → IsTrue (has_world (worlds (meaning heap.store)) w)
       worlds_there o e w h k l =
           subst (λ (m : Meaning). IsTrue (has_world (worlds m) w)) (sym c.store) (world_there o e w (eq_by_cmp obj_cmp o (next_number old.heap.arena old.owner)) (found o e h) k l)
+
+  -- the scope outwards of the new object, and its world
+  pub created_scope : (x : Object) (id : ObjId) (old : Config S) (heap : Heap S) → Creates old.owner x id (parts meaning old.heap) (parts meaning heap) → scope_of heap.arena id ≡ x.scope
+  created_scope x id old heap c =
+      ap (λ (m : Objects). scope_of m id) c.arena ∙ ap (scope_of (created old.heap.arena old.owner x)) c.number
+      ∙ ap (option_and_then (λ (e : Entry). e.object.scope))
+      (map.get-insert obj_total old.heap.arena (next_number old.heap.arena old.owner) (entry_over old.heap.arena x) (next_number old.heap.arena old.owner)
+      ∙ ap (λ b. cond b (Some (entry_over old.heap.arena x)) (map.get old.heap.arena (next_number old.heap.arena old.owner))) (key_itself (next_number old.heap.arena old.owner)))
 
   -- the new object is the owner's
   pub created_there : (x : Object) (id : ObjId) (old : Config S) (heap : Heap S) → Base meaning old → Creates old.owner x id (parts meaning old.heap) (parts meaning heap) → HasObject (record old { heap = heap }) id

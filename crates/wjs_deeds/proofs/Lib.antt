@@ -8,6 +8,7 @@ pub mod Nearing
 pub mod NearDeeds
 pub mod Staying
 pub mod Later
+pub mod Entries
 pub mod Composing
 pub mod Spelling
 pub mod Seeing

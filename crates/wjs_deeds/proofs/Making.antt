@@ -15,6 +15,7 @@ use Rattle.wjs_arena.specs.declared.class.Class.{Class}
 use Rattle.wjs_arena.specs.declared.class.Class.TheVariants as class
 use Rattle.wjs_arena.specs.declared.object.Flags.{Flags}
 use Rattle.wjs_rename.specs.Names.{Holds}
+use Rattle.wjs_arena.specs.declared.object.Code.{Code}
 use Rattle.wjs_arena.specs.declared.object.Code.TheVariants as code
 use Rattle.wjs_arena.specs.declared.object.Object.{Object}
 use Rattle.wjs_arena.specs.Entries.{Objects}
@@ -31,6 +32,8 @@ use Rattle.wjs_meaning.specs.NewObjects.{array_object}
 use Rattle.wjs_meaning.specs.WorldValues.{world_object_of}
 use Rattle.wjs_meaning.specs.Deeds.{Do, Create}
 use Rattle.wjs_model.specs.declared.config.Config.{Config}
+use Rattle.wjs_model.specs.declared.unit.Unit.{Unit as Program}
+use Rattle.wjs_model.specs.Standing.{FunctionStands}
 use Rattle.wjs_model.specs.Apart.{IsNear, NearValue, NearIf, NamesNear}
 use Rattle.wjs_moves.specs.Doing.{Does}
 use Rattle.wjs_moves.specs.Following.{Follows, Later}
@@ -45,6 +48,10 @@ bare_named texts arena class p = record { primitive = tt; fixed = tt; flags = tt
 pub no_world : (w : Option WorldId) (P : WorldId → Type 0) → w ≡ None → IfSome w P
 no_world None P e = tt
 no_world (Some x) P e = absurd (cc)
+
+-- what is no function stands nowhere
+pub no_code : (units : List Program) (arena : Objects) (x : Object) (scope : Option ObjId) → x.code ≡ code.None → FunctionStands units arena x.code scope
+no_code units arena x scope e = subst (λ (q : Code). FunctionStands units arena q scope) (sym e) tt
 
 pub none_some : {A B : Type 0} (r : Option A) (a : A) → r ≡ None → r ≡ Some a → B
 none_some None a e q = cc

@@ -25,6 +25,7 @@ use Rattle.wjs_meaning.specs.Errors.{throw}
 use Rattle.wjs_meaning.specs.WorldValues.{world_found, world_of}
 use Rattle.wjs_model.specs.declared.config.Config.{Config}
 use Rattle.wjs_model.specs.Soundness.{HasWorld as WorldThere, Base}
+use Rattle.wjs_model.specs.Standing.{FunctionStands}
 use Rattle.wjs_model.specs.Apart.{is_apart, IsNear}
 use Rattle.wjs_deeds.specs.Worlds.{found_then, world_then}
 use Rattle.wjs_deeds.proofs.NearPlans.{NearSlot}
@@ -96,6 +97,7 @@ module _ {S : Type 0} (meaning : S → Meaning) (old : Config S) (heap : Heap S)
   sprout_apart w strict child there f = record {
     no_worlds = λ o e i h a k now. split o e i h a k now (same_world (next_id F old.owner) i) refl;
     objects = λ o e h. b.near_objects o e (same o ∙ h);
+    functions = λ o e h. subst (λ (m : Objects). FunctionStands old.units.items m e.object.code e.object.scope) (sym f.arena) (b.functions o e (same o ∙ h));
     slots = act_slots meaning old heap (λ _. later) b act (Sprouted child) f (within_sprout (NearSlot (IsNear old.apart.items)) F w old.owner strict here (before_near meaning old heap (λ _. later) b f.own));
   }
     where

@@ -1,5 +1,5 @@
 -- What was there is there after a deed.
-use Rattle.std.proofs.Common.{◌≡◌, List, [], ◌∷◌, Option, None, Some, refl, IsTrue}
+use Rattle.std.proofs.Common.{◌≡◌, List, [], ◌∷◌, Option, None, Some, Vec, Global, refl, sym, subst, IsTrue}
 use Rattle.std.specs.Prelude.{not, All}
 use Rattle.std.specs.FinMap as map
 use Rattle.std.proofs.lemmas.List.Elements.{All-weaker}
@@ -14,7 +14,7 @@ use Rattle.wjs_base.specs.Text.{Table, Has, Grows}
 use Rattle.wjs_base.proofs.TextLaws.{Grows-Has, Grows-IsName}
 use Rattle.wjs_store.specs.State.{has_world}
 use Rattle.wjs_store.specs.Meaning.{Meaning, worlds}
-use Rattle.wjs_arena.specs.Entries.{Entry, has}
+use Rattle.wjs_arena.specs.Entries.{Entry, Keeps}
 use Rattle.wjs_tree.specs.declared.node.Spelt.{Spelt}
 use Rattle.wjs_tree.specs.declared.node.Spelt.TheVariants as spelt
 use Rattle.wjs_tree.specs.declared.node.PropertyKey.{PropertyKey}
@@ -42,6 +42,9 @@ use Rattle.wjs_model.specs.declared.frame.Phase.TheVariants as phases
 use Rattle.wjs_model.specs.declared.frame.Frame.{Frame}
 use Rattle.wjs_model.specs.declared.config.Config.{Config}
 use Rattle.wjs_model.specs.Soundness.{HasObject, HasName, HasValue, HasSlot, HasLabel, HasReference, HasCompletion, HasItem, HasItems, HasPhase, HasWorld, IsThere, Base}
+use Rattle.wjs_model.specs.Standing.{FunctionStands, FrameStands}
+use Rattle.wjs_model.proofs.Placed.{placed_stay}
+use Rattle.wjs_model.proofs.Standing.{has_kept, frame_kept}
 use Rattle.wjs_model.specs.Apart.{is_apart, IsNear, NearSlots, NamesNear}
 use Rattle.wjs_model.specs.Texts.{HasText, KnowsSpelt, KnowsKey, KnowsInit, KnowsHandler, KnowsNode, KnowsUnit}
 use Rattle.wjs_moves.specs.Following.{Later}
@@ -139,6 +142,7 @@ module _ {S : Type 0} (old new : Config S) (g : Grows old.heap.texts new.heap.te
   item_there (holds.Reference r) h = reference_there r h
   item_there (holds.Callee f this) h = (value_there f h.0, value_there this h.1)
   item_there holds.ByNew h = tt
+  item_there holds.Begun h = tt
   item_there (holds.Elements o count) h = objects o h
   item_there (holds.Earlier e) h = completion_there e h
   item_there (holds.Visit s) h = slot_there s h
@@ -153,7 +157,7 @@ module _ {S : Type 0} (old new : Config S) (g : Grows old.heap.texts new.heap.te
   phase_there phases.Ready h = tt
   phase_there phases.Waiting h = tt
 
-  module _ (meaning : S → Meaning) (has_worlds : (w : WorldId) → HasWorld meaning old w → HasWorld meaning new w) where
+  module _ (meaning : S → Meaning) (has_worlds : (w : WorldId) → HasWorld meaning old w → HasWorld meaning new w) (keeps : Keeps old.heap.arena new.heap.arena) (units : new.units ≡ old.units) where
     frame_there : (f : Frame) → IsThere meaning old f → IsThere meaning new f
     frame_there f h = record {
       scope = objects f.scope h.scope;
@@ -161,11 +165,12 @@ module _ {S : Type 0} (old new : Config S) (g : Grows old.heap.texts new.heap.te
       world = has_worlds f.world h.world;
       held = items_there f.held h.held;
       phase = phase_there f.phase h.phase;
+      stands = subst (λ (us : Vec Program Global). FrameStands us.items new.heap.arena f) (sym units) (frame_kept old.heap.arena new.heap.arena keeps old.units.items f h.stands);
     }
 
     -- all that was there is there
-    pub later_there : new.state ≡ old.state → new.units ≡ old.units → new.global ≡ old.global → new.owner ≡ old.owner → Base meaning new → Later meaning old new
-    later_there state units global owner base = record {
+    pub later_there : new.state ≡ old.state → new.global ≡ old.global → new.owner ≡ old.owner → Base meaning new → Later meaning old new
+    later_there state global owner base = record {
       state = state;
       units = units;
       global = global;
@@ -179,21 +184,23 @@ module _ {S : Type 0} (old new : Config S) (g : Grows old.heap.texts new.heap.te
       completions = completion_there;
       items = items_there;
       worlds = has_worlds;
+      arena = keeps;
       texts = g;
     }
 
--- on another heap what is kept apart is so
+-- on another heap what is kept apart is so, and the functions stand
 module _ {S : Type 0} (meaning : S → Meaning) where
   pub record StaysApart (old : Config S) (heap : Heap S) : Type 0 where
     pub no_worlds : (o : ObjId) (e : Entry) (w : WorldId) → map.get heap.arena o ≡ Some e → IsTrue (is_apart old.apart.items o.owner) → e.object.world ≡ Some w → IsTrue (has_world (worlds (meaning heap.store)) w) → ⊥
     pub objects : (o : ObjId) (e : Entry) → map.get heap.arena o ≡ Some e → IsNear old.apart.items o → NamesNear old.apart.items e.object
     pub slots : NearSlots old.apart.items (worlds (meaning heap.store))
+    pub functions : (o : ObjId) (e : Entry) → map.get heap.arena o ≡ Some e → FunctionStands old.units.items heap.arena e.object.code e.object.scope
 
 -- on another heap
-module _ {S : Type 0} (meaning : S → Meaning) (old : Config S) (heap : Heap S) (g : Grows old.heap.texts heap.texts) (objects : (o : ObjId) → IsTrue (has old.heap.arena o) → IsTrue (has heap.arena o))
+module _ {S : Type 0} (meaning : S → Meaning) (old : Config S) (heap : Heap S) (g : Grows old.heap.texts heap.texts) (keeps : Keeps old.heap.arena heap.arena)
     (has_worlds : (w : WorldId) → HasWorld meaning old w → IsTrue (has_world (worlds (meaning heap.store)) w)) where
   objects_on : (o : ObjId) → HasObject old o → HasObject (record old { heap = heap }) o
-  objects_on o h = (objects o h.0, h.1)
+  objects_on o h = (has_kept old.heap.arena heap.arena keeps o h.0, h.1)
 
   pub base_on : Base meaning old → IsHeap (parts meaning heap) → KnowsWorlds heap.texts (worlds (meaning heap.store)) → KnowsTold heap.texts (meaning heap.store).told → IsTrue (not (meaning heap.store).spent)
       → ((o : ObjId) (e : Entry) (w : WorldId) → map.get heap.arena o ≡ Some e → e.object.world ≡ Some w → w.owner ≡ old.owner → IsTrue (has_world (worlds (meaning heap.store)) w)) → StaysApart meaning old heap → Base meaning (record old { heap = heap })
@@ -204,16 +211,18 @@ module _ {S : Type 0} (meaning : S → Meaning) (old : Config S) (heap : Heap S)
     world = has_worlds old.world b.world;
     builtins = λ n l. objects_on _ (b.builtins n l);
     units = units_stay old.heap.texts heap.texts g old.units.items b.units;
+    places = placed_stay old.heap.texts heap.texts g old.units.items b.units b.places;
+    functions = apart.functions;
     own_worlds = own;
     own = b.own;
     no_worlds = apart.no_worlds;
     near_objects = apart.objects;
     near_slots = apart.slots;
-    frames = All-weaker (IsThere meaning old) (IsThere meaning (record old { heap = heap })) (frame_there old (record old { heap = heap }) g objects_on meaning has_worlds) old.frames b.frames;
+    frames = All-weaker (IsThere meaning old) (IsThere meaning (record old { heap = heap })) (frame_there old (record old { heap = heap }) g objects_on meaning has_worlds keeps refl) old.frames b.frames;
     marks = marks;
     told = told;
   }
 
   pub later_on : Base meaning old → IsHeap (parts meaning heap) → KnowsWorlds heap.texts (worlds (meaning heap.store)) → KnowsTold heap.texts (meaning heap.store).told → IsTrue (not (meaning heap.store).spent)
       → ((o : ObjId) (e : Entry) (w : WorldId) → map.get heap.arena o ≡ Some e → e.object.world ≡ Some w → w.owner ≡ old.owner → IsTrue (has_world (worlds (meaning heap.store)) w)) → StaysApart meaning old heap → Later meaning old (record old { heap = heap })
-  later_on b is_heap marks told works own apart = later_there old (record old { heap = heap }) g objects_on meaning has_worlds refl refl refl refl (base_on b is_heap marks told works own apart)
+  later_on b is_heap marks told works own apart = later_there old (record old { heap = heap }) g objects_on meaning has_worlds keeps refl refl refl refl (base_on b is_heap marks told works own apart)

@@ -1,9 +1,11 @@
 //! Looks at objects, which change nothing.
 //!
 //! Each says what the look at the objects by content gives, whatever further ones stand beside them, and that it is a deed of a line.
-ghost use Rattle.std.specs.Prelude.{◌≡◌, IfSome, unwrap_or};
+ghost use Rattle.std.specs.Prelude.{◌≡◌, Some, IfSome, unwrap_or};
 ghost use Rattle.std.specs.Option.{option_map};
+ghost use Rattle.std.specs.FinMap as map;
 ghost use Rattle.wjs_base.specs.Text.{Table, Grows};
+ghost use Rattle.wjs_arena.specs.Entries.{Entry};
 ghost use Rattle.wjs_content.specs.Objects as objects;
 ghost use Rattle.wjs_content.specs.Objects.{Arena};
 ghost use Rattle.wjs_content.specs.Tables.{name_in, value_in};
@@ -11,6 +13,7 @@ ghost use Rattle.wjs_content.specs.Values.{same_object};
 ghost use Rattle.wjs_meaning.specs.Deeds.{Do, Look};
 ghost use Rattle.wjs_model.specs.Outside.{Sees};
 ghost use Rattle.wjs_model.specs.Soundness.{Base, HasObject, HasName, HasValue, HasWorld};
+ghost use Rattle.wjs_model.specs.Standing.{IsShown};
 ghost use Rattle.wjs_moves.specs.Doing.{Does};
 
 use wjs_arena::{Class, Code};
@@ -23,6 +26,7 @@ pub fn code_of<S: WorldStore>(config: &Config<S>, object: ObjId) -> Code
     requires { HasObject config.now object }
     ensures does { Does S.meaning (λ t go. Do Look (λ arena. go (objects.object_at arena object).code)) (λ t. result) config.now config.now }
     ensures is { (t : Table) (arena : Arena) → Sees S.meaning config.now t arena → (objects.object_at arena object).code ≡ result }
+    ensures entry { (e : Entry) → map.get config.now.heap.arena object ≡ Some e → e.object.code ≡ result }
 {
     config.heap.arena.object(object).code
 }
@@ -54,6 +58,7 @@ pub fn scope_of<S: WorldStore>(config: &Config<S>, object: ObjId) -> Option<ObjI
     ensures does { Does S.meaning (λ t go. Do Look (λ arena. go (objects.object_at arena object).scope)) (λ t. result) config.now config.now }
     ensures is { (t : Table) (arena : Arena) → Sees S.meaning config.now t arena → (objects.object_at arena object).scope ≡ result }
     ensures found { IfSome result (λ scope. HasObject config.now scope) }
+    ensures entry { (e : Entry) → map.get config.now.heap.arena object ≡ Some e → e.object.scope ≡ result }
 {
     config.heap.arena.object(object).scope
 }
@@ -63,6 +68,7 @@ pub fn world_for<S: WorldStore>(config: &Config<S>, object: ObjId) -> Option<Wor
     requires { HasObject config.now object }
     ensures does { Does S.meaning (λ t go. Do Look (λ arena. go (objects.object_at arena object).world)) (λ t. result) config.now config.now }
     ensures is { (t : Table) (arena : Arena) → Sees S.meaning config.now t arena → (objects.object_at arena object).world ≡ result }
+    ensures shown { IfSome result (λ world. IsShown config.now.heap.arena world) }
 {
     config.heap.arena.object(object).world
 }

@@ -1,7 +1,7 @@
 //! New objects.
 ghost use Rattle.std.specs.Prelude.{◌≡◌, ◌<◌, ◌∷◌, [], None, Some, IfOk, OnOk, true, false};
 ghost use Rattle.wjs_base.specs.Text.{Table, Grows, Has};
-ghost use Rattle.wjs_arena.specs.Entries.{IsThere};
+ghost use Rattle.wjs_arena.specs.Entries.{IsThere, scope_of};
 ghost use Rattle.wjs_convert.specs.Conversions.{is_primitive};
 ghost use Rattle.wjs_content.specs.Objects as content;
 ghost use Rattle.wjs_content.specs.Objects.{Internals};
@@ -13,6 +13,7 @@ ghost use Rattle.wjs_meaning.specs.Deeds.{Do, Create};
 ghost use Rattle.wjs_meaning.specs.NewObjects.{plain_object, array_object, scope_object};
 ghost use Rattle.wjs_model.specs.Apart.{NamesNear};
 ghost use Rattle.wjs_model.specs.Soundness.{Base, HasObject, HasValue};
+ghost use Rattle.wjs_model.specs.Standing.{FunctionStands};
 ghost use Rattle.wjs_moves.specs.Doing.{Does};
 ghost use Rattle.wjs_moves.specs.Following.{Later};
 
@@ -63,10 +64,12 @@ pub fn create<S: WorldStore>(config: &mut Config<S>, object: Object) -> Result<O
     requires near { NamesNear config.old.apart.items object }
     requires named { HasNamed config.old.heap.texts config.old.heap.arena object }
     requires world { object.world ≡ None }
+    requires code { FunctionStands config.old.units.items config.old.heap.arena object.code object.scope }
     ensures does { IfOk result (λ o. Does S.meaning (λ t go. Do (Create config.old.owner (object_in t object)) go) (λ t. o) config.old config.new) }
     ensures makes { IfOk result (λ o. (internals : Table → Internals) → ((t : Table) → Grows config.old.heap.texts t → object_in t object ≡ internals t) → Does S.meaning (λ t go. Do (Create config.old.owner (internals t)) go) (λ t. o) config.old config.new) }
     ensures later { OnOk result (Later S.meaning config.old config.new) }
     ensures found { IfOk result (λ o. HasObject config.new o) }
+    ensures outer { IfOk result (λ o. scope_of config.new.heap.arena o ≡ object.scope) }
 {
     let o = wjs_props::create(&mut config.heap, config.owner, object)?;
     Ok(o)
@@ -124,6 +127,7 @@ pub fn create_scope<S: WorldStore>(
     ensures does { IfOk result (λ o. Does S.meaning (λ t go. Do (Create config.old.owner (scope_object outer)) go) (λ t. o) config.old config.new) }
     ensures later { OnOk result (Later S.meaning config.old config.new) }
     ensures found { IfOk result (λ o. HasObject config.new o) }
+    ensures outer { IfOk result (λ o. scope_of config.new.heap.arena o ≡ Some outer) }
 {
     let alloc = config.heap.arena.allocator();
     let mut object = object_of(alloc, Class::Scope, None);

@@ -10,6 +10,7 @@ ghost use Rattle.wjs_meaning.specs.Deeds as deed;
 ghost use Rattle.wjs_meaning.specs.Deeds.{Do, Create};
 ghost use Rattle.wjs_meaning.specs.WorldValues as line;
 ghost use Rattle.wjs_model.specs.Soundness.{Base, IsThere, HasObject, HasValue, HasWorld};
+ghost use Rattle.wjs_model.specs.Standing.{IsShown};
 ghost use Rattle.wjs_moves.specs.Doing.{Does, Fails};
 ghost use Rattle.wjs_moves.specs.Following.{Later};
 ghost use Rattle.wjs_moves.specs.Parts.{env_in};
@@ -98,6 +99,7 @@ pub fn world_of<S: WorldStore>(
     ensures does { IfOk result (λ answer. MatchResult answer (λ world. Does S.meaning (λ t. line.world_of (value_in t value) (env_in S.meaning config.old t frame.now)) (λ t. world) config.old config.new) (λ error. Fails S.meaning (λ t. line.world_of (value_in t value) (env_in S.meaning config.old t frame.now)) (λ t. value_in t error) config.old config.new)) }
     ensures later { OnOk result (Later S.meaning config.old config.new) }
     ensures found { IfOk result (λ answer. MatchResult answer (λ world. HasWorld S.meaning config.new world) (λ error. HasValue config.new error)) }
+    ensures shown { IfOk result (λ answer. MatchResult answer (λ world. IsShown config.new.heap.arena world) (λ error. Unit {0})) }
 {
     let found = world_at(config, value)?;
     match found {
@@ -114,6 +116,7 @@ fn world_at<S: WorldStore>(config: &Config<S>, value: Value) -> Result<Option<Wo
     requires { HasValue config.now value }
     ensures does { IfOk result (λ found. Does S.meaning (λ t go. world_then (value_in t value) go) (λ t. found) config.now config.now) }
     ensures found { IfOk result (λ found. IfSome found (λ world. HasWorld S.meaning config.now world)) }
+    ensures shown { IfOk result (λ found. IfSome found (λ world. IsShown config.now.heap.arena world)) }
 {
     match value {
         Value::Object(object) => world_there(config, world_for(config, object)),
@@ -126,8 +129,10 @@ fn world_there<S: WorldStore>(
     config: &Config<S>,
     world: Option<WorldId>,
 ) -> Result<Option<WorldId>, OutOfMemory>
+    requires shown { IfSome world (λ world. IsShown config.now.heap.arena world) }
     ensures does { IfOk result (λ found. Does S.meaning (λ t go. found_then world go) (λ t. found) config.now config.now) }
     ensures found { IfOk result (λ found. IfSome found (λ world. HasWorld S.meaning config.now world)) }
+    ensures shown { IfOk result (λ found. IfSome found (λ world. IsShown config.now.heap.arena world)) }
 {
     match world {
         None => Ok(None),

@@ -1,5 +1,7 @@
 pub mod Asking
 pub mod Running
+pub mod StandingBodies
+pub mod GlobalVariables
 pub mod Names
 pub mod Filling
 pub mod Beginning

@@ -2,7 +2,7 @@
 use Rattle.std.proofs.Common.{◌≡◌, ℕ, zero, suc, ◌<◌, ◌≤◌, List, [], ◌∷◌, Option, None, Some, length, refl, sym, ap, ◌∙◌, subst, arith}
 use Rattle.std.specs.Prelude.{map as each, slice_get, slice_index_or, unwrap_or, All}
 use Rattle.std.specs.Option.{option_map}
-use Rattle.std.proofs.lemmas.Option.{slice_get-map}
+use Rattle.std.proofs.lemmas.Option.{slice_get-map, same_Some, none-some}
 use Rattle.std.proofs.lemmas.List.Elements.{All-get_or}
 use Rattle.wjs_base.specs.Text.{Table, Grows}
 use Rattle.wjs_meaning.specs.Trees.{Tree, empty_tree, tree_at}
@@ -29,3 +29,10 @@ tree_none t units i le = ap (λ (o : Option Tree). unwrap_or o empty_tree) (slic
 
 pub unit_known : (old t : Table) (grows : Grows old t) (units : List Program) (i : ℕ) (u : Program) → i < length units → u ≡ slice_index_or units i u → All (KnowsUnit old) units → KnowsUnit t u
 unit_known old t grows units i u lt e h = subst (KnowsUnit t) (sym e) (All-get_or (KnowsUnit t) units i u lt (units_stay old t grows units h))
+
+-- the unit of a number
+pub unit_is : (units : List Program) (i : ℕ) (u v : Program) → i < length units → v ≡ slice_index_or units i v → slice_get units i ≡ Some u → v ≡ u
+unit_is units i u v lt e h = same_Some v u (sym (got units i v lt e) ∙ h)
+
+pub no_unit : (units : List Program) (i : ℕ) (u : Program) → length units ≤ i → slice_get units i ≡ Some u → ⊥
+no_unit units i u le h = none-some u (sym (none_got units i le) ∙ h)

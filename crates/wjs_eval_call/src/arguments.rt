@@ -10,6 +10,7 @@ ghost use Rattle.wjs_meaning.specs.Deeds.{Do, Create, Write, write_all};
 ghost use Rattle.wjs_meaning.specs.Functions as line;
 ghost use Rattle.wjs_meaning.specs.Reading.{numbers};
 ghost use Rattle.wjs_model.specs.Contents.{holding_in};
+ghost use Rattle.wjs_model.specs.Standing.{IsFunction};
 ghost use Rattle.wjs_model.specs.Soundness.{Base, IsThere, HasName, HasObject, HasValue};
 ghost use Rattle.wjs_moves.specs.Doing.{Does, DoesFirst};
 ghost use Rattle.wjs_moves.specs.Parts.{env_in};
@@ -223,6 +224,7 @@ pub(crate) fn fill_scope<S: WorldStore>(
     requires formals { All (Has config.old.heap.texts) declared.now.formals }
     requires others { All (Has config.old.heap.texts) others.now }
     requires values { All (HasValue config.old) values.now }
+    requires stand { All (λ i. IsFunction config.old.units.items config.old.heap.arena frame.now.tree i frame.now.scope 0) declared.now.functions }
     ensures does { OnOk result (DoesFirst S.meaning (λ t. arguments_written (map (text_in t) declared.now.formals) (numbers declared.now.functions) (map (text_in t) others.now) function (map (value_in t) values.now) (env_in S.meaning config.old t frame.now)) config.old config.new) }
     ensures later { OnOk result (Later S.meaning config.old config.new) }
 {

@@ -1,6 +1,8 @@
 //! The bodies of functions (ECMA-262, 3rd edition, sections 10.2.3 and 13.2.1).
-ghost use Rattle.std.specs.Prelude.{◌≡◌, OnOk, drop, Some};
+ghost use Rattle.std.specs.Prelude.{◌≡◌, OnOk, drop, Some, true};
+ghost use Rattle.std.specs.FinMap as map;
 ghost use Rattle.wjs_base.specs.Text.{Table};
+ghost use Rattle.wjs_arena.specs.Entries.{Entry};
 ghost use Rattle.wjs_content.specs.Objects.{object_at};
 ghost use Rattle.wjs_content.specs.Tables.{arena_in};
 ghost use Rattle.wjs_meaning.specs.Deeds.{node_here};
@@ -8,10 +10,11 @@ ghost use Rattle.wjs_meaning.specs.Trees.{elements_of};
 ghost use Rattle.wjs_meaning.specs.Functions as line;
 ghost use Rattle.wjs_meaning.specs.Declarations.{declared_by};
 ghost use Rattle.wjs_meaning.specs.Reading.{node_in};
-ghost use Rattle.wjs_model.specs.Contents.{completion_in, holding_in, callee_held};
+ghost use Rattle.wjs_model.specs.Contents.{completion_in, holding_in, begun_held};
 ghost use Rattle.wjs_model.specs.Rest as begins;
 ghost use Rattle.wjs_model.specs.Waiting as waits;
 ghost use Rattle.wjs_model.specs.Soundness.{Base, IsThere, HasObject, HasCompletion};
+ghost use Rattle.wjs_model.specs.Standing.{IsFunction};
 ghost use Rattle.wjs_moves.specs.Parts.{env_in, node_now};
 ghost use Rattle.wjs_moves.specs.Following.{Follows};
 ghost use Rattle.wjs_eval_call.specs.Elements.{Begins};
@@ -25,8 +28,8 @@ use wjs_arena::Code;
 use wjs_base::{NodeId as Body, ObjId, OutOfMemory, Value};
 use wjs_deeds::{code_of, create_scope, scope_of};
 use wjs_lines::{held_callee, place_after, throw};
-use wjs_model::{Completion, Config, Form, Frame, State, Trouble};
-use wjs_moves::{Part, enter, finish};
+use wjs_model::{Completion, Config, Form, Frame, Held, State, Trouble};
+use wjs_moves::{Part, enter, finish, hold};
 use wjs_store::WorldStore;
 use wjs_tree::NodeId;
 
@@ -58,7 +61,6 @@ fn begin_function<S: WorldStore>(
     requires base { Base S.meaning config.old }
     requires there { IsThere S.meaning config.old frame }
     requires form { frame.form ≡ Form.Body }
-    requires callee { (callee_held frame.held).0 ≡ Value.Object function }
     requires function { HasObject config.old function }
     ensures { let t = config.new.heap.texts in OnOk result (Follows S.meaning (line.body_of function (holding_in t frame.held).values (env_in S.meaning config.old t frame)) config.old config.new) }
 {
@@ -81,44 +83,44 @@ fn begin_script<S: WorldStore>(
     requires base { Base S.meaning config.old }
     requires there { IsThere S.meaning config.old frame }
     requires form { frame.form ≡ Form.Body }
-    requires callee { (callee_held frame.held).0 ≡ Value.Object function }
     requires function { HasObject config.old function }
+    requires code { (e : Entry) → map.get config.old.heap.arena function ≡ Some e → e.object.code ≡ Code.Script tree node }
     ensures { let t = config.new.heap.texts in OnOk result (Follows S.meaning (line.body_code (Code.Script tree node) (object_at (arena_in t config.old.heap.arena) function).scope function (holding_in t frame.held).values (env_in S.meaning config.old t frame)) config.old config.new) }
 {
     match scope_of(config, function) {
         None => throw(config, &frame, Trouble::NotAFunction),
-        Some(scope) => {
-            let mut frame = frame;
-            frame.tree = tree;
-            frame.node = NodeId(node.0);
-            begin_scope(config, frame, function, scope)
-        }
+        Some(scope) => begin_scope(config, frame, function, tree, NodeId(node.0), scope),
     }
 }
 
-/// The body at the frame's node runs, in a scope of its own inside the function's scope.
+/// The body at a node of a tree runs, in a scope of its own inside the function's scope.
 fn begin_scope<S: WorldStore>(
     config: &mut Config<S>,
     frame: Frame,
     function: ObjId,
+    tree: u32,
+    node: NodeId,
     scope: ObjId,
 ) -> Result<(), OutOfMemory>
     requires running { config.old.state ≡ State.Running }
     requires base { Base S.meaning config.old }
     requires there { IsThere S.meaning config.old frame }
     requires form { frame.form ≡ Form.Body }
-    requires callee { (callee_held frame.held).0 ≡ Value.Object function }
     requires function { HasObject config.old function }
     requires scope { HasObject config.old scope }
-    ensures { let t = config.new.heap.texts in OnOk result (Follows S.meaning (line.body_scopes frame.node.0 scope function (holding_in t frame.held).values (env_in S.meaning config.old t frame)) config.old config.new) }
+    requires stands { IsFunction config.old.units.items config.old.heap.arena tree node scope 0 }
+    ensures { let t = config.new.heap.texts in OnOk result (Follows S.meaning (line.body_scopes node.0 scope function (holding_in t frame.held).values (record (env_in S.meaning config.old t frame) { tree = tree })) config.old config.new) }
 {
     let alloc = config.heap.arena.allocator();
+    let values = frame.held.values(alloc)?;
+    let mut frame = frame;
+    frame.tree = tree;
+    frame.node = node;
     let declared = declared_at(config, &frame)?;
     let others = other_variables(config, &frame, &declared)?;
-    let values = frame.held.values(alloc)?;
     let inner = create_scope(config, scope)?;
-    let mut frame = frame;
     frame.scope = inner;
+    hold(&mut frame, Held::Begun)?;
     fill_scope(
         config,
         &frame,
@@ -127,7 +129,7 @@ fn begin_scope<S: WorldStore>(
         others.as_slice(),
         values.as_slice(),
     )?;
-    run_body(config, frame, function, 0)
+    run_body(config, frame, 0)
 }
 
 /// A body goes on with a completion.
@@ -141,12 +143,12 @@ pub(crate) fn after_body<S: WorldStore>(
     requires there { IsThere S.meaning config.old frame }
     requires form { frame.form ≡ Form.Body }
     requires completion { HasCompletion config.old completion }
-    ensures { let t = config.new.heap.texts in OnOk result (Follows S.meaning (waits.after_body_of (holding_in t frame.held).callee.0 frame.place (elements_of (node_in t (node_now S.meaning config.old frame))) (env_in S.meaning config.old t frame) (completion_in t completion)) config.old config.new) }
+    ensures { let t = config.new.heap.texts in OnOk result (Follows S.meaning (waits.after_body_of (holding_in t frame.held).begun frame.place (node_in t (node_now S.meaning config.old frame)) (env_in S.meaning config.old t frame) (completion_in t completion)) config.old config.new) }
 {
-    let (callee, _) = held_callee(config, &frame);
-    match callee {
-        Value::Object(function) => after_element(config, frame, function, completion),
-        _ => after_program(config, frame, completion),
+    if frame.held.begun() {
+        after_element(config, frame, completion)
+    } else {
+        after_program(config, frame, completion)
     }
 }
 
@@ -154,21 +156,20 @@ pub(crate) fn after_body<S: WorldStore>(
 fn after_element<S: WorldStore>(
     config: &mut Config<S>,
     frame: Frame,
-    function: ObjId,
     completion: Completion,
 ) -> Result<(), OutOfMemory>
     requires running { config.old.state ≡ State.Running }
     requires base { Base S.meaning config.old }
     requires there { IsThere S.meaning config.old frame }
     requires form { frame.form ≡ Form.Body }
-    requires callee { (callee_held frame.held).0 ≡ Value.Object function }
+    requires begun { begun_held frame.held ≡ true }
     requires completion { HasCompletion config.old completion }
     ensures { let t = config.new.heap.texts in let env = env_in S.meaning config.old t frame in OnOk result (Follows S.meaning (line.body_next (line.body_from (drop frame.place (elements_of (node_in t (node_now S.meaning config.old frame)))) env) (completion_in t completion)) config.old config.new) }
 {
     match completion {
         Completion::Normal => {
             let place = frame.place;
-            run_body(config, frame, function, place)
+            run_body(config, frame, place)
         }
         Completion::Returns(value) => finish(config, &frame, Completion::Gives(value)),
         _ => finish(config, &frame, completion),
@@ -179,19 +180,18 @@ fn after_element<S: WorldStore>(
 fn run_body<S: WorldStore>(
     config: &mut Config<S>,
     frame: Frame,
-    function: ObjId,
     from: u32,
 ) -> Result<(), OutOfMemory>
     requires running { config.old.state ≡ State.Running }
     requires base { Base S.meaning config.old }
     requires there { IsThere S.meaning config.old frame }
     requires form { frame.form ≡ Form.Body }
-    requires callee { (callee_held frame.held).0 ≡ Value.Object function }
+    requires begun { begun_held frame.held ≡ true }
     ensures { let t = config.new.heap.texts in let env = env_in S.meaning config.old t frame in OnOk result (Follows S.meaning (line.body_from (drop from (elements_of (node_in t (node_now S.meaning config.old frame)))) env) config.old config.new) }
 {
     match element_at(config, &frame, from) {
         None => finish(config, &frame, Completion::Gives(Value::Undefined)),
-        Some(element) => enter_element(config, frame, function, from, element),
+        Some(element) => enter_element(config, frame, from, element),
     }
 }
 
@@ -199,7 +199,6 @@ fn run_body<S: WorldStore>(
 fn enter_element<S: WorldStore>(
     config: &mut Config<S>,
     frame: Frame,
-    function: ObjId,
     from: u32,
     element: NodeId,
 ) -> Result<(), OutOfMemory>
@@ -207,11 +206,10 @@ fn enter_element<S: WorldStore>(
     requires base { Base S.meaning config.old }
     requires there { IsThere S.meaning config.old frame }
     requires form { frame.form ≡ Form.Body }
-    requires callee { (callee_held frame.held).0 ≡ Value.Object function }
+    requires begun { begun_held frame.held ≡ true }
     requires element { (t : Table) → Begins (elements_of (node_in t (node_now S.meaning config.old frame))) from (Some element) }
     ensures { let t = config.new.heap.texts in let env = env_in S.meaning config.old t frame in OnOk result (Follows S.meaning (line.body_from (drop from (elements_of (node_in t (node_now S.meaning config.old frame)))) env) config.old config.new) }
 {
-    let _function = function;
     let next = place_after(from, 1)?;
     enter(config, frame, next, Part::Stmt(element))
 }

@@ -1,12 +1,14 @@
 //! What the body at a frame's node declares.
-ghost use Rattle.std.specs.Prelude.{◌≡◌, [], All, IfOk, OnOk, map};
+ghost use Rattle.std.specs.Prelude.{◌≡◌, [], All, IfOk, OnOk, Some, map, slice_get};
 ghost use Rattle.wjs_base.specs.Text.{Table, Grows, Has, IsTable};
 ghost use Rattle.wjs_content.specs.Tables.{text_in};
 ghost use Rattle.wjs_meaning.specs.Deeds.{tree_here};
 ghost use Rattle.wjs_meaning.specs.Declarations.{declared_by};
 ghost use Rattle.wjs_meaning.specs.Functions as line;
 ghost use Rattle.wjs_meaning.specs.Reading.{numbers};
+ghost use Rattle.wjs_model.specs.declared.unit.Unit.{Unit as Program};
 ghost use Rattle.wjs_model.specs.Soundness.{Base, IsThere};
+ghost use Rattle.wjs_declared.specs.Names.{elements_at, functions_among};
 ghost use Rattle.wjs_moves.specs.Doing.{DoesFirst};
 ghost use Rattle.wjs_moves.specs.Parts.{env_in};
 ghost use Rattle.wjs_moves.specs.Following.{Later};
@@ -29,6 +31,7 @@ pub(crate) fn declared_at<S: WorldStore>(
     requires { Base S.meaning config.now }
     ensures formals { IfOk result (λ d. (t : Table) → map (text_in t) d.formals ≡ (declared_by (tree_here (env_in S.meaning config.now t frame.now)) frame.now.node.0).formals) }
     ensures functions { IfOk result (λ d. (t : Table) → numbers d.functions ≡ (declared_by (tree_here (env_in S.meaning config.now t frame.now)) frame.now.node.0).functions) }
+    ensures nodes { IfOk result (λ d. (u : Program) → slice_get config.now.units.items frame.now.tree ≡ Some u → d.functions ≡ functions_among u.program.nodes (elements_at u.program.nodes frame.now.node.0)) }
     ensures variables { IfOk result (λ d. (t : Table) → IsTable t → Grows config.now.heap.texts t → map (text_in t) d.variables ≡ (declared_by (tree_here (env_in S.meaning config.now t frame.now)) frame.now.node.0).vars) }
     ensures formals_found { IfOk result (λ d. All (Has config.now.heap.texts) d.formals) }
     ensures variables_found { IfOk result (λ d. All (Has config.now.heap.texts) d.variables) }
@@ -60,6 +63,7 @@ pub(crate) fn declare_program<S: WorldStore>(
 ) -> Result<(), OutOfMemory>
     requires base { Base S.meaning config.old }
     requires there { IsThere S.meaning config.old frame.now }
+    requires body { (u : Program) → slice_get config.old.units.items frame.now.tree ≡ Some u → frame.now.node ≡ u.program.body }
     ensures does { OnOk result (DoesFirst S.meaning (λ t. program_filled (declared_by (tree_here (env_in S.meaning config.old t frame.now)) frame.now.node.0) (env_in S.meaning config.old t frame.now)) config.old config.new) }
     ensures later { OnOk result (Later S.meaning config.old config.new) }
 {
@@ -109,7 +113,8 @@ fn declare_variable<S: WorldStore>(
 
 /// The node of the body of the frame's program; where there is no such program, the first node.
 pub(crate) fn program_body<S: WorldStore>(config: &Config<S>, frame: &Frame) -> NodeId
-    ensures { (t : Table) → (tree_here (env_in S.meaning config.now t frame.now)).body ≡ result.0 }
+    ensures is { (t : Table) → (tree_here (env_in S.meaning config.now t frame.now)).body ≡ result.0 }
+    ensures body { (u : Program) → slice_get config.now.units.items frame.now.tree ≡ Some u → result ≡ u.program.body }
 {
     match config.units.get(frame.tree as usize) {
         Some(unit) => unit.program.body,

@@ -3,6 +3,7 @@ ghost use Rattle.wjs_meaning.specs.Reading.{numbers};
 ghost use Rattle.wjs_base.specs.Text.{Table};
 ghost use Rattle.wjs_meaning.specs.Trees.{elements_of};
 ghost use Rattle.wjs_meaning.specs.Reading.{node_in};
+ghost use Rattle.wjs_model.specs.Waiting.{program_elements};
 ghost use Rattle.wjs_moves.specs.Parts.{node_now};
 ghost use Rattle.wjs_eval_call.specs.Elements.{Begins};
 
@@ -22,6 +23,20 @@ pub(crate) fn element_at<S: WorldStore>(
     match node_of(config, frame) {
         Some(Node::Function(_, _, elements)) => element_of(elements.as_slice(), at),
         Some(Node::FunctionDecl(_, _, elements)) => element_of(elements.as_slice(), at),
+        Some(Node::Program(elements)) => element_of(elements.as_slice(), at),
+        _ => None,
+    }
+}
+
+/// The element of a number of the program whose body is the frame's node; None past the last, and of another node.
+pub(crate) fn program_element_at<S: WorldStore>(
+    config: &Config<S>,
+    frame: &Frame,
+    at: u32,
+) -> Option<NodeId>
+    ensures { (t : Table) → Begins (program_elements (node_in t (node_now S.meaning config.now frame.now))) at result }
+{
+    match node_of(config, frame) {
         Some(Node::Program(elements)) => element_of(elements.as_slice(), at),
         _ => None,
     }

@@ -1,20 +1,18 @@
 //! The bodies of programs (ECMA-262, 3rd edition, sections 10.2.1 and 14).
 ghost use Rattle.std.specs.Prelude.{◌≡◌, OnOk, drop, false, Some};
 ghost use Rattle.wjs_base.specs.Text.{Table};
-ghost use Rattle.wjs_content.specs.Tables.{value_in};
 ghost use Rattle.wjs_meaning.specs.Deeds.{Eval, AtProgram, Ret, then_normal};
-ghost use Rattle.wjs_meaning.specs.Trees.{elements_of};
 ghost use Rattle.wjs_meaning.specs.Functions as line;
 ghost use Rattle.wjs_meaning.specs.Reading.{node_in};
-ghost use Rattle.wjs_model.specs.Contents.{completion_in, callee_held};
+ghost use Rattle.wjs_model.specs.Contents.{completion_in, holding_in, begun_held};
 ghost use Rattle.wjs_model.specs.Waiting as waits;
 ghost use Rattle.wjs_model.specs.Soundness.{Base, IsThere, HasCompletion};
 ghost use Rattle.wjs_moves.specs.Parts.{env_in, node_now};
 ghost use Rattle.wjs_moves.specs.Following.{Follows};
-ghost use Rattle.wjs_eval_call.specs.Elements.{Begins, is_function};
+ghost use Rattle.wjs_eval_call.specs.Elements.{Begins};
 
 use crate::declarations::{declare_program, program_body};
-use crate::elements::element_at;
+use crate::elements::program_element_at;
 use wjs_base::OutOfMemory;
 use wjs_lines::place_after;
 use wjs_model::{Completion, Config, Form, Frame, State};
@@ -31,11 +29,11 @@ pub(crate) fn begin_program<S: WorldStore>(
     requires base { Base S.meaning config.old }
     requires there { IsThere S.meaning config.old frame }
     requires form { frame.form ≡ Form.Body }
-    requires callee { is_function (callee_held frame.held).0 ≡ false }
     ensures { let t = config.new.heap.texts in OnOk result (Follows S.meaning (line.program_of (env_in S.meaning config.old t frame)) config.old config.new) }
 {
     let mut frame = frame;
     frame.node = program_body(config, &frame);
+    frame.held = config.frames.nothing_held();
     declare_program(config, &frame)?;
     run_program(config, frame, 0)
 }
@@ -50,9 +48,9 @@ pub(crate) fn after_program<S: WorldStore>(
     requires base { Base S.meaning config.old }
     requires there { IsThere S.meaning config.old frame }
     requires form { frame.form ≡ Form.Body }
-    requires callee { is_function (callee_held frame.held).0 ≡ false }
+    requires begun { begun_held frame.held ≡ false }
     requires completion { HasCompletion config.old completion }
-    ensures { let t = config.new.heap.texts in OnOk result (Follows S.meaning (waits.after_body_of (value_in t (callee_held frame.held).0) frame.place (elements_of (node_in t (node_now S.meaning config.old frame))) (env_in S.meaning config.old t frame) (completion_in t completion)) config.old config.new) }
+    ensures { let t = config.new.heap.texts in OnOk result (Follows S.meaning (waits.after_body_of (holding_in t frame.held).begun frame.place (node_in t (node_now S.meaning config.old frame)) (env_in S.meaning config.old t frame) (completion_in t completion)) config.old config.new) }
 {
     if frame.place == 0 {
         next_program(config, frame, completion)
@@ -71,9 +69,9 @@ fn after_element<S: WorldStore>(
     requires base { Base S.meaning config.old }
     requires there { IsThere S.meaning config.old frame }
     requires form { frame.form ≡ Form.Body }
-    requires callee { is_function (callee_held frame.held).0 ≡ false }
+    requires begun { begun_held frame.held ≡ false }
     requires completion { HasCompletion config.old completion }
-    ensures { let t = config.new.heap.texts in OnOk result (Follows S.meaning (then_normal (line.program_from (drop frame.place (elements_of (node_in t (node_now S.meaning config.old frame)))) (env_in S.meaning config.old t frame)) (completion_in t completion)) config.old config.new) }
+    ensures { let t = config.new.heap.texts in OnOk result (Follows S.meaning (then_normal (line.program_from (drop frame.place (waits.program_elements (node_in t (node_now S.meaning config.old frame)))) (env_in S.meaning config.old t frame)) (completion_in t completion)) config.old config.new) }
 {
     match completion {
         Completion::Normal => {
@@ -94,7 +92,6 @@ fn next_program<S: WorldStore>(
     requires base { Base S.meaning config.old }
     requires there { IsThere S.meaning config.old frame }
     requires form { frame.form ≡ Form.Body }
-    requires callee { is_function (callee_held frame.held).0 ≡ false }
     requires completion { HasCompletion config.old completion }
     ensures { let t = config.new.heap.texts in OnOk result (Follows S.meaning (waits.next_program (env_in S.meaning config.old t frame) (completion_in t completion)) config.old config.new) }
 {
@@ -110,9 +107,10 @@ fn enter_program<S: WorldStore>(config: &mut Config<S>, frame: Frame) -> Result<
     requires base { Base S.meaning config.old }
     requires there { IsThere S.meaning config.old frame }
     requires form { frame.form ≡ Form.Body }
-    requires callee { is_function (callee_held frame.held).0 ≡ false }
     ensures { let t = config.new.heap.texts in OnOk result (Follows S.meaning (Eval AtProgram (env_in S.meaning config.old t frame) Ret) config.old config.new) }
 {
+    let mut frame = frame;
+    frame.held = config.frames.nothing_held();
     due_later(config, frame, 0)
 }
 
@@ -126,10 +124,10 @@ fn run_program<S: WorldStore>(
     requires base { Base S.meaning config.old }
     requires there { IsThere S.meaning config.old frame }
     requires form { frame.form ≡ Form.Body }
-    requires callee { is_function (callee_held frame.held).0 ≡ false }
-    ensures { let t = config.new.heap.texts in let env = env_in S.meaning config.old t frame in OnOk result (Follows S.meaning (line.program_from (drop from (elements_of (node_in t (node_now S.meaning config.old frame)))) env) config.old config.new) }
+    requires begun { begun_held frame.held ≡ false }
+    ensures { let t = config.new.heap.texts in let env = env_in S.meaning config.old t frame in OnOk result (Follows S.meaning (line.program_from (drop from (waits.program_elements (node_in t (node_now S.meaning config.old frame)))) env) config.old config.new) }
 {
-    match element_at(config, &frame, from) {
+    match program_element_at(config, &frame, from) {
         None => finish(config, &frame, Completion::Normal),
         Some(element) => enter_element(config, frame, from, element),
     }
@@ -146,9 +144,9 @@ fn enter_element<S: WorldStore>(
     requires base { Base S.meaning config.old }
     requires there { IsThere S.meaning config.old frame }
     requires form { frame.form ≡ Form.Body }
-    requires callee { is_function (callee_held frame.held).0 ≡ false }
-    requires element { (t : Table) → Begins (elements_of (node_in t (node_now S.meaning config.old frame))) from (Some element) }
-    ensures { let t = config.new.heap.texts in let env = env_in S.meaning config.old t frame in OnOk result (Follows S.meaning (line.program_from (drop from (elements_of (node_in t (node_now S.meaning config.old frame)))) env) config.old config.new) }
+    requires begun { begun_held frame.held ≡ false }
+    requires element { (t : Table) → Begins (waits.program_elements (node_in t (node_now S.meaning config.old frame))) from (Some element) }
+    ensures { let t = config.new.heap.texts in let env = env_in S.meaning config.old t frame in OnOk result (Follows S.meaning (line.program_from (drop from (waits.program_elements (node_in t (node_now S.meaning config.old frame)))) env) config.old config.new) }
 {
     let next = place_after(from, 1)?;
     enter(config, frame, next, Part::Stmt(element))

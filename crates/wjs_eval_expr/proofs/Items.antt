@@ -1,6 +1,7 @@
 -- The lines of array and object literals from one part to the next (ECMA-262, 3rd edition, sections 11.1.4 and 11.1.5).
-use Rattle.std.proofs.Common.{◌≡◌, ℕ, ◌+◌, ◌-◌, true, List, [], ◌∷◌, Option, None, Some, refl, sym, ap, ◌∙◌, drop, add-one, arith}
-use Rattle.std.specs.Prelude.{map as each, slice_get}
+use Rattle.std.proofs.Common.{◌≡◌, ℕ, zero, suc, ◌+◌, ◌-◌, true, List, [], ◌∷◌, Option, None, Some, refl, sym, ap, ◌∙◌, subst, drop, add-one, arith}
+use Rattle.std.specs.Prelude.{map as each, All, slice_get}
+use Rattle.std.proofs.lemmas.List.Elements.{All-head, All-tail}
 use Rattle.wjs_base.specs.declared.ids.ObjId.{ObjId}
 use Rattle.wjs_base.specs.Text.{Table}
 use Rattle.wjs_tree.specs.declared.node.NodeId.{NodeId}
@@ -14,9 +15,13 @@ use Rattle.wjs_meaning.specs.Deeds.{Env, Ret, Normal, Eval, Do, Write, AtExpr, g
 use Rattle.wjs_meaning.specs.Expressions.{array_from, key_name, object_from}
 use Rattle.wjs_model.specs.declared.frame.Form.{Form}
 use Rattle.wjs_model.specs.declared.frame.Form.TheVariants as form
+use Rattle.wjs_model.specs.declared.unit.Unit.{Unit as Program}
 use Rattle.wjs_model.specs.Contents.{Holding}
+use Rattle.wjs_model.specs.Texts.{KnowsKey, KnowsNode, KnowsUnit}
 use Rattle.wjs_model.specs.Waiting.{after, array_rest, array_item, object_rest, object_item}
+use Rattle.wjs_moves.specs.Parts.{node_among}
 use Rattle.wjs_lines.proofs.Parts.{each_at, each_past}
+use Rattle.wjs_calls.proofs.FunctionNodes.{node_known}
 use Rattle.wjs_eval_expr.specs.Parts.{items_of, is_array, properties_of, is_object}
 
 -- ---- arrays
@@ -88,3 +93,16 @@ object_lacks t properties place at held env o v ea eh h =
     ap (λ k. object_item (each (pair_in t) properties) k held env v) (sym ea)
     ∙ ap (λ x. object_rest x (drop at (each (pair_in t) properties)) env v) eh
     ∙ ap (λ l. object_rest (Object o) l env v) (each_past (pair_in t) properties at h)
+
+-- the texts of a key are there
+key_at : (t : Table) (properties : List Property) (k : ℕ) (p : Property) → All (λ (q : Property). KnowsKey t q.key) properties → slice_get properties k ≡ Some p → KnowsKey t p.key
+key_at t [] k p h e = absurd (cc)
+key_at t (q ∷ properties) zero p h e = let same : q ≡ p = cc in subst (λ (x : Property). KnowsKey t x.key) same (All-head (λ (x : Property). KnowsKey t x.key) q properties h)
+key_at t (q ∷ properties) (suc k) p h e = key_at t properties k p (All-tail (λ (x : Property). KnowsKey t x.key) q properties h) e
+
+key_of : (t : Table) (n : Node) (k : ℕ) (p : Property) → KnowsNode t n → slice_get (properties_of n) k ≡ Some p → KnowsKey t p.key
+key_of t (nodes.ObjectLit properties comma) k p h e = key_at t properties k p h e
+key_of t _ k p h e = absurd (cc)
+
+pub key_known : (t : Table) (units : List Program) (tree : ℕ) (id : NodeId) (k : ℕ) (p : Property) → All (KnowsUnit t) units → slice_get (properties_of (node_among units tree id)) k ≡ Some p → KnowsKey t p.key
+key_known t units tree id k p h e = key_of t (node_among units tree id) k p (node_known t units tree id (node_among units tree id) h refl) e

@@ -4,3 +4,4 @@ pub mod Items
 pub mod Lines
 pub mod Links
 pub mod OperationLines
+pub mod Standing

@@ -8,6 +8,7 @@ ghost use Rattle.wjs_model.specs.Texts.{HasText};
 ghost use Rattle.wjs_model.specs.Soundness.{Base, IsThere};
 ghost use Rattle.wjs_moves.specs.Following.{Follows};
 ghost use Rattle.wjs_moves.specs.Parts.{env_in};
+ghost use Rattle.wjs_calls.specs.Standing.{StandsNamed};
 
 use wjs_base::{OutOfMemory, TextId, Value};
 use wjs_calls::make_function;
@@ -25,6 +26,7 @@ pub(crate) fn function_start<S: WorldStore>(
     requires base { Base S.meaning config.old }
     requires there { IsThere S.meaning config.old frame.now }
     requires name { HasText config.old.heap.texts name }
+    requires stands { StandsNamed config.old.units.items config.old.heap.arena frame.now.tree frame.now.node frame.now.scope name }
     ensures { let t = config.new.heap.texts in let env = env_in S.meaning config.old t frame.now in OnOk result (Follows S.meaning (line.make_function frame.now.node.0 (label_in t name) env (λ f. give (Object f))) config.old config.new) }
 {
     let function = make_function(config, frame, frame.node, name)?;

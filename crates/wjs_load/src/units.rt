@@ -1,7 +1,7 @@
 //! Units of bytes, and of the library's text.
 ghost use Rattle.std.specs.Prelude.{◌≤◌, ◌^◌, length, IfOk, IfErr, IfSome};
 ghost use Rattle.wjs_base.specs.Text.{Grows, IsTable};
-ghost use Rattle.wjs_model.specs.Texts.{KnowsUnit};
+ghost use Rattle.wjs_model.specs.Texts.{KnowsUnit, PlacesUnit};
 ghost use Rattle.wjs_load.specs.Loading.{IsRefused, Loads, LoadsOrNot};
 
 use crate::known::{names_are_below, text_count};
@@ -22,6 +22,7 @@ pub fn load(alloc: Global, bytes: &[u8], texts: &mut Texts) -> Result<Unit, Load
     requires { length bytes.now ≤ 2 ^ 24 }
     ensures ok { IfOk result (Loads bytes.now texts.new) }
     ensures known { IfOk result (KnowsUnit texts.new) }
+    ensures places { IfOk result (PlacesUnit texts.new) }
     ensures err { IfErr result (IsRefused bytes.now) }
     ensures grows { Grows texts.old texts.new }
     ensures table { IsTable texts.new }
@@ -45,6 +46,7 @@ pub fn load(alloc: Global, bytes: &[u8], texts: &mut Texts) -> Result<Unit, Load
 pub fn library(alloc: Global, texts: &mut Texts) -> Result<Option<Unit>, OutOfMemory>
     ensures ok { IfOk result (LoadsOrNot LIBRARY.now texts.new) }
     ensures known { IfOk result (λ library. IfSome library (KnowsUnit texts.new)) }
+    ensures places { IfOk result (λ library. IfSome library (PlacesUnit texts.new)) }
     ensures grows { Grows texts.old texts.new }
     ensures table { IsTable texts.new }
 {

@@ -1,5 +1,6 @@
 //! The variables that a node declares.
-ghost use Rattle.std.specs.Prelude.{◌≡◌, ◌<◌, ℕ, drop, length, map, IfSome};
+ghost use Rattle.std.specs.Prelude.{◌≡◌, ◌<◌, ℕ, drop, length, map, slice_get, Some, IfSome};
+ghost use Rattle.std.specs.Option.{option_and_then};
 ghost use Rattle.wjs_base.specs.Text.{Table};
 ghost use Rattle.wjs_meaning.specs.Deeds.{Env};
 ghost use Rattle.wjs_meaning.specs.Reading.{variable_in};
@@ -19,6 +20,7 @@ pub(crate) struct Initialiser {
 pub(crate) fn initialiser_from(declarators: &[Declarator], from: usize) -> Option<Initialiser>
     ensures goes { (t : Table) (here : ℕ) (env : Env) → let all = map (variable_in t) declarators.now in vars_from here from (drop from all) env ≡ initialiser_goes here all result env }
     ensures within { IfSome result (λ x. x.at < length declarators.now) }
+    ensures is { IfSome result (λ x. option_and_then (λ d. d.value) (slice_get declarators.now x.at) ≡ Some x.value) }
 {
     for at in from..declarators.len() {
         let found = declarators[at].value;

@@ -3,7 +3,7 @@ ghost use Rattle.std.specs.Prelude.{◌≡◌, OnOk};
 ghost use Rattle.wjs_meaning.specs.Deeds.{Sub};
 ghost use Rattle.wjs_meaning.specs.Expressions.{expr_at};
 ghost use Rattle.wjs_meaning.specs.Statements.{stmt_at};
-ghost use Rattle.wjs_model.specs.Soundness.{Base, IsThere};
+ghost use Rattle.wjs_model.specs.Soundness.{Base, IsThere, StandsHere};
 ghost use Rattle.wjs_moves.specs.Parts.{env_in, then_at};
 ghost use Rattle.wjs_moves.specs.Following.{Follows};
 
@@ -23,6 +23,7 @@ pub fn expr_turn<S: WorldStore>(
     requires running { config.old.state ≡ State.Running }
     requires base { Base S.meaning config.old }
     requires there { IsThere S.meaning config.old frame }
+    requires part { StandsHere config.old frame e }
     ensures { let t = config.new.heap.texts in let env = env_in S.meaning config.old t frame in OnOk result (Follows S.meaning (Sub (expr_at e.0 env) (then_at S.meaning config.old frame place t env)) config.old config.new) }
 {
     let held = config.frames.nothing_held();
@@ -39,6 +40,7 @@ pub fn stmt_turn<S: WorldStore>(
     requires running { config.old.state ≡ State.Running }
     requires base { Base S.meaning config.old }
     requires there { IsThere S.meaning config.old frame }
+    requires part { StandsHere config.old frame s }
     ensures { let t = config.new.heap.texts in let env = env_in S.meaning config.old t frame in OnOk result (Follows S.meaning (Sub (stmt_at s.0 env) (then_at S.meaning config.old frame place t env)) config.old config.new) }
 {
     let held = config.frames.nothing_held();

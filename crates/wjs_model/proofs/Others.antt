@@ -89,6 +89,7 @@ module _ {S : Type 0} (c : Config S) (u : ℕ) (a : IsTrue (is_apart c.apart.ite
   other_item (holds.Reference r) h = other_reference r h
   other_item (holds.Callee f this) h = (other_value f h.0, other_value this h.1)
   other_item holds.ByNew h = tt
+  other_item holds.Begun h = tt
   other_item (holds.Elements o count) h = other o h.1
   other_item (holds.Earlier e) h = other_completion e h
   other_item (holds.Visit s) h = other s.object h.0.1
@@ -211,6 +212,7 @@ module _ {S : Type 0} (c new : Config S) where
   item_listed (holds.Reference r) h k = reference_listed r h k
   item_listed (holds.Callee f this) h k = (value_listed f h.0 (λ u a. (k u a).0), value_listed this h.1 (λ u a. (k u a).1))
   item_listed holds.ByNew h k = tt
+  item_listed holds.Begun h k = tt
   item_listed (holds.Elements o count) h k = object_listed o h k
   item_listed (holds.Earlier e) h k = completion_listed e h k
   item_listed (holds.Visit s) h k = (object_listed s.object h.0 k, h.1)
@@ -239,6 +241,7 @@ module _ {S : Type 0} (c new : Config S) where
       world = h.world;
       held = items_listed f.held h.held (λ u a. (k u a).held);
       phase = phase_listed f.phase h.phase (λ u a. (k u a).phase);
+      stands = h.stands;
     }
 
     frames_listed : (fs : List Frame) → All (IsThere meaning c) fs → Each (λ u. All (OtherFrame u) fs) → All (IsThere meaning listed) fs
@@ -269,6 +272,8 @@ module _ {S : Type 0} (c new : Config S) where
             world = b.world;
             builtins = λ n l. object_listed (builtin n) (b.builtins n l) first;
             units = b.units;
+            places = b.places;
+            functions = b.functions;
             own_worlds = b.own_worlds;
             own = near_by c.owner mine;
             no_worlds = λ o e w q a. (kept o.owner a).no_worlds o e w q refl;

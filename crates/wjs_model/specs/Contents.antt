@@ -34,6 +34,8 @@ pub record Holding : Type 0 where
   pub callee : Value × Value
   -- whether the latest call is one of `new`
   pub by_new : Bool
+  -- whether the scope of the function whose body runs is made
+  pub begun : Bool
   -- the object whose elements are read, and how many
   pub elements : ObjId × ℕ
   -- what a `finally` may replace
@@ -43,7 +45,7 @@ pub record Holding : Type 0 where
 
 -- nothing is held
 abbrev pub nothing : Holding
-nothing = record { value = Undefined; values = []; reference = Member Undefined (index_name 0); callee = (Undefined, Undefined); by_new = false; elements = (record { owner = 0; serial = 0 }, 0); earlier = Normal; visits = [] }
+nothing = record { value = Undefined; values = []; reference = Member Undefined (index_name 0); callee = (Undefined, Undefined); by_new = false; begun = false; elements = (record { owner = 0; serial = 0 }, 0); earlier = Normal; visits = [] }
 
 -- when a frame goes on
 pub data Moment : Type 0 where
@@ -94,6 +96,12 @@ new_held (holds.ByNew ∷ held) = true
 new_held (holds.Callee f this ∷ held) = false
 new_held (_ ∷ held) = new_held held
 
+abbrev pub begun_held : List Held → Bool
+begun_held [] = false
+begun_held (holds.Begun ∷ held) = true
+begun_held (holds.Callee f this ∷ held) = false
+begun_held (_ ∷ held) = begun_held held
+
 abbrev pub elements_held : List Held → ObjId × ℕ
 elements_held [] = (record { owner = 0; serial = 0 }, 0)
 elements_held (holds.Elements o count ∷ held) = (o, count)
@@ -133,6 +141,7 @@ module _ (texts : Table) where
     reference = reference_in (reference_held held);
     callee = (value_in texts (callee_held held).0, value_in texts (callee_held held).1);
     by_new = new_held held;
+    begun = begun_held held;
     elements = elements_held held;
     earlier = completion_in (earlier_held held);
     visits = each (slot_in texts) (visits_held held);

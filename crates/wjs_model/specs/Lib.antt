@@ -8,6 +8,7 @@ pub mod Rest
 pub mod Laws
 pub mod Outside
 pub mod Configurations
+pub mod Standing
 pub mod Apart
 pub mod Soundness
 pub mod Others

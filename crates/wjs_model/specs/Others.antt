@@ -60,6 +60,7 @@ module _ (u : ℕ) where
   OtherItem (holds.Reference r) = OtherReference r
   OtherItem (holds.Callee f this) = OtherValue f × OtherValue this
   OtherItem holds.ByNew = Unit {0}
+  OtherItem holds.Begun = Unit {0}
   OtherItem (holds.Elements o count) = Other o
   OtherItem (holds.Earlier e) = OtherCompletion e
   OtherItem (holds.Visit s) = Other s.object

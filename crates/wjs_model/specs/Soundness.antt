@@ -12,6 +12,7 @@ use Rattle.wjs_base.specs.declared.values.Content.{Content}
 use Rattle.wjs_base.specs.declared.values.Content.TheVariants as contents
 use Rattle.wjs_base.specs.Spelling.{IsName}
 use Rattle.wjs_base.specs.Text.{Has}
+use Rattle.wjs_tree.specs.declared.node.NodeId.{NodeId}
 use Rattle.wjs_store.specs.State.{has_world}
 use Rattle.wjs_store.specs.Meaning.{Meaning, worlds}
 use Rattle.wjs_arena.specs.Entries.{Entry, has}
@@ -31,7 +32,8 @@ use Rattle.wjs_model.specs.declared.frame.Frame.{Frame}
 use Rattle.wjs_model.specs.declared.config.Config.{Config}
 use Rattle.wjs_model.specs.declared.config.State.{State}
 use Rattle.wjs_model.specs.declared.config.State.TheVariants as states
-use Rattle.wjs_model.specs.Texts.{KnowsUnit}
+use Rattle.wjs_model.specs.Texts.{KnowsUnit, PlacesUnit}
+use Rattle.wjs_model.specs.Standing.{Stands, FrameStands, FunctionStands}
 use Rattle.wjs_model.specs.Apart.{is_apart, IsNear, NearSlots, NamesNear}
 
 -- ---- what is named is there
@@ -56,6 +58,10 @@ module _ {S : Type 0} (c : Config S) where
   abbrev pub HasSlot : Slot → Type 0
   HasSlot s = HasObject s.object × HasName s.name
 
+  -- where the frame is run the node stands
+  abbrev pub StandsHere : Frame → NodeId → Type 0
+  StandsHere f node = Stands c.units.items c.heap.arena f.tree node f.scope 0
+
   abbrev pub HasLabel : Option TextId → Type 0
   HasLabel None = Unit {0}
   HasLabel (Some id) = Has c.heap.texts id
@@ -79,6 +85,7 @@ module _ {S : Type 0} (c : Config S) where
   HasItem (holds.Reference r) = HasReference r
   HasItem (holds.Callee f this) = HasValue f × HasValue this
   HasItem holds.ByNew = Unit {0}
+  HasItem holds.Begun = Unit {0}
   HasItem (holds.Elements o count) = HasObject o
   HasItem (holds.Earlier e) = HasCompletion e
   HasItem (holds.Visit s) = HasSlot s
@@ -100,13 +107,14 @@ module _ {S : Type 0} (meaning : S → Meaning) where
   abbrev pub HasWorld : Config S → WorldId → Type 0
   HasWorld c w = IsTrue (has_world (worlds (meaning c.heap.store)) w)
 
-  -- a frame's scope, `this` and world are there, and what it holds
+  -- a frame's scope, `this` and world are there, with an object for the world, and so is what it holds; it stands at a node of its program
   pub record IsThere (c : Config S) (f : Frame) : Type 0 where
     pub scope : HasObject c f.scope
     pub this : HasValue c f.this
     pub world : HasWorld c f.world
     pub held : HasItems c f.held
     pub phase : HasPhase c f.phase
+    pub stands : FrameStands c.units.items c.heap.arena f
 
   -- all but how it ended
   pub record Base (c : Config S) : Type 0 where
@@ -117,8 +125,11 @@ module _ {S : Type 0} (meaning : S → Meaning) where
     pub world : HasWorld c c.world
     -- the objects that were there before the first step are there
     pub builtins : (n : ℕ) → n < 14 → HasObject c (builtin n)
-    -- the texts of its programs are there
+    -- the texts of its programs are there, and the places of their names are right
     pub units : All (KnowsUnit c.heap.texts) c.units.items
+    pub places : All (PlacesUnit c.heap.texts) c.units.items
+    -- its functions stand at nodes of its programs
+    pub functions : (o : ObjId) (e : Entry) → map.get c.heap.arena o ≡ Some e → FunctionStands c.units.items c.heap.arena e.object.code e.object.scope
     -- a world of its owner that an object stands for is in the store
     pub own_worlds : (o : ObjId) (e : Entry) (w : WorldId) → map.get c.heap.arena o ≡ Some e → e.object.world ≡ Some w → w.owner ≡ c.owner → HasWorld c w
     -- its own owner is not kept apart, and where an owner is, no object of it has a world of the store

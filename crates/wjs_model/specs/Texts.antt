@@ -11,6 +11,7 @@ use Rattle.wjs_tree.specs.declared.node.ForInit.TheVariants as inits
 use Rattle.wjs_tree.specs.declared.node.Handler.{Handler}
 use Rattle.wjs_tree.specs.declared.node.Node.{Node}
 use Rattle.wjs_tree.specs.declared.node.Node.TheVariants as form
+use Rattle.wjs_scope.specs.Places.{IsPlaced}
 use Rattle.wjs_model.specs.declared.unit.Unit.{Unit as Program}
 
 module _ (texts : Table) where
@@ -54,3 +55,7 @@ module _ (texts : Table) where
 
   abbrev pub KnowsUnit : Program → Type 0
   KnowsUnit u = All KnowsNode u.program.nodes
+
+  -- the unit's program is a script, and its places are those of its names
+  abbrev pub PlacesUnit : Program → Type 0
+  PlacesUnit u = IsPlaced texts u.program.nodes u.program.body u.places

@@ -1,5 +1,5 @@
 -- What a frame does with the completion that it waited for: for each form and place the named continuation of the meaning.
-use Rattle.std.specs.Prelude.{ℕ, zero, suc, ◌+◌, ◌-◌, true, false, List, [], ◌∷◌, ◌++◌, length, drop, take, Option, None, Some}
+use Rattle.std.specs.Prelude.{ℕ, zero, suc, ◌+◌, ◌-◌, Bool, true, false, List, [], ◌∷◌, ◌++◌, length, drop, take, Option, None, Some}
 use Rattle.wjs_tree.specs.declared.operators.UpdateOperator.{UpdateOperator}
 use Rattle.wjs_tree.specs.declared.operators.UpdateOperator.TheVariants as update
 use Rattle.wjs_tree.specs.declared.operators.PrefixOperator.{PrefixOperator}
@@ -11,7 +11,7 @@ use Rattle.wjs_arena.specs.declared.native.Native.{Native}
 use Rattle.wjs_content.specs.Values.{Text, Value, Undefined, Object}
 use Rattle.wjs_content.specs.Names.{Slot, slot, index_name}
 use Rattle.wjs_meaning.specs.declared.trouble.Trouble.TheVariants.{NoPrimitiveValue}
-use Rattle.wjs_meaning.specs.Trees.{Node, Key, Init, InitVar, ArrayLit, ObjectLit, Dot, At, Call, NewWith, NewBare, Postfix, Prefix, Binary, Cond, Assign, Comma, Block, Var, Expr, If, DoWhile, While, For, ForIn, ForVarIn, Return, Throw, Label, Switch, Try, Within, elements_of}
+use Rattle.wjs_meaning.specs.Trees.{Node, Key, Init, InitVar, ArrayLit, ObjectLit, Dot, At, Call, NewWith, NewBare, Postfix, Prefix, Binary, Cond, Assign, Comma, Block, Var, Expr, If, DoWhile, While, For, ForIn, ForVarIn, Return, Throw, Label, Switch, Try, Within, Program, elements_of}
 use Rattle.wjs_meaning.specs.Deeds.{Env, Act, Ret, Eval, Do, Write, AtProgram, Reference, Completion, Refers, Normal, Throws, then_value, then_number, then_text, then_reference, then_normal, tree_here}
 use Rattle.wjs_meaning.specs.Errors.{throw}
 use Rattle.wjs_meaning.specs.NativesOfObjects.{whole_of}
@@ -241,11 +241,15 @@ abbrev pub next_program : Env → Completion → Act
 next_program env (Throws v) = Ret (Throws v)
 next_program env c = Eval AtProgram env Ret
 
--- after an element of the body of the function that is held; without one after the program before it, and after each element of a program
-abbrev pub after_body_of : Value → ℕ → List ℕ → Env → Completion → Act
-after_body_of (Object f) place elements env = body_next (body_from (drop place elements) env)
-after_body_of v zero elements env = next_program env
-after_body_of v place elements env = then_normal (program_from (drop place elements) env)
+abbrev pub program_elements : Node → List ℕ
+program_elements (Program elements) = elements
+program_elements node = []
+
+-- after an element of the body of a function that has begun; otherwise after the program before it, and after each element of a program
+abbrev pub after_body_of : Bool → ℕ → Node → Env → Completion → Act
+after_body_of true place node env = body_next (body_from (drop place (elements_of node)) env)
+after_body_of false zero node env = next_program env
+after_body_of false place node env = then_normal (program_from (drop place (program_elements node)) env)
 
 -- after the first method of an object, and after the second
 abbrev pub after_method : Hint → Value → ℕ → Env → Value → Act
@@ -270,7 +274,7 @@ abbrev pub after : Node → Form → ℕ → ℕ → Holding → Env → Complet
 after node form.Expr here place held env = after_expr node place held env (give_value_of env)
 after node form.Target here place held env = after_expr node place held env refer
 after node form.Stmt here place held env = after_stmt here node place held env
-after node form.Body here place held env = after_body_of held.callee.0 place (elements_of node) env
+after node form.Body here place held env = after_body_of held.begun place node env
 after node (form.Convert conversion) here place held env = after_conversion conversion place held env
 after node form.Call here place held env = Ret
 after node (form.Native k) here place held env = then_value (after_argument k held (place - 1) env)

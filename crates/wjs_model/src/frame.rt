@@ -79,6 +79,8 @@ pub enum Held {
     Callee(Value, Value),
     /// The latest call is one of `new`.
     ByNew,
+    /// The scope of the function whose body runs is made.
+    Begun,
     /// The object whose elements are read one by one, and how many they are.
     Elements(ObjId, u32),
     /// What a `finally` may replace.

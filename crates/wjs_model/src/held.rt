@@ -1,7 +1,7 @@
 //! The latest of each kind of what a frame holds.
 ghost use Rattle.std.specs.Prelude.{◌≡◌, ◌++◌, ◌∷◌, [], IfOk, OnOk};
 ghost use Rattle.wjs_model.specs.Frames.{latest_first, earliest_first};
-ghost use Rattle.wjs_model.specs.Contents.{value_held, values_held, reference_held, callee_held, new_held, elements_held, earlier_held};
+ghost use Rattle.wjs_model.specs.Contents.{value_held, values_held, reference_held, callee_held, new_held, begun_held, elements_held, earlier_held};
 
 use crate::frame::{Completion, Held, Items, Reference};
 use std::alloc::Global;
@@ -41,6 +41,13 @@ impl Items {
         ensures { result ≡ new_held self.now }
     {
         is_by_new(self.list.as_slice())
+    }
+
+    /// Whether the scope of the function whose body runs is made.
+    pub fn begun(&self) -> bool
+        ensures { result ≡ begun_held self.now }
+    {
+        is_begun(self.list.as_slice())
     }
 
     /// The object whose elements are read, and how many they are.
@@ -128,6 +135,21 @@ fn is_by_new(items: &[Held]) -> bool
         i -= 1;
         match items[i] {
             Held::ByNew => return true,
+            Held::Callee(_, _) => return false,
+            _ => {}
+        }
+    }
+    false
+}
+
+fn is_begun(items: &[Held]) -> bool
+    ensures { result ≡ begun_held (latest_first items.now) }
+{
+    let mut i = items.len();
+    'back: while i > 0 {
+        i -= 1;
+        match items[i] {
+            Held::Begun => return true,
             Held::Callee(_, _) => return false,
             _ => {}
         }

@@ -23,7 +23,7 @@ use Rattle.wjs_model.specs.declared.frame.Phase.{Phase}
 use Rattle.wjs_model.specs.declared.frame.Phase.TheVariants as phases
 use Rattle.wjs_model.specs.declared.frame.Frame.{Frame}
 use Rattle.wjs_model.specs.Frames.{earliest_first}
-use Rattle.wjs_model.specs.Contents.{Given, value_held, values_held, reference_held, callee_held, new_held, elements_held, earlier_held, visits_held, reference_in, completion_in, holding_in, moment_in, frame_in}
+use Rattle.wjs_model.specs.Contents.{Given, value_held, values_held, reference_held, callee_held, new_held, begun_held, elements_held, earlier_held, visits_held, reference_in, completion_in, holding_in, moment_in, frame_in}
 use Rattle.wjs_model.specs.Soundness.{HasName, HasValue, HasReference, HasCompletion, HasItems, HasPhase, IsThere}
 use Rattle.wjs_moves.proofs.NodesGrow.{label_grows}
 
@@ -63,6 +63,7 @@ module _ {S : Type 0} (c : Config S) (new : Table) (g : Grows c.heap.texts new) 
   held_value_grows (holds.Reference r ∷ held) k = held_value_grows held k.1
   held_value_grows (holds.Callee f this ∷ held) k = held_value_grows held k.1
   held_value_grows (holds.ByNew ∷ held) k = held_value_grows held k.1
+  held_value_grows (holds.Begun ∷ held) k = held_value_grows held k.1
   held_value_grows (holds.Elements o count ∷ held) k = held_value_grows held k.1
   held_value_grows (holds.Earlier e ∷ held) k = held_value_grows held k.1
   held_value_grows (holds.Visit s ∷ held) k = held_value_grows held k.1
@@ -73,6 +74,7 @@ module _ {S : Type 0} (c : Config S) (new : Table) (g : Grows c.heap.texts new) 
   held_values_grow (holds.Reference r ∷ held) k = held_values_grow held k.1
   held_values_grow (holds.Callee f this ∷ held) k = held_values_grow held k.1
   held_values_grow (holds.ByNew ∷ held) k = held_values_grow held k.1
+  held_values_grow (holds.Begun ∷ held) k = held_values_grow held k.1
   held_values_grow (holds.Elements o count ∷ held) k = held_values_grow held k.1
   held_values_grow (holds.Earlier e ∷ held) k = held_values_grow held k.1
   held_values_grow (holds.Visit s ∷ held) k = held_values_grow held k.1
@@ -83,6 +85,7 @@ module _ {S : Type 0} (c : Config S) (new : Table) (g : Grows c.heap.texts new) 
   held_reference_grows (holds.Reference r ∷ held) k = reference_grows r k.0
   held_reference_grows (holds.Callee f this ∷ held) k = held_reference_grows held k.1
   held_reference_grows (holds.ByNew ∷ held) k = held_reference_grows held k.1
+  held_reference_grows (holds.Begun ∷ held) k = held_reference_grows held k.1
   held_reference_grows (holds.Elements o count ∷ held) k = held_reference_grows held k.1
   held_reference_grows (holds.Earlier e ∷ held) k = held_reference_grows held k.1
   held_reference_grows (holds.Visit s ∷ held) k = held_reference_grows held k.1
@@ -93,6 +96,7 @@ module _ {S : Type 0} (c : Config S) (new : Table) (g : Grows c.heap.texts new) 
   held_callee_grows (holds.Reference r ∷ held) k = held_callee_grows held k.1
   held_callee_grows (holds.Callee f this ∷ held) k = value_grows f (k.0).0
   held_callee_grows (holds.ByNew ∷ held) k = held_callee_grows held k.1
+  held_callee_grows (holds.Begun ∷ held) k = held_callee_grows held k.1
   held_callee_grows (holds.Elements o count ∷ held) k = held_callee_grows held k.1
   held_callee_grows (holds.Earlier e ∷ held) k = held_callee_grows held k.1
   held_callee_grows (holds.Visit s ∷ held) k = held_callee_grows held k.1
@@ -103,6 +107,7 @@ module _ {S : Type 0} (c : Config S) (new : Table) (g : Grows c.heap.texts new) 
   held_this_grows (holds.Reference r ∷ held) k = held_this_grows held k.1
   held_this_grows (holds.Callee f this ∷ held) k = value_grows this (k.0).1
   held_this_grows (holds.ByNew ∷ held) k = held_this_grows held k.1
+  held_this_grows (holds.Begun ∷ held) k = held_this_grows held k.1
   held_this_grows (holds.Elements o count ∷ held) k = held_this_grows held k.1
   held_this_grows (holds.Earlier e ∷ held) k = held_this_grows held k.1
   held_this_grows (holds.Visit s ∷ held) k = held_this_grows held k.1
@@ -113,6 +118,7 @@ module _ {S : Type 0} (c : Config S) (new : Table) (g : Grows c.heap.texts new) 
   held_earlier_grows (holds.Reference r ∷ held) k = held_earlier_grows held k.1
   held_earlier_grows (holds.Callee f this ∷ held) k = held_earlier_grows held k.1
   held_earlier_grows (holds.ByNew ∷ held) k = held_earlier_grows held k.1
+  held_earlier_grows (holds.Begun ∷ held) k = held_earlier_grows held k.1
   held_earlier_grows (holds.Elements o count ∷ held) k = held_earlier_grows held k.1
   held_earlier_grows (holds.Earlier e ∷ held) k = completion_grows e k.0
   held_earlier_grows (holds.Visit s ∷ held) k = held_earlier_grows held k.1
@@ -123,6 +129,7 @@ module _ {S : Type 0} (c : Config S) (new : Table) (g : Grows c.heap.texts new) 
   held_visits_grow (holds.Reference r ∷ held) k = held_visits_grow held k.1
   held_visits_grow (holds.Callee f this ∷ held) k = held_visits_grow held k.1
   held_visits_grow (holds.ByNew ∷ held) k = held_visits_grow held k.1
+  held_visits_grow (holds.Begun ∷ held) k = held_visits_grow held k.1
   held_visits_grow (holds.Elements o count ∷ held) k = held_visits_grow held k.1
   held_visits_grow (holds.Earlier e ∷ held) k = held_visits_grow held k.1
   held_visits_grow (holds.Visit s ∷ held) k = let e = name_grows s.name (k.0).1 in let more = held_visits_grow held k.1 in λ i. slot s.object (e i) ∷ more i
@@ -142,6 +149,7 @@ module _ {S : Type 0} (c : Config S) (new : Table) (g : Grows c.heap.texts new) 
         reference = reference i;
         callee = (callee i, this i);
         by_new = new_held held;
+        begun = begun_held held;
         elements = elements_held held;
         earlier = earlier i;
         visits = visits i;

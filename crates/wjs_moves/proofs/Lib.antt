@@ -6,6 +6,7 @@ pub mod Ending
 pub mod Entering
 pub mod Taking
 pub mod Moving
+pub mod Parting
 pub mod Shorter
 pub mod Lists
 pub mod NodesGrow

@@ -1,5 +1,5 @@
 -- What the moves follow, and that they leave a sound configuration.
-use Rattle.std.proofs.Common.{◌≡◌, ℕ, ◌+◌, ◌≤◌, List, [], ◌∷◌, ◌++◌, refl, sym, ◌∙◌, subst, arith}
+use Rattle.std.proofs.Common.{◌≡◌, ℕ, ◌+◌, ◌≤◌, false, List, [], ◌∷◌, ◌++◌, refl, sym, ◌∙◌, subst, arith}
 use Rattle.std.specs.Prelude.{All, Result, OnOk, Ok, Err}
 use Rattle.std.proofs.lemmas.List.Elements.{All-nil, All-push, All-same}
 use Rattle.wjs_base.specs.declared.ids.OutOfMemory.{OutOfMemory}
@@ -15,13 +15,18 @@ use Rattle.wjs_model.specs.declared.frame.Phase.TheVariants as phases
 use Rattle.wjs_model.specs.declared.frame.Frame.{Frame}
 use Rattle.wjs_model.specs.declared.frame.Form.{Form}
 use Rattle.wjs_model.specs.declared.frame.Held.{Held}
-use Rattle.wjs_model.specs.Contents.{completion_in, holding_in}
+use Rattle.wjs_model.specs.Contents.{begun_held, completion_in, holding_in}
 use Rattle.wjs_model.specs.Rest.{begin_form}
 use Rattle.wjs_meaning.specs.Reading.{node_in}
 use Rattle.wjs_tree.specs.declared.node.NodeId.{NodeId}
-use Rattle.wjs_model.specs.Soundness.{HasCompletion, HasItems, HasThrown, IsThere, Base}
+use Rattle.wjs_model.specs.Soundness.{StandsHere, HasCompletion, HasItems, HasThrown, IsThere, Base}
+use Rattle.wjs_model.specs.Standing.{BodyStands}
+use Rattle.wjs_model.specs.declared.unit.Unit.{Unit as Program}
+use Rattle.wjs_base.specs.declared.ids.ObjId.{ObjId}
+use Rattle.wjs_arena.specs.Entries.{Objects}
 use Rattle.wjs_moves.specs.declared.place.Part.{Part}
-use Rattle.wjs_moves.specs.Parts.{goal_of, due_frame, env_in, then_at, begins_at, ended, node_among}
+use Rattle.wjs_moves.specs.declared.place.Part.TheVariants as part
+use Rattle.wjs_moves.specs.Parts.{goal_of, form_of, node_of, due_frame, env_in, then_at, begins_at, ended, node_among}
 use Rattle.wjs_moves.specs.Keeping.{Keeps}
 use Rattle.wjs_moves.specs.Following.{Follows, Later}
 use Rattle.wjs_moves.specs.Nesting.{Nests}
@@ -59,26 +64,32 @@ module _ {S : Type 0} (meaning : S → Meaning) where
   none_fewer : (t : Table) (act : Act) (old new : Config S) → Keeps meaning t 1 act old new → Keeps meaning t 0 act old new
   none_fewer t act old new k = record { stays = k.stays; left = k.left; alive = k.alive; kept = k.kept; falls = λ v a h. fewer _ _ (k.falls v a h) }
 
-  there_due : (old : Config S) (f : Frame) (p : Part) → IsThere meaning old f → IsThere meaning old (due_frame f p)
-  there_due old f p h = record { scope = h.scope; this = h.this; world = h.world; held = tt; phase = tt }
+  body_due : (p : Part) (units : List Program) (arena : Objects) (tree : ℕ) (node : NodeId) (scope : ObjId) → BodyStands units arena (form_of p) false tree node scope
+  body_due (part.Expr e) units arena tree node scope = tt
+  body_due (part.Target e) units arena tree node scope = tt
+  body_due (part.Stmt s) units arena tree node scope = tt
+  body_due (part.Again s) units arena tree node scope = tt
+
+  there_due : (old : Config S) (f : Frame) (p : Part) → IsThere meaning old f → StandsHere old f (node_of p) → IsThere meaning old (due_frame f p)
+  there_due old f p h s = record { scope = h.scope; this = h.this; world = h.world; held = tt; phase = tt; stands = record { node = s; body = body_due p old.units.items old.heap.arena f.tree (node_of p) f.scope; shown = h.stands.shown } }
 
   all_waiting : (old : Config S) (f : Frame) (place : ℕ) (mid : List Frame) → Base meaning old → IsThere meaning old f → mid ≡ old.frames ++ record f { place = place; phase = phases.Waiting } ∷ [] → All (IsThere meaning old) mid
   all_waiting old f place mid b h em = All-same (IsThere meaning old) mid _ em (All-push (IsThere meaning old) old.frames _ b.frames (there_at meaning old f place phases.Waiting tt h))
 
   -- a frame waits, and a part is due above it
-  pub follows_enter : (old : Config S) (f : Frame) (place : ℕ) (p : Part) (mid frames : List Frame) → old.state ≡ states.Running → Base meaning old → IsThere meaning old f → mid ≡ old.frames ++ record f { place = place; phase = phases.Waiting } ∷ [] → frames ≡ mid ++ due_frame f p ∷ []
+  pub follows_enter : (old : Config S) (f : Frame) (place : ℕ) (p : Part) (mid frames : List Frame) → old.state ≡ states.Running → Base meaning old → IsThere meaning old f → StandsHere old f (node_of p) → mid ≡ old.frames ++ record f { place = place; phase = phases.Waiting } ∷ [] → frames ≡ mid ++ due_frame f p ∷ []
       → Follows meaning (let t = old.heap.texts in Eval (goal_of p) (env_in meaning old t f) (then_at meaning old f place t (env_in meaning old t f))) old (record old { frames = frames })
-  follows_enter old f place p mid frames er b h em ef = record {
+  follows_enter old f place p mid frames er b h s em ef = record {
     keeps = keeps_enter meaning old.heap.texts old f place p mid frames er em ef;
-    sound = sound_push meaning old frames mid (due_frame f p) er b (all_waiting old f place mid b h em) (there_due old f p h) ef;
+    sound = sound_push meaning old frames mid (due_frame f p) er b (all_waiting old f place mid b h em) (there_due old f p h s) ef;
   }
 
   -- a part is due in the place of a frame
-  pub follows_last : (old : Config S) (f : Frame) (p : Part) (frames : List Frame) → old.state ≡ states.Running → Base meaning old → IsThere meaning old f → frames ≡ old.frames ++ due_frame f p ∷ []
+  pub follows_last : (old : Config S) (f : Frame) (p : Part) (frames : List Frame) → old.state ≡ states.Running → Base meaning old → IsThere meaning old f → StandsHere old f (node_of p) → frames ≡ old.frames ++ due_frame f p ∷ []
       → Follows meaning (Eval (goal_of p) (env_in meaning old old.heap.texts f) Ret) old (record old { frames = frames })
-  follows_last old f p frames er b h ef = record {
+  follows_last old f p frames er b h s ef = record {
     keeps = keeps_last meaning old.heap.texts old f p frames er ef;
-    sound = sound_push meaning old frames old.frames (due_frame f p) er b b.frames (there_due old f p h) ef;
+    sound = sound_push meaning old frames old.frames (due_frame f p) er b b.frames (there_due old f p h s) ef;
   }
 
   -- a step is due first
@@ -90,15 +101,15 @@ module _ {S : Type 0} (meaning : S → Meaning) where
   }
 
   -- a frame waits, and a form begins above it
-  pub follows_nested : (old : Config S) (f : Frame) (form : Form) (node : NodeId) (start : ℕ) (held : List Held) (place : ℕ) (mid frames : List Frame) → old.state ≡ states.Running → Base meaning old → IsThere meaning old f → HasItems old held
+  pub follows_nested : (old : Config S) (f : Frame) (form : Form) (node : NodeId) (start : ℕ) (held : List Held) (place : ℕ) (mid frames : List Frame) → old.state ≡ states.Running → Base meaning old → IsThere meaning old f → HasItems old held → StandsHere old f node → BodyStands old.units.items old.heap.arena form (begun_held held) f.tree node f.scope
       → mid ≡ old.frames ++ record f { place = place; phase = phases.Waiting } ∷ [] → frames ≡ mid ++ record f { form = form; node = node; place = start; phase = phases.Ready; held = held } ∷ []
       → Follows meaning (let t = old.heap.texts in Sub (begin_form (node_in t (node_among old.units.items f.tree node)) form node.0 start (holding_in t held) (env_in meaning old t f)) (then_at meaning old f place t (env_in meaning old t f))) old (record old { frames = frames })
-  follows_nested old f form node start held place mid frames er b h hh em ef =
+  follows_nested old f form node start held place mid frames er b h hh s body em ef =
       let t = old.heap.texts in
       let g : Frame = record f { form = form; node = node; place = start; phase = phases.Ready; held = held } in
       record {
         keeps = (opens_waiting meaning t old f place mid em).by (begins_at meaning old g start t (env_in meaning old t g)) (record old { frames = frames }) (keeps_ready meaning t (record old { frames = mid }) g frames er refl ef);
-        sound = sound_push meaning old frames mid g er b (all_waiting old f place mid b h em) (record { scope = h.scope; this = h.this; world = h.world; held = hh; phase = tt }) ef;
+        sound = sound_push meaning old frames mid g er b (all_waiting old f place mid b h em) (record { scope = h.scope; this = h.this; world = h.world; held = hh; phase = tt; stands = record { node = s; body = body; shown = h.stands.shown } }) ef;
       }
 
   -- a frame waits for what is followed above it
@@ -124,6 +135,7 @@ module _ {S : Type 0} (meaning : S → Meaning) where
     items = λ held k. k;
     worlds = λ w k. k;
     texts = grows_same old.heap.texts;
+    arena = λ o e k. k;
   }
 
   -- the frame below is given the completion

@@ -20,11 +20,11 @@ not_empty all (y ∷ xs) x e h = cc
 module _ {S : Type 0} (meaning : S → Meaning) where
   -- what is there stays so under other frames
   pub there_framed : (old : Config S) (frames : List Frame) (left : ℕ) (state : State) (f : Frame) → IsThere meaning old f → IsThere meaning (record old { frames = frames; left = left; state = state }) f
-  there_framed old frames left state f h = record { scope = h.scope; this = h.this; world = h.world; held = h.held; phase = h.phase }
+  there_framed old frames left state f h = record { scope = h.scope; this = h.this; world = h.world; held = h.held; phase = h.phase; stands = h.stands }
 
   -- at another place, at another moment
   pub there_at : (old : Config S) (f : Frame) (place : ℕ) (phase : Phase) → HasPhase old phase → IsThere meaning old f → IsThere meaning old (record f { place = place; phase = phase })
-  there_at old f place phase p h = record { scope = h.scope; this = h.this; world = h.world; held = h.held; phase = p }
+  there_at old f place phase p h = record { scope = h.scope; this = h.this; world = h.world; held = h.held; phase = p; stands = record { node = h.stands.node; body = h.stands.body; shown = h.stands.shown } }
 
   pub base_framed : (old : Config S) (frames : List Frame) (left : ℕ) (state : State) → Base meaning old → All (IsThere meaning old) frames → Base meaning (record old { frames = frames; left = left; state = state })
   base_framed old frames left state b h = record {
@@ -33,6 +33,8 @@ module _ {S : Type 0} (meaning : S → Meaning) where
     world = b.world;
     builtins = b.builtins;
     units = b.units;
+    places = b.places;
+    functions = b.functions;
     works = b.works;
     own_worlds = b.own_worlds;
     own = b.own;

@@ -6,6 +6,7 @@ use Rattle.wjs_base.specs.declared.values.Name.{Name}
 use Rattle.wjs_base.specs.declared.values.Value.{Value}
 use Rattle.wjs_base.specs.Text.{Grows}
 use Rattle.wjs_store.specs.Meaning.{Meaning}
+use Rattle.wjs_arena.specs.Entries.{Keeps as KeepsObjects}
 use Rattle.wjs_meaning.specs.Deeds.{Act}
 use Rattle.wjs_model.specs.declared.config.Config.{Config}
 use Rattle.wjs_model.specs.declared.frame.Completion.{Completion}
@@ -36,4 +37,5 @@ module _ {S : Type 0} (meaning : S → Meaning) where
     pub completions : (e : Completion) → HasCompletion old e → HasCompletion new e
     pub items : (held : List Held) → HasItems old held → HasItems new held
     pub worlds : (w : WorldId) → HasWorld meaning old w → HasWorld meaning new w
+    pub arena : KeepsObjects old.heap.arena new.heap.arena
     pub texts : Grows old.heap.texts new.heap.texts

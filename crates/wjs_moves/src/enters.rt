@@ -1,8 +1,8 @@
 //! The entry of parts.
 ghost use Rattle.std.specs.Prelude.{◌≡◌, ◌++◌, ◌∷◌, [], OnOk};
 ghost use Rattle.wjs_meaning.specs.Deeds.{Ret, Eval};
-ghost use Rattle.wjs_model.specs.Soundness.{Base, IsThere};
-ghost use Rattle.wjs_moves.specs.Parts.{goal_of, then_at, due_frame};
+ghost use Rattle.wjs_model.specs.Soundness.{Base, IsThere, StandsHere};
+ghost use Rattle.wjs_moves.specs.Parts.{goal_of, node_of, then_at, due_frame};
 ghost use Rattle.wjs_base.specs.Text.{Table};
 ghost use Rattle.wjs_moves.specs.Parts.{env_in};
 ghost use Rattle.wjs_moves.specs.Following.{Follows};
@@ -22,6 +22,7 @@ pub fn enter<S: WorldStore>(
     requires running { config.old.state ≡ State.Running }
     requires base { Base S.meaning config.old }
     requires there { IsThere S.meaning config.old frame }
+    requires part { StandsHere config.old frame (node_of part) }
     ensures { let t = config.new.heap.texts in let env = env_in S.meaning config.old t frame in OnOk result (Follows S.meaning (Eval (goal_of part) env (then_at S.meaning config.old frame place t env)) config.old config.new) }
 {
     let entered = due_frame(&frame, part, config.frames.nothing_held());
@@ -39,6 +40,7 @@ pub fn enter_last<S: WorldStore>(
     requires running { config.old.state ≡ State.Running }
     requires base { Base S.meaning config.old }
     requires there { IsThere S.meaning config.old frame.now }
+    requires part { StandsHere config.old frame.now (node_of part) }
     ensures { let t = config.new.heap.texts in let env = env_in S.meaning config.old t frame.now in OnOk result (Follows S.meaning (Eval (goal_of part) env Ret) config.old config.new) }
 {
     let entered = due_frame(frame, part, config.frames.nothing_held());

@@ -2,9 +2,10 @@
 ghost use Rattle.std.specs.Prelude.{◌≡◌, OnOk};
 ghost use Rattle.wjs_meaning.specs.Deeds.{Sub, Tick};
 ghost use Rattle.wjs_meaning.specs.Reading.{node_in};
-ghost use Rattle.wjs_model.specs.Contents.{holding_in};
+ghost use Rattle.wjs_model.specs.Contents.{begun_held, holding_in};
 ghost use Rattle.wjs_model.specs.Rest.{begin_form};
-ghost use Rattle.wjs_model.specs.Soundness.{Base, IsThere, HasItems};
+ghost use Rattle.wjs_model.specs.Soundness.{Base, IsThere, HasItems, StandsHere};
+ghost use Rattle.wjs_model.specs.Standing.{BodyStands};
 ghost use Rattle.wjs_moves.specs.Parts.{env_in, then_at, begins_at, node_among};
 ghost use Rattle.wjs_moves.specs.Following.{Follows, Later};
 ghost use Rattle.wjs_moves.specs.Nesting.{Nests};
@@ -47,6 +48,8 @@ pub fn nest<S: WorldStore>(
     requires base { Base S.meaning config.old }
     requires there { IsThere S.meaning config.old frame }
     requires held { HasItems config.old held }
+    requires node { StandsHere config.old frame node }
+    requires body { BodyStands config.old.units.items config.old.heap.arena form (begun_held held) frame.tree node frame.scope }
     ensures { let t = config.new.heap.texts in let env = env_in S.meaning config.old t frame in OnOk result (Follows S.meaning (Sub (begin_form (node_in t (node_among config.old.units.items frame.tree node)) form node.0 start (holding_in t held) env) (then_at S.meaning config.old frame place t env)) config.old config.new) }
 {
     let above = frame_at(&frame, form, node, start, Phase::Ready, held);

@@ -1,6 +1,6 @@
 //! What frames hold: the arguments of a call, and what `apply` reads.
-ghost use Rattle.std.specs.Prelude.{◌≡◌, ◌∷◌, [], IfOk, OnOk, All};
-ghost use Rattle.wjs_model.specs.Contents.{values_held};
+ghost use Rattle.std.specs.Prelude.{◌≡◌, ◌∷◌, [], IfOk, OnOk, All, false};
+ghost use Rattle.wjs_model.specs.Contents.{values_held, begun_held};
 ghost use Rattle.wjs_model.specs.Frames.{earliest_first};
 ghost use Rattle.wjs_model.specs.Soundness.{HasValue, HasItems};
 
@@ -15,6 +15,7 @@ pub(crate) fn arguments_of<S: WorldStore>(
 ) -> Result<Items, OutOfMemory>
     requires { All (HasValue config.now) values.now }
     ensures values { IfOk result (λ items. earliest_first (values_held items) ≡ values.now) }
+    ensures begun { IfOk result (λ items. begun_held items ≡ false) }
     ensures found { IfOk result (λ items. HasItems config.now items) }
 {
     let mut items = config.frames.nothing_held();

@@ -52,6 +52,8 @@ nothing_built h heap none = record {
   worlds = λ o w e.
       let q : option_and_then (λ (x : Entry). (x.object).world) None ≡ Some w = sym (ap (λ (m : Objects). world_of m o) none ∙ ap (option_and_then (λ (x : Entry). (x.object).world)) (finite.get-empty obj_cmp o)) ∙ e in
       cc;
+  shown = λ lt. absurd (omega (arith, lt));
+  codes = λ o x e. let q : None ≡ Some x = sym (ap (λ (m : Objects). finite.get m o) none ∙ finite.get-empty obj_cmp o) ∙ e in absurd (cc);
 }
   where
     counted : (n : ℕ) → (0 < n → ⊥) → n ≡ 0
@@ -145,6 +147,8 @@ begun texts before ids k bs places mid new is_new grows same knows names built b
   builtins = λ n lt. subst (λ (m : Objects). IsTrue (has m (builtin n))) (sym done.arena) (below_there mid 64 building (builtin n) refl lt);
   first = done.still_there first_world (subst (λ F. IsTrue (has_world F first_world)) (sym own) fresh_first);
   own_worlds = λ o w e. (building.worlds o w (ap (λ (m : Objects). world_of m o) (sym done.arena) ∙ e)).1;
+  shown = ap (λ (m : Objects). world_of m (builtin 13)) done.arena ∙ building.shown (omega arith);
+  codes = λ o x e. building.codes o x (ap (λ (m : Objects). finite.get m o) (sym done.arena) ∙ e);
   narrows = λ v ok. admitted v ok;
   own = done.own ∙ ap (λ (m : Meaning). m.own) same;
   around = done.around ∙ ap (λ (m : Meaning). m.around) same;

@@ -1,6 +1,6 @@
 -- The first objects are made one by one.
-use Rattle.std.proofs.Common.{◌≡◌, ℕ, zero, suc, ◌+◌, ◌<◌, true, cond, List, [], ◌∷◌, Option, None, Some, length, get_or, take, refl, sym, ap, ◌∙◌, subst, arith, IsTrue, ⊎_elim}
-use Rattle.std.specs.Prelude.{◌==◌, ◌&&◌, IfSome, is_some, nat_lt}
+use Rattle.std.proofs.Common.{◌≡◌, ℕ, zero, suc, ◌+◌, ◌<◌, true, false, cond, List, [], ◌∷◌, Option, None, Some, length, get_or, take, refl, sym, ap, ◌∙◌, subst, arith, IsTrue, ⊎_elim}
+use Rattle.std.specs.Prelude.{◌==◌, ◌&&◌, not, IfSome, is_some, nat_lt}
 use Rattle.std.specs.Option.{option_and_then}
 use Rattle.std.specs.FinMap as map
 use Rattle.std.specs.Ordering.{eq_by_cmp}
@@ -12,6 +12,7 @@ use Rattle.wjs_base.specs.declared.ids.ObjId.{ObjId}
 use Rattle.wjs_base.specs.declared.ids.WorldId.{WorldId}
 use Rattle.wjs_base.specs.Order.{obj_cmp, obj_total}
 use Rattle.wjs_base.specs.Text.{Table}
+use Rattle.wjs_arena.specs.declared.object.Code.{Code}
 use Rattle.wjs_arena.specs.declared.object.Object.{Object}
 use Rattle.wjs_arena.specs.Entries as arena
 use Rattle.wjs_arena.specs.Entries.{Objects, Entry, has, next_number, world_of, entry_over}
@@ -26,6 +27,7 @@ use Rattle.wjs_start.specs.declared.blueprints.Blueprint.{Blueprint}
 use Rattle.wjs_start.specs.declared.known.Known.{Known}
 use Rattle.wjs_start.specs.Blueprints.{built, built_from, is_before, has_right_world, is_buildable, are_buildable}
 use Rattle.wjs_start.specs.Building.{Building, Makes, with_objects}
+use Rattle.wjs_start.specs.First.{is_script}
 use Rattle.wjs_start.specs.Known.{Knows, declared_in}
 use Rattle.wjs_start.specs.Flags.{IsBuilt}
 use Rattle.wjs_start.proofs.Blueprinting.{built-snoc}
@@ -87,13 +89,30 @@ module _ (h : Parts) (n : ℕ) (b : Building h n) where
         let same : w ≡ v = some_same w v q in
         (omega (arith, s), sym same ∙ (λ i. record { owner = eqb-true w.owner 0 r.0 i; serial = eqb-true w.serial 0 r.1 i }))
 
-    pub made : has_right_world n x.world ≡ true → Building new (n + 1)
-    made right = record {
+    right_shown : (w : Option WorldId) → 13 ≡ n → has_right_world n w ≡ true → w ≡ Some first_world
+    right_shown None s e = let d : false ≡ true = ap (λ (m : ℕ). not (m == 13)) s ∙ e in absurd (cc)
+    right_shown (Some w) s e = ap (λ (v : WorldId). Some v) (new_world (Some w) w e refl).1
+
+    -- object 13 is the new one, or was there
+    new_shown : has_right_world n x.world ≡ true → 13 < n + 1 → world_of new.arena (builtin 13) ≡ Some first_world
+    new_shown right lt = by_key (builtin 13)
+        (λ e at. ap (option_and_then (λ (y : Entry). (y.object).world)) at ∙ right_shown x.world (ap (λ (o : ObjId). o.serial) e) right)
+        (λ e.
+        let there : IsTrue (has new.arena (builtin 13)) = (c.heap.arena.serials (builtin 13)).1 (omega (arith, lt, counted)) in
+        let old : 13 < n = there_below (builtin 13) refl (subst (λ (r : Option Entry). IsTrue (is_some r)) e there) in
+        ap (option_and_then (λ (y : Entry). (y.object).world)) e ∙ b.shown old)
+
+    pub made : has_right_world n x.world ≡ true → IsTrue (not (is_script x.code)) → Building new (n + 1)
+    made right code = record {
       heap = c.heap;
       count = counted;
       worlds = λ o w q. by_key o
           (λ e at. new_world x.world w right (sym (ap (option_and_then (λ (y : Entry). (y.object).world)) at) ∙ q))
           (λ e. let old = b.worlds o w (sym (ap (option_and_then (λ (y : Entry). (y.object).world)) e) ∙ q) in (omega (arith, old.0), old.1));
+      shown = λ lt. new_shown right lt;
+      codes = λ o y q. by_key o
+          (λ e at. subst (λ (z : Entry). IsTrue (not (is_script (z.object).code))) (some_same (entry_over h.arena x) y (sym at ∙ q)) code)
+          (λ e. b.codes o y (sym e ∙ q));
     }
 
 -- ---- one more
@@ -133,19 +152,29 @@ pub buildable_first : (bs : List Blueprint) (i : ℕ) (d : Blueprint) → i < le
 buildable_first bs i d lt h = let e : i ≡ 0 + i = omega arith in ap (λ m. is_buildable m (get_or bs i d)) e ∙ buildable_at 0 bs i d lt h
 
 -- the parts of a test
-pub prototype_before : (n : ℕ) (b : Blueprint) → is_buildable n b ≡ true → is_before n b.prototype ≡ true
-prototype_before n b e = (and_parts (is_before n b.prototype) (is_before n b.constructs && has_right_world n b.world) e).0
+module _ (n : ℕ) (b : Blueprint) (e : is_buildable n b ≡ true) where
+  pub prototype_before : is_before n b.prototype ≡ true
+  prototype_before = (and_parts (is_before n b.prototype) (is_before n b.constructs && (has_right_world n b.world && not (is_script b.code))) e).0
 
-pub constructs_before : (n : ℕ) (b : Blueprint) → is_buildable n b ≡ true → is_before n b.constructs ≡ true
-constructs_before n b e = (and_parts (is_before n b.constructs) (has_right_world n b.world) (and_parts (is_before n b.prototype) (is_before n b.constructs && has_right_world n b.world) e).1).0
+  but_prototype : (is_before n b.constructs && (has_right_world n b.world && not (is_script b.code))) ≡ true
+  but_prototype = (and_parts (is_before n b.prototype) (is_before n b.constructs && (has_right_world n b.world && not (is_script b.code))) e).1
 
-pub world_right : (n : ℕ) (b : Blueprint) → is_buildable n b ≡ true → has_right_world n b.world ≡ true
-world_right n b e = (and_parts (is_before n b.constructs) (has_right_world n b.world) (and_parts (is_before n b.prototype) (is_before n b.constructs && has_right_world n b.world) e).1).1
+  pub constructs_before : is_before n b.constructs ≡ true
+  constructs_before = (and_parts (is_before n b.constructs) (has_right_world n b.world && not (is_script b.code)) but_prototype).0
+
+  but_constructs : (has_right_world n b.world && not (is_script b.code)) ≡ true
+  but_constructs = (and_parts (is_before n b.constructs) (has_right_world n b.world && not (is_script b.code)) but_prototype).1
+
+  pub world_right : has_right_world n b.world ≡ true
+  world_right = (and_parts (has_right_world n b.world) (not (is_script b.code)) but_constructs).0
+
+  pub no_script : IsTrue (not (is_script b.code))
+  no_script = (and_parts (has_right_world n b.world) (not (is_script b.code)) but_constructs).1
 
 -- one object was made
-pub made_one : (k : Known) (b : Blueprint) (x : Object) (id : ObjId) (h new : Parts) (n : ℕ) → Building h n → is_buildable n b ≡ true → x.world ≡ b.world → ((t : Table) (objects : Objects) → Knows t k → arena.IsThere objects b.constructs → IsBuilt t objects x (built (declared_in t k) (builtin n) b)) → Creates 0 x id h new → Makes k (λ declared. built declared (builtin n) b ∷ []) (n + 1) h new
-made_one k b x id h new n building fits same is c = record {
-  building = made h n building x id new c (ap (has_right_world n) same ∙ world_right n b fits);
+pub made_one : (k : Known) (b : Blueprint) (x : Object) (id : ObjId) (h new : Parts) (n : ℕ) → Building h n → is_buildable n b ≡ true → x.world ≡ b.world → x.code ≡ b.code → ((t : Table) (objects : Objects) → Knows t k → arena.IsThere objects b.constructs → IsBuilt t objects x (built (declared_in t k) (builtin n) b)) → Creates 0 x id h new → Makes k (λ declared. built declared (builtin n) b ∷ []) (n + 1) h new
+made_one k b x id h new n building fits same code is c = record {
+  building = made h n building x id new c (ap (has_right_world n) same ∙ world_right n b fits) (ap (λ (z : Code). not (is_script z)) code ∙ no_script n b fits);
   arena = λ t knows. c.arena_by t ∙ ap (created (arena_in t h.arena) 0) (is t h.arena knows (before_there h n building b.constructs (constructs_before n b fits))).is;
   texts = c.texts;
   store = c.store;

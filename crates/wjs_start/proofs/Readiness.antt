@@ -1,14 +1,17 @@
 -- A run before its first step is sound, and is the machine's.
 use Rattle.std.proofs.Common.{◌≡◌, ℕ, ◌<◌, false, not, List, [], ◌∷◌, Option, None, Some, Vec, Global, refl, sym, ap, ◌∙◌, subst, arith, IsTrue}
-use Rattle.std.specs.Prelude.{All, IfSome, map, is_some, unwrap_or}
+use Rattle.std.specs.Prelude.{All, IfSome, map, is_some, slice_get, unwrap_or}
 use Rattle.std.specs.Option.{option_map, option_and_then}
 use Rattle.std.proofs.lemmas.List.Elements.{All-nil, All-cons, All-head}
+use Rattle.wjs_base.specs.declared.ids.ObjId.{ObjId}
 use Rattle.wjs_base.specs.declared.ids.TextId.{TextId}
 use Rattle.wjs_base.specs.Text.{Table, IsTable}
 use Rattle.wjs_base.proofs.TextLaws.{Grows-refl}
 use Rattle.wjs_store.specs.Meaning.{Meaning, View, worlds}
 use Rattle.wjs_tree.specs.declared.node.NodeId.{NodeId}
-use Rattle.wjs_arena.specs.Entries.{Entry}
+use Rattle.wjs_arena.specs.declared.object.Code.{Code}
+use Rattle.wjs_arena.specs.declared.object.Code.TheVariants as code
+use Rattle.wjs_arena.specs.Entries.{Entry, Objects}
 use Rattle.wjs_content.specs.Carried.{tell}
 use Rattle.wjs_content.specs.Tables.{text_in, arena_in}
 use Rattle.wjs_content.specs.Worlds.{told_by}
@@ -31,13 +34,15 @@ use Rattle.wjs_model.specs.Contents.{frame_in}
 use Rattle.wjs_model.specs.Laws.{run_of, trees_of, script_names, first_frames}
 use Rattle.wjs_model.specs.Rest.{rest_of}
 use Rattle.wjs_model.specs.Soundness.{HasObject, HasWorld, IsThere, Base, Sound}
-use Rattle.wjs_model.specs.Texts.{KnowsUnit}
+use Rattle.wjs_model.specs.Standing.{FunctionStands, Stands}
+use Rattle.wjs_model.specs.Texts.{KnowsUnit, PlacesUnit}
 use Rattle.wjs_model.specs.Units.{unit_in}
+use Rattle.wjs_model.proofs.Placed.{placed_stay}
 use Rattle.wjs_model.proofs.Starts.{start_lem}
 use Rattle.wjs_deeds.proofs.Staying.{units_stay}
 use Rattle.wjs_start.proofs.NoneApart.{all_near, none_apart, objects_near, slots_near}
 use Rattle.wjs_start.specs.Declaring.{declared_by_tree}
-use Rattle.wjs_start.specs.First.{IsFirst, writes_told}
+use Rattle.wjs_start.specs.First.{IsFirst, is_script, writes_told}
 use Rattle.wjs_start.specs.Starting.{Starts, body_of, frame_at, frames_of, units_of}
 
 -- ---- programs and frames
@@ -58,6 +63,15 @@ units_known : (t : Table) (library : Option Program) (script : Program) → IfSo
 units_known t None script h k = All-cons (KnowsUnit t) script [] k (All-nil (KnowsUnit t))
 units_known t (Some library) script h k = All-cons (KnowsUnit t) library (script ∷ []) h (All-cons (KnowsUnit t) script [] k (All-nil (KnowsUnit t)))
 
+units_placed : (t : Table) (library : Option Program) (script : Program) → IfSome library (PlacesUnit t) → PlacesUnit t script → All (PlacesUnit t) (units_of library script)
+units_placed t None script h k = All-cons (PlacesUnit t) script [] k (All-nil (PlacesUnit t))
+units_placed t (Some library) script h k = All-cons (PlacesUnit t) library (script ∷ []) h (All-cons (PlacesUnit t) script [] k (All-nil (PlacesUnit t)))
+
+code_stands : (units : List Program) (arena : Objects) (k : Code) (scope : Option ObjId) → IsTrue (not (is_script k)) → FunctionStands units arena k scope
+code_stands units arena (code.Script tree node) scope h = absurd (cc)
+code_stands units arena code.None scope h = tt
+code_stands units arena (code.Native n) scope h = tt
+
 some_frame : (library : Option NodeId) (script : NodeId) → frames_of library script ≡ [] → ⊥
 some_frame None script e = cc
 some_frame (Some library) script e = cc
@@ -71,7 +85,7 @@ map_none f (Some a) e = absurd (cc)
 module _ {S : Type 0} (meaning : S → Meaning) (texts : Table) (before : Meaning) (library : Option Program) (script : Program) (ids : List TextId)
     (h : Heap S) (units : Vec Program Global) (frames : List Frame) (apart pending : Vec ℕ Global) (budget : ℕ)
     (is : IsFirst texts before ids (parts meaning h)) (units_are : units.items ≡ units_of library script) (frames_there : frames ≡ frames_of (option_map body_of library) (body_of script)) (none_kept : apart.items ≡ []) (none_pending : pending.items ≡ []) (works : IsTrue (not before.spent))
-    (names : (t : Table) → IsTable t → KnowsUnit t script → map (text_in t) ids ≡ declared_by_tree (unit_in t script)) (library_known : IfSome library (KnowsUnit texts)) (script_known : KnowsUnit texts script) where
+    (names : (t : Table) → IsTable t → KnowsUnit t script → map (text_in t) ids ≡ declared_by_tree (unit_in t script)) (library_known : IfSome library (KnowsUnit texts)) (script_known : KnowsUnit texts script) (library_placed : IfSome library (PlacesUnit texts)) (script_placed : PlacesUnit texts script) where
   abbrev c : Config S
   c = record { heap = h; units = units; frames = frames; global = global_object; world = first_world; owner = 0; apart = apart; pending = pending; left = budget; state = states.Running }
 
@@ -80,6 +94,9 @@ module _ {S : Type 0} (meaning : S → Meaning) (texts : Table) (before : Meanin
 
   all_known : All (KnowsUnit t) (units_of library script)
   all_known = units_stay texts t is.grows (units_of library script) (units_known texts library script library_known script_known)
+
+  all_placed : All (PlacesUnit t) (units_of library script)
+  all_placed = placed_stay texts t is.grows (units_of library script) (units_known texts library script library_known script_known) (units_placed texts library script library_placed script_placed)
 
   abbrev lib : Option Tree
   lib = option_map (unit_in t) library
@@ -140,15 +157,24 @@ module _ {S : Type 0} (meaning : S → Meaning) (texts : Table) (before : Meanin
   builtin_there : (n : ℕ) → n < 64 → HasObject c (builtin n)
   builtin_there n lt = (is.builtins n lt, all_near apart.items none_kept (builtin n))
 
-  due_there : (tree : ℕ) (body : NodeId) → IsThere meaning c (frame_at tree body phases.Due)
-  due_there tree body = record { scope = builtin_there 2 (omega arith); this = builtin_there 2 (omega arith); world = is.first; held = tt; phase = tt }
+  -- a program's body stands with no scopes around it
+  body_stands : (tree : ℕ) (u : Program) → slice_get (units_of library script) tree ≡ Some u → Stands units.items h.arena tree (body_of u) global_object 0
+  body_stands tree u e = record { unit = u; found = ap (λ (us : List Program). slice_get us tree) units_are ∙ e; arguments = None; scopes = []; around = ([], (refl, refl)); outwards = tt }
 
-  waiting_there : (tree : ℕ) (body : NodeId) → IsThere meaning c (frame_at tree body phases.Waiting)
-  waiting_there tree body = record { scope = builtin_there 2 (omega arith); this = builtin_there 2 (omega arith); world = is.first; held = tt; phase = tt }
+  due_there : (tree : ℕ) (u : Program) → slice_get (units_of library script) tree ≡ Some u → IsThere meaning c (frame_at tree (body_of u) phases.Due)
+  due_there tree u e = record { scope = builtin_there 2 (omega arith); this = builtin_there 2 (omega arith); world = is.first; held = tt; phase = tt; stands = record { node = body_stands tree u e; body = tt; shown = (builtin 13, is.shown) } }
 
-  all_there : (library : Option NodeId) (script : NodeId) → All (IsThere meaning c) (frames_of library script)
-  all_there None script = All-cons (IsThere meaning c) (frame_at 0 script phases.Due) [] (due_there 0 script) (All-nil (IsThere meaning c))
-  all_there (Some library) script = All-cons (IsThere meaning c) (frame_at 1 script phases.Waiting) (frame_at 0 library phases.Due ∷ []) (waiting_there 1 script) (All-cons (IsThere meaning c) (frame_at 0 library phases.Due) [] (due_there 0 library) (All-nil (IsThere meaning c)))
+  waiting_there : (tree : ℕ) (u : Program) → slice_get (units_of library script) tree ≡ Some u → IsThere meaning c (frame_at tree (body_of u) phases.Waiting)
+  waiting_there tree u e = record { scope = builtin_there 2 (omega arith); this = builtin_there 2 (omega arith); world = is.first; held = tt; phase = tt; stands = record { node = body_stands tree u e; body = tt; shown = (builtin 13, is.shown) } }
+
+  program_at : (first : Option Program) (tree : ℕ) → library ≡ first → slice_get (units_of library script) tree ≡ slice_get (units_of first script) tree
+  program_at first tree e = ap (λ (o : Option Program). slice_get (units_of o script) tree) e
+
+  all_there : (first : Option Program) → library ≡ first → All (IsThere meaning c) (frames_of (option_map body_of first) (body_of script))
+  all_there None e = All-cons (IsThere meaning c) (frame_at 0 (body_of script) phases.Due) [] (due_there 0 script (program_at None 0 e)) (All-nil (IsThere meaning c))
+  all_there (Some first) e =
+      All-cons (IsThere meaning c) (frame_at 1 (body_of script) phases.Waiting) (frame_at 0 (body_of first) phases.Due ∷ []) (waiting_there 1 script (program_at (Some first) 1 e))
+      (All-cons (IsThere meaning c) (frame_at 0 (body_of first) phases.Due) [] (due_there 0 first (program_at (Some first) 0 e)) (All-nil (IsThere meaning c)))
 
   base_so : Base meaning c
   base_so = record {
@@ -158,12 +184,14 @@ module _ {S : Type 0} (meaning : S → Meaning) (texts : Table) (before : Meanin
     world = is.first;
     builtins = λ n lt. builtin_there n (omega (arith, lt));
     units = subst (All (KnowsUnit t)) (sym units_are) all_known;
+    places = subst (All (PlacesUnit t)) (sym units_are) all_placed;
+    functions = λ o e q. code_stands units.items h.arena (e.object).code (e.object).scope (is.codes o e q);
     own_worlds = λ o e w q r s. subst (HasWorld meaning c) (sym (is.own_worlds o w (ap (option_and_then (λ (x : Entry). (x.object).world)) q ∙ r))) is.first;
     own = all_near apart.items none_kept (builtin 0);
     no_worlds = λ o e w q a. absurd (none_apart apart.items none_kept o.owner a);
     near_objects = λ o e q h. objects_near apart.items none_kept e.object;
     near_slots = slots_near apart.items none_kept (worlds (meaning h.store));
-    frames = subst (All (IsThere meaning c)) (sym frames_there) (all_there (option_map body_of library) (body_of script));
+    frames = subst (All (IsThere meaning c)) (sym frames_there) (all_there library refl);
     marks = is.marks;
     told = is.tells;
   }

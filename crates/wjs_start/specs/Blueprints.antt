@@ -1,5 +1,5 @@
 -- What the first objects are, as the code has them.
-use Rattle.std.specs.Prelude.{ℕ, ◌+◌, Bool, true, false, ◌&&◌, ◌==◌, nat_lt, List, [], ◌∷◌, ◌++◌, map as each, Option, None, Some}
+use Rattle.std.specs.Prelude.{ℕ, ◌+◌, Bool, true, false, not, ◌&&◌, ◌==◌, nat_lt, List, [], ◌∷◌, ◌++◌, map as each, Option, None, Some}
 use Rattle.wjs_base.specs.declared.ids.ObjId.{ObjId}
 use Rattle.wjs_base.specs.declared.ids.WorldId.{WorldId}
 use Rattle.wjs_arena.specs.declared.object.Flags.{Flags}
@@ -12,6 +12,7 @@ use Rattle.wjs_start.specs.declared.blueprints.Primitive.TheVariants as primitiv
 use Rattle.wjs_start.specs.declared.blueprints.Further.{Further}
 use Rattle.wjs_start.specs.declared.blueprints.Further.TheVariants as further
 use Rattle.wjs_start.specs.declared.blueprints.Blueprint.{Blueprint}
+use Rattle.wjs_start.specs.First.{is_script}
 
 abbrev pub primitive_in : Primitive → Value
 primitive_in primitive.Undefined = Undefined
@@ -53,20 +54,20 @@ abbrev pub built_from : List Text → ℕ → List Blueprint → List Internals
 built_from declared n [] = []
 built_from declared n (b ∷ bs) = built declared (builtin n) b ∷ built_from declared (n + 1) bs
 
--- ---- what an object names is there where it is made
+-- ---- what an object names is there where it is made, and it is no script's function
 
 -- an object of owner 0 with a number below n, if it is one
 abbrev pub is_before : ℕ → Option ObjId → Bool
 is_before n None = true
 is_before n (Some o) = (o.owner == 0) && nat_lt o.serial n
 
--- object 13 alone stands for a world, the first
+-- object 13 stands for a world, the first, and no other does
 abbrev pub has_right_world : ℕ → Option WorldId → Bool
-has_right_world n None = true
+has_right_world n None = not (n == 13)
 has_right_world n (Some w) = (n == 13) && ((w.owner == 0) && (w.serial == 0))
 
 abbrev pub is_buildable : ℕ → Blueprint → Bool
-is_buildable n b = is_before n b.prototype && (is_before n b.constructs && has_right_world n b.world)
+is_buildable n b = is_before n b.prototype && (is_before n b.constructs && (has_right_world n b.world && not (is_script b.code)))
 
 abbrev pub are_buildable : ℕ → List Blueprint → Bool
 are_buildable n [] = true

@@ -1,5 +1,6 @@
 -- The first heap.
-use Rattle.std.specs.Prelude.{◌≡◌, ℕ, ◌<◌, not, List, [], ◌∷◌, ◌++◌, map as each, Some, IfSome, IsTrue}
+use Rattle.std.specs.Prelude.{◌≡◌, ℕ, ◌<◌, Bool, true, false, not, List, [], ◌∷◌, ◌++◌, map as each, Some, IfSome, IsTrue}
+use Rattle.std.specs.FinMap as map
 use Rattle.wjs_base.specs.declared.ids.ObjId.{ObjId}
 use Rattle.wjs_base.specs.declared.ids.TextId.{TextId}
 use Rattle.wjs_base.specs.declared.ids.WorldId.{WorldId}
@@ -7,7 +8,9 @@ use Rattle.wjs_base.specs.Text.{Table, Grows}
 use Rattle.wjs_store.specs.State.{has_world, write}
 use Rattle.wjs_store.specs.Meaning.{Meaning, View, worlds}
 use Rattle.wjs_store.specs.Fixed.{fresh}
-use Rattle.wjs_arena.specs.Entries.{has, world_of}
+use Rattle.wjs_arena.specs.declared.object.Code.{Code}
+use Rattle.wjs_arena.specs.declared.object.Code.TheVariants as code
+use Rattle.wjs_arena.specs.Entries.{Entry, has, world_of}
 use Rattle.wjs_content.specs.Carried.{tell}
 use Rattle.wjs_content.specs.Plans.{Told, Wrote}
 use Rattle.wjs_content.specs.Tables.{text_in, arena_in}
@@ -28,6 +31,11 @@ abbrev pub writes_told : List Property → List Told
 writes_told [] = []
 writes_told (p ∷ ps) = writes_told ps ++ (write first_world p.at (Some p.value), Wrote) ∷ []
 
+-- the code of a script's function
+abbrev pub is_script : Code → Bool
+is_script (code.Script tree node) = true
+is_script _ = false
+
 -- over a new store and where a script declares these names, what there is is what the meaning has before the first step
 pub record IsFirst (texts : Table) (before : Meaning) (declared : List TextId) (h : Parts) : Type 0 where
   pub heap : IsHeap h
@@ -46,6 +54,9 @@ pub record IsFirst (texts : Table) (before : Meaning) (declared : List TextId) (
   pub builtins : (n : ℕ) → n < 64 → IsTrue (has h.arena (builtin n))
   pub first : IsTrue (has_world (worlds h.store) first_world)
   pub own_worlds : (o : ObjId) (w : WorldId) → world_of h.arena o ≡ Some w → w ≡ first_world
+  pub shown : world_of h.arena (builtin 13) ≡ Some first_world
+  -- none is a script's function
+  pub codes : (o : ObjId) (e : Entry) → map.get h.arena o ≡ Some e → IsTrue (not (is_script e.object.code))
   -- the store is as it was beside
   pub narrows : (v : View) → IsTrue (h.store.admits v) → IsTrue (before.admits v)
   pub own : h.store.own ≡ before.own

@@ -32,6 +32,7 @@ pub(crate) fn build(
     ensures prototype { IfOk result (λ x. x.prototype ≡ blueprint.prototype) }
     ensures scope { IfOk result (λ x. x.scope ≡ None) }
     ensures world { IfOk result (λ x. x.world ≡ blueprint.world) }
+    ensures code { IfOk result (λ x. x.code ≡ blueprint.code) }
 {
     let fixed = fixed_of(alloc, known, blueprint)?;
     let flags = flags_of(alloc, known, number, blueprint.further)?;

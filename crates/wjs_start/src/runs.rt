@@ -3,7 +3,7 @@ ghost use Rattle.std.specs.Prelude.{◌≡◌, IfOk, IfSome};
 ghost use Rattle.std.specs.Option.{option_map};
 ghost use Rattle.wjs_base.specs.Text.{IsTable};
 ghost use Rattle.wjs_model.specs.Soundness.{Sound};
-ghost use Rattle.wjs_model.specs.Texts.{KnowsUnit};
+ghost use Rattle.wjs_model.specs.Texts.{KnowsUnit, PlacesUnit};
 ghost use Rattle.wjs_start.specs.First.{IsNew};
 ghost use Rattle.wjs_start.specs.Starting.{Starts, body_of, frame_at, frames_of, units_of};
 
@@ -32,6 +32,8 @@ pub fn start<S: WorldStore + Drop>(
     requires new { IsNew (S.meaning store) }
     requires library { IfSome library (KnowsUnit texts) }
     requires script { KnowsUnit texts script }
+    requires library_places { IfSome library (PlacesUnit texts) }
+    requires script_places { PlacesUnit texts script }
     ensures starts { IfOk result (Starts S.meaning texts (S.meaning store) library script budget) }
     ensures sound { IfOk result (Sound S.meaning) }
 {

@@ -1,7 +1,7 @@
 //! The first heap over full copies, and a run of programs that do nothing.
 ghost use Rattle.std.specs.Prelude.{IfOk};
 ghost use Rattle.wjs_base.specs.Text.{Table};
-ghost use Rattle.wjs_model.specs.Texts.{KnowsUnit};
+ghost use Rattle.wjs_model.specs.Texts.{KnowsUnit, PlacesUnit};
 
 use super::*;
 use std::alloc::Global;
@@ -128,7 +128,8 @@ fn objects_are_made(rt: HostRuntime) -> Result<(), Fail> {
 
 /// A program with no elements.
 fn empty(alloc: Global, texts: &Texts) -> Result<Unit, Fail>
-    ensures { IfOk result (λ unit. (t : Table) → KnowsUnit t unit) }
+    ensures known { IfOk result (λ unit. (t : Table) → KnowsUnit t unit) }
+    ensures places { IfOk result (PlacesUnit texts.now) }
 {
     let mut nodes = Nodes::new(alloc);
     let body = nodes.add(Node::Program(Sequence::from_vec(Vec::new(alloc))))?;

@@ -1,3 +1,4 @@
 pub mod Knowing
+pub mod Standing
 pub mod Storing
 pub mod Visiting

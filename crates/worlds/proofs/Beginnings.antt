@@ -12,8 +12,9 @@ use Rattle.wjs_model.specs.declared.config.Config.{Config}
 use Rattle.wjs_model.specs.declared.unit.Unit.{Unit as Program}
 use Rattle.wjs_model.specs.Configurations.{seen}
 use Rattle.wjs_model.specs.Soundness.{Sound}
-use Rattle.wjs_model.specs.Texts.{KnowsUnit}
+use Rattle.wjs_model.specs.Texts.{KnowsUnit, PlacesUnit}
 use Rattle.wjs_model.specs.Units.{unit_in}
+use Rattle.wjs_model.proofs.Placed.{placed_stay}
 use Rattle.wjs_moves.proofs.NodesGrow.{unit_grows}
 use Rattle.wjs_deeds.proofs.Staying.{units_stay}
 use Rattle.wjs_start.specs.Starting.{Starts}
@@ -25,6 +26,10 @@ use Rattle.worlds.specs.Attempt.{Begins}
 -- a program whose texts are in a table is so in a table that has grown
 pub known_later : (old new : Table) (u : Program) → Grows old new → KnowsUnit old u → KnowsUnit new u
 known_later old new u g h = All-head (KnowsUnit new) u [] (units_stay old new g (u ∷ []) (All-cons (KnowsUnit old) u [] h (All-nil (KnowsUnit old))))
+
+-- and its places stay right there
+pub places_later : (old new : Table) (u : Program) → Grows old new → KnowsUnit old u → PlacesUnit old u → PlacesUnit new u
+places_later old new u g h p = All-head (PlacesUnit new) u [] (placed_stay old new g (u ∷ []) (All-cons (KnowsUnit old) u [] h (All-nil (KnowsUnit old))) (All-cons (PlacesUnit old) u [] p (All-nil (PlacesUnit old))))
 
 -- the library's tree, in a table that has grown
 pub library_is : (texts t : Table) (library : Option Program) → Grows texts t → IsTable texts → LoadsOrNot LIBRARY.now texts library → IfSome library (KnowsUnit texts) → IsLibrary (option_map (unit_in t) library)

@@ -8,7 +8,7 @@ ghost use Rattle.wjs_meaning.specs.Builtins.{first_world};
 ghost use Rattle.wjs_meaning.specs.Deeds.{St};
 ghost use Rattle.wjs_meaning.specs.Programs.{Ending as Meant};
 ghost use Rattle.wjs_model.specs.Soundness.{Sound};
-ghost use Rattle.wjs_model.specs.Texts.{KnowsUnit};
+ghost use Rattle.wjs_model.specs.Texts.{KnowsUnit, PlacesUnit};
 ghost use Rattle.wjs_start.specs.First.{IsNew};
 ghost use Rattle.wjs_reports.specs.Lines.{lines_of};
 ghost use Rattle.wjs_machine.specs.Runs.{IsPlain};
@@ -42,6 +42,7 @@ pub fn run_script<S: WorldStore + Drop, O: Sink>(
     requires new { IsNew (S.meaning store) }
     requires table { IsTable texts }
     requires script { KnowsUnit texts script }
+    requires places { PlacesUnit texts script }
     ensures { Comes (IsRunOf texts script steps mode) (stream (O.held out.old) (O.held out.new) (O.faults out.old) (O.faults out.new)) result }
 {
     match begin(alloc, store, texts, script, steps) {
@@ -62,6 +63,7 @@ fn begin<S: WorldStore + Drop>(
     requires new { IsNew (S.meaning store) }
     requires table { IsTable texts }
     requires script { KnowsUnit texts script }
+    requires places { PlacesUnit texts script }
     ensures { IfOk result (Begins S.meaning texts script steps) }
 {
     let mut texts = texts;

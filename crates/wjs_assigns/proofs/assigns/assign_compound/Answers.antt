@@ -24,3 +24,6 @@ returns-in-Ok g c =
     let d = rw c.in-Ok.is at c.in_ok-answer.ensures.does in
     d.by (compound_old c.args.operator c.args.right.0 r (env_in m old t f)) new c.compound_old.result
     (subst (λ (e : Env). OnOk c.compound_old.result (Follows m (compound_old c.args.operator c.args.right.0 r e (value_in t c.in-Ok.old)) mid new)) (env_later m old mid t f c.in_ok-answer.ensures.later) c.compound_old.ensures)
+
+pub compound_old-requires-clause-there : goal.compound_old-requires-clause-there
+compound_old-requires-clause-there g c = c.in_ok-answer.ensures.later.frames c.args.frame c.requires.there

@@ -2,6 +2,9 @@ use Rattle.std.proofs.Common.{refl}
 use Rattle.wjs_lines.proofs.Following.{follows_as}
 use Rattle.wjs_assigns.proofs.assigns.compound_nested.Goals as goal
 
+pub nest-requires-clause-node : goal.nest-requires-clause-node
+nest-requires-clause-node g c = c.requires.there.stands.node
+
 pub returns : goal.returns
 returns g c = follows_as _ _ _ _ _ _ (λ grows. rw (c.in_ok-push-2.ensures.ok, c.in_ok-push.ensures.ok, c.nothing_held-held.ensures, c.requires.node, c.requires.form, c.requires.operator) refl) c.nest.ensures
 

@@ -1,4 +1,4 @@
-use Rattle.std.proofs.Common.{ap, ◌∙◌}
+use Rattle.std.proofs.Common.{inl, refl, ap, ◌∙◌}
 use Rattle.wjs_meaning.specs.Deeds.{Act, Completion, Eval, AtExpr, AtTarget}
 use Rattle.wjs_model.specs.Contents.{holding_in}
 use Rattle.wjs_model.specs.Waiting.{after_prefix}
@@ -7,7 +7,18 @@ use Rattle.wjs_lines.proofs.Following.{follows_as}
 use Rattle.wjs_assigns.specs.Operands.{operand_at}
 use Rattle.wjs_assigns.proofs.Frames.{prefix_waits}
 use Rattle.wjs_assigns.proofs.Places.{any_enters, target_enters, value_enters}
+use Rattle.wjs_tree.specs.declared.node.Node.TheVariants as nodes
+use Rattle.wjs_moves.proofs.Parting.{stands_here}
 use Rattle.wjs_assigns.proofs.prefixes.prefix_start.Goals as goal
+
+pub enter_operand-requires-clause-part : goal.enter_operand-requires-clause-part
+enter_operand-requires-clause-part g c = stands_here g.S.WorldStore.meaning c.args.config.now c.args.frame (nodes.Prefix c.args.operator c.args.operand) c.args.operand c.requires.there c.requires.node (inl refl)
+
+pub enter-requires-clause-part : goal.enter-requires-clause-part
+enter-requires-clause-part g c = stands_here g.S.WorldStore.meaning c.args.config.now c.args.frame (nodes.Prefix c.args.operator c.args.operand) c.args.operand c.requires.there c.requires.node (inl refl)
+
+pub enter-requires-in-Value-clause-part : goal.enter-requires-in-Value-clause-part
+enter-requires-in-Value-clause-part g c = stands_here g.S.WorldStore.meaning c.args.config.now c.args.frame (nodes.Prefix c.args.operator c.args.operand) c.args.operand c.requires.there c.requires.node (inl refl)
 
 pub returns-in-Any : goal.returns-in-Any
 returns-in-Any g c =

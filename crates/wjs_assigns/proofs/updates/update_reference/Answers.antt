@@ -20,3 +20,6 @@ returns-in-Ok g c =
     let d = rw c.in-Ok.is at c.in_ok-answer.ensures.does in
     let P : Env → Type 0 = λ env. OnOk c.update_value.result (Follows m (update_value (fix_of c.args.fix) c.args.operator env (reference_in t c.args.reference) (value_in t c.in-Ok.value)) c.value_of.new.config c.update_value.new.config) in
     d.by (update_value (fix_of c.args.fix) c.args.operator (env_in m c.args.config.now t c.args.frame) (reference_in t c.args.reference)) _ _ (subst P (env_later m _ _ t c.args.frame c.in_ok-answer.ensures.later) c.update_value.ensures)
+
+pub update_value-requires-clause-there : goal.update_value-requires-clause-there
+update_value-requires-clause-there g c = c.in_ok-answer.ensures.later.frames c.args.frame c.requires.there

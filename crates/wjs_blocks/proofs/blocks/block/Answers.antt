@@ -3,6 +3,7 @@ use Rattle.wjs_model.specs.Contents.{holding_in}
 use Rattle.wjs_moves.specs.Parts.{env_in, node_now}
 use Rattle.wjs_lines.proofs.Following.{follows_as}
 use Rattle.wjs_lines.proofs.Parts.{block_at, block_end}
+use Rattle.wjs_blocks.proofs.Standing.{statement_stands}
 use Rattle.wjs_blocks.proofs.blocks.block.Goals as goal
 
 pub returns-in_ok-next-in-Some : goal.returns-in_ok-next-in-Some
@@ -18,3 +19,6 @@ returns-in-None g c =
     let node = node_now g.S.WorldStore.meaning c.args.config.now c.args.frame in
     let env = env_in g.S.WorldStore.meaning c.args.config.now t c.args.frame in
     follows_as g.S.WorldStore.meaning _ _ _ _ c.finish.result (λ grows. block_end t c.args.frame.node.0 (holding_in t c.args.frame.held) env node c.args.at (sym c.statement_at.ensures ∙ c.in-None.is)) c.finish.ensures
+
+pub enter-requires-clause-part : goal.enter-requires-clause-part
+enter-requires-clause-part g c = statement_stands g.S.WorldStore.meaning c.args.config.now c.args.frame c.requires.there c.args.at c.in-Some.statement (sym c.statement_at.ensures ∙ c.in-Some.is)

@@ -4,8 +4,8 @@ use Rattle.std.proofs.lemmas.Option.{slice_get-get_or, slice_get_past}
 use Rattle.wjs_blocks.proofs.Cases.{case_found, case_passed, case_none}
 use Rattle.wjs_blocks.proofs.clauses.case_from.Goals as goal
 
-pub returns-in-Some : goal.returns-in-Some
-returns-in-Some c = λ t v env.
+pub returns-in-Some-clause-goes : goal.returns-in-Some-clause-goes
+returns-in-Some-clause-goes c = λ t v env.
     let clause = get_or c.args.clauses.now c.loop-at.at c.index-clauses-at.result in
     let there : slice_get c.args.clauses.now c.loop-at.at ≡ Some clause = slice_get-get_or c.args.clauses.now c.loop-at.at c.index-clauses-at.result c.loop-at-test.true in
     c.loop-at.invariant t v env ∙ case_found t c.args.clauses.now c.loop-at.at v env clause c.in-Some.test there c.in-Some.is
@@ -16,7 +16,7 @@ loop-at-preserved c = λ t v env.
     let there : slice_get c.args.clauses.now c.loop-at.at ≡ Some clause = slice_get-get_or c.args.clauses.now c.loop-at.at c.index-clauses-at.result c.loop-at-test.true in
     c.loop-at.invariant t v env ∙ case_passed t c.args.clauses.now c.loop-at.at v env clause there c.in_default.is
 
-pub returns : goal.returns
-returns c = λ t v env.
+pub returns-clause-goes : goal.returns-clause-goes
+returns-clause-goes c = λ t v env.
     let past : length c.args.clauses.now ≤ c.loop-at.at = omega arith in
     c.loop-at.invariant t v env ∙ case_none t c.args.clauses.now c.loop-at.at v env (slice_get_past c.args.clauses.now c.loop-at.at past)

@@ -1,6 +1,11 @@
-use Rattle.wjs_moves.specs.Parts.{env_in, then_at, goal_of}
+use Rattle.std.proofs.Common.{sym, subst}
+use Rattle.wjs_model.specs.declared.frame.Frame.{Frame}
+use Rattle.wjs_model.specs.Soundness.{StandsHere}
+use Rattle.wjs_moves.specs.Parts.{env_in, then_at, goal_of, node_of}
+use Rattle.wjs_moves.proofs.Parting.{stands_later}
 use Rattle.wjs_base.specs.Text.{Table}
 use Rattle.wjs_blocks.proofs.Inner.{scoped_follows}
+use Rattle.wjs_blocks.proofs.Standing.{inner_there}
 use Rattle.wjs_blocks.proofs.enters.enter_in.Goals as goal
 
 pub returns : goal.returns
@@ -8,3 +13,14 @@ returns g c =
     let meaning = g.S.WorldStore.meaning in
     let old = c.args.config.now in
     scoped_follows meaning (goal_of c.args.part) (λ (t : Table). then_at meaning old c.args.frame c.args.place t (env_in meaning old t c.args.frame)) old c.wait.new.config c.enter_last.new.config c.args.frame c.like-inner.result c.args.scope _ c.enter_last.result c.in_ok-wait.ensures.same c.like-inner.ensures c.in_ok-wait.ensures.nests c.enter_last.ensures
+
+pub enter_last-requires-clause-there : goal.enter_last-requires-clause-there
+enter_last-requires-clause-there g c =
+    let inner = c.like-inner.result in
+    c.in_ok-wait.ensures.later.frames inner (inner_there g.S.WorldStore.meaning c.args.config.now c.args.frame c.requires.there c.args.scope inner c.nothing_held.result c.requires.scope c.requires.outer c.nothing_held.ensures c.like-inner.ensures)
+
+pub enter_last-requires-clause-part : goal.enter_last-requires-clause-part
+enter_last-requires-clause-part g c =
+    let inner = c.like-inner.result in
+    let part = node_of c.args.part in
+    stands_later g.S.WorldStore.meaning c.args.config.now inner c.wait.new.config part c.in_ok-wait.ensures.later (subst (λ (f : Frame). StandsHere c.args.config.now f part) (sym c.like-inner.ensures) c.requires.part)

@@ -7,6 +7,7 @@ use Rattle.wjs_moves.specs.Parts.{env_in, node_now}
 use Rattle.wjs_lines.specs.Lists.{statements_of_clauses}
 use Rattle.wjs_lines.proofs.Following.{follows_as}
 use Rattle.wjs_blocks.proofs.Switching.{statement_at, statement_end}
+use Rattle.wjs_blocks.proofs.Standing.{clause_statement_stands}
 use Rattle.wjs_blocks.proofs.switches.statements_from.Goals as goal
 
 pub returns-in_ok-place-in-Some : goal.returns-in_ok-place-in-Some
@@ -28,3 +29,8 @@ returns-in-None g c =
     let env = env_in meaning c.args.config.now t f in
     let listed = sym (ap (λ (cs : List Clause). slice_get (statements_of_clauses cs) c.args.at) c.clauses_of.ensures) ∙ sym c.statement_at.ensures ∙ c.in-None.is in
     follows_as meaning _ _ _ _ c.finish.result (λ grows. statement_end t node f.form f.node.0 env c.requires.form c.requires.node c.args.at listed) c.finish.ensures
+
+pub enter-requires-clause-part : goal.enter-requires-clause-part
+enter-requires-clause-part g c =
+    let listed = sym (ap (λ (cs : List Clause). slice_get (statements_of_clauses cs) c.args.at) c.clauses_of.ensures) ∙ sym c.statement_at.ensures ∙ c.in-Some.is in
+    clause_statement_stands g.S.WorldStore.meaning c.args.config.now c.args.frame c.requires.there c.args.at c.in-Some.statement c.requires.node listed

@@ -46,3 +46,9 @@ pub write_known-requires-clause-value : goal.write_known-requires-clause-value
 write_known-requires-clause-value g c =
     let mid = c.write_elements.new.config in
     value_both mid c.in_ok-length.length (number_there mid.heap.texts mid.heap.texts mid.heap.arena c.in_ok-length.length (length c.args.values.now) (c.in_ok-length.ensures mid.heap.texts)) (number_near mid.apart.items mid.heap.texts c.in_ok-length.length (length c.args.values.now) (c.in_ok-length.ensures mid.heap.texts))
+
+pub write_elements-requires-clause-there : goal.write_elements-requires-clause-there
+write_elements-requires-clause-there g c = c.in_ok-array.ensures.later.frames c.args.frame.now c.requires.there
+
+pub write_known-requires-clause-there : goal.write_known-requires-clause-there
+write_known-requires-clause-there g c = c.in_ok-write_elements.ensures.later.frames c.args.frame.now (c.in_ok-array.ensures.later.frames c.args.frame.now c.requires.there)

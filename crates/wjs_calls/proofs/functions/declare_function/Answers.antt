@@ -31,3 +31,6 @@ returns-clause-does g c =
 
 pub returns-clause-later : goal.returns-clause-later
 returns-clause-later g c = ok_later g.S.WorldStore.meaning c.args.config.now c.make_function_in.new.config c.declare_as.new.config c.declare_as.result c.in_ok-made.ensures.later c.declare_as.ensures.later
+
+pub declare_as-requires-clause-there : goal.declare_as-requires-clause-there
+declare_as-requires-clause-there g c = c.in_ok-made.ensures.later.frames c.args.frame.now c.requires.there

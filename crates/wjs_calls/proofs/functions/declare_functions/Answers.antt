@@ -1,16 +1,19 @@
 use Rattle.std.proofs.Common.{ap}
 use Rattle.std.specs.Prelude.{slice_index_or}
+use Rattle.std.proofs.lemmas.List.Elements.{All-get_or}
 use Rattle.wjs_tree.specs.declared.node.NodeId.{NodeId}
 use Rattle.wjs_meaning.specs.Reading.{numbers}
 use Rattle.wjs_base.specs.Text.{Table}
 use Rattle.wjs_meaning.specs.Deeds.{Env}
 use Rattle.wjs_meaning.specs.Functions.{declare_functions}
+use Rattle.wjs_model.specs.Standing.{IsFunction}
 use Rattle.wjs_moves.specs.Parts.{env_in}
 use Rattle.wjs_deeds.proofs.Later.{later_same, later_twice}
 use Rattle.wjs_calls.specs.Making.{declare_one}
 use Rattle.wjs_calls.proofs.Rows.{first_env, leaves_all, leaves_less, leaves_none}
 use Rattle.wjs_calls.proofs.Elements.{left_here, none_left}
 use Rattle.wjs_calls.proofs.Declaring.{declare_left}
+use Rattle.wjs_calls.proofs.StandingFunctions.{function_later}
 use Rattle.wjs_calls.proofs.functions.declare_functions.Goals as goal
 
 pub loop-function-init : goal.loop-function-init
@@ -44,3 +47,13 @@ returns-clause-does g c = leaves_none g.S.WorldStore.meaning _ _ c.args.config.n
 
 pub returns-clause-later : goal.returns-clause-later
 returns-clause-later g c = c.loop-function.invariant.later
+
+pub declare_function-requires-clause-stands : goal.declare_function-requires-clause-stands
+declare_function-requires-clause-stands g c =
+    let old = c.args.config.now in
+    let f = c.args.frame.now in
+    let i = c.loop-function.function-index in
+    let fs = c.args.functions.now in
+    let k : NodeId = slice_index_or fs i (record { 0 = 0 }) in
+    function_later g.S.WorldStore.meaning old c.loop-function.config f.tree k f.scope 0 c.loop-function.invariant.later
+    (All-get_or (λ (j : NodeId). IsFunction old.units.items old.heap.arena f.tree j f.scope 0) fs i (record { 0 = 0 }) c.loop-function-test.true c.requires.stand)

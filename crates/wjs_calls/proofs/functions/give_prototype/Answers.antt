@@ -25,3 +25,9 @@ returns-clause-later g c =
     ok_later m c.args.config.now c.write_known.new.config c.write_known-2.new.config c.write_known-2.result
     (later_twice m c.args.config.now c.create_prototype.new.config c.write_known.new.config c.in_ok-prototype.ensures.later c.in_ok-write_known.ensures.later)
     c.write_known-2.ensures.later
+
+pub write_known-requires-clause-there : goal.write_known-requires-clause-there
+write_known-requires-clause-there g c = c.in_ok-prototype.ensures.later.frames c.args.frame.now c.requires.there
+
+pub write_known-requires-2-clause-there : goal.write_known-requires-2-clause-there
+write_known-requires-2-clause-there g c = c.in_ok-write_known.ensures.later.frames c.args.frame.now (c.in_ok-prototype.ensures.later.frames c.args.frame.now c.requires.there)

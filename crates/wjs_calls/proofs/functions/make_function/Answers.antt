@@ -6,6 +6,8 @@ use Rattle.wjs_content.specs.Tables.{text_in}
 use Rattle.wjs_meaning.specs.Functions.{make_function}
 use Rattle.wjs_moves.specs.Doing.{Does}
 use Rattle.wjs_moves.specs.Parts.{env_in}
+use Rattle.wjs_calls.specs.Standing.{StandsNamed}
+use Rattle.wjs_calls.proofs.StandingFunctions.{stands_nameless}
 use Rattle.wjs_calls.proofs.functions.make_function.Goals as goal
 
 pub returns-in-None-clause-does : goal.returns-in-None-clause-does
@@ -19,3 +21,15 @@ returns-in-Some-clause-does g c =
     let m = g.S.WorldStore.meaning in
     let old = c.args.config.now in
     subst (λ (n : Option TextId). IfOk c.make_named.result (λ o. Does m (λ t. make_function c.args.body.0 (option_map (text_in t) n) (env_in m old t c.args.frame.now)) (λ t. o) old c.make_named.new.config)) (sym c.in-Some.is) c.make_named.ensures.does
+
+pub make_function_in-requires-clause-stands : goal.make_function_in-requires-clause-stands
+make_function_in-requires-clause-stands g c =
+    let now = c.args.config.now in
+    let f = c.args.frame.now in
+    stands_nameless now.units.items f.tree c.args.body f.scope now.heap.arena (subst (StandsNamed now.units.items now.heap.arena f.tree c.args.body f.scope) c.in-None.is c.requires.stands)
+
+pub make_named-requires-clause-stands : goal.make_named-requires-clause-stands
+make_named-requires-clause-stands g c =
+    let now = c.args.config.now in
+    let f = c.args.frame.now in
+    subst (StandsNamed now.units.items now.heap.arena f.tree c.args.body f.scope) c.in-Some.is c.requires.stands

@@ -21,3 +21,6 @@ returns-clause-later g c = later_twice g.S.WorldStore.meaning c.args.config.now 
 
 pub returns-clause-found : goal.returns-clause-found
 returns-clause-found g c = c.in_ok-give_prototype.ensures.later.objects c.in_ok-function.function c.in_ok-function.ensures.found
+
+pub give_prototype-requires-clause-there : goal.give_prototype-requires-clause-there
+give_prototype-requires-clause-there g c = c.in_ok-function.ensures.later.frames c.args.frame.now c.requires.there

@@ -8,6 +8,7 @@ use Rattle.wjs_moves.specs.Parts.{env_in}
 use Rattle.wjs_deeds.proofs.Composing.{if_ok, env_later}
 use Rattle.wjs_deeds.proofs.Making.{made_after}
 use Rattle.wjs_calls.proofs.Rows.{any_later}
+use Rattle.wjs_calls.proofs.StandingFunctions.{script_stands, function_later}
 use Rattle.wjs_calls.proofs.makes.create_function.Goals as goal
 
 pub returns-clause-does : goal.returns-clause-does
@@ -28,3 +29,10 @@ returns-clause-later g c = any_later g.S.WorldStore.meaning c.args.config.now c.
 
 pub function_object-requires-clause-near : goal.function_object-requires-clause-near
 function_object-requires-clause-near g c = (c.in_ok-names.ensures.later.objects c.args.scope c.requires.scope).1
+
+pub create-requires-clause-code : goal.create-requires-clause-code
+create-requires-clause-code g c =
+    let old = c.args.config.now in
+    let mid = c.function_names.new.config in
+    let f = c.args.frame.now in
+    script_stands mid.units.items mid.heap.arena c.in_ok-object.object f.tree c.args.body c.args.scope c.in_ok-object.ensures.code c.in_ok-object.ensures.scope (function_later g.S.WorldStore.meaning old mid f.tree c.args.body c.args.scope 0 c.in_ok-names.ensures.later c.requires.stands)

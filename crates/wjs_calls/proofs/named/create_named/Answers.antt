@@ -2,7 +2,8 @@ use Rattle.std.proofs.Common.{◌≡◌, ◌+◌, [], Some, length, sym, ap, ◌
 use Rattle.std.specs.Prelude.{OnOk}
 use Rattle.wjs_base.specs.declared.ids.ObjId.{ObjId}
 use Rattle.wjs_base.specs.Text.{Table}
-use Rattle.wjs_arena.specs.Entries.{has, next_number as number_of_next}
+use Rattle.wjs_arena.specs.declared.object.Object.{Object}
+use Rattle.wjs_arena.specs.Entries.{has, next_number as number_of_next, scope_of}
 use Rattle.wjs_content.specs.Tables.{text_in}
 use Rattle.wjs_content.proofs.ArenaMaps.{number_same}
 use Rattle.wjs_meaning.specs.Deeds.{Env, Do, Create, node_here}
@@ -16,6 +17,7 @@ use Rattle.wjs_deeds.proofs.Having.{owner_near}
 use Rattle.wjs_calls.specs.Making.{named_made}
 use Rattle.wjs_calls.proofs.NamedFunctions.{number_behind, scope_is, scope_named, scope_near, behind}
 use Rattle.wjs_calls.proofs.Rows.{any_later}
+use Rattle.wjs_calls.proofs.StandingFunctions.{script_stands, named_later, stands_in_name}
 use Rattle.wjs_calls.proofs.TwoObjects.{named_more}
 use Rattle.wjs_calls.proofs.named.create_named.Goals as goal
 
@@ -49,6 +51,18 @@ create_pair-requires-clause-second_scope g c =
 
 pub create_pair-requires-clause-second_named : goal.create_pair-requires-clause-second_named
 create_pair-requires-clause-second_named g c = λ new more there. let heap = c.function_names.new.config.heap in named_more heap.texts heap.arena new more c.in_ok-object.object c.in_ok-object.ensures.named
+
+pub create_pair-requires-clause-second_code : goal.create_pair-requires-clause-second_code
+create_pair-requires-clause-second_code g c = λ new keeps outer.
+    let m = g.S.WorldStore.meaning in
+    let old = c.args.config.now in
+    let mid = c.function_names.new.config in
+    let f = c.args.frame.now in
+    let s = c.next_number-scope.result in
+    let first : s ≡ number_of_next mid.heap.arena mid.owner = sym (c.next_number-scope.ensures.is [] _ (plainly mid.heap.arena [])) ∙ number_same [] mid.heap.arena mid.owner in
+    let inside : scope_of new s ≡ Some f.scope = ap (scope_of new) first ∙ outer ∙ ap (λ (x : Object). x.scope) c.in_ok-named.ensures in
+    script_stands mid.units.items new c.in_ok-object.object f.tree c.args.body s c.in_ok-object.ensures.code c.in_ok-object.ensures.scope (
+    stands_in_name mid.units.items f.tree c.args.body f.scope mid.heap.arena new s c.args.id keeps inside (named_later m old mid f.tree c.args.body f.scope (Some c.args.id) c.in_ok-names.ensures.later c.requires.stands))
 
 pub returns-clause-does : goal.returns-clause-does
 returns-clause-does g c =

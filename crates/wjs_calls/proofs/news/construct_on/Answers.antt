@@ -11,11 +11,16 @@ use Rattle.wjs_meaning.specs.Constructions.{new_result}
 use Rattle.wjs_model.specs.declared.frame.Held.TheVariants as holds
 use Rattle.wjs_model.specs.declared.frame.Frame.{Frame}
 use Rattle.wjs_model.specs.declared.unit.Unit.{Unit as Program}
-use Rattle.wjs_model.specs.Contents.{holding_in}
+use Rattle.wjs_model.specs.declared.frame.Form.{Form}
+use Rattle.wjs_model.specs.declared.frame.Held.{Held}
+use Rattle.wjs_model.specs.Contents.{begun_held, holding_in}
+use Rattle.wjs_model.specs.Soundness.{IsThere, HasItems}
+use Rattle.wjs_model.specs.Standing.{BodyStands}
 use Rattle.wjs_moves.specs.Following.{Follows}
 use Rattle.wjs_moves.specs.Parts.{env_in, then_at, node_now, node_among}
 use Rattle.wjs_deeds.proofs.Composing.{env_later}
 use Rattle.wjs_calls.specs.Callees.{is_new}
+use Rattle.wjs_calls.proofs.Frames.{there_with}
 use Rattle.wjs_calls.proofs.NewFrames.{new_waits}
 use Rattle.wjs_calls.proofs.Rows.{same_units}
 use Rattle.wjs_deeds.proofs.Making.{near_bare}
@@ -41,3 +46,15 @@ returns g c =
 
 pub create-requires-clause-near : goal.create-requires-clause-near
 create-requires-clause-near g c = near_bare c.args.config.now.apart.items c.object_of.result class.Plain (Some c.args.prototype) c.object_of.ensures c.requires.prototype.1
+
+pub call_below-requires-clause-there : goal.call_below-requires-clause-there
+call_below-requires-clause-there g c =
+    let m = g.S.WorldStore.meaning in
+    let mid = c.create.new.config in
+    let f = c.args.frame in
+    let made = c.in_ok-object.ensures in
+    let h = made.later.frames f c.requires.there in
+    let items = holds.Value (values.Object c.in_ok-object.object) ∷ c.nothing_held.result in
+    let none = subst (λ (l : List Held). HasItems mid l) (sym c.nothing_held.ensures) tt in
+    let body = subst (λ (k : Form). BodyStands mid.units.items mid.heap.arena k (begun_held items) f.tree f.node f.scope) (sym c.requires.form) tt in
+    subst (IsThere m mid) (sym c.in_ok-hold.ensures) (there_with m mid f f.form f.place f.phase f.this items h h.phase h.this (made.found, none) body)

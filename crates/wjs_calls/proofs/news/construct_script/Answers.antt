@@ -40,3 +40,9 @@ returns-in_default g c =
     let p = c.builtin-prototype.result in
     let made : OnOk r (Follows m (new_on p f vs env) mid new) = subst (λ (e : Env). OnOk r (Follows m (new_on p f vs e) mid new)) (env_later m old mid t c.args.frame c.in_ok-found.ensures.later) c.construct_on-in_default.ensures in
     c.in_ok-found.ensures.does.by (new_prototype f vs env) new r (subst (λ (a : Act). OnOk r (Follows m a mid new)) (ap (λ (o : ObjId). new_on o f vs env) c.builtin-prototype.ensures.number ∙ sym (plain_prototype t c.in_ok-found.found f vs env c.in_default.not-Object)) made)
+
+pub construct_on-requires-clause-there : goal.construct_on-requires-clause-there
+construct_on-requires-clause-there g c = c.in_ok-found.ensures.later.frames c.args.frame c.requires.there
+
+pub construct_on-requires-in_default-clause-there : goal.construct_on-requires-in_default-clause-there
+construct_on-requires-in_default-clause-there g c = c.in_ok-found.ensures.later.frames c.args.frame c.requires.there

@@ -29,7 +29,7 @@ returns-clause-later g c =
     let one_made = c.in_ok-create.ensures in
     let two_made = c.in_ok-made.ensures in
     let there = second_there m c.args.first c.args.second old mid new one_made.created two_made.created one_made.keeps two_made.keeps c.in_ok-create.field-0 c.in_ok-made.made c.requires.base.heap.arena one_made.arena one_made.number (ap is_some one_made.there) two_made.number (ap is_some two_made.there) in
-    later_pair m c.args.first c.args.second old mid new one_made.created two_made.created one_made.keeps two_made.keeps c.requires.base two_made.arena c.requires.named c.requires.second_named there c.requires.near c.requires.second_near c.requires.world c.requires.second_world
+    later_pair m c.args.first c.args.second old mid new one_made.created two_made.created one_made.keeps two_made.keeps c.requires.base two_made.arena c.requires.named c.requires.second_named there c.requires.near c.requires.second_near c.requires.world c.requires.second_world c.requires.code c.requires.second_code
 
 pub returns-clause-found : goal.returns-clause-found
 returns-clause-found g c =

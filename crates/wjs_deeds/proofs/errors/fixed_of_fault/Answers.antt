@@ -13,6 +13,7 @@ use Rattle.wjs_deeds.specs.declared.known.Known.TheVariants as known
 use Rattle.wjs_deeds.specs.Known.{text_of}
 use Rattle.wjs_deeds.proofs.Composing.{if_ok, quiet_as, quiet_then}
 use Rattle.wjs_deeds.proofs.Making.{other_fixed}
+use Rattle.wjs_deeds.proofs.Later.{later_twice}
 use Rattle.wjs_deeds.proofs.errors.fixed_of_fault.Goals as goal
 
 pub returns-in_ok-second-in-CommitFailed-clause-does : goal.returns-in_ok-second-in-CommitFailed-clause-does
@@ -57,3 +58,7 @@ returns-in_default g c =
           ∙ ap (λ (rest : List (Text × Said)). (message_name, String c.args.message.now) ∷ rest) (sym none))
           c.one_fixed.ensures;
     }
+
+pub returns-in_ok-second-in-CommitFailed-clause-later : goal.returns-in_ok-second-in-CommitFailed-clause-later
+returns-in_ok-second-in-CommitFailed-clause-later g c =
+    if_ok _ _ c.two_fixed.result (λ under e. later_twice g.S.WorldStore.meaning c.args.config.now c.text_under.new.config c.text_under-in-CommitFailed.new.config c.in_ok-first.ensures.later c.in_ok-second-in-CommitFailed.ensures.later) c.two_fixed.ensures

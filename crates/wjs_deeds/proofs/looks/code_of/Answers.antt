@@ -1,5 +1,7 @@
 use Rattle.std.proofs.Common.{ap}
 use Rattle.wjs_content.specs.Objects.{Internals, object_at}
+use Rattle.wjs_arena.specs.declared.object.Object.{Object}
+use Rattle.wjs_deeds.proofs.Entries.{entry_is}
 use Rattle.wjs_deeds.proofs.Running.{does_ran}
 use Rattle.wjs_deeds.proofs.Steps.{ran_look}
 use Rattle.wjs_deeds.proofs.Looking.{seen_is}
@@ -13,3 +15,6 @@ returns-clause-does g c =
 
 pub returns-clause-is : goal.returns-clause-is
 returns-clause-is g c = λ t arena s. ap (λ (x : Internals). x.code) (seen_is c.args.config.now.heap.arena c.args.object c.object.result.now c.requires.0 c.object.ensures.object t arena s)
+
+pub returns-clause-entry : goal.returns-clause-entry
+returns-clause-entry g c = λ e h. ap (λ (x : Object). x.code) (entry_is _ c.object.result.now e c.object.ensures.object h)

@@ -1,6 +1,8 @@
 use Rattle.std.proofs.Common.{ap}
 use Rattle.wjs_content.specs.Objects.{Internals, object_at}
 use Rattle.wjs_deeds.proofs.Having.{object_both}
+use Rattle.wjs_arena.specs.declared.object.Object.{Object}
+use Rattle.wjs_deeds.proofs.Entries.{entry_is}
 use Rattle.wjs_deeds.proofs.Running.{does_ran}
 use Rattle.wjs_deeds.proofs.Steps.{ran_look}
 use Rattle.wjs_deeds.proofs.Looking.{seen_is, scope_there, near_there}
@@ -20,3 +22,6 @@ returns-clause-found g c =
     let now = c.args.config.now in
     let x = c.object.result.now in
     object_both now x.scope (scope_there now.heap.arena c.args.object x c.requires.base.heap.arena c.requires.object.0 c.object.ensures.object) (near_there g.S.WorldStore.meaning now c.args.object x c.requires.base c.requires.object c.object.ensures.object).scope
+
+pub returns-clause-entry : goal.returns-clause-entry
+returns-clause-entry g c = λ e h. ap (λ (x : Object). x.scope) (entry_is _ c.object.result.now e c.object.ensures.object h)

@@ -1,5 +1,6 @@
 use Rattle.std.proofs.Common.{ap}
 use Rattle.wjs_content.specs.Objects.{Internals, object_at}
+use Rattle.wjs_deeds.proofs.Entries.{shown_by}
 use Rattle.wjs_deeds.proofs.Running.{does_ran}
 use Rattle.wjs_deeds.proofs.Steps.{ran_look}
 use Rattle.wjs_deeds.proofs.Looking.{seen_is}
@@ -13,3 +14,6 @@ returns-clause-does g c =
 
 pub returns-clause-is : goal.returns-clause-is
 returns-clause-is g c = λ t arena s. ap (λ (x : Internals). x.world) (seen_is c.args.config.now.heap.arena c.args.object c.object.result.now c.requires.0 c.object.ensures.object t arena s)
+
+pub returns-clause-shown : goal.returns-clause-shown
+returns-clause-shown g c = shown_by c.args.config.now.heap.arena c.args.object c.object.result.now c.requires.0 c.object.ensures.object

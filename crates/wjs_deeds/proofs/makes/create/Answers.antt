@@ -3,7 +3,7 @@ use Rattle.wjs_base.specs.Text.{Table, Grows}
 use Rattle.wjs_content.specs.Tables.{object_in}
 use Rattle.wjs_deeds.proofs.Running.{does_ran}
 use Rattle.wjs_deeds.proofs.Steps.{ran_create}
-use Rattle.wjs_deeds.proofs.Later.{later_create, created_there}
+use Rattle.wjs_deeds.proofs.Later.{later_create, created_scope, created_there}
 use Rattle.wjs_deeds.proofs.Making.{no_world, none_some}
 use Rattle.wjs_deeds.proofs.makes.create.Goals as goal
 
@@ -23,7 +23,10 @@ returns-clause-makes g c = λ internals e.
     does_ran m _ _ old _ (ran_create m internals c.args.object c.in_ok-o.o old c.create.new.heap c.in_ok-o.ensures.creates c.requires.prototype c.requires.scope (λ t more. e t (subst (λ (x : Table). Grows x t) c.in_ok-o.ensures.creates.texts more)))
 
 pub returns-clause-later : goal.returns-clause-later
-returns-clause-later g c = later_create g.S.WorldStore.meaning c.args.object c.in_ok-o.o c.args.config.now c.create.new.heap c.requires.base c.in_ok-o.ensures.creates c.requires.near (λ w h. none_some c.args.object.world w c.requires.world h)
+returns-clause-later g c = later_create g.S.WorldStore.meaning c.args.object c.in_ok-o.o c.args.config.now c.create.new.heap c.requires.base c.in_ok-o.ensures.creates c.requires.near c.requires.code (λ w h. none_some c.args.object.world w c.requires.world h)
 
 pub returns-clause-found : goal.returns-clause-found
 returns-clause-found g c = created_there g.S.WorldStore.meaning c.args.object c.in_ok-o.o c.args.config.now c.create.new.heap c.requires.base c.in_ok-o.ensures.creates
+
+pub returns-clause-outer : goal.returns-clause-outer
+returns-clause-outer g c = created_scope g.S.WorldStore.meaning c.args.object c.in_ok-o.o c.args.config.now c.create.new.heap c.in_ok-o.ensures.creates

@@ -6,6 +6,8 @@ use Rattle.wjs_deeds.proofs.Making.{array_is, made_after}
 use Rattle.std.proofs.Common.{Some}
 use Rattle.wjs_arena.specs.declared.class.Class.TheVariants as class
 use Rattle.wjs_deeds.proofs.Making.{near_flagged}
+use Rattle.std.proofs.lemmas.Result.{on_ok_weaker}
+use Rattle.wjs_deeds.proofs.Later.{later_twice}
 use Rattle.wjs_deeds.proofs.makes.create_array.Goals as goal
 
 pub returns-clause-does : goal.returns-clause-does
@@ -17,3 +19,6 @@ returns-clause-does g c =
 
 pub create-requires-clause-near : goal.create-requires-clause-near
 create-requires-clause-near g c = near_flagged c.known_name.new.config.apart.items c.object_of-object.result class.Array (Some c.builtin-prototype.result) c.object_of-object.ensures c.builtin-prototype.ensures.found.1 c.in_ok-object.field-0
+
+pub returns-clause-later : goal.returns-clause-later
+returns-clause-later g c = on_ok_weaker c.create.result (later_twice g.S.WorldStore.meaning c.args.config.now c.known_name.new.config c.create.new.config c.in_ok-name.ensures.later) c.create.ensures.later

@@ -1,4 +1,4 @@
-use Rattle.std.proofs.Common.{◌≡◌, Some, sym, subst}
+use Rattle.std.proofs.Common.{◌≡◌, Some, sym, ap, subst}
 use Rattle.wjs_base.specs.declared.ids.WorldId.{WorldId}
 use Rattle.wjs_arena.specs.declared.class.Class.TheVariants as class
 use Rattle.wjs_arena.specs.declared.object.Object.{Object}
@@ -8,7 +8,7 @@ use Rattle.wjs_model.specs.Soundness.{HasWorld}
 use Rattle.wjs_deeds.proofs.Running.{does_ran}
 use Rattle.wjs_deeds.proofs.Steps.{ran_create}
 use Rattle.wjs_deeds.proofs.Later.{later_create, created_there}
-use Rattle.wjs_deeds.proofs.Making.{world_object_is, world_named, near_world}
+use Rattle.wjs_deeds.proofs.Making.{world_object_is, world_named, near_world, no_code}
 use Rattle.wjs_deeds.proofs.worlds.create_world_object.Goals as goal
 
 pub create-requires-clause-named : goal.create-requires-clause-named
@@ -31,7 +31,7 @@ returns-clause-later g c =
     let old = c.args.config.now in
     let x = record c.object_of-object.result { world = Some c.args.world } in
     later_create m x c.in_ok-o.o old c.create.new.heap c.requires.base c.in_ok-o.ensures.creates
-    (near_world old.apart.items c.object_of-object.result class.World (Some c.builtin-prototype.result) c.object_of-object.ensures c.builtin-prototype.ensures.found.1 (Some c.args.world)) (λ w h. subst (HasWorld m old) (one_world c.args.world w h) c.requires.world)
+    (near_world old.apart.items c.object_of-object.result class.World (Some c.builtin-prototype.result) c.object_of-object.ensures c.builtin-prototype.ensures.found.1 (Some c.args.world)) (no_code old.units.items old.heap.arena x x.scope (ap (λ (y : Object). y.code) c.object_of-object.ensures)) (λ w h. subst (HasWorld m old) (one_world c.args.world w h) c.requires.world)
 
 pub returns-clause-found : goal.returns-clause-found
 returns-clause-found g c = created_there g.S.WorldStore.meaning (record c.object_of-object.result { world = Some c.args.world }) c.in_ok-o.o c.args.config.now c.create.new.heap c.requires.base c.in_ok-o.ensures.creates

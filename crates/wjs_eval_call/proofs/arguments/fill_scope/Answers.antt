@@ -1,7 +1,7 @@
 use Rattle.wjs_base.specs.declared.ids.TextId.{TextId}
 use Rattle.wjs_tree.specs.declared.node.NodeId.{NodeId}
 use Rattle.std.proofs.Common.{List, ◌∷◌, sym, subst}
-use Rattle.std.specs.Prelude.{OnOk, map}
+use Rattle.std.specs.Prelude.{All, OnOk, map}
 use Rattle.std.proofs.lemmas.Result.{on_ok_weaker}
 use Rattle.std.proofs.lemmas.List.Elements.{All-weaker}
 use Rattle.wjs_base.specs.Text.{Has}
@@ -18,6 +18,9 @@ use Rattle.wjs_moves.specs.Parts.{env_in}
 use Rattle.wjs_deeds.proofs.Composing.{env_later}
 use Rattle.wjs_deeds.proofs.Later.{later_twice}
 use Rattle.wjs_calls.proofs.Elements.{write-append}
+use Rattle.wjs_model.specs.Soundness.{HasValue}
+use Rattle.wjs_model.specs.Standing.{IsFunction}
+use Rattle.wjs_calls.proofs.StandingFunctions.{function_later}
 use Rattle.wjs_calls.proofs.Rows.{ok_later}
 use Rattle.wjs_eval_call.specs.Filling.{undefined_slots, scope_filled, arguments_written}
 use Rattle.wjs_eval_call.proofs.arguments.fill_scope.Goals as goal
@@ -91,3 +94,68 @@ write_undefined-requires-clause-names g c =
     let four = later_twice m old c.write_formals.new.config c.declare_functions.new.config three c.in_ok-declare_functions.ensures.later in
     let new = c.declare_functions.new.config in
     All-weaker (Has old.heap.texts) (Has new.heap.texts) (λ id. Grows-Has old.heap.texts new.heap.texts id four.texts) c.args.others.now c.requires.others
+
+pub declare_functions-requires-clause-stand : goal.declare_functions-requires-clause-stand
+declare_functions-requires-clause-stand g c =
+    let m = g.S.WorldStore.meaning in
+    let old = c.args.config.now in
+    let f = c.args.frame.now in
+    let new = c.write_formals.new.config in
+    let one = later_twice m old c.create_arguments.new.config c.write_arguments.new.config c.in_ok-arguments.ensures.later c.in_ok-write_arguments.ensures.later in
+    let two = later_twice m old c.write_arguments.new.config c.write_known.new.config one c.in_ok-write_known.ensures.later in
+    let three = later_twice m old c.write_known.new.config new two c.in_ok-write_formals.ensures.later in
+    subst (All (λ (i : NodeId). IsFunction new.units.items new.heap.arena f.tree i f.scope 0)) (sym c.as_slice-2.ensures)
+    (All-weaker (λ (i : NodeId). IsFunction old.units.items old.heap.arena f.tree i f.scope 0) (λ (i : NodeId). IsFunction new.units.items new.heap.arena f.tree i f.scope 0) (λ i. function_later m old new f.tree i f.scope 0 three) c.args.declared.now.functions c.requires.stand)
+
+pub write_arguments-requires-clause-there : goal.write_arguments-requires-clause-there
+write_arguments-requires-clause-there g c = c.in_ok-arguments.ensures.later.frames c.args.frame.now c.requires.there
+
+pub write_known-requires-clause-there : goal.write_known-requires-clause-there
+write_known-requires-clause-there g c = c.in_ok-write_arguments.ensures.later.frames c.args.frame.now (c.in_ok-arguments.ensures.later.frames c.args.frame.now c.requires.there)
+
+pub write_formals-requires-clause-there : goal.write_formals-requires-clause-there
+write_formals-requires-clause-there g c =
+    let m = g.S.WorldStore.meaning in
+    let old = c.args.config.now in
+    let one = later_twice m old c.create_arguments.new.config c.write_arguments.new.config c.in_ok-arguments.ensures.later c.in_ok-write_arguments.ensures.later in
+    (later_twice m old c.write_arguments.new.config c.write_known.new.config one c.in_ok-write_known.ensures.later).frames c.args.frame.now c.requires.there
+
+pub write_formals-requires-clause-scope : goal.write_formals-requires-clause-scope
+write_formals-requires-clause-scope g c =
+    let m = g.S.WorldStore.meaning in
+    let old = c.args.config.now in
+    let one = later_twice m old c.create_arguments.new.config c.write_arguments.new.config c.in_ok-arguments.ensures.later c.in_ok-write_arguments.ensures.later in
+    (later_twice m old c.write_arguments.new.config c.write_known.new.config one c.in_ok-write_known.ensures.later).objects c.args.frame.now.scope c.requires.there.scope
+
+pub write_formals-requires-clause-values : goal.write_formals-requires-clause-values
+write_formals-requires-clause-values g c =
+    let m = g.S.WorldStore.meaning in
+    let old = c.args.config.now in
+    let one = later_twice m old c.create_arguments.new.config c.write_arguments.new.config c.in_ok-arguments.ensures.later c.in_ok-write_arguments.ensures.later in
+    let two = later_twice m old c.write_arguments.new.config c.write_known.new.config one c.in_ok-write_known.ensures.later in
+    All-weaker (HasValue old) (HasValue c.write_known.new.config) two.values c.args.values.now c.requires.values
+
+pub declare_functions-requires-clause-there : goal.declare_functions-requires-clause-there
+declare_functions-requires-clause-there g c =
+    let m = g.S.WorldStore.meaning in
+    let old = c.args.config.now in
+    let one = later_twice m old c.create_arguments.new.config c.write_arguments.new.config c.in_ok-arguments.ensures.later c.in_ok-write_arguments.ensures.later in
+    let two = later_twice m old c.write_arguments.new.config c.write_known.new.config one c.in_ok-write_known.ensures.later in
+    (later_twice m old c.write_known.new.config c.write_formals.new.config two c.in_ok-write_formals.ensures.later).frames c.args.frame.now c.requires.there
+
+pub declare_functions-requires-clause-holder : goal.declare_functions-requires-clause-holder
+declare_functions-requires-clause-holder g c =
+    let m = g.S.WorldStore.meaning in
+    let old = c.args.config.now in
+    let one = later_twice m old c.create_arguments.new.config c.write_arguments.new.config c.in_ok-arguments.ensures.later c.in_ok-write_arguments.ensures.later in
+    let two = later_twice m old c.write_arguments.new.config c.write_known.new.config one c.in_ok-write_known.ensures.later in
+    (later_twice m old c.write_known.new.config c.write_formals.new.config two c.in_ok-write_formals.ensures.later).objects c.args.frame.now.scope c.requires.there.scope
+
+pub write_undefined-requires-clause-scope : goal.write_undefined-requires-clause-scope
+write_undefined-requires-clause-scope g c =
+    let m = g.S.WorldStore.meaning in
+    let old = c.args.config.now in
+    let one = later_twice m old c.create_arguments.new.config c.write_arguments.new.config c.in_ok-arguments.ensures.later c.in_ok-write_arguments.ensures.later in
+    let two = later_twice m old c.write_arguments.new.config c.write_known.new.config one c.in_ok-write_known.ensures.later in
+    let three = later_twice m old c.write_known.new.config c.write_formals.new.config two c.in_ok-write_formals.ensures.later in
+    (later_twice m old c.write_formals.new.config c.declare_functions.new.config three c.in_ok-declare_functions.ensures.later).objects c.args.frame.now.scope c.requires.there.scope

@@ -1,6 +1,7 @@
 use Rattle.std.proofs.Common.{◌∷◌, Some, length, sym, ap, ◌∙◌, subst}
 use Rattle.std.specs.Prelude.{OnOk, map}
 use Rattle.std.proofs.lemmas.Result.{on_ok_weaker}
+use Rattle.std.proofs.lemmas.List.Elements.{All-weaker}
 use Rattle.wjs_content.specs.Names.{slot, length_name}
 use Rattle.wjs_content.specs.Tables.{value_in}
 use Rattle.wjs_content.specs.Values.{Value, whole}
@@ -13,6 +14,7 @@ use Rattle.wjs_deeds.proofs.Having.{value_both}
 use Rattle.wjs_deeds.proofs.Making.{number_there, number_near}
 use Rattle.wjs_calls.proofs.Elements.{length-each}
 use Rattle.wjs_calls.proofs.Rows.{ok_later}
+use Rattle.wjs_model.specs.Soundness.{HasValue}
 use Rattle.wjs_eval_call.proofs.arguments.write_arguments.Goals as goal
 
 pub write_known-requires-2-clause-value : goal.write_known-requires-2-clause-value
@@ -46,3 +48,12 @@ returns-clause-later g c =
     ok_later m c.args.config.now c.write_known-2.new.config c.write_elements.new.config c.write_elements.result
     (later_twice m c.args.config.now c.write_known.new.config c.write_known-2.new.config c.in_ok-write_known.ensures.later c.in_ok-write_known-2.ensures.later)
     c.write_elements.ensures.later
+
+pub write_known-requires-2-clause-there : goal.write_known-requires-2-clause-there
+write_known-requires-2-clause-there g c = c.in_ok-write_known.ensures.later.frames c.args.frame.now c.requires.there
+
+pub write_elements-requires-clause-there : goal.write_elements-requires-clause-there
+write_elements-requires-clause-there g c = c.in_ok-write_known-2.ensures.later.frames c.args.frame.now (c.in_ok-write_known.ensures.later.frames c.args.frame.now c.requires.there)
+
+pub write_elements-requires-clause-values : goal.write_elements-requires-clause-values
+write_elements-requires-clause-values g c = All-weaker (HasValue c.args.config.now) (HasValue c.write_known-2.new.config) (λ v h. c.in_ok-write_known-2.ensures.later.values v (c.in_ok-write_known.ensures.later.values v h)) c.args.values.now c.requires.values

@@ -1,5 +1,5 @@
-use Rattle.std.proofs.Common.{◌≡◌, ◌∷◌, ◌++◌, List, sym, ap, ◌∙◌, subst}
-use Rattle.std.specs.Prelude.{OnOk, Ok, map, filter, not, All}
+use Rattle.std.proofs.Common.{◌≡◌, ◌∷◌, ◌++◌, List, refl, sym, ap, ◌∙◌, subst}
+use Rattle.std.specs.Prelude.{OnOk, Ok, map, filter, not, slice_get, All}
 use Rattle.std.proofs.lemmas.Result.{on_ok_weaker}
 use Rattle.wjs_base.specs.declared.ids.ObjId.{ObjId}
 use Rattle.wjs_base.specs.declared.ids.TextId.{TextId}
@@ -15,8 +15,11 @@ use Rattle.wjs_meaning.specs.Functions.{arguments_object, function_names, body_d
 use Rattle.wjs_meaning.specs.Reading.{numbers, node_in}
 use Rattle.wjs_model.specs.declared.frame.Frame.{Frame}
 use Rattle.wjs_model.specs.declared.unit.Unit.{Unit as Program}
-use Rattle.wjs_model.specs.Contents.{holding_in, values_held}
-use Rattle.wjs_model.specs.Soundness.{HasValue}
+use Rattle.wjs_model.specs.declared.frame.Held.TheVariants as holds
+use Rattle.wjs_tree.specs.declared.node.NodeId.{NodeId}
+use Rattle.wjs_model.specs.Contents.{holding_in, values_held, begun_held}
+use Rattle.wjs_model.specs.Standing.{IsFunction}
+use Rattle.wjs_model.specs.Soundness.{HasValue, IsThere}
 use Rattle.wjs_moves.specs.Following.{Follows}
 use Rattle.wjs_moves.specs.Parts.{env_in, node_now, node_among}
 use Rattle.wjs_moves.proofs.Held.{values_there}
@@ -24,6 +27,8 @@ use Rattle.wjs_deeds.proofs.Composing.{env_later}
 use Rattle.wjs_deeds.proofs.Later.{later_twice}
 use Rattle.wjs_calls.proofs.FunctionNodes.{node_is}
 use Rattle.wjs_calls.proofs.Rows.{same_units}
+use Rattle.wjs_moves.proofs.Parting.{element_here}
+use Rattle.wjs_eval_call.proofs.StandingBodies.{begun_there, begun_function, declared_stand}
 use Rattle.wjs_eval_call.specs.Filling.{arguments_written}
 use Rattle.wjs_eval_call.proofs.Beginning.{values_later, texts_later, earliest_each, others_of, body_filled}
 use Rattle.wjs_eval_call.proofs.bodies.begin_scope.Goals as goal
@@ -43,6 +48,40 @@ fill_scope-requires-clause-values g c =
     values_later g.S.WorldStore.meaning old c.create_scope.new.config c.in_ok-inner.ensures.later c.as_slice-2.result.now
     (subst (λ (vs : List Value). All (HasValue old) vs) (sym (c.as_slice-2.ensures.value ∙ c.in_ok-values.ensures)) (values_there old c.args.frame.held c.requires.there.held))
 
+pub fill_scope-requires-clause-there : goal.fill_scope-requires-clause-there
+fill_scope-requires-clause-there g c =
+    let m = g.S.WorldStore.meaning in
+    let mid = c.create_scope.new.config in
+    subst (IsThere m mid) (sym c.in_ok-hold.ensures) (begun_there m c.args.config.now mid c.args.frame c.args.tree c.args.node c.args.scope c.in_ok-inner.inner c.in_ok-inner.ensures.later c.requires.there c.requires.form c.in_ok-inner.ensures.found c.in_ok-inner.ensures.outer c.requires.stands)
+
+pub fill_scope-requires-clause-stand : goal.fill_scope-requires-clause-stand
+fill_scope-requires-clause-stand g c =
+    let m = g.S.WorldStore.meaning in
+    let old = c.args.config.now in
+    let mid = c.create_scope.new.config in
+    let f = c.args.frame in
+    let d = c.in_ok-declared.declared in
+    let inner : Frame = record f { tree = c.args.tree; node = c.args.node; scope = c.in_ok-inner.inner; held = holds.Begun ∷ f.held } in
+    let there = begun_there m old mid f c.args.tree c.args.node c.args.scope c.in_ok-inner.inner c.in_ok-inner.ensures.later c.requires.there c.requires.form c.in_ok-inner.ensures.found c.in_ok-inner.ensures.outer c.requires.stands in
+    let s = begun_function m mid inner there c.requires.form refl in
+    let found = s.stands.found in
+    let all = declared_stand mid.units.items mid.heap.arena s.stands.unit inner.tree inner.scope found inner.node s.function d.functions s.has (λ i k. element_here m mid inner i c.in_ok-inner.ensures.later.base s k)
+    (c.in_ok-declared.ensures.nodes s.stands.unit (ap (λ (us : List Program). slice_get us c.args.tree) (sym (same_units m old mid c.in_ok-inner.ensures.later)) ∙ found)) in
+    subst (λ (h : Frame). All (λ (i : NodeId). IsFunction mid.units.items mid.heap.arena h.tree i h.scope 0) d.functions) (sym c.in_ok-hold.ensures) all
+
+pub run_body-requires-clause-form : goal.run_body-requires-clause-form
+run_body-requires-clause-form g c = ap (λ (h : Frame). h.form) c.in_ok-hold.ensures ∙ c.requires.form
+
+pub run_body-requires-clause-begun : goal.run_body-requires-clause-begun
+run_body-requires-clause-begun g c = ap (λ (h : Frame). begun_held h.held) c.in_ok-hold.ensures
+
+pub run_body-requires-clause-there : goal.run_body-requires-clause-there
+run_body-requires-clause-there g c =
+    let m = g.S.WorldStore.meaning in
+    let mid = c.create_scope.new.config in
+    c.in_ok-fill_scope.ensures.later.frames c.hold.new.frame
+    (subst (IsThere m mid) (sym c.in_ok-hold.ensures) (begun_there m c.args.config.now mid c.args.frame c.args.tree c.args.node c.args.scope c.in_ok-inner.inner c.in_ok-inner.ensures.later c.requires.there c.requires.form c.in_ok-inner.ensures.found c.in_ok-inner.ensures.outer c.requires.stands))
+
 pub returns : goal.returns
 returns g c =
     let m = g.S.WorldStore.meaning in
@@ -53,18 +92,20 @@ returns g c =
     let r = c.run_body.result in
     let t = new.heap.texts in
     let f = c.args.frame in
-    let inner : Frame = record f { scope = c.in_ok-inner.inner } in
+    let inner : Frame = record f { tree = c.args.tree; node = c.args.node; scope = c.in_ok-inner.inner; held = holds.Begun ∷ f.held } in
+    let held = c.in_ok-hold.ensures in
     let d = c.in_ok-declared.declared in
     let env = env_in m old t inner in
-    let body = f.node.0 in
+    let body = c.args.node.0 in
     let declared = declared_by (tree_here env) body in
     let said = (holding_in t f.held).values in
     let fn = c.args.function in
     let first = c.in_ok-inner.ensures.later in
     let both = later_twice m old mid c2 first c.in_ok-fill_scope.ensures.later in
-    let as_begun = λ (o : ObjId). Do (Create old.owner (arguments_object said)) (λ a. body_declare body declared fn a said (record (env_in m old t f) { scope = o })) in
-    let run1 : OnOk r (Follows m (body_from (elements_of (node_in t (node_now m c2 inner))) env) c2 new) = subst (λ (e : Env). OnOk r (Follows m (body_from (elements_of (node_in t (node_now m c2 inner))) e) c2 new)) (env_later m old c2 t inner both) c.run_body.ensures in
-    let node = node_is t old.units.items f.tree f.node (node_now m c2 inner) (ap (λ (us : List Program). node_among us f.tree f.node) (sym (same_units m old c2 both))) in
+    let as_begun = λ (o : ObjId). Do (Create old.owner (arguments_object said)) (λ a. body_declare body declared fn a said (record (env_in m old t f) { tree = c.args.tree; scope = o })) in
+    let run0 : OnOk r (Follows m (body_from (elements_of (node_in t (node_now m c2 inner))) (env_in m c2 t inner)) c2 new) = subst (λ (h : Frame). OnOk r (Follows m (body_from (elements_of (node_in t (node_now m c2 h))) (env_in m c2 t h)) c2 new)) held c.run_body.ensures in
+    let run1 : OnOk r (Follows m (body_from (elements_of (node_in t (node_now m c2 inner))) env) c2 new) = subst (λ (e : Env). OnOk r (Follows m (body_from (elements_of (node_in t (node_now m c2 inner))) e) c2 new)) (env_later m old c2 t inner both) run0 in
+    let node = node_is t old.units.items inner.tree inner.node (node_now m c2 inner) (ap (λ (us : List Program). node_among us inner.tree inner.node) (sym (same_units m old c2 both))) in
     let run2 : OnOk r (Follows m (body_run body env) c2 new) = subst (λ (n : Node). OnOk r (Follows m (body_from (elements_of n) env) c2 new)) (sym node) run1 in
     on_ok_weaker r
     (λ (k : Follows m (body_run body env) c2 new).
@@ -79,7 +120,8 @@ returns g c =
     let ev = c.in_ok-declared.ensures.variables t table grows in
     let eo : others ≡ others_of env declared = ap (map (text_in t)) c.as_slice.ensures.value ∙ c.in_ok-others.ensures.is t table grows ∙ (λ i. filter (λ name. not (has_text (arguments_name ∷ ef i ++ function_names env (en i)) name)) (ev i)) in
     let ea : args ≡ said = ap (map (value_in t)) (c.as_slice-2.ensures.value ∙ c.in_ok-values.ensures) ∙ earliest_each (value_in t) (values_held f.held) in
-    let filled : Follows m (arguments_written formals functions others fn args (env_in m mid t inner) (body_run body env)) mid new = c.in_ok-fill_scope.ensures.does.by (body_run body env) new (Ok tt) k in
+    let filled0 = c.in_ok-fill_scope.ensures.does.by (body_run body env) new (Ok tt) k in
+    let filled : Follows m (arguments_written formals functions others fn args (env_in m mid t inner) (body_run body env)) mid new = subst (λ (h : Frame). Follows m (arguments_written formals functions others fn args (env_in m mid t h) (body_run body env)) mid new) held filled0 in
     let there : Follows m (arguments_written formals functions others fn args env (body_run body env)) mid new = subst (λ (e : Env). Follows m (arguments_written formals functions others fn args e (body_run body env)) mid new) (env_later m old mid t inner first) filled in
     let begun : Follows m (as_begun inner.scope) mid new = subst (λ (a : Act). Follows m a mid new) (body_filled formals others functions args said declared body fn env ef en eo ea) there in
     c.in_ok-inner.ensures.does.by as_begun new (Ok tt) begun)

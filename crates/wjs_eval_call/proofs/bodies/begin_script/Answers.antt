@@ -1,4 +1,4 @@
-use Rattle.std.proofs.Common.{Option, sym, subst}
+use Rattle.std.proofs.Common.{Option, sym, ◌∙◌, subst}
 use Rattle.std.specs.Prelude.{OnOk}
 use Rattle.wjs_base.specs.declared.ids.ObjId.{ObjId}
 use Rattle.wjs_arena.specs.declared.object.Code.TheVariants as code
@@ -7,6 +7,8 @@ use Rattle.wjs_model.specs.Contents.{holding_in}
 use Rattle.wjs_moves.specs.Following.{Follows}
 use Rattle.wjs_moves.specs.Parts.{env_in}
 use Rattle.wjs_deeds.proofs.Seeing.{plainly}
+use Rattle.wjs_arena.specs.Entries.{Entry}
+use Rattle.wjs_eval_call.proofs.StandingBodies.{function_at}
 use Rattle.wjs_eval_call.proofs.bodies.begin_script.Goals as goal
 
 pub returns-in-None : goal.returns-in-None
@@ -24,3 +26,6 @@ returns-in-Some g c =
     let new = c.begin_scope.new.config in
     let t = new.heap.texts in
     subst (λ (s : Option ObjId). OnOk c.begin_scope.result (Follows m (body_code (code.Script c.args.tree c.args.node) s c.args.function (holding_in t c.args.frame.held).values (env_in m old t c.args.frame)) old new)) (sym (c.in-Some.ensures.is t _ (plainly old.heap.arena t))) c.begin_scope.ensures
+
+pub begin_scope-requires-clause-stands : goal.begin_scope-requires-clause-stands
+begin_scope-requires-clause-stands g c = function_at g.S.WorldStore.meaning c.args.config.now c.args.function c.args.tree c.args.node c.in-Some.scope c.requires.base c.requires.function c.requires.code (λ (e : Entry) h. c.scope_of.ensures.entry e h ∙ c.in-Some.is)

@@ -1,11 +1,11 @@
-use Rattle.std.proofs.Common.{ap, subst}
+use Rattle.std.proofs.Common.{subst}
 use Rattle.std.specs.Prelude.{OnOk}
-use Rattle.wjs_content.specs.Tables.{value_in}
 use Rattle.wjs_meaning.specs.Deeds.{Act}
 use Rattle.wjs_meaning.specs.Reading.{node_in}
 use Rattle.wjs_model.specs.Contents.{holding_in}
 use Rattle.wjs_moves.specs.Following.{Follows}
 use Rattle.wjs_moves.specs.Parts.{env_in, node_now}
+use Rattle.wjs_eval_call.proofs.StandingBodies.{body_element}
 use Rattle.wjs_eval_call.proofs.Running.{body_at}
 use Rattle.wjs_eval_call.proofs.bodies.enter_element.Goals as goal
 
@@ -17,5 +17,8 @@ returns g c =
     let t = new.heap.texts in
     let f = c.args.frame in
     subst (λ (a : Act). OnOk c.enter.result (Follows m a old new))
-    (body_at (node_in t (node_now m old f)) f.form f.node.0 (holding_in t f.held) (env_in m old t f) c.args.function c.args.from c.in_ok-next.next c.args.element.0 c.requires.form (ap (value_in t) c.requires.callee) c.in_ok-next.ensures (c.requires.element t))
+    (body_at (node_in t (node_now m old f)) f.form f.node.0 (holding_in t f.held) (env_in m old t f) c.args.from c.in_ok-next.next c.args.element.0 c.requires.form c.requires.begun c.in_ok-next.ensures (c.requires.element t))
     c.enter.ensures
+
+pub enter-requires-clause-part : goal.enter-requires-clause-part
+enter-requires-clause-part g c = body_element g.S.WorldStore.meaning c.args.config.now c.args.frame c.args.from c.args.element c.requires.base c.requires.there c.requires.form c.requires.begun c.requires.element

@@ -6,8 +6,9 @@ use Rattle.wjs_meaning.specs.Declarations.{declared_by}
 use Rattle.wjs_meaning.specs.Reading.{numbers}
 use Rattle.wjs_meaning.specs.Trees.{Tree}
 use Rattle.wjs_model.specs.declared.unit.Unit.{Unit as Program}
+use Rattle.wjs_declared.specs.Names.{elements_at, functions_among}
 use Rattle.wjs_deeds.proofs.Composing.{if_ok}
-use Rattle.wjs_eval_call.proofs.UnitTrees.{tree_some, tree_none, unit_known}
+use Rattle.wjs_eval_call.proofs.UnitTrees.{tree_some, tree_none, unit_known, unit_is, no_unit}
 use Rattle.wjs_eval_call.proofs.declarations.declared_at.Goals as goal
 
 pub returns-in-Some-clause-variables : goal.returns-in-Some-clause-variables
@@ -54,3 +55,22 @@ returns-in-None-clause-variables g c = λ t table grows.
     let i = c.args.frame.now.tree in
     let le : length now.units.items ≤ i = subst (λ (us : List Program). length us ≤ i) c.deref.ensures.value (ltb-false i (length c.deref.result.now) (sym c.in-None.ensures.lookup.0)) in
     ap (each (text_in t)) c.nothing_declared.ensures.variables ∙ ap (λ (tree : Tree). (declared_by tree c.args.frame.now.node.0).vars) (sym (tree_none t now.units.items i le))
+
+pub returns-in-Some-clause-nodes : goal.returns-in-Some-clause-nodes
+returns-in-Some-clause-nodes g c =
+    let now = c.args.config.now in
+    let i = c.args.frame.now.tree in
+    let u = c.in-Some.unit.now in
+    let items : c.deref.result.now ≡ now.units.items = c.deref.ensures.value in
+    let lt : i < length now.units.items = subst (λ (us : List Program). i < length us) items c.in-Some.ensures.lookup.3.0 in
+    let is : u ≡ slice_index_or now.units.items i u = c.in-Some.ensures.lookup.1 ∙ ap (λ (us : List Program). slice_index_or us i u) items in
+    if_ok _ _ c.declared.result
+    (λ d h. λ v found. h ∙ ap (λ (w : Program). functions_among w.program.nodes (elements_at w.program.nodes c.args.frame.now.node.0)) (unit_is now.units.items i v u lt is found))
+    c.declared.ensures.numbered
+
+pub returns-in-None-clause-nodes : goal.returns-in-None-clause-nodes
+returns-in-None-clause-nodes g c = λ v found.
+    let now = c.args.config.now in
+    let i = c.args.frame.now.tree in
+    let le : length now.units.items ≤ i = subst (λ (us : List Program). length us ≤ i) c.deref.ensures.value (ltb-false i (length c.deref.result.now) (sym c.in-None.ensures.lookup.0)) in
+    absurd (no_unit now.units.items i v le found)

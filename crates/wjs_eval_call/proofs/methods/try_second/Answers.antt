@@ -50,3 +50,6 @@ returns-in-None g c =
     let otherwise = λ (env : Env). throw NoPrimitiveValue env in
     let h : OnOk r (Follows m (otherwise (env_in m old t f)) mid new) = subst (λ (e : Env). OnOk r (Follows m (otherwise e) mid new)) (env_later m old mid t f c.in_ok-method.ensures.later) c.throw.ensures in
     asked m (text_of c.second_method.result) (second_method (hint_of k)) o (λ u. env_in m old u f) c.in_ok-method.method (otherwise (env_in m old t f)) None old mid new r c.in_ok-method.ensures.does c.second_method.ensures c.in-None.ensures.is h
+
+pub call_method-requires-clause-there : goal.call_method-requires-clause-there
+call_method-requires-clause-there g c = c.in_ok-method.ensures.later.frames c.args.frame c.requires.there

@@ -1,10 +1,11 @@
-use Rattle.std.proofs.Common.{refl, subst}
+use Rattle.std.proofs.Common.{subst}
 use Rattle.std.specs.Prelude.{OnOk}
 use Rattle.wjs_meaning.specs.Deeds.{Act}
 use Rattle.wjs_meaning.specs.Reading.{node_in}
-use Rattle.wjs_model.specs.Contents.{holding_in, callee_held}
+use Rattle.wjs_model.specs.Contents.{holding_in}
 use Rattle.wjs_moves.specs.Following.{Follows}
 use Rattle.wjs_moves.specs.Parts.{env_in, node_now}
+use Rattle.wjs_eval_call.proofs.StandingBodies.{program_element}
 use Rattle.wjs_eval_call.proofs.Running.{program_at}
 use Rattle.wjs_eval_call.proofs.programs.enter_element.Goals as goal
 
@@ -16,5 +17,8 @@ returns g c =
     let t = new.heap.texts in
     let f = c.args.frame in
     subst (λ (a : Act). OnOk c.enter.result (Follows m a old new))
-    (program_at (node_in t (node_now m old f)) f.form f.node.0 (holding_in t f.held) (env_in m old t f) t (callee_held f.held).0 c.args.from c.in_ok-next.next c.args.element.0 c.requires.form refl c.requires.callee c.in_ok-next.ensures (c.requires.element t))
+    (program_at (node_in t (node_now m old f)) f.form f.node.0 (holding_in t f.held) (env_in m old t f) c.args.from c.in_ok-next.next c.args.element.0 c.requires.form c.requires.begun c.in_ok-next.ensures (c.requires.element t))
     c.enter.ensures
+
+pub enter-requires-clause-part : goal.enter-requires-clause-part
+enter-requires-clause-part g c = program_element g.S.WorldStore.meaning c.args.config.now c.args.frame c.args.from c.args.element c.requires.there c.requires.element

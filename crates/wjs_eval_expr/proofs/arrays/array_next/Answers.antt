@@ -2,7 +2,11 @@ use Rattle.std.proofs.Common.{ap, sym, ◌∙◌}
 use Rattle.wjs_content.specs.Tables.{value_in}
 use Rattle.wjs_lines.proofs.Following.{follows_as}
 use Rattle.wjs_eval_expr.proofs.Items.{array_enters}
+use Rattle.wjs_eval_expr.proofs.Standing.{item_stands}
 use Rattle.wjs_eval_expr.proofs.arrays.array_next.Goals as goal
+
+pub enter-requires-clause-part : goal.enter-requires-clause-part
+enter-requires-clause-part g c = item_stands g.S.WorldStore.meaning c.args.config.now c.args.frame c.requires.there c.in-Item.at c.in-Item.node c.in-Item.ensures.0
 
 pub returns-in_ok-place-in-Item : goal.returns-in_ok-place-in-Item
 returns-in_ok-place-in-Item g c =

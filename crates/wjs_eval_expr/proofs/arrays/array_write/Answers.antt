@@ -11,6 +11,9 @@ use Rattle.wjs_eval_expr.proofs.Items.{array_writes}
 use Rattle.wjs_eval_expr.proofs.Lines.{does_line}
 use Rattle.wjs_eval_expr.proofs.arrays.array_write.Goals as goal
 
+pub array_next-requires-clause-there : goal.array_next-requires-clause-there
+array_next-requires-clause-there g c = c.in_ok-write.ensures.later.frames c.args.frame c.requires.there
+
 pub array_next-requires-clause-node : goal.array_next-requires-clause-node
 array_next-requires-clause-node g c = rw c.in_ok-write.ensures.later.units c.requires.node
 

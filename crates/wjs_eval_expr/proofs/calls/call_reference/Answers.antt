@@ -6,6 +6,9 @@ use Rattle.wjs_eval_expr.specs.Arguments.{arguments_of}
 use Rattle.wjs_eval_expr.proofs.Lines.{does_line}
 use Rattle.wjs_eval_expr.proofs.calls.call_reference.Goals as goal
 
+pub call_callee-requires-clause-there : goal.call_callee-requires-clause-there
+call_callee-requires-clause-there g c = c.in_ok-answer.ensures.later.frames c.args.frame c.requires.there
+
 pub call_callee-requires-clause-node : goal.call_callee-requires-clause-node
 call_callee-requires-clause-node g c = rw c.in_ok-answer.ensures.later.units c.requires.node
 

@@ -2,7 +2,11 @@ use Rattle.std.proofs.Common.{ap, sym}
 use Rattle.wjs_content.specs.Tables.{value_in}
 use Rattle.wjs_lines.proofs.Following.{follows_as}
 use Rattle.wjs_eval_expr.proofs.Items.{object_enters, object_ends}
+use Rattle.wjs_eval_expr.proofs.Standing.{property_stands}
 use Rattle.wjs_eval_expr.proofs.objects.object_next.Goals as goal
+
+pub enter-requires-clause-part : goal.enter-requires-clause-part
+enter-requires-clause-part g c = property_stands g.S.WorldStore.meaning c.args.config.now c.args.frame c.requires.there c.args.at c.in-Some.property (sym c.in-Some.ensures)
 
 pub returns-in_ok-place-in-Some : goal.returns-in_ok-place-in-Some
 returns-in_ok-place-in-Some g c =

@@ -10,6 +10,12 @@ use Rattle.wjs_eval_expr.specs.Parts.{properties_of}
 use Rattle.wjs_eval_expr.proofs.Lines.{does_line}
 use Rattle.wjs_eval_expr.proofs.objects.object_write.Goals as goal
 
+pub write-requires-clause-there : goal.write-requires-clause-there
+write-requires-clause-there g c = c.in_ok-name.ensures.later.frames c.args.frame c.requires.there
+
+pub object_next-requires-clause-there : goal.object_next-requires-clause-there
+object_next-requires-clause-there g c = c.in_ok-write.ensures.later.frames c.args.frame (c.in_ok-name.ensures.later.frames c.args.frame c.requires.there)
+
 pub returns : goal.returns
 returns g c =
     let m = g.S.WorldStore.meaning in

@@ -18,3 +18,6 @@ pub returns-in-None : goal.returns-in-None
 returns-in-None g c =
     let later = c.finish-in-None.new.config in
     follows_as g.S.WorldStore.meaning _ _ _ _ c.finish-in-None.result (λ grows. no_variable_stores later.heap.texts _ c.args.frame.node.0 _ c.args.at _ c.in-None.ensures.is) c.finish-in-None.ensures
+
+pub variables_from-requires-clause-there : goal.variables_from-requires-clause-there
+variables_from-requires-clause-there g c = c.in_ok-assign-in-Some.ensures.later.frames c.args.frame c.requires.there

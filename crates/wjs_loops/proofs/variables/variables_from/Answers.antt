@@ -1,14 +1,15 @@
 use Rattle.std.proofs.Common.{◌≡◌, ◌<◌, List, Option, Some, None, length, sym, subst, ◌∙◌}
-use Rattle.std.specs.Prelude.{map, drop, IfSome}
+use Rattle.std.specs.Prelude.{map, drop, slice_get, IfSome}
 use Rattle.wjs_tree.specs.declared.node.Declarator.{Declarator}
 use Rattle.wjs_meaning.specs.Reading.{variable_in}
 use Rattle.wjs_meaning.specs.Statements.{vars_from}
 use Rattle.wjs_model.specs.Contents.{holding_in}
 use Rattle.wjs_moves.specs.Parts.{env_in, node_now}
 use Rattle.wjs_loops.specs.declared.declarators.Initialiser.{Initialiser}
-use Rattle.wjs_loops.specs.Variables.{initialiser_goes}
+use Rattle.wjs_loops.specs.Variables.{declarators_in, initialiser_goes}
 use Rattle.wjs_lines.proofs.Following.{follows_as}
 use Rattle.wjs_loops.proofs.Declared.{found_same, found_enters}
+use Rattle.wjs_loops.proofs.Standing.{value_of, initialiser_stands}
 use Rattle.wjs_loops.proofs.variables.variables_from.Goals as goal
 
 pub returns-in_ok-place-in-Some : goal.returns-in_ok-place-in-Some
@@ -40,3 +41,11 @@ returns-in-None g c =
     let P : Option Initialiser → Type 0 = λ o. vars_from f.node.0 c.args.from (drop c.args.from (map (variable_in t) ds)) env ≡ initialiser_goes f.node.0 (map (variable_in t) ds) o env in
     let found = subst P c.in-None.is (c.initialiser_from.ensures.goes t f.node.0 env) in
     follows_as meaning _ _ _ _ c.finish.result (λ grows. sym (found_same t node f.node.0 env ds c.args.from None c.declarators_of.ensures found)) c.finish.ensures
+
+pub enter-requires-clause-part : goal.enter-requires-clause-part
+enter-requires-clause-part g c =
+    let x = c.in-Some.initialiser in
+    let P : List Declarator → Type 0 = λ ds. value_of (slice_get ds x.at) ≡ Some x.value in
+    let Q : Option Initialiser → Type 0 = λ o. IfSome o (λ (y : Initialiser). value_of (slice_get c.declarators_of.result.now y.at) ≡ Some y.value) in
+    let found : P (declarators_in (node_now g.S.WorldStore.meaning c.args.config.now c.args.frame)) = subst P c.declarators_of.ensures (subst Q c.in-Some.is c.initialiser_from.ensures.is) in
+    initialiser_stands g.S.WorldStore.meaning c.args.config.now c.args.frame x.at x.value c.requires.there found

@@ -11,3 +11,6 @@ returns g c =
     let t = c.take_held.new.config.heap.texts in
     let h = rw (env_later g.S.WorldStore.meaning _ _ t c.args.frame.now c.in_ok-name.ensures.later) at c.take_held.ensures in
     c.in_ok-name.ensures.does.by (at_name (value_in t (value_held c.args.frame.now.held)) (taken c.args.frame.now.form (env_in g.S.WorldStore.meaning c.args.config.now t c.args.frame.now))) _ _ h
+
+pub take_held-requires-clause-there : goal.take_held-requires-clause-there
+take_held-requires-clause-there g c = c.in_ok-name.ensures.later.frames c.args.frame.now c.requires.there

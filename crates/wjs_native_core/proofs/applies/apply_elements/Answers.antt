@@ -1,12 +1,16 @@
-use Rattle.std.proofs.Common.{◌≡◌, Bool, true, false, [], sym, ap, ◌∙◌, rules}
+use Rattle.std.proofs.Common.{◌≡◌, Bool, true, false, List, [], sym, ap, ◌∙◌, subst, rules}
+use Rattle.wjs_arena.specs.declared.native.Native.TheVariants as native
 use Rattle.wjs_content.specs.Objects.{Arena, object_at}
 use Rattle.wjs_content.specs.Tables.{value_in}
 use Rattle.wjs_content.specs.Values.{Value}
 use Rattle.wjs_meaning.specs.Deeds.{Act}
 use Rattle.wjs_meaning.specs.NativesOfObjects as line
+use Rattle.wjs_model.specs.declared.frame.Held.{Held}
+use Rattle.wjs_model.specs.Soundness.{HasItems}
 use Rattle.wjs_moves.specs.Parts.{env_in}
 use Rattle.wjs_moves.proofs.Shorter.{follows_look}
 use Rattle.wjs_lines.proofs.Following.{follows_as, env_later}
+use Rattle.wjs_natives.proofs.Frames.{native_holds}
 use Rattle.wjs_native_core.proofs.Applying.{apply_starts, if_list}
 use Rattle.wjs_native_core.proofs.applies.apply_elements.Goals as goal
 
@@ -22,6 +26,13 @@ returns-then-not-is_list_class g c =
     follows_look m (λ (arena : Arena). by (line.is_list_class (object_at arena c.args.object).class)) _ old new r
     (λ arena s. ap by (ap line.is_list_class (c.class_of.ensures.is t arena s) ∙ c.is_list_class.ensures ∙ (let no : c.is_list_class.result ≡ false = search rules in no)))
     c.throw.ensures
+
+pub apply_rest-requires-clause-there : goal.apply_rest-requires-clause-there
+apply_rest-requires-clause-there g c =
+    let mid = c.get_known.new.config in
+    let later = c.in_ok-length.ensures.later in
+    let held = subst (λ (l : List Held). HasItems mid l) (sym c.in_ok-frame.ensures) ((later.objects c.args.function c.requires.function, later.values c.args.this c.requires.this), (later.objects c.args.object c.requires.object, tt)) in
+    native_holds g.S.WorldStore.meaning mid c.args.frame c.in_ok-frame.field-0 (later.frames c.args.frame c.requires.there) held native.Apply c.requires.form
 
 pub returns : goal.returns
 returns g c =

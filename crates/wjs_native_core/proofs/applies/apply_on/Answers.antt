@@ -3,6 +3,7 @@ use Rattle.std.specs.Prelude.{OnOk}
 use Rattle.wjs_base.specs.declared.ids.ObjId.{ObjId}
 use Rattle.wjs_base.specs.declared.values.Value.{Value as NumberedValue}
 use Rattle.wjs_base.specs.declared.values.Value.TheVariants as values
+use Rattle.wjs_arena.specs.declared.native.Native.TheVariants as native
 use Rattle.wjs_content.specs.Names.{index_name}
 use Rattle.wjs_content.specs.Tables.{value_in}
 use Rattle.wjs_content.specs.Values.{Value}
@@ -15,6 +16,7 @@ use Rattle.wjs_moves.specs.Following.{Follows}
 use Rattle.wjs_model.specs.Contents.{holding_in, callee_held, elements_held}
 use Rattle.wjs_moves.specs.Parts.{env_in}
 use Rattle.wjs_lines.proofs.Following.{follows_as, env_later}
+use Rattle.wjs_natives.proofs.Frames.{native_holds}
 use Rattle.wjs_native_core.proofs.Applying.{apply_begins, apply_onward}
 use Rattle.wjs_native_core.proofs.applies.apply_on.Goals as goal
 
@@ -26,13 +28,8 @@ apply_rest-requires-clause-there g c =
     let callee = later.values c.held_callee-callee.result.0 c.held_callee-callee.ensures.callee in
     let this = later.values c.held_callee-callee.result.1 c.held_callee-callee.ensures.this in
     let object = later.objects c.held_elements-count.result.0 c.held_elements-count.ensures.found in
-    record {
-      scope = there.scope;
-      this = there.this;
-      world = there.world;
-      held = subst (λ (l : List Held). HasItems mid l) (sym c.in_ok-hold_element.ensures) ((subst (λ (x : NumberedValue). HasValue mid x) c.in-Object.is callee, this), (object, (c.in_ok-value.ensures.found, there.held)));
-      phase = there.phase;
-    }
+    let held = subst (λ (l : List Held). HasItems mid l) (sym c.in_ok-hold_element.ensures) ((subst (λ (x : NumberedValue). HasValue mid x) c.in-Object.is callee, this), (object, (c.in_ok-value.ensures.found, there.held))) in
+    native_holds g.S.WorldStore.meaning mid c.args.frame c.hold_element.new.items there held native.Apply c.requires.form
 
 pub returns : goal.returns
 returns g c =

@@ -30,3 +30,6 @@ returns g c =
     let sized = subst (λ (v : Value). OnOk r (Follows m (Do (Write w (slot o length_name) (Some v)) (λ x. line.give_object o)) mid new)) (c.in_ok-value.ensures t) written in
     subst (λ (x : Option ℕ). OnOk r (Follows m (line.array_of_length x (env_in m old t c.args.frame.now)) old new)) (sym c.in-Some.ensures)
     (c.in_ok-array.ensures.does.by (λ q. Do (Write w (slot q length_name) (Some (whole n))) (λ x. line.give_object q)) new r sized)
+
+pub write_known-requires-clause-there : goal.write_known-requires-clause-there
+write_known-requires-clause-there g c = c.in_ok-array.ensures.later.frames c.args.frame.now c.requires.there

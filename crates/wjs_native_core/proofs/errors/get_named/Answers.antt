@@ -2,6 +2,8 @@ use Rattle.wjs_content.specs.Tables.{name_in, content_in}
 use Rattle.wjs_meaning.specs.Properties as line
 use Rattle.wjs_deeds.specs.Known.{text_of}
 use Rattle.wjs_deeds.proofs.Composing.{does_with, if_ok}
+use Rattle.std.proofs.lemmas.Result.{on_ok_weaker}
+use Rattle.wjs_deeds.proofs.Later.{later_twice}
 use Rattle.wjs_native_core.proofs.errors.get_named.Goals as goal
 
 pub returns-clause-does : goal.returns-clause-does
@@ -9,3 +11,9 @@ returns-clause-does g c =
     if_ok _ _ c.get.result
     (λ v d. does_with g.S.WorldStore.meaning c.args.frame.now (λ t. text_of c.args.name) (λ t. name_in t c.in_ok-name.name) (λ t x env. line.get c.args.object x env) (λ t. content_in t v) c.args.config.now c.known_name.new.config c.get.new.config c.in_ok-name.ensures.does c.in_ok-name.ensures.later d)
     c.get.ensures.does
+
+pub get-requires-clause-there : goal.get-requires-clause-there
+get-requires-clause-there g c = c.in_ok-name.ensures.later.frames c.args.frame.now c.requires.there
+
+pub returns-clause-later : goal.returns-clause-later
+returns-clause-later g c = on_ok_weaker c.get.result (later_twice g.S.WorldStore.meaning c.args.config.now c.known_name.new.config c.get.new.config c.in_ok-name.ensures.later) c.get.ensures.later

@@ -1,14 +1,25 @@
 use Rattle.std.proofs.Common.{sym, ap, ◌∙◌}
 use Rattle.std.specs.Prelude.{Option}
+use Rattle.wjs_base.specs.declared.values.Content.{Content}
+use Rattle.wjs_base.specs.declared.values.Content.TheVariants as contents
+use Rattle.wjs_store.specs.Meaning.{Meaning}
 use Rattle.wjs_content.specs.Names.{message_name}
 use Rattle.wjs_content.specs.Tables.{content_in}
 use Rattle.wjs_content.specs.Values.{Value}
 use Rattle.wjs_meaning.specs.Errors.{give_text}
 use Rattle.wjs_meaning.specs.Properties.{get}
 use Rattle.wjs_meaning.specs.NativesOfObjects.{fault_text}
+use Rattle.wjs_model.specs.declared.config.Config.{Config}
+use Rattle.wjs_model.specs.Soundness.{HasContent}
+use Rattle.wjs_moves.specs.Following.{Later}
 use Rattle.wjs_moves.specs.Parts.{env_in}
 use Rattle.wjs_lines.proofs.Following.{follows_as, env_later}
 use Rattle.wjs_native_core.proofs.errors.give_fault_text.Goals as goal
+
+-- what was there is there
+content_later : {S : Type 0} (meaning : S → Meaning) (old new : Config S) (found : Content) → Later meaning old new → HasContent old found → HasContent new found
+content_later meaning old new contents.Absent l h = tt
+content_later meaning old new (contents.Present v) l h = l.values v h
 
 pub returns : goal.returns
 returns g c =
@@ -29,3 +40,9 @@ returns g c =
     (follows_as m _ _ mid new r (λ grows. ap (λ e. get o message_name e (λ b. go (content_in t c.in_ok-name.name) b)) one)
     (c.in_ok-message.ensures.does.by (λ b. go (content_in t c.in_ok-name.name) b) new r
     (follows_as m _ _ last new r (λ grows. ap (λ e. give_text c.as_slice.result.now e) (two ∙ one) ∙ ap (λ u. give_text u env) (c.as_slice.ensures.value ∙ sym (c.in_ok-units.ensures t grows))) c.give_text.ensures)))
+
+pub get_named-requires-2-clause-there : goal.get_named-requires-2-clause-there
+get_named-requires-2-clause-there g c = c.in_ok-name.ensures.later.frames c.args.frame.now c.requires.there
+
+pub fault_units-requires-clause-name : goal.fault_units-requires-clause-name
+fault_units-requires-clause-name g c = content_later g.S.WorldStore.meaning c.get_named.new.config c.get_named-2.new.config c.in_ok-name.name c.in_ok-message.ensures.later c.in_ok-name.ensures.found

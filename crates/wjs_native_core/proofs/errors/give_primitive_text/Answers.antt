@@ -23,3 +23,6 @@ returns g c =
     follows_as m _ _ old new r (λ grows. ap (λ u. give_text u env) (append-nil said))
     (c.in_ok-empty.ensures.does.by (λ u. give_text (said ++ u) env) new r
     (subst (λ (e : Env). OnOk r (Follows m (give_text (said ++ text_in t c.in_ok-empty.empty) e) mid new)) (env_later m old mid t f c.in_ok-empty.ensures.later) c.join.ensures))
+
+pub join-requires-clause-there : goal.join-requires-clause-there
+join-requires-clause-there g c = c.in_ok-empty.ensures.later.frames c.args.frame.now c.requires.there

@@ -7,6 +7,7 @@ use Rattle.wjs_model.specs.Contents.{values_held}
 use Rattle.wjs_moves.specs.Parts.{env_in}
 use Rattle.wjs_lines.proofs.Following.{follows_as}
 use Rattle.wjs_natives.proofs.Waiting.{earliest-map}
+use Rattle.wjs_natives.proofs.Frames.{fresh_holds}
 use Rattle.wjs_native_core.proofs.functions.call_with.Goals as goal
 
 pub returns : goal.returns
@@ -19,3 +20,6 @@ returns g c =
     follows_as m _ _ old new c.call_value.result
     (λ grows. ap (λ (vs : List Value). call_values (value_in t c.args.callee) (value_in t c.args.this) (env_in m old t c.args.frame) vs) (earliest-map (value_in t) (values_held items) ∙ ap (map (value_in t)) c.in_ok-frame.ensures.values))
     c.call_value.ensures
+
+pub call_value-requires-clause-there : goal.call_value-requires-clause-there
+call_value-requires-clause-there g c = fresh_holds g.S.WorldStore.meaning c.args.config.now c.args.frame c.in_ok-frame.field-0 c.requires.there c.in_ok-frame.ensures.found c.in_ok-frame.ensures.begun

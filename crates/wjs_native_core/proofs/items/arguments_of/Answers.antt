@@ -16,3 +16,6 @@ returns-clause-values g c = holds_all c.args.config.now c.args.values.now false 
 
 pub returns-clause-found : goal.returns-clause-found
 returns-clause-found g c = c.loop-value.invariant.found
+
+pub returns-clause-begun : goal.returns-clause-begun
+returns-clause-begun g c = c.loop-value.invariant.begun

@@ -51,3 +51,6 @@ returns-in-Err g c =
     (subst (λ (e : Env). OnOk r (Follows m (to_object this e (λ o. own_property c.args.enumerable o (name_in t c.in_ok-name.name) env)) named new)) one
     ((told_err _ _ _ _ c.in-Err.is c.in_ok-object.ensures.does).by (λ o. own_property c.args.enumerable o (name_in t c.in_ok-name.name) env) new r
     c.finish.ensures)))
+
+pub give_own-requires-clause-there : goal.give_own-requires-clause-there
+give_own-requires-clause-there g c = c.in_ok-object.ensures.later.frames c.args.frame.now (c.in_ok-name.ensures.later.frames c.args.frame.now c.requires.there)

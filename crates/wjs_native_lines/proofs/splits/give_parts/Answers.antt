@@ -38,3 +38,6 @@ returns g c =
     ∙ ap (λ v. line.at_most (value_at vs 1) (line.parts_of x v)) (sym (c.value_at.ensures.means t)))
     ∙ ap (λ (e : Env). make_array (line.at_most (value_at vs 1) (line.parts_of x (value_at vs 0))) e give_object) (env_later m old mid t f c.in_ok-parts.ensures.later))
     made)
+
+pub make_array-requires-clause-there : goal.make_array-requires-clause-there
+make_array-requires-clause-there g c = c.in_ok-parts.ensures.later.frames c.args.frame.now c.requires.there

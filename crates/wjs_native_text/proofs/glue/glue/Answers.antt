@@ -2,6 +2,7 @@ use Rattle.std.proofs.Common.{List, [], sym, ap, ◌∙◌, subst}
 use Rattle.std.specs.Prelude.{map}
 use Rattle.wjs_base.specs.declared.values.Value.{Value as NumberedValue}
 use Rattle.wjs_num.specs.Bits.{uint32}
+use Rattle.wjs_arena.specs.declared.native.Native.TheVariants as native
 use Rattle.wjs_content.specs.Tables.{value_in}
 use Rattle.wjs_meaning.specs.NativesOfObjects.{text_at, whole_at, text_of}
 use Rattle.wjs_meaning.specs.NativesOfTexts as line
@@ -10,6 +11,7 @@ use Rattle.wjs_model.specs.declared.frame.Held.{Held}
 use Rattle.wjs_model.specs.Soundness.{HasValue, HasItems}
 use Rattle.wjs_moves.specs.Parts.{env_in, node_now}
 use Rattle.wjs_lines.proofs.Following.{follows_as}
+use Rattle.wjs_natives.proofs.Frames.{native_holds}
 use Rattle.wjs_native_text.proofs.Gluing.{held_first, glue_first, argument_there}
 use Rattle.wjs_native_text.proofs.glue.glue.Goals as goal
 
@@ -35,13 +37,8 @@ due_later-requires-clause-there g c =
     let items = held_first c.hold_separator.new.items c.nothing_held.result c.value_at-2.result c.in-Object.object c.to_uint32-count.result c.in_ok-hold_separator.ensures c.nothing_held.ensures in
     let vs = c.args.args.now in
     let object = subst (λ (x : NumberedValue). HasValue old x) c.in-Object.is (argument_there old vs 0 c.value_at.result c.requires.args c.value_at.ensures.is) in
-    record {
-      scope = c.requires.there.scope;
-      this = c.requires.there.this;
-      world = c.requires.there.world;
-      held = subst (λ (l : List Held). HasItems old l) (sym items) (object, (argument_there old vs 2 c.value_at-2.result c.requires.args c.value_at-2.ensures.is, tt));
-      phase = c.requires.there.phase;
-    }
+    let held = subst (λ (l : List Held). HasItems old l) (sym items) (object, (argument_there old vs 2 c.value_at-2.result c.requires.args c.value_at-2.ensures.is, tt)) in
+    native_holds g.S.WorldStore.meaning old c.args.frame c.hold_separator.new.items c.requires.there held native.Glue c.requires.form
 
 pub returns : goal.returns
 returns g c =

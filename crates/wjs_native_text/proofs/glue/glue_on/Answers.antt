@@ -3,6 +3,7 @@ use Rattle.std.specs.Prelude.{All}
 use Rattle.std.proofs.lemmas.List.Elements.{All-drop}
 use Rattle.wjs_base.specs.declared.ids.ObjId.{ObjId}
 use Rattle.wjs_base.specs.declared.values.Value.{Value as NumberedValue}
+use Rattle.wjs_arena.specs.declared.native.Native.TheVariants as native
 use Rattle.wjs_content.specs.Names.{slot, index_name}
 use Rattle.wjs_content.specs.Tables.{value_in}
 use Rattle.wjs_content.specs.Values.{value_or_undefined}
@@ -18,6 +19,7 @@ use Rattle.wjs_model.specs.Soundness.{HasValue, HasItems}
 use Rattle.wjs_moves.proofs.Held.{values_there}
 use Rattle.wjs_moves.specs.Parts.{env_in, node_now}
 use Rattle.wjs_lines.proofs.Following.{follows_as, env_later}
+use Rattle.wjs_natives.proofs.Frames.{native_holds}
 use Rattle.wjs_native_text.proofs.Gluing.{glue_rest, glue_reads, glue_onward, behind_first, all_pieces}
 use Rattle.wjs_native_text.proofs.glue.glue_on.Goals as goal
 
@@ -29,13 +31,8 @@ due_later-requires-clause-there g c =
     let separator = later.values c.held_value-separator.result c.held_value-separator.ensures.found in
     let object = later.objects c.held_elements-count.result.0 c.held_elements-count.ensures.found in
     let held = subst (λ (l : List Held). HasItems mid l) (sym c.in_ok-push.ensures.ok) (c.in_ok-piece.ensures.found, there.held) in
-    record {
-      scope = there.scope;
-      this = there.this;
-      world = there.world;
-      held = subst (λ (l : List Held). HasItems mid l) (sym c.in_ok-hold_separator.ensures) (object, (separator, held));
-      phase = there.phase;
-    }
+    let all = subst (λ (l : List Held). HasItems mid l) (sym c.in_ok-hold_separator.ensures) (object, (separator, held)) in
+    native_holds g.S.WorldStore.meaning mid c.args.frame c.hold_separator.new.items there all native.Glue c.requires.form
 
 pub give_joined-requires-clause-values : goal.give_joined-requires-clause-values
 give_joined-requires-clause-values g c =

@@ -1,4 +1,4 @@
-use Rattle.std.proofs.Common.{◌-◌, sym, ap}
+use Rattle.std.proofs.Common.{◌-◌, sym, ap, subst}
 use Rattle.wjs_base.specs.Text.{Table}
 use Rattle.wjs_meaning.specs.Deeds.{then_value}
 use Rattle.wjs_meaning.specs.Reading.{node_in}
@@ -7,6 +7,7 @@ use Rattle.wjs_model.specs.Waiting.{after, after_argument}
 use Rattle.wjs_moves.specs.Parts.{env_in, node_now}
 use Rattle.wjs_lines.proofs.Following.{follows_as}
 use Rattle.wjs_native_text.proofs.Running.{runs_on}
+use Rattle.wjs_model.specs.Soundness.{IsThere}
 use Rattle.wjs_native_text.proofs.step.resume_text.Goals as goal
 
 pub returns-in-Runs : goal.returns-in-Runs
@@ -21,3 +22,9 @@ returns-in-Runs g c =
     let ready = rw c.in-Runs.is at c.in_ok-resume.ensures in
     follows_as m _ _ old new c.run.result (λ grows. ap (λ q. after (node_in t (node_now m old f)) q f.node.0 f.place (holding_in t f.held) (env_in m old t f) (completion_in t e)) (sym c.in-Native.is))
     (runs_on m k f c.in-Runs.frame (λ (u : Table). then_value (after_argument k (holding_in u f.held) (f.place - 1) (env_in m old u f)) (completion_in u e)) c.in-Runs.values.items c.deref.result.now old c.resume.new.config new c.run.result ready.0 ready.1 c.deref.ensures.value c.run.ensures)
+
+pub run-requires-clause-there : goal.run-requires-clause-there
+run-requires-clause-there g c =
+    let m = g.S.WorldStore.meaning in
+    let ready = rw c.in-Runs.is at c.in_ok-resume.ensures in
+    subst (IsThere m c.resume.new.config) (sym ready.0) (ready.1.later.frames c.args.frame c.requires.there)

@@ -74,3 +74,6 @@ returns g c =
       subst (λ (l : List Value). IsReady m c.args.native c.args.frame deeds l old c.values.config) (sym c.truncate.ensures.items)
           (reached_end m c.args.native c.args.frame c.args.given deeds old c.values.config c.values.values.items c.values.at c.values.invariant (sym c.in_default.ensures)),
     )
+
+pub wait_for-requires-clause-there : goal.wait_for-requires-clause-there
+wait_for-requires-clause-there g c = c.in_ok-converted.ensures.later.frames c.args.frame (c.values.invariant.later.frames c.args.frame c.requires.there)

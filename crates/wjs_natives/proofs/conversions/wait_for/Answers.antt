@@ -8,6 +8,7 @@ use Rattle.wjs_model.specs.Contents.{new_held}
 use Rattle.wjs_model.specs.Rest.{begin_conversion}
 use Rattle.wjs_moves.specs.Parts.{env_in, node_now, then_at}
 use Rattle.wjs_lines.proofs.Following.{follows_as}
+use Rattle.wjs_natives.proofs.Frames.{native_holds}
 use Rattle.wjs_natives.proofs.Waiting.{waits_as}
 use Rattle.wjs_natives.proofs.conversions.wait_for.Goals as goal
 
@@ -30,3 +31,6 @@ returns g c =
     ap (λ v. Sub (begin_conversion c.args.conversion (value_in t v) env) (then_at m old held c.in-Ok.place t env)) value
     ∙ ap (λ (go : Completion → Act). Sub (begin_conversion c.args.conversion (value_in t (get_or vs at values.Undefined)) env) go) waits)
     c.convert.ensures
+
+pub convert-requires-clause-there : goal.convert-requires-clause-there
+convert-requires-clause-there g c = native_holds g.S.WorldStore.meaning c.args.config.now c.args.frame c.in_ok-frame.field-0 c.requires.there c.in_ok-frame.ensures.found c.args.native c.requires.form

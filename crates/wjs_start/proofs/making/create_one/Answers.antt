@@ -11,4 +11,4 @@ create-requires-clause-named g c =
 pub returns : goal.returns
 returns g c =
     let m = g.S.WorldStore.meaning in
-    made_one c.args.known.now c.args.blueprint c.in_ok-object.object c.in_ok-_id._id (parts m c.args.heap.now) (parts m c.create.new.heap) c.args.number c.requires.building c.requires.buildable c.in_ok-object.ensures.world c.in_ok-object.ensures.built c.in_ok-_id.ensures.creates
+    made_one c.args.known.now c.args.blueprint c.in_ok-object.object c.in_ok-_id._id (parts m c.args.heap.now) (parts m c.create.new.heap) c.args.number c.requires.building c.requires.buildable c.in_ok-object.ensures.world c.in_ok-object.ensures.code c.in_ok-object.ensures.built c.in_ok-_id.ensures.creates

@@ -9,6 +9,7 @@ use Rattle.wjs_model.specs.Contents.{reference_in}
 use Rattle.wjs_moves.specs.Following.{Follows}
 use Rattle.wjs_deeds.proofs.Later.{later_twice}
 use Rattle.wjs_visits.proofs.Storing.{named_follows, named_fails, body_entered, entered_later}
+use Rattle.wjs_visits.proofs.Standing.{body_stands_later}
 use Rattle.wjs_visits.proofs.for_ins.visit_stored.Goals as goal
 
 pub returns-in-Ok : goal.returns-in-Ok
@@ -33,3 +34,12 @@ returns-in-Err g c =
     let f = c.args.frame in
     named_fails m old c.text_of.new.config c.store.new.config later c.finish.result f (λ u. name_in u c.args.slot.name) c.in_ok-id.id (λ u x e act. line.store (reference_in u c.args.reference) (String x) e act) (body_entered m later.heap.texts old f c.args.taker c.args.s) c.in-Err.error
     c.in_ok-id.ensures.does c.in_ok-id.ensures.later (MatchResult-at_err _ _ c.in-Err.error c.in-Err.is c.in_ok-store.ensures.does) c.finish.ensures
+
+pub enter-requires-clause-part : goal.enter-requires-clause-part
+enter-requires-clause-part g c = body_stands_later g.S.WorldStore.meaning c.args.config.now c.args.frame c.args.taker c.args.s c.requires.there c.requires.node c.text_of.new.config c.store.new.config c.in_ok-id.ensures.later c.in_ok-store.ensures.later
+
+pub store-requires-clause-there : goal.store-requires-clause-there
+store-requires-clause-there g c = c.in_ok-id.ensures.later.frames c.args.frame c.requires.there
+
+pub enter-requires-clause-there : goal.enter-requires-clause-there
+enter-requires-clause-there g c = c.in_ok-store.ensures.later.frames c.args.frame (c.in_ok-id.ensures.later.frames c.args.frame c.requires.there)

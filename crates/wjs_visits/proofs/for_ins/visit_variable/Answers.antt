@@ -14,6 +14,7 @@ use Rattle.wjs_deeds.proofs.Later.{later_twice}
 use Rattle.wjs_visits.specs.declared.for_ins.Taker.TheVariants.{Variable}
 use Rattle.wjs_visits.proofs.Knowing.{variable_known}
 use Rattle.wjs_visits.proofs.Storing.{named_follows, named_fails, body_entered, entered_later}
+use Rattle.wjs_visits.proofs.Standing.{body_stands_later}
 use Rattle.wjs_visits.proofs.for_ins.visit_variable.Goals as goal
 
 pub assign-requires-clause-name : goal.assign-requires-clause-name
@@ -55,3 +56,12 @@ returns-in-Err g c =
     subst O (ap (λ (p : Place). line.reference_at p (text_in t name) env (λ r. line.store r (String (name_in t c.args.slot.name)) env act)) (sym (c.place_of-place.ensures t)))
     (named_fails m old c.text_of.new.config c.assign.new.config later c.finish.result f (λ u. name_in u c.args.slot.name) c.in_ok-id.id (λ u x e a. line.reference_at (place_in c.place_of-place.result) (text_in u name) e (λ r. line.store r (String x) e a)) act c.in-Err.error
     c.in_ok-id.ensures.does c.in_ok-id.ensures.later (MatchResult-at_err _ _ c.in-Err.error c.in-Err.is c.in_ok-assign.ensures.does) c.finish.ensures)
+
+pub enter-requires-clause-part : goal.enter-requires-clause-part
+enter-requires-clause-part g c = body_stands_later g.S.WorldStore.meaning c.args.config.now c.args.frame (Variable c.args.name) c.args.s c.requires.there c.requires.node c.text_of.new.config c.assign.new.config c.in_ok-id.ensures.later c.in_ok-assign.ensures.later
+
+pub assign-requires-clause-there : goal.assign-requires-clause-there
+assign-requires-clause-there g c = c.in_ok-id.ensures.later.frames c.args.frame c.requires.there
+
+pub enter-requires-clause-there : goal.enter-requires-clause-there
+enter-requires-clause-there g c = c.in_ok-assign.ensures.later.frames c.args.frame (c.in_ok-id.ensures.later.frames c.args.frame c.requires.there)

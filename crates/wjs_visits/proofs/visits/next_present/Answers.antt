@@ -41,3 +41,6 @@ loop-slot-preserved g c =
       passes = passes_on m (λ t. (holding_in t f.held).visits) l.held next.held x next.world (λ t. env_in m c.args.config.now t f) c.args.config.now c.loop-slot.config c.is_present.new.config c.loop-slot.invariant.passes c.in-Some.ensures.next (λ t. sym (ap (λ (y : Frame). y.world) same))
           (subst D c.if-branch.false c.in_ok-is_present.ensures.does);
     }
+
+pub returns-then-branch-clause-there : goal.returns-then-branch-clause-there
+returns-then-branch-clause-there g c = c.in_ok-is_present.ensures.later.frames c.next_visit.new.frame c.in-Some.ensures.there

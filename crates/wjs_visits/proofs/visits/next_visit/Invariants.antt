@@ -1,6 +1,6 @@
 use Rattle.std.proofs.Common.{◌≡◌, ◌≤◌, length}
 use Rattle.wjs_model.specs.Contents.{visits_held}
-use Rattle.wjs_model.specs.Soundness.{IsThere}
+use Rattle.wjs_model.specs.Soundness.{HasItems}
 use Rattle.wjs_visits.proofs.visits.next_visit.Given as goal
 
 -- no visit was taken off
@@ -8,7 +8,7 @@ abbrev pub invariant-loop-item : goal.invariant-loop-item
 invariant-loop-item g l = record {
   same : l.frame ≡ record l.fn.frame { held = l.frame.held };
   rest : visits_held l.frame.held ≡ visits_held l.fn.frame.held;
-  there : IsThere g.S.WorldStore.meaning l.config l.frame;
+  items : HasItems l.config l.frame.held;
   shorter : length l.frame.held ≤ length l.fn.frame.held;
 }
 

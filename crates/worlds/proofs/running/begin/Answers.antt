@@ -1,8 +1,11 @@
-use Rattle.worlds.proofs.Beginnings.{known_later, begins_if}
+use Rattle.worlds.proofs.Beginnings.{known_later, places_later, begins_if}
 use Rattle.worlds.proofs.running.begin.Goals as goal
 
 pub start-requires-clause-script : goal.start-requires-clause-script
 start-requires-clause-script g c = known_later c.args.texts c.library.new.texts c.args.script c.in_ok-library.ensures.grows c.requires.script
+
+pub start-requires-clause-script_places : goal.start-requires-clause-script_places
+start-requires-clause-script_places g c = places_later c.args.texts c.library.new.texts c.args.script c.in_ok-library.ensures.grows c.requires.script c.requires.places
 
 pub returns : goal.returns
 returns g c =

@@ -1,0 +1,6 @@
+use Rattle.std.proofs.Common.{rules}
+use Rattle.wjs_eval_stmt.proofs.Standing.{entered_stands}
+use Rattle.wjs_eval_stmt.proofs.begins.start_jump.Goals as goal
+
+pub enter-requires-clause-part : goal.enter-requires-clause-part
+enter-requires-clause-part g c = entered_stands g.S.WorldStore.meaning c.args.config.now c.args.frame _ c.requires.there (search rules)

@@ -1,0 +1,7 @@
+use Rattle.std.proofs.Common.{inl, inr, refl}
+use Rattle.wjs_tree.specs.declared.node.Node.TheVariants as nodes
+use Rattle.wjs_moves.proofs.Parting.{stands_here}
+use Rattle.wjs_operators.proofs.binary.hold_left.Goals as goal
+
+pub enter-requires-clause-part : goal.enter-requires-clause-part
+enter-requires-clause-part g c = rw c.in_ok-hold.ensures (stands_here g.S.WorldStore.meaning c.args.config.now c.args.frame (nodes.Binary c.args.left c.args.operator c.args.right) c.args.right c.requires.there c.requires.node (inr (inl refl)))
