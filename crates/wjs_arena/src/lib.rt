@@ -8,8 +8,6 @@ mod entry;
 mod native;
 mod object;
 mod rows;
-#[cfg(test)]
-mod tests;
 mod under;
 mod worlds;
 

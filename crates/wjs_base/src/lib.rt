@@ -15,6 +15,3 @@ pub use number::Whole;
 pub use texts::{LONGEST_TEXT, TextFault, Texts};
 pub use unicode::{Utf8Fault, units_of_utf8, utf8_of_units};
 pub use values::{Content, Name, Slot, Value, same_value};
-
-#[cfg(test)]
-mod tests;

@@ -9,6 +9,3 @@ mod convert;
 
 pub use compare::{less_than, loosely_equal, same_content, strictly_equal};
 pub use convert::{is_primitive, to_boolean, to_number, to_text};
-
-#[cfg(test)]
-mod tests;

@@ -201,6 +201,3 @@ pub fn lex(alloc: Global, bytes: &[u8], texts: &mut Texts) -> Result<Vec<Tok>, L
     let chars = characters(alloc, bytes)?;
     read(alloc, &chars, texts)
 }
-
-#[cfg(test)]
-mod tests;

@@ -7,6 +7,3 @@ mod units;
 
 pub use tokens::{LoadFault, Refusal};
 pub use units::{library, load};
-
-#[cfg(test)]
-mod tests;

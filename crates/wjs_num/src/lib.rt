@@ -14,6 +14,3 @@ pub use digits::write_radix;
 pub use laws::digits_are_read_back;
 pub use numerals::{parse_int, read_text};
 pub use power::pow;
-
-#[cfg(test)]
-mod tests;

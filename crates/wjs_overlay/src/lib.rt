@@ -15,6 +15,3 @@ mod overlay;
 mod uncounted;
 
 pub use overlay::Overlay;
-
-#[cfg(test)]
-mod tests;

@@ -9,6 +9,3 @@ mod whole;
 pub use function::function_at;
 pub use list::elements;
 pub use whole::program;
-
-#[cfg(test)]
-mod tests;

@@ -14,6 +14,3 @@ pub use found::{Found, ParseFault};
 pub use functions::Functions;
 pub use look::{has_key, has_sign, token_at};
 pub use parts::Part;
-
-#[cfg(test)]
-mod tests;

@@ -16,6 +16,3 @@ mod variables;
 pub use ends::is_closed;
 pub use parts::{Listed, Piece, push_last};
 pub use stmt::statement;
-
-#[cfg(test)]
-mod tests;

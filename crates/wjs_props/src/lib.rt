@@ -12,8 +12,6 @@ mod listing;
 mod order;
 mod reads;
 mod seen;
-#[cfg(test)]
-mod tests;
 mod visits;
 mod writes;
 

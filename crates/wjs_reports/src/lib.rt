@@ -6,6 +6,3 @@ mod thrown;
 
 pub use lines::world_lines;
 pub use thrown::show_thrown;
-
-#[cfg(test)]
-mod tests;

@@ -113,6 +113,3 @@ impl<K: Ord + Drop, V: Drop> Rows<K, V> {
         rest.next()
     }
 }
-
-#[cfg(test)]
-mod tests;

@@ -4,6 +4,3 @@
 mod script;
 
 pub use script::{Script, read};
-
-#[cfg(test)]
-mod tests;

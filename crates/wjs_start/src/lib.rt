@@ -13,8 +13,6 @@ mod properties;
 mod runs;
 mod script;
 mod slots;
-#[cfg(test)]
-mod tests;
 
 pub use heap::first_heap;
 pub use natives::{Row, row_of};

@@ -26,6 +26,3 @@ pub use laws::{
 };
 pub use run::run_actions;
 pub use store::{Counts, Verdict, WorldStore};
-
-#[cfg(test)]
-mod tests;

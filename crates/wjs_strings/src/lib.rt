@@ -15,6 +15,3 @@ pub use pieces::{Piece, split};
 pub use places::{kept_within, limit_of, or_zero};
 pub use search::{first_from, last_place};
 pub use spelled::{fault_text, function_text, line_of, object_text};
-
-#[cfg(test)]
-mod tests;

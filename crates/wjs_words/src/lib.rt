@@ -10,6 +10,3 @@ mod reading;
 pub use answer::{Options, WordsFault};
 pub use mode::Mode;
 pub use reading::options;
-
-#[cfg(test)]
-mod tests;

@@ -1,7 +1,6 @@
-//! The worked rows of the program: what it writes for its words and its script, and how it ends.
+//! The program where its streams fail or stop at a limit, and over full copies.
 ghost use Rattle.std.specs.Prelude.{◌<◌};
 
-mod asked;
 mod copies;
 mod faults;
 mod limits;
@@ -10,7 +9,6 @@ mod turns;
 
 use crate::command::command;
 use crate::status::Status;
-use crate::tests::scripts::SCRIPTS;
 use std::alloc::{AllocError, Global};
 use std::process::Abort;
 use std::test::Fail;
@@ -118,121 +116,4 @@ fn check(
     assert_eq!(rt; ended.err.as_slice(), err, "{}", run.script);
     assert_eq!(rt; ended.status, status, "{}", run.script);
     Ok(())
-}
-
-#[test]
-fn scripts_that_end_normally(rt: HostRuntime) -> Result<(), Fail> {
-    for (script, out) in SCRIPTS {
-        check(
-            &rt,
-            rt.alloc(),
-            plain(script),
-            out.as_bytes(),
-            b"",
-            Status::Done,
-        )?;
-    }
-    Ok(())
-}
-
-/// Scripts that end otherwise: what comes on out and on err, and the status.
-const OTHER_ENDS: [(&str, &str, &str, Status); 13] = [
-    (
-        "x = 1; w = thisWorld.sprout(); in w { print(x); } x = 5; in w { print(x); } w.commit();",
-        "1\n1\n",
-        "uncaught CommitFailed: commit failed\n",
-        Status::Threw,
-    ),
-    (
-        "in 3 { print(1); }",
-        "",
-        "uncaught TypeError: not a world\n",
-        Status::Threw,
-    ),
-    (
-        "thisWorld.commit();",
-        "",
-        "uncaught TypeError: no parent world\n",
-        Status::Threw,
-    ),
-    (
-        "print(9007199254740991 + 1);",
-        "",
-        "uncaught RangeError: number out of range\n",
-        Status::Threw,
-    ),
-    (
-        "print(7 / 2);",
-        "",
-        "uncaught RangeError: not a whole number\n",
-        Status::Threw,
-    ),
-    (
-        "print(y);",
-        "",
-        "uncaught ReferenceError: y is not defined\n",
-        Status::Threw,
-    ),
-    (
-        "throw new TypeError(\"bad\");",
-        "",
-        "uncaught TypeError: bad\n",
-        Status::Threw,
-    ),
-    ("throw {};", "", "uncaught Object\n", Status::Threw),
-    ("print(1.5);", "", "line 1: not a token\n", Status::Refused),
-    ("x = 1;\n#", "", "line 2: not a token\n", Status::Refused),
-    ("print(\"a", "", "line 1: not a token\n", Status::Refused),
-    ("print(1", "", "syntax error\n", Status::Refused),
-    (
-        "var w = thisWorld.sprout()\nin w { print(1); }",
-        "",
-        "syntax error\n",
-        Status::Refused,
-    ),
-];
-
-#[test]
-fn scripts_that_end_otherwise(rt: HostRuntime) -> Result<(), Fail> {
-    for (script, out, err, status) in OTHER_ENDS {
-        check(
-            &rt,
-            rt.alloc(),
-            plain(script),
-            out.as_bytes(),
-            err.as_bytes(),
-            status,
-        )?;
-    }
-    Ok(())
-}
-
-#[test]
-fn bytes_that_are_no_text(rt: HostRuntime) -> Result<(), Fail> {
-    let run = plain("");
-    assert!(rt; run.source.piece > 0);
-    assert!(rt; run.out.piece > 0);
-    assert!(rt; run.err.piece > 0);
-    let ended = outcome(rt.alloc(), run, &[0xFF])?;
-    assert_eq!(rt; ended.out.as_slice(), b"".as_slice());
-    assert_eq!(rt; ended.err.as_slice(), b"not UTF-8\n".as_slice());
-    assert_eq!(rt; ended.status, Status::Refused);
-    Ok(())
-}
-
-#[test]
-fn numbers_of_statuses(rt: HostRuntime) {
-    for (status, number) in [
-        (Status::Done, 0),
-        (Status::Threw, 1),
-        (Status::StepsSpent, 2),
-        (Status::OutOfMemory, 3),
-        (Status::Refused, 4),
-        (Status::Usage, 5),
-        (Status::ReadFault, 6),
-        (Status::OutFault, 7),
-        (Status::ErrFault, 8),
-    ] {
-        assert_eq!(rt; status.code(), number, "{status:?}");
-    }
 }

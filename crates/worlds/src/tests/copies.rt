@@ -4,6 +4,7 @@ ghost use Rattle.wjs_machine.specs.Runs.{IsPlain};
 
 use super::*;
 use crate::perform::perform_in;
+use crate::tests::scripts::SCRIPTS;
 use wjs_store::{FullStore, WorldStore};
 use wjs_words::{Mode, Options};
 

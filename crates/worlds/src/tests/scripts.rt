@@ -1,4 +1,4 @@
-//! Scripts that end normally, and what they print. They are run by the program and over full copies.
+//! Scripts that end normally, and what they print. They are run over full copies, and by the program as rows of `tests/rows.jsonl`.
 
 /// Scripts on worlds, functions and native functions.
 pub(crate) const SCRIPTS: [(&str, &str); 29] = [

@@ -1,0 +1,5 @@
+//! Tests of `wjs_base` with values from outside.
+#![tactic(auto)]
+
+#[cfg(test)]
+mod base;

@@ -1,4 +1,0 @@
-//! Scripts that are loaded, and bytes that are none.
-
-mod names;
-mod refusals;
