@@ -12,7 +12,7 @@ use Rattle.wjs_meaning.specs.Deeds.{Env}
 use Rattle.wjs_model.specs.declared.unit.Unit.{Unit}
 use Rattle.wjs_model.specs.declared.config.Config.{Config}
 use Rattle.wjs_model.specs.declared.frame.Form.TheVariants as form
-use Rattle.wjs_model.specs.declared.frame.Frame.{Frame}
+use Rattle.wjs_model.specs.declared.frame.Activation.{Activation as Frame}
 use Rattle.wjs_model.specs.Contents.{holding_in}
 use Rattle.wjs_model.specs.Waiting.{after_prefix}
 use Rattle.wjs_moves.specs.Parts.{node_among, node_now, then_at}

@@ -6,7 +6,7 @@ use Rattle.wjs_meaning.specs.Reading.{node_in}
 use Rattle.wjs_meaning.specs.Deeds.{Env, then_number, then_reference}
 use Rattle.wjs_meaning.specs.Expressions as line
 use Rattle.wjs_model.specs.declared.unit.Unit.{Unit}
-use Rattle.wjs_model.specs.declared.frame.Frame.{Frame}
+use Rattle.wjs_model.specs.declared.frame.Activation.{Activation as Frame}
 use Rattle.wjs_model.specs.declared.frame.Held.{Held}
 use Rattle.wjs_model.specs.Contents.{holding_in}
 use Rattle.wjs_model.specs.Waiting.{after}

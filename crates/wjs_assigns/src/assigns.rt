@@ -222,6 +222,6 @@ fn compound_nested<S: WorldStore>(
     let mut held = config.frames.nothing_held();
     held.push(Held::Value(old))?;
     held.push(Held::Value(value))?;
-    let node = frame.node;
+    let node = frame.node();
     nest(config, frame, 2, Form::Expr, node, 1, held)
 }

@@ -169,7 +169,7 @@ fn plus_given<S: WorldStore>(
     requires value { HasValue config.old value }
     ensures { let t = config.new.heap.texts in let env = env_in S.meaning config.old t frame in OnOk result (Follows S.meaning (after_prefix PrefixOperator.Plus frame.place (holding_in t frame.held) env (Gives (value_in t value))) config.old config.new) }
 {
-    if frame.place == 1 {
+    if frame.place() == 1 {
         plus_value(config, frame, operand, value)
     } else {
         plus_primitive(config, &frame, value)
@@ -229,7 +229,7 @@ fn minus_given<S: WorldStore>(
     requires value { HasValue config.old value }
     ensures { let t = config.new.heap.texts in let env = env_in S.meaning config.old t frame in OnOk result (Follows S.meaning (after_prefix PrefixOperator.Minus frame.place (holding_in t frame.held) env (Gives (value_in t value))) config.old config.new) }
 {
-    if frame.place == 1 {
+    if frame.place() == 1 {
         return minus_value(config, frame, operand, value);
     }
     match value {
@@ -290,7 +290,7 @@ fn complement_given<S: WorldStore>(
     requires value { HasValue config.old value }
     ensures { let t = config.new.heap.texts in let env = env_in S.meaning config.old t frame in OnOk result (Follows S.meaning (after_prefix PrefixOperator.BitNot frame.place (holding_in t frame.held) env (Gives (value_in t value))) config.old config.new) }
 {
-    if frame.place == 1 {
+    if frame.place() == 1 {
         return complement_value(config, frame, operand, value);
     }
     match value {

@@ -59,7 +59,7 @@ fn operator_reference<S: WorldStore>(
     requires reference { HasReference config.old reference }
     ensures { let t = config.new.heap.texts in let env = env_in S.meaning config.old t frame in OnOk result (Follows S.meaning (after_operator (node_in t (node_now S.meaning config.old frame)) frame.place (holding_in t frame.held) env (Refers (reference_in t reference))) config.old config.new) }
 {
-    if frame.place == 1 {
+    if frame.place() == 1 {
         target_given(config, frame, reference)
     } else {
         finish(config, &frame, Completion::Refers(reference))
@@ -155,7 +155,7 @@ fn binary_given<S: WorldStore>(
     requires value { HasValue config.old value }
     ensures { let t = config.new.heap.texts in let env = env_in S.meaning config.old t frame in OnOk result (Follows S.meaning (after_operator (trees.Binary left.0 operator right.0) frame.place (holding_in t frame.held) env (Gives (value_in t value))) config.old config.new) }
 {
-    match frame.place {
+    match frame.place() {
         1 => binary_left(config, frame, left, operator, right, value),
         2 => binary_right(config, frame, left, operator, right, value),
         _ => operand_after(config, frame, operator, value),
@@ -179,7 +179,7 @@ fn assign_given<S: WorldStore>(
     requires value { HasValue config.old value }
     ensures { let t = config.new.heap.texts in let env = env_in S.meaning config.old t frame in OnOk result (Follows S.meaning (after.after_assign (compound sign) right.0 frame.place (holding_in t frame.held) env (Gives (value_in t value))) config.old config.new) }
 {
-    match frame.place {
+    match frame.place() {
         1 => finish(config, &frame, Completion::Gives(value)),
         2 => assign_value(config, &frame, value),
         _ => match operator_of(sign) {
@@ -210,7 +210,7 @@ fn compound_given<S: WorldStore>(
     requires value { HasValue config.old value }
     ensures { let t = config.new.heap.texts in let env = env_in S.meaning config.old t frame in OnOk result (Follows S.meaning (after.after_assign (Some operator) right.0 frame.place (holding_in t frame.held) env (Gives (value_in t value))) config.old config.new) }
 {
-    if frame.place == 5 {
+    if frame.place() == 5 {
         return compound_value(config, frame, target, sign, right, operator, value);
     }
     operand_after(config, frame, operator, value)

@@ -152,7 +152,7 @@ pub(crate) fn update_given<S: WorldStore>(
     requires value { HasValue config.old value }
     ensures { let t = config.new.heap.texts in let env = env_in S.meaning config.old t frame.now in OnOk result (Follows S.meaning (after_update (fix_of fix) operator frame.now.place (holding_in t frame.now.held) env (Gives (value_in t value))) config.old config.new) }
 {
-    if frame.place == 1 {
+    if frame.place() == 1 {
         return finish(config, frame, Completion::Gives(value));
     }
     match value {

@@ -8,7 +8,7 @@ use Rattle.wjs_store.specs.Meaning.{Meaning}
 use Rattle.wjs_meaning.specs.Deeds.{St, Env, Goal, Completion, Act, Ret, Eval, Sub, Outcome, Ends, Spent, interp, then_do}
 use Rattle.wjs_meaning.specs.Programs.{Done, run_next, eval}
 use Rattle.wjs_model.specs.declared.config.Config.{Config}
-use Rattle.wjs_model.specs.declared.frame.Frame.{Frame as NumberedFrame}
+use Rattle.wjs_model.specs.declared.frame.Activation.{Activation as NumberedFrame}
 use Rattle.wjs_model.specs.Contents.{Frame, Run}
 use Rattle.wjs_model.specs.Rest.{under}
 use Rattle.wjs_model.specs.Configurations.{seen, tells, run_in, state_in, frames_in}

@@ -130,6 +130,14 @@ module _ (t : Table) (node : NumberedNode) (f : Form) (here : ℕ) (env : Env) (
       ap (λ (i : ℕ). switch_cases v all (drop i all) env) k
       ∙ sym (ap (λ (l : List (Option ℕ × List ℕ)). after_case v all l env w) r.1 ∙ ap (λ (b : Bool). case_if v r.0 (drop (suc at) all) b) e)
 
+  -- after the value of a case that is the `switch`'s
+  pub case_met : (v w : Value) (at : ℕ) → at < length (clauses_in node) → strictly_equal v w ≡ true → switch_from (statements_of (drop at all)) env ≡ after_case v all (drop at all) env w
+  unfolding case_if
+  case_met v w at h e =
+      let r = rest_at at h in
+      ap (λ (l : List (Option ℕ × List ℕ)). switch_from (statements_of l) env) r.1
+      ∙ sym (ap (λ (l : List (Option ℕ × List ℕ)). after_case v all l env w) r.1 ∙ ap (λ (b : Bool). case_if v r.0 (drop (suc at) all) b) e)
+
 -- at a place behind the first
 pub place_statement : (clauses : List (Option ℕ × List ℕ)) (place : ℕ) (vs : List Value) (env : Env) (c : Completion) → (place ≡ 1 → ⊥) → vs ≡ [] → switch_next (switch_from (drop (place - 1) (statements_of clauses)) env) c ≡ after_switch clauses place vs env c
 place_statement clauses zero vs env c h e = sym (ap (λ (l : List Value). after_switch clauses zero l env c) e)

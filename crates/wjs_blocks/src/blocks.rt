@@ -62,7 +62,7 @@ pub fn block_next<S: WorldStore>(
 {
     match completion {
         Completion::Normal => {
-            let at = frame.place;
+            let at = frame.place();
             block(config, frame, at)
         }
         other => finish(config, &frame, other),

@@ -1,5 +1,5 @@
 //! Parts that are entered elsewhere than where the frame is run.
-ghost use Rattle.std.specs.Prelude.{◌≡◌, [], Some, OnOk};
+ghost use Rattle.std.specs.Prelude.{◌≡◌, [], Some, IfOk, OnOk};
 ghost use Rattle.wjs_arena.specs.Entries.{scope_of};
 ghost use Rattle.wjs_meaning.specs.Deeds.{Eval, Ret};
 ghost use Rattle.wjs_model.specs.Soundness.{Base, IsThere, HasObject, HasWorld, StandsHere};
@@ -7,26 +7,28 @@ ghost use Rattle.wjs_model.specs.Standing.{Stands, IsShown};
 ghost use Rattle.wjs_moves.specs.Parts.{env_in, then_at, goal_of, node_of};
 ghost use Rattle.wjs_moves.specs.Following.{Follows};
 
+use std::alloc::Global;
 use wjs_base::{ObjId, OutOfMemory, WorldId};
-use wjs_model::{Config, Frame, Items, State};
+use wjs_model::{Activation, Config, Frame, Items, State};
 use wjs_moves::{Part, enter_last, wait};
 use wjs_store::WorldStore;
 
-/// The frame without what it holds, for a part that is run in another scope or world.
-fn like(frame: &Frame, scope: ObjId, world: WorldId, held: Items) -> Frame
-    ensures { result ≡ record frame.now { scope = scope; world = world; held = held } }
+/// The frame without what it holds, for a part that is run in another scope.
+fn like(alloc: Global, frame: &Frame, scope: ObjId, held: Items) -> Result<Frame, OutOfMemory>
+    ensures { IfOk result (λ inner. inner ≡ record frame.now { scope = scope; held = held }) }
 {
-    Frame {
-        form: frame.form,
-        tree: frame.tree,
-        node: frame.node,
-        place: frame.place,
-        phase: frame.phase,
+    let activation = Activation {
+        form: frame.form(),
+        tree: frame.tree(),
+        node: frame.node(),
+        place: frame.place(),
+        phase: frame.phase(),
         scope,
-        this: frame.this,
-        world,
+        this: frame.this(),
+        world: frame.world(),
         held,
-    }
+    };
+    Frame::new(alloc, activation)
 }
 
 /// The frame waits at a place for a part, which is entered in a scope inside the frame's.
@@ -45,7 +47,8 @@ pub(crate) fn enter_in<S: WorldStore>(
     requires part { Stands config.old.units.items config.old.heap.arena frame.tree (node_of part) scope 0 }
     ensures { let t = config.new.heap.texts in let env = env_in S.meaning config.old t frame in OnOk result (Follows S.meaning (Eval (goal_of part) (record env { scope = scope }) (then_at S.meaning config.old frame place t env)) config.old config.new) }
 {
-    let inner = like(&frame, scope, frame.world, config.frames.nothing_held());
+    let alloc = config.heap.arena.allocator();
+    let inner = like(alloc, &frame, scope, config.frames.nothing_held())?;
     wait(config, frame, place)?;
     enter_last(config, &inner, part)
 }
@@ -66,6 +69,6 @@ pub(crate) fn enter_within<S: WorldStore>(
     ensures { let t = config.new.heap.texts in let env = env_in S.meaning config.old t frame in OnOk result (Follows S.meaning (Eval (goal_of part) (record env { world = world }) Ret) config.old config.new) }
 {
     let mut frame = frame;
-    frame.world = world;
+    frame.set_world(world);
     enter_last(config, &frame, part)
 }

@@ -18,7 +18,7 @@ pub(crate) fn take_earliest<S: WorldStore>(config: &Config<S>, frame: &mut Frame
 {
     let _config = config;
     let mut first = None;
-    while let Some(item) = frame.held.pop() {
+    while let Some(item) = frame.pop() {
         if let Held::Value(value) = item {
             first = Some(value);
         }

@@ -118,7 +118,7 @@ fn switch_value<S: WorldStore>(
     ensures { let t = config.new.heap.texts in let env = env_in S.meaning config.old t frame in OnOk result (Follows S.meaning (switch_value (clauses_of (node_in t (node_now S.meaning config.old frame))) env (value_in t value)) config.old config.new) }
 {
     let mut frame = frame;
-    frame.held = config.frames.nothing_held();
+    frame.set_held(config.frames.nothing_held());
     cases_from(config, frame, 0, value)
 }
 
@@ -139,7 +139,7 @@ fn case_value<S: WorldStore>(
     requires other { HasValue config.old other }
     ensures { let t = config.new.heap.texts in let env = env_in S.meaning config.old t frame in let all = clauses_of (node_in t (node_now S.meaning config.old frame)) in OnOk result (Follows S.meaning (after_case (value_in t value) all (drop (frame.place - 2) all) env (value_in t other)) config.old config.new) }
 {
-    let at = frame.place.saturating_sub(2) as usize;
+    let at = frame.place().saturating_sub(2) as usize;
     if at >= clauses_of(config, &frame).len() {
         finish(config, &frame, Completion::Normal)
     } else if strictly_equal(config, value, other) {
@@ -166,7 +166,7 @@ fn statement_next<S: WorldStore>(
 {
     match completion {
         Completion::Normal => {
-            let at = frame.place.saturating_sub(1);
+            let at = frame.place().saturating_sub(1);
             statements_from(config, frame, at)
         }
         Completion::Breaks(None) => finish(config, &frame, Completion::Normal),
@@ -188,7 +188,7 @@ pub fn switch_next<S: WorldStore>(
     requires completion { HasCompletion config.old completion }
     ensures { let t = config.new.heap.texts in let env = env_in S.meaning config.old t frame in OnOk result (Follows S.meaning (after_switch (clauses_of (node_in t (node_now S.meaning config.old frame))) frame.place (holding_in t frame.held).values env (completion_in t completion)) config.old config.new) }
 {
-    match frame.place {
+    match frame.place() {
         1 => match completion {
             Completion::Gives(value) => switch_value(config, frame, value),
             other => finish(config, &frame, other),

@@ -60,7 +60,7 @@ fn finally_next<S: WorldStore>(
 {
     match completion {
         Completion::Normal => {
-            let earlier = frame.held.earlier();
+            let earlier = frame.earlier();
             finish(config, &frame, earlier)
         }
         other => finish(config, &frame, other),
@@ -108,7 +108,7 @@ fn catch<S: WorldStore>(
     requires value { HasValue config.old value }
     ensures { let t = config.new.heap.texts in let env = env_in S.meaning config.old t frame in OnOk result (Follows S.meaning (try_catch (text_in t handler.name) handler.block.0 (number f) env (value_in t value)) config.old config.new) }
 {
-    let scope = create_scope(config, frame.scope)?;
+    let scope = create_scope(config, frame.scope())?;
     let name = name_of(config, handler.name);
     write(config, &frame, scope, name, value)?;
     enter_in(config, frame, 2, scope, Part::Stmt(handler.block))
@@ -131,7 +131,7 @@ pub fn try_next<S: WorldStore>(
     requires completion { HasCompletion config.old completion }
     ensures { let t = config.new.heap.texts in let env = env_in S.meaning config.old t frame in OnOk result (Follows S.meaning (after_try (option_map (handler_in t) handler) (number f) frame.place (holding_in t frame.held) env (completion_in t completion)) config.old config.new) }
 {
-    match frame.place {
+    match frame.place() {
         1 => block_next(config, frame, b, handler, f, completion),
         2 => finally_start(config, frame, b, handler, f, completion),
         _ => finally_next(config, frame, completion),

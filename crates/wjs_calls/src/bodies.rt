@@ -15,11 +15,11 @@ use wjs_model::{Config, Frame};
 use wjs_store::WorldStore;
 use wjs_tree::{Node, NodeId};
 
-/// A node of a tree; none where there is none, which the meaning takes for an empty statement.
-fn node_at<'a, S: WorldStore>(config: &'a Config<S>, tree: u32, id: NodeId) -> Option<&'a Node>
-    ensures { MatchOption result (node_among config.now.units.items tree id ≡ Node.Empty) (λ node. node_among config.now.units.items tree id ≡ node.now) }
+/// A node of the frame's tree; none where there is none, which the meaning takes for an empty statement.
+fn node_at<'a, S: WorldStore>(config: &'a Config<S>, frame: &Frame, id: NodeId) -> Option<&'a Node>
+    ensures { MatchOption result (node_among config.now.units.items frame.now.tree id ≡ Node.Empty) (λ node. node_among config.now.units.items frame.now.tree id ≡ node.now) }
 {
-    match config.units.get(tree as usize) {
+    match config.units.get(frame.tree() as usize) {
         Some(unit) => unit.node(id),
         None => None,
     }
@@ -29,7 +29,7 @@ fn node_at<'a, S: WorldStore>(config: &'a Config<S>, tree: u32, id: NodeId) -> O
 pub(crate) fn formals_count<S: WorldStore>(config: &Config<S>, frame: &Frame, id: NodeId) -> usize
     ensures { (t : Table) → length (formals_of (node_here (env_in S.meaning config.now t frame.now) id.0)) ≡ result }
 {
-    match node_at(config, frame.tree, id) {
+    match node_at(config, frame, id) {
         Some(node) => count_of(node),
         None => 0,
     }
@@ -51,7 +51,7 @@ pub fn own_name<S: WorldStore>(config: &Config<S>, frame: &Frame, id: NodeId) ->
     ensures is { (t : Table) → name_of (node_here (env_in S.meaning config.now t frame.now) id.0) ≡ option_map (text_in t) result }
     ensures found { known.HasText config.now.heap.texts result }
 {
-    match node_at(config, frame.tree, id) {
+    match node_at(config, frame, id) {
         Some(node) => name_in_node(node),
         None => None,
     }

@@ -1,5 +1,5 @@
 //! Calls (ECMA-262, 3rd edition, sections 10.2.3, 11.2.3 and 13.2.1).
-ghost use Rattle.std.specs.Prelude.{◌≡◌, OnOk};
+ghost use Rattle.std.specs.Prelude.{◌≡◌, IfOk, OnOk};
 ghost use Rattle.wjs_content.specs.Tables.{value_in};
 ghost use Rattle.wjs_meaning.specs.Calls as line;
 ghost use Rattle.wjs_meaning.specs.Deeds.{Sub};
@@ -12,11 +12,12 @@ ghost use Rattle.wjs_moves.specs.Parts.{env_in, then_at};
 ghost use Rattle.wjs_moves.specs.Following.{Follows};
 
 use crate::enters::{enter_body, enter_native};
+use std::alloc::Global;
 use wjs_arena::{Code, Native};
 use wjs_base::{ObjId, OutOfMemory, Value};
 use wjs_deeds::{code_of, function_of};
 use wjs_lines::{held_callee, this_or_global, throw, to_object};
-use wjs_model::{Completion, Config, Form, Frame, Items, Phase, State, Trouble};
+use wjs_model::{Activation, Completion, Config, Form, Frame, Items, Phase, State, Trouble};
 use wjs_moves::{finish, wait};
 use wjs_store::WorldStore;
 
@@ -131,24 +132,26 @@ pub fn call_below<S: WorldStore>(
     requires items { HasItems config.old items }
     ensures { let t = config.new.heap.texts in let env = env_in S.meaning config.old t frame in OnOk result (Follows S.meaning (Sub (line.call function (value_in t this) (holding_in t items).values env) (then_at S.meaning config.old frame place t env)) config.old config.new) }
 {
-    let above = frame_above(&frame, items);
+    let alloc = config.heap.arena.allocator();
+    let above = frame_above(alloc, &frame, items)?;
     wait(config, frame, place)?;
     call(config, above, function, this)
 }
 
 /// A frame of a call where another frame is run.
-fn frame_above(at: &Frame, held: Items) -> Frame
-    ensures { result ≡ record at.now { form = Form.Call; place = 0; phase = Phase.Ready; held = held } }
+fn frame_above(alloc: Global, at: &Frame, held: Items) -> Result<Frame, OutOfMemory>
+    ensures { IfOk result (λ frame. frame ≡ record at.now { form = Form.Call; place = 0; phase = Phase.Ready; held = held }) }
 {
-    Frame {
+    let activation = Activation {
         form: Form::Call,
-        tree: at.tree,
-        node: at.node,
+        tree: at.tree(),
+        node: at.node(),
         place: 0,
         phase: Phase::Ready,
-        scope: at.scope,
-        this: at.this,
-        world: at.world,
+        scope: at.scope(),
+        this: at.this(),
+        world: at.world(),
         held,
-    }
+    };
+    Frame::new(alloc, activation)
 }

@@ -29,8 +29,7 @@ pub fn enter_body<S: WorldStore>(
 {
     let mut frame = frame;
     hold(&mut frame, Held::Callee(Value::Object(function), this))?;
-    frame.form = Form::Body;
-    frame.this = this;
+    frame.set_call(Form::Body, this);
     due_later(config, frame, 0)
 }
 
@@ -49,8 +48,7 @@ pub fn enter_native<S: WorldStore>(
 {
     let mut frame = frame;
     hold(&mut frame, Held::Callee(Value::Undefined, this))?;
-    frame.form = Form::Native(native);
-    frame.this = this;
+    frame.set_call(Form::Native(native), this);
     due_later(config, frame, 0)
 }
 
@@ -67,7 +65,6 @@ pub fn enter_constructor<S: WorldStore>(
 {
     let mut frame = frame;
     hold(&mut frame, Held::ByNew)?;
-    frame.form = Form::Native(native);
-    frame.this = Value::Undefined;
+    frame.set_call(Form::Native(native), Value::Undefined);
     due_later(config, frame, 0)
 }

@@ -59,7 +59,7 @@ pub fn make_function<S: WorldStore>(
     ensures found { IfOk result (λ o. HasObject config.new o) }
 {
     match name {
-        None => make_function_in(config, frame, body, frame.scope),
+        None => make_function_in(config, frame, body, frame.scope()),
         Some(name) => make_named(config, frame, body, name),
     }
 }
@@ -142,7 +142,7 @@ fn declare_function<S: WorldStore>(
     ensures does { OnOk result (DoesFirst S.meaning (λ t. declare_one function.0 holder (env_in S.meaning config.old t frame.now)) config.old config.new) }
     ensures later { OnOk result (Later S.meaning config.old config.new) }
 {
-    let made = make_function_in(config, frame, function, frame.scope)?;
+    let made = make_function_in(config, frame, function, frame.scope())?;
     let name = own_name(config, frame, function);
     declare_as(config, frame, holder, made, name)
 }

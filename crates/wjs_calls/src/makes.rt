@@ -84,7 +84,7 @@ pub(crate) fn function_object<S: WorldStore>(
     let mut object = object_of(alloc, Class::Function, Some(prototype));
     object.scope = Some(scope);
     object.code = Code::Script {
-        tree: frame.tree,
+        tree: frame.tree(),
         node: Body(body.0),
     };
     object.fixed = fixed;

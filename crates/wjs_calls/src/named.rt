@@ -46,7 +46,7 @@ pub(crate) fn create_named<S: WorldStore>(
         serial,
     };
     let alloc = config.heap.arena.allocator();
-    let named = scope_of_name(alloc, frame.scope, name, function)?;
+    let named = scope_of_name(alloc, frame.scope(), name, function)?;
     let object = function_object(config, frame, body, scope, names)?;
     create_pair(config, named, object)
 }

@@ -123,8 +123,7 @@ fn construct_on<S: WorldStore>(
     let alloc = config.heap.arena.allocator();
     let object = create(config, object_of(alloc, Class::Plain, Some(prototype)))?;
     let mut frame = frame;
-    let arguments = frame.held;
-    frame.held = config.frames.nothing_held();
+    let arguments = frame.replace_held(config.frames.nothing_held());
     hold(&mut frame, Held::Value(Value::Object(object)))?;
     call_below(config, frame, 2, function, Value::Object(object), arguments)
 }

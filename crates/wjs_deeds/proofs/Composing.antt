@@ -9,7 +9,7 @@ use Rattle.wjs_content.specs.Objects.{Internals}
 use Rattle.wjs_content.specs.Values.{Value, Object}
 use Rattle.wjs_meaning.specs.Deeds.{Env, Act, Ret, Do, Create, Throws}
 use Rattle.wjs_model.specs.declared.config.Config.{Config}
-use Rattle.wjs_model.specs.declared.frame.Frame.{Frame}
+use Rattle.wjs_model.specs.declared.frame.Activation.{Activation as Frame}
 use Rattle.wjs_model.specs.Units.{unit_in}
 use Rattle.wjs_model.specs.Contents.{env_of, frame_in}
 use Rattle.wjs_moves.specs.Doing.{Does, Fails, DoesFirst, FailsFirst}

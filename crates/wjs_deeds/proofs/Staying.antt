@@ -39,7 +39,7 @@ use Rattle.wjs_model.specs.declared.frame.Held.{Held}
 use Rattle.wjs_model.specs.declared.frame.Held.TheVariants as holds
 use Rattle.wjs_model.specs.declared.frame.Phase.{Phase}
 use Rattle.wjs_model.specs.declared.frame.Phase.TheVariants as phases
-use Rattle.wjs_model.specs.declared.frame.Frame.{Frame}
+use Rattle.wjs_model.specs.declared.frame.Activation.{Activation as Frame}
 use Rattle.wjs_model.specs.declared.config.Config.{Config}
 use Rattle.wjs_model.specs.Soundness.{HasObject, HasName, HasValue, HasSlot, HasLabel, HasReference, HasCompletion, HasItem, HasItems, HasPhase, HasWorld, IsThere, Base}
 use Rattle.wjs_model.specs.Standing.{FunctionStands, FrameStands}

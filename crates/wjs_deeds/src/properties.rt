@@ -30,7 +30,7 @@ pub fn get<S: WorldStore>(
     ensures later { OnOk result (Later S.meaning config.old config.new) }
     ensures found { IfOk result (λ found. HasContent config.new found) }
 {
-    let found = wjs_props::get(&mut config.heap, frame.world, object, name)?;
+    let found = wjs_props::get(&mut config.heap, frame.world(), object, name)?;
     Ok(found)
 }
 
@@ -70,7 +70,7 @@ pub fn has<S: WorldStore>(
     ensures does { IfOk result (λ answer. Does S.meaning (λ t. line.has object (name_in t name) (env_in S.meaning config.old t frame.now)) (λ t. answer) config.old config.new) }
     ensures later { OnOk result (Later S.meaning config.old config.new) }
 {
-    let answer = wjs_props::has(&mut config.heap, frame.world, object, name)?;
+    let answer = wjs_props::has(&mut config.heap, frame.world(), object, name)?;
     Ok(answer)
 }
 
@@ -90,7 +90,7 @@ pub fn put<S: WorldStore>(
     ensures does { IfOk result (λ answer. Does S.meaning (λ t. line.put object (name_in t name) (value_in t value) (env_in S.meaning config.old t frame.now)) (λ t. answer) config.old config.new) }
     ensures later { OnOk result (Later S.meaning config.old config.new) }
 {
-    let answer = wjs_props::put(&mut config.heap, frame.world, object, name, value)?;
+    let answer = wjs_props::put(&mut config.heap, frame.world(), object, name, value)?;
     Ok(answer)
 }
 
@@ -108,7 +108,7 @@ pub fn delete<S: WorldStore>(
     ensures does { IfOk result (λ answer. Does S.meaning (λ t. line.delete object (name_in t name) (env_in S.meaning config.old t frame.now)) (λ t. answer) config.old config.new) }
     ensures later { OnOk result (Later S.meaning config.old config.new) }
 {
-    let answer = wjs_props::delete(&mut config.heap, frame.world, object, name)?;
+    let answer = wjs_props::delete(&mut config.heap, frame.world(), object, name)?;
     Ok(answer)
 }
 
@@ -125,6 +125,6 @@ pub fn visits<S: WorldStore>(
     ensures later { OnOk result (Later S.meaning config.old config.new) }
     ensures found { IfOk result (λ visits. Holds (HasVisit config.new) visits) }
 {
-    let visits = wjs_props::list_names(&mut config.heap, frame.world, object)?;
+    let visits = wjs_props::list_names(&mut config.heap, frame.world(), object)?;
     Ok(visits)
 }

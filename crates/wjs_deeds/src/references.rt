@@ -41,7 +41,7 @@ pub fn reference_at<S: WorldStore>(
     let name = name_of(config, id);
     match place {
         Place::Global => Reference::Global(name),
-        Place::Local { hops } => Reference::Local(scope_up(config, frame.scope, hops), name),
+        Place::Local { hops } => Reference::Local(scope_up(config, frame.scope(), hops), name),
     }
 }
 

@@ -28,7 +28,7 @@ pub fn read_content<S: WorldStore>(
     ensures later { OnOk result (Later S.meaning config.old config.new) }
     ensures found { IfOk result (λ found. HasContent config.new found) }
 {
-    let found = wjs_props::read(&mut config.heap, frame.world, Slot { object, name })?;
+    let found = wjs_props::read(&mut config.heap, frame.world(), Slot { object, name })?;
     Ok(found)
 }
 
@@ -72,7 +72,7 @@ pub fn write<S: WorldStore>(
 {
     wjs_props::write(
         &mut config.heap,
-        frame.world,
+        frame.world(),
         Slot { object, name },
         Content::Present(value),
     )?;

@@ -18,7 +18,7 @@ use Rattle.wjs_content.specs.Values.{Text, Value, Undefined}
 use Rattle.wjs_props.specs.Means.{nothing}
 use Rattle.wjs_meaning.specs.Deeds.{Act, Do, Read, Write}
 use Rattle.wjs_model.specs.declared.config.Config.{Config}
-use Rattle.wjs_model.specs.declared.frame.Frame.{Frame}
+use Rattle.wjs_model.specs.declared.frame.Activation.{Activation as Frame}
 use Rattle.wjs_moves.specs.Doing.{Does, DoesFirst}
 use Rattle.wjs_moves.specs.Following.{Follows, Later}
 use Rattle.wjs_moves.specs.Parts.{env_in}

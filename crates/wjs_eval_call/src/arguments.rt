@@ -228,7 +228,7 @@ pub(crate) fn fill_scope<S: WorldStore>(
     ensures does { OnOk result (DoesFirst S.meaning (λ t. arguments_written (map (text_in t) declared.now.formals) (numbers declared.now.functions) (map (text_in t) others.now) function (map (value_in t) values.now) (env_in S.meaning config.old t frame.now)) config.old config.new) }
     ensures later { OnOk result (Later S.meaning config.old config.new) }
 {
-    let scope = frame.scope;
+    let scope = frame.scope();
     let arguments = create_arguments(config, values)?;
     write_arguments(config, frame, arguments, function, values)?;
     write_known(

@@ -112,14 +112,13 @@ fn begin_scope<S: WorldStore>(
     ensures { let t = config.new.heap.texts in OnOk result (Follows S.meaning (line.body_scopes node.0 scope function (holding_in t frame.held).values (record (env_in S.meaning config.old t frame) { tree = tree })) config.old config.new) }
 {
     let alloc = config.heap.arena.allocator();
-    let values = frame.held.values(alloc)?;
+    let values = frame.values(alloc)?;
     let mut frame = frame;
-    frame.tree = tree;
-    frame.node = node;
+    frame.set_node(tree, node);
     let declared = declared_at(config, &frame)?;
     let others = other_variables(config, &frame, &declared)?;
     let inner = create_scope(config, scope)?;
-    frame.scope = inner;
+    frame.set_scope(inner);
     hold(&mut frame, Held::Begun)?;
     fill_scope(
         config,
@@ -145,7 +144,7 @@ pub(crate) fn after_body<S: WorldStore>(
     requires completion { HasCompletion config.old completion }
     ensures { let t = config.new.heap.texts in OnOk result (Follows S.meaning (waits.after_body_of (holding_in t frame.held).begun frame.place (node_in t (node_now S.meaning config.old frame)) (env_in S.meaning config.old t frame) (completion_in t completion)) config.old config.new) }
 {
-    if frame.held.begun() {
+    if frame.begun() {
         after_element(config, frame, completion)
     } else {
         after_program(config, frame, completion)
@@ -168,7 +167,7 @@ fn after_element<S: WorldStore>(
 {
     match completion {
         Completion::Normal => {
-            let place = frame.place;
+            let place = frame.place();
             run_body(config, frame, place)
         }
         Completion::Returns(value) => finish(config, &frame, Completion::Gives(value)),

@@ -37,8 +37,8 @@ pub(crate) fn declared_at<S: WorldStore>(
     ensures variables_found { IfOk result (λ d. All (Has config.now.heap.texts) d.variables) }
 {
     let alloc = config.heap.arena.allocator();
-    match config.units.get(frame.tree as usize) {
-        Some(unit) => declared(alloc, unit, frame.node),
+    match config.units.get(frame.tree() as usize) {
+        Some(unit) => declared(alloc, unit, frame.node()),
         None => Ok(nothing_declared(alloc)),
     }
 }
@@ -116,7 +116,7 @@ pub(crate) fn program_body<S: WorldStore>(config: &Config<S>, frame: &Frame) -> 
     ensures is { (t : Table) → (tree_here (env_in S.meaning config.now t frame.now)).body ≡ result.0 }
     ensures body { (u : Program) → slice_get config.now.units.items frame.now.tree ≡ Some u → result ≡ u.program.body }
 {
-    match config.units.get(frame.tree as usize) {
+    match config.units.get(frame.tree() as usize) {
         Some(unit) => unit.program.body,
         None => NodeId(0),
     }

@@ -113,7 +113,7 @@ pub(crate) fn after_method<S: WorldStore>(
         return finish(config, &frame, Completion::Gives(value));
     };
     let held = held_value(config, &frame);
-    match (held, frame.place) {
+    match (held, frame.place()) {
         (Value::Object(object), 1) => try_second(config, frame, conversion, object),
         _ => throw(config, &frame, Trouble::NoPrimitiveValue),
     }

@@ -32,8 +32,10 @@ pub(crate) fn begin_program<S: WorldStore>(
     ensures { let t = config.new.heap.texts in OnOk result (Follows S.meaning (line.program_of (env_in S.meaning config.old t frame)) config.old config.new) }
 {
     let mut frame = frame;
-    frame.node = program_body(config, &frame);
-    frame.held = config.frames.nothing_held();
+    let body = program_body(config, &frame);
+    let tree = frame.tree();
+    frame.set_node(tree, body);
+    frame.set_held(config.frames.nothing_held());
     declare_program(config, &frame)?;
     run_program(config, frame, 0)
 }
@@ -52,7 +54,7 @@ pub(crate) fn after_program<S: WorldStore>(
     requires completion { HasCompletion config.old completion }
     ensures { let t = config.new.heap.texts in OnOk result (Follows S.meaning (waits.after_body_of (holding_in t frame.held).begun frame.place (node_in t (node_now S.meaning config.old frame)) (env_in S.meaning config.old t frame) (completion_in t completion)) config.old config.new) }
 {
-    if frame.place == 0 {
+    if frame.place() == 0 {
         next_program(config, frame, completion)
     } else {
         after_element(config, frame, completion)
@@ -75,7 +77,7 @@ fn after_element<S: WorldStore>(
 {
     match completion {
         Completion::Normal => {
-            let place = frame.place;
+            let place = frame.place();
             run_program(config, frame, place)
         }
         _ => finish(config, &frame, completion),
@@ -110,7 +112,7 @@ fn enter_program<S: WorldStore>(config: &mut Config<S>, frame: Frame) -> Result<
     ensures { let t = config.new.heap.texts in OnOk result (Follows S.meaning (Eval AtProgram (env_in S.meaning config.old t frame) Ret) config.old config.new) }
 {
     let mut frame = frame;
-    frame.held = config.frames.nothing_held();
+    frame.set_held(config.frames.nothing_held());
     due_later(config, frame, 0)
 }
 

@@ -36,7 +36,7 @@ fn begin<S: WorldStore>(config: &mut Config<S>, frame: Frame) -> Result<(), OutO
     requires turn { turn_of_form frame.form ≡ Turn.Call }
     ensures { let t = config.new.heap.texts in OnOk result (Follows S.meaning (begins_at S.meaning config.old frame frame.place t (env_in S.meaning config.old t frame)) config.old config.new) }
 {
-    match frame.form {
+    match frame.form() {
         Form::Body => begin_body(config, frame),
         Form::Convert(conversion) => begin_conversion(config, frame, conversion),
         Form::Call => call_if(config, frame),
@@ -57,7 +57,7 @@ fn resume<S: WorldStore>(
     requires turn { turn_of_form frame.form ≡ Turn.Call }
     ensures { let t = config.new.heap.texts in OnOk result (Follows S.meaning (then_at S.meaning config.old frame frame.place t (env_in S.meaning config.old t frame) (completion_in t completion)) config.old config.new) }
 {
-    match frame.form {
+    match frame.form() {
         Form::Body => after_body(config, frame, completion),
         Form::Convert(conversion) => after_conversion(config, frame, conversion, completion),
         Form::Call => finish(config, &frame, completion),

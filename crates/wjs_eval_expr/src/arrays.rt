@@ -106,7 +106,7 @@ fn array_write<S: WorldStore>(
     requires value { HasValue config.old value }
     ensures { let t = config.new.heap.texts in let env = env_in S.meaning config.old t frame in OnOk result (Follows S.meaning (after.array_item (each number (items_of (node_now S.meaning config.old frame))) (frame.place - 1) (holding_in t frame.held) env (value_in t value)) config.old config.new) }
 {
-    let at = frame.place.saturating_sub(1);
+    let at = frame.place().saturating_sub(1);
     let next = place_after(at, 1)?;
     write(config, &frame, array, Name::Index(at), value)?;
     array_next(config, frame, array, next)

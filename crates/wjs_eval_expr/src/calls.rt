@@ -81,7 +81,7 @@ fn call_target<S: WorldStore>(
     requires reference { HasReference config.old reference }
     ensures { let t = config.new.heap.texts in let env = env_in S.meaning config.old t frame in OnOk result (Follows S.meaning (after_call (numbers (arguments_of (node_now S.meaning config.old frame))) frame.place (holding_in t frame.held) env (Refers (reference_in t reference))) config.old config.new) }
 {
-    match frame.place {
+    match frame.place() {
         1 => call_reference(config, frame, reference),
         _ => finish(config, &frame, Completion::Refers(reference)),
     }
@@ -101,7 +101,7 @@ fn call_part<S: WorldStore>(
     requires value { HasValue config.old value }
     ensures { let t = config.new.heap.texts in let env = env_in S.meaning config.old t frame in OnOk result (Follows S.meaning (after_call (numbers (arguments_of (node_now S.meaning config.old frame))) frame.place (holding_in t frame.held) env (Gives (value_in t value))) config.old config.new) }
 {
-    match frame.place {
+    match frame.place() {
         1 => finish(config, &frame, Completion::Gives(value)),
         2 => call_callee(config, frame, value, Value::Undefined),
         _ => call_argument(config, frame, value),
@@ -162,7 +162,7 @@ fn call_callee<S: WorldStore>(
     ensures { let t = config.new.heap.texts in let env = env_in S.meaning config.old t frame in OnOk result (Follows S.meaning (line.call_callee (numbers (arguments_of (node_now S.meaning config.old frame))) (value_in t this) env (value_in t callee)) config.old config.new) }
 {
     let mut frame = frame;
-    frame.held = config.frames.nothing_held();
+    frame.set_held(config.frames.nothing_held());
     hold(&mut frame, Held::Callee(callee, this))?;
     call_next(config, frame, 0)
 }
@@ -181,7 +181,7 @@ fn call_argument<S: WorldStore>(
     requires value { HasValue config.old value }
     ensures { let t = config.new.heap.texts in let env = env_in S.meaning config.old t frame in OnOk result (Follows S.meaning (after.call_argument (numbers (arguments_of (node_now S.meaning config.old frame))) (frame.place - 3) (holding_in t frame.held) env (value_in t value)) config.old config.new) }
 {
-    let at = frame.place.saturating_sub(3);
+    let at = frame.place().saturating_sub(3);
     let next = place_after(at, 1)?;
     let mut frame = frame;
     hold(&mut frame, Held::Value(value))?;

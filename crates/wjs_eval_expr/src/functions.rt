@@ -29,6 +29,6 @@ pub(crate) fn function_start<S: WorldStore>(
     requires stands { StandsNamed config.old.units.items config.old.heap.arena frame.now.tree frame.now.node frame.now.scope name }
     ensures { let t = config.new.heap.texts in let env = env_in S.meaning config.old t frame.now in OnOk result (Follows S.meaning (line.make_function frame.now.node.0 (label_in t name) env (λ f. give (Object f))) config.old config.new) }
 {
-    let function = make_function(config, frame, frame.node, name)?;
+    let function = make_function(config, frame, frame.node(), name)?;
     finish(config, frame, Completion::Gives(Value::Object(function)))
 }

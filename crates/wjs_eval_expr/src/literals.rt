@@ -38,7 +38,7 @@ pub(crate) fn this<S: WorldStore>(config: &mut Config<S>, frame: &Frame) -> Resu
     requires there { IsThere S.meaning config.old frame.now }
     ensures { let t = config.new.heap.texts in let env = env_in S.meaning config.old t frame.now in OnOk result (Follows S.meaning (give env.this) config.old config.new) }
 {
-    finish(config, frame, Completion::Gives(frame.this))
+    finish(config, frame, Completion::Gives(frame.this()))
 }
 
 /// `thisWorld`: the object of the frame's world.
@@ -51,7 +51,7 @@ pub(crate) fn this_world<S: WorldStore>(
     requires there { IsThere S.meaning config.old frame.now }
     ensures { let t = config.new.heap.texts in let env = env_in S.meaning config.old t frame.now in OnOk result (Follows S.meaning (Do Look (λ arena. line.give_world (objects.world_object arena env.world))) config.old config.new) }
 {
-    let found = world_object(config, frame.world);
+    let found = world_object(config, frame.world());
     give_world(config, frame, found)
 }
 

@@ -72,7 +72,7 @@ fn new_part<S: WorldStore>(
     requires value { HasValue config.old value }
     ensures { let t = config.new.heap.texts in let env = env_in S.meaning config.old t frame in OnOk result (Follows S.meaning (after.after_new (numbers (arguments_of (node_now S.meaning config.old frame))) frame.place (holding_in t frame.held) env (Gives (value_in t value))) config.old config.new) }
 {
-    match frame.place {
+    match frame.place() {
         1 => new_callee(config, frame, value),
         2 => new_made(config, &frame, value),
         _ => new_argument(config, frame, value),
@@ -94,7 +94,7 @@ fn new_callee<S: WorldStore>(
     ensures { let t = config.new.heap.texts in let env = env_in S.meaning config.old t frame in OnOk result (Follows S.meaning (line.new_callee (numbers (arguments_of (node_now S.meaning config.old frame))) env (value_in t callee)) config.old config.new) }
 {
     let mut frame = frame;
-    frame.held = config.frames.nothing_held();
+    frame.set_held(config.frames.nothing_held());
     hold(&mut frame, Held::Callee(callee, Value::Undefined))?;
     new_next(config, frame, 0)
 }
@@ -113,7 +113,7 @@ fn new_argument<S: WorldStore>(
     requires value { HasValue config.old value }
     ensures { let t = config.new.heap.texts in let env = env_in S.meaning config.old t frame in OnOk result (Follows S.meaning (after.new_argument (numbers (arguments_of (node_now S.meaning config.old frame))) (frame.place - 3) (holding_in t frame.held) env (value_in t value)) config.old config.new) }
 {
-    let at = frame.place.saturating_sub(3);
+    let at = frame.place().saturating_sub(3);
     let next = place_after(at, 1)?;
     let mut frame = frame;
     hold(&mut frame, Held::Value(value))?;

@@ -99,7 +99,7 @@ fn object_value<S: WorldStore>(
     requires value { HasValue config.old value }
     ensures { let t = config.new.heap.texts in let env = env_in S.meaning config.old t frame in OnOk result (Follows S.meaning (after.object_item (each (pair_in t) (properties_of (node_now S.meaning config.old frame))) (frame.place - 1) (holding_in t frame.held) env (value_in t value)) config.old config.new) }
 {
-    let at = frame.place.saturating_sub(1);
+    let at = frame.place().saturating_sub(1);
     match property(config, &frame, at as usize) {
         Some(property) => object_write(config, frame, object, at, property.key, value),
         None => finish(config, &frame, Completion::Normal),

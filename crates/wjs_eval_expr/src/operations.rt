@@ -76,7 +76,7 @@ fn operate_held<S: WorldStore>(
     ensures { let t = config.new.heap.texts in let env = env_in S.meaning config.old t frame in let values = (holding_in t frame.held).values in OnOk result (Follows S.meaning (line.operate operator (value_at values 0) (value_at values 1) env) config.old config.new) }
 {
     let (_target, _sign, _right) = (target, sign, right);
-    let values = frame.held.values(config.heap.arena.allocator())?;
+    let values = frame.values(config.heap.arena.allocator())?;
     let first = value_among(values.as_slice(), 0);
     let second = value_among(values.as_slice(), 1);
     operate(config, frame, operator, first, second)

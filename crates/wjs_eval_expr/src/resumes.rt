@@ -51,7 +51,7 @@ fn as_expression(frame: Frame) -> Frame
     ensures { result ≡ record frame { form = Form.Expr } }
 {
     let mut frame = frame;
-    frame.form = Form::Expr;
+    frame.set_form(Form::Expr);
     frame
 }
 

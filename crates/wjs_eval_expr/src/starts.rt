@@ -35,7 +35,7 @@ pub(crate) fn expr_begin<S: WorldStore>(
     requires form { frame.form ≡ Form.Expr }
     ensures { let t = config.new.heap.texts in let env = env_in S.meaning config.old t frame in OnOk result (Follows S.meaning (begin_expr (node_in t (node_now S.meaning config.old frame)) frame.node.0 frame.place (holding_in t frame.held) env) config.old config.new) }
 {
-    match frame.place {
+    match frame.place() {
         0 => expr_start(config, frame),
         _ => operation_start(config, frame),
     }

@@ -36,7 +36,7 @@ fn begin<S: WorldStore>(config: &mut Config<S>, frame: Frame) -> Result<(), OutO
     requires turn { turn_of_form frame.form ≡ Turn.Expr }
     ensures { let t = config.new.heap.texts in OnOk result (Follows S.meaning (begins_at S.meaning config.old frame frame.place t (env_in S.meaning config.old t frame)) config.old config.new) }
 {
-    match frame.form {
+    match frame.form() {
         Form::Target => target_start(config, frame),
         _ => expr_begin(config, frame),
     }

@@ -24,7 +24,7 @@ pub(crate) fn begin<S: WorldStore>(config: &mut Config<S>, frame: Frame) -> Resu
     requires form { frame.form ≡ Form.Stmt }
     ensures { let t = config.new.heap.texts in let env = env_in S.meaning config.old t frame in OnOk result (Follows S.meaning (begin_stmt (node_in t (node_now S.meaning config.old frame)) frame.node.0 frame.place env) config.old config.new) }
 {
-    match frame.place {
+    match frame.place() {
         0 => start(config, frame),
         1 => again(config, frame),
         _ => begin_variables(config, frame),

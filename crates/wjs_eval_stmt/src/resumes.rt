@@ -35,7 +35,7 @@ pub(crate) fn resume<S: WorldStore>(
     match node_of(config, &frame) {
         Some(Node::Block(_)) => block_next(config, frame, completion),
         Some(Node::Var(_, _)) => {
-            let at = frame.place.saturating_sub(1) as usize;
+            let at = frame.place().saturating_sub(1) as usize;
             variable_next(config, frame, at, completion)
         }
         Some(Node::Expr(_, _)) => expr_next(config, frame, completion),

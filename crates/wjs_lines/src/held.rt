@@ -14,7 +14,7 @@ pub fn held_value<S: WorldStore>(config: &Config<S>, frame: &Frame) -> Value
     ensures found { HasValue config.now result }
 {
     let _config = config;
-    frame.held.value()
+    frame.value()
 }
 
 /// The latest reference.
@@ -24,7 +24,7 @@ pub fn held_reference<S: WorldStore>(config: &Config<S>, frame: &Frame) -> Refer
     ensures found { HasReference config.now result }
 {
     let _config = config;
-    frame.held.reference()
+    frame.reference()
 }
 
 /// What is called, and its `this`.
@@ -35,7 +35,7 @@ pub fn held_callee<S: WorldStore>(config: &Config<S>, frame: &Frame) -> (Value, 
     ensures this { HasValue config.now result.1 }
 {
     let _config = config;
-    frame.held.callee()
+    frame.callee()
 }
 
 /// The object whose elements are read, and how many they are.
@@ -46,5 +46,5 @@ pub fn held_elements<S: WorldStore>(config: &Config<S>, frame: &Frame) -> (ObjId
     ensures found { HasObject config.now result.0 }
 {
     let _config = config;
-    frame.held.elements()
+    frame.elements()
 }

@@ -11,7 +11,7 @@ use Rattle.wjs_tree.specs.declared.node.Node.{Node}
 use Rattle.wjs_tree.specs.declared.node.Node.TheVariants as nodes
 use Rattle.wjs_scope.specs.Nesting.{Around, option_part, initialisers, init_parts, plain_parts, parts, IsAmong}
 use Rattle.wjs_model.specs.declared.config.Config.{Config}
-use Rattle.wjs_model.specs.declared.frame.Frame.{Frame}
+use Rattle.wjs_model.specs.declared.frame.Activation.{Activation as Frame}
 use Rattle.wjs_model.specs.Soundness.{IsThere, StandsHere}
 use Rattle.wjs_moves.specs.Parts.{node_now}
 use Rattle.wjs_moves.proofs.Parting.{among_left, among_right, among_around, stands_here}

@@ -82,7 +82,7 @@ pub fn for_variables<S: WorldStore>(
     ensures { let texts = config.new.heap.texts in let env = env_in S.meaning config.old texts frame in OnOk result (Follows S.meaning (Sub (begin_variables frame.node.0 (node_in texts (node_now S.meaning config.old frame)) env) (then_normal (loop_from frame.node.0 (number t) (number u) s.0 env))) config.old config.new) }
 {
     let held = config.frames.nothing_held();
-    let node = frame.node;
+    let node = frame.node();
     nest(config, frame, 5, Form::Stmt, node, 2, held)
 }
 
@@ -150,7 +150,7 @@ fn for_update<S: WorldStore>(
 {
     match u {
         Some(e) => enter(config, frame, 3, Part::Expr(e)),
-        None => enter_last(config, &frame, Part::Again(frame.node)),
+        None => enter_last(config, &frame, Part::Again(frame.node())),
     }
 }
 
@@ -171,7 +171,7 @@ pub fn for_next<S: WorldStore>(
     requires completion { HasCompletion config.old completion }
     ensures { let texts = config.new.heap.texts in let env = env_in S.meaning config.old texts frame in OnOk result (Follows S.meaning (after_stmt frame.node.0 (node_in texts (node_now S.meaning config.old frame)) frame.place (holding_in texts frame.held) env (completion_in texts completion)) config.old config.new) }
 {
-    match frame.place {
+    match frame.place() {
         1 => for_tested(config, frame, t, u, s, completion),
         2 => for_body(config, frame, t, u, s, completion),
         3 => for_updated(config, &frame, completion),
@@ -220,7 +220,7 @@ fn for_updated<S: WorldStore>(
     ensures { let texts = config.new.heap.texts in let env = env_in S.meaning config.old texts frame.now in OnOk result (Follows S.meaning (then_value (loop_updated frame.now.node.0 env) (completion_in texts completion)) config.old config.new) }
 {
     match completion {
-        Completion::Gives(_) => enter_last(config, frame, Part::Again(frame.node)),
+        Completion::Gives(_) => enter_last(config, frame, Part::Again(frame.node())),
         other => finish(config, frame, other),
     }
 }

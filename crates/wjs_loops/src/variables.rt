@@ -63,8 +63,8 @@ fn first_place<S: WorldStore>(config: &Config<S>, frame: &Frame) -> u32
 pub fn place_of<S: WorldStore>(config: &Config<S>, frame: &Frame, at: usize) -> Place
     ensures { (t : Table) → (tree_here (env_in S.meaning config.now t frame.now)).var_place frame.now.node.0 at ≡ place_in result }
 {
-    match config.units.get(frame.tree as usize) {
-        Some(unit) => unit.var_place(frame.node, at),
+    match config.units.get(frame.tree() as usize) {
+        Some(unit) => unit.var_place(frame.node(), at),
         None => Place::Global,
     }
 }

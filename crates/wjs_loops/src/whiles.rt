@@ -53,7 +53,7 @@ fn while_body<S: WorldStore>(
     ensures { let t = config.new.heap.texts in let env = env_in S.meaning config.old t frame in OnOk result (Follows S.meaning (loop_body frame.node.0 None env (completion_in t completion)) config.old config.new) }
 {
     match after_body(config, &frame, completion) {
-        AfterBody::Again => enter_last(config, &frame, Part::Again(frame.node)),
+        AfterBody::Again => enter_last(config, &frame, Part::Again(frame.node())),
         AfterBody::Ends(completion) => finish(config, &frame, completion),
     }
 }
@@ -74,7 +74,7 @@ pub fn while_next<S: WorldStore>(
     requires completion { HasCompletion config.old completion }
     ensures { let t = config.new.heap.texts in let env = env_in S.meaning config.old t frame in OnOk result (Follows S.meaning (after_stmt frame.node.0 (While e.0 s.0) frame.place (holding_in t frame.held) env (completion_in t completion)) config.old config.new) }
 {
-    match frame.place {
+    match frame.place() {
         1 => match completion {
             Completion::Gives(value) => while_test(config, frame, e, s, value),
             other => finish(config, &frame, other),
@@ -119,7 +119,7 @@ fn do_test<S: WorldStore>(
     ensures { let t = config.new.heap.texts in let env = env_in S.meaning config.old t frame in OnOk result (Follows S.meaning (do_test frame.node.0 env (value_in t value)) config.old config.new) }
 {
     if to_boolean(config, value) {
-        enter_last(config, &frame, Part::Again(frame.node))
+        enter_last(config, &frame, Part::Again(frame.node()))
     } else {
         finish(config, &frame, Completion::Normal)
     }
@@ -142,7 +142,7 @@ pub fn do_next<S: WorldStore>(
     requires completion { HasCompletion config.old completion }
     ensures { let t = config.new.heap.texts in let env = env_in S.meaning config.old t frame in OnOk result (Follows S.meaning (after_stmt frame.node.0 (DoWhile s.0 e.0) frame.place (holding_in t frame.held) env (completion_in t completion)) config.old config.new) }
 {
-    match frame.place {
+    match frame.place() {
         1 => do_body(config, frame, s, e, end, completion),
         _ => match completion {
             Completion::Gives(value) => do_test(config, frame, value),

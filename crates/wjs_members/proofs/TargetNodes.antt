@@ -9,7 +9,7 @@ use Rattle.wjs_meaning.specs.Deeds.{tree_here}
 use Rattle.wjs_meaning.specs.Reading.{node_in}
 use Rattle.wjs_meaning.specs.Trees.{is_target_form, is_target_to}
 use Rattle.wjs_model.specs.declared.config.Config.{Config}
-use Rattle.wjs_model.specs.declared.frame.Frame.{Frame}
+use Rattle.wjs_model.specs.declared.frame.Activation.{Activation as Frame}
 use Rattle.wjs_moves.specs.Parts.{env_in, node_among}
 use Rattle.wjs_moves.proofs.Places.{node_same}
 use Rattle.wjs_members.specs.declared.targets.TargetForm.{TargetForm}

@@ -134,7 +134,7 @@ fn take<S: WorldStore>(
     ensures { let t = config.new.heap.texts in let env = env_in S.meaning config.old t frame.now in OnOk result (Follows S.meaning (taken frame.now.form env (deed.Member (value_in t base) (name_in t name))) config.old config.new) }
 {
     let reference = Reference::Member(base, name);
-    match frame.form {
+    match frame.form() {
         Form::Target => finish(config, frame, Completion::Refers(reference)),
         _ => give_value_of(config, frame, reference),
     }
@@ -294,7 +294,7 @@ fn at_value<S: WorldStore>(
     requires value { HasValue config.old value }
     ensures { let t = config.new.heap.texts in let env = env_in S.meaning config.old t frame in OnOk result (Follows S.meaning (after.after_at index.0 frame.place (holding_in t frame.held) env (taken frame.form env) (Gives (value_in t value))) config.old config.new) }
 {
-    match (frame.place, value) {
+    match (frame.place(), value) {
         (1, _) => at_base(config, frame, base, index, value),
         (2, _) => at_index(config, frame, base, index, value),
         (_, Value::Text(text)) => at_text(config, &frame, text),

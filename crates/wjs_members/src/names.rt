@@ -24,8 +24,8 @@ use wjs_tree::Node;
 fn place_of<S: WorldStore>(config: &Config<S>, frame: &Frame) -> Place
     ensures { (t : Table) → (tree_here (env_in S.meaning config.now t frame.now)).place frame.now.node.0 ≡ place_in result }
 {
-    match config.units.get(frame.tree as usize) {
-        Some(unit) => unit.place(frame.node),
+    match config.units.get(frame.tree() as usize) {
+        Some(unit) => unit.place(frame.node()),
         None => Place::Global,
     }
 }

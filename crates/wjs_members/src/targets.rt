@@ -107,7 +107,7 @@ fn node_at<'a, S: WorldStore>(
 ) -> Option<&'a Node>
     ensures { MatchOption result (node_among config.now.units.items frame.now.tree node ≡ Node.Empty) (λ found. node_among config.now.units.items frame.now.tree node ≡ found.now) }
 {
-    match config.units.get(frame.tree as usize) {
+    match config.units.get(frame.tree() as usize) {
         Some(unit) => unit.node(node),
         None => None,
     }

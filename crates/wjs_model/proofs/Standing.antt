@@ -21,7 +21,7 @@ use Rattle.wjs_scope.proofs.Bodies.{bodies_are_there}
 use Rattle.wjs_model.specs.declared.unit.Unit.{Unit as Program}
 use Rattle.wjs_model.specs.declared.frame.Form.{Form}
 use Rattle.wjs_model.specs.declared.frame.Form.TheVariants as form
-use Rattle.wjs_model.specs.declared.frame.Frame.{Frame}
+use Rattle.wjs_model.specs.declared.frame.Activation.{Activation as Frame}
 use Rattle.wjs_model.specs.Contents.{begun_held}
 use Rattle.wjs_model.specs.Standing.{Outwards, Stands, is_function, count_of, own_scopes, IsFunction, FunctionStands, BodyStands, FrameStands, IsShown}
 

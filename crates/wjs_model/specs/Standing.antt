@@ -15,7 +15,7 @@ use Rattle.wjs_scope.specs.Nesting.{StandsAmong}
 use Rattle.wjs_model.specs.declared.unit.Unit.{Unit as Program}
 use Rattle.wjs_model.specs.declared.frame.Form.{Form}
 use Rattle.wjs_model.specs.declared.frame.Form.TheVariants as form
-use Rattle.wjs_model.specs.declared.frame.Frame.{Frame}
+use Rattle.wjs_model.specs.declared.frame.Activation.{Activation as Frame}
 use Rattle.wjs_model.specs.Contents.{begun_held}
 
 -- from a scope so many lead outwards, itself counted

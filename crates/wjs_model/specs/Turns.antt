@@ -6,7 +6,7 @@ use Rattle.wjs_model.specs.declared.config.State.{State}
 use Rattle.wjs_model.specs.declared.config.State.TheVariants.{Running}
 use Rattle.wjs_model.specs.declared.frame.Form.{Form}
 use Rattle.wjs_model.specs.declared.frame.Form.TheVariants as form
-use Rattle.wjs_model.specs.declared.frame.Frame.{Frame}
+use Rattle.wjs_model.specs.declared.frame.Activation.{Activation as Frame}
 use Rattle.wjs_model.specs.declared.turn.Turn.{Turn}
 use Rattle.wjs_model.specs.declared.turn.Turn.TheVariants as turn
 use Rattle.wjs_model.specs.Frames.{last}

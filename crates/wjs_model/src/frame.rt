@@ -1,10 +1,11 @@
 //! What a configuration has still to do, a frame for each node that is being run.
 
-ghost use Rattle.std.specs.Prelude.{◌≡◌, ◌++◌, ◌∷◌, [], OnOk, OnErr, option_map};
+ghost use Rattle.std.specs.Prelude.{◌≡◌, ◌++◌, ◌∷◌, [], IfOk, OnOk, OnErr, option_map};
 ghost use Rattle.wjs_model.specs.Frames.{last, Pops, Uncovers};
 
 use std::alloc::Global;
 use std::marker::Model;
+use std::mem;
 use wjs_arena::Native;
 use wjs_base::{Name, ObjId, OutOfMemory, Slot, TextId, Value, WorldId};
 use wjs_tree::NodeId;
@@ -138,9 +139,9 @@ impl Items {
     }
 }
 
-/// A node that is being run.
+/// What a frame is.
 #[derive(Drop)]
-pub struct Frame {
+pub struct Activation {
     pub form: Form,
     /// The tree at hand, among the configuration's.
     pub tree: u32,
@@ -154,6 +155,162 @@ pub struct Frame {
     pub held: Items,
 }
 
+/// A node that is being run. It has a place of its own in memory, so that from the frames to a form's handler and back nothing
+/// but its address moves. Contracts see what it is.
+#[derive(Drop)]
+pub struct Frame {
+    pub(crate) at: Box<Activation>,
+}
+
+impl Model for Frame {
+    ghost use Rattle.wjs_model.specs.declared.frame.Activation.{Activation};
+    ghost use Rattle.wjs_model.specs.contracts.frame.Activation as activation_contract;
+
+    ghost Value = { Activation };
+
+    ghost coded = { activation_contract.the_row.coded };
+
+    ghost view = { λ f. f.at.value };
+}
+
+impl Frame {
+    /// A frame of its own.
+    pub fn new(alloc: Global, activation: Activation) -> Result<Frame, OutOfMemory>
+        ensures { IfOk result (λ frame. frame ≡ activation) }
+    {
+        match Box::new(alloc, activation) {
+            Ok(at) => Ok(Frame { at }),
+            Err(_) => Err(OutOfMemory),
+        }
+    }
+
+    pub fn form(&self) -> Form
+        ensures { result ≡ self.now.form }
+    {
+        self.at.form
+    }
+
+    pub fn tree(&self) -> u32
+        ensures { result ≡ self.now.tree }
+    {
+        self.at.tree
+    }
+
+    pub fn node(&self) -> NodeId
+        ensures { result ≡ self.now.node }
+    {
+        self.at.node
+    }
+
+    pub fn place(&self) -> u32
+        ensures { result ≡ self.now.place }
+    {
+        self.at.place
+    }
+
+    pub fn phase(&self) -> Phase
+        ensures { result ≡ self.now.phase }
+    {
+        self.at.phase
+    }
+
+    pub fn scope(&self) -> ObjId
+        ensures { result ≡ self.now.scope }
+    {
+        self.at.scope
+    }
+
+    pub fn this(&self) -> Value
+        ensures { result ≡ self.now.this }
+    {
+        self.at.this
+    }
+
+    pub fn world(&self) -> WorldId
+        ensures { result ≡ self.now.world }
+    {
+        self.at.world
+    }
+
+    pub fn set_form(&mut self, form: Form)
+        ensures { self.new ≡ record self.old { form = form } }
+    {
+        self.at.form = form;
+    }
+
+    /// It goes on at a node of a tree.
+    pub fn set_node(&mut self, tree: u32, node: NodeId)
+        ensures { self.new ≡ record self.old { tree = tree; node = node } }
+    {
+        self.at.tree = tree;
+        self.at.node = node;
+    }
+
+    /// It goes on at a place, when the phase says.
+    pub fn set_place(&mut self, place: u32, phase: Phase)
+        ensures { self.new ≡ record self.old { place = place; phase = phase } }
+    {
+        self.at.place = place;
+        self.at.phase = phase;
+    }
+
+    pub fn set_phase(&mut self, phase: Phase)
+        ensures { self.new ≡ record self.old { phase = phase } }
+    {
+        self.at.phase = phase;
+    }
+
+    pub fn set_scope(&mut self, scope: ObjId)
+        ensures { self.new ≡ record self.old { scope = scope } }
+    {
+        self.at.scope = scope;
+    }
+
+    /// It runs another form, with another `this`.
+    pub fn set_call(&mut self, form: Form, this: Value)
+        ensures { self.new ≡ record self.old { form = form; this = this } }
+    {
+        self.at.form = form;
+        self.at.this = this;
+    }
+
+    pub fn set_world(&mut self, world: WorldId)
+        ensures { self.new ≡ record self.old { world = world } }
+    {
+        self.at.world = world;
+    }
+
+    pub fn set_held(&mut self, held: Items)
+        ensures { self.new ≡ record self.old { held = held } }
+    {
+        self.at.held = held;
+    }
+
+    /// Holds something else, and gives what it held.
+    pub fn replace_held(&mut self, held: Items) -> Items
+        ensures held { result ≡ self.old.held }
+        ensures new { self.new ≡ record self.old { held = held } }
+    {
+        mem::replace(&mut self.at.held, held)
+    }
+
+    /// Holds one more; after a refusal it is as it was.
+    pub fn hold(&mut self, item: Held) -> Result<(), OutOfMemory>
+        ensures ok { OnOk result (self.new ≡ record self.old { held = item ∷ self.old.held }) }
+        ensures err { OnErr result (self.new ≡ self.old) }
+    {
+        self.at.held.push(item)
+    }
+
+    /// The latest that it holds, which is taken off; None exactly where nothing is held.
+    pub fn pop(&mut self) -> Option<Held>
+        ensures held { Uncovers self.old.held result self.new.held }
+        ensures same { self.new ≡ record self.old { held = self.new.held } }
+    {
+        self.at.held.pop()
+    }
+}
+
 /// The frames, the one that runs last. Contracts see the list.
 #[derive(Drop)]
 pub struct Frames {
@@ -162,13 +319,13 @@ pub struct Frames {
 
 impl Model for Frames {
     ghost use Rattle.std.specs.Prelude.{List};
-    ghost use Rattle.wjs_model.specs.declared.frame.Frame.{Frame};
+    ghost use Rattle.wjs_model.specs.declared.frame.Activation.{Activation};
     ghost use Rattle.std.specs.Coded.{codes};
-    ghost use Rattle.wjs_model.specs.contracts.frame.Frame as frame_contract;
+    ghost use Rattle.wjs_model.specs.contracts.frame.Activation as activation_contract;
 
-    ghost Value = { List Frame };
+    ghost Value = { List Activation };
 
-    ghost coded = { Prim.hlevel (codes, frame_contract.the_row.coded) };
+    ghost coded = { Prim.hlevel (codes, activation_contract.the_row.coded) };
 
     ghost view = { λ f. f.list.items };
 }
@@ -228,7 +385,7 @@ fn form_of(frames: &[Frame]) -> Option<Form>
     ensures { result ≡ option_map (λ f. f.form) (last frames.now) }
 {
     match frames.last() {
-        Some(frame) => Some(frame.form),
+        Some(frame) => Some(frame.form()),
         None => None,
     }
 }
@@ -238,7 +395,7 @@ fn phase_of(frames: &[Frame]) -> Option<Phase>
     ensures { result ≡ option_map (λ f. f.phase) (last frames.now) }
 {
     match frames.last() {
-        Some(frame) => Some(frame.phase),
+        Some(frame) => Some(frame.phase()),
         None => None,
     }
 }

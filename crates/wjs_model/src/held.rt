@@ -3,65 +3,65 @@ ghost use Rattle.std.specs.Prelude.{◌≡◌, ◌++◌, ◌∷◌, [], IfOk, On
 ghost use Rattle.wjs_model.specs.Frames.{latest_first, earliest_first};
 ghost use Rattle.wjs_model.specs.Contents.{value_held, values_held, reference_held, callee_held, new_held, begun_held, elements_held, earlier_held};
 
-use crate::frame::{Completion, Held, Items, Reference};
+use crate::frame::{Completion, Frame, Held, Reference};
 use std::alloc::Global;
 use wjs_base::{Name, ObjId, OutOfMemory, Value};
 
-impl Items {
+impl Frame {
     /// The latest value, and undefined where there is none.
     pub fn value(&self) -> Value
-        ensures { result ≡ value_held self.now }
+        ensures { result ≡ value_held self.now.held }
     {
-        latest_value(self.list.as_slice())
+        latest_value(self.at.held.list.as_slice())
     }
 
     /// The values in the order in which they came.
     pub fn values(&self, alloc: Global) -> Result<Vec<Value>, OutOfMemory>
-        ensures { IfOk result (λ values. values.items ≡ earliest_first (values_held self.now)) }
+        ensures { IfOk result (λ values. values.items ≡ earliest_first (values_held self.now.held)) }
     {
-        values_among(alloc, self.list.as_slice())
+        values_among(alloc, self.at.held.list.as_slice())
     }
 
     /// The latest reference, and a member of undefined where there is none.
     pub fn reference(&self) -> Reference
-        ensures { result ≡ reference_held self.now }
+        ensures { result ≡ reference_held self.now.held }
     {
-        latest_reference(self.list.as_slice())
+        latest_reference(self.at.held.list.as_slice())
     }
 
     /// What is called, and its `this`; undefined where there is none.
     pub fn callee(&self) -> (Value, Value)
-        ensures { result ≡ callee_held self.now }
+        ensures { result ≡ callee_held self.now.held }
     {
-        latest_callee(self.list.as_slice())
+        latest_callee(self.at.held.list.as_slice())
     }
 
     /// Whether the latest call is one of `new`.
     pub fn by_new(&self) -> bool
-        ensures { result ≡ new_held self.now }
+        ensures { result ≡ new_held self.now.held }
     {
-        is_by_new(self.list.as_slice())
+        is_by_new(self.at.held.list.as_slice())
     }
 
     /// Whether the scope of the function whose body runs is made.
     pub fn begun(&self) -> bool
-        ensures { result ≡ begun_held self.now }
+        ensures { result ≡ begun_held self.now.held }
     {
-        is_begun(self.list.as_slice())
+        is_begun(self.at.held.list.as_slice())
     }
 
     /// The object whose elements are read, and how many they are.
     pub fn elements(&self) -> (ObjId, u32)
-        ensures { result ≡ elements_held self.now }
+        ensures { result ≡ elements_held self.now.held }
     {
-        latest_elements(self.list.as_slice())
+        latest_elements(self.at.held.list.as_slice())
     }
 
     /// The completion that a `finally` may replace, and a normal one where there is none.
     pub fn earlier(&self) -> Completion
-        ensures { result ≡ earlier_held self.now }
+        ensures { result ≡ earlier_held self.now.held }
     {
-        latest_completion(self.list.as_slice())
+        latest_completion(self.at.held.list.as_slice())
     }
 }
 

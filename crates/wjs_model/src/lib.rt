@@ -10,7 +10,9 @@ mod turn;
 mod unit;
 
 pub use config::{Config, State};
-pub use frame::{Completion, Conversion, Form, Frame, Frames, Held, Items, Phase, Reference};
+pub use frame::{
+    Activation, Completion, Conversion, Form, Frame, Frames, Held, Items, Phase, Reference,
+};
 pub use laws::{
     ends_go_down, kept_apart_stays, may_be_kept_apart, sound_keeps_apart, start_is_the_run,
 };

@@ -11,7 +11,7 @@ use Rattle.wjs_model.specs.declared.config.State.TheVariants as states
 use Rattle.wjs_model.specs.declared.frame.Completion.{Completion}
 use Rattle.wjs_model.specs.declared.frame.Completion.TheVariants as completions
 use Rattle.wjs_model.specs.declared.frame.Phase.TheVariants as phases
-use Rattle.wjs_model.specs.declared.frame.Frame.{Frame as NumberedFrame}
+use Rattle.wjs_model.specs.declared.frame.Activation.{Activation as NumberedFrame}
 use Rattle.wjs_model.specs.Contents.{Frame, Run, frame_in, completion_in}
 use Rattle.wjs_model.specs.Rest.{given, turns_over}
 use Rattle.wjs_model.specs.Configurations.{seen, tells, run_in, state_in, frames_in, rest_by, turns_by}

@@ -9,7 +9,7 @@ use Rattle.wjs_meaning.proofs.Steps.{entries_lem}
 use Rattle.wjs_model.specs.declared.config.Config.{Config}
 use Rattle.wjs_model.specs.declared.config.State.TheVariants as states
 use Rattle.wjs_model.specs.declared.frame.Phase.TheVariants as phases
-use Rattle.wjs_model.specs.declared.frame.Frame.{Frame as NumberedFrame}
+use Rattle.wjs_model.specs.declared.frame.Activation.{Activation as NumberedFrame}
 use Rattle.wjs_model.specs.Contents.{Frame, Run, frame_in, holding_in}
 use Rattle.wjs_model.specs.Rest.{Go, under, given, begin, begin_form, turns_over, turns_act}
 use Rattle.wjs_model.specs.Waiting.{after}

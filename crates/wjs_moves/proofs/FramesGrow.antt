@@ -21,7 +21,7 @@ use Rattle.wjs_model.specs.declared.frame.Held.{Held}
 use Rattle.wjs_model.specs.declared.frame.Held.TheVariants as holds
 use Rattle.wjs_model.specs.declared.frame.Phase.{Phase}
 use Rattle.wjs_model.specs.declared.frame.Phase.TheVariants as phases
-use Rattle.wjs_model.specs.declared.frame.Frame.{Frame}
+use Rattle.wjs_model.specs.declared.frame.Activation.{Activation as Frame}
 use Rattle.wjs_model.specs.Frames.{earliest_first}
 use Rattle.wjs_model.specs.Contents.{Given, value_held, values_held, reference_held, callee_held, new_held, begun_held, elements_held, earlier_held, visits_held, reference_in, completion_in, holding_in, moment_in, frame_in}
 use Rattle.wjs_model.specs.Soundness.{HasName, HasValue, HasReference, HasCompletion, HasItems, HasPhase, IsThere}

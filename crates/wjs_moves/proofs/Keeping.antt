@@ -10,7 +10,7 @@ use Rattle.wjs_meaning.specs.Deeds.{St, Act}
 use Rattle.wjs_model.specs.declared.config.Config.{Config}
 use Rattle.wjs_model.specs.declared.config.State.{State}
 use Rattle.wjs_model.specs.declared.config.State.TheVariants as states
-use Rattle.wjs_model.specs.declared.frame.Frame.{Frame as NumberedFrame}
+use Rattle.wjs_model.specs.declared.frame.Activation.{Activation as NumberedFrame}
 use Rattle.wjs_model.specs.Contents.{frame_in}
 use Rattle.wjs_model.specs.Rest.{act_of, turns_at, turns_over, rest_of, turns_of}
 use Rattle.wjs_model.specs.Configurations.{seen, tells, run_in, state_in, frames_in, rest_by, turns_by, Stays}

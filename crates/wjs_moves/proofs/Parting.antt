@@ -15,7 +15,7 @@ use Rattle.wjs_scope.specs.Nesting.{Side, Around, Caught, on_side, parts, IsAmon
 use Rattle.wjs_scope.specs.Declarations.{elements_of}
 use Rattle.wjs_scope.specs.Places.{IsScript}
 use Rattle.wjs_model.specs.declared.config.Config.{Config}
-use Rattle.wjs_model.specs.declared.frame.Frame.{Frame}
+use Rattle.wjs_model.specs.declared.frame.Activation.{Activation as Frame}
 use Rattle.wjs_model.specs.declared.unit.Unit.{Unit as Program}
 use Rattle.wjs_model.specs.Texts.{PlacesUnit}
 use Rattle.wjs_model.specs.Units as program

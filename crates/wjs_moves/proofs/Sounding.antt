@@ -7,7 +7,7 @@ use Rattle.wjs_model.specs.declared.config.Config.{Config}
 use Rattle.wjs_model.specs.declared.config.State.{State}
 use Rattle.wjs_model.specs.declared.config.State.TheVariants as states
 use Rattle.wjs_model.specs.declared.frame.Phase.{Phase}
-use Rattle.wjs_model.specs.declared.frame.Frame.{Frame}
+use Rattle.wjs_model.specs.declared.frame.Activation.{Activation as Frame}
 use Rattle.wjs_model.specs.Soundness.{HasPhase, HasThrown, IsThere, Base, Sound}
 
 pub thrown_running : {S : Type 0} (c : Config S) (s : State) → s ≡ states.Running → HasThrown c s

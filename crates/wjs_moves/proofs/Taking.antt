@@ -17,7 +17,7 @@ use Rattle.wjs_model.specs.declared.frame.Phase.{Phase}
 use Rattle.wjs_model.specs.declared.frame.Phase.TheVariants as phases
 use Rattle.wjs_model.specs.declared.frame.Completion.{Completion}
 use Rattle.wjs_model.specs.declared.frame.Completion.TheVariants as completions
-use Rattle.wjs_model.specs.declared.frame.Frame.{Frame as NumberedFrame}
+use Rattle.wjs_model.specs.declared.frame.Activation.{Activation as NumberedFrame}
 use Rattle.wjs_model.specs.Frames.{last, front}
 use Rattle.wjs_model.proofs.Tops.{last-snoc}
 use Rattle.wjs_model.specs.Contents.{Frame, Run, Moment, frame_in, moment_in, completion_in}

@@ -12,7 +12,7 @@ use Rattle.wjs_model.specs.declared.config.Config.{Config}
 use Rattle.wjs_model.specs.declared.frame.Completion.{Completion}
 use Rattle.wjs_model.specs.declared.frame.Held.{Held}
 use Rattle.wjs_model.specs.declared.frame.Reference.{Reference}
-use Rattle.wjs_model.specs.declared.frame.Frame.{Frame}
+use Rattle.wjs_model.specs.declared.frame.Activation.{Activation as Frame}
 use Rattle.wjs_model.specs.Soundness.{HasObject, HasName, HasValue, HasReference, HasCompletion, HasItems, HasWorld, IsThere, Base, Sound}
 use Rattle.wjs_moves.specs.Keeping.{Keeps}
 

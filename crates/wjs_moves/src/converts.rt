@@ -28,7 +28,7 @@ pub fn convert<S: WorldStore>(
 {
     let mut held = config.frames.nothing_held();
     held.push(Held::Value(value))?;
-    let node = frame.node;
+    let node = frame.node();
     nest(
         config,
         frame,

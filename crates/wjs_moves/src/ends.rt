@@ -30,7 +30,7 @@ pub fn finish<S: WorldStore>(
         }
         Some(frame) => {
             let mut frame = frame;
-            frame.phase = Phase::Given(completion);
+            frame.set_phase(Phase::Given(completion));
             config.frames.push(frame)?;
             Ok(())
         }

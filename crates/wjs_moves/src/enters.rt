@@ -25,7 +25,8 @@ pub fn enter<S: WorldStore>(
     requires part { StandsHere config.old frame (node_of part) }
     ensures { let t = config.new.heap.texts in let env = env_in S.meaning config.old t frame in OnOk result (Follows S.meaning (Eval (goal_of part) env (then_at S.meaning config.old frame place t env)) config.old config.new) }
 {
-    let entered = due_frame(&frame, part, config.frames.nothing_held());
+    let alloc = config.heap.arena.allocator();
+    let entered = due_frame(alloc, &frame, part, config.frames.nothing_held())?;
     config.frames.push(waiting_at(frame, place))?;
     config.frames.push(entered)?;
     Ok(())
@@ -43,7 +44,8 @@ pub fn enter_last<S: WorldStore>(
     requires part { StandsHere config.old frame.now (node_of part) }
     ensures { let t = config.new.heap.texts in let env = env_in S.meaning config.old t frame.now in OnOk result (Follows S.meaning (Eval (goal_of part) env Ret) config.old config.new) }
 {
-    let entered = due_frame(frame, part, config.frames.nothing_held());
+    let alloc = config.heap.arena.allocator();
+    let entered = due_frame(alloc, frame, part, config.frames.nothing_held())?;
     config.frames.push(entered)?;
     Ok(())
 }

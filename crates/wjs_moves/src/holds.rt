@@ -9,5 +9,5 @@ use wjs_model::{Frame, Held};
 pub fn hold(frame: &mut Frame, item: Held) -> Result<(), OutOfMemory>
     ensures { OnOk result (frame.new ≡ record frame.old { held = item ∷ frame.old.held }) }
 {
-    frame.held.push(item)
+    frame.hold(item)
 }

@@ -10,8 +10,8 @@ use wjs_tree::Node;
 pub fn node_of<'a, S: WorldStore>(config: &'a Config<S>, frame: &Frame) -> Option<&'a Node>
     ensures { MatchOption result (node_now S.meaning config.now frame.now ≡ Node.Empty) (λ node. node_now S.meaning config.now frame.now ≡ node.now) }
 {
-    match config.units.get(frame.tree as usize) {
-        Some(unit) => unit.node(frame.node),
+    match config.units.get(frame.tree() as usize) {
+        Some(unit) => unit.node(frame.node()),
         None => None,
     }
 }

@@ -1,8 +1,10 @@
 //! The parts of nodes, and the frames that run them.
-ghost use Rattle.std.specs.Prelude.{◌≡◌};
+ghost use Rattle.std.specs.Prelude.{◌≡◌, IfOk};
 ghost use Rattle.wjs_moves.specs.Parts.{due_frame};
 
-use wjs_model::{Form, Frame, Items, Phase};
+use std::alloc::Global;
+use wjs_base::OutOfMemory;
+use wjs_model::{Activation, Form, Frame, Items, Phase};
 use wjs_tree::NodeId;
 
 /// What is entered by a step: an expression for its value or as a target, a statement, a loop at its next turn.
@@ -16,37 +18,44 @@ pub enum Part {
 
 /// A frame that runs a form at a place of a node, where another frame is run.
 pub(crate) fn frame_at(
+    alloc: Global,
     at: &Frame,
     form: Form,
     node: NodeId,
     place: u32,
     phase: Phase,
     held: Items,
-) -> Frame
-    ensures { result ≡ record { form = form; tree = at.now.tree; node = node; place = place; phase = phase; scope = at.now.scope; this = at.now.this; world = at.now.world; held = held } }
+) -> Result<Frame, OutOfMemory>
+    ensures { IfOk result (λ frame. frame ≡ record { form = form; tree = at.now.tree; node = node; place = place; phase = phase; scope = at.now.scope; this = at.now.this; world = at.now.world; held = held }) }
 {
-    Frame {
+    let activation = Activation {
         form,
-        tree: at.tree,
+        tree: at.tree(),
         node,
         place,
         phase,
-        scope: at.scope,
-        this: at.this,
-        world: at.world,
+        scope: at.scope(),
+        this: at.this(),
+        world: at.world(),
         held,
-    }
+    };
+    Frame::new(alloc, activation)
 }
 
 /// The frame of a part, with its step due.
-pub(crate) fn due_frame(at: &Frame, part: Part, held: Items) -> Frame
-    ensures { result ≡ record (due_frame at.now part) { held = held } }
+pub(crate) fn due_frame(
+    alloc: Global,
+    at: &Frame,
+    part: Part,
+    held: Items,
+) -> Result<Frame, OutOfMemory>
+    ensures { IfOk result (λ frame. frame ≡ record (due_frame at.now part) { held = held }) }
 {
     match part {
-        Part::Expr(node) => frame_at(at, Form::Expr, node, 0, Phase::Due, held),
-        Part::Target(node) => frame_at(at, Form::Target, node, 0, Phase::Due, held),
-        Part::Stmt(node) => frame_at(at, Form::Stmt, node, 0, Phase::Due, held),
-        Part::Again(node) => frame_at(at, Form::Stmt, node, 1, Phase::Due, held),
+        Part::Expr(node) => frame_at(alloc, at, Form::Expr, node, 0, Phase::Due, held),
+        Part::Target(node) => frame_at(alloc, at, Form::Target, node, 0, Phase::Due, held),
+        Part::Stmt(node) => frame_at(alloc, at, Form::Stmt, node, 0, Phase::Due, held),
+        Part::Again(node) => frame_at(alloc, at, Form::Stmt, node, 1, Phase::Due, held),
     }
 }
 
@@ -55,7 +64,6 @@ pub(crate) fn waiting_at(frame: Frame, place: u32) -> Frame
     ensures { result ≡ record frame { place = place; phase = Phase.Waiting } }
 {
     let mut frame = frame;
-    frame.place = place;
-    frame.phase = Phase::Waiting;
+    frame.set_place(place, Phase::Waiting);
     frame
 }

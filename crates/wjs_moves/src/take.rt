@@ -61,7 +61,7 @@ fn take_now<S: WorldStore>(config: &mut Config<S>) -> Top
             config.state = State::Done;
             Top::Stops
         }
-        Some(frame) => match frame.phase {
+        Some(frame) => match frame.phase() {
             Phase::Given(completion) => Top::Given(frame, completion),
             Phase::Waiting => Top::Given(frame, Completion::Normal),
             Phase::Ready => Top::Begins(frame),

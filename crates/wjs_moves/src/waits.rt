@@ -52,7 +52,8 @@ pub fn nest<S: WorldStore>(
     requires body { BodyStands config.old.units.items config.old.heap.arena form (begun_held held) frame.tree node frame.scope }
     ensures { let t = config.new.heap.texts in let env = env_in S.meaning config.old t frame in OnOk result (Follows S.meaning (Sub (begin_form (node_in t (node_among config.old.units.items frame.tree node)) form node.0 start (holding_in t held) env) (then_at S.meaning config.old frame place t env)) config.old config.new) }
 {
-    let above = frame_at(&frame, form, node, start, Phase::Ready, held);
+    let alloc = config.heap.arena.allocator();
+    let above = frame_at(alloc, &frame, form, node, start, Phase::Ready, held)?;
     config.frames.push(waiting_at(frame, place))?;
     config.frames.push(above)?;
     Ok(())
@@ -70,8 +71,7 @@ pub fn due_later<S: WorldStore>(
     ensures { let t = config.new.heap.texts in OnOk result (Follows S.meaning (Tick (begins_at S.meaning config.old frame place t (env_in S.meaning config.old t frame))) config.old config.new) }
 {
     let mut frame = frame;
-    frame.place = place;
-    frame.phase = Phase::Due;
+    frame.set_place(place, Phase::Due);
     config.frames.push(frame)?;
     Ok(())
 }

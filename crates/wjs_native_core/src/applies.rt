@@ -70,7 +70,7 @@ fn apply_to<S: WorldStore>(
 {
     match list {
         Value::Undefined | Value::Null => {
-            frame.held = config.frames.nothing_held();
+            frame.set_held(config.frames.nothing_held());
             call(config, frame, function, this)
         }
         Value::Object(object) => apply_elements(config, frame, function, this, object),
@@ -102,7 +102,7 @@ fn apply_elements<S: WorldStore>(
     }
     let length = get_known(config, &frame, object, Known::Length)?;
     let count = apply_length(config, length);
-    frame.held = elements_for(config, object, count, function, this)?;
+    frame.set_held(elements_for(config, object, count, function, this)?);
     apply_rest(config, frame, function, this, 0)
 }
 
@@ -142,7 +142,7 @@ fn apply_rest<S: WorldStore>(
     requires callee { callee_held frame.held ≡ (Value.Object function, this) }
     ensures { let t = config.new.heap.texts in OnOk result (Follows S.meaning (let elements = elements_held frame.held in line.apply_from (elements.1 - read) read (holding_in t frame.held).values elements.0 function (value_in t this) (env_in S.meaning config.old t frame)) config.old config.new) }
 {
-    let (_, count) = frame.held.elements();
+    let (_, count) = frame.elements();
     if read < count {
         due_later(config, frame, read + 1)
     } else {
@@ -167,9 +167,9 @@ pub(crate) fn apply_on<S: WorldStore>(
         return finish(config, &frame, Completion::Normal);
     };
     let (object, count) = held_elements(config, &frame);
-    let name = Name::Index(frame.place - 1);
+    let name = Name::Index(frame.place() - 1);
     let value = get_value(config, &frame, object, name)?;
-    hold_element(&mut frame.held, value, object, count, function, this)?;
-    let read = frame.place;
+    hold_element(&mut frame, value, object, count, function, this)?;
+    let read = frame.place();
     apply_rest(config, frame, function, this, read)
 }

@@ -87,6 +87,6 @@ fn call_with<S: WorldStore>(
     requires args { All (HasValue config.old) args.now }
     ensures { let t = config.new.heap.texts in OnOk result (Follows S.meaning (call_values (value_in t callee) (value_in t this) (env_in S.meaning config.old t frame) (map (value_in t) args.now)) config.old config.new) }
 {
-    frame.held = arguments_of(config, args)?;
+    frame.set_held(arguments_of(config, args)?);
     call_value(config, frame, callee, this)
 }

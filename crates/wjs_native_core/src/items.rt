@@ -5,7 +5,7 @@ ghost use Rattle.wjs_model.specs.Frames.{earliest_first};
 ghost use Rattle.wjs_model.specs.Soundness.{HasValue, HasItems};
 
 use wjs_base::{ObjId, OutOfMemory, Value};
-use wjs_model::{Config, Held, Items};
+use wjs_model::{Config, Frame, Held, Items};
 use wjs_store::WorldStore;
 
 /// The values, in order.
@@ -43,17 +43,17 @@ pub(crate) fn elements_for<S: WorldStore>(
 
 /// Holds an element, and again the object and what is called, so that no search for them passes the elements.
 pub(crate) fn hold_element(
-    items: &mut Items,
+    frame: &mut Frame,
     value: Value,
     object: ObjId,
     count: u32,
     function: ObjId,
     this: Value,
 ) -> Result<(), OutOfMemory>
-    ensures { OnOk result (items.new ≡ Held.Callee (Value.Object function) this ∷ Held.Elements object count ∷ Held.Value value ∷ items.old) }
+    ensures { OnOk result (frame.new ≡ record frame.old { held = Held.Callee (Value.Object function) this ∷ Held.Elements object count ∷ Held.Value value ∷ frame.old.held }) }
 {
-    items.push(Held::Value(value))?;
-    items.push(Held::Elements(object, count))?;
-    items.push(Held::Callee(Value::Object(function), this))?;
+    frame.hold(Held::Value(value))?;
+    frame.hold(Held::Elements(object, count))?;
+    frame.hold(Held::Callee(Value::Object(function), this))?;
     Ok(())
 }

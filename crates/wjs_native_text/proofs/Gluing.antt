@@ -18,6 +18,7 @@ use Rattle.wjs_meaning.specs.NativesOfObjects.{text_of}
 use Rattle.wjs_meaning.specs.NativesOfTexts.{glue_from, glued, joined}
 use Rattle.wjs_model.specs.declared.frame.Form.{Form}
 use Rattle.wjs_model.specs.declared.frame.Form.TheVariants as form
+use Rattle.wjs_model.specs.declared.frame.Activation.{Activation as Frame}
 use Rattle.wjs_model.specs.declared.frame.Held.{Held}
 use Rattle.wjs_model.specs.declared.frame.Held.TheVariants as holds
 use Rattle.wjs_model.specs.Contents.{Holding, holding_in, value_held, values_held, elements_held}
@@ -50,18 +51,23 @@ glue_due t held node what here place i so_far env eo ep less joins =
     ∙ (λ j. Tick (Do (Read env.world (slot o (index_name i))) (λ found. glue_from left (i + 1) (joins (value_or_undefined found) j) separator o env)))
     ∙ ap (λ k. glue_from k i so_far separator o env) n
 
-pub held_first : (items under : List Held) (separator : NumberedValue) (o : ObjId) (count : ℕ) → items ≡ holds.Elements o count ∷ holds.Value separator ∷ under → under ≡ [] → items ≡ holds.Elements o count ∷ holds.Value separator ∷ []
-held_first items under separator o count e none = e ∙ ap (λ (l : List Held). holds.Elements o count ∷ holds.Value separator ∷ l) none
+-- what is held once the object is held over the separator
+pub held_over : (frame under f : Frame) (held : List Held) (separator : NumberedValue) (o : ObjId) (count : ℕ) → frame ≡ record under { held = holds.Elements o count ∷ holds.Value separator ∷ under.held } → under ≡ record f { held = held } → frame ≡ record f { held = holds.Elements o count ∷ holds.Value separator ∷ held }
+held_over frame under f held separator o count e eu = e ∙ ap (λ (q : Frame). record q { held = holds.Elements o count ∷ holds.Value separator ∷ q.held }) eu
+
+pub held_first : (frame under f : Frame) (held : List Held) (separator : NumberedValue) (o : ObjId) (count : ℕ) → frame ≡ record under { held = holds.Elements o count ∷ holds.Value separator ∷ under.held } → under ≡ record f { held = held } → held ≡ [] → frame ≡ record f { held = holds.Elements o count ∷ holds.Value separator ∷ [] }
+held_first frame under f held separator o count e eu none =
+    held_over frame under f held separator o count e eu
+    ∙ ap (λ (l : List Held). let all : Frame = record f { held = holds.Elements o count ∷ holds.Value separator ∷ l } in all) none
 
 -- the first slot: nothing but the separator is held
-pub glue_first : (t : Table) (held : List Held) (node : Node) (what : Form) (here : ℕ) (separator : NumberedValue) (o : ObjId) (count : ℕ) (env : Env) → what ≡ form.Native native.Glue → held ≡ holds.Elements o count ∷ holds.Value separator ∷ [] → ¬ (count ≡ 0)
-    → Tick (begin_form node what here 1 (holding_in t held) env) ≡ glue_from count 0 [] (text_of (value_in t separator)) o env
-glue_first t held node what here separator o count env eo e some =
+pub glue_first : (t : Table) (node : Node) (what : Form) (here : ℕ) (separator : NumberedValue) (o : ObjId) (count : ℕ) (env : Env) → what ≡ form.Native native.Glue → ¬ (count ≡ 0)
+    → Tick (begin_form node what here 1 (holding_in t (holds.Elements o count ∷ holds.Value separator ∷ [])) env) ≡ glue_from count 0 [] (text_of (value_in t separator)) o env
+glue_first t node what here separator o count env eo some =
     let items = holds.Elements o count ∷ holds.Value separator ∷ [] in
     let all : count - 0 ≡ count = omega arith in
     let first : 1 ≡ suc 0 = omega arith in
-    ap (λ (l : List Held). Tick (begin_form node what here 1 (holding_in t l) env)) e
-    ∙ glue_due t items node what here 1 0 [] env eo first (omega (arith, some)) (λ w. append-nil (text_of w))
+    glue_due t items node what here 1 0 [] env eo first (omega (arith, some)) (λ w. append-nil (text_of w))
     ∙ ap (λ k. glue_from k 0 [] (text_of (value_in t separator)) o env) all
 
 -- a further piece, and the separator before it
@@ -75,15 +81,14 @@ joined_more (u ∷ us) v s w =
     ∙ sym (append_assoc (joined read) (text_of s) (text_of w))
 
 -- the slot behind one that was read
-pub glue_onward : (t : Table) (held items : List Held) (node : Node) (what : Form) (here place i : ℕ) (piece separator : NumberedValue) (elements : ObjId × ℕ) (env : Env) → what ≡ form.Native native.Glue → place ≡ suc (suc i) → items ≡ holds.Elements elements.0 elements.1 ∷ holds.Value separator ∷ holds.Value piece ∷ held → separator ≡ value_held held → elements ≡ elements_held held → suc i < elements.1
-    → Tick (begin_form node what here place (holding_in t items) env) ≡ glue_rest i (holding_in t held) env (value_in t piece)
-glue_onward t held items node what here place i piece separator elements env eo ep e es same less =
+pub glue_onward : (t : Table) (held : List Held) (node : Node) (what : Form) (here place i : ℕ) (piece separator : NumberedValue) (elements : ObjId × ℕ) (env : Env) → what ≡ form.Native native.Glue → place ≡ suc (suc i) → separator ≡ value_held held → elements ≡ elements_held held → suc i < elements.1
+    → Tick (begin_form node what here place (holding_in t (holds.Elements elements.0 elements.1 ∷ holds.Value separator ∷ holds.Value piece ∷ held)) env) ≡ glue_rest i (holding_in t held) env (value_in t piece)
+glue_onward t held node what here place i piece separator elements env eo ep es same less =
     let now = holds.Elements elements.0 elements.1 ∷ holds.Value separator ∷ holds.Value piece ∷ held in
     let vs = (holding_in t held).values in
     let so_far = joined (drop 1 (vs ++ value_in t piece ∷ [])) in
     let next : suc i ≡ i + 1 = omega arith in
-    ap (λ (l : List Held). Tick (begin_form node what here place (holding_in t l) env)) e
-    ∙ glue_due t now node what here place (suc i) so_far env eo ep less (joined_more vs (value_in t piece) (value_in t separator))
+    glue_due t now node what here place (suc i) so_far env eo ep less (joined_more vs (value_in t piece) (value_in t separator))
     ∙ ap (λ (k : ObjId × ℕ). glue_from (k.1 - suc i) (suc i) so_far (text_of (value_in t separator)) k.0 env) same
     ∙ ap (λ (s : NumberedValue). glue_from ((elements_held held).1 - suc i) (suc i) so_far (text_of (value_in t s)) (elements_held held).0 env) es
     ∙ ap (λ n. glue_from ((elements_held held).1 - n) n so_far (text_of (value_in t (value_held held))) (elements_held held).0 env) next

@@ -10,7 +10,7 @@ use Rattle.wjs_content.specs.Tables.{value_in}
 use Rattle.wjs_meaning.specs.Deeds.{Act}
 use Rattle.wjs_meaning.specs.Natives.{native_run}
 use Rattle.wjs_model.specs.declared.config.Config.{Config}
-use Rattle.wjs_model.specs.declared.frame.Frame.{Frame}
+use Rattle.wjs_model.specs.declared.frame.Activation.{Activation as Frame}
 use Rattle.wjs_model.specs.Contents.{new_held}
 use Rattle.wjs_moves.specs.Following.{Follows}
 use Rattle.wjs_moves.specs.Parts.{env_in}

@@ -13,7 +13,7 @@ use wjs_arena::Native;
 use wjs_base::{Name, ObjId, OutOfMemory, Value};
 use wjs_deeds::read;
 use wjs_lines::{give_text, held_elements, held_value, throw};
-use wjs_model::{Config, Form, Frame, Held, Items, State, Trouble};
+use wjs_model::{Config, Form, Frame, Held, State, Trouble};
 use wjs_moves::due_later;
 use wjs_native_lines::give_joined;
 use wjs_natives::{value_at, whole_at};
@@ -40,22 +40,22 @@ pub(crate) fn glue<S: WorldStore>(
     if count == 0 {
         return give_text(config, &frame, &[]);
     }
-    frame.held = config.frames.nothing_held();
-    hold_separator(&mut frame.held, value_at(args, 2), object, count)?;
+    frame.set_held(config.frames.nothing_held());
+    hold_separator(&mut frame, value_at(args, 2), object, count)?;
     due_later(config, frame, 1)
 }
 
 /// Holds the separator that stands before the next piece, and then the object, so that no search for these two passes more.
 fn hold_separator(
-    items: &mut Items,
+    frame: &mut Frame,
     separator: Value,
     object: ObjId,
     count: u32,
 ) -> Result<(), OutOfMemory>
-    ensures { OnOk result (items.new ≡ Held.Elements object count ∷ Held.Value separator ∷ items.old) }
+    ensures { OnOk result (frame.new ≡ record frame.old { held = Held.Elements object count ∷ Held.Value separator ∷ frame.old.held }) }
 {
-    items.push(Held::Value(separator))?;
-    items.push(Held::Elements(object, count))
+    frame.hold(Held::Value(separator))?;
+    frame.hold(Held::Elements(object, count))
 }
 
 /// Reads the slot before the frame's place. The pieces are joined once all are read, so that no text is made in between.
@@ -72,14 +72,14 @@ pub(crate) fn glue_on<S: WorldStore>(
 {
     let separator = held_value(config, &frame);
     let (object, count) = held_elements(config, &frame);
-    let name = Name::Index(frame.place - 1);
+    let name = Name::Index(frame.place() - 1);
     let piece = read(config, &frame, object, name)?;
-    frame.held.push(Held::Value(piece))?;
-    if frame.place < count {
-        hold_separator(&mut frame.held, separator, object, count)?;
-        let next = frame.place + 1;
+    frame.hold(Held::Value(piece))?;
+    if frame.place() < count {
+        hold_separator(&mut frame, separator, object, count)?;
+        let next = frame.place() + 1;
         return due_later(config, frame, next);
     }
-    let values = frame.held.values(config.heap.arena.allocator())?;
+    let values = frame.values(config.heap.arena.allocator())?;
     give_joined(config, &frame, &values[1..])
 }

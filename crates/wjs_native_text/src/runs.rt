@@ -63,7 +63,7 @@ fn run_line<S: WorldStore>(
         Native::Print => print(config, &frame, this, args),
         Native::ParseInt => parse_int(config, &frame, this, args),
         Native::IsNaN => is_nan(config, &frame, this, args),
-        Native::StringConstructor => new_string(config, &frame, frame.held.by_new(), args),
+        Native::StringConstructor => new_string(config, &frame, frame.by_new(), args),
         Native::FromCharCode => from_char_code(config, &frame, args),
         Native::Glue => glue(config, frame, args),
         Native::StringToString => own_text(config, &frame, this),
@@ -118,10 +118,10 @@ fn run_number<S: WorldStore>(
     ensures { let t = config.new.heap.texts in OnOk result (Follows S.meaning (native_line native (new_held frame.now.held) (value_in t this) (map (value_in t) args.now) (env_in S.meaning config.old t frame.now)) config.old config.new) }
 {
     match native {
-        Native::NumberConstructor => new_number(config, frame, frame.held.by_new(), args),
+        Native::NumberConstructor => new_number(config, frame, frame.by_new(), args),
         Native::NumberToString => number_text(config, frame, this, args),
         Native::NumberValueOf => own_number(config, frame, this),
-        Native::BooleanConstructor => new_boolean(config, frame, frame.held.by_new(), args),
+        Native::BooleanConstructor => new_boolean(config, frame, frame.by_new(), args),
         Native::BooleanToString => truth_text(config, frame, this),
         Native::BooleanValueOf => own_truth(config, frame, this),
         _ => run_math(config, frame, native, this, args),

@@ -38,7 +38,7 @@ fn begin_text<S: WorldStore>(config: &mut Config<S>, frame: Frame) -> Result<(),
     requires turn { turn_of_form frame.form ≡ Turn.TextNative }
     ensures { let t = config.new.heap.texts in OnOk result (Follows S.meaning (begins_at S.meaning config.old frame frame.place t (env_in S.meaning config.old t frame)) config.old config.new) }
 {
-    match frame.form {
+    match frame.form() {
         Form::Native(native) => begin_at(config, frame, native),
         _ => unreachable!(),
     }
@@ -57,7 +57,7 @@ fn begin_at<S: WorldStore>(
     requires turn { turn_of_native native ≡ Turn.TextNative }
     ensures { let t = config.new.heap.texts in OnOk result (Follows S.meaning (begin_native native frame.place (holding_in t frame.held) (env_in S.meaning config.old t frame)) config.old config.new) }
 {
-    if frame.place > 0 {
+    if frame.place() > 0 {
         return match native {
             Native::Glue => glue_on(config, frame),
             _ => finish(config, &frame, Completion::Normal),
@@ -82,7 +82,7 @@ fn resume_text<S: WorldStore>(
     requires turn { turn_of_form frame.form ≡ Turn.TextNative }
     ensures { let t = config.new.heap.texts in OnOk result (Follows S.meaning (then_at S.meaning config.old frame frame.place t (env_in S.meaning config.old t frame) (completion_in t completion)) config.old config.new) }
 {
-    let Form::Native(native) = frame.form else {
+    let Form::Native(native) = frame.form() else {
         unreachable!()
     };
     match resume(config, frame, native, completion)? {

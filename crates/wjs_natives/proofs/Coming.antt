@@ -17,7 +17,7 @@ use Rattle.wjs_props.specs.Means.{nothing}
 use Rattle.wjs_meaning.specs.Deeds.{Env, Act, Sub, Gives, give, then_value}
 use Rattle.wjs_meaning.specs.Natives.{Kind, convert, native_run}
 use Rattle.wjs_model.specs.declared.config.Config.{Config}
-use Rattle.wjs_model.specs.declared.frame.Frame.{Frame}
+use Rattle.wjs_model.specs.declared.frame.Activation.{Activation as Frame}
 use Rattle.wjs_model.specs.declared.frame.Conversion.{Conversion}
 use Rattle.wjs_model.specs.Rest.{begin_conversion}
 use Rattle.wjs_model.specs.Contents.{new_held}

@@ -127,6 +127,7 @@ fn wait_for<S: WorldStore>(
         return Err(OutOfMemory);
     };
     let value = values[at];
-    frame.held = items_of(config, values, frame.held.by_new())?;
+    let by_new = frame.by_new();
+    frame.set_held(items_of(config, values, by_new)?);
     convert(config, frame, place, conversion, value)
 }

@@ -28,9 +28,9 @@ pub fn begin<S: WorldStore>(
     requires form { frame.form ≡ Form.Native native }
     ensures { IfOk result (λ progress. Progresses S.meaning native frame (λ t. native_of native (holding_in t frame.held).by_new (holding_in t frame.held).values (env_in S.meaning config.old t frame)) progress config.old config.new) }
 {
-    let args = frame.held.values(config.heap.arena.allocator())?;
+    let args = frame.values(config.heap.arena.allocator())?;
     let given = args.len();
-    let values = with_receiver(frame.this, args)?;
+    let values = with_receiver(frame.this(), args)?;
     convert_rest(config, frame, native, values, given, 0)
 }
 
@@ -79,9 +79,9 @@ fn resume_with<S: WorldStore>(
     requires value { HasValue config.old value }
     ensures { IfOk result (λ progress. Progresses S.meaning native frame (λ t. after_argument native (holding_in t frame.held) (frame.place - 1) (env_in S.meaning config.old t frame) (value_in t value)) progress config.old config.new) }
 {
-    let mut values = frame.held.values(config.heap.arena.allocator())?;
+    let mut values = frame.values(config.heap.arena.allocator())?;
     let given = values.len().saturating_sub(1);
-    let at = (frame.place as usize).saturating_sub(1);
+    let at = (frame.place() as usize).saturating_sub(1);
     put(&mut values, at, value)?;
     convert_rest(config, frame, native, values, given, at + 1)
 }

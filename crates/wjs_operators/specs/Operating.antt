@@ -10,7 +10,7 @@ use Rattle.wjs_meaning.specs.Deeds.{Env, Act, Sub, then_value}
 use Rattle.wjs_meaning.specs.Conversions.{HintNumber, to_primitive}
 use Rattle.wjs_meaning.specs.Operators.{give_truth, give_opposite, equal_primitive}
 use Rattle.wjs_model.specs.declared.config.Config.{Config}
-use Rattle.wjs_model.specs.declared.frame.Frame.{Frame}
+use Rattle.wjs_model.specs.declared.frame.Activation.{Activation as Frame}
 use Rattle.wjs_model.specs.declared.frame.Held.{Held}
 use Rattle.wjs_model.specs.Contents.{holding_in}
 use Rattle.wjs_model.specs.Waiting.{after_operand}

@@ -126,7 +126,7 @@ pub(crate) fn calculated<S: WorldStore>(
 pub(crate) fn held_number(frame: &Frame) -> Whole
     ensures { (t : Table) → result.number ≡ whole_of (value_in t (value_held frame.now.held)) }
 {
-    match frame.held.value() {
+    match frame.value() {
         Value::Number(number) => number,
         _ => Whole::NAN,
     }

@@ -108,7 +108,7 @@ fn add_after<S: WorldStore>(
     requires value { HasValue config.old value }
     ensures { let t = config.new.heap.texts in let env = env_in S.meaning config.old t frame in OnOk result (Follows S.meaning (after_operand BinaryOperator.Add frame.place (holding_in t frame.held) env (Gives (value_in t value))) config.old config.new) }
 {
-    if frame.place == 3 {
+    if frame.place() == 3 {
         return add_right(config, frame, value);
     }
     let left = held_value(config, &frame);
@@ -130,7 +130,7 @@ fn compare_after<S: WorldStore>(
     requires value { HasValue config.old value }
     ensures { let t = config.new.heap.texts in let env = env_in S.meaning config.old t frame in OnOk result (Follows S.meaning (after_operand operator frame.place (holding_in t frame.held) env (Gives (value_in t value))) config.old config.new) }
 {
-    if frame.place == 3 {
+    if frame.place() == 3 {
         return compare_right(config, frame, operator, value);
     }
     let left = held_value(config, &frame);
@@ -190,7 +190,7 @@ fn calculate_number<S: WorldStore>(
     requires arithmetic { is_arithmetic operator ≡ true }
     ensures { let t = config.new.heap.texts in let env = env_in S.meaning config.old t frame in OnOk result (Follows S.meaning (after_operand operator frame.place (holding_in t frame.held) env (Gives (Number number.number))) config.old config.new) }
 {
-    if frame.place == 3 {
+    if frame.place() == 3 {
         return calculate_right(config, frame, operator, number);
     }
     let left = held_number(&frame);

@@ -13,7 +13,7 @@ use Rattle.wjs_meaning.specs.Start.{start, properties}
 use Rattle.wjs_model.specs.declared.config.Config.{Config}
 use Rattle.wjs_model.specs.declared.config.State.TheVariants as states
 use Rattle.wjs_model.specs.declared.frame.Form.TheVariants as form
-use Rattle.wjs_model.specs.declared.frame.Frame.{Frame}
+use Rattle.wjs_model.specs.declared.frame.Activation.{Activation as Frame}
 use Rattle.wjs_model.specs.declared.frame.Phase.{Phase}
 use Rattle.wjs_model.specs.declared.frame.Phase.TheVariants as phases
 use Rattle.wjs_model.specs.declared.unit.Unit.{Unit as Program}

@@ -13,7 +13,7 @@ use crate::heap::first_heap;
 use crate::script::script_names;
 use std::alloc::Global;
 use wjs_base::{OutOfMemory, Texts, Value};
-use wjs_model::{Config, Form, Frame, Frames, Items, Phase, State, Unit};
+use wjs_model::{Activation, Config, Form, Frame, Frames, Items, Phase, State, Unit};
 use wjs_store::WorldStore;
 use wjs_tree::NodeId;
 
@@ -62,21 +62,21 @@ fn first_frames(alloc: Global, library: &Option<Unit>, script: &Unit) -> Result<
     let mut frames = Frames::new(alloc);
     match library {
         None => {
-            frames.push(program_frame(alloc, 0, script.program.body, Phase::Due))?;
+            frames.push(program_frame(alloc, 0, script.program.body, Phase::Due)?)?;
         }
         Some(library) => {
-            frames.push(program_frame(alloc, 1, script.program.body, Phase::Waiting))?;
-            frames.push(program_frame(alloc, 0, library.program.body, Phase::Due))?;
+            frames.push(program_frame(alloc, 1, script.program.body, Phase::Waiting)?)?;
+            frames.push(program_frame(alloc, 0, library.program.body, Phase::Due)?)?;
         }
     }
     Ok(frames)
 }
 
 /// The body of a program, in the first world and on the global object.
-fn program_frame(alloc: Global, tree: u32, body: NodeId, phase: Phase) -> Frame
-    ensures { result ≡ frame_at tree body phase }
+fn program_frame(alloc: Global, tree: u32, body: NodeId, phase: Phase) -> Result<Frame, OutOfMemory>
+    ensures { IfOk result (λ frame. frame ≡ frame_at tree body phase) }
 {
-    Frame {
+    let activation = Activation {
         form: Form::Body,
         tree,
         node: body,
@@ -86,7 +86,8 @@ fn program_frame(alloc: Global, tree: u32, body: NodeId, phase: Phase) -> Frame
         this: Value::Object(GLOBAL_OBJECT),
         world: FIRST_WORLD,
         held: Items::new(alloc),
-    }
+    };
+    Frame::new(alloc, activation)
 }
 
 /// The programs of the run, the library's first.

@@ -4,7 +4,7 @@ use Rattle.wjs_store.specs.Meaning.{Meaning}
 use Rattle.wjs_tree.specs.declared.node.NodeId.{NodeId}
 use Rattle.wjs_scope.specs.Nesting.{Around, parts, IsAmong}
 use Rattle.wjs_model.specs.declared.config.Config.{Config}
-use Rattle.wjs_model.specs.declared.frame.Frame.{Frame}
+use Rattle.wjs_model.specs.declared.frame.Activation.{Activation as Frame}
 use Rattle.wjs_model.specs.Soundness.{IsThere, StandsHere}
 use Rattle.wjs_moves.specs.Following.{Later}
 use Rattle.wjs_moves.specs.Parts.{node_now}

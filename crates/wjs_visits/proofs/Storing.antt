@@ -19,7 +19,7 @@ use Rattle.wjs_meaning.specs.Loops.{after_body, visits_from, visit_body, for_in_
 use Rattle.wjs_model.specs.declared.config.Config.{Config}
 use Rattle.wjs_model.specs.declared.frame.Form.{Form}
 use Rattle.wjs_model.specs.declared.frame.Form.TheVariants as form
-use Rattle.wjs_model.specs.declared.frame.Frame.{Frame}
+use Rattle.wjs_model.specs.declared.frame.Activation.{Activation as Frame}
 use Rattle.wjs_model.specs.declared.frame.Held.TheVariants as holds
 use Rattle.wjs_model.specs.Contents.{Holding, holding_in, visits_held}
 use Rattle.wjs_model.specs.Waiting.{after, visit_taken}

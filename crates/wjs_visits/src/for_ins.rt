@@ -81,7 +81,7 @@ fn next<S: WorldStore>(
     requires completion { HasCompletion config.old completion }
     ensures { let texts = config.new.heap.texts in let env = env_in S.meaning config.old texts frame in OnOk result (Follows S.meaning (after_for_in frame.node.0 (taker_in texts taker) s.0 frame.place (holding_in texts frame.held) env (completion_in texts completion)) config.old config.new) }
 {
-    match frame.place {
+    match frame.place() {
         1 => match completion {
             Completion::Gives(value) => over_value(config, frame, taker, s, value),
             other => finish(config, &frame, other),

@@ -33,7 +33,7 @@ pub(crate) fn next_visit<S: WorldStore>(config: &Config<S>, frame: &mut Frame) -
     ensures shorter { IfSome result (λ _. length frame.new.held < length frame.old.held) }
 {
     let _config = config;
-    while let Some(item) = frame.held.pop() {
+    while let Some(item) = frame.pop() {
         if let Held::Visit(slot) = item {
             return Some(slot);
         }
@@ -117,7 +117,7 @@ pub(crate) fn hold_visits<S: WorldStore>(
     match listed_of(config, value) {
         Some(object) => {
             let visits = visits(config, frame, object)?;
-            frame.held = config.frames.nothing_held();
+            frame.set_held(config.frames.nothing_held());
             push_visits(frame, visits)?;
             Ok(Ok(()))
         }

@@ -9,17 +9,17 @@ use Rattle.wjs_operators.proofs.Operators.{number_passes}
 use Rattle.wjs_assigns.proofs.Places.{minus_past}
 use Rattle.wjs_assigns.proofs.prefixes.minus_given.Goals as goal
 
-pub returns-then-frame-eq1 : goal.returns-then-frame-eq1
-returns-then-frame-eq1 g c = follows_as _ _ _ _ _ _ (λ grows. rw (c.if-frame-eq1.true) refl) c.minus_value.ensures
+pub returns-then-place-eq1 : goal.returns-then-place-eq1
+returns-then-place-eq1 g c = follows_as _ _ _ _ _ _ (λ grows. rw (sym c.place.ensures ∙ c.if-place-eq1.true) refl) c.minus_value.ensures
 
 pub returns-in-Number : goal.returns-in-Number
 returns-in-Number g c =
     let t = c.minus_number.new.config.heap.texts in
     let env = env_in g.S.WorldStore.meaning c.args.config.now t c.args.frame in
-    follows_as _ _ _ _ _ _ (λ grows. sym (ap (λ v. then_number minus_number (Gives (value_in t v))) c.in-Number.is) ∙ minus_past c.args.frame.place (holding_in t c.args.frame.held) env c.if-frame-eq1.false (Gives (value_in t c.args.value))) c.minus_number.ensures
+    follows_as _ _ _ _ _ _ (λ grows. sym (ap (λ v. then_number minus_number (Gives (value_in t v))) c.in-Number.is) ∙ minus_past c.args.frame.place (holding_in t c.args.frame.held) env (λ e. c.if-place-eq1.false (c.place.ensures ∙ e)) (Gives (value_in t c.args.value))) c.minus_number.ensures
 
 pub returns : goal.returns
 returns g c =
     let t = c.finish.new.config.heap.texts in
     let env = env_in g.S.WorldStore.meaning c.args.config.now t c.args.frame in
-    follows_as _ _ _ _ _ _ (λ grows. number_passes minus_number t c.args.value c.in_default.not-Number ∙ minus_past c.args.frame.place (holding_in t c.args.frame.held) env c.if-frame-eq1.false (Gives (value_in t c.args.value))) c.finish.ensures
+    follows_as _ _ _ _ _ _ (λ grows. number_passes minus_number t c.args.value c.in_default.not-Number ∙ minus_past c.args.frame.place (holding_in t c.args.frame.held) env (λ e. c.if-place-eq1.false (c.place.ensures ∙ e)) (Gives (value_in t c.args.value))) c.finish.ensures

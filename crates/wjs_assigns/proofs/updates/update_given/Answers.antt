@@ -10,8 +10,8 @@ use Rattle.wjs_assigns.specs.Updating.{fix_of}
 use Rattle.wjs_assigns.proofs.Places.{update_past}
 use Rattle.wjs_assigns.proofs.updates.update_given.Goals as goal
 
-pub returns-then-frame-eq1 : goal.returns-then-frame-eq1
-returns-then-frame-eq1 g c = follows_as _ _ _ _ _ _ (λ grows. rw (c.if-frame-eq1.true) refl) c.finish.ensures
+pub returns-then-place-eq1 : goal.returns-then-place-eq1
+returns-then-place-eq1 g c = follows_as _ _ _ _ _ _ (λ grows. rw (sym c.place.ensures ∙ c.if-place-eq1.true) refl) c.finish.ensures
 
 pub returns-in-Number : goal.returns-in-Number
 returns-in-Number g c =
@@ -19,7 +19,7 @@ returns-in-Number g c =
     let env = env_in g.S.WorldStore.meaning c.args.config.now t c.args.frame.now in
     follows_as _ _ _ _ _ _ (λ grows.
     sym (ap (λ v. then_number (update_number (fix_of c.args.fix) c.args.operator env (reference_in t (reference_held c.args.frame.now.held))) (Gives (value_in t v))) c.in-Number.is)
-    ∙ update_past c.args.frame.now.place (holding_in t c.args.frame.now.held) env c.if-frame-eq1.false (fix_of c.args.fix) c.args.operator (Gives (value_in t c.args.value))) c.update_held.ensures
+    ∙ update_past c.args.frame.now.place (holding_in t c.args.frame.now.held) env (λ e. c.if-place-eq1.false (c.place.ensures ∙ e)) (fix_of c.args.fix) c.args.operator (Gives (value_in t c.args.value))) c.update_held.ensures
 
 pub returns-in_default : goal.returns-in_default
 returns-in_default g c =
@@ -27,4 +27,4 @@ returns-in_default g c =
     let env = env_in g.S.WorldStore.meaning c.args.config.now t c.args.frame.now in
     follows_as _ _ _ _ _ _ (λ grows.
     number_passes (update_number (fix_of c.args.fix) c.args.operator env (reference_in t (reference_held c.args.frame.now.held))) t c.args.value c.in_default.not-Number
-    ∙ update_past c.args.frame.now.place (holding_in t c.args.frame.now.held) env c.if-frame-eq1.false (fix_of c.args.fix) c.args.operator (Gives (value_in t c.args.value))) c.finish-in_default.ensures
+    ∙ update_past c.args.frame.now.place (holding_in t c.args.frame.now.held) env (λ e. c.if-place-eq1.false (c.place.ensures ∙ e)) (fix_of c.args.fix) c.args.operator (Gives (value_in t c.args.value))) c.finish-in_default.ensures

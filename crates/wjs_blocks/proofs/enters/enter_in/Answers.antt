@@ -1,5 +1,5 @@
 use Rattle.std.proofs.Common.{sym, subst}
-use Rattle.wjs_model.specs.declared.frame.Frame.{Frame}
+use Rattle.wjs_model.specs.declared.frame.Activation.{Activation as Frame}
 use Rattle.wjs_model.specs.Soundness.{StandsHere}
 use Rattle.wjs_moves.specs.Parts.{env_in, then_at, goal_of, node_of}
 use Rattle.wjs_moves.proofs.Parting.{stands_later}
@@ -12,15 +12,15 @@ pub returns : goal.returns
 returns g c =
     let meaning = g.S.WorldStore.meaning in
     let old = c.args.config.now in
-    scoped_follows meaning (goal_of c.args.part) (λ (t : Table). then_at meaning old c.args.frame c.args.place t (env_in meaning old t c.args.frame)) old c.wait.new.config c.enter_last.new.config c.args.frame c.like-inner.result c.args.scope _ c.enter_last.result c.in_ok-wait.ensures.same c.like-inner.ensures c.in_ok-wait.ensures.nests c.enter_last.ensures
+    scoped_follows meaning (goal_of c.args.part) (λ (t : Table). then_at meaning old c.args.frame c.args.place t (env_in meaning old t c.args.frame)) old c.wait.new.config c.enter_last.new.config c.args.frame c.in_ok-inner.inner c.args.scope _ c.enter_last.result c.in_ok-wait.ensures.same c.in_ok-inner.ensures c.in_ok-wait.ensures.nests c.enter_last.ensures
 
 pub enter_last-requires-clause-there : goal.enter_last-requires-clause-there
 enter_last-requires-clause-there g c =
-    let inner = c.like-inner.result in
-    c.in_ok-wait.ensures.later.frames inner (inner_there g.S.WorldStore.meaning c.args.config.now c.args.frame c.requires.there c.args.scope inner c.nothing_held.result c.requires.scope c.requires.outer c.nothing_held.ensures c.like-inner.ensures)
+    let inner = c.in_ok-inner.inner in
+    c.in_ok-wait.ensures.later.frames inner (inner_there g.S.WorldStore.meaning c.args.config.now c.args.frame c.requires.there c.args.scope inner c.nothing_held.result c.requires.scope c.requires.outer c.nothing_held.ensures c.in_ok-inner.ensures)
 
 pub enter_last-requires-clause-part : goal.enter_last-requires-clause-part
 enter_last-requires-clause-part g c =
-    let inner = c.like-inner.result in
+    let inner = c.in_ok-inner.inner in
     let part = node_of c.args.part in
-    stands_later g.S.WorldStore.meaning c.args.config.now inner c.wait.new.config part c.in_ok-wait.ensures.later (subst (λ (f : Frame). StandsHere c.args.config.now f part) (sym c.like-inner.ensures) c.requires.part)
+    stands_later g.S.WorldStore.meaning c.args.config.now inner c.wait.new.config part c.in_ok-wait.ensures.later (subst (λ (f : Frame). StandsHere c.args.config.now f part) (sym c.in_ok-inner.ensures) c.requires.part)

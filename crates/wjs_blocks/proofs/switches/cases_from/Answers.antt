@@ -5,7 +5,7 @@ use Rattle.wjs_content.specs.Tables.{value_in}
 use Rattle.wjs_meaning.specs.Deeds.{Eval, AtExpr}
 use Rattle.wjs_meaning.specs.Reading.{clause_in}
 use Rattle.wjs_meaning.specs.Statements.{switch_from, switch_cases, statements_of}
-use Rattle.wjs_model.specs.declared.frame.Frame.{Frame}
+use Rattle.wjs_model.specs.declared.frame.Activation.{Activation as Frame}
 use Rattle.wjs_model.specs.declared.frame.Held.{Held}
 use Rattle.wjs_model.specs.declared.frame.Held.TheVariants as holds
 use Rattle.wjs_model.specs.Contents.{holding_in}

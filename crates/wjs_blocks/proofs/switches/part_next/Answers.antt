@@ -4,7 +4,7 @@ use Rattle.wjs_content.specs.Tables.{value_in}
 use Rattle.wjs_meaning.specs.Reading.{node_in}
 use Rattle.wjs_meaning.specs.Deeds.{then_value}
 use Rattle.wjs_meaning.specs.Statements.{switch_next, switch_from, statements_of}
-use Rattle.wjs_model.specs.declared.frame.Frame.{Frame}
+use Rattle.wjs_model.specs.declared.frame.Activation.{Activation as Frame}
 use Rattle.wjs_model.specs.Contents.{completion_in, values_held}
 use Rattle.wjs_model.specs.Frames.{earliest_first}
 use Rattle.wjs_model.specs.Waiting.{after_case}

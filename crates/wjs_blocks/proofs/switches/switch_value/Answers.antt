@@ -1,4 +1,4 @@
-use Rattle.std.proofs.Common.{List, ap}
+use Rattle.std.proofs.Common.{List, ap, ◌∙◌}
 use Rattle.wjs_model.specs.declared.frame.Held.{Held}
 use Rattle.wjs_blocks.proofs.Standing.{holding_nothing}
 use Rattle.wjs_blocks.proofs.switches.switch_value.Goals as goal
@@ -6,4 +6,4 @@ use Rattle.wjs_blocks.proofs.switches.switch_value.Goals as goal
 pub cases_from-requires-clause-there : goal.cases_from-requires-clause-there
 cases_from-requires-clause-there g c =
     let f = c.args.frame in
-    holding_nothing g.S.WorldStore.meaning c.args.config.now f c.requires.there _ (ap (λ (held : List Held). record f { held = held }) c.nothing_held.ensures)
+    holding_nothing g.S.WorldStore.meaning c.args.config.now f c.requires.there c.set_held.new.self (c.set_held.ensures ∙ ap (λ (held : List Held). record f { held = held }) c.nothing_held.ensures)

@@ -1,5 +1,5 @@
 use Rattle.std.proofs.Common.{sym, subst}
-use Rattle.wjs_model.specs.declared.frame.Frame.{Frame}
+use Rattle.wjs_model.specs.declared.frame.Activation.{Activation as Frame}
 use Rattle.wjs_model.specs.Soundness.{StandsHere}
 use Rattle.wjs_blocks.proofs.Standing.{last_stands, holding_earlier}
 use Rattle.wjs_blocks.proofs.tries.finally_start.Goals as goal

@@ -12,4 +12,4 @@ call-requires-clause-there g c =
     let later = c.in_ok-wait.ensures.later in
     let f = c.args.frame in
     let h = later.frames f c.requires.there in
-    subst (IsThere m new) (sym c.frame_above-above.ensures) (there_with m new f form.Call 0 phases.Ready f.this c.args.items h tt h.this (later.items c.args.items c.requires.items) tt)
+    subst (IsThere m new) (sym c.in_ok-above.ensures) (there_with m new f form.Call 0 phases.Ready f.this c.args.items h tt h.this (later.items c.args.items c.requires.items) tt)

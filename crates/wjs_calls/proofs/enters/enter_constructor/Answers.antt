@@ -4,7 +4,7 @@ use Rattle.wjs_base.specs.declared.values.Value.TheVariants as values
 use Rattle.wjs_content.specs.Tables.{value_in}
 use Rattle.wjs_meaning.specs.Deeds.{Tick, AtNative}
 use Rattle.wjs_model.specs.declared.frame.Form.TheVariants as form
-use Rattle.wjs_model.specs.declared.frame.Frame.{Frame}
+use Rattle.wjs_model.specs.declared.frame.Activation.{Activation as Frame}
 use Rattle.wjs_model.specs.declared.frame.Held.TheVariants as holds
 use Rattle.wjs_model.specs.Contents.{holding_in}
 use Rattle.wjs_model.specs.Soundness.{IsThere}
@@ -22,7 +22,7 @@ returns g c =
     let t = new.heap.texts in
     let f = λ (q : Frame). record q { form = form.Native c.args.native; this = values.Undefined } in
     entered m (AtNative c.args.native true (holding_in t c.args.frame.held).values) (record (env_in m old t c.args.frame) { this = value_in t values.Undefined }) old new c.due_later.result
-    (subst (λ (q : Frame). OnOk c.due_later.result (Follows m (Tick (begins_at m old (f q) 0 t (env_in m old t (f q)))) old new)) c.in_ok-hold.ensures c.due_later.ensures)
+    (subst (λ (q : Frame). OnOk c.due_later.result (Follows m (Tick (begins_at m old (f q) 0 t (env_in m old t (f q)))) old new)) c.in_ok-hold.ensures (subst (λ (q : Frame). OnOk c.due_later.result (Follows m (Tick (begins_at m old q 0 t (env_in m old t q))) old new)) c.set_call.ensures c.due_later.ensures))
 
 pub due_later-requires-clause-there : goal.due_later-requires-clause-there
 due_later-requires-clause-there g c =
@@ -30,5 +30,5 @@ due_later-requires-clause-there g c =
     let old = c.args.config.now in
     let f = c.args.frame in
     let h = c.requires.there in
-    subst (λ (q : Frame). IsThere m old (record q { form = form.Native c.args.native; this = values.Undefined })) (sym c.in_ok-hold.ensures)
-    (there_with m old f (form.Native c.args.native) f.place f.phase values.Undefined (holds.ByNew ∷ f.held) h h.phase tt (tt, h.held) tt)
+    subst (IsThere m old) (sym c.set_call.ensures) (subst (λ (q : Frame). IsThere m old (record q { form = form.Native c.args.native; this = values.Undefined })) (sym c.in_ok-hold.ensures)
+    (there_with m old f (form.Native c.args.native) f.place f.phase values.Undefined (holds.ByNew ∷ f.held) h h.phase tt (tt, h.held) tt))

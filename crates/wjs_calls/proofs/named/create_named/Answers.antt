@@ -14,7 +14,7 @@ use Rattle.wjs_moves.specs.Parts.{env_in}
 use Rattle.wjs_deeds.proofs.Composing.{if_ok, env_later}
 use Rattle.wjs_deeds.proofs.Seeing.{plainly}
 use Rattle.wjs_deeds.proofs.Having.{owner_near}
-use Rattle.wjs_calls.specs.Making.{named_made}
+use Rattle.wjs_calls.specs.Making.{named_made, scope_of_name}
 use Rattle.wjs_calls.proofs.NamedFunctions.{number_behind, scope_is, scope_named, scope_near, behind}
 use Rattle.wjs_calls.proofs.Rows.{any_later}
 use Rattle.wjs_calls.proofs.StandingFunctions.{script_stands, named_later, stands_in_name}
@@ -29,7 +29,7 @@ create_pair-requires-clause-named g c = λ new more there.
     let first : s ≡ number_of_next mid.heap.arena mid.owner = sym (c.next_number-scope.ensures.is [] _ (plainly mid.heap.arena [])) ∙ number_same [] mid.heap.arena mid.owner in
     let next : c.in-Some.serial ≡ s.serial + 1 = grind (arith, c.in-Some.ensures) in
     let here : IsTrue (has new f) = subst (λ (o : ObjId). IsTrue (has new o)) (sym (behind s c.in-Some.serial next ∙ ap number_behind first)) there in
-    scope_named mid.heap.texts new c.in_ok-named.named c.args.frame.now.scope f c.name_of-name.result c.in_ok-named.ensures c.name_of-name.ensures.found here
+    scope_named mid.heap.texts new c.in_ok-named.named c.args.frame.now.scope f c.name_of-name.result (c.in_ok-named.ensures ∙ ap (λ (o : ObjId). scope_of_name o c.name_of-name.result f) c.scope.ensures) c.name_of-name.ensures.found here
 
 pub function_object-requires-clause-near : goal.function_object-requires-clause-near
 function_object-requires-clause-near g c =
@@ -42,7 +42,7 @@ create_pair-requires-clause-near g c =
     let s = c.next_number-scope.result in
     let f : ObjId = record { owner = s.owner; serial = c.in-Some.serial } in
     let owner = ap (λ (o : ObjId). o.owner) (sym (c.next_number-scope.ensures.is [] _ (plainly mid.heap.arena [])) ∙ number_same [] mid.heap.arena mid.owner) in
-    scope_near mid.apart.items c.in_ok-named.named c.args.frame.now.scope f c.name_of-name.result c.in_ok-named.ensures (c.in_ok-names.ensures.later.objects c.args.frame.now.scope c.requires.there.scope).1 (owner_near mid c.in_ok-names.ensures.later.base.own f owner)
+    scope_near mid.apart.items c.in_ok-named.named c.args.frame.now.scope f c.name_of-name.result (c.in_ok-named.ensures ∙ ap (λ (o : ObjId). scope_of_name o c.name_of-name.result f) c.scope.ensures) (c.in_ok-names.ensures.later.objects c.args.frame.now.scope c.requires.there.scope).1 (owner_near mid c.in_ok-names.ensures.later.base.own f owner)
 
 pub create_pair-requires-clause-second_scope : goal.create_pair-requires-clause-second_scope
 create_pair-requires-clause-second_scope g c =
@@ -60,7 +60,7 @@ create_pair-requires-clause-second_code g c = λ new keeps outer.
     let f = c.args.frame.now in
     let s = c.next_number-scope.result in
     let first : s ≡ number_of_next mid.heap.arena mid.owner = sym (c.next_number-scope.ensures.is [] _ (plainly mid.heap.arena [])) ∙ number_same [] mid.heap.arena mid.owner in
-    let inside : scope_of new s ≡ Some f.scope = ap (scope_of new) first ∙ outer ∙ ap (λ (x : Object). x.scope) c.in_ok-named.ensures in
+    let inside : scope_of new s ≡ Some f.scope = ap (scope_of new) first ∙ outer ∙ ap (λ (x : Object). x.scope) c.in_ok-named.ensures ∙ ap (λ (o : ObjId). Some o) c.scope.ensures in
     script_stands mid.units.items new c.in_ok-object.object f.tree c.args.body s c.in_ok-object.ensures.code c.in_ok-object.ensures.scope (
     stands_in_name mid.units.items f.tree c.args.body f.scope mid.heap.arena new s c.args.id keeps inside (named_later m old mid f.tree c.args.body f.scope (Some c.args.id) c.in_ok-names.ensures.later c.requires.stands))
 
@@ -80,7 +80,7 @@ returns-clause-does g c =
       by = λ go later r h.
           let t = later.heap.texts in
           let both = pair (λ u. named u s) made
-          (λ u more. scope_is u c.in_ok-named.named f.scope s (record { owner = s.owner; serial = c.in-Some.serial }) c.name_of-name.result (text_in u c.args.id) c.in_ok-named.ensures (c.name_of-name.ensures.name u more) (behind s c.in-Some.serial next))
+          (λ u more. scope_is u c.in_ok-named.named f.scope s (record { owner = s.owner; serial = c.in-Some.serial }) c.name_of-name.result (text_in u c.args.id) (c.in_ok-named.ensures ∙ ap (λ (o : ObjId). scope_of_name o c.name_of-name.result (record { owner = s.owner; serial = c.in-Some.serial })) c.scope.ensures) (c.name_of-name.ensures.name u more) (behind s c.in-Some.serial next))
           (λ u more. c.in_ok-object.ensures.is u more ∙ ap (made u) first) in
           c.in_ok-names.ensures.does.by (λ x. named_made c.args.body.0 (text_in t c.args.id) (env_in m old t f) go) later r
           (subst (λ (e : Env). OnOk r (Follows m (named_made c.args.body.0 (text_in t c.args.id) e go) mid later)) (env_later m old mid t f c.in_ok-names.ensures.later)

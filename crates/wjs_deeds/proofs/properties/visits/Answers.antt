@@ -1,3 +1,4 @@
+use Rattle.std.proofs.Common.{sym}
 use Rattle.wjs_props.specs.Properties as plan
 use Rattle.wjs_props.specs.Visits.{visits_in}
 use Rattle.wjs_deeds.proofs.Running.{does_ran}
@@ -11,14 +12,14 @@ use Rattle.wjs_deeds.proofs.properties.visits.Goals as goal
 pub returns-clause-does : goal.returns-clause-does
 returns-clause-does g c =
     let m = g.S.WorldStore.meaning in
-    does_ran m _ _ c.args.config.now _ (ran_plan m c.args.frame.now.world (λ t arena. plan.visits arena c.args.object) (λ t. visits_in t c.in_ok-visits.visits) c.args.config.now c.list_names.new.heap (λ t arena s. visits_found _ t arena s c.requires.base.heap.arena c.args.object c.requires.object.0) c.in_ok-visits.ensures.lists)
+    rw (sym c.world.ensures) (does_ran m _ _ c.args.config.now _ (ran_plan m c.world.result (λ t arena. plan.visits arena c.args.object) (λ t. visits_in t c.in_ok-visits.visits) c.args.config.now c.list_names.new.heap (λ t arena s. visits_found _ t arena s c.requires.base.heap.arena c.args.object c.requires.object.0) c.in_ok-visits.ensures.lists))
 
 pub returns-clause-later : goal.returns-clause-later
 returns-clause-later g c =
     let m = g.S.WorldStore.meaning in
     let old = c.args.config.now in
     let heap = c.list_names.new.heap in
-    let left = visits_left m old heap (g.met.S.WorldStore.sound heap.store) c.requires.base c.args.frame.now.world c.args.object c.requires.object.1 _ c.in_ok-visits.ensures.lists in
+    let left = visits_left m old heap (g.met.S.WorldStore.sound heap.store) c.requires.base c.world.result c.args.object c.requires.object.1 _ c.in_ok-visits.ensures.lists in
     later_plan m _ _ _ old heap c.requires.base c.in_ok-visits.ensures.lists left.1
 
 pub returns-clause-found : goal.returns-clause-found
@@ -26,5 +27,5 @@ returns-clause-found g c =
     let m = g.S.WorldStore.meaning in
     let old = c.args.config.now in
     let heap = c.list_names.new.heap in
-    let left = visits_left m old heap (g.met.S.WorldStore.sound heap.store) c.requires.base c.args.frame.now.world c.args.object c.requires.object.1 _ c.in_ok-visits.ensures.lists in
+    let left = visits_left m old heap (g.met.S.WorldStore.sound heap.store) c.requires.base c.world.result c.args.object c.requires.object.1 _ c.in_ok-visits.ensures.lists in
     visits_both (record old { heap = heap }) heap.texts c.in_ok-visits.visits c.in_ok-visits.ensures.there left.0

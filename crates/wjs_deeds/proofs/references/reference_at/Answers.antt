@@ -1,10 +1,11 @@
-use Rattle.std.proofs.Common.{sym, ap}
+use Rattle.std.proofs.Common.{sym, ap, subst}
 use Rattle.wjs_scope.specs.declared.place.Place.{Place}
 use Rattle.wjs_content.specs.Tables.{text_in, name_in}
 use Rattle.wjs_content.specs.Objects.{scope_up}
 use Rattle.wjs_meaning.specs.Deeds.{Do, Look, Local}
 use Rattle.wjs_meaning.specs.References as line
 use Rattle.wjs_model.specs.Units.{place_in}
+use Rattle.wjs_moves.specs.Doing.{Does}
 use Rattle.wjs_moves.specs.Parts.{env_in}
 use Rattle.wjs_deeds.proofs.Composing.{does_same, does_map}
 use Rattle.wjs_deeds.proofs.references.reference_at.Goals as goal
@@ -19,4 +20,5 @@ returns-in-Local-clause-does g c =
     does_same m (λ t go. Do Look (λ arena. go (Local (scope_up arena c.in-Local.hops c.args.frame.now.scope) (text_in t id)))) (λ t. line.reference_at (place_in c.args.place) (text_in t id) (env_in m old t c.args.frame.now)) (λ t. Local out (text_in t id)) (λ t. Local out (name_in t name)) old old
     (λ t more go. sym (ap (λ (p : Place). line.reference_at (place_in p) (text_in t id) (env_in m old t c.args.frame.now) go) c.in-Local.is))
     (λ t more. ap (Local out) (sym (c.name_of-name.ensures.name t more)))
-    (does_map m (λ t go. Do Look (λ arena. go (scope_up arena c.in-Local.hops c.args.frame.now.scope))) (λ t. out) (λ t x. Local x (text_in t id)) old old c.scope_up.ensures.does)
+    (does_map m (λ t go. Do Look (λ arena. go (scope_up arena c.in-Local.hops c.args.frame.now.scope))) (λ t. out) (λ t x. Local x (text_in t id)) old old
+    (subst (λ s. Does m (λ t go. Do Look (λ arena. go (scope_up arena c.in-Local.hops s))) (λ t. out) old old) c.scope.ensures c.scope_up.ensures.does))

@@ -1,6 +1,7 @@
+use Rattle.wjs_base.specs.declared.ids.ObjId.{ObjId}
 use Rattle.wjs_base.specs.declared.ids.TextId.{TextId}
 use Rattle.wjs_tree.specs.declared.node.NodeId.{NodeId}
-use Rattle.std.proofs.Common.{List, ◌∷◌, sym, subst}
+use Rattle.std.proofs.Common.{List, ◌∷◌, ◌++◌, sym, subst}
 use Rattle.std.specs.Prelude.{All, OnOk, map}
 use Rattle.std.proofs.lemmas.Result.{on_ok_weaker}
 use Rattle.std.proofs.lemmas.List.Elements.{All-weaker}
@@ -18,7 +19,7 @@ use Rattle.wjs_moves.specs.Parts.{env_in}
 use Rattle.wjs_deeds.proofs.Composing.{env_later}
 use Rattle.wjs_deeds.proofs.Later.{later_twice}
 use Rattle.wjs_calls.proofs.Elements.{write-append}
-use Rattle.wjs_model.specs.Soundness.{HasValue}
+use Rattle.wjs_model.specs.Soundness.{HasObject, HasValue}
 use Rattle.wjs_model.specs.Standing.{IsFunction}
 use Rattle.wjs_calls.proofs.StandingFunctions.{function_later}
 use Rattle.wjs_calls.proofs.Rows.{ok_later}
@@ -31,7 +32,7 @@ returns-clause-does g c =
     let old = c.args.config.now in
     let f = c.args.frame.now in
     let w = f.world in
-    let s = f.scope in
+    let s = c.scope-scope.result in
     let a = c.in_ok-arguments.arguments in
     let fn = c.args.function in
     let fns = numbers c.as_slice-2.result.now in
@@ -59,7 +60,8 @@ returns-clause-does g c =
           let h2 = c.in_ok-write_known.ensures.does.by (λ x. write_all w (formal_slots s formals xs) filled) later r h3 in
           let h1 = c.in_ok-write_arguments.ensures.does.by behind later r h2 in
           let joined = subst (λ (x : Act). OnOk r (Follows m x c0 later)) (sym (write-append w (arguments_slots a fn xs) ((slot s arguments_name, Object a) ∷ formal_slots s formals xs) filled)) h1 in
-          let all = c.in_ok-arguments.ensures.does.by (λ q. scope_filled formals fns (map (text_in t) others) fn q xs env act) later r joined in
+          let here = subst (λ (o : ObjId). OnOk r (Follows m (write_all w (arguments_slots a fn xs ++ ((slot o arguments_name, Object a) ∷ formal_slots o formals xs)) (declare_functions fns o env (write_all w (undefined_slots o (map (text_in t) others)) act))) c0 later)) c.scope-scope.ensures joined in
+          let all = c.in_ok-arguments.ensures.does.by (λ q. scope_filled formals fns (map (text_in t) others) fn q xs env act) later r here in
           subst (λ (gs : List NodeId). OnOk r (Follows m (arguments_written (map (text_in t) c.args.declared.now.formals) (numbers gs) (map (text_in t) others) fn xs env act) old later)) c.as_slice-2.ensures
           (subst (λ (ns : List TextId). OnOk r (Follows m (arguments_written (map (text_in t) ns) fns (map (text_in t) others) fn xs env act) old later)) c.as_slice.ensures all);
     })
@@ -125,7 +127,7 @@ write_formals-requires-clause-scope g c =
     let m = g.S.WorldStore.meaning in
     let old = c.args.config.now in
     let one = later_twice m old c.create_arguments.new.config c.write_arguments.new.config c.in_ok-arguments.ensures.later c.in_ok-write_arguments.ensures.later in
-    (later_twice m old c.write_arguments.new.config c.write_known.new.config one c.in_ok-write_known.ensures.later).objects c.args.frame.now.scope c.requires.there.scope
+    (later_twice m old c.write_arguments.new.config c.write_known.new.config one c.in_ok-write_known.ensures.later).objects c.scope-scope.result (subst (HasObject old) (sym c.scope-scope.ensures) c.requires.there.scope)
 
 pub write_formals-requires-clause-values : goal.write_formals-requires-clause-values
 write_formals-requires-clause-values g c =
@@ -149,7 +151,7 @@ declare_functions-requires-clause-holder g c =
     let old = c.args.config.now in
     let one = later_twice m old c.create_arguments.new.config c.write_arguments.new.config c.in_ok-arguments.ensures.later c.in_ok-write_arguments.ensures.later in
     let two = later_twice m old c.write_arguments.new.config c.write_known.new.config one c.in_ok-write_known.ensures.later in
-    (later_twice m old c.write_known.new.config c.write_formals.new.config two c.in_ok-write_formals.ensures.later).objects c.args.frame.now.scope c.requires.there.scope
+    (later_twice m old c.write_known.new.config c.write_formals.new.config two c.in_ok-write_formals.ensures.later).objects c.scope-scope.result (subst (HasObject old) (sym c.scope-scope.ensures) c.requires.there.scope)
 
 pub write_undefined-requires-clause-scope : goal.write_undefined-requires-clause-scope
 write_undefined-requires-clause-scope g c =
@@ -158,4 +160,10 @@ write_undefined-requires-clause-scope g c =
     let one = later_twice m old c.create_arguments.new.config c.write_arguments.new.config c.in_ok-arguments.ensures.later c.in_ok-write_arguments.ensures.later in
     let two = later_twice m old c.write_arguments.new.config c.write_known.new.config one c.in_ok-write_known.ensures.later in
     let three = later_twice m old c.write_known.new.config c.write_formals.new.config two c.in_ok-write_formals.ensures.later in
-    (later_twice m old c.write_formals.new.config c.declare_functions.new.config three c.in_ok-declare_functions.ensures.later).objects c.args.frame.now.scope c.requires.there.scope
+    (later_twice m old c.write_formals.new.config c.declare_functions.new.config three c.in_ok-declare_functions.ensures.later).objects c.scope-scope.result (subst (HasObject old) (sym c.scope-scope.ensures) c.requires.there.scope)
+
+pub write_known-requires-clause-object : goal.write_known-requires-clause-object
+write_known-requires-clause-object g c =
+    let m = g.S.WorldStore.meaning in
+    let old = c.args.config.now in
+    (later_twice m old c.create_arguments.new.config c.write_arguments.new.config c.in_ok-arguments.ensures.later c.in_ok-write_arguments.ensures.later).objects c.scope-scope.result (subst (HasObject old) (sym c.scope-scope.ensures) c.requires.there.scope)

@@ -1,5 +1,5 @@
 use Rattle.std.proofs.Common.{◌≡◌, ◌∷◌, ◌++◌, List, refl, sym, ap, ◌∙◌, subst}
-use Rattle.std.specs.Prelude.{OnOk, Ok, map, filter, not, slice_get, All}
+use Rattle.std.specs.Prelude.{OnOk, Ok, Some, map, filter, not, slice_get, All}
 use Rattle.std.proofs.lemmas.Result.{on_ok_weaker}
 use Rattle.wjs_base.specs.declared.ids.ObjId.{ObjId}
 use Rattle.wjs_base.specs.declared.ids.TextId.{TextId}
@@ -8,12 +8,12 @@ use Rattle.wjs_base.specs.declared.values.Value.{Value}
 use Rattle.wjs_base.proofs.TextLaws.{Grows-trans}
 use Rattle.wjs_content.specs.Names.{arguments_name}
 use Rattle.wjs_content.specs.Tables.{text_in, value_in}
-use Rattle.wjs_meaning.specs.Declarations.{declared_by}
+use Rattle.wjs_meaning.specs.Declarations.{Declared, declared_by}
 use Rattle.wjs_meaning.specs.Trees.{Node, has_text, elements_of}
 use Rattle.wjs_meaning.specs.Deeds.{Env, Act, Do, Create, tree_here}
 use Rattle.wjs_meaning.specs.Functions.{arguments_object, function_names, body_declare, body_from, body_run}
 use Rattle.wjs_meaning.specs.Reading.{numbers, node_in}
-use Rattle.wjs_model.specs.declared.frame.Frame.{Frame}
+use Rattle.wjs_model.specs.declared.frame.Activation.{Activation as Frame}
 use Rattle.wjs_model.specs.declared.unit.Unit.{Unit as Program}
 use Rattle.wjs_model.specs.declared.frame.Held.TheVariants as holds
 use Rattle.wjs_tree.specs.declared.node.NodeId.{NodeId}
@@ -29,6 +29,7 @@ use Rattle.wjs_calls.proofs.FunctionNodes.{node_is}
 use Rattle.wjs_calls.proofs.Rows.{same_units}
 use Rattle.wjs_moves.proofs.Parting.{element_here}
 use Rattle.wjs_eval_call.proofs.StandingBodies.{begun_there, begun_function, declared_stand}
+use Rattle.wjs_declared.specs.Names.{elements_at, functions_among}
 use Rattle.wjs_eval_call.specs.Filling.{arguments_written}
 use Rattle.wjs_eval_call.proofs.Beginning.{values_later, texts_later, earliest_each, others_of, body_filled}
 use Rattle.wjs_eval_call.proofs.bodies.begin_scope.Goals as goal
@@ -52,7 +53,8 @@ pub fill_scope-requires-clause-there : goal.fill_scope-requires-clause-there
 fill_scope-requires-clause-there g c =
     let m = g.S.WorldStore.meaning in
     let mid = c.create_scope.new.config in
-    subst (IsThere m mid) (sym c.in_ok-hold.ensures) (begun_there m c.args.config.now mid c.args.frame c.args.tree c.args.node c.args.scope c.in_ok-inner.inner c.in_ok-inner.ensures.later c.requires.there c.requires.form c.in_ok-inner.ensures.found c.in_ok-inner.ensures.outer c.requires.stands)
+    let is : c.hold.new.frame ≡ record c.args.frame { tree = c.args.tree; node = c.args.node; scope = c.in_ok-inner.inner; held = holds.Begun ∷ c.args.frame.held } = c.in_ok-hold.ensures ∙ ap (λ (q : Frame). record q { held = holds.Begun ∷ q.held }) (c.set_scope.ensures ∙ ap (λ (q : Frame). record q { scope = c.in_ok-inner.inner }) c.set_node.ensures) in
+    subst (IsThere m mid) (sym is) (begun_there m c.args.config.now mid c.args.frame c.args.tree c.args.node c.args.scope c.in_ok-inner.inner c.in_ok-inner.ensures.later c.requires.there c.requires.form c.in_ok-inner.ensures.found c.in_ok-inner.ensures.outer c.requires.stands)
 
 pub fill_scope-requires-clause-stand : goal.fill_scope-requires-clause-stand
 fill_scope-requires-clause-stand g c =
@@ -62,15 +64,17 @@ fill_scope-requires-clause-stand g c =
     let f = c.args.frame in
     let d = c.in_ok-declared.declared in
     let inner : Frame = record f { tree = c.args.tree; node = c.args.node; scope = c.in_ok-inner.inner; held = holds.Begun ∷ f.held } in
+    let is : c.hold.new.frame ≡ record c.args.frame { tree = c.args.tree; node = c.args.node; scope = c.in_ok-inner.inner; held = holds.Begun ∷ c.args.frame.held } = c.in_ok-hold.ensures ∙ ap (λ (q : Frame). record q { held = holds.Begun ∷ q.held }) (c.set_scope.ensures ∙ ap (λ (q : Frame). record q { scope = c.in_ok-inner.inner }) c.set_node.ensures) in
     let there = begun_there m old mid f c.args.tree c.args.node c.args.scope c.in_ok-inner.inner c.in_ok-inner.ensures.later c.requires.there c.requires.form c.in_ok-inner.ensures.found c.in_ok-inner.ensures.outer c.requires.stands in
     let s = begun_function m mid inner there c.requires.form refl in
+    let nodes = subst (λ (q : Frame). (u : Program) → slice_get old.units.items q.tree ≡ Some u → d.functions ≡ functions_among u.program.nodes (elements_at u.program.nodes q.node.0)) c.set_node.ensures c.in_ok-declared.ensures.nodes in
     let found = s.stands.found in
     let all = declared_stand mid.units.items mid.heap.arena s.stands.unit inner.tree inner.scope found inner.node s.function d.functions s.has (λ i k. element_here m mid inner i c.in_ok-inner.ensures.later.base s k)
-    (c.in_ok-declared.ensures.nodes s.stands.unit (ap (λ (us : List Program). slice_get us c.args.tree) (sym (same_units m old mid c.in_ok-inner.ensures.later)) ∙ found)) in
-    subst (λ (h : Frame). All (λ (i : NodeId). IsFunction mid.units.items mid.heap.arena h.tree i h.scope 0) d.functions) (sym c.in_ok-hold.ensures) all
+    (nodes s.stands.unit (ap (λ (us : List Program). slice_get us c.args.tree) (sym (same_units m old mid c.in_ok-inner.ensures.later)) ∙ found)) in
+    subst (λ (h : Frame). All (λ (i : NodeId). IsFunction mid.units.items mid.heap.arena h.tree i h.scope 0) d.functions) (sym is) all
 
 pub run_body-requires-clause-form : goal.run_body-requires-clause-form
-run_body-requires-clause-form g c = ap (λ (h : Frame). h.form) c.in_ok-hold.ensures ∙ c.requires.form
+run_body-requires-clause-form g c = ap (λ (h : Frame). h.form) c.in_ok-hold.ensures ∙ ap (λ (h : Frame). h.form) c.set_scope.ensures ∙ ap (λ (h : Frame). h.form) c.set_node.ensures ∙ c.requires.form
 
 pub run_body-requires-clause-begun : goal.run_body-requires-clause-begun
 run_body-requires-clause-begun g c = ap (λ (h : Frame). begun_held h.held) c.in_ok-hold.ensures
@@ -79,8 +83,9 @@ pub run_body-requires-clause-there : goal.run_body-requires-clause-there
 run_body-requires-clause-there g c =
     let m = g.S.WorldStore.meaning in
     let mid = c.create_scope.new.config in
+    let is : c.hold.new.frame ≡ record c.args.frame { tree = c.args.tree; node = c.args.node; scope = c.in_ok-inner.inner; held = holds.Begun ∷ c.args.frame.held } = c.in_ok-hold.ensures ∙ ap (λ (q : Frame). record q { held = holds.Begun ∷ q.held }) (c.set_scope.ensures ∙ ap (λ (q : Frame). record q { scope = c.in_ok-inner.inner }) c.set_node.ensures) in
     c.in_ok-fill_scope.ensures.later.frames c.hold.new.frame
-    (subst (IsThere m mid) (sym c.in_ok-hold.ensures) (begun_there m c.args.config.now mid c.args.frame c.args.tree c.args.node c.args.scope c.in_ok-inner.inner c.in_ok-inner.ensures.later c.requires.there c.requires.form c.in_ok-inner.ensures.found c.in_ok-inner.ensures.outer c.requires.stands))
+    (subst (IsThere m mid) (sym is) (begun_there m c.args.config.now mid c.args.frame c.args.tree c.args.node c.args.scope c.in_ok-inner.inner c.in_ok-inner.ensures.later c.requires.there c.requires.form c.in_ok-inner.ensures.found c.in_ok-inner.ensures.outer c.requires.stands))
 
 pub returns : goal.returns
 returns g c =
@@ -93,7 +98,7 @@ returns g c =
     let t = new.heap.texts in
     let f = c.args.frame in
     let inner : Frame = record f { tree = c.args.tree; node = c.args.node; scope = c.in_ok-inner.inner; held = holds.Begun ∷ f.held } in
-    let held = c.in_ok-hold.ensures in
+    let held : c.hold.new.frame ≡ inner = c.in_ok-hold.ensures ∙ ap (λ (q : Frame). record q { held = holds.Begun ∷ q.held }) (c.set_scope.ensures ∙ ap (λ (q : Frame). record q { scope = c.in_ok-inner.inner }) c.set_node.ensures) in
     let d = c.in_ok-declared.declared in
     let env = env_in m old t inner in
     let body = c.args.node.0 in
@@ -115,10 +120,12 @@ returns g c =
     let functions = numbers d.functions in
     let others = map (text_in t) c.as_slice.result.now in
     let args = map (value_in t) c.as_slice-2.result.now in
-    let ef = c.in_ok-declared.ensures.formals t in
-    let en = c.in_ok-declared.ensures.functions t in
-    let ev = c.in_ok-declared.ensures.variables t table grows in
-    let eo : others ≡ others_of env declared = ap (map (text_in t)) c.as_slice.ensures.value ∙ c.in_ok-others.ensures.is t table grows ∙ (λ i. filter (λ name. not (has_text (arguments_name ∷ ef i ++ function_names env (en i)) name)) (ev i)) in
+    let now : declared_by (tree_here (env_in m old t c.set_node.new.self)) c.set_node.new.self.node.0 ≡ declared = ap (λ (q : Frame). declared_by (tree_here (env_in m old t q)) q.node.0) c.set_node.ensures in
+    let ef = c.in_ok-declared.ensures.formals t ∙ ap (λ (k : Declared). k.formals) now in
+    let en = c.in_ok-declared.ensures.functions t ∙ ap (λ (k : Declared). k.functions) now in
+    let ev = c.in_ok-declared.ensures.variables t table grows ∙ ap (λ (k : Declared). k.vars) now in
+    let first_others = c.in_ok-others.ensures.is t table grows ∙ ap (λ (q : Frame). filter (λ name. not (has_text (arguments_name ∷ map (text_in t) d.formals ++ function_names (env_in m old t q) (numbers d.functions)) name)) (map (text_in t) d.variables)) c.set_node.ensures in
+    let eo : others ≡ others_of env declared = ap (map (text_in t)) c.as_slice.ensures.value ∙ first_others ∙ (λ i. filter (λ name. not (has_text (arguments_name ∷ ef i ++ function_names env (en i)) name)) (ev i)) in
     let ea : args ≡ said = ap (map (value_in t)) (c.as_slice-2.ensures.value ∙ c.in_ok-values.ensures) ∙ earliest_each (value_in t) (values_held f.held) in
     let filled0 = c.in_ok-fill_scope.ensures.does.by (body_run body env) new (Ok tt) k in
     let filled : Follows m (arguments_written formals functions others fn args (env_in m mid t inner) (body_run body env)) mid new = subst (λ (h : Frame). Follows m (arguments_written formals functions others fn args (env_in m mid t h) (body_run body env)) mid new) held filled0 in

@@ -1,10 +1,12 @@
-use Rattle.std.proofs.Common.{◌≡◌, ◌<◌, ◌≤◌, List, length, sym, ap, ◌∙◌, subst}
+use Rattle.std.proofs.Common.{◌≡◌, ℕ, ◌<◌, ◌≤◌, List, length, sym, ap, ◌∙◌, subst}
 use Rattle.std.specs.Prelude.{map as each, slice_index_or}
 use borrow.Author.Tests.{ltb-false}
 use Rattle.wjs_content.specs.Tables.{text_in}
 use Rattle.wjs_meaning.specs.Declarations.{declared_by}
 use Rattle.wjs_meaning.specs.Reading.{numbers}
 use Rattle.wjs_meaning.specs.Trees.{Tree}
+use Rattle.wjs_tree.specs.declared.node.NodeId.{NodeId}
+use Rattle.wjs_model.specs.Units.{unit_in}
 use Rattle.wjs_model.specs.declared.unit.Unit.{Unit as Program}
 use Rattle.wjs_declared.specs.Names.{elements_at, functions_among}
 use Rattle.wjs_deeds.proofs.Composing.{if_ok}
@@ -17,10 +19,10 @@ returns-in-Some-clause-variables g c =
     let i = c.args.frame.now.tree in
     let u = c.in-Some.unit.now in
     let items : c.deref.result.now ≡ now.units.items = c.deref.ensures.value in
-    let lt : i < length now.units.items = subst (λ (us : List Program). i < length us) items c.in-Some.ensures.lookup.3.0 in
-    let is : u ≡ slice_index_or now.units.items i u = c.in-Some.ensures.lookup.1 ∙ ap (λ (us : List Program). slice_index_or us i u) items in
+    let lt : i < length now.units.items = subst (λ (k : ℕ). k < length now.units.items) c.tree.ensures (subst (λ (us : List Program). c.tree.result < length us) items c.in-Some.ensures.lookup.3.0) in
+    let is : u ≡ slice_index_or now.units.items i u = c.in-Some.ensures.lookup.1 ∙ ap (λ (us : List Program). slice_index_or us c.tree.result u) items ∙ ap (λ (k : ℕ). slice_index_or now.units.items k u) c.tree.ensures in
     if_ok _ _ c.declared.result
-    (λ d h. λ t table grows. h t table (unit_known now.heap.texts t grows now.units.items i u lt is c.requires.units) ∙ ap (λ (tree : Tree). (declared_by tree c.args.frame.now.node.0).vars) (sym (tree_some t now.units.items i u lt is)))
+    (λ d h. λ t table grows. h t table (unit_known now.heap.texts t grows now.units.items i u lt is c.requires.units) ∙ ap (λ (n : NodeId). (declared_by (unit_in t u) n.0).vars) c.node.ensures ∙ ap (λ (tree : Tree). (declared_by tree c.args.frame.now.node.0).vars) (sym (tree_some t now.units.items i u lt is)))
     c.declared.ensures.variables
 
 pub returns-in-Some-clause-functions : goal.returns-in-Some-clause-functions
@@ -29,31 +31,31 @@ returns-in-Some-clause-functions g c =
     let i = c.args.frame.now.tree in
     let u = c.in-Some.unit.now in
     let items : c.deref.result.now ≡ now.units.items = c.deref.ensures.value in
-    let lt : i < length now.units.items = subst (λ (us : List Program). i < length us) items c.in-Some.ensures.lookup.3.0 in
-    let is : u ≡ slice_index_or now.units.items i u = c.in-Some.ensures.lookup.1 ∙ ap (λ (us : List Program). slice_index_or us i u) items in
+    let lt : i < length now.units.items = subst (λ (k : ℕ). k < length now.units.items) c.tree.ensures (subst (λ (us : List Program). c.tree.result < length us) items c.in-Some.ensures.lookup.3.0) in
+    let is : u ≡ slice_index_or now.units.items i u = c.in-Some.ensures.lookup.1 ∙ ap (λ (us : List Program). slice_index_or us c.tree.result u) items ∙ ap (λ (k : ℕ). slice_index_or now.units.items k u) c.tree.ensures in
     if_ok _ _ c.declared.result
-    (λ d h. λ t. h t ∙ ap (λ (tree : Tree). (declared_by tree c.args.frame.now.node.0).functions) (sym (tree_some t now.units.items i u lt is)))
+    (λ d h. λ t. h t ∙ ap (λ (n : NodeId). (declared_by (unit_in t u) n.0).functions) c.node.ensures ∙ ap (λ (tree : Tree). (declared_by tree c.args.frame.now.node.0).functions) (sym (tree_some t now.units.items i u lt is)))
     c.declared.ensures.functions
 
 pub returns-in-None-clause-formals : goal.returns-in-None-clause-formals
 returns-in-None-clause-formals g c = λ t.
     let now = c.args.config.now in
     let i = c.args.frame.now.tree in
-    let le : length now.units.items ≤ i = subst (λ (us : List Program). length us ≤ i) c.deref.ensures.value (ltb-false i (length c.deref.result.now) (sym c.in-None.ensures.lookup.0)) in
+    let le : length now.units.items ≤ i = subst (λ (k : ℕ). length now.units.items ≤ k) c.tree.ensures (subst (λ (us : List Program). length us ≤ c.tree.result) c.deref.ensures.value (ltb-false c.tree.result (length c.deref.result.now) (sym c.in-None.ensures.lookup.0))) in
     ap (each (text_in t)) c.nothing_declared.ensures.formals ∙ ap (λ (tree : Tree). (declared_by tree c.args.frame.now.node.0).formals) (sym (tree_none t now.units.items i le))
 
 pub returns-in-None-clause-functions : goal.returns-in-None-clause-functions
 returns-in-None-clause-functions g c = λ t.
     let now = c.args.config.now in
     let i = c.args.frame.now.tree in
-    let le : length now.units.items ≤ i = subst (λ (us : List Program). length us ≤ i) c.deref.ensures.value (ltb-false i (length c.deref.result.now) (sym c.in-None.ensures.lookup.0)) in
+    let le : length now.units.items ≤ i = subst (λ (k : ℕ). length now.units.items ≤ k) c.tree.ensures (subst (λ (us : List Program). length us ≤ c.tree.result) c.deref.ensures.value (ltb-false c.tree.result (length c.deref.result.now) (sym c.in-None.ensures.lookup.0))) in
     ap numbers c.nothing_declared.ensures.functions ∙ ap (λ (tree : Tree). (declared_by tree c.args.frame.now.node.0).functions) (sym (tree_none t now.units.items i le))
 
 pub returns-in-None-clause-variables : goal.returns-in-None-clause-variables
 returns-in-None-clause-variables g c = λ t table grows.
     let now = c.args.config.now in
     let i = c.args.frame.now.tree in
-    let le : length now.units.items ≤ i = subst (λ (us : List Program). length us ≤ i) c.deref.ensures.value (ltb-false i (length c.deref.result.now) (sym c.in-None.ensures.lookup.0)) in
+    let le : length now.units.items ≤ i = subst (λ (k : ℕ). length now.units.items ≤ k) c.tree.ensures (subst (λ (us : List Program). length us ≤ c.tree.result) c.deref.ensures.value (ltb-false c.tree.result (length c.deref.result.now) (sym c.in-None.ensures.lookup.0))) in
     ap (each (text_in t)) c.nothing_declared.ensures.variables ∙ ap (λ (tree : Tree). (declared_by tree c.args.frame.now.node.0).vars) (sym (tree_none t now.units.items i le))
 
 pub returns-in-Some-clause-nodes : goal.returns-in-Some-clause-nodes
@@ -62,15 +64,15 @@ returns-in-Some-clause-nodes g c =
     let i = c.args.frame.now.tree in
     let u = c.in-Some.unit.now in
     let items : c.deref.result.now ≡ now.units.items = c.deref.ensures.value in
-    let lt : i < length now.units.items = subst (λ (us : List Program). i < length us) items c.in-Some.ensures.lookup.3.0 in
-    let is : u ≡ slice_index_or now.units.items i u = c.in-Some.ensures.lookup.1 ∙ ap (λ (us : List Program). slice_index_or us i u) items in
+    let lt : i < length now.units.items = subst (λ (k : ℕ). k < length now.units.items) c.tree.ensures (subst (λ (us : List Program). c.tree.result < length us) items c.in-Some.ensures.lookup.3.0) in
+    let is : u ≡ slice_index_or now.units.items i u = c.in-Some.ensures.lookup.1 ∙ ap (λ (us : List Program). slice_index_or us c.tree.result u) items ∙ ap (λ (k : ℕ). slice_index_or now.units.items k u) c.tree.ensures in
     if_ok _ _ c.declared.result
-    (λ d h. λ v found. h ∙ ap (λ (w : Program). functions_among w.program.nodes (elements_at w.program.nodes c.args.frame.now.node.0)) (unit_is now.units.items i v u lt is found))
+    (λ d h. λ v found. h ∙ ap (λ (n : NodeId). functions_among u.program.nodes (elements_at u.program.nodes n.0)) c.node.ensures ∙ ap (λ (w : Program). functions_among w.program.nodes (elements_at w.program.nodes c.args.frame.now.node.0)) (unit_is now.units.items i v u lt is found))
     c.declared.ensures.numbered
 
 pub returns-in-None-clause-nodes : goal.returns-in-None-clause-nodes
 returns-in-None-clause-nodes g c = λ v found.
     let now = c.args.config.now in
     let i = c.args.frame.now.tree in
-    let le : length now.units.items ≤ i = subst (λ (us : List Program). length us ≤ i) c.deref.ensures.value (ltb-false i (length c.deref.result.now) (sym c.in-None.ensures.lookup.0)) in
+    let le : length now.units.items ≤ i = subst (λ (k : ℕ). length now.units.items ≤ k) c.tree.ensures (subst (λ (us : List Program). length us ≤ c.tree.result) c.deref.ensures.value (ltb-false c.tree.result (length c.deref.result.now) (sym c.in-None.ensures.lookup.0))) in
     absurd (no_unit now.units.items i v le found)

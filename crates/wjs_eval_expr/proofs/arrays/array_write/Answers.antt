@@ -1,4 +1,4 @@
-use Rattle.std.proofs.Common.{◌+◌, drop, ap, sym}
+use Rattle.std.proofs.Common.{◌+◌, ◌-◌, drop, ap, sym, ◌∙◌}
 use Rattle.std.specs.Prelude.{map as each}
 use Rattle.wjs_content.specs.Tables.{value_in}
 use Rattle.wjs_meaning.specs.Expressions.{array_from}
@@ -23,5 +23,5 @@ returns g c =
     let f = c.args.frame in
     let at = c.saturating_sub-at.result in
     let t = c.array_next.new.config.heap.texts in
-    follows_as _ _ _ _ _ _ (λ grows. sym (array_writes (each number (items_of (node_among c.args.config.now.units.items f.tree f.node))) f.place at (holding_in t f.held) _ c.args.array _ c.saturating_sub-at.ensures (ap (value_in t) c.requires.held)))
+    follows_as _ _ _ _ _ _ (λ grows. sym (array_writes (each number (items_of (node_among c.args.config.now.units.items f.tree f.node))) f.place at (holding_in t f.held) _ c.args.array _ (c.saturating_sub-at.ensures ∙ ap (λ p. p - 1) c.place.ensures) (ap (value_in t) c.requires.held)))
     (does_line m _ _ f (λ us e done. array_from (drop (at + 1) (each number (items_of (node_among us f.tree f.node)))) (at + 1) c.args.array e) c.args.config.now c.write.new.config c.array_next.new.config c.array_next.result c.in_ok-write.ensures.does c.in_ok-write.ensures.later (rw c.in_ok-next.ensures at c.array_next.ensures))

@@ -1,5 +1,6 @@
 use Rattle.std.proofs.Common.{subst}
 use Rattle.wjs_model.specs.Frames.{Pops}
+use Rattle.wjs_moves.proofs.Frames.{put_on}
 use Rattle.wjs_moves.proofs.Moving.{follows_given, follows_ended}
 use Rattle.wjs_moves.proofs.ends.finish.Goals as goal
 
@@ -10,4 +11,4 @@ returns-in-None g c =
 
 pub returns-in_ok-push-in-Some : goal.returns-in_ok-push-in-Some
 returns-in_ok-push-in-Some g c =
-    follows_given g.S.WorldStore.meaning c.args.config.now c.args.completion c.push.new.self c.pop.new.self c.in-Some.frame c.requires.running c.requires.base c.requires.completion (subst (λ r. Pops c.args.config.now.frames r c.pop.new.self) c.in-Some.is c.pop.ensures) c.in_ok-push-in-Some.ensures.ok
+    follows_given g.S.WorldStore.meaning c.args.config.now c.args.completion c.push.new.self c.pop.new.self c.in-Some.frame c.requires.running c.requires.base c.requires.completion (subst (λ r. Pops c.args.config.now.frames r c.pop.new.self) c.in-Some.is c.pop.ensures) (put_on _ _ _ _ c.in_ok-push-in-Some.ensures.ok c.set_phase.ensures)

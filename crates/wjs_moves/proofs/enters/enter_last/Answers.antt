@@ -6,5 +6,5 @@ use Rattle.wjs_moves.proofs.enters.enter_last.Goals as goal
 
 pub returns : goal.returns
 returns g c =
-    let due = c.due_frame-entered.ensures ∙ ap (λ h. record (due_frame c.args.frame.now c.args.part) { held = h }) c.nothing_held.ensures in
+    let due = c.in_ok-entered.ensures ∙ ap (λ h. record (due_frame c.args.frame.now c.args.part) { held = h }) c.nothing_held.ensures in
     follows_last g.S.WorldStore.meaning c.args.config.now c.args.frame.now c.args.part c.push.new.self c.requires.running c.requires.base c.requires.there c.requires.part (put_on _ _ _ _ c.in_ok-push.ensures.ok due)

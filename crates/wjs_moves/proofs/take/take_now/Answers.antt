@@ -1,4 +1,4 @@
-use Rattle.std.proofs.Common.{subst}
+use Rattle.std.proofs.Common.{sym, subst, ◌∙◌}
 use Rattle.wjs_model.specs.Frames.{Pops}
 use Rattle.wjs_moves.proofs.Taking.{takes_given, takes_waiting, takes_ready, has_given, ends_empty, taken_not_due}
 use Rattle.wjs_moves.proofs.take.take_now.Goals as goal
@@ -12,15 +12,15 @@ pub returns-in-Given : goal.returns-in-Given
 returns-in-Given g c =
     let old = c.args.config.now in
     let eo = subst (λ r. Pops old.frames r c.pop.new.self) c.in-Some.is c.pop.ensures in (
-      takes_given g.S.WorldStore.meaning old c.pop.new.self c.in-Some.frame c.in-Given.completion c.requires.running c.requires.sound.base eo c.in-Given.is,
-      has_given g.S.WorldStore.meaning old c.pop.new.self c.in-Some.frame c.in-Given.completion c.requires.sound.base eo c.in-Given.is,
+      takes_given g.S.WorldStore.meaning old c.pop.new.self c.in-Some.frame c.in-Given.completion c.requires.running c.requires.sound.base eo (sym c.phase.ensures ∙ c.in-Given.is),
+      has_given g.S.WorldStore.meaning old c.pop.new.self c.in-Some.frame c.in-Given.completion c.requires.sound.base eo (sym c.phase.ensures ∙ c.in-Given.is),
     )
 
 pub returns-in-Waiting : goal.returns-in-Waiting
-returns-in-Waiting g c = (takes_waiting g.S.WorldStore.meaning c.args.config.now c.pop.new.self c.in-Some.frame c.requires.running c.requires.sound.base (subst (λ r. Pops c.args.config.now.frames r c.pop.new.self) c.in-Some.is c.pop.ensures) c.in-Waiting.is, tt)
+returns-in-Waiting g c = (takes_waiting g.S.WorldStore.meaning c.args.config.now c.pop.new.self c.in-Some.frame c.requires.running c.requires.sound.base (subst (λ r. Pops c.args.config.now.frames r c.pop.new.self) c.in-Some.is c.pop.ensures) (sym c.phase.ensures ∙ c.in-Waiting.is), tt)
 
 pub returns-in-Ready : goal.returns-in-Ready
-returns-in-Ready g c = takes_ready g.S.WorldStore.meaning c.args.config.now c.pop.new.self c.in-Some.frame c.requires.running c.requires.sound.base (subst (λ r. Pops c.args.config.now.frames r c.pop.new.self) c.in-Some.is c.pop.ensures) c.in-Ready.is
+returns-in-Ready g c = takes_ready g.S.WorldStore.meaning c.args.config.now c.pop.new.self c.in-Some.frame c.requires.running c.requires.sound.base (subst (λ r. Pops c.args.config.now.frames r c.pop.new.self) c.in-Some.is c.pop.ensures) (sym c.phase.ensures ∙ c.in-Ready.is)
 
 pub returns-in-Due : goal.returns-in-Due
-returns-in-Due g c = absurd (taken_not_due c.args.config.now.frames c.pop.new.self c.in-Some.frame (subst (λ r. Pops c.args.config.now.frames r c.pop.new.self) c.in-Some.is c.pop.ensures) c.requires.due c.in-Due.is)
+returns-in-Due g c = absurd (taken_not_due c.args.config.now.frames c.pop.new.self c.in-Some.frame (subst (λ r. Pops c.args.config.now.frames r c.pop.new.self) c.in-Some.is c.pop.ensures) c.requires.due (sym c.phase.ensures ∙ c.in-Due.is))

@@ -1,5 +1,6 @@
+use Rattle.wjs_moves.proofs.Frames.{put_on}
 use Rattle.wjs_moves.proofs.Moving.{follows_due}
 use Rattle.wjs_moves.proofs.waits.due_later.Goals as goal
 
 pub returns : goal.returns
-returns g c = follows_due g.S.WorldStore.meaning c.args.config.now c.args.frame c.args.place c.push.new.self c.requires.running c.requires.base c.requires.there c.in_ok-push.ensures.ok
+returns g c = follows_due g.S.WorldStore.meaning c.args.config.now c.args.frame c.args.place c.push.new.self c.requires.running c.requires.base c.requires.there (put_on _ _ _ _ c.in_ok-push.ensures.ok c.set_place.ensures)

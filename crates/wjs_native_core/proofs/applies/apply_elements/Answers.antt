@@ -31,8 +31,8 @@ pub apply_rest-requires-clause-there : goal.apply_rest-requires-clause-there
 apply_rest-requires-clause-there g c =
     let mid = c.get_known.new.config in
     let later = c.in_ok-length.ensures.later in
-    let held = subst (λ (l : List Held). HasItems mid l) (sym c.in_ok-frame.ensures) ((later.objects c.args.function c.requires.function, later.values c.args.this c.requires.this), (later.objects c.args.object c.requires.object, tt)) in
-    native_holds g.S.WorldStore.meaning mid c.args.frame c.in_ok-frame.field-0 (later.frames c.args.frame c.requires.there) held native.Apply c.requires.form
+    let held = subst (λ (l : List Held). HasItems mid l) (sym c.in_ok-elements_for.ensures) ((later.objects c.args.function c.requires.function, later.values c.args.this c.requires.this), (later.objects c.args.object c.requires.object, tt)) in
+    rw c.set_held.ensures (native_holds g.S.WorldStore.meaning mid c.args.frame c.in_ok-elements_for.field-0 (later.frames c.args.frame c.requires.there) held native.Apply c.requires.form)
 
 pub returns : goal.returns
 returns g c =
@@ -54,7 +54,7 @@ returns g c =
     (c.in_ok-length.ensures.does.by to new r
     (follows_as m _ _ mid new r
     (λ grows.
-    apply_starts t c.in_ok-frame.field-0 o fn c.args.this c.apply_length-count.result (env_in m mid t f) c.in_ok-frame.ensures
+    apply_starts t c.in_ok-elements_for.field-0 o fn c.args.this c.apply_length-count.result (env_in m mid t f) c.in_ok-elements_for.ensures
     ∙ ap (λ e. line.apply_from c.apply_length-count.result 0 [] o fn this e) (env_later m old mid t f c.in_ok-length.ensures.later)
     ∙ ap (λ k. line.apply_from k 0 [] o fn this env) (sym (c.apply_length-count.ensures t grows)))
-    c.apply_rest.ensures))
+    (rw c.set_held.ensures at c.apply_rest.ensures)))

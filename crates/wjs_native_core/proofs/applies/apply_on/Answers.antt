@@ -1,4 +1,4 @@
-use Rattle.std.proofs.Common.{◌≡◌, ℕ, suc, List, ◌+◌, ◌-◌, ◌++◌, [], ◌∷◌, sym, ap, ◌∙◌, subst, arith}
+use Rattle.std.proofs.Common.{◌≡◌, ℕ, suc, ◌+◌, ◌-◌, ◌++◌, [], ◌∷◌, sym, ap, ◌∙◌, subst, arith}
 use Rattle.std.specs.Prelude.{OnOk}
 use Rattle.wjs_base.specs.declared.ids.ObjId.{ObjId}
 use Rattle.wjs_base.specs.declared.values.Value.{Value as NumberedValue}
@@ -10,8 +10,9 @@ use Rattle.wjs_content.specs.Values.{Value}
 use Rattle.wjs_meaning.specs.Deeds.{Env, Act}
 use Rattle.wjs_meaning.specs.NativesOfObjects as line
 use Rattle.wjs_meaning.specs.Properties.{get_value}
-use Rattle.wjs_model.specs.declared.frame.Held.{Held}
-use Rattle.wjs_model.specs.Soundness.{HasValue, HasItems}
+use Rattle.wjs_model.specs.declared.frame.Activation.{Activation as Frame}
+use Rattle.wjs_model.specs.declared.frame.Held.TheVariants as holds
+use Rattle.wjs_model.specs.Soundness.{HasValue}
 use Rattle.wjs_moves.specs.Following.{Follows}
 use Rattle.wjs_model.specs.Contents.{holding_in, callee_held, elements_held}
 use Rattle.wjs_moves.specs.Parts.{env_in}
@@ -28,8 +29,9 @@ apply_rest-requires-clause-there g c =
     let callee = later.values c.held_callee-callee.result.0 c.held_callee-callee.ensures.callee in
     let this = later.values c.held_callee-callee.result.1 c.held_callee-callee.ensures.this in
     let object = later.objects c.held_elements-count.result.0 c.held_elements-count.ensures.found in
-    let held = subst (λ (l : List Held). HasItems mid l) (sym c.in_ok-hold_element.ensures) ((subst (λ (x : NumberedValue). HasValue mid x) c.in-Object.is callee, this), (object, (c.in_ok-value.ensures.found, there.held))) in
-    native_holds g.S.WorldStore.meaning mid c.args.frame c.hold_element.new.items there held native.Apply c.requires.form
+    let elements = c.held_elements-count.result in
+    let held = holds.Callee (values.Object c.in-Object.function) c.held_callee-callee.result.1 ∷ holds.Elements elements.0 elements.1 ∷ holds.Value c.in_ok-value.value ∷ c.args.frame.held in
+    rw c.in_ok-hold_element.ensures (native_holds g.S.WorldStore.meaning mid c.args.frame held there ((subst (λ (x : NumberedValue). HasValue mid x) c.in-Object.is callee, this), (object, (c.in_ok-value.ensures.found, there.held))) native.Apply c.requires.form)
 
 pub returns : goal.returns
 returns g c =
@@ -44,9 +46,10 @@ returns g c =
     let fn = c.in-Object.function in
     let this = c.held_callee-callee.result.1 in
     let v = c.in_ok-value.value in
-    let i = f.place - 1 in
-    let place : f.place ≡ suc i = omega (arith, c.requires.place) in
-    let next : f.place ≡ i + 1 = omega (arith, place) in
+    let i = c.place.result - 1 in
+    let place : f.place ≡ suc i = omega (arith, c.requires.place, c.place.ensures) in
+    let read : c.place-read.result ≡ f.place = c.place-read.ensures ∙ ap (λ (q : Frame). q.place) c.in_ok-hold_element.ensures in
+    let next : c.place-read.result ≡ i + 1 = omega (arith, place, read) in
     let callee : callee_held f.held ≡ (values.Object fn, this) = sym c.held_callee-callee.ensures.is ∙ ap (λ (x : NumberedValue). (x, this)) c.in-Object.is in
     let vs = (holding_in t f.held).values in
     let count = (elements_held f.held).1 in
@@ -57,6 +60,6 @@ returns g c =
     (c.in_ok-value.ensures.does.by to new r
     (follows_as m _ _ mid new r
     (λ grows.
-    apply_onward t f.held c.hold_element.new.items v (values.Object fn) this c.held_elements-count.result fn (value_in t this) f.place i (env_in m mid t f) c.in_ok-hold_element.ensures c.held_elements-count.ensures.is next
+    apply_onward t f.held c.hold_element.new.frame.held v (values.Object fn) this c.held_elements-count.result fn (value_in t this) c.place-read.result i (env_in m mid t f) (ap (λ (q : Frame). q.held) c.in_ok-hold_element.ensures) c.held_elements-count.ensures.is next
     ∙ ap (λ (e : Env). line.apply_from (count - (i + 1)) (i + 1) (vs ++ value_in t v ∷ []) o fn (value_in t this) e) (env_later m old mid t f c.in_ok-value.ensures.later))
-    c.apply_rest.ensures)))
+    (subst (λ (q : Frame). OnOk r (Follows m (line.apply_from ((elements_held c.hold_element.new.frame.held).1 - c.place-read.result) c.place-read.result (holding_in t c.hold_element.new.frame.held).values (elements_held c.hold_element.new.frame.held).0 fn (value_in t this) (env_in m mid t q)) mid new)) c.in_ok-hold_element.ensures c.apply_rest.ensures))))

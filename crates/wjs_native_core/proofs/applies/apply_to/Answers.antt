@@ -8,4 +8,4 @@ use Rattle.wjs_native_core.proofs.applies.apply_to.Goals as goal
 pub call-requires-clause-there : goal.call-requires-clause-there
 call-requires-clause-there g c =
     let old = c.args.config.now in
-    native_holds g.S.WorldStore.meaning old c.args.frame c.nothing_held.result c.requires.there (subst (λ (l : List Held). HasItems old l) (sym c.nothing_held.ensures) tt) native.Apply c.requires.form
+    rw c.set_held.ensures (native_holds g.S.WorldStore.meaning old c.args.frame c.nothing_held.result c.requires.there (subst (λ (l : List Held). HasItems old l) (sym c.nothing_held.ensures) tt) native.Apply c.requires.form)

@@ -1,4 +1,4 @@
-use Rattle.std.proofs.Common.{◌≤◌, sym, subst, rules}
+use Rattle.std.proofs.Common.{◌≤◌, sym, subst, arith}
 use Rattle.wjs_base.specs.Text.{Table}
 use Rattle.wjs_meaning.specs.Deeds.{Act}
 use Rattle.wjs_meaning.specs.Natives.{native_of}
@@ -21,7 +21,7 @@ returns-in-Runs g c =
     let r = c.run.result in
     let f = c.args.frame in
     let k = c.args.native in
-    let none : f.place ≤ 0 = search rules in
+    let none : f.place ≤ 0 = omega (arith, c.place.ensures, c.if-place-gt0.false) in
     let deeds : Table → Act = λ x. native_of k (holding_in x f.held).by_new (holding_in x f.held).values (env_in m old x f) in
     let ready = subst (λ (p : Progress). Progresses m k f deeds p old mid) c.in-Runs.is c.in_ok-begin.ensures in
     follows_as m _ _ old new r (λ grows. begins_first k f.place (holding_in t f.held) (env_in m old t f) none)

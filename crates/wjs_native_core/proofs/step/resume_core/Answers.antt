@@ -25,7 +25,7 @@ returns-in-Runs g c =
     let k = c.in-Native.native in
     let deeds : Table → Act = λ x. then_value (after_argument k (holding_in x f.held) (f.place - 1) (env_in m old x f)) (completion_in x c.args.completion) in
     let ready = subst (λ (p : Progress). Progresses m k f deeds p old mid) c.in-Runs.is c.in_ok-resume.ensures in
-    follows_as m _ _ old new r (λ grows. ap (λ (of : Form). after (node_in t (node_now m old f)) of f.node.0 f.place (holding_in t f.held) (env_in m old t f) (completion_in t c.args.completion)) (sym c.in-Native.is))
+    follows_as m _ _ old new r (λ grows. ap (λ (of : Form). after (node_in t (node_now m old f)) of f.node.0 f.place (holding_in t f.held) (env_in m old t f) (completion_in t c.args.completion)) c.in-Native.ensures)
     (runs_on m k f c.in-Runs.frame deeds c.in-Runs.values.items c.deref.result.now old mid new r ready.0 ready.1 c.deref.ensures.value c.run.ensures)
 
 pub run-requires-clause-there : goal.run-requires-clause-there

@@ -1,4 +1,4 @@
-use Rattle.std.proofs.Common.{List, [], sym, ap, ◌∙◌, subst}
+use Rattle.std.proofs.Common.{[], ◌∷◌, sym, ap, ◌∙◌, subst}
 use Rattle.std.specs.Prelude.{map}
 use Rattle.wjs_base.specs.declared.values.Value.{Value as NumberedValue}
 use Rattle.wjs_num.specs.Bits.{uint32}
@@ -7,8 +7,8 @@ use Rattle.wjs_content.specs.Tables.{value_in}
 use Rattle.wjs_meaning.specs.NativesOfObjects.{text_at, whole_at, text_of}
 use Rattle.wjs_meaning.specs.NativesOfTexts as line
 use Rattle.wjs_meaning.specs.Reading.{node_in}
-use Rattle.wjs_model.specs.declared.frame.Held.{Held}
-use Rattle.wjs_model.specs.Soundness.{HasValue, HasItems}
+use Rattle.wjs_model.specs.declared.frame.Held.TheVariants as holds
+use Rattle.wjs_model.specs.Soundness.{HasValue, IsThere}
 use Rattle.wjs_moves.specs.Parts.{env_in, node_now}
 use Rattle.wjs_lines.proofs.Following.{follows_as}
 use Rattle.wjs_natives.proofs.Frames.{native_holds}
@@ -33,12 +33,14 @@ returns-then-count-eq0 g c =
 
 pub due_later-requires-clause-there : goal.due_later-requires-clause-there
 due_later-requires-clause-there g c =
+    let m = g.S.WorldStore.meaning in
     let old = c.args.config.now in
-    let items = held_first c.hold_separator.new.items c.nothing_held.result c.value_at-2.result c.in-Object.object c.to_uint32-count.result c.in_ok-hold_separator.ensures c.nothing_held.ensures in
+    let f = c.args.frame in
+    let sep = c.value_at-2.result in
+    let frame = held_first c.hold_separator.new.frame c.set_held.new.self f c.nothing_held.result sep c.in-Object.object c.to_uint32-count.result c.in_ok-hold_separator.ensures c.set_held.ensures c.nothing_held.ensures in
     let vs = c.args.args.now in
     let object = subst (λ (x : NumberedValue). HasValue old x) c.in-Object.is (argument_there old vs 0 c.value_at.result c.requires.args c.value_at.ensures.is) in
-    let held = subst (λ (l : List Held). HasItems old l) (sym items) (object, (argument_there old vs 2 c.value_at-2.result c.requires.args c.value_at-2.ensures.is, tt)) in
-    native_holds g.S.WorldStore.meaning old c.args.frame c.hold_separator.new.items c.requires.there held native.Glue c.requires.form
+    subst (IsThere m old) (sym frame) (native_holds m old f (holds.Elements c.in-Object.object c.to_uint32-count.result ∷ holds.Value sep ∷ []) c.requires.there (object, (argument_there old vs 2 sep c.requires.args c.value_at-2.ensures.is, tt)) native.Glue c.requires.form)
 
 pub returns : goal.returns
 returns g c =
@@ -53,11 +55,11 @@ returns g c =
     let o = c.in-Object.object in
     let sep = c.value_at-2.result in
     let count = c.to_uint32-count.result in
-    let items = held_first c.hold_separator.new.items c.nothing_held.result sep o count c.in_ok-hold_separator.ensures c.nothing_held.ensures in
+    let frame = held_first c.hold_separator.new.frame c.set_held.new.self f c.nothing_held.result sep o count c.in_ok-hold_separator.ensures c.set_held.ensures c.nothing_held.ensures in
     follows_as m _ _ old new c.due_later.result
     (λ grows.
-    glue_first t c.hold_separator.new.items n f.form f.node.0 sep o count env c.requires.form items (λ zero. absurd (c.if-count-eq0.false zero))
+    glue_first t n f.form f.node.0 sep o count env c.requires.form (λ zero. absurd (c.if-count-eq0.false zero))
     ∙ ap (λ s. line.glue_from count 0 [] (text_of s) o env) (sym (c.value_at-2.ensures.means t))
     ∙ ap (λ k. line.glue_from k 0 [] (text_at vs 2) o env) (c.to_uint32-count.ensures ∙ ap uint32 (sym (c.whole_at.ensures t)))
     ∙ ap (λ v. line.glue v (whole_at vs 1) (text_at vs 2) env) (sym (c.value_at.ensures.means t ∙ ap (value_in t) c.in-Object.is)))
-    c.due_later.ensures
+    (rw frame at c.due_later.ensures)

@@ -12,39 +12,46 @@ use Rattle.wjs_meaning.specs.Errors.{give_text}
 use Rattle.wjs_meaning.specs.NativesOfObjects.{text_of}
 use Rattle.wjs_meaning.specs.NativesOfTexts as line
 use Rattle.wjs_meaning.specs.Reading.{node_in}
-use Rattle.wjs_model.specs.declared.frame.Held.{Held}
+use Rattle.wjs_model.specs.declared.frame.Activation.{Activation as Frame}
 use Rattle.wjs_model.specs.declared.frame.Held.TheVariants as holds
-use Rattle.wjs_model.specs.Contents.{holding_in}
-use Rattle.wjs_model.specs.Soundness.{HasValue, HasItems}
+use Rattle.wjs_model.specs.Contents.{holding_in, values_held}
+use Rattle.wjs_model.specs.Frames.{earliest_first}
+use Rattle.wjs_model.specs.Soundness.{HasValue, IsThere}
 use Rattle.wjs_moves.proofs.Held.{values_there}
 use Rattle.wjs_moves.specs.Parts.{env_in, node_now}
 use Rattle.wjs_lines.proofs.Following.{follows_as, env_later}
 use Rattle.wjs_natives.proofs.Frames.{native_holds}
-use Rattle.wjs_native_text.proofs.Gluing.{glue_rest, glue_reads, glue_onward, behind_first, all_pieces}
+use Rattle.wjs_native_text.proofs.Gluing.{held_over, glue_rest, glue_reads, glue_onward, behind_first, all_pieces}
 use Rattle.wjs_native_text.proofs.glue.glue_on.Goals as goal
 
 pub due_later-requires-clause-there : goal.due_later-requires-clause-there
 due_later-requires-clause-there g c =
+    let m = g.S.WorldStore.meaning in
     let mid = c.read.new.config in
+    let f = c.args.frame in
+    let piece = c.in_ok-piece.piece in
+    let sep = c.held_value-separator.result in
+    let elements = c.held_elements-count.result in
     let later = c.in_ok-piece.ensures.later in
-    let there = later.frames c.args.frame c.requires.there in
-    let separator = later.values c.held_value-separator.result c.held_value-separator.ensures.found in
-    let object = later.objects c.held_elements-count.result.0 c.held_elements-count.ensures.found in
-    let held = subst (λ (l : List Held). HasItems mid l) (sym c.in_ok-push.ensures.ok) (c.in_ok-piece.ensures.found, there.held) in
-    let all = subst (λ (l : List Held). HasItems mid l) (sym c.in_ok-hold_separator.ensures) (object, (separator, held)) in
-    native_holds g.S.WorldStore.meaning mid c.args.frame c.hold_separator.new.items there all native.Glue c.requires.form
+    let there = later.frames f c.requires.there in
+    let separator = later.values sep c.held_value-separator.ensures.found in
+    let object = later.objects elements.0 c.held_elements-count.ensures.found in
+    let frame = held_over c.hold_separator.new.frame c.hold.new.self f (holds.Value piece ∷ f.held) sep elements.0 elements.1 c.in_ok-hold_separator.ensures c.in_ok-hold.ensures.ok in
+    subst (IsThere m mid) (sym frame) (native_holds m mid f (holds.Elements elements.0 elements.1 ∷ holds.Value sep ∷ holds.Value piece ∷ f.held) there (object, (separator, (c.in_ok-piece.ensures.found, there.held))) native.Glue c.requires.form)
 
 pub give_joined-requires-clause-values : goal.give_joined-requires-clause-values
 give_joined-requires-clause-values g c =
     let mid = c.read.new.config in
-    let there = c.in_ok-piece.ensures.later.frames c.args.frame c.requires.there in
-    let held = subst (λ (l : List Held). HasItems mid l) (sym c.in_ok-push.ensures.ok) (c.in_ok-piece.ensures.found, there.held) in
-    let all = subst (λ (l : List NumberedValue). All (HasValue mid) l) (sym (c.deref.ensures.value ∙ c.in_ok-values.ensures)) (values_there mid c.push.new.self held) in
+    let f = c.args.frame in
+    let there = c.in_ok-piece.ensures.later.frames f c.requires.there in
+    let held = holds.Value c.in_ok-piece.piece ∷ f.held in
+    let is = c.deref.ensures.value ∙ c.in_ok-values.ensures ∙ ap (λ (q : Frame). earliest_first (values_held q.held)) c.in_ok-hold.ensures.ok in
+    let all = subst (λ (l : List NumberedValue). All (HasValue mid) l) (sym is) (values_there mid held (c.in_ok-piece.ensures.found, there.held)) in
     let found = c.deref.result.now in
     subst (λ (l : List NumberedValue). All (HasValue mid) l) (sym (behind_first found)) (All-drop (HasValue mid) 1 found all)
 
-pub returns-then-frame-count : goal.returns-then-frame-count
-returns-then-frame-count g c =
+pub returns-then-place-count : goal.returns-then-place-count
+returns-then-place-count g c =
     let m = g.S.WorldStore.meaning in
     let old = c.args.config.now in
     let mid = c.read.new.config in
@@ -54,22 +61,24 @@ returns-then-frame-count g c =
     let f = c.args.frame in
     let env = env_in m old t f in
     let held = holding_in t f.held in
-    let i = f.place - 1 in
+    let i = c.place.result - 1 in
     let piece = c.in_ok-piece.piece in
     let sep = c.held_value-separator.result in
     let elements = c.held_elements-count.result in
-    let place : f.place ≡ suc i = omega (arith, c.requires.place) in
-    let next : f.place + 1 ≡ suc (suc i) = omega (arith, place) in
-    let less : suc i < elements.1 = omega (arith, place, c.if-frame-count.true) in
+    let frame = held_over c.hold_separator.new.frame c.hold.new.self f (holds.Value piece ∷ f.held) sep elements.0 elements.1 c.in_ok-hold_separator.ensures c.in_ok-hold.ensures.ok in
+    let place : f.place ≡ suc i = omega (arith, c.requires.place, c.place.ensures) in
+    let here : c.place-2.result ≡ f.place = c.place-2.ensures ∙ ap (λ (q : Frame). q.place) c.in_ok-hold.ensures.ok in
+    let last : c.place-next.result ≡ f.place = c.place-next.ensures ∙ ap (λ (q : Frame). q.place) frame in
+    let next : c.place-next.result + 1 ≡ suc (suc i) = omega (arith, place, last) in
+    let less : suc i < elements.1 = omega (arith, place, here, c.if-place-count.true) in
     let reads = ap (λ (x : ObjId × ℕ). Do (Read env.world (slot x.0 (index_name i))) (λ found. glue_rest i held env (value_or_undefined found))) c.held_elements-count.ensures.is ∙ glue_reads f.place i held env place in
-    let items = c.in_ok-hold_separator.ensures ∙ ap (λ (l : List Held). holds.Elements elements.0 elements.1 ∷ holds.Value sep ∷ l) c.in_ok-push.ensures.ok in
     follows_as m _ _ old new r (λ grows. reads)
     (c.in_ok-piece.ensures.does.by (glue_rest i held env) new r
     (follows_as m _ (glue_rest i held env (value_in t piece)) mid new r
     (λ more.
-    glue_onward t f.held c.hold_separator.new.items (node_in t (node_now m mid f)) f.form f.node.0 (f.place + 1) i piece sep elements (env_in m mid t f) c.requires.form next items c.held_value-separator.ensures.is c.held_elements-count.ensures.is less
+    glue_onward t f.held (node_in t (node_now m mid f)) f.form f.node.0 (c.place-next.result + 1) i piece sep elements (env_in m mid t f) c.requires.form next c.held_value-separator.ensures.is c.held_elements-count.ensures.is less
     ∙ ap (λ (x : Env). glue_rest i held x (value_in t piece)) (env_later m old mid t f c.in_ok-piece.ensures.later))
-    c.due_later.ensures))
+    (rw frame at c.due_later.ensures)))
 
 pub returns : goal.returns
 returns g c =
@@ -82,18 +91,19 @@ returns g c =
     let f = c.args.frame in
     let env = env_in m old t f in
     let held = holding_in t f.held in
-    let i = f.place - 1 in
+    let i = c.place.result - 1 in
     let piece = c.in_ok-piece.piece in
-    let place : f.place ≡ suc i = omega (arith, c.requires.place) in
+    let place : f.place ≡ suc i = omega (arith, c.requires.place, c.place.ensures) in
+    let here : c.place-2.result ≡ f.place = c.place-2.ensures ∙ ap (λ (q : Frame). q.place) c.in_ok-hold.ensures.ok in
     let count = ap (λ (x : ObjId × ℕ). x.1) c.held_elements-count.ensures.is in
-    let none : 0 ≡ held.elements.1 - (i + 1) = omega (arith, count, c.if-frame-count.false, place) in
+    let none : 0 ≡ held.elements.1 - (i + 1) = omega (arith, count, c.if-place-count.false, here, place) in
     let reads = ap (λ (x : ObjId × ℕ). Do (Read env.world (slot x.0 (index_name i))) (λ found. glue_rest i held env (value_or_undefined found))) c.held_elements-count.ensures.is ∙ glue_reads f.place i held env place in
     let so_far = line.joined (drop 1 (held.values ++ value_in t piece ∷ [])) in
     follows_as m _ _ old new r (λ grows. reads)
     (c.in_ok-piece.ensures.does.by (glue_rest i held env) new r
     (follows_as m _ (glue_rest i held env (value_in t piece)) mid new r
     (λ more.
-    ap (λ u. give_text u (env_in m mid t f)) (all_pieces t f.held c.push.new.self piece c.deref.result.now c.in_ok-push.ensures.ok (c.deref.ensures.value ∙ c.in_ok-values.ensures))
+    ap (λ u. give_text u (env_in m mid t f)) (all_pieces t f.held c.hold.new.self.held piece c.deref.result.now (ap (λ (q : Frame). q.held) c.in_ok-hold.ensures.ok) (c.deref.ensures.value ∙ c.in_ok-values.ensures))
     ∙ ap (λ (x : Env). give_text so_far x) (env_later m old mid t f c.in_ok-piece.ensures.later)
     ∙ ap (λ k. line.glue_from k (i + 1) so_far (text_of held.value) held.elements.0 env) none)
-    c.give_joined.ensures))
+    (rw c.in_ok-hold.ensures.ok at c.give_joined.ensures)))

@@ -18,7 +18,7 @@ returns-in-Runs g c =
     let f = c.args.frame in
     let k = c.args.native in
     let ready = rw c.in-Runs.is at c.in_ok-begin.ensures in
-    let first : 0 ≡ f.place = omega (arith, c.if-frame-gt0.false) in
+    let first : 0 ≡ f.place = omega (arith, c.place.ensures, c.if-place-gt0.false) in
     follows_as m _ _ old new c.run.result (λ grows. ap (λ p. begin_native k p (holding_in t f.held) (env_in m old t f)) first)
     (runs_on m k f c.in-Runs.frame (λ (u : Table). native_of k (holding_in u f.held).by_new (holding_in u f.held).values (env_in m old u f)) c.in-Runs.values.items c.deref.result.now old c.begin.new.config new c.run.result ready.0 ready.1 c.deref.ensures.value c.run.ensures)
 

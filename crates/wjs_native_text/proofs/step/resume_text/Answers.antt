@@ -20,7 +20,7 @@ returns-in-Runs g c =
     let e = c.args.completion in
     let k = c.in-Native.native in
     let ready = rw c.in-Runs.is at c.in_ok-resume.ensures in
-    follows_as m _ _ old new c.run.result (λ grows. ap (λ q. after (node_in t (node_now m old f)) q f.node.0 f.place (holding_in t f.held) (env_in m old t f) (completion_in t e)) (sym c.in-Native.is))
+    follows_as m _ _ old new c.run.result (λ grows. ap (λ q. after (node_in t (node_now m old f)) q f.node.0 f.place (holding_in t f.held) (env_in m old t f) (completion_in t e)) c.in-Native.ensures)
     (runs_on m k f c.in-Runs.frame (λ (u : Table). then_value (after_argument k (holding_in u f.held) (f.place - 1) (env_in m old u f)) (completion_in u e)) c.in-Runs.values.items c.deref.result.now old c.resume.new.config new c.run.result ready.0 ready.1 c.deref.ensures.value c.run.ensures)
 
 pub run-requires-clause-there : goal.run-requires-clause-there

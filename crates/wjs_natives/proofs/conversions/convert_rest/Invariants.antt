@@ -1,4 +1,4 @@
-use Rattle.std.proofs.Common.{◌-◌, length}
+use Rattle.std.proofs.Common.{◌≡◌, ◌-◌, length}
 use Rattle.std.specs.Prelude.{map}
 use Rattle.wjs_content.specs.Tables.{value_in}
 use Rattle.wjs_model.specs.Contents.{new_held}
@@ -11,7 +11,7 @@ use Rattle.wjs_natives.proofs.conversions.convert_rest.Given as goal
 abbrev pub invariant-values : goal.invariant-values
 invariant-values g l =
     let m = g.S.WorldStore.meaning in
-    Reached m l.native l.frame l.given (λ t. converting l.native (new_held l.frame.held) l.given (map (value_in t) l.initial.values.items) l.initial.at (env_in m l.initial.config t l.frame)) l.initial.config l.config l.values.items l.at
+    (l.frame ≡ l.initial.frame) × Reached m l.native l.initial.frame l.given (λ t. converting l.native (new_held l.initial.frame.held) l.given (map (value_in t) l.initial.values.items) l.initial.at (env_in m l.initial.config t l.initial.frame)) l.initial.config l.config l.values.items l.at
 
 abbrev pub decreases-values : goal.decreases-values
 decreases-values g l = length (conversions l.native l.given) - l.at

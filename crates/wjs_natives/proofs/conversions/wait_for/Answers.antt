@@ -3,7 +3,7 @@ use Rattle.std.proofs.lemmas.List.{get_or_read}
 use Rattle.wjs_base.specs.declared.values.Value.TheVariants as values
 use Rattle.wjs_content.specs.Tables.{value_in}
 use Rattle.wjs_meaning.specs.Deeds.{Act, Completion, Sub}
-use Rattle.wjs_model.specs.declared.frame.Frame.{Frame}
+use Rattle.wjs_model.specs.declared.frame.Activation.{Activation as Frame}
 use Rattle.wjs_model.specs.Contents.{new_held}
 use Rattle.wjs_model.specs.Rest.{begin_conversion}
 use Rattle.wjs_moves.specs.Parts.{env_in, node_now, then_at}
@@ -21,16 +21,18 @@ returns g c =
     let f = c.args.frame in
     let vs = c.args.values.now in
     let at = c.args.at in
-    let held : Frame = record f { held = c.in_ok-frame.field-0 } in
+    let held : Frame = record f { held = c.in_ok-items_of.field-0 } in
     let env = env_in m old t f in
     let place : c.in-Ok.place ≡ at + 1 = search rules in
     let value : c.index-values-at.result ≡ get_or vs at values.Undefined = get_or_read vs at c.index-values-at.result c.requires.at c.index-values-at.is values.Undefined in
-    let waits = waits_as t (node_now m old held) f.form c.args.native f.node.0 c.in-Ok.place at c.in_ok-frame.field-0 vs (new_held f.held) env c.requires.form place c.in_ok-frame.ensures.values (c.in_ok-frame.ensures.by_new ∙ c.by_new.ensures) in
+    let waits = waits_as t (node_now m old held) f.form c.args.native f.node.0 c.in-Ok.place at c.in_ok-items_of.field-0 vs (new_held f.held) env c.requires.form place c.in_ok-items_of.ensures.values (c.in_ok-items_of.ensures.by_new ∙ c.by_new-by_new.ensures) in
     follows_as m _ _ old new c.convert.result
     (λ grows.
     ap (λ v. Sub (begin_conversion c.args.conversion (value_in t v) env) (then_at m old held c.in-Ok.place t env)) value
     ∙ ap (λ (go : Completion → Act). Sub (begin_conversion c.args.conversion (value_in t (get_or vs at values.Undefined)) env) go) waits)
-    c.convert.ensures
+    (rw c.set_held.ensures at c.convert.ensures)
 
 pub convert-requires-clause-there : goal.convert-requires-clause-there
-convert-requires-clause-there g c = native_holds g.S.WorldStore.meaning c.args.config.now c.args.frame c.in_ok-frame.field-0 c.requires.there c.in_ok-frame.ensures.found c.args.native c.requires.form
+convert-requires-clause-there g c =
+    rw c.set_held.ensures
+    (native_holds g.S.WorldStore.meaning c.args.config.now c.args.frame c.in_ok-items_of.field-0 c.requires.there c.in_ok-items_of.ensures.found c.args.native c.requires.form)

@@ -21,7 +21,7 @@ convert_rest-requires-clause-values g c =
     let old = c.args.config.now in
     let held = c.args.frame.held in
     let vs = earliest_first (values_held held) in
-    let said : c.in_ok-values.values.items ≡ c.args.frame.this ∷ vs = c.in_ok-values.ensures ∙ ap (λ (l : List Value). c.args.frame.this ∷ l) c.in_ok-args.ensures in
+    let said : c.in_ok-values.values.items ≡ c.args.frame.this ∷ vs = c.in_ok-values.ensures ∙ ap (λ (v : Value). v ∷ c.in_ok-args.args.items) c.this.ensures ∙ ap (λ (l : List Value). c.args.frame.this ∷ l) c.in_ok-args.ensures in
     subst (λ (l : List Value). All (HasValue old) l) (sym said) (All-cons (HasValue old) c.args.frame.this vs c.requires.there.this (values_there old held c.requires.there.held))
 
 pub convert_rest-requires-clause-given : goal.convert_rest-requires-clause-given
@@ -38,7 +38,7 @@ returns g c =
     let k = c.args.native in
     let vs = earliest_first (values_held f.held) in
     let given : c.len-given.result ≡ length c.in_ok-args.args.items = search rules in
-    let said : c.in_ok-values.values.items ≡ f.this ∷ vs = c.in_ok-values.ensures ∙ ap (λ (l : List Value). f.this ∷ l) c.in_ok-args.ensures in
+    let said : c.in_ok-values.values.items ≡ f.this ∷ vs = c.in_ok-values.ensures ∙ ap (λ (v : Value). v ∷ c.in_ok-args.args.items) c.this.ensures ∙ ap (λ (l : List Value). f.this ∷ l) c.in_ok-args.ensures in
     let count = λ (t : Table). given ∙ ap length c.in_ok-args.ensures ∙ sym (length-map vs (value_in t)) ∙ ap length (sym (earliest-map (value_in t) (values_held f.held))) in
     let begins : (t : Table) → converting k (new_held f.held) c.len-given.result (map (value_in t) c.in_ok-values.values.items) 0 (env_in m old t f) ≡ native_of k (holding_in t f.held).by_new (holding_in t f.held).values (env_in m old t f) = λ t.
     ap (λ l. converting k (new_held f.held) c.len-given.result (map (value_in t) l) 0 (env_in m old t f)) said

@@ -1,5 +1,5 @@
 use Rattle.std.proofs.Common.{◌∷◌, sym, subst}
-use Rattle.wjs_model.specs.declared.frame.Frame.{Frame}
+use Rattle.wjs_model.specs.declared.frame.Activation.{Activation as Frame}
 use Rattle.wjs_model.specs.declared.frame.Held.TheVariants as holds
 use Rattle.wjs_model.specs.Soundness.{StandsHere}
 use Rattle.wjs_lines.proofs.Following.{follows_as}

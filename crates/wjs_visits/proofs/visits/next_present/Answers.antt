@@ -2,7 +2,7 @@ use Rattle.std.proofs.Common.{◌≡◌, Bool, sym, ap, subst}
 use Rattle.std.specs.Prelude.{is_some}
 use Rattle.wjs_content.specs.Tables.{slot_in}
 use Rattle.wjs_meaning.specs.Deeds.{Do, Read}
-use Rattle.wjs_model.specs.declared.frame.Frame.{Frame}
+use Rattle.wjs_model.specs.declared.frame.Activation.{Activation as Frame}
 use Rattle.wjs_model.specs.Contents.{holding_in}
 use Rattle.wjs_moves.specs.Doing.{Does}
 use Rattle.wjs_moves.specs.Parts.{env_in}

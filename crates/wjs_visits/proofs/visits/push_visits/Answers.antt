@@ -1,6 +1,6 @@
 use Rattle.std.proofs.Common.{List, sym, ap, ◌∙◌, ◌++◌}
 use Rattle.wjs_props.specs.declared.visits.Visit.{Visit}
-use Rattle.wjs_model.specs.declared.frame.Frame.{Frame}
+use Rattle.wjs_model.specs.declared.frame.Activation.{Activation as Frame}
 use Rattle.wjs_lines.specs.Lists.{visits_as_items}
 use Rattle.wjs_visits.proofs.Visiting.{items_snoc, held_twice, held_is}
 use Rattle.wjs_visits.proofs.visits.push_visits.Goals as goal

@@ -1,4 +1,0 @@
-use Rattle.wjs_loops.proofs.whiles.do_test.Goals as goal
-
-pub enter_last-requires-clause-part : goal.enter_last-requires-clause-part
-enter_last-requires-clause-part g c = c.requires.there.stands.node
