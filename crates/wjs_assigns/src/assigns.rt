@@ -123,7 +123,7 @@ fn assign_compound<S: WorldStore>(
     let answer = value_of(config, &frame, reference)?;
     match answer {
         Ok(old) => compound_old(config, frame, target, sign, right, reference, operator, old),
-        Err(error) => finish(config, &frame, Completion::Throws(error)),
+        Err(error) => finish(config, frame, Completion::Throws(error)),
     }
 }
 
@@ -158,16 +158,16 @@ fn compound_old<S: WorldStore>(
 /// After the value that is stored.
 pub(crate) fn assign_value<S: WorldStore>(
     config: &mut Config<S>,
-    frame: &Frame,
+    frame: Frame,
     value: Value,
 ) -> Result<(), OutOfMemory>
     requires running { config.old.state ≡ State.Running }
     requires base { Base S.meaning config.old }
-    requires there { IsThere S.meaning config.old frame.now }
+    requires there { IsThere S.meaning config.old frame }
     requires value { HasValue config.old value }
-    ensures { let t = config.new.heap.texts in let env = env_in S.meaning config.old t frame.now in OnOk result (Follows S.meaning (line.assign_value (reference_in t (reference_held frame.now.held)) env (value_in t value)) config.old config.new) }
+    ensures { let t = config.new.heap.texts in let env = env_in S.meaning config.old t frame in OnOk result (Follows S.meaning (line.assign_value (reference_in t (reference_held frame.held)) env (value_in t value)) config.old config.new) }
 {
-    let reference = held_reference(config, frame);
+    let reference = held_reference(config, &frame);
     store_and_give(config, frame, reference, value, value)
 }
 
@@ -192,7 +192,7 @@ pub(crate) fn compound_value<S: WorldStore>(
 {
     let old = held_value(config, &frame);
     match quick(operator, old, value) {
-        Some(number) => assign_value(config, &frame, Value::Number(number)),
+        Some(number) => assign_value(config, frame, Value::Number(number)),
         None => compound_nested(config, frame, target, sign, right, operator, old, value),
     }
 }

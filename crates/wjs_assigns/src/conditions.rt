@@ -35,18 +35,18 @@ pub(crate) fn cond_start<S: WorldStore>(
 /// After the test: one of the two is the expression's value.
 pub(crate) fn cond_test<S: WorldStore>(
     config: &mut Config<S>,
-    frame: &Frame,
+    frame: Frame,
     yes: NodeId,
     no: NodeId,
     value: Value,
 ) -> Result<(), OutOfMemory>
     requires running { config.old.state ≡ State.Running }
     requires base { Base S.meaning config.old }
-    requires there { IsThere S.meaning config.old frame.now }
-    requires yes { StandsHere config.old frame.now yes }
-    requires no { StandsHere config.old frame.now no }
+    requires there { IsThere S.meaning config.old frame }
+    requires yes { StandsHere config.old frame yes }
+    requires no { StandsHere config.old frame no }
     requires value { HasValue config.old value }
-    ensures { let t = config.new.heap.texts in let env = env_in S.meaning config.old t frame.now in OnOk result (Follows S.meaning (line.cond_test yes.0 no.0 env (value_in t value)) config.old config.new) }
+    ensures { let t = config.new.heap.texts in let env = env_in S.meaning config.old t frame in OnOk result (Follows S.meaning (line.cond_test yes.0 no.0 env (value_in t value)) config.old config.new) }
 {
     if to_boolean(config, value) {
         enter_last(config, frame, Part::Expr(yes))
@@ -75,16 +75,16 @@ pub(crate) fn comma_start<S: WorldStore>(
 /// After the left of a comma: the right is the expression's value.
 pub(crate) fn comma_left<S: WorldStore>(
     config: &mut Config<S>,
-    frame: &Frame,
+    frame: Frame,
     right: NodeId,
     value: Value,
 ) -> Result<(), OutOfMemory>
     requires running { config.old.state ≡ State.Running }
     requires base { Base S.meaning config.old }
-    requires there { IsThere S.meaning config.old frame.now }
-    requires part { StandsHere config.old frame.now right }
+    requires there { IsThere S.meaning config.old frame }
+    requires part { StandsHere config.old frame right }
     requires value { HasValue config.old value }
-    ensures { let t = config.new.heap.texts in let env = env_in S.meaning config.old t frame.now in OnOk result (Follows S.meaning (line.comma_left right.0 env (value_in t value)) config.old config.new) }
+    ensures { let t = config.new.heap.texts in let env = env_in S.meaning config.old t frame in OnOk result (Follows S.meaning (line.comma_left right.0 env (value_in t value)) config.old config.new) }
 {
     enter_last(config, frame, Part::Expr(right))
 }

@@ -26,14 +26,14 @@ const LENGTH: [u16; 6] = [108, 101, 110, 103, 116, 104];
 /// After the reference of what is deleted.
 pub(crate) fn delete_reference<S: WorldStore>(
     config: &mut Config<S>,
-    frame: &Frame,
+    frame: Frame,
     reference: Reference,
 ) -> Result<(), OutOfMemory>
     requires running { config.old.state ≡ State.Running }
     requires base { Base S.meaning config.old }
-    requires there { IsThere S.meaning config.old frame.now }
+    requires there { IsThere S.meaning config.old frame }
     requires reference { HasReference config.old reference }
-    ensures { let t = config.new.heap.texts in let env = env_in S.meaning config.old t frame.now in OnOk result (Follows S.meaning (line.delete_reference env (reference_in t reference)) config.old config.new) }
+    ensures { let t = config.new.heap.texts in let env = env_in S.meaning config.old t frame in OnOk result (Follows S.meaning (line.delete_reference env (reference_in t reference)) config.old config.new) }
 {
     match reference {
         Reference::Local(_, _) => told(config, frame, false),
@@ -45,14 +45,14 @@ pub(crate) fn delete_reference<S: WorldStore>(
 /// A property of the global object.
 fn delete_global<S: WorldStore>(
     config: &mut Config<S>,
-    frame: &Frame,
+    frame: Frame,
     name: Name,
 ) -> Result<(), OutOfMemory>
     requires running { config.old.state ≡ State.Running }
     requires base { Base S.meaning config.old }
-    requires there { IsThere S.meaning config.old frame.now }
+    requires there { IsThere S.meaning config.old frame }
     requires name { HasName config.old name }
-    ensures { let t = config.new.heap.texts in let env = env_in S.meaning config.old t frame.now in OnOk result (Follows S.meaning (properties.delete env.global (name_in t name) env give_truth) config.old config.new) }
+    ensures { let t = config.new.heap.texts in let env = env_in S.meaning config.old t frame in OnOk result (Follows S.meaning (properties.delete env.global (name_in t name) env give_truth) config.old config.new) }
 {
     let global = config.global;
     delete_property(config, frame, global, name)
@@ -61,34 +61,34 @@ fn delete_global<S: WorldStore>(
 /// A property of an object.
 fn delete_property<S: WorldStore>(
     config: &mut Config<S>,
-    frame: &Frame,
+    frame: Frame,
     object: ObjId,
     name: Name,
 ) -> Result<(), OutOfMemory>
     requires running { config.old.state ≡ State.Running }
     requires base { Base S.meaning config.old }
-    requires there { IsThere S.meaning config.old frame.now }
+    requires there { IsThere S.meaning config.old frame }
     requires object { HasObject config.old object }
     requires name { HasName config.old name }
-    ensures { let t = config.new.heap.texts in let env = env_in S.meaning config.old t frame.now in OnOk result (Follows S.meaning (properties.delete object (name_in t name) env give_truth) config.old config.new) }
+    ensures { let t = config.new.heap.texts in let env = env_in S.meaning config.old t frame in OnOk result (Follows S.meaning (properties.delete object (name_in t name) env give_truth) config.old config.new) }
 {
-    let answer = delete(config, frame, object, name)?;
+    let answer = delete(config, &frame, object, name)?;
     told(config, frame, answer)
 }
 
 /// A member of a value: a text keeps its `length`.
 fn delete_member<S: WorldStore>(
     config: &mut Config<S>,
-    frame: &Frame,
+    frame: Frame,
     base: Value,
     name: Name,
 ) -> Result<(), OutOfMemory>
     requires running { config.old.state ≡ State.Running }
     requires base { Base S.meaning config.old }
-    requires there { IsThere S.meaning config.old frame.now }
+    requires there { IsThere S.meaning config.old frame }
     requires value { HasValue config.old base }
     requires name { HasName config.old name }
-    ensures { let t = config.new.heap.texts in let env = env_in S.meaning config.old t frame.now in OnOk result (Follows S.meaning (line.delete_reference env (Member (value_in t base) (name_in t name))) config.old config.new) }
+    ensures { let t = config.new.heap.texts in let env = env_in S.meaning config.old t frame in OnOk result (Follows S.meaning (line.delete_reference env (Member (value_in t base) (name_in t name))) config.old config.new) }
 {
     match base {
         Value::Object(object) => delete_property(config, frame, object, name),
@@ -112,11 +112,7 @@ fn is_length<S: WorldStore>(config: &Config<S>, name: Name) -> bool
 }
 
 /// Ends with a truth value.
-fn told<S: WorldStore>(
-    config: &mut Config<S>,
-    frame: &Frame,
-    truth: bool,
-) -> Result<(), OutOfMemory>
+fn told<S: WorldStore>(config: &mut Config<S>, frame: Frame, truth: bool) -> Result<(), OutOfMemory>
     requires running { config.old.state ≡ State.Running }
     requires base { Base S.meaning config.old }
     ensures { OnOk result (Follows S.meaning (give_truth truth) config.old config.new) }
@@ -127,13 +123,13 @@ fn told<S: WorldStore>(
 /// After a value, which is no reference.
 pub(crate) fn delete_given<S: WorldStore>(
     config: &mut Config<S>,
-    frame: &Frame,
+    frame: Frame,
     value: Value,
 ) -> Result<(), OutOfMemory>
     requires running { config.old.state ≡ State.Running }
     requires base { Base S.meaning config.old }
     requires value { HasValue config.old value }
-    ensures { let t = config.new.heap.texts in let env = env_in S.meaning config.old t frame.now in OnOk result (Follows S.meaning (after_prefix PrefixOperator.Delete frame.now.place (holding_in t frame.now.held) env (Gives (value_in t value))) config.old config.new) }
+    ensures { let t = config.new.heap.texts in let env = env_in S.meaning config.old t frame in OnOk result (Follows S.meaning (after_prefix PrefixOperator.Delete frame.place (holding_in t frame.held) env (Gives (value_in t value))) config.old config.new) }
 {
     if frame.place() == 1 {
         finish(config, frame, Completion::Gives(value))

@@ -82,8 +82,8 @@ pub(crate) fn prefix_reference<S: WorldStore>(
     ensures { let t = config.new.heap.texts in let env = env_in S.meaning config.old t frame in OnOk result (Follows S.meaning (after_prefix operator 1 (holding_in t frame.held) env (Refers (reference_in t reference))) config.old config.new) }
 {
     match operator {
-        PrefixOperator::Delete => delete_reference(config, &frame, reference),
-        PrefixOperator::Typeof => typeof_reference(config, &frame, reference),
+        PrefixOperator::Delete => delete_reference(config, frame, reference),
+        PrefixOperator::Typeof => typeof_reference(config, frame, reference),
         PrefixOperator::Increment => {
             update_reference(
                 config,
@@ -102,7 +102,7 @@ pub(crate) fn prefix_reference<S: WorldStore>(
                 reference,
             )
         }
-        _ => finish(config, &frame, Completion::Refers(reference)),
+        _ => finish(config, frame, Completion::Refers(reference)),
     }
 }
 
@@ -123,16 +123,16 @@ pub(crate) fn prefix_value<S: WorldStore>(
     ensures { let t = config.new.heap.texts in let env = env_in S.meaning config.old t frame in OnOk result (Follows S.meaning (after_prefix operator frame.place (holding_in t frame.held) env (Gives (value_in t value))) config.old config.new) }
 {
     match operator {
-        PrefixOperator::Delete => delete_given(config, &frame, value),
-        PrefixOperator::Typeof => typeof_given(config, &frame, value),
+        PrefixOperator::Delete => delete_given(config, frame, value),
+        PrefixOperator::Typeof => typeof_given(config, frame, value),
         PrefixOperator::Increment => {
-            update_given(config, &frame, Fix::Pre, UpdateOperator::Increment, value)
+            update_given(config, frame, Fix::Pre, UpdateOperator::Increment, value)
         }
         PrefixOperator::Decrement => {
-            update_given(config, &frame, Fix::Pre, UpdateOperator::Decrement, value)
+            update_given(config, frame, Fix::Pre, UpdateOperator::Decrement, value)
         }
-        PrefixOperator::Void => finish(config, &frame, Completion::Gives(Value::Undefined)),
-        PrefixOperator::Not => not_value(config, &frame, value),
+        PrefixOperator::Void => finish(config, frame, Completion::Gives(Value::Undefined)),
+        PrefixOperator::Not => not_value(config, frame, value),
         PrefixOperator::Plus => plus_given(config, frame, operand, value),
         PrefixOperator::Minus => minus_given(config, frame, operand, value),
         PrefixOperator::BitNot => complement_given(config, frame, operand, value),
@@ -142,7 +142,7 @@ pub(crate) fn prefix_value<S: WorldStore>(
 /// `!`: the opposite of the value's truth.
 fn not_value<S: WorldStore>(
     config: &mut Config<S>,
-    frame: &Frame,
+    frame: Frame,
     value: Value,
 ) -> Result<(), OutOfMemory>
     requires running { config.old.state ≡ State.Running }
@@ -172,7 +172,7 @@ fn plus_given<S: WorldStore>(
     if frame.place() == 1 {
         plus_value(config, frame, operand, value)
     } else {
-        plus_primitive(config, &frame, value)
+        plus_primitive(config, frame, value)
     }
 }
 
@@ -195,14 +195,14 @@ fn plus_value<S: WorldStore>(
     if is_object(value) {
         convert(config, frame, 2, Conversion::NumberFirst, value)
     } else {
-        plus_primitive(config, &frame, value)
+        plus_primitive(config, frame, value)
     }
 }
 
 /// `+` of a primitive.
 fn plus_primitive<S: WorldStore>(
     config: &mut Config<S>,
-    frame: &Frame,
+    frame: Frame,
     value: Value,
 ) -> Result<(), OutOfMemory>
     requires running { config.old.state ≡ State.Running }
@@ -233,8 +233,8 @@ fn minus_given<S: WorldStore>(
         return minus_value(config, frame, operand, value);
     }
     match value {
-        Value::Number(number) => minus_number(config, &frame, number),
-        _ => finish(config, &frame, Completion::Gives(value)),
+        Value::Number(number) => minus_number(config, frame, number),
+        _ => finish(config, frame, Completion::Gives(value)),
     }
 }
 
@@ -258,14 +258,14 @@ fn minus_value<S: WorldStore>(
         convert(config, frame, 2, Conversion::Number, value)
     } else {
         let number = to_number(config, value);
-        minus_number(config, &frame, number)
+        minus_number(config, frame, number)
     }
 }
 
 /// `-`: the number with the other sign.
 fn minus_number<S: WorldStore>(
     config: &mut Config<S>,
-    frame: &Frame,
+    frame: Frame,
     number: Whole,
 ) -> Result<(), OutOfMemory>
     requires running { config.old.state ≡ State.Running }
@@ -294,8 +294,8 @@ fn complement_given<S: WorldStore>(
         return complement_value(config, frame, operand, value);
     }
     match value {
-        Value::Number(number) => complement_number(config, &frame, number),
-        _ => finish(config, &frame, Completion::Gives(value)),
+        Value::Number(number) => complement_number(config, frame, number),
+        _ => finish(config, frame, Completion::Gives(value)),
     }
 }
 
@@ -319,14 +319,14 @@ fn complement_value<S: WorldStore>(
         convert(config, frame, 2, Conversion::Number, value)
     } else {
         let number = to_number(config, value);
-        complement_number(config, &frame, number)
+        complement_number(config, frame, number)
     }
 }
 
 /// `~`: the other bits.
 fn complement_number<S: WorldStore>(
     config: &mut Config<S>,
-    frame: &Frame,
+    frame: Frame,
     number: Whole,
 ) -> Result<(), OutOfMemory>
     requires running { config.old.state ≡ State.Running }

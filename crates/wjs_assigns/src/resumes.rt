@@ -42,7 +42,7 @@ pub fn operator_given<S: WorldStore>(
     match completion {
         Completion::Gives(value) => operator_value(config, frame, value),
         Completion::Refers(reference) => operator_reference(config, frame, reference),
-        _ => finish(config, &frame, completion),
+        _ => finish(config, frame, completion),
     }
 }
 
@@ -62,7 +62,7 @@ fn operator_reference<S: WorldStore>(
     if frame.place() == 1 {
         target_given(config, frame, reference)
     } else {
-        finish(config, &frame, Completion::Refers(reference))
+        finish(config, frame, Completion::Refers(reference))
     }
 }
 
@@ -92,7 +92,7 @@ fn target_given<S: WorldStore>(
             let (target, sign, right) = (*target, *sign, *right);
             assign_reference(config, frame, target, sign, right, reference)
         }
-        _ => finish(config, &frame, Completion::Refers(reference)),
+        _ => finish(config, frame, Completion::Refers(reference)),
     }
 }
 
@@ -112,7 +112,7 @@ fn operator_value<S: WorldStore>(
     match node_of(config, &frame) {
         Some(Node::Postfix(_, operator)) => {
             let operator = *operator;
-            update_given(config, &frame, Fix::Post, operator, value)
+            update_given(config, frame, Fix::Post, operator, value)
         }
         Some(Node::Prefix(operator, operand)) => {
             let (operator, operand) = (*operator, *operand);
@@ -124,7 +124,7 @@ fn operator_value<S: WorldStore>(
         }
         Some(Node::Cond(_, yes, no)) => {
             let (yes, no) = (*yes, *no);
-            cond_test(config, &frame, yes, no, value)
+            cond_test(config, frame, yes, no, value)
         }
         Some(Node::Assign(target, sign, right)) => {
             let (target, sign, right) = (*target, *sign, *right);
@@ -132,9 +132,9 @@ fn operator_value<S: WorldStore>(
         }
         Some(Node::Comma(_, right)) => {
             let right = *right;
-            comma_left(config, &frame, right, value)
+            comma_left(config, frame, right, value)
         }
-        _ => finish(config, &frame, Completion::Gives(value)),
+        _ => finish(config, frame, Completion::Gives(value)),
     }
 }
 
@@ -180,10 +180,10 @@ fn assign_given<S: WorldStore>(
     ensures { let t = config.new.heap.texts in let env = env_in S.meaning config.old t frame in OnOk result (Follows S.meaning (after.after_assign (compound sign) right.0 frame.place (holding_in t frame.held) env (Gives (value_in t value))) config.old config.new) }
 {
     match frame.place() {
-        1 => finish(config, &frame, Completion::Gives(value)),
-        2 => assign_value(config, &frame, value),
+        1 => finish(config, frame, Completion::Gives(value)),
+        2 => assign_value(config, frame, value),
         _ => match operator_of(sign) {
-            None => finish(config, &frame, Completion::Gives(value)),
+            None => finish(config, frame, Completion::Gives(value)),
             Some(operator) => compound_given(config, frame, target, sign, right, operator, value),
         },
     }

@@ -55,6 +55,6 @@ pub fn operator_start<S: WorldStore>(
             let (left, right) = (*left, *right);
             comma_start(config, frame, left, right)
         }
-        _ => finish(config, &frame, Completion::Normal),
+        _ => finish(config, frame, Completion::Normal),
     }
 }

@@ -58,7 +58,7 @@ fn type_name<S: WorldStore>(config: &Config<S>, value: Value) -> &'static [u16]
 /// After the value: the name of its type.
 fn typeof_value<S: WorldStore>(
     config: &mut Config<S>,
-    frame: &Frame,
+    frame: Frame,
     value: Value,
 ) -> Result<(), OutOfMemory>
     requires running { config.old.state ≡ State.Running }
@@ -74,14 +74,14 @@ fn typeof_value<S: WorldStore>(
 /// After the reference: an absent global name is undefined, and throws nothing.
 pub(crate) fn typeof_reference<S: WorldStore>(
     config: &mut Config<S>,
-    frame: &Frame,
+    frame: Frame,
     reference: Reference,
 ) -> Result<(), OutOfMemory>
     requires running { config.old.state ≡ State.Running }
     requires base { Base S.meaning config.old }
-    requires there { IsThere S.meaning config.old frame.now }
+    requires there { IsThere S.meaning config.old frame }
     requires reference { HasReference config.old reference }
-    ensures { let t = config.new.heap.texts in let env = env_in S.meaning config.old t frame.now in OnOk result (Follows S.meaning (line.typeof_reference env (reference_in t reference)) config.old config.new) }
+    ensures { let t = config.new.heap.texts in let env = env_in S.meaning config.old t frame in OnOk result (Follows S.meaning (line.typeof_reference env (reference_in t reference)) config.old config.new) }
 {
     match reference {
         Reference::Global(name) => typeof_global(config, frame, name),
@@ -92,33 +92,33 @@ pub(crate) fn typeof_reference<S: WorldStore>(
 /// A property of the global object.
 fn typeof_global<S: WorldStore>(
     config: &mut Config<S>,
-    frame: &Frame,
+    frame: Frame,
     name: Name,
 ) -> Result<(), OutOfMemory>
     requires running { config.old.state ≡ State.Running }
     requires base { Base S.meaning config.old }
-    requires there { IsThere S.meaning config.old frame.now }
+    requires there { IsThere S.meaning config.old frame }
     requires name { HasName config.old name }
-    ensures { let t = config.new.heap.texts in let env = env_in S.meaning config.old t frame.now in OnOk result (Follows S.meaning (get_value env.global (name_in t name) env line.typeof_value) config.old config.new) }
+    ensures { let t = config.new.heap.texts in let env = env_in S.meaning config.old t frame in OnOk result (Follows S.meaning (get_value env.global (name_in t name) env line.typeof_value) config.old config.new) }
 {
     let global = config.global;
-    let value = get_value(config, frame, global, name)?;
+    let value = get_value(config, &frame, global, name)?;
     typeof_value(config, frame, value)
 }
 
 /// A reference whose value is taken as any other.
 fn typeof_found<S: WorldStore>(
     config: &mut Config<S>,
-    frame: &Frame,
+    frame: Frame,
     reference: Reference,
 ) -> Result<(), OutOfMemory>
     requires running { config.old.state ≡ State.Running }
     requires base { Base S.meaning config.old }
-    requires there { IsThere S.meaning config.old frame.now }
+    requires there { IsThere S.meaning config.old frame }
     requires reference { HasReference config.old reference }
-    ensures { let t = config.new.heap.texts in let env = env_in S.meaning config.old t frame.now in OnOk result (Follows S.meaning (references.value_of (reference_in t reference) env line.typeof_value) config.old config.new) }
+    ensures { let t = config.new.heap.texts in let env = env_in S.meaning config.old t frame in OnOk result (Follows S.meaning (references.value_of (reference_in t reference) env line.typeof_value) config.old config.new) }
 {
-    let answer = value_of(config, frame, reference)?;
+    let answer = value_of(config, &frame, reference)?;
     match answer {
         Ok(value) => typeof_value(config, frame, value),
         Err(error) => finish(config, frame, Completion::Throws(error)),
@@ -128,13 +128,13 @@ fn typeof_found<S: WorldStore>(
 /// After a value, which is no reference.
 pub(crate) fn typeof_given<S: WorldStore>(
     config: &mut Config<S>,
-    frame: &Frame,
+    frame: Frame,
     value: Value,
 ) -> Result<(), OutOfMemory>
     requires running { config.old.state ≡ State.Running }
     requires base { Base S.meaning config.old }
     requires value { HasValue config.old value }
-    ensures { let t = config.new.heap.texts in let env = env_in S.meaning config.old t frame.now in OnOk result (Follows S.meaning (after_prefix PrefixOperator.Typeof frame.now.place (holding_in t frame.now.held) env (Gives (value_in t value))) config.old config.new) }
+    ensures { let t = config.new.heap.texts in let env = env_in S.meaning config.old t frame in OnOk result (Follows S.meaning (after_prefix PrefixOperator.Typeof frame.place (holding_in t frame.held) env (Gives (value_in t value))) config.old config.new) }
 {
     if frame.place() == 1 {
         finish(config, frame, Completion::Gives(value))

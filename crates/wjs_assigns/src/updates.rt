@@ -86,7 +86,7 @@ pub(crate) fn update_reference<S: WorldStore>(
     let answer = value_of(config, &frame, reference)?;
     match answer {
         Ok(value) => update_value(config, frame, fix, operator, reference, value),
-        Err(error) => finish(config, &frame, Completion::Throws(error)),
+        Err(error) => finish(config, frame, Completion::Throws(error)),
     }
 }
 
@@ -111,7 +111,7 @@ fn update_value<S: WorldStore>(
         update_object(config, frame, fix, operator, reference, value)
     } else {
         let number = to_number(config, value);
-        update_number(config, &frame, fix, operator, reference, number)
+        update_number(config, frame, fix, operator, reference, number)
     }
 }
 
@@ -141,16 +141,16 @@ fn update_object<S: WorldStore>(
 /// After ToNumber of an object.
 pub(crate) fn update_given<S: WorldStore>(
     config: &mut Config<S>,
-    frame: &Frame,
+    frame: Frame,
     fix: Fix,
     operator: UpdateOperator,
     value: Value,
 ) -> Result<(), OutOfMemory>
     requires running { config.old.state ≡ State.Running }
     requires base { Base S.meaning config.old }
-    requires there { IsThere S.meaning config.old frame.now }
+    requires there { IsThere S.meaning config.old frame }
     requires value { HasValue config.old value }
-    ensures { let t = config.new.heap.texts in let env = env_in S.meaning config.old t frame.now in OnOk result (Follows S.meaning (after_update (fix_of fix) operator frame.now.place (holding_in t frame.now.held) env (Gives (value_in t value))) config.old config.new) }
+    ensures { let t = config.new.heap.texts in let env = env_in S.meaning config.old t frame in OnOk result (Follows S.meaning (after_update (fix_of fix) operator frame.place (holding_in t frame.held) env (Gives (value_in t value))) config.old config.new) }
 {
     if frame.place() == 1 {
         return finish(config, frame, Completion::Gives(value));
@@ -164,24 +164,24 @@ pub(crate) fn update_given<S: WorldStore>(
 /// After the number of the target that is held.
 fn update_held<S: WorldStore>(
     config: &mut Config<S>,
-    frame: &Frame,
+    frame: Frame,
     fix: Fix,
     operator: UpdateOperator,
     number: Whole,
 ) -> Result<(), OutOfMemory>
     requires running { config.old.state ≡ State.Running }
     requires base { Base S.meaning config.old }
-    requires there { IsThere S.meaning config.old frame.now }
-    ensures { let t = config.new.heap.texts in let env = env_in S.meaning config.old t frame.now in OnOk result (Follows S.meaning (line.update_number (fix_of fix) operator env (reference_in t (reference_held frame.now.held)) number.number) config.old config.new) }
+    requires there { IsThere S.meaning config.old frame }
+    ensures { let t = config.new.heap.texts in let env = env_in S.meaning config.old t frame in OnOk result (Follows S.meaning (line.update_number (fix_of fix) operator env (reference_in t (reference_held frame.held)) number.number) config.old config.new) }
 {
-    let reference = held_reference(config, frame);
+    let reference = held_reference(config, &frame);
     update_number(config, frame, fix, operator, reference, number)
 }
 
 /// After the number: the next or the previous one is stored.
 fn update_number<S: WorldStore>(
     config: &mut Config<S>,
-    frame: &Frame,
+    frame: Frame,
     fix: Fix,
     operator: UpdateOperator,
     reference: Reference,
@@ -189,9 +189,9 @@ fn update_number<S: WorldStore>(
 ) -> Result<(), OutOfMemory>
     requires running { config.old.state ≡ State.Running }
     requires base { Base S.meaning config.old }
-    requires there { IsThere S.meaning config.old frame.now }
+    requires there { IsThere S.meaning config.old frame }
     requires reference { HasReference config.old reference }
-    ensures { let t = config.new.heap.texts in let env = env_in S.meaning config.old t frame.now in OnOk result (Follows S.meaning (line.update_number (fix_of fix) operator env (reference_in t reference) number.number) config.old config.new) }
+    ensures { let t = config.new.heap.texts in let env = env_in S.meaning config.old t frame in OnOk result (Follows S.meaning (line.update_number (fix_of fix) operator env (reference_in t reference) number.number) config.old config.new) }
 {
     match updated(operator, number) {
         Ok(new) => {

@@ -43,7 +43,7 @@ pub fn block<S: WorldStore>(
             let next = place_after(at, 1)?;
             enter(config, frame, next, Part::Stmt(statement))
         }
-        None => finish(config, &frame, Completion::Normal),
+        None => finish(config, frame, Completion::Normal),
     }
 }
 
@@ -65,6 +65,6 @@ pub fn block_next<S: WorldStore>(
             let at = frame.place();
             block(config, frame, at)
         }
-        other => finish(config, &frame, other),
+        other => finish(config, frame, other),
     }
 }

@@ -50,7 +50,7 @@ pub(crate) fn enter_in<S: WorldStore>(
     let alloc = config.heap.arena.allocator();
     let inner = like(alloc, &frame, scope, config.frames.nothing_held())?;
     wait(config, frame, place)?;
-    enter_last(config, &inner, part)
+    enter_last(config, inner, part)
 }
 
 /// A part is entered in the place of the frame that was taken off, in a world.
@@ -70,5 +70,5 @@ pub(crate) fn enter_within<S: WorldStore>(
 {
     let mut frame = frame;
     frame.set_world(world);
-    enter_last(config, &frame, part)
+    enter_last(config, frame, part)
 }

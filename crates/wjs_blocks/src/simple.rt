@@ -30,8 +30,8 @@ pub fn expr_next<S: WorldStore>(
     ensures { let t = config.new.heap.texts in let env = env_in S.meaning config.old t frame in OnOk result (Follows S.meaning (then_value expr_done (completion_in t completion)) config.old config.new) }
 {
     match completion {
-        Completion::Gives(_) => finish(config, &frame, Completion::Normal),
-        other => finish(config, &frame, other),
+        Completion::Gives(_) => finish(config, frame, Completion::Normal),
+        other => finish(config, frame, other),
     }
 }
 
@@ -53,7 +53,7 @@ pub fn if_next<S: WorldStore>(
 {
     match completion {
         Completion::Gives(value) => if_test(config, frame, s, other, value),
-        ended => finish(config, &frame, ended),
+        ended => finish(config, frame, ended),
     }
 }
 
@@ -74,7 +74,7 @@ fn if_test<S: WorldStore>(
     ensures { let t = config.new.heap.texts in let env = env_in S.meaning config.old t frame in OnOk result (Follows S.meaning (if_test s.0 (number other) env (value_in t value)) config.old config.new) }
 {
     if to_boolean(config, value) {
-        enter_last(config, &frame, Part::Stmt(s))
+        enter_last(config, frame, Part::Stmt(s))
     } else {
         else_start(config, frame, other)
     }
@@ -93,8 +93,8 @@ fn else_start<S: WorldStore>(
     ensures { let t = config.new.heap.texts in let env = env_in S.meaning config.old t frame in OnOk result (Follows S.meaning (else_of (number other) env) config.old config.new) }
 {
     match other {
-        Some(s) => enter_last(config, &frame, Part::Stmt(s)),
-        None => finish(config, &frame, Completion::Normal),
+        Some(s) => enter_last(config, frame, Part::Stmt(s)),
+        None => finish(config, frame, Completion::Normal),
     }
 }
 
@@ -114,7 +114,7 @@ pub fn return_start<S: WorldStore>(
 {
     match e {
         Some(e) => enter(config, frame, 1, Part::Expr(e)),
-        None => finish(config, &frame, Completion::Returns(Value::Undefined)),
+        None => finish(config, frame, Completion::Returns(Value::Undefined)),
     }
 }
 
@@ -131,8 +131,8 @@ pub fn return_next<S: WorldStore>(
     ensures { let t = config.new.heap.texts in let env = env_in S.meaning config.old t frame in OnOk result (Follows S.meaning (then_value return_value (completion_in t completion)) config.old config.new) }
 {
     match completion {
-        Completion::Gives(value) => finish(config, &frame, Completion::Returns(value)),
-        other => finish(config, &frame, other),
+        Completion::Gives(value) => finish(config, frame, Completion::Returns(value)),
+        other => finish(config, frame, other),
     }
 }
 
@@ -149,7 +149,7 @@ pub fn throw_next<S: WorldStore>(
     ensures { let t = config.new.heap.texts in let env = env_in S.meaning config.old t frame in OnOk result (Follows S.meaning (then_value throw_value (completion_in t completion)) config.old config.new) }
 {
     match completion {
-        Completion::Gives(value) => finish(config, &frame, Completion::Throws(value)),
-        other => finish(config, &frame, other),
+        Completion::Gives(value) => finish(config, frame, Completion::Throws(value)),
+        other => finish(config, frame, other),
     }
 }

@@ -51,7 +51,7 @@ fn statements_from<S: WorldStore>(
             let place = place_after(at, 2)?;
             enter(config, frame, place, Part::Stmt(statement))
         }
-        None => finish(config, &frame, Completion::Normal),
+        None => finish(config, frame, Completion::Normal),
     }
 }
 
@@ -141,7 +141,7 @@ fn case_value<S: WorldStore>(
 {
     let at = frame.place().saturating_sub(2) as usize;
     if at >= clauses_of(config, &frame).len() {
-        finish(config, &frame, Completion::Normal)
+        finish(config, frame, Completion::Normal)
     } else if strictly_equal(config, value, other) {
         clauses_from(config, frame, at)
     } else {
@@ -169,8 +169,8 @@ fn statement_next<S: WorldStore>(
             let at = frame.place().saturating_sub(1);
             statements_from(config, frame, at)
         }
-        Completion::Breaks(None) => finish(config, &frame, Completion::Normal),
-        other => finish(config, &frame, other),
+        Completion::Breaks(None) => finish(config, frame, Completion::Normal),
+        other => finish(config, frame, other),
     }
 }
 
@@ -191,7 +191,7 @@ pub fn switch_next<S: WorldStore>(
     match frame.place() {
         1 => match completion {
             Completion::Gives(value) => switch_value(config, frame, value),
-            other => finish(config, &frame, other),
+            other => finish(config, frame, other),
         },
         _ => part_next(config, frame, completion),
     }
@@ -238,6 +238,6 @@ fn case_next<S: WorldStore>(
 {
     match completion {
         Completion::Gives(other) => case_value(config, frame, value, other),
-        other => finish(config, &frame, other),
+        other => finish(config, frame, other),
     }
 }

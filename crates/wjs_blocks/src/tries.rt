@@ -42,7 +42,7 @@ fn finally_start<S: WorldStore>(
             hold(&mut frame, Held::Earlier(completion))?;
             enter(config, frame, 3, Part::Stmt(s))
         }
-        None => finish(config, &frame, completion),
+        None => finish(config, frame, completion),
     }
 }
 
@@ -61,9 +61,9 @@ fn finally_next<S: WorldStore>(
     match completion {
         Completion::Normal => {
             let earlier = frame.earlier();
-            finish(config, &frame, earlier)
+            finish(config, frame, earlier)
         }
-        other => finish(config, &frame, other),
+        other => finish(config, frame, other),
     }
 }
 

@@ -32,7 +32,7 @@ pub fn within_next<S: WorldStore>(
 {
     match completion {
         Completion::Gives(value) => within(config, frame, b, value),
-        other => finish(config, &frame, other),
+        other => finish(config, frame, other),
     }
 }
 
@@ -52,6 +52,6 @@ fn within<S: WorldStore>(
 {
     match world_of(config, &frame, value)? {
         Ok(world) => enter_within(config, frame, world, Part::Stmt(b)),
-        Err(error) => finish(config, &frame, Completion::Throws(error)),
+        Err(error) => finish(config, frame, Completion::Throws(error)),
     }
 }

@@ -36,7 +36,7 @@ pub fn call<S: WorldStore>(
     ensures { let t = config.new.heap.texts in OnOk result (Follows S.meaning (line.call function (value_in t this) (holding_in t frame.held).values (env_in S.meaning config.old t frame)) config.old config.new) }
 {
     match code_of(config, function) {
-        Code::None => throw(config, &frame, Trouble::NotAFunction),
+        Code::None => throw(config, frame, Trouble::NotAFunction),
         Code::Script { .. } => call_script(config, frame, function, this),
         Code::Native(native) => call_native(config, frame, native, this),
     }
@@ -60,7 +60,7 @@ fn call_script<S: WorldStore>(
     let answer = to_object(config, &frame, this)?;
     match answer {
         Ok(object) => enter_body(config, frame, function, Value::Object(object)),
-        Err(error) => finish(config, &frame, Completion::Throws(error)),
+        Err(error) => finish(config, frame, Completion::Throws(error)),
     }
 }
 
@@ -91,7 +91,7 @@ pub fn call_if<S: WorldStore>(config: &mut Config<S>, frame: Frame) -> Result<()
     let (callee, this) = held_callee(config, &frame);
     match callee {
         Value::Object(function) => call(config, frame, function, this),
-        _ => finish(config, &frame, Completion::Normal),
+        _ => finish(config, frame, Completion::Normal),
     }
 }
 
@@ -111,7 +111,7 @@ pub fn call_value<S: WorldStore>(
 {
     match function_of(config, callee) {
         Some(function) => call(config, frame, function, this),
-        None => throw(config, &frame, Trouble::NotAFunction),
+        None => throw(config, frame, Trouble::NotAFunction),
     }
 }
 

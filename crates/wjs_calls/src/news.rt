@@ -38,7 +38,7 @@ pub fn construct<S: WorldStore>(
     ensures { let t = config.new.heap.texts in OnOk result (Follows S.meaning (line.construct (value_in t callee) (env_in S.meaning config.old t frame) (holding_in t frame.held).values) config.old config.new) }
 {
     match function_of(config, callee) {
-        None => throw(config, &frame, Trouble::NotAConstructor),
+        None => throw(config, frame, Trouble::NotAConstructor),
         Some(function) => construct_function(config, frame, function),
     }
 }
@@ -57,7 +57,7 @@ fn construct_function<S: WorldStore>(
     ensures { let t = config.new.heap.texts in OnOk result (Follows S.meaning (line.new_code (object_at (arena_in t config.old.heap.arena) function).code function (holding_in t frame.held).values (env_in S.meaning config.old t frame)) config.old config.new) }
 {
     match code_of(config, function) {
-        Code::None => throw(config, &frame, Trouble::NotAConstructor),
+        Code::None => throw(config, frame, Trouble::NotAConstructor),
         Code::Script { .. } => construct_script(config, frame, function),
         Code::Native(native) => construct_native(config, frame, native),
     }
@@ -76,7 +76,7 @@ fn construct_native<S: WorldStore>(
     if is_constructor(native) {
         enter_constructor(config, frame, native)
     } else {
-        throw(config, &frame, Trouble::NotAConstructor)
+        throw(config, frame, Trouble::NotAConstructor)
     }
 }
 

@@ -56,6 +56,11 @@ one_more names x y = by (is_in names y) refl
     by true e = again names x y e (nat_eq x.0 y.0) refl
     by false e = either_name names (y ∷ []) x
 
+-- of no names none is left
+pub none_left : (t : Table) (keeps : Text → Bool) (names : List TextId) → length names ≡ 0 → [] ≡ filter keeps (each (text_in t) names)
+none_left t keeps [] e = refl
+none_left t keeps (x ∷ xs) e = cc
+
 module _ (t : Table) where
   pub takes_none : Takes t [] []
   takes_none = record { same = λ x h. refl }

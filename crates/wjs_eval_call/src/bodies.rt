@@ -65,8 +65,8 @@ fn begin_function<S: WorldStore>(
     ensures { let t = config.new.heap.texts in OnOk result (Follows S.meaning (line.body_of function (holding_in t frame.held).values (env_in S.meaning config.old t frame)) config.old config.new) }
 {
     match code_of(config, function) {
-        Code::None => throw(config, &frame, Trouble::NotAFunction),
-        Code::Native(_) => throw(config, &frame, Trouble::NotAFunction),
+        Code::None => throw(config, frame, Trouble::NotAFunction),
+        Code::Native(_) => throw(config, frame, Trouble::NotAFunction),
         Code::Script { tree, node } => begin_script(config, frame, function, tree, node),
     }
 }
@@ -88,7 +88,7 @@ fn begin_script<S: WorldStore>(
     ensures { let t = config.new.heap.texts in OnOk result (Follows S.meaning (line.body_code (Code.Script tree node) (object_at (arena_in t config.old.heap.arena) function).scope function (holding_in t frame.held).values (env_in S.meaning config.old t frame)) config.old config.new) }
 {
     match scope_of(config, function) {
-        None => throw(config, &frame, Trouble::NotAFunction),
+        None => throw(config, frame, Trouble::NotAFunction),
         Some(scope) => begin_scope(config, frame, function, tree, NodeId(node.0), scope),
     }
 }
@@ -170,8 +170,8 @@ fn after_element<S: WorldStore>(
             let place = frame.place();
             run_body(config, frame, place)
         }
-        Completion::Returns(value) => finish(config, &frame, Completion::Gives(value)),
-        _ => finish(config, &frame, completion),
+        Completion::Returns(value) => finish(config, frame, Completion::Gives(value)),
+        _ => finish(config, frame, completion),
     }
 }
 
@@ -189,7 +189,7 @@ fn run_body<S: WorldStore>(
     ensures { let t = config.new.heap.texts in let env = env_in S.meaning config.old t frame in OnOk result (Follows S.meaning (line.body_from (drop from (elements_of (node_in t (node_now S.meaning config.old frame)))) env) config.old config.new) }
 {
     match element_at(config, &frame, from) {
-        None => finish(config, &frame, Completion::Gives(Value::Undefined)),
+        None => finish(config, frame, Completion::Gives(Value::Undefined)),
         Some(element) => enter_element(config, frame, from, element),
     }
 }

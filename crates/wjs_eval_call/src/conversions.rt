@@ -56,7 +56,7 @@ fn to_primitive<S: WorldStore>(
     let value = held_value(config, &frame);
     match value {
         Value::Object(object) => try_first(config, frame, conversion, object),
-        _ => finish(config, &frame, Completion::Gives(value)),
+        _ => finish(config, frame, Completion::Gives(value)),
     }
 }
 
@@ -92,7 +92,7 @@ pub(crate) fn after_conversion<S: WorldStore>(
 {
     match completion {
         Completion::Gives(value) => converted(config, frame, conversion, value),
-        _ => finish(config, &frame, completion),
+        _ => finish(config, frame, completion),
     }
 }
 
@@ -115,15 +115,15 @@ fn converted<S: WorldStore>(
         Conversion::NumberFirst => after_method(config, frame, conversion, value),
         Conversion::Number => {
             let number = to_number(config, value);
-            finish(config, &frame, Completion::Gives(Value::Number(number)))
+            finish(config, frame, Completion::Gives(Value::Number(number)))
         }
         Conversion::Text => {
             let text = text_of(config, value)?;
-            finish(config, &frame, Completion::Gives(Value::Text(text)))
+            finish(config, frame, Completion::Gives(Value::Text(text)))
         }
         Conversion::Integer => {
             let number = integer_of(config, value);
-            finish(config, &frame, Completion::Gives(Value::Number(number)))
+            finish(config, frame, Completion::Gives(Value::Number(number)))
         }
     }
 }

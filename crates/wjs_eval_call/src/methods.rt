@@ -64,7 +64,7 @@ fn try_second<S: WorldStore>(
     let method = get_known(config, &frame, object, second_method(conversion))?;
     match function_of(config, method) {
         Some(function) => call_method(config, frame, 2, function, object),
-        None => throw(config, &frame, Trouble::NoPrimitiveValue),
+        None => throw(config, frame, Trouble::NoPrimitiveValue),
     }
 }
 
@@ -110,12 +110,12 @@ pub(crate) fn after_method<S: WorldStore>(
     ensures { let t = config.new.heap.texts in OnOk result (Follows S.meaning (waits.after_method (hint_of conversion) (value_in t (value_held frame.held)) frame.place (env_in S.meaning config.old t frame) (value_in t value)) config.old config.new) }
 {
     let Value::Object(_) = value else {
-        return finish(config, &frame, Completion::Gives(value));
+        return finish(config, frame, Completion::Gives(value));
     };
     let held = held_value(config, &frame);
     match (held, frame.place()) {
         (Value::Object(object), 1) => try_second(config, frame, conversion, object),
-        _ => throw(config, &frame, Trouble::NoPrimitiveValue),
+        _ => throw(config, frame, Trouble::NoPrimitiveValue),
     }
 }
 

@@ -80,7 +80,7 @@ fn after_element<S: WorldStore>(
             let place = frame.place();
             run_program(config, frame, place)
         }
-        _ => finish(config, &frame, completion),
+        _ => finish(config, frame, completion),
     }
 }
 
@@ -98,7 +98,7 @@ fn next_program<S: WorldStore>(
     ensures { let t = config.new.heap.texts in OnOk result (Follows S.meaning (waits.next_program (env_in S.meaning config.old t frame) (completion_in t completion)) config.old config.new) }
 {
     match completion {
-        Completion::Throws(_) => finish(config, &frame, completion),
+        Completion::Throws(_) => finish(config, frame, completion),
         _ => enter_program(config, frame),
     }
 }
@@ -130,7 +130,7 @@ fn run_program<S: WorldStore>(
     ensures { let t = config.new.heap.texts in let env = env_in S.meaning config.old t frame in OnOk result (Follows S.meaning (line.program_from (drop from (waits.program_elements (node_in t (node_now S.meaning config.old frame)))) env) config.old config.new) }
 {
     match program_element_at(config, &frame, from) {
-        None => finish(config, &frame, Completion::Normal),
+        None => finish(config, frame, Completion::Normal),
         Some(element) => enter_element(config, frame, from, element),
     }
 }

@@ -60,7 +60,7 @@ fn resume<S: WorldStore>(
     match frame.form() {
         Form::Body => after_body(config, frame, completion),
         Form::Convert(conversion) => after_conversion(config, frame, conversion, completion),
-        Form::Call => finish(config, &frame, completion),
+        Form::Call => finish(config, frame, completion),
         _ => unreachable!(),
     }
 }

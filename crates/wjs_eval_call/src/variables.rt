@@ -34,6 +34,24 @@ pub(crate) fn other_variables<S: WorldStore>(
     ensures is { IfOk result (λ others. (t : Table) → IsTable t → Grows config.now.heap.texts t → map (text_in t) others.items ≡ filter (λ name. not (has_text (arguments_name ∷ map (text_in t) declared.now.formals ++ function_names (env_in S.meaning config.now t frame.now) (numbers declared.now.functions)) name)) (map (text_in t) declared.now.variables)) }
     ensures found { IfOk result (λ others. All (Has config.now.heap.texts) others.items) }
 {
+    if declared.variables.as_slice().is_empty() {
+        return Ok(Vec::new(config.heap.arena.allocator()));
+    }
+    others_among(config, frame, declared)
+}
+
+/// Those variables, by the names that are taken.
+fn others_among<S: WorldStore>(
+    config: &Config<S>,
+    frame: &Frame,
+    declared: &Declared,
+) -> Result<Vec<TextId>, OutOfMemory>
+    requires base { Base S.meaning config.now }
+    requires formals { All (Has config.now.heap.texts) declared.now.formals }
+    requires variables { All (Has config.now.heap.texts) declared.now.variables }
+    ensures is { IfOk result (λ others. (t : Table) → IsTable t → Grows config.now.heap.texts t → map (text_in t) others.items ≡ filter (λ name. not (has_text (arguments_name ∷ map (text_in t) declared.now.formals ++ function_names (env_in S.meaning config.now t frame.now) (numbers declared.now.functions)) name)) (map (text_in t) declared.now.variables)) }
+    ensures found { IfOk result (λ others. All (Has config.now.heap.texts) others.items) }
+{
     let taken = taken_names(config, frame, declared)?;
     let mut others = Vec::new(config.heap.arena.allocator());
     for name in declared.variables.as_slice() {

@@ -64,7 +64,7 @@ pub(crate) fn array_given<S: WorldStore>(
 {
     match completion {
         Completion::Gives(value) => array_item(config, frame, value),
-        _ => finish(config, &frame, completion),
+        _ => finish(config, frame, completion),
     }
 }
 
@@ -85,7 +85,7 @@ fn array_item<S: WorldStore>(
     let array = held_value(config, &frame);
     match array {
         Value::Object(array) => array_write(config, frame, array, value),
-        _ => finish(config, &frame, Completion::Normal),
+        _ => finish(config, frame, Completion::Normal),
     }
 }
 
@@ -133,25 +133,25 @@ fn array_next<S: WorldStore>(
             let place = place_at(at, 1)?;
             enter(config, frame, place, Part::Expr(node))
         }
-        Next::End(length) => array_end(config, &frame, array, length),
+        Next::End(length) => array_end(config, frame, array, length),
     }
 }
 
 /// The length is written, and the array given.
 fn array_end<S: WorldStore>(
     config: &mut Config<S>,
-    frame: &Frame,
+    frame: Frame,
     array: ObjId,
     length: usize,
 ) -> Result<(), OutOfMemory>
     requires running { config.old.state ≡ State.Running }
     requires base { Base S.meaning config.old }
-    requires there { IsThere S.meaning config.old frame.now }
+    requires there { IsThere S.meaning config.old frame }
     requires array { HasObject config.old array }
-    ensures { let t = config.new.heap.texts in let env = env_in S.meaning config.old t frame.now in OnOk result (Follows S.meaning (line.array_from [] length array env) config.old config.new) }
+    ensures { let t = config.new.heap.texts in let env = env_in S.meaning config.old t frame in OnOk result (Follows S.meaning (line.array_from [] length array env) config.old config.new) }
 {
     let value = whole_value(length)?;
-    write_known(config, frame, array, Known::Length, value)?;
+    write_known(config, &frame, array, Known::Length, value)?;
     finish(config, frame, Completion::Gives(Value::Object(array)))
 }
 

@@ -63,7 +63,7 @@ pub(crate) fn call_given<S: WorldStore>(
     match completion {
         Completion::Refers(reference) => call_target(config, frame, reference),
         Completion::Gives(value) => call_part(config, frame, value),
-        _ => finish(config, &frame, completion),
+        _ => finish(config, frame, completion),
     }
 }
 
@@ -83,7 +83,7 @@ fn call_target<S: WorldStore>(
 {
     match frame.place() {
         1 => call_reference(config, frame, reference),
-        _ => finish(config, &frame, Completion::Refers(reference)),
+        _ => finish(config, frame, Completion::Refers(reference)),
     }
 }
 
@@ -102,7 +102,7 @@ fn call_part<S: WorldStore>(
     ensures { let t = config.new.heap.texts in let env = env_in S.meaning config.old t frame in OnOk result (Follows S.meaning (after_call (numbers (arguments_of (node_now S.meaning config.old frame))) frame.place (holding_in t frame.held) env (Gives (value_in t value))) config.old config.new) }
 {
     match frame.place() {
-        1 => finish(config, &frame, Completion::Gives(value)),
+        1 => finish(config, frame, Completion::Gives(value)),
         2 => call_callee(config, frame, value, Value::Undefined),
         _ => call_argument(config, frame, value),
     }
@@ -128,7 +128,7 @@ fn call_reference<S: WorldStore>(
             let this = base_of(config, reference);
             call_callee(config, frame, callee, this)
         }
-        Err(error) => finish(config, &frame, Completion::Throws(error)),
+        Err(error) => finish(config, frame, Completion::Throws(error)),
     }
 }
 

@@ -19,16 +19,16 @@ use wjs_store::WorldStore;
 /// A function expression: the function is made, where it has a name of its own in a scope that holds this name.
 pub(crate) fn function_start<S: WorldStore>(
     config: &mut Config<S>,
-    frame: &Frame,
+    frame: Frame,
     name: Option<TextId>,
 ) -> Result<(), OutOfMemory>
     requires running { config.old.state ≡ State.Running }
     requires base { Base S.meaning config.old }
-    requires there { IsThere S.meaning config.old frame.now }
+    requires there { IsThere S.meaning config.old frame }
     requires name { HasText config.old.heap.texts name }
-    requires stands { StandsNamed config.old.units.items config.old.heap.arena frame.now.tree frame.now.node frame.now.scope name }
-    ensures { let t = config.new.heap.texts in let env = env_in S.meaning config.old t frame.now in OnOk result (Follows S.meaning (line.make_function frame.now.node.0 (label_in t name) env (λ f. give (Object f))) config.old config.new) }
+    requires stands { StandsNamed config.old.units.items config.old.heap.arena frame.tree frame.node frame.scope name }
+    ensures { let t = config.new.heap.texts in let env = env_in S.meaning config.old t frame in OnOk result (Follows S.meaning (line.make_function frame.node.0 (label_in t name) env (λ f. give (Object f))) config.old config.new) }
 {
-    let function = make_function(config, frame, frame.node(), name)?;
+    let function = make_function(config, &frame, frame.node(), name)?;
     finish(config, frame, Completion::Gives(Value::Object(function)))
 }

@@ -20,36 +20,37 @@ use wjs_tree::Node;
 /// A literal of a text.
 pub(crate) fn text<S: WorldStore>(
     config: &mut Config<S>,
-    frame: &Frame,
+    frame: Frame,
     id: TextId,
 ) -> Result<(), OutOfMemory>
     requires running { config.old.state ≡ State.Running }
     requires base { Base S.meaning config.old }
-    requires node { node_now S.meaning config.old frame.now ≡ Node.Text id }
+    requires node { node_now S.meaning config.old frame ≡ Node.Text id }
     ensures { let t = config.new.heap.texts in OnOk result (Follows S.meaning (give (String (text_in t id))) config.old config.new) }
 {
     finish(config, frame, Completion::Gives(Value::Text(id)))
 }
 
 /// `this`.
-pub(crate) fn this<S: WorldStore>(config: &mut Config<S>, frame: &Frame) -> Result<(), OutOfMemory>
+pub(crate) fn this<S: WorldStore>(config: &mut Config<S>, frame: Frame) -> Result<(), OutOfMemory>
     requires running { config.old.state ≡ State.Running }
     requires base { Base S.meaning config.old }
-    requires there { IsThere S.meaning config.old frame.now }
-    ensures { let t = config.new.heap.texts in let env = env_in S.meaning config.old t frame.now in OnOk result (Follows S.meaning (give env.this) config.old config.new) }
+    requires there { IsThere S.meaning config.old frame }
+    ensures { let t = config.new.heap.texts in let env = env_in S.meaning config.old t frame in OnOk result (Follows S.meaning (give env.this) config.old config.new) }
 {
-    finish(config, frame, Completion::Gives(frame.this()))
+    let this = frame.this();
+    finish(config, frame, Completion::Gives(this))
 }
 
 /// `thisWorld`: the object of the frame's world.
 pub(crate) fn this_world<S: WorldStore>(
     config: &mut Config<S>,
-    frame: &Frame,
+    frame: Frame,
 ) -> Result<(), OutOfMemory>
     requires running { config.old.state ≡ State.Running }
     requires base { Base S.meaning config.old }
-    requires there { IsThere S.meaning config.old frame.now }
-    ensures { let t = config.new.heap.texts in let env = env_in S.meaning config.old t frame.now in OnOk result (Follows S.meaning (Do Look (λ arena. line.give_world (objects.world_object arena env.world))) config.old config.new) }
+    requires there { IsThere S.meaning config.old frame }
+    ensures { let t = config.new.heap.texts in let env = env_in S.meaning config.old t frame in OnOk result (Follows S.meaning (Do Look (λ arena. line.give_world (objects.world_object arena env.world))) config.old config.new) }
 {
     let found = world_object(config, frame.world());
     give_world(config, frame, found)
@@ -58,7 +59,7 @@ pub(crate) fn this_world<S: WorldStore>(
 /// Ends with the object of a world, and with undefined where none stands for it.
 fn give_world<S: WorldStore>(
     config: &mut Config<S>,
-    frame: &Frame,
+    frame: Frame,
     object: Option<ObjId>,
 ) -> Result<(), OutOfMemory>
     requires running { config.old.state ≡ State.Running }

@@ -54,7 +54,7 @@ pub(crate) fn new_given<S: WorldStore>(
 {
     match completion {
         Completion::Gives(value) => new_part(config, frame, value),
-        _ => finish(config, &frame, completion),
+        _ => finish(config, frame, completion),
     }
 }
 
@@ -74,7 +74,7 @@ fn new_part<S: WorldStore>(
 {
     match frame.place() {
         1 => new_callee(config, frame, value),
-        2 => new_made(config, &frame, value),
+        2 => new_made(config, frame, value),
         _ => new_argument(config, frame, value),
     }
 }
@@ -154,16 +154,16 @@ fn new_held<S: WorldStore>(config: &mut Config<S>, frame: Frame) -> Result<(), O
 /// After the call of `new`, with the new object held: a result that is an object is given in its place.
 fn new_made<S: WorldStore>(
     config: &mut Config<S>,
-    frame: &Frame,
+    frame: Frame,
     value: Value,
 ) -> Result<(), OutOfMemory>
     requires running { config.old.state ≡ State.Running }
     requires base { Base S.meaning config.old }
-    requires there { IsThere S.meaning config.old frame.now }
+    requires there { IsThere S.meaning config.old frame }
     requires value { HasValue config.old value }
-    ensures { let t = config.new.heap.texts in OnOk result (Follows S.meaning (after.new_made (value_in t (value_held frame.now.held)) (value_in t value)) config.old config.new) }
+    ensures { let t = config.new.heap.texts in OnOk result (Follows S.meaning (after.new_made (value_in t (value_held frame.held)) (value_in t value)) config.old config.new) }
 {
-    match held_value(config, frame) {
+    match held_value(config, &frame) {
         Value::Object(object) => new_result(config, frame, object, value),
         _ => finish(config, frame, Completion::Normal),
     }
@@ -172,7 +172,7 @@ fn new_made<S: WorldStore>(
 /// The result where it is an object, and else the new object.
 fn new_result<S: WorldStore>(
     config: &mut Config<S>,
-    frame: &Frame,
+    frame: Frame,
     object: ObjId,
     value: Value,
 ) -> Result<(), OutOfMemory>

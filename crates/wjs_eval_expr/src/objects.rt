@@ -57,7 +57,7 @@ pub(crate) fn object_given<S: WorldStore>(
 {
     match completion {
         Completion::Gives(value) => object_item(config, frame, value),
-        _ => finish(config, &frame, completion),
+        _ => finish(config, frame, completion),
     }
 }
 
@@ -78,7 +78,7 @@ fn object_item<S: WorldStore>(
     let object = held_value(config, &frame);
     match object {
         Value::Object(object) => object_value(config, frame, object, value),
-        _ => finish(config, &frame, Completion::Normal),
+        _ => finish(config, frame, Completion::Normal),
     }
 }
 
@@ -102,7 +102,7 @@ fn object_value<S: WorldStore>(
     let at = frame.place().saturating_sub(1);
     match property(config, &frame, at as usize) {
         Some(property) => object_write(config, frame, object, at, property.key, value),
-        None => finish(config, &frame, Completion::Normal),
+        None => finish(config, frame, Completion::Normal),
     }
 }
 
@@ -153,7 +153,7 @@ fn object_next<S: WorldStore>(
             let place = place_after(at, 1)?;
             enter(config, frame, place, Part::Expr(property.value))
         }
-        None => finish(config, &frame, Completion::Gives(Value::Object(object))),
+        None => finish(config, frame, Completion::Gives(Value::Object(object))),
     }
 }
 

@@ -33,7 +33,7 @@ pub(crate) fn operation_start<S: WorldStore>(
             let (target, sign, right) = (*target, *sign, *right);
             operation_of(config, frame, target, sign, right)
         }
-        _ => finish(config, &frame, Completion::Normal),
+        _ => finish(config, frame, Completion::Normal),
     }
 }
 
@@ -54,7 +54,7 @@ fn operation_of<S: WorldStore>(
 {
     match sign.compound() {
         Some(operator) => operate_held(config, frame, target, sign, right, operator),
-        None => finish(config, &frame, Completion::Normal),
+        None => finish(config, frame, Completion::Normal),
     }
 }
 

@@ -36,7 +36,7 @@ pub(crate) fn member_given<S: WorldStore>(
     match node_of(config, &frame) {
         Some(Node::Dot(base, name)) => {
             let (base, name) = (*base, *name);
-            dot_given(config, &frame, base, name, completion)
+            dot_given(config, frame, base, name, completion)
         }
         Some(Node::At(base, index)) => {
             let (base, index) = (*base, *index);

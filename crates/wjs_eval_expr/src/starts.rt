@@ -63,26 +63,26 @@ fn primary_start<S: WorldStore>(config: &mut Config<S>, frame: Frame) -> Result<
     match node_of(config, &frame) {
         Some(Node::Name(id)) => {
             let id = *id;
-            name_value(config, &frame, id)
+            name_value(config, frame, id)
         }
         Some(Node::Number(number)) => {
             let value = Value::Number(*number);
-            finish(config, &frame, Completion::Gives(value))
+            finish(config, frame, Completion::Gives(value))
         }
         Some(Node::Text(id)) => {
             let id = *id;
-            text(config, &frame, id)
+            text(config, frame, id)
         }
-        Some(Node::This) => this(config, &frame),
-        Some(Node::ThisWorld) => this_world(config, &frame),
-        Some(Node::Null) => finish(config, &frame, Completion::Gives(Value::Null)),
+        Some(Node::This) => this(config, frame),
+        Some(Node::ThisWorld) => this_world(config, frame),
+        Some(Node::Null) => finish(config, frame, Completion::Gives(Value::Null)),
         Some(Node::Bool(truth)) => {
             let value = Value::Bool(*truth);
-            finish(config, &frame, Completion::Gives(value))
+            finish(config, frame, Completion::Gives(value))
         }
         Some(Node::Paren(part)) => {
             let part = *part;
-            enter_last(config, &frame, Part::Expr(part))
+            enter_last(config, frame, Part::Expr(part))
         }
         _ => member_start(config, frame),
     }
@@ -101,7 +101,7 @@ fn member_start<S: WorldStore>(config: &mut Config<S>, frame: Frame) -> Result<(
         Some(Node::ObjectLit(_, _)) => object_start(config, frame),
         Some(Node::Function(name, _, _)) => {
             let name = *name;
-            function_start(config, &frame, name)
+            function_start(config, frame, name)
         }
         Some(Node::Dot(base, name)) => {
             let (base, name) = (*base, *name);

@@ -101,11 +101,11 @@ fn start_jump<S: WorldStore>(config: &mut Config<S>, frame: Frame) -> Result<(),
     match node_of(config, &frame) {
         Some(Node::Continue(label, _)) => {
             let label = *label;
-            finish(config, &frame, Completion::Continues(label))
+            finish(config, frame, Completion::Continues(label))
         }
         Some(Node::Break(label, _)) => {
             let label = *label;
-            finish(config, &frame, Completion::Breaks(label))
+            finish(config, frame, Completion::Breaks(label))
         }
         Some(Node::Return(e, end)) => {
             let (e, end) = (*e, *end);
@@ -115,7 +115,7 @@ fn start_jump<S: WorldStore>(config: &mut Config<S>, frame: Frame) -> Result<(),
             let s = *s;
             enter(config, frame, 1, Part::Stmt(s))
         }
-        _ => finish(config, &frame, Completion::Normal),
+        _ => finish(config, frame, Completion::Normal),
     }
 }
 
@@ -140,7 +140,7 @@ fn again<S: WorldStore>(config: &mut Config<S>, frame: Frame) -> Result<(), OutO
             let s = *s;
             stmt_turn(config, frame, 1, s)
         }
-        _ => finish(config, &frame, Completion::Normal),
+        _ => finish(config, frame, Completion::Normal),
     }
 }
 
@@ -154,6 +154,6 @@ fn begin_variables<S: WorldStore>(config: &mut Config<S>, frame: Frame) -> Resul
 {
     match node_of(config, &frame) {
         Some(Node::For(_, _, _, _)) => variables_from(config, frame, 0),
-        _ => finish(config, &frame, Completion::Normal),
+        _ => finish(config, frame, Completion::Normal),
     }
 }

@@ -114,6 +114,6 @@ fn resume_jump<S: WorldStore>(
             let b = *b;
             within_next(config, frame, b, completion)
         }
-        _ => finish(config, &frame, completion),
+        _ => finish(config, frame, completion),
     }
 }

@@ -20,7 +20,7 @@ use wjs_store::WorldStore;
 /// Ends with a value.
 pub fn give<S: WorldStore>(
     config: &mut Config<S>,
-    frame: &Frame,
+    frame: Frame,
     value: Value,
 ) -> Result<(), OutOfMemory>
     requires running { config.old.state ≡ State.Running }
@@ -34,12 +34,12 @@ pub fn give<S: WorldStore>(
 /// Throws an error (ECMA-262, 3rd edition, section 15.11.6).
 pub fn throw<S: WorldStore>(
     config: &mut Config<S>,
-    frame: &Frame,
+    frame: Frame,
     trouble: Trouble,
 ) -> Result<(), OutOfMemory>
     requires running { config.old.state ≡ State.Running }
     requires base { Base S.meaning config.old }
-    ensures { let t = config.new.heap.texts in OnOk result (Follows S.meaning (errors.throw trouble (env_in S.meaning config.old t frame.now)) config.old config.new) }
+    ensures { let t = config.new.heap.texts in OnOk result (Follows S.meaning (errors.throw trouble (env_in S.meaning config.old t frame)) config.old config.new) }
 {
     let error = create_error(config, trouble)?;
     finish(config, frame, Completion::Throws(Value::Object(error)))
@@ -48,13 +48,13 @@ pub fn throw<S: WorldStore>(
 /// Throws the error about a name that is not defined.
 pub fn throw_undefined<S: WorldStore>(
     config: &mut Config<S>,
-    frame: &Frame,
+    frame: Frame,
     name: Name,
 ) -> Result<(), OutOfMemory>
     requires running { config.old.state ≡ State.Running }
     requires base { Base S.meaning config.old }
     requires name { HasName config.old name }
-    ensures { let t = config.new.heap.texts in OnOk result (Follows S.meaning (errors.throw_named Trouble.NotDefined (name_in t name) (env_in S.meaning config.old t frame.now)) config.old config.new) }
+    ensures { let t = config.new.heap.texts in OnOk result (Follows S.meaning (errors.throw_named Trouble.NotDefined (name_in t name) (env_in S.meaning config.old t frame)) config.old config.new) }
 {
     let error = create_undefined(config, name)?;
     finish(config, frame, Completion::Throws(Value::Object(error)))
@@ -63,12 +63,12 @@ pub fn throw_undefined<S: WorldStore>(
 /// Ends with a text of these code units; one that is too long is thrown as an error.
 pub fn give_text<S: WorldStore>(
     config: &mut Config<S>,
-    frame: &Frame,
+    frame: Frame,
     units: &[u16],
 ) -> Result<(), OutOfMemory>
     requires running { config.old.state ≡ State.Running }
     requires base { Base S.meaning config.old }
-    ensures { let t = config.new.heap.texts in OnOk result (Follows S.meaning (errors.give_text units.now (env_in S.meaning config.old t frame.now)) config.old config.new) }
+    ensures { let t = config.new.heap.texts in OnOk result (Follows S.meaning (errors.give_text units.now (env_in S.meaning config.old t frame)) config.old config.new) }
 {
     if LONGEST_TEXT < units.len() {
         throw(config, frame, Trouble::TextTooLong)
@@ -79,7 +79,7 @@ pub fn give_text<S: WorldStore>(
 
 fn give_short<S: WorldStore>(
     config: &mut Config<S>,
-    frame: &Frame,
+    frame: Frame,
     units: &[u16],
 ) -> Result<(), OutOfMemory>
     requires running { config.old.state ≡ State.Running }
@@ -94,12 +94,12 @@ fn give_short<S: WorldStore>(
 /// Ends with a result of arithmetic; its fault is thrown as an error.
 pub fn give_result<S: WorldStore>(
     config: &mut Config<S>,
-    frame: &Frame,
+    frame: Frame,
     outcome: Result<Whole, NumFault>,
 ) -> Result<(), OutOfMemory>
     requires running { config.old.state ≡ State.Running }
     requires base { Base S.meaning config.old }
-    ensures { let t = config.new.heap.texts in OnOk result (Follows S.meaning (errors.give_result (answer outcome) (env_in S.meaning config.old t frame.now)) config.old config.new) }
+    ensures { let t = config.new.heap.texts in OnOk result (Follows S.meaning (errors.give_result (answer outcome) (env_in S.meaning config.old t frame)) config.old config.new) }
 {
     match outcome {
         Ok(number) => finish(config, frame, Completion::Gives(Value::Number(number))),

@@ -18,16 +18,16 @@ use wjs_store::WorldStore;
 /// Ends with the value of a reference.
 pub fn give_value_of<S: WorldStore>(
     config: &mut Config<S>,
-    frame: &Frame,
+    frame: Frame,
     reference: Reference,
 ) -> Result<(), OutOfMemory>
     requires running { config.old.state ≡ State.Running }
     requires base { Base S.meaning config.old }
-    requires there { IsThere S.meaning config.old frame.now }
+    requires there { IsThere S.meaning config.old frame }
     requires reference { HasReference config.old reference }
-    ensures { let t = config.new.heap.texts in let env = env_in S.meaning config.old t frame.now in OnOk result (Follows S.meaning (line.give_value_of env (reference_in t reference)) config.old config.new) }
+    ensures { let t = config.new.heap.texts in let env = env_in S.meaning config.old t frame in OnOk result (Follows S.meaning (line.give_value_of env (reference_in t reference)) config.old config.new) }
 {
-    let answer = value_of(config, frame, reference)?;
+    let answer = value_of(config, &frame, reference)?;
     match answer {
         Ok(value) => finish(config, frame, Completion::Gives(value)),
         Err(error) => finish(config, frame, Completion::Throws(error)),
@@ -37,20 +37,20 @@ pub fn give_value_of<S: WorldStore>(
 /// Stores a value to a reference, and ends with another.
 pub fn store_and_give<S: WorldStore>(
     config: &mut Config<S>,
-    frame: &Frame,
+    frame: Frame,
     reference: Reference,
     value: Value,
     given: Value,
 ) -> Result<(), OutOfMemory>
     requires running { config.old.state ≡ State.Running }
     requires base { Base S.meaning config.old }
-    requires there { IsThere S.meaning config.old frame.now }
+    requires there { IsThere S.meaning config.old frame }
     requires reference { HasReference config.old reference }
     requires value { HasValue config.old value }
     requires given { HasValue config.old given }
-    ensures { let t = config.new.heap.texts in let env = env_in S.meaning config.old t frame.now in OnOk result (Follows S.meaning (references.store (reference_in t reference) (value_in t value) env (give (value_in t given))) config.old config.new) }
+    ensures { let t = config.new.heap.texts in let env = env_in S.meaning config.old t frame in OnOk result (Follows S.meaning (references.store (reference_in t reference) (value_in t value) env (give (value_in t given))) config.old config.new) }
 {
-    let answer = store(config, frame, reference, value)?;
+    let answer = store(config, &frame, reference, value)?;
     match answer {
         Ok(_) => finish(config, frame, Completion::Gives(given)),
         Err(error) => finish(config, frame, Completion::Throws(error)),

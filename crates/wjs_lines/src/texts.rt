@@ -63,16 +63,16 @@ fn push_units(units: &mut Vec<u16>, more: &[u16]) -> Result<(), OutOfMemory>
 /// The texts of two primitives, one behind the other.
 pub fn join<S: WorldStore>(
     config: &mut Config<S>,
-    frame: &Frame,
+    frame: Frame,
     left: Value,
     right: Value,
 ) -> Result<(), OutOfMemory>
     requires running { config.old.state ≡ State.Running }
     requires base { Base S.meaning config.old }
-    requires there { IsThere S.meaning config.old frame.now }
+    requires there { IsThere S.meaning config.old frame }
     requires left { HasValue config.old left }
     requires right { HasValue config.old right }
-    ensures { let t = config.new.heap.texts in let env = env_in S.meaning config.old t frame.now in OnOk result (Follows S.meaning (errors.give_text (primitive_text (value_in t left) ++ primitive_text (value_in t right)) env) config.old config.new) }
+    ensures { let t = config.new.heap.texts in let env = env_in S.meaning config.old t frame in OnOk result (Follows S.meaning (errors.give_text (primitive_text (value_in t left) ++ primitive_text (value_in t right)) env) config.old config.new) }
 {
     let mut units = Vec::new(config.heap.arena.allocator());
     push_text(config, &mut units, left)?;

@@ -106,7 +106,7 @@ fn for_test<S: WorldStore>(
     if to_boolean(config, value) {
         enter(config, frame, 2, Part::Stmt(s))
     } else {
-        finish(config, &frame, Completion::Normal)
+        finish(config, frame, Completion::Normal)
     }
 }
 
@@ -129,7 +129,7 @@ fn for_body<S: WorldStore>(
 {
     match after_body(config, &frame, completion) {
         AfterBody::Again => for_update(config, frame, t, u, s),
-        AfterBody::Ends(completion) => finish(config, &frame, completion),
+        AfterBody::Ends(completion) => finish(config, frame, completion),
     }
 }
 
@@ -150,7 +150,10 @@ fn for_update<S: WorldStore>(
 {
     match u {
         Some(e) => enter(config, frame, 3, Part::Expr(e)),
-        None => enter_last(config, &frame, Part::Again(frame.node())),
+        None => {
+            let node = frame.node();
+            enter_last(config, frame, Part::Again(node))
+        }
     }
 }
 
@@ -174,7 +177,7 @@ pub fn for_next<S: WorldStore>(
     match frame.place() {
         1 => for_tested(config, frame, t, u, s, completion),
         2 => for_body(config, frame, t, u, s, completion),
-        3 => for_updated(config, &frame, completion),
+        3 => for_updated(config, frame, completion),
         4 => for_started(config, frame, t, u, s, completion),
         5 => for_declared(config, frame, t, u, s, completion),
         place => {
@@ -203,24 +206,27 @@ fn for_tested<S: WorldStore>(
 {
     match completion {
         Completion::Gives(value) => for_test(config, frame, t, u, s, value),
-        other => finish(config, &frame, other),
+        other => finish(config, frame, other),
     }
 }
 
 /// After the update: the next turn.
 fn for_updated<S: WorldStore>(
     config: &mut Config<S>,
-    frame: &Frame,
+    frame: Frame,
     completion: Completion,
 ) -> Result<(), OutOfMemory>
     requires running { config.old.state ≡ State.Running }
     requires base { Base S.meaning config.old }
-    requires there { IsThere S.meaning config.old frame.now }
+    requires there { IsThere S.meaning config.old frame }
     requires completion { HasCompletion config.old completion }
-    ensures { let texts = config.new.heap.texts in let env = env_in S.meaning config.old texts frame.now in OnOk result (Follows S.meaning (then_value (loop_updated frame.now.node.0 env) (completion_in texts completion)) config.old config.new) }
+    ensures { let texts = config.new.heap.texts in let env = env_in S.meaning config.old texts frame in OnOk result (Follows S.meaning (then_value (loop_updated frame.node.0 env) (completion_in texts completion)) config.old config.new) }
 {
     match completion {
-        Completion::Gives(_) => enter_last(config, frame, Part::Again(frame.node())),
+        Completion::Gives(_) => {
+            let node = frame.node();
+            enter_last(config, frame, Part::Again(node))
+        }
         other => finish(config, frame, other),
     }
 }
@@ -244,7 +250,7 @@ fn for_started<S: WorldStore>(
 {
     match completion {
         Completion::Gives(_) => for_from(config, frame, t, u, s),
-        other => finish(config, &frame, other),
+        other => finish(config, frame, other),
     }
 }
 
@@ -267,6 +273,6 @@ fn for_declared<S: WorldStore>(
 {
     match completion {
         Completion::Normal => for_from(config, frame, t, u, s),
-        other => finish(config, &frame, other),
+        other => finish(config, frame, other),
     }
 }

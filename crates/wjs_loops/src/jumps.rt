@@ -30,11 +30,11 @@ pub fn label_next<S: WorldStore>(
     match completion {
         Completion::Breaks(Some(label)) => {
             if same_label(&config.heap.texts, label, name) {
-                finish(config, &frame, Completion::Normal)
+                finish(config, frame, Completion::Normal)
             } else {
-                finish(config, &frame, completion)
+                finish(config, frame, completion)
             }
         }
-        other => finish(config, &frame, other),
+        other => finish(config, frame, other),
     }
 }

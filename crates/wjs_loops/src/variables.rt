@@ -87,7 +87,7 @@ pub fn variables_from<S: WorldStore>(
             let place = place_at(initialiser.at, first)?;
             enter(config, frame, place, Part::Expr(initialiser.value))
         }
-        None => finish(config, &frame, Completion::Normal),
+        None => finish(config, frame, Completion::Normal),
     }
 }
 
@@ -107,7 +107,7 @@ pub fn variable_next<S: WorldStore>(
 {
     match completion {
         Completion::Gives(value) => variable_value(config, frame, at, value),
-        other => finish(config, &frame, other),
+        other => finish(config, frame, other),
     }
 }
 
@@ -130,9 +130,9 @@ fn variable_value<S: WorldStore>(
             let place = place_of(config, &frame, at);
             match assign(config, &frame, place, name, value)? {
                 Ok(()) => variables_from(config, frame, at + 1),
-                Err(error) => finish(config, &frame, Completion::Throws(error)),
+                Err(error) => finish(config, frame, Completion::Throws(error)),
             }
         }
-        None => finish(config, &frame, Completion::Normal),
+        None => finish(config, frame, Completion::Normal),
     }
 }

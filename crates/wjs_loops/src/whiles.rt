@@ -36,7 +36,7 @@ fn while_test<S: WorldStore>(
     if to_boolean(config, value) {
         enter(config, frame, 2, Part::Stmt(s))
     } else {
-        finish(config, &frame, Completion::Normal)
+        finish(config, frame, Completion::Normal)
     }
 }
 
@@ -53,8 +53,11 @@ fn while_body<S: WorldStore>(
     ensures { let t = config.new.heap.texts in let env = env_in S.meaning config.old t frame in OnOk result (Follows S.meaning (loop_body frame.node.0 None env (completion_in t completion)) config.old config.new) }
 {
     match after_body(config, &frame, completion) {
-        AfterBody::Again => enter_last(config, &frame, Part::Again(frame.node())),
-        AfterBody::Ends(completion) => finish(config, &frame, completion),
+        AfterBody::Again => {
+            let node = frame.node();
+            enter_last(config, frame, Part::Again(node))
+        }
+        AfterBody::Ends(completion) => finish(config, frame, completion),
     }
 }
 
@@ -77,7 +80,7 @@ pub fn while_next<S: WorldStore>(
     match frame.place() {
         1 => match completion {
             Completion::Gives(value) => while_test(config, frame, e, s, value),
-            other => finish(config, &frame, other),
+            other => finish(config, frame, other),
         },
         _ => while_body(config, frame, completion),
     }
@@ -102,7 +105,7 @@ fn do_body<S: WorldStore>(
 {
     match after_body(config, &frame, completion) {
         AfterBody::Again => enter(config, frame, 2, Part::Expr(e)),
-        AfterBody::Ends(completion) => finish(config, &frame, completion),
+        AfterBody::Ends(completion) => finish(config, frame, completion),
     }
 }
 
@@ -119,9 +122,10 @@ fn do_test<S: WorldStore>(
     ensures { let t = config.new.heap.texts in let env = env_in S.meaning config.old t frame in OnOk result (Follows S.meaning (do_test frame.node.0 env (value_in t value)) config.old config.new) }
 {
     if to_boolean(config, value) {
-        enter_last(config, &frame, Part::Again(frame.node()))
+        let node = frame.node();
+        enter_last(config, frame, Part::Again(node))
     } else {
-        finish(config, &frame, Completion::Normal)
+        finish(config, frame, Completion::Normal)
     }
 }
 
@@ -146,7 +150,7 @@ pub fn do_next<S: WorldStore>(
         1 => do_body(config, frame, s, e, end, completion),
         _ => match completion {
             Completion::Gives(value) => do_test(config, frame, value),
-            other => finish(config, &frame, other),
+            other => finish(config, frame, other),
         },
     }
 }

@@ -83,16 +83,16 @@ fn at_base<S: WorldStore>(
 /// After the base of a member by name: undefined and null have no members.
 fn dot_base<S: WorldStore>(
     config: &mut Config<S>,
-    frame: &Frame,
+    frame: Frame,
     name: Spelt,
     base: Value,
 ) -> Result<(), OutOfMemory>
     requires running { config.old.state ≡ State.Running }
     requires base { Base S.meaning config.old }
-    requires there { IsThere S.meaning config.old frame.now }
+    requires there { IsThere S.meaning config.old frame }
     requires name { KnowsSpelt config.old.heap.texts name }
     requires value { HasValue config.old base }
-    ensures { let t = config.new.heap.texts in let env = env_in S.meaning config.old t frame.now in OnOk result (Follows S.meaning (line.dot_base (spelt_in t name) env (taken frame.now.form env) (value_in t base)) config.old config.new) }
+    ensures { let t = config.new.heap.texts in let env = env_in S.meaning config.old t frame in OnOk result (Follows S.meaning (line.dot_base (spelt_in t name) env (taken frame.form env) (value_in t base)) config.old config.new) }
 {
     if is_nullish(base) {
         throw(config, frame, Trouble::NotAnObject)
@@ -104,16 +104,16 @@ fn dot_base<S: WorldStore>(
 /// The member of a base by a name.
 fn dot_member<S: WorldStore>(
     config: &mut Config<S>,
-    frame: &Frame,
+    frame: Frame,
     spelt: Spelt,
     base: Value,
 ) -> Result<(), OutOfMemory>
     requires running { config.old.state ≡ State.Running }
     requires base { Base S.meaning config.old }
-    requires there { IsThere S.meaning config.old frame.now }
+    requires there { IsThere S.meaning config.old frame }
     requires name { KnowsSpelt config.old.heap.texts spelt }
     requires value { HasValue config.old base }
-    ensures { let t = config.new.heap.texts in let env = env_in S.meaning config.old t frame.now in OnOk result (Follows S.meaning (taken frame.now.form env (deed.Member (value_in t base) (spelt_in t spelt))) config.old config.new) }
+    ensures { let t = config.new.heap.texts in let env = env_in S.meaning config.old t frame in OnOk result (Follows S.meaning (taken frame.form env (deed.Member (value_in t base) (spelt_in t spelt))) config.old config.new) }
 {
     let name = spelt_name(config, spelt)?;
     take(config, frame, base, name)
@@ -122,16 +122,16 @@ fn dot_member<S: WorldStore>(
 /// Goes on with a member: an expression with its value, a target with the reference.
 fn take<S: WorldStore>(
     config: &mut Config<S>,
-    frame: &Frame,
+    frame: Frame,
     base: Value,
     name: Name,
 ) -> Result<(), OutOfMemory>
     requires running { config.old.state ≡ State.Running }
     requires base { Base S.meaning config.old }
-    requires there { IsThere S.meaning config.old frame.now }
+    requires there { IsThere S.meaning config.old frame }
     requires value { HasValue config.old base }
     requires name { HasName config.old name }
-    ensures { let t = config.new.heap.texts in let env = env_in S.meaning config.old t frame.now in OnOk result (Follows S.meaning (taken frame.now.form env (deed.Member (value_in t base) (name_in t name))) config.old config.new) }
+    ensures { let t = config.new.heap.texts in let env = env_in S.meaning config.old t frame in OnOk result (Follows S.meaning (taken frame.form env (deed.Member (value_in t base) (name_in t name))) config.old config.new) }
 {
     let reference = Reference::Member(base, name);
     match frame.form() {
@@ -157,7 +157,7 @@ fn at_index<S: WorldStore>(
     ensures { let t = config.new.heap.texts in let env = env_in S.meaning config.old t frame in OnOk result (Follows S.meaning (line.at_index (value_in t (value_held frame.held)) env (taken frame.form env) (value_in t value)) config.old config.new) }
 {
     if is_nullish(held_value(config, &frame)) {
-        throw(config, &frame, Trouble::NotAnObject)
+        throw(config, frame, Trouble::NotAnObject)
     } else {
         at_name(config, frame, base, index, value)
     }
@@ -182,21 +182,21 @@ fn at_name<S: WorldStore>(
     if is_object(value) {
         convert(config, frame, 3, Conversion::Text, value)
     } else {
-        at_primitive(config, &frame, value)
+        at_primitive(config, frame, value)
     }
 }
 
 /// The text of a primitive is the name.
 fn at_primitive<S: WorldStore>(
     config: &mut Config<S>,
-    frame: &Frame,
+    frame: Frame,
     value: Value,
 ) -> Result<(), OutOfMemory>
     requires running { config.old.state ≡ State.Running }
     requires base { Base S.meaning config.old }
-    requires there { IsThere S.meaning config.old frame.now }
+    requires there { IsThere S.meaning config.old frame }
     requires value { HasValue config.old value }
-    ensures { let t = config.new.heap.texts in let env = env_in S.meaning config.old t frame.now in OnOk result (Follows S.meaning (line.at_name (value_in t (value_held frame.now.held)) (taken frame.now.form env) (primitive_text (value_in t value))) config.old config.new) }
+    ensures { let t = config.new.heap.texts in let env = env_in S.meaning config.old t frame in OnOk result (Follows S.meaning (line.at_name (value_in t (value_held frame.held)) (taken frame.form env) (primitive_text (value_in t value))) config.old config.new) }
 {
     let name = name_of_value(config, value)?;
     take_held(config, frame, name)
@@ -205,30 +205,30 @@ fn at_primitive<S: WorldStore>(
 /// The member of the base that is held.
 fn take_held<S: WorldStore>(
     config: &mut Config<S>,
-    frame: &Frame,
+    frame: Frame,
     name: Name,
 ) -> Result<(), OutOfMemory>
     requires running { config.old.state ≡ State.Running }
     requires base { Base S.meaning config.old }
-    requires there { IsThere S.meaning config.old frame.now }
+    requires there { IsThere S.meaning config.old frame }
     requires name { HasName config.old name }
-    ensures { let t = config.new.heap.texts in let env = env_in S.meaning config.old t frame.now in OnOk result (Follows S.meaning (line.at_name (value_in t (value_held frame.now.held)) (taken frame.now.form env) (name_in t name)) config.old config.new) }
+    ensures { let t = config.new.heap.texts in let env = env_in S.meaning config.old t frame in OnOk result (Follows S.meaning (line.at_name (value_in t (value_held frame.held)) (taken frame.form env) (name_in t name)) config.old config.new) }
 {
-    let base = held_value(config, frame);
+    let base = held_value(config, &frame);
     take(config, frame, base, name)
 }
 
 /// After the conversion of the index.
 fn at_text<S: WorldStore>(
     config: &mut Config<S>,
-    frame: &Frame,
+    frame: Frame,
     text: TextId,
 ) -> Result<(), OutOfMemory>
     requires running { config.old.state ≡ State.Running }
     requires base { Base S.meaning config.old }
-    requires there { IsThere S.meaning config.old frame.now }
+    requires there { IsThere S.meaning config.old frame }
     requires text { Has config.old.heap.texts text }
-    ensures { let t = config.new.heap.texts in let env = env_in S.meaning config.old t frame.now in OnOk result (Follows S.meaning (line.at_name (value_in t (value_held frame.now.held)) (taken frame.now.form env) (text_in t text)) config.old config.new) }
+    ensures { let t = config.new.heap.texts in let env = env_in S.meaning config.old t frame in OnOk result (Follows S.meaning (line.at_name (value_in t (value_held frame.held)) (taken frame.form env) (text_in t text)) config.old config.new) }
 {
     let name = name_of(config, text);
     take_held(config, frame, name)
@@ -237,17 +237,17 @@ fn at_text<S: WorldStore>(
 /// A member by name goes on with the completion of its base.
 pub fn dot_given<S: WorldStore>(
     config: &mut Config<S>,
-    frame: &Frame,
+    frame: Frame,
     base: NodeId,
     name: Spelt,
     completion: Completion,
 ) -> Result<(), OutOfMemory>
     requires running { config.old.state ≡ State.Running }
     requires base { Base S.meaning config.old }
-    requires there { IsThere S.meaning config.old frame.now }
-    requires node { node_now S.meaning config.old frame.now ≡ Node.Dot base name }
+    requires there { IsThere S.meaning config.old frame }
+    requires node { node_now S.meaning config.old frame ≡ Node.Dot base name }
     requires completion { HasCompletion config.old completion }
-    ensures { let t = config.new.heap.texts in let env = env_in S.meaning config.old t frame.now in OnOk result (Follows S.meaning (then_value (line.dot_base (spelt_in t name) env (taken frame.now.form env)) (completion_in t completion)) config.old config.new) }
+    ensures { let t = config.new.heap.texts in let env = env_in S.meaning config.old t frame in OnOk result (Follows S.meaning (then_value (line.dot_base (spelt_in t name) env (taken frame.form env)) (completion_in t completion)) config.old config.new) }
 {
     let _base = base;
     match completion {
@@ -274,7 +274,7 @@ pub fn at_given<S: WorldStore>(
 {
     match completion {
         Completion::Gives(value) => at_value(config, frame, base, index, value),
-        _ => finish(config, &frame, completion),
+        _ => finish(config, frame, completion),
     }
 }
 
@@ -297,7 +297,7 @@ fn at_value<S: WorldStore>(
     match (frame.place(), value) {
         (1, _) => at_base(config, frame, base, index, value),
         (2, _) => at_index(config, frame, base, index, value),
-        (_, Value::Text(text)) => at_text(config, &frame, text),
-        _ => finish(config, &frame, Completion::Gives(value)),
+        (_, Value::Text(text)) => at_text(config, frame, text),
+        _ => finish(config, frame, Completion::Gives(value)),
     }
 }

@@ -33,33 +33,33 @@ fn place_of<S: WorldStore>(config: &Config<S>, frame: &Frame) -> Place
 /// A name for its value.
 pub fn name_value<S: WorldStore>(
     config: &mut Config<S>,
-    frame: &Frame,
+    frame: Frame,
     id: TextId,
 ) -> Result<(), OutOfMemory>
     requires running { config.old.state ≡ State.Running }
     requires base { Base S.meaning config.old }
-    requires there { IsThere S.meaning config.old frame.now }
-    requires node { node_now S.meaning config.old frame.now ≡ Node.Name id }
-    ensures { let t = config.new.heap.texts in let env = env_in S.meaning config.old t frame.now in OnOk result (Follows S.meaning (line.reference_of frame.now.node.0 (Name (text_in t id)) env (line.give_value_of env)) config.old config.new) }
+    requires there { IsThere S.meaning config.old frame }
+    requires node { node_now S.meaning config.old frame ≡ Node.Name id }
+    ensures { let t = config.new.heap.texts in let env = env_in S.meaning config.old t frame in OnOk result (Follows S.meaning (line.reference_of frame.node.0 (Name (text_in t id)) env (line.give_value_of env)) config.old config.new) }
 {
-    let place = place_of(config, frame);
-    let reference = reference_at(config, frame, place, id);
+    let place = place_of(config, &frame);
+    let reference = reference_at(config, &frame, place, id);
     give_value_of(config, frame, reference)
 }
 
 /// A name as a target.
 pub fn name_target<S: WorldStore>(
     config: &mut Config<S>,
-    frame: &Frame,
+    frame: Frame,
     id: TextId,
 ) -> Result<(), OutOfMemory>
     requires running { config.old.state ≡ State.Running }
     requires base { Base S.meaning config.old }
-    requires there { IsThere S.meaning config.old frame.now }
-    requires node { node_now S.meaning config.old frame.now ≡ Node.Name id }
-    ensures { let t = config.new.heap.texts in let env = env_in S.meaning config.old t frame.now in OnOk result (Follows S.meaning (line.reference_of frame.now.node.0 (Name (text_in t id)) env refer) config.old config.new) }
+    requires there { IsThere S.meaning config.old frame }
+    requires node { node_now S.meaning config.old frame ≡ Node.Name id }
+    ensures { let t = config.new.heap.texts in let env = env_in S.meaning config.old t frame in OnOk result (Follows S.meaning (line.reference_of frame.node.0 (Name (text_in t id)) env refer) config.old config.new) }
 {
-    let place = place_of(config, frame);
-    let reference = reference_at(config, frame, place, id);
+    let place = place_of(config, &frame);
+    let reference = reference_at(config, &frame, place, id);
     finish(config, frame, Completion::Refers(reference))
 }

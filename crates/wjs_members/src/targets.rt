@@ -31,11 +31,11 @@ pub fn target_start<S: WorldStore>(config: &mut Config<S>, frame: Frame) -> Resu
     match node_of(config, &frame) {
         Some(Node::Name(id)) => {
             let id = *id;
-            name_target(config, &frame, id)
+            name_target(config, frame, id)
         }
         Some(Node::Paren(part)) => {
             let part = *part;
-            enter_last(config, &frame, Part::Target(part))
+            enter_last(config, frame, Part::Target(part))
         }
         Some(Node::Dot(base, name)) => {
             let (base, name) = (*base, *name);
@@ -45,7 +45,7 @@ pub fn target_start<S: WorldStore>(config: &mut Config<S>, frame: Frame) -> Resu
             let (base, index) = (*base, *index);
             at_start(config, frame, base, index)
         }
-        _ => finish(config, &frame, Completion::Normal),
+        _ => finish(config, frame, Completion::Normal),
     }
 }
 

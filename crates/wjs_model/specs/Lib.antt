@@ -10,5 +10,6 @@ pub mod Outside
 pub mod Configurations
 pub mod Standing
 pub mod Apart
+pub mod Begun
 pub mod Soundness
 pub mod Others

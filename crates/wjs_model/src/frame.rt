@@ -1,6 +1,7 @@
 //! What a configuration has still to do, a frame for each node that is being run.
 
 ghost use Rattle.std.specs.Prelude.{◌≡◌, ◌++◌, ◌∷◌, [], IfOk, OnOk, OnErr, option_map};
+ghost use Rattle.wjs_model.specs.Begun.{begun_at};
 ghost use Rattle.wjs_model.specs.Frames.{last, Pops, Uncovers};
 
 use std::alloc::Global;
@@ -136,6 +137,13 @@ impl Items {
         ensures { Uncovers self.old result self.new }
     {
         self.list.pop()
+    }
+
+    /// Holds nothing any more. The memory of what it held is used again.
+    fn clear(&mut self)
+        ensures { self.new ≡ [] }
+    {
+        self.list.clear();
     }
 }
 
@@ -280,6 +288,27 @@ impl Frame {
         self.at.world = world;
     }
 
+    /// It begins anew, with a step due, at a place of a node that it runs as a form, and holds nothing.
+    pub fn begin(&mut self, form: Form, node: NodeId, place: u32)
+        ensures { self.new ≡ record self.old { form = form; node = node; place = place; phase = Phase.Due; held = [] } }
+    {
+        self.at.form = form;
+        self.at.node = node;
+        self.at.place = place;
+        self.at.phase = Phase::Due;
+        self.at.held.clear();
+    }
+
+    /// It goes on in the tree and the scope, with the `this` and in the world of another.
+    fn set_around(&mut self, other: &Frame)
+        ensures { self.new ≡ record self.old { tree = other.now.tree; scope = other.now.scope; this = other.now.this; world = other.now.world } }
+    {
+        self.at.tree = other.tree();
+        self.at.scope = other.scope();
+        self.at.this = other.this();
+        self.at.world = other.world();
+    }
+
     pub fn set_held(&mut self, held: Items)
         ensures { self.new ≡ record self.old { held = held } }
     {
@@ -315,7 +344,12 @@ impl Frame {
 #[derive(Drop)]
 pub struct Frames {
     list: Vec<Frame>,
+    /// A few frames that have ended. The next ones are made in their places, since a frame is made at every other step.
+    spare: Vec<Frame>,
 }
+
+/// How many ended frames are kept at most. Few statements nest deeper; what is beyond goes back to the allocator.
+const MOST_SPARE: usize = 64;
 
 impl Model for Frames {
     ghost use Rattle.std.specs.Prelude.{List};
@@ -337,6 +371,7 @@ impl Frames {
     {
         Frames {
             list: Vec::new(alloc),
+            spare: Vec::new(alloc),
         }
     }
 
@@ -356,6 +391,49 @@ impl Frames {
         ensures { Pops self.old result self.new }
     {
         self.list.pop()
+    }
+
+    /// The frame on top, which is taken off, where another frame has ended; None exactly where there is no frame.
+    pub fn pop_after(&mut self, ended: Frame) -> Option<Frame>
+        ensures { Pops self.old result self.new }
+    {
+        if self.spare.len() < MOST_SPARE {
+            let _ = self.spare.push(ended);
+        }
+        self.list.pop()
+    }
+
+    /// Puts a frame on top, and one more above it, which begins, with a step due, at a place of a node that it runs as a form,
+    /// around the same.
+    pub fn push_begun(
+        &mut self,
+        frame: Frame,
+        form: Form,
+        node: NodeId,
+        place: u32,
+    ) -> Result<(), OutOfMemory>
+        ensures { OnOk result (self.new ≡ (self.old ++ frame ∷ []) ++ begun_at frame form node place ∷ []) }
+    {
+        let above = self.begun(&frame, form, node, place)?;
+        self.push(frame)?;
+        self.push(above)
+    }
+
+    /// A frame that begins around the same as another.
+    fn begun(
+        &mut self,
+        at: &Frame,
+        form: Form,
+        node: NodeId,
+        place: u32,
+    ) -> Result<Frame, OutOfMemory>
+        ensures frame { IfOk result (λ frame. frame ≡ begun_at at.now form node place) }
+        ensures same { self.new ≡ self.old }
+    {
+        match self.spare.pop() {
+            Some(frame) => Ok(renewed(frame, at, form, node, place)),
+            None => begun(*self.list.allocator(), at, form, node, place),
+        }
     }
 
     /// Nothing held, for a frame that goes on top.
@@ -378,6 +456,40 @@ impl Frames {
     {
         form_of(self.list.as_slice())
     }
+}
+
+/// A frame in the place of one that has ended.
+fn renewed(frame: Frame, at: &Frame, form: Form, node: NodeId, place: u32) -> Frame
+    ensures { result ≡ begun_at at.now form node place }
+{
+    let mut frame = frame;
+    frame.set_around(at);
+    frame.begin(form, node, place);
+    frame
+}
+
+/// A frame in a new place.
+fn begun(
+    alloc: Global,
+    at: &Frame,
+    form: Form,
+    node: NodeId,
+    place: u32,
+) -> Result<Frame, OutOfMemory>
+    ensures { IfOk result (λ frame. frame ≡ begun_at at.now form node place) }
+{
+    let activation = Activation {
+        form,
+        tree: at.tree(),
+        node,
+        place,
+        phase: Phase::Due,
+        scope: at.scope(),
+        this: at.this(),
+        world: at.world(),
+        held: Items::new(alloc),
+    };
+    Frame::new(alloc, activation)
 }
 
 /// What the last frame runs.

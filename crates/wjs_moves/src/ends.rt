@@ -15,23 +15,23 @@ use wjs_store::WorldStore;
 /// Ends what the frame that was taken off ran: the frame below goes on with the completion, or the run ends with it.
 pub fn finish<S: WorldStore>(
     config: &mut Config<S>,
-    frame: &Frame,
+    frame: Frame,
     completion: Completion,
 ) -> Result<(), OutOfMemory>
     requires running { config.old.state ≡ State.Running }
     requires base { Base S.meaning config.old }
     requires completion { HasCompletion config.old completion }
-    ensures { let t = config.new.heap.texts in let env = env_in S.meaning config.old t frame.now in OnOk result (Follows S.meaning (Ret (completion_in t completion)) config.old config.new) }
+    ensures { let t = config.new.heap.texts in let env = env_in S.meaning config.old t frame in OnOk result (Follows S.meaning (Ret (completion_in t completion)) config.old config.new) }
 {
-    match config.frames.pop() {
+    match config.frames.pop_after(frame) {
         None => {
             config.state = ended(completion);
             Ok(())
         }
-        Some(frame) => {
-            let mut frame = frame;
-            frame.set_phase(Phase::Given(completion));
-            config.frames.push(frame)?;
+        Some(below) => {
+            let mut below = below;
+            below.set_phase(Phase::Given(completion));
+            config.frames.push(below)?;
             Ok(())
         }
     }

@@ -7,7 +7,7 @@ ghost use Rattle.wjs_base.specs.Text.{Table};
 ghost use Rattle.wjs_moves.specs.Parts.{env_in};
 ghost use Rattle.wjs_moves.specs.Following.{Follows};
 
-use crate::place::{Part, due_frame, waiting_at};
+use crate::place::{Part, waiting_at};
 use wjs_base::OutOfMemory;
 use wjs_model::{Config, Frame, State};
 use wjs_store::WorldStore;
@@ -25,27 +25,27 @@ pub fn enter<S: WorldStore>(
     requires part { StandsHere config.old frame (node_of part) }
     ensures { let t = config.new.heap.texts in let env = env_in S.meaning config.old t frame in OnOk result (Follows S.meaning (Eval (goal_of part) env (then_at S.meaning config.old frame place t env)) config.old config.new) }
 {
-    let alloc = config.heap.arena.allocator();
-    let entered = due_frame(alloc, &frame, part, config.frames.nothing_held())?;
-    config.frames.push(waiting_at(frame, place))?;
-    config.frames.push(entered)?;
+    let waiting = waiting_at(frame, place);
+    config
+        .frames
+        .push_begun(waiting, part.form(), part.node(), part.place())?;
     Ok(())
 }
 
 /// A part is entered in the place of the frame that was taken off.
 pub fn enter_last<S: WorldStore>(
     config: &mut Config<S>,
-    frame: &Frame,
+    frame: Frame,
     part: Part,
 ) -> Result<(), OutOfMemory>
     requires running { config.old.state ≡ State.Running }
     requires base { Base S.meaning config.old }
-    requires there { IsThere S.meaning config.old frame.now }
-    requires part { StandsHere config.old frame.now (node_of part) }
-    ensures { let t = config.new.heap.texts in let env = env_in S.meaning config.old t frame.now in OnOk result (Follows S.meaning (Eval (goal_of part) env Ret) config.old config.new) }
+    requires there { IsThere S.meaning config.old frame }
+    requires part { StandsHere config.old frame (node_of part) }
+    ensures { let t = config.new.heap.texts in let env = env_in S.meaning config.old t frame in OnOk result (Follows S.meaning (Eval (goal_of part) env Ret) config.old config.new) }
 {
-    let alloc = config.heap.arena.allocator();
-    let entered = due_frame(alloc, frame, part, config.frames.nothing_held())?;
-    config.frames.push(entered)?;
+    let mut frame = frame;
+    frame.begin(part.form(), part.node(), part.place());
+    config.frames.push(frame)?;
     Ok(())
 }

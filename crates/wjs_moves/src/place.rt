@@ -1,6 +1,6 @@
 //! The parts of nodes, and the frames that run them.
 ghost use Rattle.std.specs.Prelude.{◌≡◌, IfOk};
-ghost use Rattle.wjs_moves.specs.Parts.{due_frame};
+ghost use Rattle.wjs_moves.specs.Parts.{form_of, node_of, place_of};
 
 use std::alloc::Global;
 use wjs_base::OutOfMemory;
@@ -42,20 +42,34 @@ pub(crate) fn frame_at(
     Frame::new(alloc, activation)
 }
 
-/// The frame of a part, with its step due.
-pub(crate) fn due_frame(
-    alloc: Global,
-    at: &Frame,
-    part: Part,
-    held: Items,
-) -> Result<Frame, OutOfMemory>
-    ensures { IfOk result (λ frame. frame ≡ record (due_frame at.now part) { held = held }) }
-{
-    match part {
-        Part::Expr(node) => frame_at(alloc, at, Form::Expr, node, 0, Phase::Due, held),
-        Part::Target(node) => frame_at(alloc, at, Form::Target, node, 0, Phase::Due, held),
-        Part::Stmt(node) => frame_at(alloc, at, Form::Stmt, node, 0, Phase::Due, held),
-        Part::Again(node) => frame_at(alloc, at, Form::Stmt, node, 1, Phase::Due, held),
+impl Part {
+    /// What its frame runs.
+    pub(crate) fn form(&self) -> Form
+        ensures { result ≡ form_of self.now }
+    {
+        match self {
+            Part::Expr(_) => Form::Expr,
+            Part::Target(_) => Form::Target,
+            Part::Stmt(_) | Part::Again(_) => Form::Stmt,
+        }
+    }
+
+    pub(crate) fn node(&self) -> NodeId
+        ensures { result ≡ node_of self.now }
+    {
+        match self {
+            Part::Expr(node) | Part::Target(node) | Part::Stmt(node) | Part::Again(node) => *node,
+        }
+    }
+
+    /// At which place its frame begins.
+    pub(crate) fn place(&self) -> u32
+        ensures { result ≡ place_of self.now }
+    {
+        match self {
+            Part::Again(_) => 1,
+            _ => 0,
+        }
     }
 }
 

@@ -47,7 +47,7 @@ pub(crate) fn apply<S: WorldStore>(
                 value_at(args, 1),
             )
         }
-        None => throw(config, &frame, Trouble::NotAFunction),
+        None => throw(config, frame, Trouble::NotAFunction),
     }
 }
 
@@ -75,7 +75,7 @@ fn apply_to<S: WorldStore>(
         }
         Value::Object(object) => apply_elements(config, frame, function, this, object),
         Value::Bool(_) | Value::Number(_) | Value::Text(_) => {
-            throw(config, &frame, Trouble::NotAnObject)
+            throw(config, frame, Trouble::NotAnObject)
         }
     }
 }
@@ -98,7 +98,7 @@ fn apply_elements<S: WorldStore>(
     ensures { let t = config.new.heap.texts in OnOk result (Follows S.meaning (apply_elements function (value_in t this) object (env_in S.meaning config.old t frame)) config.old config.new) }
 {
     if !is_list_class(class_of(config, object)) {
-        return throw(config, &frame, Trouble::NotAnObject);
+        return throw(config, frame, Trouble::NotAnObject);
     }
     let length = get_known(config, &frame, object, Known::Length)?;
     let count = apply_length(config, length);
@@ -164,7 +164,7 @@ pub(crate) fn apply_on<S: WorldStore>(
 {
     let (callee, this) = held_callee(config, &frame);
     let Value::Object(function) = callee else {
-        return finish(config, &frame, Completion::Normal);
+        return finish(config, frame, Completion::Normal);
     };
     let (object, count) = held_elements(config, &frame);
     let name = Name::Index(frame.place() - 1);

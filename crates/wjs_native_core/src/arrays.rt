@@ -22,14 +22,14 @@ use wjs_store::WorldStore;
 /// An Array: of a length, where one number is given, and else of the arguments (sections 15.4.1 and 15.4.2).
 pub(crate) fn new_array<S: WorldStore>(
     config: &mut Config<S>,
-    frame: &Frame,
+    frame: Frame,
     args: &[Value],
 ) -> Result<(), OutOfMemory>
     requires running { config.old.state ≡ State.Running }
     requires base { Base S.meaning config.old }
-    requires there { IsThere S.meaning config.old frame.now }
+    requires there { IsThere S.meaning config.old frame }
     requires args { All (HasValue config.old) args.now }
-    ensures { let t = config.new.heap.texts in OnOk result (Follows S.meaning (line.new_array (map (value_in t) args.now) (env_in S.meaning config.old t frame.now)) config.old config.new) }
+    ensures { let t = config.new.heap.texts in OnOk result (Follows S.meaning (line.new_array (map (value_in t) args.now) (env_in S.meaning config.old t frame)) config.old config.new) }
 {
     match only_number(args) {
         Some(length) => array_of_length(config, frame, length),
@@ -54,48 +54,48 @@ fn only_number(values: &[Value]) -> Option<Whole>
 /// An Array of these elements.
 fn array_of<S: WorldStore>(
     config: &mut Config<S>,
-    frame: &Frame,
+    frame: Frame,
     args: &[Value],
 ) -> Result<(), OutOfMemory>
     requires running { config.old.state ≡ State.Running }
     requires base { Base S.meaning config.old }
-    requires there { IsThere S.meaning config.old frame.now }
+    requires there { IsThere S.meaning config.old frame }
     requires args { All (HasValue config.old) args.now }
-    ensures { let t = config.new.heap.texts in OnOk result (Follows S.meaning (made.make_array (map (value_in t) args.now) (env_in S.meaning config.old t frame.now) line.give_object) config.old config.new) }
+    ensures { let t = config.new.heap.texts in OnOk result (Follows S.meaning (made.make_array (map (value_in t) args.now) (env_in S.meaning config.old t frame) line.give_object) config.old config.new) }
 {
-    let array = make_array(config, frame, args)?;
+    let array = make_array(config, &frame, args)?;
     give(config, frame, Value::Object(array))
 }
 
 /// An Array of a length, without elements.
 fn array_of_length<S: WorldStore>(
     config: &mut Config<S>,
-    frame: &Frame,
+    frame: Frame,
     length: Whole,
 ) -> Result<(), OutOfMemory>
     requires running { config.old.state ≡ State.Running }
     requires base { Base S.meaning config.old }
-    requires there { IsThere S.meaning config.old frame.now }
-    ensures { let t = config.new.heap.texts in OnOk result (Follows S.meaning (line.array_of_length (plans.length_of_value (Number length.number)) (env_in S.meaning config.old t frame.now)) config.old config.new) }
+    requires there { IsThere S.meaning config.old frame }
+    ensures { let t = config.new.heap.texts in OnOk result (Follows S.meaning (line.array_of_length (plans.length_of_value (Number length.number)) (env_in S.meaning config.old t frame)) config.old config.new) }
 {
     let Some(length) = length_of(length) else {
         return throw(config, frame, Trouble::InvalidArrayLength);
     };
     let value = whole_value(length as usize)?;
     let array = create_array(config)?;
-    write_known(config, frame, array, Known::Length, value)?;
+    write_known(config, &frame, array, Known::Length, value)?;
     give(config, frame, Value::Object(array))
 }
 
 /// `isArray`: whether a value is an Array.
 pub(crate) fn give_is_array<S: WorldStore>(
     config: &mut Config<S>,
-    frame: &Frame,
+    frame: Frame,
     value: Value,
 ) -> Result<(), OutOfMemory>
     requires running { config.old.state ≡ State.Running }
     requires base { Base S.meaning config.old }
-    requires there { IsThere S.meaning config.old frame.now }
+    requires there { IsThere S.meaning config.old frame }
     requires value { HasValue config.old value }
     ensures { let t = config.new.heap.texts in OnOk result (Follows S.meaning (line.array_is_array (value_in t value)) config.old config.new) }
 {

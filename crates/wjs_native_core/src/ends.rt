@@ -15,7 +15,7 @@ use wjs_store::WorldStore;
 /// Ends with a text that is not too long.
 pub(crate) fn give_short<S: WorldStore>(
     config: &mut Config<S>,
-    frame: &Frame,
+    frame: Frame,
     units: &[u16],
 ) -> Result<(), OutOfMemory>
     requires running { config.old.state ≡ State.Running }

@@ -33,20 +33,20 @@ use wjs_strings::fault_text;
 /// A new error on a prototype, with a message where one is given (sections 15.11.1.1 and 15.11.7.2).
 pub(crate) fn new_error<S: WorldStore>(
     config: &mut Config<S>,
-    frame: &Frame,
+    frame: Frame,
     prototype: u64,
     message: Value,
 ) -> Result<(), OutOfMemory>
     requires running { config.old.state ≡ State.Running }
     requires base { Base S.meaning config.old }
-    requires there { IsThere S.meaning config.old frame.now }
+    requires there { IsThere S.meaning config.old frame }
     requires prototype { prototype < 14 }
     requires message { HasValue config.old message }
-    ensures { let t = config.new.heap.texts in OnOk result (Follows S.meaning (line.new_error (first.builtin prototype) (value_in t message) (env_in S.meaning config.old t frame.now)) config.old config.new) }
+    ensures { let t = config.new.heap.texts in OnOk result (Follows S.meaning (line.new_error (first.builtin prototype) (value_in t message) (env_in S.meaning config.old t frame)) config.old config.new) }
 {
     let error = create_fault(config, prototype)?;
     if let Value::Text(_) = message {
-        write_known(config, frame, error, Known::Message, message)?;
+        write_known(config, &frame, error, Known::Message, message)?;
     }
     give(config, frame, Value::Object(error))
 }
@@ -67,14 +67,14 @@ fn create_fault<S: WorldStore>(config: &mut Config<S>, prototype: u64) -> Result
 /// `toString`: the text of the receiver as of a thrown value (section 15.11.4.4).
 pub(crate) fn give_error_text<S: WorldStore>(
     config: &mut Config<S>,
-    frame: &Frame,
+    frame: Frame,
     this: Value,
 ) -> Result<(), OutOfMemory>
     requires running { config.old.state ≡ State.Running }
     requires base { Base S.meaning config.old }
-    requires there { IsThere S.meaning config.old frame.now }
+    requires there { IsThere S.meaning config.old frame }
     requires this { HasValue config.old this }
-    ensures { let t = config.new.heap.texts in OnOk result (Follows S.meaning (line.error_to_string (value_in t this) (env_in S.meaning config.old t frame.now)) config.old config.new) }
+    ensures { let t = config.new.heap.texts in OnOk result (Follows S.meaning (line.error_to_string (value_in t this) (env_in S.meaning config.old t frame)) config.old config.new) }
 {
     match this {
         Value::Object(object) => give_object_text(config, frame, object),
@@ -85,14 +85,14 @@ pub(crate) fn give_error_text<S: WorldStore>(
 /// The text of a primitive: it is joined with the empty text.
 fn give_primitive_text<S: WorldStore>(
     config: &mut Config<S>,
-    frame: &Frame,
+    frame: Frame,
     value: Value,
 ) -> Result<(), OutOfMemory>
     requires running { config.old.state ≡ State.Running }
     requires base { Base S.meaning config.old }
-    requires there { IsThere S.meaning config.old frame.now }
+    requires there { IsThere S.meaning config.old frame }
     requires value { HasValue config.old value }
-    ensures { let t = config.new.heap.texts in OnOk result (Follows S.meaning (errors.give_text (primitive_text (value_in t value)) (env_in S.meaning config.old t frame.now)) config.old config.new) }
+    ensures { let t = config.new.heap.texts in OnOk result (Follows S.meaning (errors.give_text (primitive_text (value_in t value)) (env_in S.meaning config.old t frame)) config.old config.new) }
 {
     let empty = intern(config, &[])?;
     join(config, frame, value, Value::Text(empty))
@@ -101,14 +101,14 @@ fn give_primitive_text<S: WorldStore>(
 /// The text of an object: of an error its name and message, and else its class.
 fn give_object_text<S: WorldStore>(
     config: &mut Config<S>,
-    frame: &Frame,
+    frame: Frame,
     object: ObjId,
 ) -> Result<(), OutOfMemory>
     requires running { config.old.state ≡ State.Running }
     requires base { Base S.meaning config.old }
-    requires there { IsThere S.meaning config.old frame.now }
+    requires there { IsThere S.meaning config.old frame }
     requires object { HasObject config.old object }
-    ensures { let t = config.new.heap.texts in OnOk result (Follows S.meaning (thrown_object object (env_in S.meaning config.old t frame.now)) config.old config.new) }
+    ensures { let t = config.new.heap.texts in OnOk result (Follows S.meaning (thrown_object object (env_in S.meaning config.old t frame)) config.old config.new) }
 {
     match class_of(config, object) {
         Class::Fault => give_fault_text(config, frame, object),
@@ -119,17 +119,17 @@ fn give_object_text<S: WorldStore>(
 /// The name and the message of an error.
 fn give_fault_text<S: WorldStore>(
     config: &mut Config<S>,
-    frame: &Frame,
+    frame: Frame,
     object: ObjId,
 ) -> Result<(), OutOfMemory>
     requires running { config.old.state ≡ State.Running }
     requires base { Base S.meaning config.old }
-    requires there { IsThere S.meaning config.old frame.now }
+    requires there { IsThere S.meaning config.old frame }
     requires object { HasObject config.old object }
-    ensures { let t = config.new.heap.texts in OnOk result (Follows S.meaning (line.object_text class.Fault object (env_in S.meaning config.old t frame.now) (λ units. errors.give_text units (env_in S.meaning config.old t frame.now))) config.old config.new) }
+    ensures { let t = config.new.heap.texts in OnOk result (Follows S.meaning (line.object_text class.Fault object (env_in S.meaning config.old t frame) (λ units. errors.give_text units (env_in S.meaning config.old t frame))) config.old config.new) }
 {
-    let name = get_named(config, frame, object, Known::Name)?;
-    let message = get_named(config, frame, object, Known::Message)?;
+    let name = get_named(config, &frame, object, Known::Name)?;
+    let message = get_named(config, &frame, object, Known::Message)?;
     let units = fault_units(config, name, message)?;
     give_text(config, frame, units.as_slice())
 }

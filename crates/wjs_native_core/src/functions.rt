@@ -20,14 +20,14 @@ use wjs_store::WorldStore;
 /// `toString`: the name of the receiver, which must be a function (section 15.3.4.2).
 pub(crate) fn give_source<S: WorldStore>(
     config: &mut Config<S>,
-    frame: &Frame,
+    frame: Frame,
     this: Value,
 ) -> Result<(), OutOfMemory>
     requires running { config.old.state ≡ State.Running }
     requires base { Base S.meaning config.old }
-    requires there { IsThere S.meaning config.old frame.now }
+    requires there { IsThere S.meaning config.old frame }
     requires this { HasValue config.old this }
-    ensures { let t = config.new.heap.texts in OnOk result (Follows S.meaning (line.function_to_string (value_in t this) (λ k. (row_of k).name) (env_in S.meaning config.old t frame.now)) config.old config.new) }
+    ensures { let t = config.new.heap.texts in OnOk result (Follows S.meaning (line.function_to_string (value_in t this) (λ k. (row_of k).name) (env_in S.meaning config.old t frame)) config.old config.new) }
 {
     match function_of(config, this) {
         Some(function) => give_source_of(config, frame, function),
@@ -38,16 +38,16 @@ pub(crate) fn give_source<S: WorldStore>(
 /// The name of a function.
 fn give_source_of<S: WorldStore>(
     config: &mut Config<S>,
-    frame: &Frame,
+    frame: Frame,
     function: ObjId,
 ) -> Result<(), OutOfMemory>
     requires running { config.old.state ≡ State.Running }
     requires base { Base S.meaning config.old }
-    requires there { IsThere S.meaning config.old frame.now }
+    requires there { IsThere S.meaning config.old frame }
     requires function { HasObject config.old function }
-    ensures { let t = config.new.heap.texts in OnOk result (Follows S.meaning (line.function_text (Some function) (arena_in t config.old.heap.arena) (λ k. (row_of k).name) (env_in S.meaning config.old t frame.now)) config.old config.new) }
+    ensures { let t = config.new.heap.texts in OnOk result (Follows S.meaning (line.function_text (Some function) (arena_in t config.old.heap.arena) (λ k. (row_of k).name) (env_in S.meaning config.old t frame)) config.old config.new) }
 {
-    let units = source_of(config, frame, code_of(config, function))?;
+    let units = source_of(config, &frame, code_of(config, function))?;
     give_text(config, frame, units.as_slice())
 }
 

@@ -25,14 +25,14 @@ use wjs_strings::object_text;
 /// `Object(value)`: a new object of undefined or null, and else the value as an object (sections 15.2.1.1 and 15.2.2.1).
 pub(crate) fn new_object<S: WorldStore>(
     config: &mut Config<S>,
-    frame: &Frame,
+    frame: Frame,
     value: Value,
 ) -> Result<(), OutOfMemory>
     requires running { config.old.state ≡ State.Running }
     requires base { Base S.meaning config.old }
-    requires there { IsThere S.meaning config.old frame.now }
+    requires there { IsThere S.meaning config.old frame }
     requires value { HasValue config.old value }
-    ensures { let t = config.new.heap.texts in OnOk result (Follows S.meaning (line.new_object (value_in t value) (env_in S.meaning config.old t frame.now)) config.old config.new) }
+    ensures { let t = config.new.heap.texts in OnOk result (Follows S.meaning (line.new_object (value_in t value) (env_in S.meaning config.old t frame)) config.old config.new) }
 {
     match value {
         Value::Undefined | Value::Null => {
@@ -46,16 +46,16 @@ pub(crate) fn new_object<S: WorldStore>(
 /// `valueOf`: the receiver as an object (section 15.2.4.4).
 pub(crate) fn as_object<S: WorldStore>(
     config: &mut Config<S>,
-    frame: &Frame,
+    frame: Frame,
     value: Value,
 ) -> Result<(), OutOfMemory>
     requires running { config.old.state ≡ State.Running }
     requires base { Base S.meaning config.old }
-    requires there { IsThere S.meaning config.old frame.now }
+    requires there { IsThere S.meaning config.old frame }
     requires value { HasValue config.old value }
-    ensures { let t = config.new.heap.texts in OnOk result (Follows S.meaning (made.to_object (value_in t value) (env_in S.meaning config.old t frame.now) line.give_object) config.old config.new) }
+    ensures { let t = config.new.heap.texts in OnOk result (Follows S.meaning (made.to_object (value_in t value) (env_in S.meaning config.old t frame) line.give_object) config.old config.new) }
 {
-    match to_object(config, frame, value)? {
+    match to_object(config, &frame, value)? {
         Ok(object) => give(config, frame, Value::Object(object)),
         Err(error) => finish(config, frame, Completion::Throws(error)),
     }
@@ -64,16 +64,16 @@ pub(crate) fn as_object<S: WorldStore>(
 /// `toString`: the class of the receiver (section 15.2.4.2).
 pub(crate) fn give_class<S: WorldStore>(
     config: &mut Config<S>,
-    frame: &Frame,
+    frame: Frame,
     this: Value,
 ) -> Result<(), OutOfMemory>
     requires running { config.old.state ≡ State.Running }
     requires base { Base S.meaning config.old }
-    requires there { IsThere S.meaning config.old frame.now }
+    requires there { IsThere S.meaning config.old frame }
     requires this { HasValue config.old this }
-    ensures { let t = config.new.heap.texts in OnOk result (Follows S.meaning (line.object_to_string (value_in t this) (env_in S.meaning config.old t frame.now)) config.old config.new) }
+    ensures { let t = config.new.heap.texts in OnOk result (Follows S.meaning (line.object_to_string (value_in t this) (env_in S.meaning config.old t frame)) config.old config.new) }
 {
-    match to_object(config, frame, this)? {
+    match to_object(config, &frame, this)? {
         Ok(object) => give_class_of(config, frame, object),
         Err(error) => finish(config, frame, Completion::Throws(error)),
     }
@@ -82,12 +82,12 @@ pub(crate) fn give_class<S: WorldStore>(
 /// The class of an object.
 fn give_class_of<S: WorldStore>(
     config: &mut Config<S>,
-    frame: &Frame,
+    frame: Frame,
     object: ObjId,
 ) -> Result<(), OutOfMemory>
     requires running { config.old.state ≡ State.Running }
     requires base { Base S.meaning config.old }
-    requires there { IsThere S.meaning config.old frame.now }
+    requires there { IsThere S.meaning config.old frame }
     requires object { HasObject config.old object }
     ensures { let t = config.new.heap.texts in OnOk result (Follows S.meaning (class_shown object) config.old config.new) }
 {
@@ -100,20 +100,20 @@ fn give_class_of<S: WorldStore>(
 /// `hasOwnProperty`, and of enumerable properties `propertyIsEnumerable` (sections 15.2.4.5 and 15.2.4.7).
 pub(crate) fn has_own<S: WorldStore>(
     config: &mut Config<S>,
-    frame: &Frame,
+    frame: Frame,
     enumerable: bool,
     this: Value,
     args: &[Value],
 ) -> Result<(), OutOfMemory>
     requires running { config.old.state ≡ State.Running }
     requires base { Base S.meaning config.old }
-    requires there { IsThere S.meaning config.old frame.now }
+    requires there { IsThere S.meaning config.old frame }
     requires this { HasValue config.old this }
     requires args { All (HasValue config.old) args.now }
-    ensures { let t = config.new.heap.texts in OnOk result (Follows S.meaning (line.has_own_property enumerable (value_in t this) (line.text_at (map (value_in t) args.now) 0) (env_in S.meaning config.old t frame.now)) config.old config.new) }
+    ensures { let t = config.new.heap.texts in OnOk result (Follows S.meaning (line.has_own_property enumerable (value_in t this) (line.text_at (map (value_in t) args.now) 0) (env_in S.meaning config.old t frame)) config.old config.new) }
 {
     let name = name_given(config, value_at(args, 0))?;
-    match to_object(config, frame, this)? {
+    match to_object(config, &frame, this)? {
         Ok(object) => give_own(config, frame, enumerable, object, name),
         Err(error) => finish(config, frame, Completion::Throws(error)),
     }
@@ -122,23 +122,23 @@ pub(crate) fn has_own<S: WorldStore>(
 /// Whether the object itself has the property.
 fn give_own<S: WorldStore>(
     config: &mut Config<S>,
-    frame: &Frame,
+    frame: Frame,
     enumerable: bool,
     object: ObjId,
     name: Name,
 ) -> Result<(), OutOfMemory>
     requires running { config.old.state ≡ State.Running }
     requires base { Base S.meaning config.old }
-    requires there { IsThere S.meaning config.old frame.now }
+    requires there { IsThere S.meaning config.old frame }
     requires object { HasObject config.old object }
     requires name { HasName config.old name }
-    ensures { let t = config.new.heap.texts in OnOk result (Follows S.meaning (own_property enumerable object (name_in t name) (env_in S.meaning config.old t frame.now)) config.old config.new) }
+    ensures { let t = config.new.heap.texts in OnOk result (Follows S.meaning (own_property enumerable object (name_in t name) (env_in S.meaning config.old t frame)) config.old config.new) }
 {
     if fixed(config, object, name).is_some() {
         return give(config, frame, Value::Bool(!enumerable));
     }
     let hidden = is_hidden(config, object, name);
-    let found = read_content(config, frame, object, name)?;
+    let found = read_content(config, &frame, object, name)?;
     give(config, frame, Value::Bool(shows(found, enumerable, hidden)))
 }
 
@@ -171,13 +171,13 @@ fn name_given<S: WorldStore>(config: &mut Config<S>, value: Value) -> Result<Nam
 /// Whether the receiver is among the prototypes of a value (section 15.2.4.6).
 pub(crate) fn is_prototype_of<S: WorldStore>(
     config: &mut Config<S>,
-    frame: &Frame,
+    frame: Frame,
     this: Value,
     value: Value,
 ) -> Result<(), OutOfMemory>
     requires running { config.old.state ≡ State.Running }
     requires base { Base S.meaning config.old }
-    requires there { IsThere S.meaning config.old frame.now }
+    requires there { IsThere S.meaning config.old frame }
     requires this { HasValue config.old this }
     requires value { HasValue config.old value }
     ensures { let t = config.new.heap.texts in OnOk result (Follows S.meaning (line.is_prototype_of (value_in t this) (value_in t value)) config.old config.new) }
@@ -191,7 +191,7 @@ pub(crate) fn is_prototype_of<S: WorldStore>(
 /// Whether an object is among the prototypes of a value.
 fn give_past<S: WorldStore>(
     config: &mut Config<S>,
-    frame: &Frame,
+    frame: Frame,
     prototype: ObjId,
     value: Value,
 ) -> Result<(), OutOfMemory>

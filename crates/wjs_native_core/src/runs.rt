@@ -39,7 +39,7 @@ pub(crate) fn run<S: WorldStore>(
     ensures { let t = config.new.heap.texts in OnOk result (Follows S.meaning (native_run native (new_held frame.held) (map (value_in t) values.now) (env_in S.meaning config.old t frame)) config.old config.new) }
 {
     match values.split_first() {
-        None => finish(config, &frame, Completion::Normal),
+        None => finish(config, frame, Completion::Normal),
         Some((this, args)) => run_line(config, frame, native, *this, args),
     }
 }
@@ -62,33 +62,33 @@ fn run_line<S: WorldStore>(
     ensures { let t = config.new.heap.texts in OnOk result (Follows S.meaning (native_line native (new_held frame.held) (value_in t this) (map (value_in t) args.now) (env_in S.meaning config.old t frame)) config.old config.new) }
 {
     match native {
-        Native::ObjectConstructor => new_object(config, &frame, value_at(args, 0)),
-        Native::ObjectToString => give_class(config, &frame, this),
-        Native::ObjectValueOf => as_object(config, &frame, this),
-        Native::HasOwnProperty => has_own(config, &frame, false, this, args),
-        Native::PropertyIsEnumerable => has_own(config, &frame, true, this, args),
-        Native::IsPrototypeOf => is_prototype_of(config, &frame, this, value_at(args, 0)),
+        Native::ObjectConstructor => new_object(config, frame, value_at(args, 0)),
+        Native::ObjectToString => give_class(config, frame, this),
+        Native::ObjectValueOf => as_object(config, frame, this),
+        Native::HasOwnProperty => has_own(config, frame, false, this, args),
+        Native::PropertyIsEnumerable => has_own(config, frame, true, this, args),
+        Native::IsPrototypeOf => is_prototype_of(config, frame, this, value_at(args, 0)),
         Native::Call => call_on(config, frame, this, args),
         Native::Apply => apply(config, frame, this, args),
-        _ => run_error(config, &frame, native, this, args),
+        _ => run_error(config, frame, native, this, args),
     }
 }
 
 /// Those of Function and Error.
 fn run_error<S: WorldStore>(
     config: &mut Config<S>,
-    frame: &Frame,
+    frame: Frame,
     native: Native,
     this: Value,
     args: &[Value],
 ) -> Result<(), OutOfMemory>
     requires running { config.old.state ≡ State.Running }
     requires base { Base S.meaning config.old }
-    requires there { IsThere S.meaning config.old frame.now }
+    requires there { IsThere S.meaning config.old frame }
     requires native { is_error native ≡ true }
     requires this { HasValue config.old this }
     requires args { All (HasValue config.old) args.now }
-    ensures { let t = config.new.heap.texts in OnOk result (Follows S.meaning (native_line native (new_held frame.now.held) (value_in t this) (map (value_in t) args.now) (env_in S.meaning config.old t frame.now)) config.old config.new) }
+    ensures { let t = config.new.heap.texts in OnOk result (Follows S.meaning (native_line native (new_held frame.held) (value_in t this) (map (value_in t) args.now) (env_in S.meaning config.old t frame)) config.old config.new) }
 {
     match native {
         Native::FunctionConstructor => throw(config, frame, Trouble::NoCodeFromText),
@@ -106,18 +106,18 @@ fn run_error<S: WorldStore>(
 /// Those of World and Array.
 fn run_made<S: WorldStore>(
     config: &mut Config<S>,
-    frame: &Frame,
+    frame: Frame,
     native: Native,
     this: Value,
     args: &[Value],
 ) -> Result<(), OutOfMemory>
     requires running { config.old.state ≡ State.Running }
     requires base { Base S.meaning config.old }
-    requires there { IsThere S.meaning config.old frame.now }
+    requires there { IsThere S.meaning config.old frame }
     requires native { is_made native ≡ true }
     requires this { HasValue config.old this }
     requires args { All (HasValue config.old) args.now }
-    ensures { let t = config.new.heap.texts in OnOk result (Follows S.meaning (native_line native (new_held frame.now.held) (value_in t this) (map (value_in t) args.now) (env_in S.meaning config.old t frame.now)) config.old config.new) }
+    ensures { let t = config.new.heap.texts in OnOk result (Follows S.meaning (native_line native (new_held frame.held) (value_in t this) (map (value_in t) args.now) (env_in S.meaning config.old t frame)) config.old config.new) }
 {
     match native {
         Native::WorldConstructor => throw(config, frame, Trouble::NotAConstructor),

@@ -18,17 +18,17 @@ use wjs_store::{Verdict, WorldStore};
 /// `sprout` and `sproutStrict`: a child of the receiver's world, as a World object.
 pub(crate) fn give_child<S: WorldStore>(
     config: &mut Config<S>,
-    frame: &Frame,
+    frame: Frame,
     strict: bool,
     this: Value,
 ) -> Result<(), OutOfMemory>
     requires running { config.old.state ≡ State.Running }
     requires base { Base S.meaning config.old }
-    requires there { IsThere S.meaning config.old frame.now }
+    requires there { IsThere S.meaning config.old frame }
     requires this { HasValue config.old this }
-    ensures { let t = config.new.heap.texts in OnOk result (Follows S.meaning (line.sprout strict (value_in t this) (env_in S.meaning config.old t frame.now)) config.old config.new) }
+    ensures { let t = config.new.heap.texts in OnOk result (Follows S.meaning (line.sprout strict (value_in t this) (env_in S.meaning config.old t frame)) config.old config.new) }
 {
-    match world_of(config, frame, this)? {
+    match world_of(config, &frame, this)? {
         Ok(world) => sprout_of(config, frame, strict, world),
         Err(error) => finish(config, frame, Completion::Throws(error)),
     }
@@ -37,15 +37,15 @@ pub(crate) fn give_child<S: WorldStore>(
 /// A child of a world.
 fn sprout_of<S: WorldStore>(
     config: &mut Config<S>,
-    frame: &Frame,
+    frame: Frame,
     strict: bool,
     world: WorldId,
 ) -> Result<(), OutOfMemory>
     requires running { config.old.state ≡ State.Running }
     requires base { Base S.meaning config.old }
-    requires there { IsThere S.meaning config.old frame.now }
+    requires there { IsThere S.meaning config.old frame }
     requires world { HasWorld S.meaning config.old world }
-    ensures { let t = config.new.heap.texts in OnOk result (Follows S.meaning (deed.Do (deed.Sprout world (env_in S.meaning config.old t frame.now).owner strict) (λ child. deed.Do (deed.Create (env_in S.meaning config.old t frame.now).owner (world_object_of child)) line.give_object)) config.old config.new) }
+    ensures { let t = config.new.heap.texts in OnOk result (Follows S.meaning (deed.Do (deed.Sprout world (env_in S.meaning config.old t frame).owner strict) (λ child. deed.Do (deed.Create (env_in S.meaning config.old t frame).owner (world_object_of child)) line.give_object)) config.old config.new) }
 {
     let child = sprout(config, world, strict)?;
     let object = create_world_object(config, child)?;
@@ -55,16 +55,16 @@ fn sprout_of<S: WorldStore>(
 /// `commit`: what the receiver's world has written moves to its parent, unless what it has read differs there.
 pub(crate) fn commit_to_parent<S: WorldStore>(
     config: &mut Config<S>,
-    frame: &Frame,
+    frame: Frame,
     this: Value,
 ) -> Result<(), OutOfMemory>
     requires running { config.old.state ≡ State.Running }
     requires base { Base S.meaning config.old }
-    requires there { IsThere S.meaning config.old frame.now }
+    requires there { IsThere S.meaning config.old frame }
     requires this { HasValue config.old this }
-    ensures { let t = config.new.heap.texts in OnOk result (Follows S.meaning (line.commit (value_in t this) (env_in S.meaning config.old t frame.now)) config.old config.new) }
+    ensures { let t = config.new.heap.texts in OnOk result (Follows S.meaning (line.commit (value_in t this) (env_in S.meaning config.old t frame)) config.old config.new) }
 {
-    match world_of(config, frame, this)? {
+    match world_of(config, &frame, this)? {
         Ok(world) => commit_world(config, frame, world),
         Err(error) => finish(config, frame, Completion::Throws(error)),
     }
@@ -73,14 +73,14 @@ pub(crate) fn commit_to_parent<S: WorldStore>(
 /// Commits a world.
 fn commit_world<S: WorldStore>(
     config: &mut Config<S>,
-    frame: &Frame,
+    frame: Frame,
     world: WorldId,
 ) -> Result<(), OutOfMemory>
     requires running { config.old.state ≡ State.Running }
     requires base { Base S.meaning config.old }
-    requires there { IsThere S.meaning config.old frame.now }
+    requires there { IsThere S.meaning config.old frame }
     requires world { HasWorld S.meaning config.old world }
-    ensures { let t = config.new.heap.texts in OnOk result (Follows S.meaning (deed.Do (deed.Commit world) (line.commit_answer (env_in S.meaning config.old t frame.now))) config.old config.new) }
+    ensures { let t = config.new.heap.texts in OnOk result (Follows S.meaning (deed.Do (deed.Commit world) (line.commit_answer (env_in S.meaning config.old t frame))) config.old config.new) }
 {
     match commit(config, world)? {
         Verdict::Moved => give(config, frame, Value::Undefined),

@@ -22,14 +22,14 @@ use wjs_strings::line_of;
 /// Writes a text and the end of its line.
 pub fn print<S: WorldStore>(
     config: &mut Config<S>,
-    frame: &Frame,
+    frame: Frame,
     this: Value,
     args: &[Value],
 ) -> Result<(), OutOfMemory>
     requires running { config.old.state ≡ State.Running }
     requires base { Base S.meaning config.old }
     requires args { All (HasValue config.old) args.now }
-    ensures { let t = config.new.heap.texts in OnOk result (Follows S.meaning (native_line Native.Print false (value_in t this) (map (value_in t) args.now) (env_in S.meaning config.old t frame.now)) config.old config.new) }
+    ensures { let t = config.new.heap.texts in OnOk result (Follows S.meaning (native_line Native.Print false (value_in t this) (map (value_in t) args.now) (env_in S.meaning config.old t frame)) config.old config.new) }
 {
     let alloc = config.heap.arena.allocator();
     let bytes = line_of(alloc, text_at(config, args, 0))?;
@@ -40,14 +40,14 @@ pub fn print<S: WorldStore>(
 /// The integer at the front of a text (section 15.1.2.2).
 pub fn parse_int<S: WorldStore>(
     config: &mut Config<S>,
-    frame: &Frame,
+    frame: Frame,
     this: Value,
     args: &[Value],
 ) -> Result<(), OutOfMemory>
     requires running { config.old.state ≡ State.Running }
     requires base { Base S.meaning config.old }
     requires args { All (HasValue config.old) args.now }
-    ensures { let t = config.new.heap.texts in OnOk result (Follows S.meaning (native_line Native.ParseInt false (value_in t this) (map (value_in t) args.now) (env_in S.meaning config.old t frame.now)) config.old config.new) }
+    ensures { let t = config.new.heap.texts in OnOk result (Follows S.meaning (native_line Native.ParseInt false (value_in t this) (map (value_in t) args.now) (env_in S.meaning config.old t frame)) config.old config.new) }
 {
     let outcome = integer_of(text_at(config, args, 0), whole_at(args, 1));
     give_result(config, frame, outcome)
@@ -63,13 +63,13 @@ fn integer_of(text: &[u16], radix: Whole) -> Result<Whole, NumFault>
 /// Whether a number is NaN (section 15.1.2.4).
 pub fn is_nan<S: WorldStore>(
     config: &mut Config<S>,
-    frame: &Frame,
+    frame: Frame,
     this: Value,
     args: &[Value],
 ) -> Result<(), OutOfMemory>
     requires running { config.old.state ≡ State.Running }
     requires base { Base S.meaning config.old }
-    ensures { let t = config.new.heap.texts in OnOk result (Follows S.meaning (native_line Native.IsNaN false (value_in t this) (map (value_in t) args.now) (env_in S.meaning config.old t frame.now)) config.old config.new) }
+    ensures { let t = config.new.heap.texts in OnOk result (Follows S.meaning (native_line Native.IsNaN false (value_in t this) (map (value_in t) args.now) (env_in S.meaning config.old t frame)) config.old config.new) }
 {
     let answer = whole_at(args, 0).get().is_none();
     give(config, frame, Value::Bool(answer))

@@ -19,12 +19,12 @@ use wjs_strings::{absolute, greatest, least};
 /// The number without its sign (section 15.8.2.1).
 pub fn abs<S: WorldStore>(
     config: &mut Config<S>,
-    frame: &Frame,
+    frame: Frame,
     args: &[Value],
 ) -> Result<(), OutOfMemory>
     requires running { config.old.state ≡ State.Running }
     requires base { Base S.meaning config.old }
-    ensures { let t = config.new.heap.texts in OnOk result (Follows S.meaning (native_line Native.Abs false Undefined (map (value_in t) args.now) (env_in S.meaning config.old t frame.now)) config.old config.new) }
+    ensures { let t = config.new.heap.texts in OnOk result (Follows S.meaning (native_line Native.Abs false Undefined (map (value_in t) args.now) (env_in S.meaning config.old t frame)) config.old config.new) }
 {
     give(config, frame, Value::Number(absolute(whole_at(args, 0))))
 }
@@ -32,12 +32,12 @@ pub fn abs<S: WorldStore>(
 /// The number, which is whole: also what `floor`, `ceil` and `round` give (sections 15.8.2.6, 15.8.2.9 and 15.8.2.15).
 pub fn whole<S: WorldStore>(
     config: &mut Config<S>,
-    frame: &Frame,
+    frame: Frame,
     args: &[Value],
 ) -> Result<(), OutOfMemory>
     requires running { config.old.state ≡ State.Running }
     requires base { Base S.meaning config.old }
-    ensures { let t = config.new.heap.texts in OnOk result (Follows S.meaning (native_line Native.Floor false Undefined (map (value_in t) args.now) (env_in S.meaning config.old t frame.now)) config.old config.new) }
+    ensures { let t = config.new.heap.texts in OnOk result (Follows S.meaning (native_line Native.Floor false Undefined (map (value_in t) args.now) (env_in S.meaning config.old t frame)) config.old config.new) }
 {
     give(config, frame, Value::Number(whole_at(args, 0)))
 }
@@ -45,12 +45,12 @@ pub fn whole<S: WorldStore>(
 /// The greatest of the numbers (section 15.8.2.11).
 pub fn max<S: WorldStore>(
     config: &mut Config<S>,
-    frame: &Frame,
+    frame: Frame,
     args: &[Value],
 ) -> Result<(), OutOfMemory>
     requires running { config.old.state ≡ State.Running }
     requires base { Base S.meaning config.old }
-    ensures { let t = config.new.heap.texts in OnOk result (Follows S.meaning (native_line Native.Max false Undefined (map (value_in t) args.now) (env_in S.meaning config.old t frame.now)) config.old config.new) }
+    ensures { let t = config.new.heap.texts in OnOk result (Follows S.meaning (native_line Native.Max false Undefined (map (value_in t) args.now) (env_in S.meaning config.old t frame)) config.old config.new) }
 {
     match args.split_first() {
         None => throw(config, frame, Trouble::OutOfRange),
@@ -61,12 +61,12 @@ pub fn max<S: WorldStore>(
 /// The least of the numbers (section 15.8.2.12).
 pub fn min<S: WorldStore>(
     config: &mut Config<S>,
-    frame: &Frame,
+    frame: Frame,
     args: &[Value],
 ) -> Result<(), OutOfMemory>
     requires running { config.old.state ≡ State.Running }
     requires base { Base S.meaning config.old }
-    ensures { let t = config.new.heap.texts in OnOk result (Follows S.meaning (native_line Native.Min false Undefined (map (value_in t) args.now) (env_in S.meaning config.old t frame.now)) config.old config.new) }
+    ensures { let t = config.new.heap.texts in OnOk result (Follows S.meaning (native_line Native.Min false Undefined (map (value_in t) args.now) (env_in S.meaning config.old t frame)) config.old config.new) }
 {
     match args.split_first() {
         None => throw(config, frame, Trouble::OutOfRange),
@@ -77,12 +77,12 @@ pub fn min<S: WorldStore>(
 /// A power (section 15.8.2.13).
 pub fn power<S: WorldStore>(
     config: &mut Config<S>,
-    frame: &Frame,
+    frame: Frame,
     args: &[Value],
 ) -> Result<(), OutOfMemory>
     requires running { config.old.state ≡ State.Running }
     requires base { Base S.meaning config.old }
-    ensures { let t = config.new.heap.texts in OnOk result (Follows S.meaning (native_line Native.Pow false Undefined (map (value_in t) args.now) (env_in S.meaning config.old t frame.now)) config.old config.new) }
+    ensures { let t = config.new.heap.texts in OnOk result (Follows S.meaning (native_line Native.Pow false Undefined (map (value_in t) args.now) (env_in S.meaning config.old t frame)) config.old config.new) }
 {
     let outcome = pow(whole_at(args, 0), whole_at(args, 1));
     give_result(config, frame, outcome)

@@ -20,14 +20,14 @@ use wjs_store::WorldStore;
 /// The number that is given, or 0; a wrapper of it where `new` calls (sections 15.7.1 and 15.7.2).
 pub fn new_number<S: WorldStore>(
     config: &mut Config<S>,
-    frame: &Frame,
+    frame: Frame,
     by_new: bool,
     args: &[Value],
 ) -> Result<(), OutOfMemory>
     requires running { config.old.state ≡ State.Running }
     requires base { Base S.meaning config.old }
     requires args { All (HasValue config.old) args.now }
-    ensures { let t = config.new.heap.texts in OnOk result (Follows S.meaning (native_line Native.NumberConstructor by_new Undefined (map (value_in t) args.now) (env_in S.meaning config.old t frame.now)) config.old config.new) }
+    ensures { let t = config.new.heap.texts in OnOk result (Follows S.meaning (native_line Native.NumberConstructor by_new Undefined (map (value_in t) args.now) (env_in S.meaning config.old t frame)) config.old config.new) }
 {
     match args.first() {
         None => wrapped(config, frame, by_new, Value::Number(Whole::new(0).unwrap())),
@@ -38,14 +38,14 @@ pub fn new_number<S: WorldStore>(
 /// What is given as a truth value; a wrapper of it where `new` calls (sections 15.6.1 and 15.6.2).
 pub fn new_boolean<S: WorldStore>(
     config: &mut Config<S>,
-    frame: &Frame,
+    frame: Frame,
     by_new: bool,
     args: &[Value],
 ) -> Result<(), OutOfMemory>
     requires running { config.old.state ≡ State.Running }
     requires base { Base S.meaning config.old }
     requires args { All (HasValue config.old) args.now }
-    ensures { let t = config.new.heap.texts in OnOk result (Follows S.meaning (native_line Native.BooleanConstructor by_new Undefined (map (value_in t) args.now) (env_in S.meaning config.old t frame.now)) config.old config.new) }
+    ensures { let t = config.new.heap.texts in OnOk result (Follows S.meaning (native_line Native.BooleanConstructor by_new Undefined (map (value_in t) args.now) (env_in S.meaning config.old t frame)) config.old config.new) }
 {
     let truth = to_boolean(config, value_at(args, 0));
     wrapped(config, frame, by_new, Value::Bool(truth))
@@ -54,14 +54,14 @@ pub fn new_boolean<S: WorldStore>(
 /// The number of a receiver as a text (section 15.7.4.2).
 pub fn number_text<S: WorldStore>(
     config: &mut Config<S>,
-    frame: &Frame,
+    frame: Frame,
     this: Value,
     args: &[Value],
 ) -> Result<(), OutOfMemory>
     requires running { config.old.state ≡ State.Running }
     requires base { Base S.meaning config.old }
     requires this { HasValue config.old this }
-    ensures { let t = config.new.heap.texts in OnOk result (Follows S.meaning (native_line Native.NumberToString false (value_in t this) (map (value_in t) args.now) (env_in S.meaning config.old t frame.now)) config.old config.new) }
+    ensures { let t = config.new.heap.texts in OnOk result (Follows S.meaning (native_line Native.NumberToString false (value_in t this) (map (value_in t) args.now) (env_in S.meaning config.old t frame)) config.old config.new) }
 {
     match primitive_value(config, this) {
         Value::Number(number) => with_radix(config, frame, number, value_at(args, 0)),
@@ -72,13 +72,13 @@ pub fn number_text<S: WorldStore>(
 /// A number as a text in a radix, which is 10 where it is undefined.
 fn with_radix<S: WorldStore>(
     config: &mut Config<S>,
-    frame: &Frame,
+    frame: Frame,
     number: Whole,
     radix: Value,
 ) -> Result<(), OutOfMemory>
     requires running { config.old.state ≡ State.Running }
     requires base { Base S.meaning config.old }
-    ensures { let t = config.new.heap.texts in OnOk result (Follows S.meaning (line.with_radix number.number (value_in t radix) (env_in S.meaning config.old t frame.now)) config.old config.new) }
+    ensures { let t = config.new.heap.texts in OnOk result (Follows S.meaning (line.with_radix number.number (value_in t radix) (env_in S.meaning config.old t frame)) config.old config.new) }
 {
     match radix {
         Value::Undefined => text_in_radix(config, frame, number, 10),
@@ -93,13 +93,13 @@ fn with_radix<S: WorldStore>(
 /// A number as a text in a radix from 2 to 36.
 fn text_in_radix<S: WorldStore>(
     config: &mut Config<S>,
-    frame: &Frame,
+    frame: Frame,
     number: Whole,
     radix: i64,
 ) -> Result<(), OutOfMemory>
     requires running { config.old.state ≡ State.Running }
     requires base { Base S.meaning config.old }
-    ensures { let t = config.new.heap.texts in OnOk result (Follows S.meaning (line.text_in_radix number.number radix (env_in S.meaning config.old t frame.now)) config.old config.new) }
+    ensures { let t = config.new.heap.texts in OnOk result (Follows S.meaning (line.text_in_radix number.number radix (env_in S.meaning config.old t frame)) config.old config.new) }
 {
     if radix < 2 || radix > 36 {
         return throw(config, frame, Trouble::InvalidRadix);

@@ -24,14 +24,14 @@ use wjs_strings::{
 /// The code unit at a place, as a text (section 15.5.4.4).
 pub fn char_at<S: WorldStore>(
     config: &mut Config<S>,
-    frame: &Frame,
+    frame: Frame,
     this: Value,
     args: &[Value],
 ) -> Result<(), OutOfMemory>
     requires running { config.old.state ≡ State.Running }
     requires base { Base S.meaning config.old }
     requires this { HasValue config.old this }
-    ensures { let t = config.new.heap.texts in OnOk result (Follows S.meaning (native_line Native.CharAt false (value_in t this) (map (value_in t) args.now) (env_in S.meaning config.old t frame.now)) config.old config.new) }
+    ensures { let t = config.new.heap.texts in OnOk result (Follows S.meaning (native_line Native.CharAt false (value_in t this) (map (value_in t) args.now) (env_in S.meaning config.old t frame)) config.old config.new) }
 {
     let unit = unit_at(text_of(config, this), whole_at(args, 0));
     give_unit(config, frame, unit)
@@ -40,7 +40,7 @@ pub fn char_at<S: WorldStore>(
 /// Ends with a code unit as a text, which is empty where there is none.
 fn give_unit<S: WorldStore>(
     config: &mut Config<S>,
-    frame: &Frame,
+    frame: Frame,
     unit: Option<u16>,
 ) -> Result<(), OutOfMemory>
     requires running { config.old.state ≡ State.Running }
@@ -56,14 +56,14 @@ fn give_unit<S: WorldStore>(
 /// The code unit at a place, as a number (section 15.5.4.5).
 pub fn char_code_at<S: WorldStore>(
     config: &mut Config<S>,
-    frame: &Frame,
+    frame: Frame,
     this: Value,
     args: &[Value],
 ) -> Result<(), OutOfMemory>
     requires running { config.old.state ≡ State.Running }
     requires base { Base S.meaning config.old }
     requires this { HasValue config.old this }
-    ensures { let t = config.new.heap.texts in OnOk result (Follows S.meaning (native_line Native.CharCodeAt false (value_in t this) (map (value_in t) args.now) (env_in S.meaning config.old t frame.now)) config.old config.new) }
+    ensures { let t = config.new.heap.texts in OnOk result (Follows S.meaning (native_line Native.CharCodeAt false (value_in t this) (map (value_in t) args.now) (env_in S.meaning config.old t frame)) config.old config.new) }
 {
     let code = code_of(unit_at(text_of(config, this), whole_at(args, 0)));
     give(config, frame, Value::Number(code))
@@ -82,7 +82,7 @@ fn code_of(unit: Option<u16>) -> Whole
 /// The first place at or after another where a text stands (section 15.5.4.7).
 pub fn index_of<S: WorldStore>(
     config: &mut Config<S>,
-    frame: &Frame,
+    frame: Frame,
     this: Value,
     args: &[Value],
 ) -> Result<(), OutOfMemory>
@@ -90,7 +90,7 @@ pub fn index_of<S: WorldStore>(
     requires base { Base S.meaning config.old }
     requires this { HasValue config.old this }
     requires args { All (HasValue config.old) args.now }
-    ensures { let t = config.new.heap.texts in OnOk result (Follows S.meaning (native_line Native.IndexOf false (value_in t this) (map (value_in t) args.now) (env_in S.meaning config.old t frame.now)) config.old config.new) }
+    ensures { let t = config.new.heap.texts in OnOk result (Follows S.meaning (native_line Native.IndexOf false (value_in t this) (map (value_in t) args.now) (env_in S.meaning config.old t frame)) config.old config.new) }
 {
     let alloc = config.heap.arena.allocator();
     let text = text_of(config, this);
@@ -103,7 +103,7 @@ pub fn index_of<S: WorldStore>(
 /// The last place at or before another where a text stands (section 15.5.4.8).
 pub fn last_index_of<S: WorldStore>(
     config: &mut Config<S>,
-    frame: &Frame,
+    frame: Frame,
     this: Value,
     args: &[Value],
 ) -> Result<(), OutOfMemory>
@@ -111,7 +111,7 @@ pub fn last_index_of<S: WorldStore>(
     requires base { Base S.meaning config.old }
     requires this { HasValue config.old this }
     requires args { All (HasValue config.old) args.now }
-    ensures { let t = config.new.heap.texts in OnOk result (Follows S.meaning (native_line Native.LastIndexOf false (value_in t this) (map (value_in t) args.now) (env_in S.meaning config.old t frame.now)) config.old config.new) }
+    ensures { let t = config.new.heap.texts in OnOk result (Follows S.meaning (native_line Native.LastIndexOf false (value_in t this) (map (value_in t) args.now) (env_in S.meaning config.old t frame)) config.old config.new) }
 {
     let alloc = config.heap.arena.allocator();
     let text = text_of(config, this);
@@ -147,14 +147,14 @@ fn place_value(place: Option<usize>) -> Result<Whole, OutOfMemory>
 /// The part between two places (section 15.5.4.15).
 pub fn give_substring<S: WorldStore>(
     config: &mut Config<S>,
-    frame: &Frame,
+    frame: Frame,
     this: Value,
     args: &[Value],
 ) -> Result<(), OutOfMemory>
     requires running { config.old.state ≡ State.Running }
     requires base { Base S.meaning config.old }
     requires this { HasValue config.old this }
-    ensures { let t = config.new.heap.texts in OnOk result (Follows S.meaning (native_line Native.Substring false (value_in t this) (map (value_in t) args.now) (env_in S.meaning config.old t frame.now)) config.old config.new) }
+    ensures { let t = config.new.heap.texts in OnOk result (Follows S.meaning (native_line Native.Substring false (value_in t this) (map (value_in t) args.now) (env_in S.meaning config.old t frame)) config.old config.new) }
 {
     let alloc = config.heap.arena.allocator();
     let text = text_of(config, this);
@@ -165,14 +165,14 @@ pub fn give_substring<S: WorldStore>(
 /// The part from a place to before another, where places below 0 count from the end (section 15.5.4.13).
 pub fn give_slice<S: WorldStore>(
     config: &mut Config<S>,
-    frame: &Frame,
+    frame: Frame,
     this: Value,
     args: &[Value],
 ) -> Result<(), OutOfMemory>
     requires running { config.old.state ≡ State.Running }
     requires base { Base S.meaning config.old }
     requires this { HasValue config.old this }
-    ensures { let t = config.new.heap.texts in OnOk result (Follows S.meaning (native_line Native.Slice false (value_in t this) (map (value_in t) args.now) (env_in S.meaning config.old t frame.now)) config.old config.new) }
+    ensures { let t = config.new.heap.texts in OnOk result (Follows S.meaning (native_line Native.Slice false (value_in t this) (map (value_in t) args.now) (env_in S.meaning config.old t frame)) config.old config.new) }
 {
     let alloc = config.heap.arena.allocator();
     let text = text_of(config, this);

@@ -31,14 +31,14 @@ const FALSE: [u16; 5] = [102, 97, 108, 115, 101];
 /// Ends with a primitive, or with a wrapper of it where `new` calls.
 pub(crate) fn wrapped<S: WorldStore>(
     config: &mut Config<S>,
-    frame: &Frame,
+    frame: Frame,
     by_new: bool,
     value: Value,
 ) -> Result<(), OutOfMemory>
     requires running { config.old.state ≡ State.Running }
     requires base { Base S.meaning config.old }
     requires value { HasValue config.old value }
-    ensures { let t = config.new.heap.texts in OnOk result (Follows S.meaning (line.wrapped by_new (value_in t value) (env_in S.meaning config.old t frame.now)) config.old config.new) }
+    ensures { let t = config.new.heap.texts in OnOk result (Follows S.meaning (line.wrapped by_new (value_in t value) (env_in S.meaning config.old t frame)) config.old config.new) }
 {
     if by_new {
         let object = wrapper_of(config, value)?;
@@ -93,13 +93,13 @@ pub(crate) fn primitive_value<S: WorldStore>(config: &Config<S>, value: Value) -
 /// The text of a receiver: `toString` and `valueOf` (sections 15.5.4.2 and 15.5.4.3).
 pub fn own_text<S: WorldStore>(
     config: &mut Config<S>,
-    frame: &Frame,
+    frame: Frame,
     this: Value,
 ) -> Result<(), OutOfMemory>
     requires running { config.old.state ≡ State.Running }
     requires base { Base S.meaning config.old }
     requires this { HasValue config.old this }
-    ensures { let t = config.new.heap.texts in OnOk result (Follows S.meaning (native_line Native.StringToString false (value_in t this) [] (env_in S.meaning config.old t frame.now)) config.old config.new) }
+    ensures { let t = config.new.heap.texts in OnOk result (Follows S.meaning (native_line Native.StringToString false (value_in t this) [] (env_in S.meaning config.old t frame)) config.old config.new) }
 {
     match primitive_value(config, this) {
         Value::Text(id) => give(config, frame, Value::Text(id)),
@@ -110,13 +110,13 @@ pub fn own_text<S: WorldStore>(
 /// The number of a receiver: `valueOf` (section 15.7.4.4).
 pub fn own_number<S: WorldStore>(
     config: &mut Config<S>,
-    frame: &Frame,
+    frame: Frame,
     this: Value,
 ) -> Result<(), OutOfMemory>
     requires running { config.old.state ≡ State.Running }
     requires base { Base S.meaning config.old }
     requires this { HasValue config.old this }
-    ensures { let t = config.new.heap.texts in OnOk result (Follows S.meaning (native_line Native.NumberValueOf false (value_in t this) [] (env_in S.meaning config.old t frame.now)) config.old config.new) }
+    ensures { let t = config.new.heap.texts in OnOk result (Follows S.meaning (native_line Native.NumberValueOf false (value_in t this) [] (env_in S.meaning config.old t frame)) config.old config.new) }
 {
     match primitive_value(config, this) {
         Value::Number(number) => give(config, frame, Value::Number(number)),
@@ -127,13 +127,13 @@ pub fn own_number<S: WorldStore>(
 /// The truth value of a receiver: `valueOf` (section 15.6.4.3).
 pub fn own_truth<S: WorldStore>(
     config: &mut Config<S>,
-    frame: &Frame,
+    frame: Frame,
     this: Value,
 ) -> Result<(), OutOfMemory>
     requires running { config.old.state ≡ State.Running }
     requires base { Base S.meaning config.old }
     requires this { HasValue config.old this }
-    ensures { let t = config.new.heap.texts in OnOk result (Follows S.meaning (native_line Native.BooleanValueOf false (value_in t this) [] (env_in S.meaning config.old t frame.now)) config.old config.new) }
+    ensures { let t = config.new.heap.texts in OnOk result (Follows S.meaning (native_line Native.BooleanValueOf false (value_in t this) [] (env_in S.meaning config.old t frame)) config.old config.new) }
 {
     match primitive_value(config, this) {
         Value::Bool(truth) => give(config, frame, Value::Bool(truth)),
@@ -144,13 +144,13 @@ pub fn own_truth<S: WorldStore>(
 /// The truth value of a receiver as a text (section 15.6.4.2).
 pub fn truth_text<S: WorldStore>(
     config: &mut Config<S>,
-    frame: &Frame,
+    frame: Frame,
     this: Value,
 ) -> Result<(), OutOfMemory>
     requires running { config.old.state ≡ State.Running }
     requires base { Base S.meaning config.old }
     requires this { HasValue config.old this }
-    ensures { let t = config.new.heap.texts in OnOk result (Follows S.meaning (native_line Native.BooleanToString false (value_in t this) [] (env_in S.meaning config.old t frame.now)) config.old config.new) }
+    ensures { let t = config.new.heap.texts in OnOk result (Follows S.meaning (native_line Native.BooleanToString false (value_in t this) [] (env_in S.meaning config.old t frame)) config.old config.new) }
 {
     match primitive_value(config, this) {
         Value::Bool(truth) => give_spelled(config, frame, truth),
@@ -161,7 +161,7 @@ pub fn truth_text<S: WorldStore>(
 /// Ends with the text of a truth value.
 fn give_spelled<S: WorldStore>(
     config: &mut Config<S>,
-    frame: &Frame,
+    frame: Frame,
     truth: bool,
 ) -> Result<(), OutOfMemory>
     requires running { config.old.state ≡ State.Running }

@@ -30,20 +30,20 @@ use wjs_strings::{Piece, part_of, split};
 /// The parts of a text between separators, as an Array.
 pub fn give_parts<S: WorldStore>(
     config: &mut Config<S>,
-    frame: &Frame,
+    frame: Frame,
     this: Value,
     args: &[Value],
 ) -> Result<(), OutOfMemory>
     requires running { config.old.state ≡ State.Running }
     requires base { Base S.meaning config.old }
-    requires there { IsThere S.meaning config.old frame.now }
+    requires there { IsThere S.meaning config.old frame }
     requires this { HasValue config.old this }
     requires args { All (HasValue config.old) args.now }
-    ensures { let t = config.new.heap.texts in OnOk result (Follows S.meaning (native_line Native.Split false (value_in t this) (map (value_in t) args.now) (env_in S.meaning config.old t frame.now)) config.old config.new) }
+    ensures { let t = config.new.heap.texts in OnOk result (Follows S.meaning (native_line Native.Split false (value_in t this) (map (value_in t) args.now) (env_in S.meaning config.old t frame)) config.old config.new) }
 {
     let pieces = pieces_of(config, this, value_at(args, 0), limit_of(value_at(args, 1)))?;
     let parts = parts_of(config, this, pieces.as_slice())?;
-    let array = make_array(config, frame, parts.as_slice())?;
+    let array = make_array(config, &frame, parts.as_slice())?;
     give(config, frame, Value::Object(array))
 }
 

@@ -28,14 +28,14 @@ use wjs_strings::code_unit;
 /// The text that is given, or the empty one; a wrapper of it where `new` calls (sections 15.5.1 and 15.5.2).
 pub fn new_string<S: WorldStore>(
     config: &mut Config<S>,
-    frame: &Frame,
+    frame: Frame,
     by_new: bool,
     args: &[Value],
 ) -> Result<(), OutOfMemory>
     requires running { config.old.state ≡ State.Running }
     requires base { Base S.meaning config.old }
     requires args { All (HasValue config.old) args.now }
-    ensures { let t = config.new.heap.texts in OnOk result (Follows S.meaning (native_line Native.StringConstructor by_new Undefined (map (value_in t) args.now) (env_in S.meaning config.old t frame.now)) config.old config.new) }
+    ensures { let t = config.new.heap.texts in OnOk result (Follows S.meaning (native_line Native.StringConstructor by_new Undefined (map (value_in t) args.now) (env_in S.meaning config.old t frame)) config.old config.new) }
 {
     match value_at(args, 0) {
         Value::Text(id) => wrapped(config, frame, by_new, Value::Text(id)),
@@ -46,12 +46,12 @@ pub fn new_string<S: WorldStore>(
 /// The empty text; a wrapper of it where `new` calls.
 fn new_empty<S: WorldStore>(
     config: &mut Config<S>,
-    frame: &Frame,
+    frame: Frame,
     by_new: bool,
 ) -> Result<(), OutOfMemory>
     requires running { config.old.state ≡ State.Running }
     requires base { Base S.meaning config.old }
-    ensures { let t = config.new.heap.texts in OnOk result (Follows S.meaning (line.wrapped by_new (String []) (env_in S.meaning config.old t frame.now)) config.old config.new) }
+    ensures { let t = config.new.heap.texts in OnOk result (Follows S.meaning (line.wrapped by_new (String []) (env_in S.meaning config.old t frame)) config.old config.new) }
 {
     let empty = intern(config, &[])?;
     wrapped(config, frame, by_new, Value::Text(empty))
@@ -60,12 +60,12 @@ fn new_empty<S: WorldStore>(
 /// The code units of numbers (section 15.5.3.2).
 pub fn from_char_code<S: WorldStore>(
     config: &mut Config<S>,
-    frame: &Frame,
+    frame: Frame,
     args: &[Value],
 ) -> Result<(), OutOfMemory>
     requires running { config.old.state ≡ State.Running }
     requires base { Base S.meaning config.old }
-    ensures { let t = config.new.heap.texts in OnOk result (Follows S.meaning (native_line Native.FromCharCode false Undefined (map (value_in t) args.now) (env_in S.meaning config.old t frame.now)) config.old config.new) }
+    ensures { let t = config.new.heap.texts in OnOk result (Follows S.meaning (native_line Native.FromCharCode false Undefined (map (value_in t) args.now) (env_in S.meaning config.old t frame)) config.old config.new) }
 {
     let units = units_of_numbers(config.heap.arena.allocator(), args)?;
     give_text(config, frame, units.as_slice())
@@ -87,7 +87,7 @@ fn units_of_numbers(alloc: Global, numbers: &[Value]) -> Result<Vec<u16>, OutOfM
 /// All texts joined (section 15.5.4.6).
 pub fn concat<S: WorldStore>(
     config: &mut Config<S>,
-    frame: &Frame,
+    frame: Frame,
     this: Value,
     args: &[Value],
 ) -> Result<(), OutOfMemory>
@@ -95,7 +95,7 @@ pub fn concat<S: WorldStore>(
     requires base { Base S.meaning config.old }
     requires this { HasValue config.old this }
     requires args { All (HasValue config.old) args.now }
-    ensures { let t = config.new.heap.texts in OnOk result (Follows S.meaning (native_line Native.Concat false (value_in t this) (map (value_in t) args.now) (env_in S.meaning config.old t frame.now)) config.old config.new) }
+    ensures { let t = config.new.heap.texts in OnOk result (Follows S.meaning (native_line Native.Concat false (value_in t this) (map (value_in t) args.now) (env_in S.meaning config.old t frame)) config.old config.new) }
 {
     let mut units = copied(config.heap.arena.allocator(), text_of(config, this))?;
     join_texts(config, &mut units, args)?;
@@ -105,13 +105,13 @@ pub fn concat<S: WorldStore>(
 /// Ends with the texts of values, one behind the other.
 pub fn give_joined<S: WorldStore>(
     config: &mut Config<S>,
-    frame: &Frame,
+    frame: Frame,
     values: &[Value],
 ) -> Result<(), OutOfMemory>
     requires running { config.old.state ≡ State.Running }
     requires base { Base S.meaning config.old }
     requires values { All (HasValue config.old) values.now }
-    ensures { let t = config.new.heap.texts in OnOk result (Follows S.meaning (errors.give_text (line.joined (map (value_in t) values.now)) (env_in S.meaning config.old t frame.now)) config.old config.new) }
+    ensures { let t = config.new.heap.texts in OnOk result (Follows S.meaning (errors.give_text (line.joined (map (value_in t) values.now)) (env_in S.meaning config.old t frame)) config.old config.new) }
 {
     let mut units = Vec::new(config.heap.arena.allocator());
     join_texts(config, &mut units, values)?;

@@ -34,11 +34,11 @@ pub(crate) fn glue<S: WorldStore>(
     ensures { let t = config.new.heap.texts in OnOk result (Follows S.meaning (native_line Native.Glue false Undefined (map (value_in t) args.now) (env_in S.meaning config.old t frame)) config.old config.new) }
 {
     let Value::Object(object) = value_at(args, 0) else {
-        return throw(config, &frame, Trouble::NotAnObject);
+        return throw(config, frame, Trouble::NotAnObject);
     };
     let count = to_uint32(whole_at(args, 1));
     if count == 0 {
-        return give_text(config, &frame, &[]);
+        return give_text(config, frame, &[]);
     }
     frame.set_held(config.frames.nothing_held());
     hold_separator(&mut frame, value_at(args, 2), object, count)?;
@@ -81,5 +81,5 @@ pub(crate) fn glue_on<S: WorldStore>(
         return due_later(config, frame, next);
     }
     let values = frame.values(config.heap.arena.allocator())?;
-    give_joined(config, &frame, &values[1..])
+    give_joined(config, frame, &values[1..])
 }

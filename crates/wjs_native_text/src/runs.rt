@@ -37,7 +37,7 @@ pub(crate) fn run<S: WorldStore>(
     ensures { let t = config.new.heap.texts in OnOk result (Follows S.meaning (native_run native (new_held frame.held) (map (value_in t) values.now) (env_in S.meaning config.old t frame)) config.old config.new) }
 {
     match values.split_first() {
-        None => finish(config, &frame, Completion::Normal),
+        None => finish(config, frame, Completion::Normal),
         Some((this, args)) => run_line(config, frame, native, *this, args),
     }
 }
@@ -60,33 +60,36 @@ fn run_line<S: WorldStore>(
     ensures { let t = config.new.heap.texts in OnOk result (Follows S.meaning (native_line native (new_held frame.held) (value_in t this) (map (value_in t) args.now) (env_in S.meaning config.old t frame)) config.old config.new) }
 {
     match native {
-        Native::Print => print(config, &frame, this, args),
-        Native::ParseInt => parse_int(config, &frame, this, args),
-        Native::IsNaN => is_nan(config, &frame, this, args),
-        Native::StringConstructor => new_string(config, &frame, frame.by_new(), args),
-        Native::FromCharCode => from_char_code(config, &frame, args),
+        Native::Print => print(config, frame, this, args),
+        Native::ParseInt => parse_int(config, frame, this, args),
+        Native::IsNaN => is_nan(config, frame, this, args),
+        Native::StringConstructor => {
+            let by_new = frame.by_new();
+            new_string(config, frame, by_new, args)
+        }
+        Native::FromCharCode => from_char_code(config, frame, args),
         Native::Glue => glue(config, frame, args),
-        Native::StringToString => own_text(config, &frame, this),
-        Native::StringValueOf => own_text(config, &frame, this),
-        _ => run_placed(config, &frame, native, this, args),
+        Native::StringToString => own_text(config, frame, this),
+        Native::StringValueOf => own_text(config, frame, this),
+        _ => run_placed(config, frame, native, this, args),
     }
 }
 
 /// Those that look at places of texts.
 fn run_placed<S: WorldStore>(
     config: &mut Config<S>,
-    frame: &Frame,
+    frame: Frame,
     native: Native,
     this: Value,
     args: &[Value],
 ) -> Result<(), OutOfMemory>
     requires running { config.old.state ≡ State.Running }
     requires base { Base S.meaning config.old }
-    requires there { IsThere S.meaning config.old frame.now }
+    requires there { IsThere S.meaning config.old frame }
     requires native { is_placed native ≡ true }
     requires this { HasValue config.old this }
     requires args { All (HasValue config.old) args.now }
-    ensures { let t = config.new.heap.texts in OnOk result (Follows S.meaning (native_line native (new_held frame.now.held) (value_in t this) (map (value_in t) args.now) (env_in S.meaning config.old t frame.now)) config.old config.new) }
+    ensures { let t = config.new.heap.texts in OnOk result (Follows S.meaning (native_line native (new_held frame.held) (value_in t this) (map (value_in t) args.now) (env_in S.meaning config.old t frame)) config.old config.new) }
 {
     match native {
         Native::CharAt => char_at(config, frame, this, args),
@@ -104,24 +107,30 @@ fn run_placed<S: WorldStore>(
 /// Those of Number and Boolean.
 fn run_number<S: WorldStore>(
     config: &mut Config<S>,
-    frame: &Frame,
+    frame: Frame,
     native: Native,
     this: Value,
     args: &[Value],
 ) -> Result<(), OutOfMemory>
     requires running { config.old.state ≡ State.Running }
     requires base { Base S.meaning config.old }
-    requires there { IsThere S.meaning config.old frame.now }
+    requires there { IsThere S.meaning config.old frame }
     requires native { is_number native ≡ true }
     requires this { HasValue config.old this }
     requires args { All (HasValue config.old) args.now }
-    ensures { let t = config.new.heap.texts in OnOk result (Follows S.meaning (native_line native (new_held frame.now.held) (value_in t this) (map (value_in t) args.now) (env_in S.meaning config.old t frame.now)) config.old config.new) }
+    ensures { let t = config.new.heap.texts in OnOk result (Follows S.meaning (native_line native (new_held frame.held) (value_in t this) (map (value_in t) args.now) (env_in S.meaning config.old t frame)) config.old config.new) }
 {
     match native {
-        Native::NumberConstructor => new_number(config, frame, frame.by_new(), args),
+        Native::NumberConstructor => {
+            let by_new = frame.by_new();
+            new_number(config, frame, by_new, args)
+        }
         Native::NumberToString => number_text(config, frame, this, args),
         Native::NumberValueOf => own_number(config, frame, this),
-        Native::BooleanConstructor => new_boolean(config, frame, frame.by_new(), args),
+        Native::BooleanConstructor => {
+            let by_new = frame.by_new();
+            new_boolean(config, frame, by_new, args)
+        }
         Native::BooleanToString => truth_text(config, frame, this),
         Native::BooleanValueOf => own_truth(config, frame, this),
         _ => run_math(config, frame, native, this, args),
@@ -131,18 +140,18 @@ fn run_number<S: WorldStore>(
 /// Those of Math.
 fn run_math<S: WorldStore>(
     config: &mut Config<S>,
-    frame: &Frame,
+    frame: Frame,
     native: Native,
     this: Value,
     args: &[Value],
 ) -> Result<(), OutOfMemory>
     requires running { config.old.state ≡ State.Running }
     requires base { Base S.meaning config.old }
-    requires there { IsThere S.meaning config.old frame.now }
+    requires there { IsThere S.meaning config.old frame }
     requires native { is_math native ≡ true }
     requires this { HasValue config.old this }
     requires args { All (HasValue config.old) args.now }
-    ensures { let t = config.new.heap.texts in OnOk result (Follows S.meaning (native_line native (new_held frame.now.held) (value_in t this) (map (value_in t) args.now) (env_in S.meaning config.old t frame.now)) config.old config.new) }
+    ensures { let t = config.new.heap.texts in OnOk result (Follows S.meaning (native_line native (new_held frame.held) (value_in t this) (map (value_in t) args.now) (env_in S.meaning config.old t frame)) config.old config.new) }
 {
     match native {
         Native::Abs => abs(config, frame, args),

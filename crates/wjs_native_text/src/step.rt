@@ -60,7 +60,7 @@ fn begin_at<S: WorldStore>(
     if frame.place() > 0 {
         return match native {
             Native::Glue => glue_on(config, frame),
-            _ => finish(config, &frame, Completion::Normal),
+            _ => finish(config, frame, Completion::Normal),
         };
     }
     match begin(config, frame, native)? {

@@ -59,7 +59,7 @@ pub fn resume<S: WorldStore>(
     ensures { IfOk result (λ progress. Progresses S.meaning native frame (λ t. then_value (after_argument native (holding_in t frame.held) (frame.place - 1) (env_in S.meaning config.old t frame)) (completion_in t completion)) progress config.old config.new) }
 {
     let Completion::Gives(value) = completion else {
-        finish(config, &frame, completion)?;
+        finish(config, frame, completion)?;
         return Ok(Progress::Over);
     };
     resume_with(config, frame, native, value)

@@ -32,7 +32,7 @@ pub(crate) fn add<S: WorldStore>(
     ensures { let t = config.new.heap.texts in let env = env_in S.meaning config.old t frame in OnOk result (Follows S.meaning (line.add_values (value_in t left) (value_in t right) env) config.old config.new) }
 {
     if are_primitives(left, right) {
-        added(config, &frame, left, right)
+        added(config, frame, left, right)
     } else {
         add_objects(config, frame, left, right)
     }
@@ -80,16 +80,16 @@ pub(crate) fn add_right<S: WorldStore>(
 /// Both are primitives.
 pub(crate) fn added<S: WorldStore>(
     config: &mut Config<S>,
-    frame: &Frame,
+    frame: Frame,
     left: Value,
     right: Value,
 ) -> Result<(), OutOfMemory>
     requires running { config.old.state ≡ State.Running }
     requires base { Base S.meaning config.old }
-    requires there { IsThere S.meaning config.old frame.now }
+    requires there { IsThere S.meaning config.old frame }
     requires left { HasValue config.old left }
     requires right { HasValue config.old right }
-    ensures { let t = config.new.heap.texts in let env = env_in S.meaning config.old t frame.now in OnOk result (Follows S.meaning (line.add_second (value_in t left) env (value_in t right)) config.old config.new) }
+    ensures { let t = config.new.heap.texts in let env = env_in S.meaning config.old t frame in OnOk result (Follows S.meaning (line.add_second (value_in t left) env (value_in t right)) config.old config.new) }
 {
     if is_text(left) || is_text(right) {
         return join(config, frame, left, right);

@@ -53,8 +53,8 @@ pub fn binary_left<S: WorldStore>(
     ensures { let t = config.new.heap.texts in let env = env_in S.meaning config.old t frame in OnOk result (Follows S.meaning (line.binary_left operator right.0 env (value_in t value)) config.old config.new) }
 {
     match operator {
-        BinaryOperator::And => and_left(config, &frame, right, value),
-        BinaryOperator::Or => or_left(config, &frame, right, value),
+        BinaryOperator::And => and_left(config, frame, right, value),
+        BinaryOperator::Or => or_left(config, frame, right, value),
         _ => hold_left(config, frame, left, operator, right, value),
     }
 }
@@ -84,16 +84,16 @@ fn hold_left<S: WorldStore>(
 /// After the left of `&&`: the right counts where the left does.
 fn and_left<S: WorldStore>(
     config: &mut Config<S>,
-    frame: &Frame,
+    frame: Frame,
     right: NodeId,
     value: Value,
 ) -> Result<(), OutOfMemory>
     requires running { config.old.state ≡ State.Running }
     requires base { Base S.meaning config.old }
-    requires there { IsThere S.meaning config.old frame.now }
-    requires part { StandsHere config.old frame.now right }
+    requires there { IsThere S.meaning config.old frame }
+    requires part { StandsHere config.old frame right }
     requires value { HasValue config.old value }
-    ensures { let t = config.new.heap.texts in let env = env_in S.meaning config.old t frame.now in OnOk result (Follows S.meaning (line.and_left right.0 env (value_in t value)) config.old config.new) }
+    ensures { let t = config.new.heap.texts in let env = env_in S.meaning config.old t frame in OnOk result (Follows S.meaning (line.and_left right.0 env (value_in t value)) config.old config.new) }
 {
     if to_boolean(config, value) {
         enter_last(config, frame, Part::Expr(right))
@@ -105,16 +105,16 @@ fn and_left<S: WorldStore>(
 /// After the left of `||`: the right counts where the left does not.
 fn or_left<S: WorldStore>(
     config: &mut Config<S>,
-    frame: &Frame,
+    frame: Frame,
     right: NodeId,
     value: Value,
 ) -> Result<(), OutOfMemory>
     requires running { config.old.state ≡ State.Running }
     requires base { Base S.meaning config.old }
-    requires there { IsThere S.meaning config.old frame.now }
-    requires part { StandsHere config.old frame.now right }
+    requires there { IsThere S.meaning config.old frame }
+    requires part { StandsHere config.old frame right }
     requires value { HasValue config.old value }
-    ensures { let t = config.new.heap.texts in let env = env_in S.meaning config.old t frame.now in OnOk result (Follows S.meaning (line.or_left right.0 env (value_in t value)) config.old config.new) }
+    ensures { let t = config.new.heap.texts in let env = env_in S.meaning config.old t frame in OnOk result (Follows S.meaning (line.or_left right.0 env (value_in t value)) config.old config.new) }
 {
     if to_boolean(config, value) {
         finish(config, frame, Completion::Gives(value))

@@ -34,7 +34,7 @@ pub(crate) fn compare<S: WorldStore>(
     ensures { let t = config.new.heap.texts in let env = env_in S.meaning config.old t frame in OnOk result (Follows S.meaning (line.compare_values operator (value_in t left) (value_in t right) env) config.old config.new) }
 {
     if are_primitives(left, right) {
-        compared(config, &frame, operator, left, right)
+        compared(config, frame, operator, left, right)
     } else {
         compare_objects(config, frame, operator, left, right)
     }
@@ -86,17 +86,17 @@ pub(crate) fn compare_right<S: WorldStore>(
 /// Both are primitives.
 pub(crate) fn compared<S: WorldStore>(
     config: &mut Config<S>,
-    frame: &Frame,
+    frame: Frame,
     operator: BinaryOperator,
     left: Value,
     right: Value,
 ) -> Result<(), OutOfMemory>
     requires running { config.old.state ≡ State.Running }
     requires base { Base S.meaning config.old }
-    requires there { IsThere S.meaning config.old frame.now }
+    requires there { IsThere S.meaning config.old frame }
     requires left { HasValue config.old left }
     requires right { HasValue config.old right }
-    ensures { let t = config.new.heap.texts in let env = env_in S.meaning config.old t frame.now in OnOk result (Follows S.meaning (line.compare_second operator (value_in t left) (value_in t right)) config.old config.new) }
+    ensures { let t = config.new.heap.texts in let env = env_in S.meaning config.old t frame in OnOk result (Follows S.meaning (line.compare_second operator (value_in t left) (value_in t right)) config.old config.new) }
 {
     let truth = is_so(config, operator, left, right);
     finish(config, frame, Completion::Gives(Value::Bool(truth)))

@@ -22,7 +22,7 @@ use wjs_tree::BinaryOperator;
 /// `===` and `!==`.
 pub(crate) fn equal_strictly<S: WorldStore>(
     config: &mut Config<S>,
-    frame: &Frame,
+    frame: Frame,
     negated: bool,
     left: Value,
     right: Value,
@@ -40,7 +40,7 @@ pub(crate) fn equal_strictly<S: WorldStore>(
 /// Ends with a truth value, or with its opposite.
 fn tell<S: WorldStore>(
     config: &mut Config<S>,
-    frame: &Frame,
+    frame: Frame,
     negated: bool,
     truth: bool,
 ) -> Result<(), OutOfMemory>
@@ -93,7 +93,7 @@ fn object_equal<S: WorldStore>(
     ensures { let t = config.new.heap.texts in let env = env_in S.meaning config.old t frame in OnOk result (Follows S.meaning (line.equal_values (value_in t left) (value_in t right) env (tells negated)) config.old config.new) }
 {
     if is_object(right) {
-        equal_strictly(config, &frame, negated, left, right)
+        equal_strictly(config, frame, negated, left, right)
     } else {
         equal_object(config, frame, negated, left, right)
     }
@@ -119,14 +119,14 @@ fn primitive_equal<S: WorldStore>(
     if is_object(right) {
         equal_object(config, frame, negated, right, left)
     } else {
-        equal_primitives(config, &frame, negated, left, right)
+        equal_primitives(config, frame, negated, left, right)
     }
 }
 
 /// Both are primitives, or one was.
 fn equal_primitives<S: WorldStore>(
     config: &mut Config<S>,
-    frame: &Frame,
+    frame: Frame,
     negated: bool,
     left: Value,
     right: Value,
@@ -158,7 +158,7 @@ fn equal_object<S: WorldStore>(
     ensures { let t = config.new.heap.texts in let env = env_in S.meaning config.old t frame in OnOk result (Follows S.meaning (equal_with (value_in t object) (value_in t other) env (tells negated)) config.old config.new) }
 {
     if is_nullish(other) {
-        tell(config, &frame, negated, false)
+        tell(config, frame, negated, false)
     } else {
         equal_converted(config, frame, negated, object, other)
     }
@@ -188,16 +188,16 @@ fn equal_converted<S: WorldStore>(
 /// After the conversion of the object.
 pub(crate) fn equal_after<S: WorldStore>(
     config: &mut Config<S>,
-    frame: &Frame,
+    frame: Frame,
     negated: bool,
     primitive: Value,
 ) -> Result<(), OutOfMemory>
     requires running { config.old.state ≡ State.Running }
     requires base { Base S.meaning config.old }
-    requires there { IsThere S.meaning config.old frame.now }
+    requires there { IsThere S.meaning config.old frame }
     requires value { HasValue config.old primitive }
-    ensures { let t = config.new.heap.texts in OnOk result (Follows S.meaning (line.equal_primitive (value_in t (value_held frame.now.held)) (tells negated) (value_in t primitive)) config.old config.new) }
+    ensures { let t = config.new.heap.texts in OnOk result (Follows S.meaning (line.equal_primitive (value_in t (value_held frame.held)) (tells negated) (value_in t primitive)) config.old config.new) }
 {
-    let other = held_value(config, frame);
+    let other = held_value(config, &frame);
     equal_primitives(config, frame, negated, primitive, other)
 }

@@ -59,7 +59,7 @@ pub(crate) fn calculate<S: WorldStore>(
     if are_primitives(left, right) {
         let x = to_number(config, left);
         let y = to_number(config, right);
-        calculated(config, &frame, operator, x, y)
+        calculated(config, frame, operator, x, y)
     } else {
         calculate_objects(config, frame, operator, left, right)
     }
@@ -110,14 +110,14 @@ pub(crate) fn calculate_right<S: WorldStore>(
 /// Both are numbers.
 pub(crate) fn calculated<S: WorldStore>(
     config: &mut Config<S>,
-    frame: &Frame,
+    frame: Frame,
     operator: BinaryOperator,
     x: Whole,
     y: Whole,
 ) -> Result<(), OutOfMemory>
     requires running { config.old.state ≡ State.Running }
     requires base { Base S.meaning config.old }
-    ensures { let t = config.new.heap.texts in let env = env_in S.meaning config.old t frame.now in OnOk result (Follows S.meaning (line.arithmetic_second operator x.number env y.number) config.old config.new) }
+    ensures { let t = config.new.heap.texts in let env = env_in S.meaning config.old t frame in OnOk result (Follows S.meaning (line.arithmetic_second operator x.number env y.number) config.old config.new) }
 {
     give_result(config, frame, arithmetic(operator, x, y))
 }

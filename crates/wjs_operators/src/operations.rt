@@ -55,10 +55,10 @@ pub fn operate<S: WorldStore>(
         ),
         BinaryOperator::Equal => equal(config, frame, false, left, right),
         BinaryOperator::NotEqual => equal(config, frame, true, left, right),
-        BinaryOperator::StrictEqual => equal_strictly(config, &frame, false, left, right),
-        BinaryOperator::StrictNotEqual => equal_strictly(config, &frame, true, left, right),
+        BinaryOperator::StrictEqual => equal_strictly(config, frame, false, left, right),
+        BinaryOperator::StrictNotEqual => equal_strictly(config, frame, true, left, right),
         BinaryOperator::In => in_values(config, frame, left, right),
-        BinaryOperator::Instanceof => instance_values(config, &frame, left, right),
+        BinaryOperator::Instanceof => instance_values(config, frame, left, right),
         _ => calculate(config, frame, operator, left, right),
     }
 }
@@ -88,9 +88,9 @@ pub fn operand_after<S: WorldStore>(
             BinaryOperator::GreaterEqual,
             value,
         ),
-        BinaryOperator::Equal => equal_after(config, &frame, false, value),
-        BinaryOperator::NotEqual => equal_after(config, &frame, true, value),
-        BinaryOperator::In => in_after_value(config, &frame, value),
+        BinaryOperator::Equal => equal_after(config, frame, false, value),
+        BinaryOperator::NotEqual => equal_after(config, frame, true, value),
+        BinaryOperator::In => in_after_value(config, frame, value),
         _ => calculate_after(config, frame, operator, value),
     }
 }
@@ -112,7 +112,7 @@ fn add_after<S: WorldStore>(
         return add_right(config, frame, value);
     }
     let left = held_value(config, &frame);
-    added(config, &frame, left, value)
+    added(config, frame, left, value)
 }
 
 /// After the conversion of an operand of a comparison.
@@ -134,20 +134,20 @@ fn compare_after<S: WorldStore>(
         return compare_right(config, frame, operator, value);
     }
     let left = held_value(config, &frame);
-    compared(config, &frame, operator, left, value)
+    compared(config, frame, operator, left, value)
 }
 
 /// After the conversion of the left operand of `in`.
 fn in_after_value<S: WorldStore>(
     config: &mut Config<S>,
-    frame: &Frame,
+    frame: Frame,
     value: Value,
 ) -> Result<(), OutOfMemory>
     requires running { config.old.state ≡ State.Running }
     requires base { Base S.meaning config.old }
-    requires there { IsThere S.meaning config.old frame.now }
+    requires there { IsThere S.meaning config.old frame }
     requires value { HasValue config.old value }
-    ensures { let t = config.new.heap.texts in let env = env_in S.meaning config.old t frame.now in OnOk result (Follows S.meaning (after_operand BinaryOperator.In frame.now.place (holding_in t frame.now.held) env (Gives (value_in t value))) config.old config.new) }
+    ensures { let t = config.new.heap.texts in let env = env_in S.meaning config.old t frame in OnOk result (Follows S.meaning (after_operand BinaryOperator.In frame.place (holding_in t frame.held) env (Gives (value_in t value))) config.old config.new) }
 {
     match value {
         Value::Text(text) => in_after(config, frame, text),
@@ -172,7 +172,7 @@ fn calculate_after<S: WorldStore>(
 {
     match value {
         Value::Number(number) => calculate_number(config, frame, operator, number),
-        _ => finish(config, &frame, Completion::Gives(value)),
+        _ => finish(config, frame, Completion::Gives(value)),
     }
 }
 
@@ -194,5 +194,5 @@ fn calculate_number<S: WorldStore>(
         return calculate_right(config, frame, operator, number);
     }
     let left = held_number(&frame);
-    calculated(config, &frame, operator, left, number)
+    calculated(config, frame, operator, left, number)
 }

@@ -41,7 +41,7 @@ pub(crate) fn in_values<S: WorldStore>(
 {
     match right {
         Value::Object(object) => in_object(config, frame, left, object),
-        _ => throw(config, &frame, Trouble::BadRightOperand),
+        _ => throw(config, frame, Trouble::BadRightOperand),
     }
 }
 
@@ -63,7 +63,7 @@ fn in_object<S: WorldStore>(
     if is_object(left) {
         in_converted(config, frame, left, object)
     } else {
-        in_primitive(config, &frame, left, object)
+        in_primitive(config, frame, left, object)
     }
 }
 
@@ -90,17 +90,17 @@ fn in_converted<S: WorldStore>(
 /// A primitive's text is the name.
 fn in_primitive<S: WorldStore>(
     config: &mut Config<S>,
-    frame: &Frame,
+    frame: Frame,
     left: Value,
     object: ObjId,
 ) -> Result<(), OutOfMemory>
     requires running { config.old.state ≡ State.Running }
     requires base { Base S.meaning config.old }
-    requires there { IsThere S.meaning config.old frame.now }
+    requires there { IsThere S.meaning config.old frame }
     requires left { HasValue config.old left }
     requires primitive { (t : Table) → is_object (value_in t left) ≡ false }
     requires object { HasObject config.old object }
-    ensures { let t = config.new.heap.texts in let env = env_in S.meaning config.old t frame.now in OnOk result (Follows S.meaning (line.in_name object env (primitive_text (value_in t left))) config.old config.new) }
+    ensures { let t = config.new.heap.texts in let env = env_in S.meaning config.old t frame in OnOk result (Follows S.meaning (line.in_name object env (primitive_text (value_in t left))) config.old config.new) }
 {
     let name = name_of_value(config, left)?;
     in_name(config, frame, object, name)
@@ -109,34 +109,34 @@ fn in_primitive<S: WorldStore>(
 /// Whether the object has the name.
 fn in_name<S: WorldStore>(
     config: &mut Config<S>,
-    frame: &Frame,
+    frame: Frame,
     object: ObjId,
     name: Name,
 ) -> Result<(), OutOfMemory>
     requires running { config.old.state ≡ State.Running }
     requires base { Base S.meaning config.old }
-    requires there { IsThere S.meaning config.old frame.now }
+    requires there { IsThere S.meaning config.old frame }
     requires object { HasObject config.old object }
     requires name { HasName config.old name }
-    ensures { let t = config.new.heap.texts in let env = env_in S.meaning config.old t frame.now in OnOk result (Follows S.meaning (line.in_name object env (name_in t name)) config.old config.new) }
+    ensures { let t = config.new.heap.texts in let env = env_in S.meaning config.old t frame in OnOk result (Follows S.meaning (line.in_name object env (name_in t name)) config.old config.new) }
 {
-    let found = has(config, frame, object, name)?;
+    let found = has(config, &frame, object, name)?;
     finish(config, frame, Completion::Gives(Value::Bool(found)))
 }
 
 /// After the conversion of the left value: the right one is held.
 pub(crate) fn in_after<S: WorldStore>(
     config: &mut Config<S>,
-    frame: &Frame,
+    frame: Frame,
     text: TextId,
 ) -> Result<(), OutOfMemory>
     requires running { config.old.state ≡ State.Running }
     requires base { Base S.meaning config.old }
-    requires there { IsThere S.meaning config.old frame.now }
+    requires there { IsThere S.meaning config.old frame }
     requires text { Has config.old.heap.texts text }
-    ensures { let t = config.new.heap.texts in let env = env_in S.meaning config.old t frame.now in OnOk result (Follows S.meaning (in_right (value_in t (value_held frame.now.held)) env (text_in t text)) config.old config.new) }
+    ensures { let t = config.new.heap.texts in let env = env_in S.meaning config.old t frame in OnOk result (Follows S.meaning (in_right (value_in t (value_held frame.held)) env (text_in t text)) config.old config.new) }
 {
-    match held_value(config, frame) {
+    match held_value(config, &frame) {
         Value::Object(object) => in_text(config, frame, object, text),
         _ => finish(config, frame, Completion::Normal),
     }
@@ -145,16 +145,16 @@ pub(crate) fn in_after<S: WorldStore>(
 /// Whether the object has the name that a text is.
 fn in_text<S: WorldStore>(
     config: &mut Config<S>,
-    frame: &Frame,
+    frame: Frame,
     object: ObjId,
     text: TextId,
 ) -> Result<(), OutOfMemory>
     requires running { config.old.state ≡ State.Running }
     requires base { Base S.meaning config.old }
-    requires there { IsThere S.meaning config.old frame.now }
+    requires there { IsThere S.meaning config.old frame }
     requires object { HasObject config.old object }
     requires text { Has config.old.heap.texts text }
-    ensures { let t = config.new.heap.texts in let env = env_in S.meaning config.old t frame.now in OnOk result (Follows S.meaning (line.in_name object env (text_in t text)) config.old config.new) }
+    ensures { let t = config.new.heap.texts in let env = env_in S.meaning config.old t frame in OnOk result (Follows S.meaning (line.in_name object env (text_in t text)) config.old config.new) }
 {
     let name = name_of(config, text);
     in_name(config, frame, object, name)
@@ -163,16 +163,16 @@ fn in_text<S: WorldStore>(
 /// `instanceof`: the right side must be a function.
 pub(crate) fn instance_values<S: WorldStore>(
     config: &mut Config<S>,
-    frame: &Frame,
+    frame: Frame,
     left: Value,
     right: Value,
 ) -> Result<(), OutOfMemory>
     requires running { config.old.state ≡ State.Running }
     requires base { Base S.meaning config.old }
-    requires there { IsThere S.meaning config.old frame.now }
+    requires there { IsThere S.meaning config.old frame }
     requires left { HasValue config.old left }
     requires right { HasValue config.old right }
-    ensures { let t = config.new.heap.texts in let env = env_in S.meaning config.old t frame.now in OnOk result (Follows S.meaning (line.instance_values (value_in t left) (value_in t right) env) config.old config.new) }
+    ensures { let t = config.new.heap.texts in let env = env_in S.meaning config.old t frame in OnOk result (Follows S.meaning (line.instance_values (value_in t left) (value_in t right) env) config.old config.new) }
 {
     match function_of(config, right) {
         Some(function) => instance_function(config, frame, left, function),
@@ -183,16 +183,16 @@ pub(crate) fn instance_values<S: WorldStore>(
 /// A primitive is no instance; an object is one of the function whose `prototype` it has among its prototypes.
 fn instance_function<S: WorldStore>(
     config: &mut Config<S>,
-    frame: &Frame,
+    frame: Frame,
     left: Value,
     function: ObjId,
 ) -> Result<(), OutOfMemory>
     requires running { config.old.state ≡ State.Running }
     requires base { Base S.meaning config.old }
-    requires there { IsThere S.meaning config.old frame.now }
+    requires there { IsThere S.meaning config.old frame }
     requires left { HasValue config.old left }
     requires function { HasObject config.old function }
-    ensures { let t = config.new.heap.texts in let env = env_in S.meaning config.old t frame.now in OnOk result (Follows S.meaning (line.instance_function (value_in t left) (Some function) env) config.old config.new) }
+    ensures { let t = config.new.heap.texts in let env = env_in S.meaning config.old t frame in OnOk result (Follows S.meaning (line.instance_function (value_in t left) (Some function) env) config.old config.new) }
 {
     match left {
         Value::Object(object) => instance_object(config, frame, object, function),
@@ -203,34 +203,34 @@ fn instance_function<S: WorldStore>(
 /// The function's `prototype` is got.
 fn instance_object<S: WorldStore>(
     config: &mut Config<S>,
-    frame: &Frame,
+    frame: Frame,
     object: ObjId,
     function: ObjId,
 ) -> Result<(), OutOfMemory>
     requires running { config.old.state ≡ State.Running }
     requires base { Base S.meaning config.old }
-    requires there { IsThere S.meaning config.old frame.now }
+    requires there { IsThere S.meaning config.old frame }
     requires object { HasObject config.old object }
     requires function { HasObject config.old function }
-    ensures { let t = config.new.heap.texts in let env = env_in S.meaning config.old t frame.now in OnOk result (Follows S.meaning (get_value function prototype_name env (line.instance_prototype object env)) config.old config.new) }
+    ensures { let t = config.new.heap.texts in let env = env_in S.meaning config.old t frame in OnOk result (Follows S.meaning (get_value function prototype_name env (line.instance_prototype object env)) config.old config.new) }
 {
-    let prototype = get_known(config, frame, function, Known::Prototype)?;
+    let prototype = get_known(config, &frame, function, Known::Prototype)?;
     instance_prototype(config, frame, object, prototype)
 }
 
 /// Whether the function's `prototype` is among the object's prototypes.
 fn instance_prototype<S: WorldStore>(
     config: &mut Config<S>,
-    frame: &Frame,
+    frame: Frame,
     object: ObjId,
     prototype: Value,
 ) -> Result<(), OutOfMemory>
     requires running { config.old.state ≡ State.Running }
     requires base { Base S.meaning config.old }
-    requires there { IsThere S.meaning config.old frame.now }
+    requires there { IsThere S.meaning config.old frame }
     requires object { HasObject config.old object }
     requires prototype { HasValue config.old prototype }
-    ensures { let t = config.new.heap.texts in let env = env_in S.meaning config.old t frame.now in OnOk result (Follows S.meaning (line.instance_prototype object env (value_in t prototype)) config.old config.new) }
+    ensures { let t = config.new.heap.texts in let env = env_in S.meaning config.old t frame in OnOk result (Follows S.meaning (line.instance_prototype object env (value_in t prototype)) config.old config.new) }
 {
     match prototype {
         Value::Object(prototype) => instance_told(config, frame, object, prototype),
@@ -241,13 +241,13 @@ fn instance_prototype<S: WorldStore>(
 /// Whether an object is among another's prototypes.
 fn instance_told<S: WorldStore>(
     config: &mut Config<S>,
-    frame: &Frame,
+    frame: Frame,
     object: ObjId,
     prototype: ObjId,
 ) -> Result<(), OutOfMemory>
     requires running { config.old.state ≡ State.Running }
     requires base { Base S.meaning config.old }
-    requires there { IsThere S.meaning config.old frame.now }
+    requires there { IsThere S.meaning config.old frame }
     requires object { HasObject config.old object }
     requires prototype { HasObject config.old prototype }
     ensures { let t = config.new.heap.texts in OnOk result (Follows S.meaning (Do Look (λ arena. line.give_truth (is_past arena prototype object))) config.old config.new) }

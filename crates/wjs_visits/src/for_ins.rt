@@ -84,11 +84,11 @@ fn next<S: WorldStore>(
     match frame.place() {
         1 => match completion {
             Completion::Gives(value) => over_value(config, frame, taker, s, value),
-            other => finish(config, &frame, other),
+            other => finish(config, frame, other),
         },
         2 => match completion {
             Completion::Refers(reference) => visit_taken(config, frame, taker, s, reference),
-            other => finish(config, &frame, other),
+            other => finish(config, frame, other),
         },
         _ => body_ended(config, frame, taker, s, completion),
     }
@@ -112,7 +112,7 @@ fn body_ended<S: WorldStore>(
 {
     match after_body(config, &frame, completion) {
         AfterBody::Again => visit_next(config, frame, taker, s),
-        AfterBody::Ends(ended) => finish(config, &frame, ended),
+        AfterBody::Ends(ended) => finish(config, frame, ended),
     }
 }
 
@@ -135,7 +135,7 @@ fn over_value<S: WorldStore>(
     let mut frame = frame;
     match hold_visits(config, &mut frame, value)? {
         Ok(()) => visit_next(config, frame, taker, s),
-        Err(error) => finish(config, &frame, Completion::Throws(error)),
+        Err(error) => finish(config, frame, Completion::Throws(error)),
     }
 }
 
@@ -156,7 +156,7 @@ fn visit_next<S: WorldStore>(
     let mut frame = frame;
     match next_present(config, &mut frame)? {
         Some(slot) => visit(config, frame, taker, s, slot),
-        None => finish(config, &frame, Completion::Normal),
+        None => finish(config, frame, Completion::Normal),
     }
 }
 
@@ -206,7 +206,7 @@ fn visit_variable<S: WorldStore>(
     let id = text_of(config, slot.name)?;
     match assign(config, &frame, place, name, Value::Text(id))? {
         Ok(()) => enter(config, frame, 3, Part::Stmt(s)),
-        Err(error) => finish(config, &frame, Completion::Throws(error)),
+        Err(error) => finish(config, frame, Completion::Throws(error)),
     }
 }
 
@@ -229,7 +229,7 @@ fn visit_taken<S: WorldStore>(
     let mut frame = frame;
     match next_visit(config, &mut frame) {
         Some(slot) => visit_stored(config, frame, taker, s, slot, reference),
-        None => finish(config, &frame, Completion::Normal),
+        None => finish(config, frame, Completion::Normal),
     }
 }
 
@@ -254,6 +254,6 @@ fn visit_stored<S: WorldStore>(
     let id = text_of(config, slot.name)?;
     match store(config, &frame, reference, Value::Text(id))? {
         Ok(()) => enter(config, frame, 3, Part::Stmt(s)),
-        Err(error) => finish(config, &frame, Completion::Throws(error)),
+        Err(error) => finish(config, frame, Completion::Throws(error)),
     }
 }

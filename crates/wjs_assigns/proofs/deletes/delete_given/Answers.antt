@@ -7,4 +7,4 @@ pub returns-then-place-eq1 : goal.returns-then-place-eq1
 returns-then-place-eq1 g c = follows_as _ _ _ _ _ _ (λ grows. rw (sym c.place.ensures ∙ c.if-place-eq1.true) refl) c.finish.ensures
 
 pub returns-else-place-eq1 : goal.returns-else-place-eq1
-returns-else-place-eq1 g c = follows_as _ _ _ _ _ _ (λ grows. delete_past c.args.frame.now.place _ _ (λ e. c.if-place-eq1.false (c.place.ensures ∙ e)) _) c.told.ensures
+returns-else-place-eq1 g c = follows_as _ _ _ _ _ _ (λ grows. delete_past c.args.frame.place _ _ (λ e. c.if-place-eq1.false (c.place.ensures ∙ e)) _) c.told.ensures

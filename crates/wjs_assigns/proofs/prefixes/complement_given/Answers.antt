@@ -18,8 +18,8 @@ returns-in-Number g c =
     let env = env_in g.S.WorldStore.meaning c.args.config.now t c.args.frame in
     follows_as _ _ _ _ _ _ (λ grows. sym (ap (λ v. then_number complement_number (Gives (value_in t v))) c.in-Number.is) ∙ complement_past c.args.frame.place (holding_in t c.args.frame.held) env (λ e. c.if-place-eq1.false (c.place.ensures ∙ e)) (Gives (value_in t c.args.value))) c.complement_number.ensures
 
-pub returns : goal.returns
-returns g c =
+pub returns-in_default : goal.returns-in_default
+returns-in_default g c =
     let t = c.finish.new.config.heap.texts in
     let env = env_in g.S.WorldStore.meaning c.args.config.now t c.args.frame in
     follows_as _ _ _ _ _ _ (λ grows. number_passes complement_number t c.args.value c.in_default.not-Number ∙ complement_past c.args.frame.place (holding_in t c.args.frame.held) env (λ e. c.if-place-eq1.false (c.place.ensures ∙ e)) (Gives (value_in t c.args.value))) c.finish.ensures

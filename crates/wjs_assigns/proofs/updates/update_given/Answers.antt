@@ -16,15 +16,15 @@ returns-then-place-eq1 g c = follows_as _ _ _ _ _ _ (λ grows. rw (sym c.place.e
 pub returns-in-Number : goal.returns-in-Number
 returns-in-Number g c =
     let t = c.update_held.new.config.heap.texts in
-    let env = env_in g.S.WorldStore.meaning c.args.config.now t c.args.frame.now in
+    let env = env_in g.S.WorldStore.meaning c.args.config.now t c.args.frame in
     follows_as _ _ _ _ _ _ (λ grows.
-    sym (ap (λ v. then_number (update_number (fix_of c.args.fix) c.args.operator env (reference_in t (reference_held c.args.frame.now.held))) (Gives (value_in t v))) c.in-Number.is)
-    ∙ update_past c.args.frame.now.place (holding_in t c.args.frame.now.held) env (λ e. c.if-place-eq1.false (c.place.ensures ∙ e)) (fix_of c.args.fix) c.args.operator (Gives (value_in t c.args.value))) c.update_held.ensures
+    sym (ap (λ v. then_number (update_number (fix_of c.args.fix) c.args.operator env (reference_in t (reference_held c.args.frame.held))) (Gives (value_in t v))) c.in-Number.is)
+    ∙ update_past c.args.frame.place (holding_in t c.args.frame.held) env (λ e. c.if-place-eq1.false (c.place.ensures ∙ e)) (fix_of c.args.fix) c.args.operator (Gives (value_in t c.args.value))) c.update_held.ensures
 
 pub returns-in_default : goal.returns-in_default
 returns-in_default g c =
     let t = c.finish-in_default.new.config.heap.texts in
-    let env = env_in g.S.WorldStore.meaning c.args.config.now t c.args.frame.now in
+    let env = env_in g.S.WorldStore.meaning c.args.config.now t c.args.frame in
     follows_as _ _ _ _ _ _ (λ grows.
-    number_passes (update_number (fix_of c.args.fix) c.args.operator env (reference_in t (reference_held c.args.frame.now.held))) t c.args.value c.in_default.not-Number
-    ∙ update_past c.args.frame.now.place (holding_in t c.args.frame.now.held) env (λ e. c.if-place-eq1.false (c.place.ensures ∙ e)) (fix_of c.args.fix) c.args.operator (Gives (value_in t c.args.value))) c.finish-in_default.ensures
+    number_passes (update_number (fix_of c.args.fix) c.args.operator env (reference_in t (reference_held c.args.frame.held))) t c.args.value c.in_default.not-Number
+    ∙ update_past c.args.frame.place (holding_in t c.args.frame.held) env (λ e. c.if-place-eq1.false (c.place.ensures ∙ e)) (fix_of c.args.fix) c.args.operator (Gives (value_in t c.args.value))) c.finish-in_default.ensures

@@ -16,4 +16,4 @@ pub returns : goal.returns
 returns g c =
     let o = c.args.array in
     let t = c.finish.new.config.heap.texts in
-    follows_as _ _ _ _ _ _ (λ grows. ap (λ v. Do (Write c.args.frame.now.world (slot o length_name) (Some v)) (λ done. give (Object o))) (c.in_ok-value.ensures t)) (c.in_ok-write_known.ensures.does.by (λ done. give (Object o)) _ _ c.finish.ensures)
+    follows_as _ _ _ _ _ _ (λ grows. ap (λ v. Do (Write c.args.frame.world (slot o length_name) (Some v)) (λ done. give (Object o))) (c.in_ok-value.ensures t)) (c.in_ok-write_known.ensures.does.by (λ done. give (Object o)) _ _ c.finish.ensures)

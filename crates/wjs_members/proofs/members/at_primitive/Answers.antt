@@ -9,8 +9,8 @@ use Rattle.wjs_members.proofs.members.at_primitive.Goals as goal
 pub returns : goal.returns
 returns g c =
     let t = c.take_held.new.config.heap.texts in
-    let h = rw (env_later g.S.WorldStore.meaning _ _ t c.args.frame.now c.in_ok-name.ensures.later) at c.take_held.ensures in
-    c.in_ok-name.ensures.does.by (at_name (value_in t (value_held c.args.frame.now.held)) (taken c.args.frame.now.form (env_in g.S.WorldStore.meaning c.args.config.now t c.args.frame.now))) _ _ h
+    let h = rw (env_later g.S.WorldStore.meaning _ _ t c.args.frame c.in_ok-name.ensures.later) at c.take_held.ensures in
+    c.in_ok-name.ensures.does.by (at_name (value_in t (value_held c.args.frame.held)) (taken c.args.frame.form (env_in g.S.WorldStore.meaning c.args.config.now t c.args.frame))) _ _ h
 
 pub take_held-requires-clause-there : goal.take_held-requires-clause-there
-take_held-requires-clause-there g c = c.in_ok-name.ensures.later.frames c.args.frame.now c.requires.there
+take_held-requires-clause-there g c = c.in_ok-name.ensures.later.frames c.args.frame c.requires.there

@@ -8,8 +8,8 @@ use Rattle.wjs_members.proofs.members.dot_member.Goals as goal
 pub returns : goal.returns
 returns g c =
     let t = c.take.new.config.heap.texts in
-    let h = rw (env_later g.S.WorldStore.meaning _ _ t c.args.frame.now c.in_ok-name.ensures.later) at c.take.ensures in
-    c.in_ok-name.ensures.does.by (λ n. taken c.args.frame.now.form (env_in g.S.WorldStore.meaning c.args.config.now t c.args.frame.now) (Member (value_in t c.args.base) n)) _ _ h
+    let h = rw (env_later g.S.WorldStore.meaning _ _ t c.args.frame c.in_ok-name.ensures.later) at c.take.ensures in
+    c.in_ok-name.ensures.does.by (λ n. taken c.args.frame.form (env_in g.S.WorldStore.meaning c.args.config.now t c.args.frame) (Member (value_in t c.args.base) n)) _ _ h
 
 pub take-requires-clause-there : goal.take-requires-clause-there
-take-requires-clause-there g c = c.in_ok-name.ensures.later.frames c.args.frame.now c.requires.there
+take-requires-clause-there g c = c.in_ok-name.ensures.later.frames c.args.frame c.requires.there

@@ -1,10 +1,11 @@
-use Rattle.std.proofs.Common.{ap, ◌∙◌}
-use Rattle.wjs_moves.specs.Parts.{due_frame}
-use Rattle.wjs_moves.proofs.Frames.{put_on}
+use Rattle.std.proofs.Common.{◌∷◌, [], ◌++◌, ap, ◌∙◌}
+use Rattle.wjs_model.specs.Begun.{begun_at}
+use Rattle.wjs_model.specs.declared.frame.Activation.{Activation as Frame}
 use Rattle.wjs_moves.proofs.Moving.{follows_enter}
 use Rattle.wjs_moves.proofs.enters.enter.Goals as goal
 
 pub returns : goal.returns
 returns g c =
-    let due = c.in_ok-entered.ensures ∙ ap (λ h. record (due_frame c.args.frame c.args.part) { held = h }) c.nothing_held.ensures in
-    follows_enter g.S.WorldStore.meaning c.args.config.now c.args.frame c.args.place c.args.part c.push.new.self c.push-2.new.self c.requires.running c.requires.base c.requires.there c.requires.part (put_on _ _ _ _ c.in_ok-push.ensures.ok c.waiting_at.ensures) (put_on _ _ _ _ c.in_ok-push-2.ensures.ok due)
+    let old = c.args.config.now in
+    let mid = old.frames ++ c.waiting_at-waiting.result ∷ [] in
+    follows_enter g.S.WorldStore.meaning old c.args.frame c.args.place c.args.part mid c.push_begun.new.self c.requires.running c.requires.base c.requires.there c.requires.part (ap (λ (w : Frame). old.frames ++ w ∷ []) c.waiting_at-waiting.ensures) (c.in_ok-push_begun.ensures ∙ (λ i. mid ++ begun_at (c.waiting_at-waiting.ensures i) (c.form.ensures i) (c.node.ensures i) (c.place.ensures i) ∷ []))

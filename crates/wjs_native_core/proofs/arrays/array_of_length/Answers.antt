@@ -24,12 +24,12 @@ returns g c =
     let t = new.heap.texts in
     let r = c.give.result in
     let o = c.in_ok-array.array in
-    let w = c.args.frame.now.world in
+    let w = c.args.frame.world in
     let n = c.in-Some.length in
     let written = c.in_ok-write_known.ensures.does.by (λ x. line.give_object o) new r c.give.ensures in
     let sized = subst (λ (v : Value). OnOk r (Follows m (Do (Write w (slot o length_name) (Some v)) (λ x. line.give_object o)) mid new)) (c.in_ok-value.ensures t) written in
-    subst (λ (x : Option ℕ). OnOk r (Follows m (line.array_of_length x (env_in m old t c.args.frame.now)) old new)) (sym c.in-Some.ensures)
+    subst (λ (x : Option ℕ). OnOk r (Follows m (line.array_of_length x (env_in m old t c.args.frame)) old new)) (sym c.in-Some.ensures)
     (c.in_ok-array.ensures.does.by (λ q. Do (Write w (slot q length_name) (Some (whole n))) (λ x. line.give_object q)) new r sized)
 
 pub write_known-requires-clause-there : goal.write_known-requires-clause-there
-write_known-requires-clause-there g c = c.in_ok-array.ensures.later.frames c.args.frame.now c.requires.there
+write_known-requires-clause-there g c = c.in_ok-array.ensures.later.frames c.args.frame c.requires.there

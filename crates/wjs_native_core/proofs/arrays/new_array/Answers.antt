@@ -7,11 +7,11 @@ returns-in-Some g c =
     let m = g.S.WorldStore.meaning in
     let old = c.args.config.now in
     let new = c.array_of_length.new.config in
-    follows_as m _ _ old new c.array_of_length.result (λ grows. c.in-Some.ensures new.heap.texts (env_in m old new.heap.texts c.args.frame.now)) c.array_of_length.ensures
+    follows_as m _ _ old new c.array_of_length.result (λ grows. c.in-Some.ensures new.heap.texts (env_in m old new.heap.texts c.args.frame)) c.array_of_length.ensures
 
 pub returns-in-None : goal.returns-in-None
 returns-in-None g c =
     let m = g.S.WorldStore.meaning in
     let old = c.args.config.now in
     let new = c.array_of.new.config in
-    follows_as m _ _ old new c.array_of.result (λ grows. c.in-None.ensures new.heap.texts (env_in m old new.heap.texts c.args.frame.now)) c.array_of.ensures
+    follows_as m _ _ old new c.array_of.result (λ grows. c.in-None.ensures new.heap.texts (env_in m old new.heap.texts c.args.frame)) c.array_of.ensures

@@ -30,7 +30,7 @@ returns g c =
     let new = c.give_text.new.config in
     let t = new.heap.texts in
     let r = c.give_text.result in
-    let f = c.args.frame.now in
+    let f = c.args.frame in
     let env = env_in m old t f in
     let o = c.args.object in
     let one = env_later m old mid t f c.in_ok-name.ensures.later in
@@ -42,7 +42,7 @@ returns g c =
     (follows_as m _ _ last new r (λ grows. ap (λ e. give_text c.as_slice.result.now e) (two ∙ one) ∙ ap (λ u. give_text u env) (c.as_slice.ensures.value ∙ sym (c.in_ok-units.ensures t grows))) c.give_text.ensures)))
 
 pub get_named-requires-2-clause-there : goal.get_named-requires-2-clause-there
-get_named-requires-2-clause-there g c = c.in_ok-name.ensures.later.frames c.args.frame.now c.requires.there
+get_named-requires-2-clause-there g c = c.in_ok-name.ensures.later.frames c.args.frame c.requires.there
 
 pub fault_units-requires-clause-name : goal.fault_units-requires-clause-name
 fault_units-requires-clause-name g c = content_later g.S.WorldStore.meaning c.get_named.new.config c.get_named-2.new.config c.in_ok-name.name c.in_ok-message.ensures.later c.in_ok-name.ensures.found

@@ -18,7 +18,7 @@ returns-in-Fault g c =
     let new = c.give_fault_text.new.config in
     let t = new.heap.texts in
     let r = c.give_fault_text.result in
-    let env = env_in m old t c.args.frame.now in
+    let env = env_in m old t c.args.frame in
     let by = λ (k : Class). line.object_text k c.args.object env (λ u. give_text u env) in
     follows_look m (λ (arena : Arena). by (object_at arena c.args.object).class) _ old new r (λ arena s. ap by (c.in-Fault.ensures.is t arena s)) c.give_fault_text.ensures
 
@@ -29,7 +29,7 @@ returns-in_default g c =
     let new = c.give_text.new.config in
     let t = new.heap.texts in
     let r = c.give_text.result in
-    let env = env_in m old t c.args.frame.now in
+    let env = env_in m old t c.args.frame in
     let go : Text → Act = λ u. give_text u env in
     let by = λ (k : Class). line.object_text k c.args.object env go in
     follows_look m (λ (arena : Arena). by (object_at arena c.args.object).class) _ old new r (λ arena s. ap by (c.class_of.ensures.is t arena s))

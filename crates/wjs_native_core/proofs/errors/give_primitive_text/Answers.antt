@@ -17,7 +17,7 @@ returns g c =
     let new = c.join.new.config in
     let t = new.heap.texts in
     let r = c.join.result in
-    let f = c.args.frame.now in
+    let f = c.args.frame in
     let env = env_in m old t f in
     let said = primitive_text (value_in t c.args.value) in
     follows_as m _ _ old new r (λ grows. ap (λ u. give_text u env) (append-nil said))
@@ -25,4 +25,4 @@ returns g c =
     (subst (λ (e : Env). OnOk r (Follows m (give_text (said ++ text_in t c.in_ok-empty.empty) e) mid new)) (env_later m old mid t f c.in_ok-empty.ensures.later) c.join.ensures))
 
 pub join-requires-clause-there : goal.join-requires-clause-there
-join-requires-clause-there g c = c.in_ok-empty.ensures.later.frames c.args.frame.now c.requires.there
+join-requires-clause-there g c = c.in_ok-empty.ensures.later.frames c.args.frame c.requires.there

@@ -35,7 +35,7 @@ returns g c =
     let new = c.give.new.config in
     let t = new.heap.texts in
     let r = c.give.result in
-    let env = env_in m old t c.args.frame.now in
+    let env = env_in m old t c.args.frame in
     let o = c.in_ok-error.error in
     let v = c.args.message in
     c.in_ok-error.ensures.does.by (λ x. error_message x (value_in t v) env) new r (elim c.match-message.branch [
@@ -46,4 +46,4 @@ returns g c =
     ])
 
 pub write_known-requires-clause-there : goal.write_known-requires-clause-there
-write_known-requires-clause-there g c = c.in_ok-error.ensures.later.frames c.args.frame.now c.requires.there
+write_known-requires-clause-there g c = c.in_ok-error.ensures.later.frames c.args.frame c.requires.there

@@ -17,7 +17,7 @@ returns-in-Some g c =
     let old = c.args.config.now in
     let new = c.give_source_of.new.config in
     let t = new.heap.texts in
-    let env = env_in m old t c.args.frame.now in
+    let env = env_in m old t c.args.frame in
     let by = λ (f : Option ObjId) (arena : Arena). line.function_text f arena (λ k. (row_of k).name) env in
     follows_look m (λ (arena : Arena). by (function_of arena (value_in t c.args.this)) arena) _ old new c.give_source_of.result
     (λ arena s.
@@ -31,5 +31,5 @@ returns-in-None g c =
     let old = c.args.config.now in
     let new = c.throw.new.config in
     let t = new.heap.texts in
-    let by = λ (f : Option ObjId) (arena : Arena). line.function_text f arena (λ k. (row_of k).name) (env_in m old t c.args.frame.now) in
+    let by = λ (f : Option ObjId) (arena : Arena). line.function_text f arena (λ k. (row_of k).name) (env_in m old t c.args.frame) in
     follows_look m (λ (arena : Arena). by (function_of arena (value_in t c.args.this)) arena) _ old new c.throw.result (λ arena s. ap (λ (f : Option ObjId). by f arena) (c.in-None.ensures.is t arena s)) c.throw.ensures

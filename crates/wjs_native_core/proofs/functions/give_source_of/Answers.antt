@@ -14,7 +14,7 @@ returns g c =
     let old = c.args.config.now in
     let new = c.give_text.new.config in
     let t = new.heap.texts in
-    let env = env_in m old t c.args.frame.now in
+    let env = env_in m old t c.args.frame in
     follows_as m _ _ old new c.give_text.result
     (λ grows. ap (λ u. give_text u env) (c.as_slice.ensures.value ∙ sym (c.in_ok-units.ensures t grows) ∙ ap (λ k. codes "function " ++ line.code_name k (λ k. (row_of k).name) env ++ codes "() { }") (sym (c.code_of.ensures.is t _ (plainly old.heap.arena t)))))
     c.give_text.ensures

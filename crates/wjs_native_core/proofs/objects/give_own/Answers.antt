@@ -17,7 +17,7 @@ returns-then-is_some g c =
     let t = new.heap.texts in
     let r = c.give.result in
     let n = name_in t c.args.name in
-    let by : Bool → Bool → Act = owned c.args.enumerable c.args.object n (env_in m old t c.args.frame.now) in
+    let by : Bool → Bool → Act = owned c.args.enumerable c.args.object n (env_in m old t c.args.frame) in
     follows_found m (λ (arena : Arena). by (is_some (fixed arena c.args.object n)) (is_hidden arena c.args.object n)) _ old new r
     (λ grows arena s. ap (λ b. by b (is_hidden arena c.args.object n)) (ap is_some (c.fixed.ensures.is t grows arena s) ∙ is_some_map (value_in t) c.fixed.result ∙ sym c.is_some.ensures ∙ c.if-is_some.true))
     c.give.ensures
@@ -30,7 +30,7 @@ returns g c =
     let t = new.heap.texts in
     let r = c.give-2.result in
     let n = name_in t c.args.name in
-    let by : Bool → Bool → Act = owned c.args.enumerable c.args.object n (env_in m old t c.args.frame.now) in
+    let by : Bool → Bool → Act = owned c.args.enumerable c.args.object n (env_in m old t c.args.frame) in
     follows_found m (λ (arena : Arena). by (is_some (fixed arena c.args.object n)) (is_hidden arena c.args.object n)) _ old new r
     (λ grows arena s.
     ap (λ b. by b (is_hidden arena c.args.object n)) (ap is_some (c.fixed.ensures.is t grows arena s) ∙ is_some_map (value_in t) c.fixed.result ∙ sym c.is_some.ensures ∙ c.if-is_some.false)

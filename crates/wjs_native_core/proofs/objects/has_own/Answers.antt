@@ -21,7 +21,7 @@ returns-in-Ok g c =
     let new = c.give_own.new.config in
     let t = new.heap.texts in
     let r = c.give_own.result in
-    let f = c.args.frame.now in
+    let f = c.args.frame in
     let env = env_in m old t f in
     let this = value_in t c.args.this in
     let one = env_later m old named t f c.in_ok-name.ensures.later in
@@ -41,7 +41,7 @@ returns-in-Err g c =
     let new = c.finish.new.config in
     let t = new.heap.texts in
     let r = c.finish.result in
-    let f = c.args.frame.now in
+    let f = c.args.frame in
     let env = env_in m old t f in
     let this = value_in t c.args.this in
     let one = env_later m old named t f c.in_ok-name.ensures.later in
@@ -53,4 +53,4 @@ returns-in-Err g c =
     c.finish.ensures)))
 
 pub give_own-requires-clause-there : goal.give_own-requires-clause-there
-give_own-requires-clause-there g c = c.in_ok-object.ensures.later.frames c.args.frame.now (c.in_ok-name.ensures.later.frames c.args.frame.now c.requires.there)
+give_own-requires-clause-there g c = c.in_ok-object.ensures.later.frames c.args.frame (c.in_ok-name.ensures.later.frames c.args.frame c.requires.there)

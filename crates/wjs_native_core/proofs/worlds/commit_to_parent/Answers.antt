@@ -18,10 +18,10 @@ returns-in-Ok g c =
     let new = c.commit_world.new.config in
     let t = new.heap.texts in
     let r = c.commit_world.result in
-    let f = c.args.frame.now in
+    let f = c.args.frame in
     let deeds : Env → WorldId → Act = λ e w. Do (deed.Commit w) (line.commit_answer e) in
     (told_ok _ _ _ _ c.in-Ok.is c.in_ok-world.ensures.does).by (deeds (env_in m old t f)) new r
     (subst (λ (e : Env). OnOk r (Follows m (deeds e c.in-Ok.world) mid new)) (env_later m old mid t f c.in_ok-world.ensures.later) c.commit_world.ensures)
 
 pub commit_world-requires-clause-there : goal.commit_world-requires-clause-there
-commit_world-requires-clause-there g c = c.in_ok-world.ensures.later.frames c.args.frame.now c.requires.there
+commit_world-requires-clause-there g c = c.in_ok-world.ensures.later.frames c.args.frame c.requires.there

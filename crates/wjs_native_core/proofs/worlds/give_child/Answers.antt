@@ -19,10 +19,10 @@ returns-in-Ok g c =
     let new = c.sprout_of.new.config in
     let t = new.heap.texts in
     let r = c.sprout_of.result in
-    let f = c.args.frame.now in
+    let f = c.args.frame in
     let deeds : Env → WorldId → Act = λ e w. Do (deed.Sprout w e.owner c.args.strict) (λ child. Do (deed.Create e.owner (world_object_of child)) line.give_object) in
     (told_ok _ _ _ _ c.in-Ok.is c.in_ok-world.ensures.does).by (deeds (env_in m old t f)) new r
     (subst (λ (e : Env). OnOk r (Follows m (deeds e c.in-Ok.world) mid new)) (env_later m old mid t f c.in_ok-world.ensures.later) c.sprout_of.ensures)
 
 pub sprout_of-requires-clause-there : goal.sprout_of-requires-clause-there
-sprout_of-requires-clause-there g c = c.in_ok-world.ensures.later.frames c.args.frame.now c.requires.there
+sprout_of-requires-clause-there g c = c.in_ok-world.ensures.later.frames c.args.frame c.requires.there

@@ -19,5 +19,5 @@ returns g c =
     let new = c.give.new.config in
     let t = new.heap.texts in
     let vs = map (value_in t) c.args.args.now in
-    let env = env_in m old t c.args.frame.now in
+    let env = env_in m old t c.args.frame in
     follows_as m _ _ old new c.give.result (λ grows. rw (c.whole_at.ensures t) (ap (λ b. give (Boolean b)) (flip c.is_none-answer.result (is_some c.whole_at.result.number) (ap is_some (sym c.get.ensures) ∙ c.is_none-answer.ensures)))) c.give.ensures

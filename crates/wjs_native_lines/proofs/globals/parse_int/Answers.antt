@@ -16,7 +16,7 @@ returns g c =
     let new = c.give_result.new.config in
     let t = new.heap.texts in
     let vs = map (value_in t) c.args.args.now in
-    let env = env_in m old t c.args.frame.now in
+    let env = env_in m old t c.args.frame in
     follows_as m _ _ old new c.give_result.result
     (λ grows. ap (λ x. give_result x env) (c.integer_of-outcome.ensures ∙ ap (λ w. integer_of_text c.text_at.result.now (int32 w)) (sym (c.whole_at.ensures t)) ∙ ap (λ u. integer_of_text u (int32 (whole_at vs 1))) (sym (c.text_at.ensures.text t grows))))
     c.give_result.ensures

@@ -19,7 +19,7 @@ returns-in-Number g c =
     let new = c.with_radix.new.config in
     let t = new.heap.texts in
     let vs = map (value_in t) c.args.args.now in
-    let env = env_in m old t c.args.frame.now in
+    let env = env_in m old t c.args.frame in
     let go = (λ (v : Value). line.with_radix (whole_of v) (value_at vs 0) env) in
     follows_as m _ _ old new c.with_radix.result (λ grows. receiver_as line.is_number (value_in t c.args.this) env go)
     (c.in-Number.ensures.does.by (received line.is_number env go) new c.with_radix.result (follows_as m _ _ old new c.with_radix.result (λ grows. ap (λ r. line.with_radix c.in-Number.number.number r env) (sym (c.value_at.ensures.means t))) c.with_radix.ensures))
@@ -31,7 +31,7 @@ returns-in_default g c =
     let new = c.throw.new.config in
     let t = new.heap.texts in
     let vs = map (value_in t) c.args.args.now in
-    let env = env_in m old t c.args.frame.now in
+    let env = env_in m old t c.args.frame in
     let go = (λ (v : Value). line.with_radix (whole_of v) (value_at vs 0) env) in
     let r = c.throw.result in
     let none = no_number t c.primitive_value.result c.in_default.not-Number in

@@ -15,7 +15,7 @@ returns g c =
     let new = c.give.new.config in
     let t = new.heap.texts in
     let vs = map (value_in t) c.args.args.now in
-    let env = env_in m old t c.args.frame.now in
+    let env = env_in m old t c.args.frame in
     let x = text_of (value_in t c.args.this) in
     let p = text_at vs 0 in
     follows_as m _ _ old new c.give.result

@@ -15,7 +15,7 @@ returns-in-Number g c =
     let old = c.args.config.now in
     let new = c.give.new.config in
     let t = new.heap.texts in
-    let env = env_in m old t c.args.frame.now in
+    let env = env_in m old t c.args.frame in
     follows_as m _ _ old new c.give.result (λ grows. receiver_as is_number (value_in t c.args.this) env give) (c.in-Number.ensures.does.by (received is_number env give) new c.give.result c.give.ensures)
 
 pub returns-in_default : goal.returns-in_default
@@ -25,7 +25,7 @@ returns-in_default g c =
     let new = c.throw.new.config in
     let t = new.heap.texts in
     let r = c.throw.result in
-    let env = env_in m old t c.args.frame.now in
+    let env = env_in m old t c.args.frame in
     let none = no_number t c.primitive_value.result c.in_default.not-Number in
     follows_as m _ _ old new r (λ grows. receiver_as is_number (value_in t c.args.this) env give)
     (c.primitive_value.ensures.does.by (received is_number env give) new r (follows_as m _ _ old new r (λ grows. ap (λ b. elim b as (λ x. Act) [ true ↦ give (value_in t c.primitive_value.result) | false ↦ throw WrongReceiver env ]) (sym none)) c.throw.ensures))

@@ -20,7 +20,7 @@ returns-in-Bool g c =
     let old = c.args.config.now in
     let new = c.give_spelled.new.config in
     let t = new.heap.texts in
-    let env = env_in m old t c.args.frame.now in
+    let env = env_in m old t c.args.frame in
     follows_as m _ _ old new c.give_spelled.result (λ grows. receiver_as is_truth (value_in t c.args.this) env spelled) (c.in-Bool.ensures.does.by (received is_truth env spelled) new c.give_spelled.result c.give_spelled.ensures)
 
 pub returns-in_default : goal.returns-in_default
@@ -30,7 +30,7 @@ returns-in_default g c =
     let new = c.throw.new.config in
     let t = new.heap.texts in
     let r = c.throw.result in
-    let env = env_in m old t c.args.frame.now in
+    let env = env_in m old t c.args.frame in
     let none = no_truth t c.primitive_value.result c.in_default.not-Bool in
     follows_as m _ _ old new r (λ grows. receiver_as is_truth (value_in t c.args.this) env spelled)
     (c.primitive_value.ensures.does.by (received is_truth env spelled) new r (follows_as m _ _ old new r (λ grows. ap (λ b. elim b as (λ x. Act) [ true ↦ spelled (value_in t c.primitive_value.result) | false ↦ throw WrongReceiver env ]) (sym none)) c.throw.ensures))

@@ -19,7 +19,7 @@ returns g c =
     let new = c.give.new.config in
     let t = new.heap.texts in
     let vs = map (value_in t) c.args.args.now in
-    let f = c.args.frame.now in
+    let f = c.args.frame in
     let env = env_in m old t f in
     let mid = c.parts_of.new.config in
     let r = c.give.result in
@@ -40,4 +40,4 @@ returns g c =
     made)
 
 pub make_array-requires-clause-there : goal.make_array-requires-clause-there
-make_array-requires-clause-there g c = c.in_ok-parts.ensures.later.frames c.args.frame.now c.requires.there
+make_array-requires-clause-there g c = c.in_ok-parts.ensures.later.frames c.args.frame c.requires.there

@@ -13,5 +13,5 @@ returns g c =
     let new = c.give_text.new.config in
     let t = new.heap.texts in
     let vs = map (value_in t) c.args.args.now in
-    let env = env_in m old t c.args.frame.now in
+    let env = env_in m old t c.args.frame in
     follows_as m _ _ old new c.give_text.result (λ grows. ap (λ u. give_text u env) (c.as_slice.ensures.value ∙ sym (c.in_ok-units.ensures t))) c.give_text.ensures

@@ -14,7 +14,7 @@ returns g c =
     let new = c.give_text.new.config in
     let t = new.heap.texts in
     let vs = map (value_in t) c.args.values.now in
-    let env = env_in m old t c.args.frame.now in
+    let env = env_in m old t c.args.frame in
     follows_as m _ _ old new c.give_text.result
     (λ grows.
     ap (λ u. give_text u env) c.as_slice.ensures.value

@@ -15,8 +15,8 @@ returns g c =
     let old = c.args.config.now in
     let new = c.wrapped.new.config in
     let t = new.heap.texts in
-    let env = env_in m old t c.args.frame.now in
+    let env = env_in m old t c.args.frame in
     let mid = c.intern.new.config in
     let r = c.wrapped.result in
     c.in_ok-empty.ensures.does.by (λ u. line.wrapped c.args.by_new (String u) env) new r
-    (subst (λ (e : Env). OnOk r (Follows m (line.wrapped c.args.by_new (String (text_in t c.in_ok-empty.empty)) e) mid new)) (env_later m old mid t c.args.frame.now c.in_ok-empty.ensures.later) c.wrapped.ensures)
+    (subst (λ (e : Env). OnOk r (Follows m (line.wrapped c.args.by_new (String (text_in t c.in_ok-empty.empty)) e) mid new)) (env_later m old mid t c.args.frame c.in_ok-empty.ensures.later) c.wrapped.ensures)

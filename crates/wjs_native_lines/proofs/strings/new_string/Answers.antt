@@ -16,5 +16,5 @@ returns-in_default g c =
     let new = c.new_empty.new.config in
     let t = new.heap.texts in
     let vs = map (value_in t) c.args.args.now in
-    let env = env_in m old t c.args.frame.now in
+    let env = env_in m old t c.args.frame in
     follows_as m _ _ old new c.new_empty.result (λ grows. ap (λ s. line.wrapped c.args.by_new (String s) env) (sym (ap text_of (c.value_at.ensures.means t) ∙ no_units t c.value_at.result c.in_default.not-Text))) c.new_empty.ensures

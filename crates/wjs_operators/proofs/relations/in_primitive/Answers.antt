@@ -13,7 +13,7 @@ returns g c =
     let m = g.S.WorldStore.meaning in
     let t = c.in_name.new.config.heap.texts in
     let P : Env → Type 0 = λ env. OnOk c.in_name.result (Follows m (in_name c.args.object env (name_in t c.in_ok-name.name)) c.name_of_value.new.config c.in_name.new.config) in
-    c.in_ok-name.ensures.does.by (in_name c.args.object (env_in m c.args.config.now t c.args.frame.now)) _ _ (subst P (env_later m _ _ t c.args.frame.now c.in_ok-name.ensures.later) c.in_name.ensures)
+    c.in_ok-name.ensures.does.by (in_name c.args.object (env_in m c.args.config.now t c.args.frame)) _ _ (subst P (env_later m _ _ t c.args.frame c.in_ok-name.ensures.later) c.in_name.ensures)
 
 pub in_name-requires-clause-there : goal.in_name-requires-clause-there
-in_name-requires-clause-there g c = c.in_ok-name.ensures.later.frames c.args.frame.now c.requires.there
+in_name-requires-clause-there g c = c.in_ok-name.ensures.later.frames c.args.frame c.requires.there

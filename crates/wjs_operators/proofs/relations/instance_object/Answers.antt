@@ -6,8 +6,8 @@ use Rattle.wjs_operators.proofs.relations.instance_object.Goals as goal
 pub returns : goal.returns
 returns g c =
     let t = c.instance_prototype.new.config.heap.texts in
-    let h = rw (env_later g.S.WorldStore.meaning _ _ t c.args.frame.now c.in_ok-prototype.ensures.later) at c.instance_prototype.ensures in
-    c.in_ok-prototype.ensures.does.by (instance_prototype c.args.object (env_in g.S.WorldStore.meaning c.args.config.now t c.args.frame.now)) _ _ h
+    let h = rw (env_later g.S.WorldStore.meaning _ _ t c.args.frame c.in_ok-prototype.ensures.later) at c.instance_prototype.ensures in
+    c.in_ok-prototype.ensures.does.by (instance_prototype c.args.object (env_in g.S.WorldStore.meaning c.args.config.now t c.args.frame)) _ _ h
 
 pub instance_prototype-requires-clause-there : goal.instance_prototype-requires-clause-there
-instance_prototype-requires-clause-there g c = c.in_ok-prototype.ensures.later.frames c.args.frame.now c.requires.there
+instance_prototype-requires-clause-there g c = c.in_ok-prototype.ensures.later.frames c.args.frame c.requires.there

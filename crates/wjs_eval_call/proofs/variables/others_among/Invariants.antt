@@ -6,7 +6,7 @@ use Rattle.wjs_meaning.specs.Functions.{function_names}
 use Rattle.wjs_meaning.specs.Reading.{numbers}
 use Rattle.wjs_moves.specs.Parts.{env_in}
 use Rattle.wjs_eval_call.proofs.Names.{free_of}
-use Rattle.wjs_eval_call.proofs.variables.other_variables.Given as goal
+use Rattle.wjs_eval_call.proofs.variables.others_among.Given as goal
 
 abbrev pub invariant-loop-name : goal.invariant-loop-name
 invariant-loop-name g l = record {
