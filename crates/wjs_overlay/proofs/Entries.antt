@@ -18,7 +18,8 @@ use Rattle.wjs_base.specs.declared.values.Name.{Name}
 use Rattle.wjs_base.specs.declared.values.Name.TheVariants.{Index, Text}
 use Rattle.wjs_base.specs.Order.{slot_cmp, obj_cmp, name_cmp}
 use Rattle.wjs_rows.specs.Order.{is_from, is_after}
-use Rattle.wjs_overlay.specs.Least.{first_slot, first_object}
+use Rattle.wjs_overlay.specs.Least.{first_object}
+use Rattle.wjs_slots.specs.Least.{first_slot}
 use Rattle.wjs_overlay.proofs.Places.{some_is, no_none}
 use Rattle.wjs_overlay.proofs.Lists.{key_of_entry}
 use Rattle.wjs_overlay.proofs.Cursors.{not_back, not_self}

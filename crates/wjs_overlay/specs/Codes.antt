@@ -1,4 +1,4 @@
--- How slots, objects and rows are told apart.
+-- How slots, objects and worlds are told apart.
 use Rattle.std.specs.Coded.{Coded}
 use Rattle.wjs_base.specs.contracts.values.Slot as slot
 use Rattle.wjs_base.specs.contracts.ids.ObjId as object
@@ -6,8 +6,6 @@ use Rattle.wjs_base.specs.contracts.ids.WorldId as world
 use Rattle.wjs_base.specs.declared.ids.WorldId.{WorldId}
 use Rattle.wjs_base.specs.declared.values.Slot.{Slot}
 use Rattle.wjs_base.specs.declared.ids.ObjId.{ObjId}
-use Rattle.wjs_overlay.specs.contracts.maps.Row as row
-use Rattle.wjs_overlay.specs.declared.maps.Row.{Row}
 
 abbrev pub coded_slot : Coded Slot
 coded_slot = (slot.the_row).coded
@@ -17,6 +15,3 @@ coded_object = (object.the_row).coded
 
 abbrev pub coded_world : Coded WorldId
 coded_world = (world.the_row).coded
-
-abbrev pub coded_row : Coded Row
-coded_row = (row.the_row).coded

@@ -15,10 +15,11 @@ ghost use Rattle.wjs_overlay.specs.Check.{IsLeast, differs, is_unseen};
 
 use crate::layer::{Layer, Spot};
 use crate::layers::{content, lesser, next_slot};
-use crate::maps::{Row, least_object, least_slot};
+use crate::maps::{Row, least_object};
 use std::sync::ledger::Ledger;
 use wjs_base::{Content, ObjId, Slot, same_value};
 use wjs_rows::Steps;
+use wjs_slots::least_slot;
 
 /// Whether two contents agree: both absent, or one value.
 fn same_content(a: Content, b: Content) -> bool

@@ -14,11 +14,12 @@ ghost use Rattle.wjs_overlay.specs.Moves.{handed, handed_rows, ReadsAgree, close
 ghost use Rattle.std.specs.Prelude.{true};
 ghost use Rattle.wjs_base.specs.declared.values.Slot.{Slot};
 
-use crate::maps::{ObjectSet, Row, SlotRows};
+use crate::maps::{ObjectSet, Row};
 use std::alloc::Global;
 use std::sync::ledger::Ledger;
 use wjs_base::{Name, ObjId, OutOfMemory, Slot, WorldId};
 use wjs_rows::Steps;
+use wjs_slots::Table;
 
 /// A world by its number, and its place among the worlds.
 #[derive(Clone, Copy, Debug, PartialEq, Eq)]
@@ -34,7 +35,7 @@ pub struct Layer {
     /// Its parent.
     pub above: Option<Spot>,
     pub strict: bool,
-    pub rows: SlotRows,
+    pub rows: Table<Row>,
     pub closed: ObjectSet,
 }
 
@@ -215,6 +216,6 @@ pub fn close_all<L: Ledger>(
 pub fn clear(alloc: Global, layer: &mut Layer)
     ensures { layer.new ≡ cleared layer.old }
 {
-    layer.rows = SlotRows::new(alloc);
+    layer.rows = Table::new(alloc);
     layer.closed = ObjectSet::new(alloc);
 }

@@ -20,11 +20,12 @@ ghost use Rattle.wjs_overlay.specs.Sparse.{IsSparse, IsAt, StandFor, full_of, de
 use crate::layer::{
     Layer, Look, Spot, clear, close_all, close_layer, hand_reads, look_at, next_row, put,
 };
-use crate::maps::{ObjectSet, Row, SlotRows, SlotSet};
+use crate::maps::{ObjectSet, Row, SlotSet};
 use std::alloc::Global;
 use std::sync::ledger::Ledger;
 use wjs_base::{Content, ObjId, OutOfMemory, Slot, WorldId};
 use wjs_rows::Steps;
+use wjs_slots::Table;
 
 /// What a slot holds in a world: what the nearest row upward says, and nothing past a closed object.
 pub fn content<L: Ledger>(
@@ -199,7 +200,7 @@ pub fn sprout(
         id,
         above: Some(world),
         strict,
-        rows: SlotRows::new(alloc),
+        rows: Table::new(alloc),
         closed: ObjectSet::new(alloc),
     };
     if layers.push(child).is_err() {

@@ -1,6 +1,6 @@
-//! Rows by slot and sets of objects, seen as finite maps.
+//! Rows, and sets of objects and of slots, seen as finite maps.
 ghost use Rattle.std.specs.Prelude.{◌≡◌, ◌+◌, ◌≤◌, length, OnOk, IfOk, is_some};
-ghost use Rattle.wjs_overlay.specs.Least.{first_slot, first_object};
+ghost use Rattle.wjs_overlay.specs.Least.{first_object};
 ghost use Rattle.std.specs.FinMap as map;
 ghost use Rattle.std.specs.Map.{lookup_entry, lookup_key};
 ghost use Rattle.wjs_base.specs.Order.{slot_cmp, obj_cmp};
@@ -10,7 +10,7 @@ use std::alloc::Global;
 use std::collections::BTreeMap;
 use std::marker::Model;
 use std::sync::ledger::Ledger;
-use wjs_base::{Content, Name, ObjId, OutOfMemory, Slot};
+use wjs_base::{Content, ObjId, OutOfMemory, Slot};
 use wjs_rows::{Rows, Steps};
 
 /// What a world keeps of a slot.
@@ -31,123 +31,6 @@ pub fn least_object() -> ObjId
     ObjId {
         owner: 0,
         serial: 0,
-    }
-}
-
-/// The least of all slots.
-pub fn least_slot() -> Slot
-    ensures { result ≡ first_slot }
-{
-    Slot {
-        object: least_object(),
-        name: Name::Index(0),
-    }
-}
-
-#[derive(Drop)]
-pub struct SlotRows {
-    rows: Rows<Slot, Row>,
-}
-
-impl Model for SlotRows {
-    ghost use Rattle.std.specs.FinMap as map;
-    ghost use Rattle.wjs_base.specs.Order.{slot_cmp};
-    ghost use Rattle.wjs_overlay.specs.declared.maps.Row.{Row};
-    ghost use Rattle.wjs_overlay.specs.Codes.{coded_slot, coded_row};
-
-    ghost Value = { map.FinMap slot_cmp Row };
-
-    ghost coded = { map.code coded_slot coded_row };
-
-    ghost view = { λ m. map.from_entries m.rows };
-}
-
-impl SlotRows {
-    pub fn new(alloc: Global) -> SlotRows
-        ensures { result ≡ map.empty }
-    {
-        SlotRows {
-            rows: Rows::new(alloc),
-        }
-    }
-
-    /// How many rows there are.
-    pub fn len(&self) -> usize
-        ensures { result ≡ length (map.entries self.now) }
-    {
-        self.rows.len()
-    }
-
-    /// The row of a slot.
-    pub fn get<L: Ledger>(&self, slot: Slot, steps: &mut Steps<L>) -> Option<Row>
-        ensures row { result ≡ map.get self.now slot }
-        ensures step { steps.new ≡ steps.old + 1 }
-    {
-        self.rows.get(&slot, steps).copied()
-    }
-
-    pub fn set<L: Ledger>(
-        &mut self,
-        slot: Slot,
-        row: Row,
-        steps: &mut Steps<L>,
-    ) -> Result<(), OutOfMemory>
-        ensures ok { OnOk result (self.new ≡ map.insert self.old slot row) }
-        ensures step { steps.new ≡ steps.old + 1 }
-    {
-        if self.rows.set(slot, row, steps).is_err() {
-            return Err(OutOfMemory);
-        }
-        Ok(())
-    }
-
-    pub fn remove<L: Ledger>(&mut self, slot: Slot, steps: &mut Steps<L>)
-        ensures removed { self.new ≡ map.remove self.old slot }
-        ensures step { steps.new ≡ steps.old + 1 }
-    {
-        let _ = self.rows.remove(&slot, steps);
-    }
-
-    /// All entries, in the order of slots.
-    pub fn entries<L: Ledger>(
-        &self,
-        alloc: Global,
-        steps: &mut Steps<L>,
-    ) -> Result<Vec<(Slot, Row)>, OutOfMemory>
-        ensures all { IfOk result (λ all. all.items ≡ map.entries self.now) }
-        ensures steps { steps.new ≤ steps.old + (length (map.entries self.now) + 1) }
-    {
-        let mut all = Vec::new(alloc);
-        let mut next = self.next_from(least_slot(), steps);
-        'rows: while let Some((slot, row)) = next {
-            if all.push((slot, row)).is_err() {
-                return Err(OutOfMemory);
-            }
-            next = self.next_after(slot, steps);
-        }
-        Ok(all)
-    }
-
-    /// The least entry at or after a slot.
-    pub fn next_from<L: Ledger>(&self, slot: Slot, steps: &mut Steps<L>) -> Option<(Slot, Row)>
-        ensures least { result ≡ lookup_entry (is_from slot_cmp slot) (map.entries self.now) }
-        ensures step { steps.new ≡ steps.old + 1 }
-    {
-        match self.rows.next_from(&slot, steps) {
-            None => None,
-            Some((next, row)) => Some((*next, *row)),
-        }
-    }
-
-    /// The least entry after a slot.
-    pub fn next_after<L: Ledger>(&self, slot: Slot, steps: &mut Steps<L>) -> Option<(Slot, Row)>
-        ensures least { result ≡ lookup_entry (is_after slot_cmp slot) (map.entries self.now) }
-        ensures step { steps.new ≡ steps.old + 1 }
-    {
-        match self.rows.next_after(&slot, steps) {
-            None => None,
-            Some((next, row)) => Some((*next, *row)),
-        }
     }
 }
 

@@ -9,10 +9,11 @@ ghost use Rattle.wjs_overlay.specs.Cursor.{to_come};
 ghost use Rattle.wjs_overlay.specs.Marks.{reads_in, writes_in, has_written};
 
 use crate::layer::Layer;
-use crate::maps::{Row, least_slot};
+use crate::maps::Row;
 use std::sync::ledger::{Blank, Ledger};
 use wjs_base::Slot;
 use wjs_rows::Steps;
+use wjs_slots::least_slot;
 use wjs_store::Counts;
 
 /// 1 where it holds.

@@ -3,7 +3,7 @@ ghost use Rattle.std.specs.Prelude.{◌≡◌, false, IfOk, IsTrue};
 ghost use Rattle.wjs_overlay.specs.Store.{IsStore, store_prop, first_id};
 
 use crate::layer::{Layer, Spot};
-use crate::maps::{ObjectSet, SlotRows};
+use crate::maps::ObjectSet;
 use crate::marks::count_marks;
 use crate::numbers::{Owners, Places};
 use crate::{calls, layers, marks, uncounted};
@@ -12,6 +12,7 @@ use std::marker::Brand;
 use std::sync::ledger::{Blank, Ledger};
 use wjs_base::{Content, Names, ObjId, OutOfMemory, Slot, WorldId};
 use wjs_rows::Steps;
+use wjs_slots::Table;
 use wjs_store::{Counts, Verdict, WorldStore};
 
 /// Worlds of which only what was touched is kept: a row for each slot that was read or written in a world, and the
@@ -65,7 +66,7 @@ impl Overlay {
             id: first_world(),
             above: None,
             strict: false,
-            rows: SlotRows::new(alloc),
+            rows: Table::new(alloc),
             closed: ObjectSet::new(alloc),
         };
         places.insert(first_world(), 0)?;

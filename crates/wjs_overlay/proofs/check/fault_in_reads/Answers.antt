@@ -5,7 +5,7 @@ use Rattle.wjs_base.specs.declared.values.Slot.{Slot}
 use Rattle.wjs_base.specs.Order.{slot_cmp, slot_total, slot_exact}
 use Rattle.wjs_rows.specs.Order.{is_from, is_after}
 use Rattle.wjs_overlay.specs.declared.maps.Row.{Row}
-use Rattle.wjs_overlay.specs.Least.{first_slot}
+use Rattle.wjs_slots.specs.Least.{first_slot}
 use Rattle.wjs_overlay.specs.Cursor.{is_before, count_passing}
 use Rattle.wjs_overlay.specs.Sparse.{full_of, depth_of}
 use Rattle.wjs_overlay.proofs.Places.{slice_read}

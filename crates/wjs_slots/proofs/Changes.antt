@@ -1,0 +1,125 @@
+-- Changes of one row of a table.
+use Rattle.std.proofs.Common.{◌≡◌, ℕ, zero, suc, ◌+◌, ◌-◌, ◌<◌, ◌≤◌, Bool, true, false, cond, ◌==◌, List, [], ◌∷◌, ◌++◌, length, set, get_or, replicate, Option, None, Some, slice_get, refl, ap, sym, ◌∙◌, arith, eqb-true, length-append, append_assoc}
+use Rattle.std.specs.Ordering.{is_eq, ordering_then, eq_by_cmp}
+use Rattle.std.specs.FinMap as map
+use Rattle.std.specs.FinMap.{FinMap, find}
+use Rattle.std.specs.Option.{option_or}
+use Rattle.std.proofs.lemmas.Bool.{true≢false}
+use Rattle.std.proofs.lemmas.Option.{slice_get-get_or}
+use Rattle.wjs_base.specs.declared.ids.ObjId.{ObjId}
+use Rattle.wjs_base.specs.declared.values.Name.{Name}
+use Rattle.wjs_base.specs.declared.values.Slot.{Slot}
+use Rattle.wjs_base.specs.Order.{name_cmp, obj_cmp, slot_cmp, obj_exact, slot_exact, slot_total}
+use Rattle.wjs_slots.specs.Near.{place_in, value_in, near_value, IsApart}
+use Rattle.wjs_slots.proofs.Basics.{by_bool, no_none, equal_is, key_is, or_none}
+use Rattle.wjs_slots.proofs.Values.{not_then, same_object, placed_is, placed_at, near_present, near_other, near_absent, table, get_table, IsPlaced}
+
+set_same : {X : Type 0} (xs : List X) (i : ℕ) (x : X) → i < length xs → slice_get (set xs i x) i ≡ Some x
+set_same [] i x l = absurd (omega arith)
+set_same (y ∷ xs) zero x l = refl
+set_same (y ∷ xs) (suc i) x l = set_same xs i x (omega arith)
+
+set_other : {X : Type 0} (xs : List X) (i j : ℕ) (x : X) → (i ≡ j → ⊥) → slice_get (set xs i x) j ≡ slice_get xs j
+set_other [] i j x n = refl
+set_other (y ∷ xs) zero zero x n = absurd (n refl)
+set_other (y ∷ xs) zero (suc j) x n = refl
+set_other (y ∷ xs) (suc i) zero x n = refl
+set_other (y ∷ xs) (suc i) (suc j) x n = set_other xs i j x (λ e. n (ap suc e))
+
+or_first : {A : Type 0} (b : Bool) (w o p : Option A) → (b ≡ true → p ≡ None) → option_or (cond b w o) p ≡ cond b w (option_or o p)
+or_first true w o p h = ap (option_or w) (h refl) ∙ or_none w
+or_first false w o p h = refl
+
+or_second : {A : Type 0} (b : Bool) (w o p : Option A) → (b ≡ true → o ≡ None) → option_or o (cond b w p) ≡ cond b w (option_or o p)
+or_second true w o p h = ap (λ z. option_or z w) (h refl)
+or_second false w o p h = refl
+
+module _ {V : Type 0} where
+  -- a row of a near object changes
+  near_set : (owner : ℕ) (ms : List (FinMap name_cmp V)) (slot : Slot) (i : ℕ) (m d : FinMap name_cmp V) (w : Option V) → IsPlaced owner (length ms) slot.object i
+      → ((n : Name) → map.get m n ≡ cond (eq_by_cmp name_cmp n slot.name) w (map.get (get_or ms i d) n))
+      → (q : Slot) → near_value owner (set ms i m) q ≡ cond (eq_by_cmp slot_cmp q slot) w (near_value owner ms q)
+  near_set owner ms slot i m d w p h q =
+      let l : i < length ms = let b = p.below in let s = p.serial_is in omega arith in
+      by_bool (is_eq (obj_cmp q.object slot.object))
+      (λ t.
+      let e = obj_exact q.object slot.object (equal_is (obj_cmp q.object slot.object) t) in
+      let o : q.object.owner ≡ owner = ap (λ (x : ObjId). x.owner) e ∙ p.owner_is in
+      let s : q.object.serial ≡ i = ap (λ (x : ObjId). x.serial) e ∙ sym p.serial_is in
+      near_present owner (set ms i m) q o
+      ∙ ap (λ n. value_in (slice_get (set ms i m) n) q.name) s
+      ∙ ap (λ x. value_in x q.name) (set_same ms i m l)
+      ∙ h q.name
+      ∙ ap (cond (eq_by_cmp name_cmp q.name slot.name) w) (sym (near_present owner ms q o ∙ ap (λ n. value_in (slice_get ms n) q.name) s ∙ ap (λ x. value_in x q.name) (slice_get-get_or ms i d l)))
+      ∙ sym (ap (λ c. cond (is_eq (ordering_then c (name_cmp q.name slot.name))) w (near_value owner ms q)) (equal_is (obj_cmp q.object slot.object) t)))
+      (λ f.
+      by_bool (q.object.owner == owner)
+      (λ t.
+      let o = eqb-true q.object.owner owner t in
+      near_present owner (set ms i m) q o
+      ∙ ap (λ x. value_in x q.name) (set_other ms i q.object.serial m (λ e. true≢false (sym (ap is_eq (same_object q.object slot.object (o ∙ sym p.owner_is) (sym e ∙ p.serial_is))) ∙ f)))
+      ∙ sym (near_present owner ms q o))
+      (λ g. near_other owner (set ms i m) q g ∙ sym (near_other owner ms q g))
+      ∙ sym (ap (λ b. cond b w (near_value owner ms q)) (not_then (obj_cmp q.object slot.object) (name_cmp q.name slot.name) f)))
+
+  pub near_changed : (owner : ℕ) (ms : List (FinMap name_cmp V)) (far : List (Slot × V)) (slot : Slot) (i : ℕ) (m d : FinMap name_cmp V) (w : Option V) → IsApart owner (length ms) far → place_in owner (length ms) slot.object ≡ Some i
+      → ((n : Name) → map.get m n ≡ cond (eq_by_cmp name_cmp n slot.name) w (map.get (get_or ms i d) n))
+      → (q : Slot) → map.get (table owner (set ms i m) far) q ≡ cond (eq_by_cmp slot_cmp q slot) w (map.get (table owner ms far) q)
+  near_changed owner ms far slot i m d w apart at h q =
+      let p = placed_is owner (length ms) slot.object i at in
+      get_table owner (set ms i m) far q
+      ∙ ap (λ o. option_or o (find slot_cmp q far)) (near_set owner ms slot i m d w p h q)
+      ∙ or_first (eq_by_cmp slot_cmp q slot) w (near_value owner ms q) (find slot_cmp q far)
+      (λ t. ap (λ x. find slot_cmp x far) (key_is slot_exact q slot t) ∙ apart slot (placed_at owner (length ms) slot.object p.owner_is p.below))
+      ∙ sym (ap (cond (eq_by_cmp slot_cmp q slot) w) (get_table owner ms far q))
+
+  -- a far row changes
+  pub far_changed : (owner : ℕ) (ms : List (FinMap name_cmp V)) (far more : List (Slot × V)) (slot : Slot) (w : Option V) → place_in owner (length ms) slot.object ≡ None
+      → ((q : Slot) → find slot_cmp q more ≡ cond (eq_by_cmp slot_cmp q slot) w (find slot_cmp q far))
+      → (q : Slot) → map.get (table owner ms more) q ≡ cond (eq_by_cmp slot_cmp q slot) w (map.get (table owner ms far) q)
+  far_changed owner ms far more slot w none h q =
+      get_table owner ms more q
+      ∙ ap (option_or (near_value owner ms q)) (h q)
+      ∙ or_second (eq_by_cmp slot_cmp q slot) w (near_value owner ms q) (find slot_cmp q far)
+      (λ t. ap (near_value owner ms) (key_is slot_exact q slot t) ∙ near_absent owner ms slot none)
+      ∙ sym (ap (cond (eq_by_cmp slot_cmp q slot) w) (get_table owner ms far q))
+
+  -- the far rows stay apart
+  pub far_apart : (owner n : ℕ) (far more : List (Slot × V)) (slot : Slot) (w : Option V) → place_in owner n slot.object ≡ None → IsApart owner n far
+      → ((q : Slot) → find slot_cmp q more ≡ cond (eq_by_cmp slot_cmp q slot) w (find slot_cmp q far)) → IsApart owner n more
+  far_apart owner n far more slot w none apart h q at =
+      h q
+      ∙ ap (λ b. cond b w (find slot_cmp q far)) (by_bool (eq_by_cmp slot_cmp q slot) (λ t. no_none q.object.serial (sym none ∙ ap (λ (x : Slot). place_in owner n x.object) (sym (key_is slot_exact q slot t)) ∙ at)) (λ f. f))
+      ∙ apart q at
+
+  pub inserted : (old new : FinMap slot_cmp V) (slot : Slot) (v : V) → ((q : Slot) → map.get new q ≡ cond (eq_by_cmp slot_cmp q slot) (Some v) (map.get old q)) → new ≡ map.insert old slot v
+  inserted old new slot v h = map.same_map slot_total slot_exact new (map.insert old slot v) (λ q. h q ∙ sym (map.get-insert slot_total old slot v q))
+
+  pub removed : (old new : FinMap slot_cmp V) (slot : Slot) → ((q : Slot) → map.get new q ≡ cond (eq_by_cmp slot_cmp q slot) None (map.get old q)) → new ≡ map.remove old slot
+  removed old new slot h = map.same_map slot_total slot_exact new (map.remove old slot) (λ q. h q ∙ sym (map.get-remove slot_total old slot q))
+
+  -- objects without rows are added
+  pub bare : (ms : List (FinMap name_cmp V)) (k i : ℕ) (n : Name) → value_in (slice_get (ms ++ replicate k map.empty) i) n ≡ value_in (slice_get ms i) n
+  bare [] zero i n = refl
+  bare [] (suc k) zero n = map.get-empty name_cmp n
+  bare [] (suc k) (suc i) n = bare [] k i n
+  bare (m ∷ ms) k zero n = refl
+  bare (m ∷ ms) k (suc i) n = bare ms k i n
+
+  pub grown : (owner k : ℕ) (ms : List (FinMap name_cmp V)) (far : List (Slot × V)) → table owner (ms ++ replicate k map.empty) far ≡ table owner ms far
+  grown owner k ms far = map.same_map slot_total slot_exact (table owner (ms ++ replicate k map.empty) far) (table owner ms far) (λ q.
+      get_table owner (ms ++ replicate k map.empty) far q
+      ∙ ap (λ v. option_or (cond (q.object.owner == owner) v None) (find slot_cmp q far)) (bare ms k q.object.serial q.name)
+      ∙ sym (get_table owner ms far q))
+
+one_bare : {X : Type 0} (e : X) (k : ℕ) → replicate k e ++ e ∷ [] ≡ replicate (suc k) e
+one_bare e zero = refl
+one_bare e (suc k) = ap (λ rest. e ∷ rest) (one_bare e k)
+
+-- one more of the same after those
+pub more_bare : {X : Type 0} (old now new : List X) (x e : X) → now ≡ old ++ replicate (length now - length old) e → length old ≤ length now → new ≡ now ++ x ∷ [] → x ≡ e → new ≡ old ++ replicate (length new - length old) e
+more_bare old now new x e is l pushed same =
+    let n : length new ≡ length now + 1 = ap length pushed ∙ length-append now (x ∷ []) in
+    let k : suc (length now - length old) ≡ length new - length old = omega (arith, n, l) in
+    pushed ∙ ap (λ y. now ++ y ∷ []) same ∙ ap (λ xs. xs ++ e ∷ []) is ∙ append_assoc old (replicate (length now - length old) e) (e ∷ [])
+    ∙ ap (λ xs. old ++ xs) (one_bare e (length now - length old) ∙ ap (λ m. replicate m e) k)

@@ -1,0 +1,12 @@
+pub mod Basics
+pub mod Lists
+pub mod Seeks
+pub mod Sorted
+pub mod Values
+pub mod Changes
+pub mod Least
+pub mod Walks
+pub mod Between
+pub mod Halves
+pub mod Counts
+pub mod Entries

@@ -1,0 +1,111 @@
+-- Where a key stands in a list in order.
+use Rattle.std.proofs.Common.{◌≡◌, ℕ, suc, ◌+◌, ◌<◌, ◌≤◌, subst, cond, not, T, List, [], ◌∷◌, length, set, get_or, Option, None, Some, Result, Ok, Err, slice_get, refl, ap, sym, ◌∙◌, arith}
+use Rattle.std.specs.declared.cmp.Ordering.{Ordering}
+use Rattle.std.specs.declared.cmp.Ordering.TheVariants.{Less, Equal, Greater}
+use Rattle.std.specs.Ordering.{is_lt, is_le, is_eq}
+use Rattle.std.specs.Cmp.{IsTotalOrder}
+use Rattle.std.specs.FinMap.{IsAntisymmetric}
+use Rattle.std.specs.FinMap.Entries.{put, find, is_sorted, below_all, by_order}
+use Rattle.std.specs.List.{insert, remove}
+use Rattle.std.specs.Map.{lookup_entry}
+use Rattle.std.specs.Borrow.{Bor}
+use Rattle.std.specs.Option.{option_map}
+use Rattle.std.specs.Slice.{IsItemAt}
+use Rattle.std.proofs.lemmas.Option.{slice_get_past, slice_get_read}
+use Rattle.wjs_rows.specs.Order.{is_from, is_after}
+use Rattle.wjs_slots.specs.Lists.{seek, without}
+use Rattle.wjs_slots.proofs.Basics.{by_cmp, left_true, right_true}
+use Rattle.wjs_slots.proofs.Lists.{first_after, none_below, all_without, below_tied, below_less}
+
+-- the key is at n
+pub record IsFoundAt {K V : Type 0} (R : K → K → Ordering) (k : K) (es : List (K × V)) (n : ℕ) : Type 0 where
+  pub below : n < length es
+  pub value : (d : K × V) → find R k es ≡ Some (get_or es n d).1
+  pub puts : (v : V) → set es n (k, v) ≡ put R k v es
+  pub removes : T (is_sorted R es) → remove es n ≡ without R k es
+  pub from : slice_get es n ≡ lookup_entry (is_from R k) es
+  pub after : T (is_sorted R es) → slice_get es (n + 1) ≡ lookup_entry (is_after R k) es
+
+-- the key isn't there, and would be at n
+pub record IsMissedAt {K V : Type 0} (R : K → K → Ordering) (k : K) (es : List (K × V)) (n : ℕ) : Type 0 where
+  pub upto : n ≤ length es
+  pub none : T (is_sorted R es) → find R k es ≡ None
+  pub puts : (v : V) → insert es n (k, v) ≡ put R k v es
+  pub from : slice_get es n ≡ lookup_entry (is_from R k) es
+  pub after : slice_get es n ≡ lookup_entry (is_after R k) es
+
+module _ {K V : Type 0} {R : K → K → Ordering} (total : IsTotalOrder R) (exact : IsAntisymmetric R) (k : K) where
+  next_place : (e : K × V) (es : List (K × V)) (n : ℕ) → slice_get (e ∷ es) (n + 1) ≡ slice_get es n
+  next_place e es n = let s : n + 1 ≡ suc n = omega arith in ap (slice_get (e ∷ es)) s
+
+  found_first : (e : K × V) (es : List (K × V)) → R k e.0 ≡ Equal → IsFoundAt R k (e ∷ es) 0
+  found_first e es o = record {
+    below = omega arith;
+    value = λ d. ap (λ c. cond (is_eq c) (Some e.1) (find R k es)) o;
+    puts = λ v. ap (λ c. (c, v) ∷ es) (exact k e.0 o) ∙ sym (ap (λ c. by_order c ((k, v) ∷ e ∷ es) ((e.0, v) ∷ es) (e ∷ put R k v es)) o);
+    removes = λ s. sym (ap (λ c. cond (not (is_eq c)) (e ∷ without R k es) (without R k es)) o ∙ all_without R k es (below_tied total k e.0 es o (left_true (below_all R e.0 es) (is_sorted R es) s)));
+    from = sym (ap (λ c. cond (is_le c) (Some e) (lookup_entry (is_from R k) es)) o);
+    after = λ s. next_place e es 0 ∙ sym (ap (λ c. cond (is_lt c) (Some e) (lookup_entry (is_after R k) es)) o ∙ first_after R k es (below_tied total k e.0 es o (left_true (below_all R e.0 es) (is_sorted R es) s)));
+  }
+
+  found_later : (e : K × V) (es : List (K × V)) (n : ℕ) → R k e.0 ≡ Greater → IsFoundAt R k es n → IsFoundAt R k (e ∷ es) (suc n)
+  found_later e es n o f = record {
+    below = let b = f.below in omega arith;
+    value = λ d. ap (λ c. cond (is_eq c) (Some e.1) (find R k es)) o ∙ f.value d;
+    puts = λ v. ap (λ rest. e ∷ rest) (f.puts v) ∙ sym (ap (λ c. by_order c ((k, v) ∷ e ∷ es) ((e.0, v) ∷ es) (e ∷ put R k v es)) o);
+    removes = λ s. ap (λ rest. e ∷ rest) (f.removes (right_true (below_all R e.0 es) (is_sorted R es) s)) ∙ sym (ap (λ c. cond (not (is_eq c)) (e ∷ without R k es) (without R k es)) o);
+    from = f.from ∙ sym (ap (λ c. cond (is_le c) (Some e) (lookup_entry (is_from R k) es)) o);
+    after = λ s. next_place e es (suc n) ∙ ap (slice_get es) (let m : suc n ≡ n + 1 = omega arith in m) ∙ f.after (right_true (below_all R e.0 es) (is_sorted R es) s) ∙ sym (ap (λ c. cond (is_lt c) (Some e) (lookup_entry (is_after R k) es)) o);
+  }
+
+  missed_first : (e : K × V) (es : List (K × V)) → R k e.0 ≡ Less → IsMissedAt R k (e ∷ es) 0
+  missed_first e es o = record {
+    upto = omega arith;
+    none = λ s. ap (λ c. cond (is_eq c) (Some e.1) (find R k es)) o ∙ none_below R k es (below_less total k e.0 es o (left_true (below_all R e.0 es) (is_sorted R es) s));
+    puts = λ v. sym (ap (λ c. by_order c ((k, v) ∷ e ∷ es) ((e.0, v) ∷ es) (e ∷ put R k v es)) o);
+    from = sym (ap (λ c. cond (is_le c) (Some e) (lookup_entry (is_from R k) es)) o);
+    after = sym (ap (λ c. cond (is_lt c) (Some e) (lookup_entry (is_after R k) es)) o);
+  }
+
+  missed_later : (e : K × V) (es : List (K × V)) (n : ℕ) → R k e.0 ≡ Greater → IsMissedAt R k es n → IsMissedAt R k (e ∷ es) (suc n)
+  missed_later e es n o f = record {
+    upto = let b = f.upto in omega arith;
+    none = λ s. ap (λ c. cond (is_eq c) (Some e.1) (find R k es)) o ∙ f.none (right_true (below_all R e.0 es) (is_sorted R es) s);
+    puts = λ v. ap (λ rest. e ∷ rest) (f.puts v) ∙ sym (ap (λ c. by_order c ((k, v) ∷ e ∷ es) ((e.0, v) ∷ es) (e ∷ put R k v es)) o);
+    from = f.from ∙ sym (ap (λ c. cond (is_le c) (Some e) (lookup_entry (is_from R k) es)) o);
+    after = f.after ∙ sym (ap (λ c. cond (is_lt c) (Some e) (lookup_entry (is_after R k) es)) o);
+  }
+
+  missed_empty : IsMissedAt {V = V} R k [] 0
+  missed_empty = record { upto = omega arith; none = λ s. refl; puts = λ v. refl; from = refl; after = refl }
+
+  found_on : (i m : ℕ) (es : List (K × V)) → seek R k i es ≡ Ok m → (n : ℕ) × (m ≡ i + n) × IsFoundAt R k es n
+  found_on i m [] h = cc
+  found_on i m (e ∷ es) h = by_cmp (R k e.0)
+      (λ o. let is : ◌≡◌ {A = Result ℕ ℕ} (Err i) (Ok m) = sym (ap (λ c. by_order c (Err i) (Ok i) (seek R k (i + 1) es)) o) ∙ h in cc)
+      (λ o. let is : ◌≡◌ {A = Result ℕ ℕ} (Ok i) (Ok m) = sym (ap (λ c. by_order c (Err i) (Ok i) (seek R k (i + 1) es)) o) ∙ h in let j : i ≡ m = cc in (0, omega arith, found_first e es o))
+      (λ o. let r = found_on (i + 1) m es (sym (ap (λ c. by_order c (Err i) (Ok i) (seek R k (i + 1) es)) o) ∙ h) in let j = r.1 in (suc r.0, omega arith, found_later e es r.0 o r.2))
+
+  missed_on : (i m : ℕ) (es : List (K × V)) → seek R k i es ≡ Err m → (n : ℕ) × (m ≡ i + n) × IsMissedAt R k es n
+  missed_on i m [] h = let j : i ≡ m = cc in (0, omega arith, missed_empty)
+  missed_on i m (e ∷ es) h = by_cmp (R k e.0)
+      (λ o. let is : ◌≡◌ {A = Result ℕ ℕ} (Err i) (Err m) = sym (ap (λ c. by_order c (Err i) (Ok i) (seek R k (i + 1) es)) o) ∙ h in let j : i ≡ m = cc in (0, omega arith, missed_first e es o))
+      (λ o. let is : ◌≡◌ {A = Result ℕ ℕ} (Ok i) (Err m) = sym (ap (λ c. by_order c (Err i) (Ok i) (seek R k (i + 1) es)) o) ∙ h in cc)
+      (λ o. let r = missed_on (i + 1) m es (sym (ap (λ c. by_order c (Err i) (Ok i) (seek R k (i + 1) es)) o) ∙ h) in let j = r.1 in (suc r.0, omega arith, missed_later e es r.0 o r.2))
+
+  pub found_at : (n : ℕ) (es : List (K × V)) → Ok n ≡ seek R k 0 es → IsFoundAt R k es n
+  found_at n es h =
+      let r = found_on 0 n es (sym h) in
+      let e : r.0 ≡ n = let j = r.1 in omega arith in
+      subst (IsFoundAt R k es) e r.2
+
+  pub missed_at : (n : ℕ) (es : List (K × V)) → Err n ≡ seek R k 0 es → IsMissedAt R k es n
+  missed_at n es h =
+      let r = missed_on 0 n es (sym h) in
+      let e : r.0 ≡ n = let j = r.1 in omega arith in
+      subst (IsMissedAt R k es) e r.2
+
+-- what `get` of a slice lends
+pub got_at : {X : Type 0} (xs : List X) (i : ℕ) (r : Option (Bor X)) → IsItemAt xs i r → option_map (λ x. x.now) r ≡ slice_get xs i
+got_at xs i None h = sym (slice_get_past xs i h.3)
+got_at xs i (Some x) h = sym (slice_get_read xs (length xs) i x.now refl h.3.0 h.1)

@@ -1,0 +1,17 @@
+use Rattle.std.proofs.Common.{◌∙◌, ap, sym, is_some}
+use Rattle.std.specs.FinMap as map
+use Rattle.wjs_base.specs.Order.{name_cmp, name_total, name_exact}
+use Rattle.wjs_slots.specs.Kept.{rows_of}
+use Rattle.wjs_slots.proofs.Sorted.{sorted_without, remove_sorted}
+use Rattle.wjs_slots.proofs.names.Names.remove.Goals as goal
+
+pub invariant_of-self : goal.invariant_of-self
+invariant_of-self g c = sorted_without name_total (rows_of c.self.inside.kept) (rows_of c.remove.new.self) c.args.name c.self.invariant c.remove.ensures.removed
+
+pub returns-clause-removed : goal.returns-clause-removed
+returns-clause-removed g c =
+    remove_sorted name_total name_exact (rows_of c.self.inside.kept) (rows_of c.remove.new.self) c.args.name c.self.invariant c.remove.ensures.removed
+    ∙ ap (λ m. map.remove m c.args.name) c.self.view_is
+
+pub returns-clause-found : goal.returns-clause-found
+returns-clause-found g c = c.remove.ensures.found ∙ ap is_some (sym (map.get-from_sorted name_cmp (rows_of c.self.inside.kept) c.args.name c.self.invariant) ∙ ap (λ m. map.get m c.args.name) c.self.view_is)

@@ -1,0 +1,5 @@
+pub mod Codes
+pub mod Lists
+pub mod Kept
+pub mod Near
+pub mod Least

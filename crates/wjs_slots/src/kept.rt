@@ -1,0 +1,120 @@
+//! The rows of one object, in a list or a tree.
+ghost use Rattle.std.specs.Prelude.{◌≡◌, not, is_some, OnOk, OnErr, IfOk, IfSome};
+ghost use Rattle.std.specs.FinMap.Entries.{put, find};
+ghost use Rattle.std.specs.Map.{lookup_entry};
+ghost use Rattle.wjs_base.specs.Order.{name_cmp};
+ghost use Rattle.wjs_rows.specs.Order.{is_from, is_after};
+ghost use Rattle.wjs_slots.specs.Lists.{IsInOrder, without};
+
+use crate::{few, tree};
+use std::alloc::Global;
+use std::collections::BTreeMap;
+use wjs_base::{Name, OutOfMemory};
+
+/// How many rows a list has at most: past that, to find one and to make room takes a tree.
+const LONGEST_LIST: usize = 16;
+
+/// Rows in the order of their names.
+#[derive(Drop)]
+pub(crate) enum Kept<V> {
+    Few(Vec<(Name, V)>),
+    Many(BTreeMap<Name, V>),
+}
+
+impl<V: Copy> Kept<V> {
+    ghost use Rattle.wjs_slots.specs.Kept.{rows_of};
+
+    /// The value at a name.
+    pub(crate) fn get(&self, name: Name) -> Option<V>
+        requires { IsInOrder name_cmp (rows_of self.now) }
+        ensures { result ≡ find name_cmp name (rows_of self.now) }
+    {
+        match self {
+            Kept::Few(few) => few::get(few, name),
+            Kept::Many(many) => tree::get(many, &name),
+        }
+    }
+
+    /// Puts a value at a name, and says whether the name is new. After a refusal all is as it was.
+    pub(crate) fn set(&mut self, name: Name, value: V, alloc: Global) -> Result<bool, OutOfMemory>
+        requires { IsInOrder name_cmp (rows_of self.old) }
+        ensures ok { OnOk result (rows_of self.new ≡ put name_cmp name value (rows_of self.old)) }
+        ensures added { IfOk result (λ added. added ≡ not (is_some (find name_cmp name (rows_of self.old)))) }
+        ensures err { OnErr result (rows_of self.new ≡ rows_of self.old) }
+    {
+        if self.make_room(alloc).is_err() {
+            return Err(OutOfMemory);
+        }
+        match self {
+            Kept::Few(few) => few::set(few, name, value),
+            Kept::Many(many) => tree::set(many, name, value),
+        }
+    }
+
+    /// Takes the row at a name out, and says whether there was one.
+    pub(crate) fn remove(&mut self, name: Name) -> bool
+        requires { IsInOrder name_cmp (rows_of self.old) }
+        ensures removed { rows_of self.new ≡ without name_cmp name (rows_of self.old) }
+        ensures found { result ≡ is_some (find name_cmp name (rows_of self.old)) }
+    {
+        match self {
+            Kept::Few(few) => few::remove(few, name),
+            Kept::Many(many) => tree::remove(many, &name),
+        }
+    }
+
+    /// The first row at or after a name.
+    pub(crate) fn next_from(&self, name: Name) -> Option<(Name, V)>
+        ensures { result ≡ lookup_entry (is_from name_cmp name) (rows_of self.now) }
+    {
+        match self {
+            Kept::Few(few) => few::next_from(few, name),
+            Kept::Many(many) => tree::next_from(many, &name),
+        }
+    }
+
+    /// The first row after a name.
+    pub(crate) fn next_after(&self, name: Name) -> Option<(Name, V)>
+        requires { IsInOrder name_cmp (rows_of self.now) }
+        ensures { result ≡ lookup_entry (is_after name_cmp name) (rows_of self.now) }
+    {
+        match self {
+            Kept::Few(few) => few::next_after(few, name),
+            Kept::Many(many) => tree::next_after(many, &name),
+        }
+    }
+
+    /// Moves the rows into a tree where their list is full.
+    fn make_room(&mut self, alloc: Global) -> Result<(), OutOfMemory>
+        requires { IsInOrder name_cmp (rows_of self.old) }
+        ensures { rows_of self.new ≡ rows_of self.old }
+    {
+        match self.outgrown(alloc) {
+            Ok(Some(many)) => {
+                *self = Kept::Many(many);
+                Ok(())
+            }
+            Ok(None) => Ok(()),
+            Err(_) => Err(OutOfMemory),
+        }
+    }
+
+    /// The rows as a tree, where their list is full.
+    fn outgrown(&self, alloc: Global) -> Result<Option<BTreeMap<Name, V>>, OutOfMemory>
+        requires { IsInOrder name_cmp (rows_of self.now) }
+        ensures { IfOk result (λ tree. IfSome tree (λ many. many.entries ≡ rows_of self.now)) }
+    {
+        match self {
+            Kept::Few(few) => {
+                if few.len() < LONGEST_LIST {
+                    return Ok(None);
+                }
+                match few::to_tree(few, alloc) {
+                    Ok(many) => Ok(Some(many)),
+                    Err(_) => Err(OutOfMemory),
+                }
+            }
+            Kept::Many(_) => Ok(None),
+        }
+    }
+}

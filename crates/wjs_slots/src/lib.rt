@@ -1,0 +1,12 @@
+//! Rows by slot, which the number of a slot's object finds at once.
+#![tactic(auto)]
+
+mod few;
+mod kept;
+mod names;
+mod near;
+mod parts;
+mod table;
+mod tree;
+
+pub use table::{Table, least_slot};
