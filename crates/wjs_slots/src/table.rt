@@ -15,8 +15,9 @@ use wjs_rows::Steps;
 
 /// Rows by slot, seen as a finite map.
 ///
-/// The rows of objects that one owner numbers 0, 1, 2, .. are found by that number. A call takes
-/// memory in proportion to its rows and to that count, never to a serial number.
+/// The rows of objects that one owner numbers 0, 1, 2, .. are found by that number. The memory goes
+/// with the rows, and with that count as far as rows come without a gap of 64 objects: a table whose
+/// objects have great numbers stays small.
 #[derive(Drop)]
 pub struct Table<V> {
     parts: Parts<V>,
