@@ -1,4 +1,4 @@
--- Code points, and their bytes and units (The Unicode Standard, chapter 3: UTF-16 is definition D91, UTF-8 is D92).
+-- Code points, and their bytes and units (The Unicode Standard, section 3.9, Unicode Encoding Forms: UTF-16 and UTF-8).
 use Rattle.std.specs.Prelude.{◌≡◌, ℕ, ◌+◌, ◌<◌, List, map, length, Bool, true, ◌&&◌, if◌then◌else◌, nat_le, nat_lt, slice_index, All}
 use Rattle.std.specs.Char.Escape.{encode_utf16}
 use Rattle.std.specs.Char.Utf16.{is_high_surrogate, is_low_surrogate, utf16_lossy_chars}
