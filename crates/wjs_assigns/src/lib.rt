@@ -12,5 +12,5 @@ mod starts;
 mod typeofs;
 mod updates;
 
-pub use resumes::operator_given;
+pub use resumes::{operator_given, operator_value};
 pub use starts::operator_start;

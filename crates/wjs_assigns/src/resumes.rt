@@ -96,8 +96,10 @@ fn target_given<S: WorldStore>(
     }
 }
 
-/// With a value.
-fn operator_value<S: WorldStore>(
+/// What it does with a value, as `operator_given`: to be called at once where a value is at hand, which most completions are, so
+/// that no completion is made of it.
+#[inline(always)]
+pub fn operator_value<S: WorldStore>(
     config: &mut Config<S>,
     frame: Frame,
     value: Value,

@@ -24,7 +24,10 @@ pub fn step_call<S: WorldStore>(config: &mut Config<S>) -> Result<(), OutOfMemor
     match take_top(config) {
         Top::Stops => Ok(()),
         Top::Begins(frame) => begin(config, frame),
-        Top::Given(frame, completion) => resume(config, frame, completion),
+        Top::Given(frame) => {
+            let completion = frame.completion();
+            resume(config, frame, completion)
+        }
     }
 }
 

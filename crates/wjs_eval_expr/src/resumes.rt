@@ -2,7 +2,9 @@
 ghost use Rattle.std.specs.Prelude.{◌≡◌, true, OnOk};
 ghost use Rattle.wjs_meaning.specs.Reading.{node_in};
 ghost use Rattle.wjs_model.specs.Contents.{completion_in, holding_in};
-ghost use Rattle.wjs_model.specs.Soundness.{Base, IsThere, HasCompletion};
+ghost use Rattle.wjs_content.specs.Tables.{value_in};
+ghost use Rattle.wjs_meaning.specs.Deeds.{Gives};
+ghost use Rattle.wjs_model.specs.Soundness.{Base, IsThere, HasCompletion, HasValue};
 ghost use Rattle.wjs_moves.specs.Following.{Follows};
 ghost use Rattle.wjs_moves.specs.Parts.{env_in, node_now};
 ghost use Rattle.wjs_members.specs.Taking.{taken, takes_from};
@@ -12,13 +14,40 @@ use crate::arrays::array_given;
 use crate::calls::call_given;
 use crate::news::new_given;
 use crate::objects::object_given;
-use wjs_assigns::operator_given;
-use wjs_base::OutOfMemory;
+use wjs_assigns::{operator_given, operator_value};
+use wjs_base::{OutOfMemory, Value};
 use wjs_members::{at_given, dot_given};
 use wjs_model::{Completion, Config, Form, Frame, State};
 use wjs_moves::node_of;
 use wjs_store::WorldStore;
 use wjs_tree::Node;
+
+/// A value is given, as most completions are: operators, which are most of what waits, take it as it is.
+#[inline(always)]
+pub(crate) fn value_given<S: WorldStore>(
+    config: &mut Config<S>,
+    frame: Frame,
+    value: Value,
+) -> Result<(), OutOfMemory>
+    requires running { config.old.state ≡ State.Running }
+    requires base { Base S.meaning config.old }
+    requires there { IsThere S.meaning config.old frame }
+    requires form { takes_from frame.form ≡ true }
+    requires value { HasValue config.old value }
+    ensures { let t = config.new.heap.texts in let env = env_in S.meaning config.old t frame in OnOk result (Follows S.meaning (after_member (node_in t (node_now S.meaning config.old frame)) frame.place (holding_in t frame.held) env (taken frame.form env) (Gives (value_in t value))) config.old config.new) }
+{
+    match node_of(config, &frame) {
+        Some(
+            Node::Binary(_, _, _)
+            | Node::Assign(_, _, _)
+            | Node::Postfix(_, _)
+            | Node::Prefix(_, _)
+            | Node::Cond(_, _, _)
+            | Node::Comma(_, _),
+        ) => operator_value(config, as_expression(frame), value),
+        _ => member_given(config, frame, Completion::Gives(value)),
+    }
+}
 
 /// A member goes on as an expression or as a target. Every other form goes on in the same way as either.
 pub(crate) fn member_given<S: WorldStore>(

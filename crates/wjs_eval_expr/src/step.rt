@@ -7,7 +7,7 @@ ghost use Rattle.wjs_moves.specs.Parts.{env_in, begins_at, then_at};
 ghost use Rattle.wjs_moves.specs.Following.{Follows};
 ghost use Rattle.wjs_moves.specs.Taking.{Turns};
 
-use crate::resumes::member_given;
+use crate::resumes::{member_given, value_given};
 use crate::starts::expr_begin;
 use wjs_base::OutOfMemory;
 use wjs_members::target_start;
@@ -24,7 +24,10 @@ pub fn step_expr<S: WorldStore>(config: &mut Config<S>) -> Result<(), OutOfMemor
     match take_top(config) {
         Top::Stops => Ok(()),
         Top::Begins(frame) => begin(config, frame),
-        Top::Given(frame, completion) => resume(config, frame, completion),
+        Top::Given(frame) => {
+            let completion = frame.completion();
+            resume(config, frame, completion)
+        }
     }
 }
 
@@ -55,5 +58,8 @@ fn resume<S: WorldStore>(
     requires turn { turn_of_form frame.form ≡ Turn.Expr }
     ensures { let t = config.new.heap.texts in OnOk result (Follows S.meaning (then_at S.meaning config.old frame frame.place t (env_in S.meaning config.old t frame) (completion_in t completion)) config.old config.new) }
 {
-    member_given(config, frame, completion)
+    match completion {
+        Completion::Gives(value) => value_given(config, frame, value),
+        _ => member_given(config, frame, completion),
+    }
 }

@@ -20,6 +20,9 @@ pub fn step_stmt<S: WorldStore>(config: &mut Config<S>) -> Result<(), OutOfMemor
     match take_top(config) {
         Top::Stops => Ok(()),
         Top::Begins(frame) => begin(config, frame),
-        Top::Given(frame, completion) => resume(config, frame, completion),
+        Top::Given(frame) => {
+            let completion = frame.completion();
+            resume(config, frame, completion)
+        }
     }
 }

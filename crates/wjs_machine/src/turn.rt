@@ -20,6 +20,7 @@ use wjs_store::WorldStore;
 /// Takes one turn, and writes pieces of exactly 4,096 bytes until fewer are pending.
 ///
 /// SinkFailed comes only where the sink's count of faults rose in this call. After a halt the configuration isn't used again.
+#[inline(always)]
 pub fn advance<S: WorldStore, O: Sink>(config: &mut Config<S>, out: &mut O) -> Result<(), Halt>
     requires plain { IsPlain S.meaning }
     requires running { config.old.state ≡ State.Running }
@@ -39,6 +40,7 @@ pub fn advance<S: WorldStore, O: Sink>(config: &mut Config<S>, out: &mut O) -> R
 }
 
 /// The turn of the frame that runs.
+#[inline(always)]
 fn step<S: WorldStore>(config: &mut Config<S>) -> Result<(), OutOfMemory>
     requires running { config.old.state ≡ State.Running }
     requires sound { Sound S.meaning config.old }

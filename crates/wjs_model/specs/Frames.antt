@@ -12,6 +12,12 @@ front [] = []
 front (x ∷ []) = []
 front (x ∷ y ∷ xs) = x ∷ front (y ∷ xs)
 
+-- the last is changed
+abbrev pub on_last : {A : Type 0} → (A → A) → List A → List A
+on_last g [] = []
+on_last g (x ∷ []) = g x ∷ []
+on_last g (x ∷ y ∷ xs) = x ∷ on_last g (y ∷ xs)
+
 -- the last is taken off; none exactly of the empty list
 abbrev pub Pops : {A : Type 0} → List A → Option A → List A → Type 0
 Pops old None new = (old ≡ []) × (new ≡ [])

@@ -1,8 +1,8 @@
 //! What a configuration has still to do, a frame for each node that is being run.
 
-ghost use Rattle.std.specs.Prelude.{◌≡◌, ◌++◌, ◌∷◌, [], IfOk, OnOk, OnErr, option_map};
-ghost use Rattle.wjs_model.specs.Begun.{begun_at};
-ghost use Rattle.wjs_model.specs.Frames.{last, Pops, Uncovers};
+ghost use Rattle.std.specs.Prelude.{◌≡◌, ◌++◌, ◌∷◌, [], IfOk, OnOk, OnErr, is_some, option_map};
+ghost use Rattle.wjs_model.specs.Begun.{begun_at, given_of};
+ghost use Rattle.wjs_model.specs.Frames.{last, on_last, Pops, Uncovers};
 
 use std::alloc::Global;
 use std::marker::Model;
@@ -222,6 +222,17 @@ impl Frame {
         self.at.phase
     }
 
+    /// The completion that it goes on with: the one that it was given, else a normal one.
+    #[inline(always)]
+    pub fn completion(&self) -> Completion
+        ensures { result ≡ given_of self.now.phase }
+    {
+        match self.at.phase {
+            Phase::Given(completion) => completion,
+            _ => Completion::Normal,
+        }
+    }
+
     pub fn scope(&self) -> ObjId
         ensures { result ≡ self.now.scope }
     {
@@ -376,6 +387,7 @@ impl Frames {
     }
 
     /// Puts a frame on top; after a refusal the frames are as they were.
+    #[inline(always)]
     pub fn push(&mut self, frame: Frame) -> Result<(), OutOfMemory>
         ensures ok { OnOk result (self.new ≡ self.old ++ frame ∷ []) }
         ensures err { OnErr result (self.new ≡ self.old) }
@@ -387,24 +399,36 @@ impl Frames {
     }
 
     /// The frame on top, which is taken off; None exactly where there is no frame.
+    #[inline(always)]
     pub fn pop(&mut self) -> Option<Frame>
         ensures { Pops self.old result self.new }
     {
         self.list.pop()
     }
 
-    /// The frame on top, which is taken off, where another frame has ended; None exactly where there is no frame.
-    pub fn pop_after(&mut self, ended: Frame) -> Option<Frame>
-        ensures { Pops self.old result self.new }
+    /// Another frame has ended, and the frame on top goes on with its completion; false exactly where there is no frame.
+    #[inline(always)]
+    pub fn give(&mut self, ended: Frame, completion: Completion) -> bool
+        ensures given { self.new ≡ on_last (λ f. record f { phase = Phase.Given completion }) self.old }
+        ensures any { result ≡ is_some (last self.old) }
+    {
+        self.keep(ended);
+        give_last(self.list.as_mut_slice(), completion)
+    }
+
+    /// Keeps a frame that has ended, where few are kept.
+    #[inline(always)]
+    fn keep(&mut self, ended: Frame)
+        ensures { self.new ≡ self.old }
     {
         if self.spare.len() < MOST_SPARE {
             let _ = self.spare.push(ended);
         }
-        self.list.pop()
     }
 
     /// Puts a frame on top, and one more above it, which begins, with a step due, at a place of a node that it runs as a form,
     /// around the same.
+    #[inline(always)]
     pub fn push_begun(
         &mut self,
         frame: Frame,
@@ -420,6 +444,7 @@ impl Frames {
     }
 
     /// A frame that begins around the same as another.
+    #[inline(always)]
     fn begun(
         &mut self,
         at: &Frame,
@@ -444,6 +469,7 @@ impl Frames {
     }
 
     /// When the frame that runs goes on; None exactly where there is no frame.
+    #[inline(always)]
     pub fn phase(&self) -> Option<Phase>
         ensures { result ≡ option_map (λ f. f.phase) (last self.now) }
     {
@@ -451,6 +477,7 @@ impl Frames {
     }
 
     /// What the frame that runs runs; None exactly where there is no frame.
+    #[inline(always)]
     pub fn form(&self) -> Option<Form>
         ensures { result ≡ option_map (λ f. f.form) (last self.now) }
     {
@@ -459,6 +486,7 @@ impl Frames {
 }
 
 /// A frame in the place of one that has ended.
+#[inline(always)]
 fn renewed(frame: Frame, at: &Frame, form: Form, node: NodeId, place: u32) -> Frame
     ensures { result ≡ begun_at at.now form node place }
 {
@@ -492,7 +520,23 @@ fn begun(
     Frame::new(alloc, activation)
 }
 
+/// The last frame goes on with a completion; false exactly where there is no frame.
+#[inline(always)]
+fn give_last(frames: &mut [Frame], completion: Completion) -> bool
+    ensures given { frames.new ≡ on_last (λ f. record f { phase = Phase.Given completion }) frames.old }
+    ensures any { result ≡ is_some (last frames.old) }
+{
+    let count = frames.len();
+    if count == 0 {
+        return false;
+    }
+    let below = &mut frames[count - 1];
+    below.set_phase(Phase::Given(completion));
+    true
+}
+
 /// What the last frame runs.
+#[inline(always)]
 fn form_of(frames: &[Frame]) -> Option<Form>
     ensures { result ≡ option_map (λ f. f.form) (last frames.now) }
 {
@@ -503,6 +547,7 @@ fn form_of(frames: &[Frame]) -> Option<Form>
 }
 
 /// When the last frame goes on.
+#[inline(always)]
 fn phase_of(frames: &[Frame]) -> Option<Phase>
     ensures { result ≡ option_map (λ f. f.phase) (last frames.now) }
 {

@@ -1,6 +1,6 @@
 -- What the moves follow, and that they leave a sound configuration.
-use Rattle.std.proofs.Common.{◌≡◌, ℕ, ◌+◌, ◌≤◌, false, List, [], ◌∷◌, ◌++◌, refl, sym, ◌∙◌, subst, arith}
-use Rattle.std.specs.Prelude.{All, Result, OnOk, Ok, Err}
+use Rattle.std.proofs.Common.{◌≡◌, ℕ, ◌+◌, ◌≤◌, false, List, [], ◌∷◌, ◌++◌, refl, sym, ap, ◌∙◌, subst, true, arith}
+use Rattle.std.specs.Prelude.{All, is_some, Result, OnOk, Ok, Err}
 use Rattle.std.proofs.lemmas.List.Elements.{All-nil, All-push, All-same}
 use Rattle.wjs_base.specs.declared.ids.OutOfMemory.{OutOfMemory}
 use Rattle.wjs_base.specs.Text.{Table}
@@ -15,6 +15,8 @@ use Rattle.wjs_model.specs.declared.frame.Phase.TheVariants as phases
 use Rattle.wjs_model.specs.declared.frame.Activation.{Activation as Frame}
 use Rattle.wjs_model.specs.declared.frame.Form.{Form}
 use Rattle.wjs_model.specs.declared.frame.Held.{Held}
+use Rattle.wjs_model.specs.Frames.{last, on_last}
+use Rattle.wjs_model.proofs.Tops.{before-last, on_last-snoc}
 use Rattle.wjs_model.specs.Contents.{begun_held, completion_in, holding_in}
 use Rattle.wjs_model.specs.Rest.{begin_form}
 use Rattle.wjs_meaning.specs.Reading.{node_in}
@@ -147,6 +149,13 @@ module _ {S : Type 0} (meaning : S → Meaning) where
         keeps = keeps_given meaning old.heap.texts c old frames fs f er eo ef;
         sound = sound_push meaning old frames fs _ er b popped.0 (there_at meaning old f f.place (phases.Given c) h popped.1) ef;
       }
+
+  -- so is the last, where there is one
+  pub follows_on_last : (old : Config S) (c : Completion) (frames : List Frame) → old.state ≡ states.Running → Base meaning old → HasCompletion old c → true ≡ is_some (last old.frames) → frames ≡ on_last (λ (f : Frame). record f { phase = phases.Given c }) old.frames
+      → Follows meaning (Ret (completion_in old.heap.texts c)) old (record old { frames = frames })
+  follows_on_last old c frames er b h some ef =
+      let give : Frame → Frame = λ f. record f { phase = phases.Given c } in
+      before-last old.frames _ some (λ fs f eo. follows_given old c frames fs f er b h eo (ef ∙ ap (on_last give) eo ∙ on_last-snoc give fs f))
 
   -- no frame is left
   pub follows_ended : (old : Config S) (c : Completion) (frames : List Frame) (state : State) → Base meaning old → HasCompletion old c → old.frames ≡ [] → frames ≡ [] → state ≡ ended c

@@ -16,9 +16,9 @@ use Rattle.wjs_model.specs.declared.config.State.TheVariants as states
 use Rattle.wjs_model.specs.declared.frame.Phase.{Phase}
 use Rattle.wjs_model.specs.declared.frame.Phase.TheVariants as phases
 use Rattle.wjs_model.specs.declared.frame.Completion.{Completion}
-use Rattle.wjs_model.specs.declared.frame.Completion.TheVariants as completions
 use Rattle.wjs_model.specs.declared.frame.Activation.{Activation as NumberedFrame}
 use Rattle.wjs_model.specs.Frames.{last, front}
+use Rattle.wjs_model.specs.Begun.{given_of}
 use Rattle.wjs_model.proofs.Tops.{last-snoc}
 use Rattle.wjs_model.specs.Contents.{Frame, Run, Moment, frame_in, moment_in, completion_in}
 use Rattle.wjs_model.specs.Rest.{act_at, rest_of, rest_top, turns_of, turns_over, turns_at}
@@ -94,6 +94,12 @@ pub seen_spent : (t : Table) (told : Option (List (PlainAct × PlainReply))) (e 
 seen_spent t None e full arena out = refl
 seen_spent t (Some told) e full arena out = refl
 
+given_there : {S : Type 0} (c : Config S) (p : Phase) → HasPhase c p → HasCompletion c (given_of p)
+given_there c (phases.Given e) h = h
+given_there c phases.Due h = tt
+given_there c phases.Ready h = tt
+given_there c phases.Waiting h = tt
+
 module _ {S : Type 0} (meaning : S → Meaning) where
   stays_after : (old later : Config S) (frames : List NumberedFrame) (left : ℕ) → Stays meaning (record old { frames = frames; left = left }) later → Stays meaning old later
   stays_after old later frames left s = record { units = s.units; global = s.global; world = s.world; owner = s.owner; apart = s.apart; texts = s.texts; objects = s.objects; made = s.made; own = s.own; around = s.around; narrows = s.narrows }
@@ -156,15 +162,15 @@ module _ {S : Type 0} (meaning : S → Meaning) where
   pub takes_ready : (old : Config S) (fs : List NumberedFrame) (f : NumberedFrame) → old.state ≡ states.Running → Base meaning old → old.frames ≡ fs ++ f ∷ [] → f.phase ≡ phases.Ready → TakesOff meaning f (begins_at meaning (record old { frames = fs }) f f.place) old (record old { frames = fs })
   takes_ready old fs f er b eo ep = takes_now old fs f _ phases.Ready er b eo ep refl (λ t. begin_then meaning t old f)
 
-  pub takes_given : (old : Config S) (fs : List NumberedFrame) (f : NumberedFrame) (c : Completion) → old.state ≡ states.Running → Base meaning old → old.frames ≡ fs ++ f ∷ [] → f.phase ≡ phases.Given c → TakesOff meaning f (λ t env. then_at meaning (record old { frames = fs }) f f.place t env (completion_in t c)) old (record old { frames = fs })
-  takes_given old fs f c er b eo ep = takes_now old fs f _ (phases.Given c) er b eo ep refl (λ t. ap (λ (go : Said → Act). go (completion_in t c)) (given_then meaning t old f f.place))
+  pub takes_given : (old : Config S) (fs : List NumberedFrame) (f : NumberedFrame) (c : Completion) → old.state ≡ states.Running → Base meaning old → old.frames ≡ fs ++ f ∷ [] → f.phase ≡ phases.Given c → TakesOff meaning f (λ t env. then_at meaning (record old { frames = fs }) f f.place t env (completion_in t (given_of f.phase))) old (record old { frames = fs })
+  takes_given old fs f c er b eo ep = takes_now old fs f _ (phases.Given c) er b eo ep refl (λ t. ap (λ (go : Said → Act). go (completion_in t c)) (given_then meaning t old f f.place) ∙ ap (λ (p : Phase). then_at meaning old f f.place t (env_in meaning old t f) (completion_in t (given_of p))) (sym ep))
 
-  -- the completion that it was given is there
-  pub has_given : (old : Config S) (fs : List NumberedFrame) (f : NumberedFrame) (c : Completion) → Base meaning old → old.frames ≡ fs ++ f ∷ [] → f.phase ≡ phases.Given c → HasCompletion (record old { frames = fs }) c
-  has_given old fs f c b eo ep = subst (λ p. HasPhase (record old { frames = fs }) p) ep (there_pop meaning old fs f eo b).1.phase
+  -- the completion that it goes on with is there
+  pub has_given : (old : Config S) (fs : List NumberedFrame) (f : NumberedFrame) → Base meaning old → old.frames ≡ fs ++ f ∷ [] → HasCompletion (record old { frames = fs }) (given_of f.phase)
+  has_given old fs f b eo = given_there (record old { frames = fs }) f.phase (there_pop meaning old fs f eo b).1.phase
 
-  pub takes_waiting : (old : Config S) (fs : List NumberedFrame) (f : NumberedFrame) → old.state ≡ states.Running → Base meaning old → old.frames ≡ fs ++ f ∷ [] → f.phase ≡ phases.Waiting → TakesOff meaning f (λ t env. then_at meaning (record old { frames = fs }) f f.place t env (completion_in t completions.Normal)) old (record old { frames = fs })
-  takes_waiting old fs f er b eo ep = takes_now old fs f _ phases.Waiting er b eo ep refl (λ t. ap (λ (go : Said → Act). go Normal) (given_then meaning t old f f.place))
+  pub takes_waiting : (old : Config S) (fs : List NumberedFrame) (f : NumberedFrame) → old.state ≡ states.Running → Base meaning old → old.frames ≡ fs ++ f ∷ [] → f.phase ≡ phases.Waiting → TakesOff meaning f (λ t env. then_at meaning (record old { frames = fs }) f f.place t env (completion_in t (given_of f.phase))) old (record old { frames = fs })
+  takes_waiting old fs f er b eo ep = takes_now old fs f _ phases.Waiting er b eo ep refl (λ t. ap (λ (go : Said → Act). go Normal) (given_then meaning t old f f.place) ∙ ap (λ (p : Phase). then_at meaning old f f.place t (env_in meaning old t f) (completion_in t (given_of p))) (sym ep))
 
   -- a frame goes on with its step
   due_turn : (old : Config S) (fs : List NumberedFrame) (f : NumberedFrame) (left : ℕ) → old.state ≡ states.Running → old.frames ≡ fs ++ f ∷ [] → f.phase ≡ phases.Due → old.left ≡ suc left

@@ -10,6 +10,7 @@ use Rattle.wjs_model.specs.declared.frame.Activation.{Activation as Frame}
 use Rattle.wjs_model.specs.declared.frame.Phase.{Phase}
 use Rattle.wjs_model.specs.declared.frame.Phase.TheVariants as phases
 use Rattle.wjs_model.specs.Frames.{last}
+use Rattle.wjs_model.specs.Begun.{given_of}
 use Rattle.wjs_model.specs.Contents.{completion_in}
 use Rattle.wjs_model.specs.Configurations.{Turned}
 use Rattle.wjs_model.specs.Soundness.{HasCompletion, IsThere, Base, Sound}
@@ -41,4 +42,4 @@ module _ {S : Type 0} (meaning : S → Meaning) where
   abbrev pub Takes : Config S → Top → Config S → Type 0
   Takes old top.Stops new = Turns old new
   Takes old (top.Begins f) new = TakesOff f (begins_at meaning new f f.place) old new
-  Takes old (top.Given f c) new = TakesOff f (λ t env. then_at meaning new f f.place t env (completion_in t c)) old new × HasCompletion new c
+  Takes old (top.Given f) new = TakesOff f (λ t env. then_at meaning new f f.place t env (completion_in t (given_of f.phase))) old new × HasCompletion new (given_of f.phase)

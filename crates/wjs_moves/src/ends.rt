@@ -9,10 +9,11 @@ ghost use Rattle.wjs_moves.specs.Parts.{env_in};
 ghost use Rattle.wjs_moves.specs.Following.{Follows};
 
 use wjs_base::OutOfMemory;
-use wjs_model::{Completion, Config, Frame, Phase, State};
+use wjs_model::{Completion, Config, Frame, State};
 use wjs_store::WorldStore;
 
 /// Ends what the frame that was taken off ran: the frame below goes on with the completion, or the run ends with it.
+#[inline(always)]
 pub fn finish<S: WorldStore>(
     config: &mut Config<S>,
     frame: Frame,
@@ -23,18 +24,11 @@ pub fn finish<S: WorldStore>(
     requires completion { HasCompletion config.old completion }
     ensures { let t = config.new.heap.texts in let env = env_in S.meaning config.old t frame in OnOk result (Follows S.meaning (Ret (completion_in t completion)) config.old config.new) }
 {
-    match config.frames.pop_after(frame) {
-        None => {
-            config.state = ended(completion);
-            Ok(())
-        }
-        Some(below) => {
-            let mut below = below;
-            below.set_phase(Phase::Given(completion));
-            config.frames.push(below)?;
-            Ok(())
-        }
+    if config.frames.give(frame, completion) {
+        return Ok(());
     }
+    config.state = ended(completion);
+    Ok(())
 }
 
 /// How a run ends where no frame is left.

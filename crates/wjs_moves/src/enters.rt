@@ -13,6 +13,7 @@ use wjs_model::{Config, Frame, State};
 use wjs_store::WorldStore;
 
 /// The frame waits at a place for a part, which is entered where the frame is run.
+#[inline(always)]
 pub fn enter<S: WorldStore>(
     config: &mut Config<S>,
     frame: Frame,
@@ -33,6 +34,7 @@ pub fn enter<S: WorldStore>(
 }
 
 /// A part is entered in the place of the frame that was taken off.
+#[inline(always)]
 pub fn enter_last<S: WorldStore>(
     config: &mut Config<S>,
     frame: Frame,

@@ -4,7 +4,7 @@ ghost use Rattle.wjs_model.specs.Frames.{last};
 ghost use Rattle.wjs_model.specs.Soundness.{Sound};
 ghost use Rattle.wjs_moves.specs.Taking.{Takes, is_due};
 
-use wjs_model::{Completion, Config, Frame, Phase, State};
+use wjs_model::{Config, Frame, Phase, State};
 use wjs_store::WorldStore;
 
 /// What a turn finds on top.
@@ -14,11 +14,12 @@ pub enum Top {
     Stops,
     /// The frame begins, at its place; the step that was due is taken.
     Begins(Frame),
-    /// The frame goes on with the completion that it waited for.
-    Given(Frame, Completion),
+    /// The frame goes on with the completion that it waited for, which it tells.
+    Given(Frame),
 }
 
 /// Takes the frame that runs off, with its step where one is due. Without a step left it only says so: nothing else changes.
+#[inline(always)]
 pub fn take_top<S: WorldStore>(config: &mut Config<S>) -> Top
     requires running { config.old.state ≡ State.Running }
     requires sound { Sound S.meaning config.old }
@@ -32,6 +33,7 @@ pub fn take_top<S: WorldStore>(config: &mut Config<S>) -> Top
 }
 
 /// Takes a frame whose step is due.
+#[inline(always)]
 fn take_due<S: WorldStore>(config: &mut Config<S>) -> Top
     requires running { config.old.state ≡ State.Running }
     requires sound { Sound S.meaning config.old }
@@ -50,6 +52,7 @@ fn take_due<S: WorldStore>(config: &mut Config<S>) -> Top
 }
 
 /// Takes a frame that needs no step; without a frame the run ends.
+#[inline(always)]
 fn take_now<S: WorldStore>(config: &mut Config<S>) -> Top
     requires running { config.old.state ≡ State.Running }
     requires sound { Sound S.meaning config.old }
@@ -62,8 +65,8 @@ fn take_now<S: WorldStore>(config: &mut Config<S>) -> Top
             Top::Stops
         }
         Some(frame) => match frame.phase() {
-            Phase::Given(completion) => Top::Given(frame, completion),
-            Phase::Waiting => Top::Given(frame, Completion::Normal),
+            Phase::Given(_) => Top::Given(frame),
+            Phase::Waiting => Top::Given(frame),
             Phase::Ready => Top::Begins(frame),
             Phase::Due => Top::Begins(frame),
         },
@@ -71,6 +74,7 @@ fn take_now<S: WorldStore>(config: &mut Config<S>) -> Top
 }
 
 /// Whether a step is due.
+#[inline(always)]
 fn is_due(phase: Option<Phase>) -> bool
     ensures { result ≡ is_due phase }
 {

@@ -26,7 +26,10 @@ pub fn step_core<S: WorldStore>(config: &mut Config<S>) -> Result<(), OutOfMemor
     match take_top(config) {
         Top::Stops => Ok(()),
         Top::Begins(frame) => begin_core(config, frame),
-        Top::Given(frame, completion) => resume_core(config, frame, completion),
+        Top::Given(frame) => {
+            let completion = frame.completion();
+            resume_core(config, frame, completion)
+        }
     }
 }
 

@@ -26,7 +26,10 @@ pub fn step_text<S: WorldStore>(config: &mut Config<S>) -> Result<(), OutOfMemor
     match take_top(config) {
         Top::Stops => Ok(()),
         Top::Begins(frame) => begin_text(config, frame),
-        Top::Given(frame, completion) => resume_text(config, frame, completion),
+        Top::Given(frame) => {
+            let completion = frame.completion();
+            resume_text(config, frame, completion)
+        }
     }
 }
 

@@ -1,7 +1,10 @@
 use Rattle.std.proofs.Common.{sym, subst}
 use Rattle.std.specs.Prelude.{OnOk}
 use Rattle.wjs_meaning.specs.Reading.{node_in}
+use Rattle.wjs_model.specs.declared.frame.Completion.{Completion}
 use Rattle.wjs_model.specs.declared.frame.Form.{Form}
+use Rattle.wjs_model.specs.declared.frame.Form.TheVariants as form
+use Rattle.wjs_model.specs.Begun.{given_of}
 use Rattle.wjs_model.specs.Contents.{completion_in, holding_in}
 use Rattle.wjs_model.specs.Rest.{begin_form}
 use Rattle.wjs_model.specs.Waiting.{after}
@@ -33,5 +36,6 @@ returns-in-Given g c =
     let takes = c.in-Given.ensures.0 in
     let t = new.heap.texts in
     let env = env_in meaning mid t f in
-    let P : Form → Type 0 = λ x. OnOk c.resume.result (Follows meaning (after (node_in t (node_now meaning mid f)) x f.node.0 f.place (holding_in t f.held) env (completion_in t c.in-Given.completion)) mid new) in
-    takes.by new c.resume.result (subst P (sym (top_is old.state old.frames f c.requires.turn takes.taken)) c.resume.ensures)
+    let P : Form → Completion → Type 0 = λ x e. OnOk c.resume.result (Follows meaning (after (node_in t (node_now meaning mid f)) x f.node.0 f.place (holding_in t f.held) env (completion_in t e)) mid new) in
+    let given = subst (λ e. P form.Stmt e) c.completion.ensures c.resume.ensures in
+    takes.by new c.resume.result (subst (λ x. P x (given_of f.phase)) (sym (top_is old.state old.frames f c.requires.turn takes.taken)) given)

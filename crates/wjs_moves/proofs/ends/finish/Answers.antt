@@ -1,14 +1,16 @@
-use Rattle.std.proofs.Common.{subst}
-use Rattle.wjs_model.specs.Frames.{Pops}
-use Rattle.wjs_moves.proofs.Frames.{put_on}
-use Rattle.wjs_moves.proofs.Moving.{follows_given, follows_ended}
+use Rattle.std.proofs.Common.{[], ap, sym, ◌∙◌}
+use Rattle.wjs_model.specs.Frames.{on_last}
+use Rattle.wjs_model.specs.declared.frame.Activation.{Activation as Frame}
+use Rattle.wjs_model.specs.declared.frame.Phase.TheVariants as phases
+use Rattle.wjs_model.proofs.Tops.{none-last}
+use Rattle.wjs_moves.proofs.Moving.{follows_on_last, follows_ended}
 use Rattle.wjs_moves.proofs.ends.finish.Goals as goal
 
-pub returns-in-None : goal.returns-in-None
-returns-in-None g c =
-    let none = subst (λ r. Pops c.args.config.now.frames r c.pop_after.new.self) c.in-None.is c.pop_after.ensures in
-    follows_ended g.S.WorldStore.meaning c.args.config.now c.args.completion c.pop_after.new.self c.ended-config.result c.requires.base c.requires.completion none.0 none.1 c.ended-config.ensures
+pub returns-then-give : goal.returns-then-give
+returns-then-give g c = follows_on_last g.S.WorldStore.meaning c.args.config.now c.args.completion c.give.new.self c.requires.running c.requires.base c.requires.completion (sym c.if-give.true ∙ c.give.ensures.any) c.give.ensures.given
 
-pub returns-in_ok-push-in-Some : goal.returns-in_ok-push-in-Some
-returns-in_ok-push-in-Some g c =
-    follows_given g.S.WorldStore.meaning c.args.config.now c.args.completion c.push.new.self c.pop_after.new.self c.in-Some.below c.requires.running c.requires.base c.requires.completion (subst (λ r. Pops c.args.config.now.frames r c.pop_after.new.self) c.in-Some.is c.pop_after.ensures) (put_on _ _ _ _ c.in_ok-push-in-Some.ensures.ok c.set_phase.ensures)
+pub returns : goal.returns
+returns g c =
+    let give : Frame → Frame = λ f. record f { phase = phases.Given c.args.completion } in
+    let none = none-last c.args.config.now.frames (sym c.if-give.false ∙ c.give.ensures.any) in
+    follows_ended g.S.WorldStore.meaning c.args.config.now c.args.completion c.give.new.self c.ended-config.result c.requires.base c.requires.completion none (c.give.ensures.given ∙ ap (on_last give) none) c.ended-config.ensures

@@ -12,12 +12,17 @@ pub returns-in-Given : goal.returns-in-Given
 returns-in-Given g c =
     let old = c.args.config.now in
     let eo = subst (λ r. Pops old.frames r c.pop.new.self) c.in-Some.is c.pop.ensures in (
-      takes_given g.S.WorldStore.meaning old c.pop.new.self c.in-Some.frame c.in-Given.completion c.requires.running c.requires.sound.base eo (sym c.phase.ensures ∙ c.in-Given.is),
-      has_given g.S.WorldStore.meaning old c.pop.new.self c.in-Some.frame c.in-Given.completion c.requires.sound.base eo (sym c.phase.ensures ∙ c.in-Given.is),
+      takes_given g.S.WorldStore.meaning old c.pop.new.self c.in-Some.frame c.in-Given.field-0 c.requires.running c.requires.sound.base eo (sym c.phase.ensures ∙ c.in-Given.is),
+      has_given g.S.WorldStore.meaning old c.pop.new.self c.in-Some.frame c.requires.sound.base eo,
     )
 
 pub returns-in-Waiting : goal.returns-in-Waiting
-returns-in-Waiting g c = (takes_waiting g.S.WorldStore.meaning c.args.config.now c.pop.new.self c.in-Some.frame c.requires.running c.requires.sound.base (subst (λ r. Pops c.args.config.now.frames r c.pop.new.self) c.in-Some.is c.pop.ensures) (sym c.phase.ensures ∙ c.in-Waiting.is), tt)
+returns-in-Waiting g c =
+    let old = c.args.config.now in
+    let eo = subst (λ r. Pops old.frames r c.pop.new.self) c.in-Some.is c.pop.ensures in (
+      takes_waiting g.S.WorldStore.meaning old c.pop.new.self c.in-Some.frame c.requires.running c.requires.sound.base eo (sym c.phase.ensures ∙ c.in-Waiting.is),
+      has_given g.S.WorldStore.meaning old c.pop.new.self c.in-Some.frame c.requires.sound.base eo,
+    )
 
 pub returns-in-Ready : goal.returns-in-Ready
 returns-in-Ready g c = takes_ready g.S.WorldStore.meaning c.args.config.now c.pop.new.self c.in-Some.frame c.requires.running c.requires.sound.base (subst (λ r. Pops c.args.config.now.frames r c.pop.new.self) c.in-Some.is c.pop.ensures) (sym c.phase.ensures ∙ c.in-Ready.is)
