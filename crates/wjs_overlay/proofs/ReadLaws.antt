@@ -16,7 +16,7 @@ use Rattle.wjs_store.proofs.Marks.{marks_read, marks_at}
 use Rattle.wjs_overlay.specs.declared.maps.Row.{Row}
 use Rattle.wjs_overlay.specs.declared.layer.Spot.{Spot}
 use Rattle.wjs_overlay.specs.declared.layer.Layer.{Layer}
-use Rattle.wjs_overlay.specs.declared.layer.Look.TheVariants.{Kept, Closed, Untouched, Nowhere}
+use Rattle.wjs_overlay.specs.declared.layer.Look.TheVariants.{Closed, Untouched, Nowhere}
 use Rattle.wjs_overlay.specs.Look.{Looked}
 use Rattle.wjs_overlay.specs.Sparse.{mark_of, full_of, Keeps, IsSparse, IsAt, StandFor}
 use Rattle.wjs_overlay.proofs.Full.{untouched, row_some, row_none, closed_same, by_option}
@@ -63,7 +63,7 @@ module _ (layers : List Layer) (h : IsSparse layers) (at : Spot) (here : IsAt la
   has_parent a e = ap is_some (parent_is layers h at here r s a e)
 
   -- a slot with a row is recorded already, or the world has no parent
-  pub read_kept : (row : Row) → Looked r q (Kept row) → StandFor layers (after_read (full_of layers) at.world q)
+  pub read_kept : (row : Row) → map.get r.rows q ≡ Some row → StandFor layers (after_read (full_of layers) at.world q)
   read_kept row e =
       let x = (world_at layers h at here r s).0 in
       read_stays (by_option r.above

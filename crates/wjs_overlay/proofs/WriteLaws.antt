@@ -22,7 +22,7 @@ use Rattle.wjs_store.proofs.Commits.{local_find}
 use Rattle.wjs_overlay.specs.declared.maps.Row.{Row}
 use Rattle.wjs_overlay.specs.declared.layer.Spot.{Spot}
 use Rattle.wjs_overlay.specs.declared.layer.Layer.{Layer}
-use Rattle.wjs_overlay.specs.declared.layer.Look.TheVariants.{Kept, Closed, Untouched, Nowhere}
+use Rattle.wjs_overlay.specs.declared.layer.Look.TheVariants.{Closed, Untouched, Nowhere}
 use Rattle.wjs_overlay.specs.Look.{Looked, Puts, read_after, first_row_of}
 use Rattle.wjs_overlay.specs.Sparse.{now_of, read_of, mark_of, full_of, Keeps, IsSparse, IsAt, StandFor}
 use Rattle.wjs_overlay.proofs.Places.{some_is, no_none, find_top, find_rest}
@@ -199,7 +199,7 @@ module _ (layers : List Layer) (h : IsSparse layers) (at : Spot) (here : IsAt la
   open_first : read_after x q ≡ cond (not (has_row x q) && (map.contains_key x.closed q.object || x.strict)) (Some (map.get x.copy q)) (map.get x.first q)
   open_first = ap (λ b. cond (b && (not (has_row x q) && (map.contains_key x.closed q.object || x.strict))) (Some (map.get x.copy q)) (map.get x.first q)) parent_x
 
-  pub before_kept : (row : Row) → Looked r q (Kept row) → option_map content_of row.read ≡ read_after x q
+  pub before_kept : (row : Row) → map.get r.rows q ≡ Some row → option_map content_of row.read ≡ read_after x q
   before_kept row e = sym (open_first ∙ ap (λ b. cond (not b && (map.contains_key x.closed q.object || x.strict)) (Some (map.get x.copy q)) (map.get x.first q)) (row_some r x kept_x q row up e) ∙ kept_x.first q ∙ ap (option_and_then read_of) e)
 
   bare_first : map.get r.rows q ≡ None → (b : Bool) → map.contains_key r.closed q.object ≡ b → read_after x q ≡ cond (b || r.strict) (Some (map.get x.copy q)) None

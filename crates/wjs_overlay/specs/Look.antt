@@ -18,7 +18,7 @@ use Rattle.wjs_overlay.specs.declared.layer.Look.{Look}
 use Rattle.wjs_overlay.specs.declared.layer.Look.TheVariants.{Kept, Closed, Untouched, Nowhere}
 
 abbrev pub Looked : Layer → Slot → Look → Type 0
-Looked r s (Kept row) = map.get r.rows s ≡ Some row
+Looked r s (Kept row) = map.get r.rows s ≡ Some row.now
 Looked r s Closed = (map.get r.rows s ≡ None) × (map.contains_key r.closed s.object ≡ true)
 Looked r s (Untouched above) = (map.get r.rows s ≡ None) × (map.contains_key r.closed s.object ≡ false) × (r.above ≡ Some above)
 Looked r s Nowhere = (map.get r.rows s ≡ None) × (map.contains_key r.closed s.object ≡ false) × (r.above ≡ None)

@@ -40,10 +40,9 @@ pub struct Layer {
 }
 
 /// What a world itself says of a slot.
-#[derive(Clone, Copy, Debug, PartialEq, Eq)]
-pub enum Look {
+pub enum Look<'a> {
     /// It has a row.
-    Kept(Row),
+    Kept(&'a Row),
     /// It has no row, and the object is listed there.
     Closed,
     /// It is untouched: it holds what the parent holds.
@@ -52,7 +51,7 @@ pub enum Look {
     Nowhere,
 }
 
-pub fn look_at<L: Ledger>(layer: &Layer, slot: Slot, steps: &mut Steps<L>) -> Look
+pub fn look_at<'a, L: Ledger>(layer: &'a Layer, slot: Slot, steps: &mut Steps<L>) -> Look<'a>
     ensures seen { Looked layer.now slot result }
     ensures steps { steps.new ≤ steps.old + 2 }
 {

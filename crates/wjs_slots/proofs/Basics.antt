@@ -2,7 +2,7 @@
 use Rattle.std.proofs.Common.{◌≡◌, Bool, true, false, ◌&&◌, T, Option, None, Some, Result, Ok, Err, OnOk, OnErr, IfOk, refl, ap, sym, ◌∙◌}
 use Rattle.std.specs.declared.cmp.Ordering.{Ordering}
 use Rattle.std.specs.declared.cmp.Ordering.TheVariants.{Less, Equal, Greater}
-use Rattle.std.specs.Ordering.{is_lt, is_eq, ordering_reverse, eq_by_cmp}
+use Rattle.std.specs.Ordering.{is_lt, is_gt, is_eq, ordering_reverse, eq_by_cmp}
 use Rattle.std.specs.Cmp.{IsTotalOrder, tied_itself}
 use Rattle.std.specs.FinMap.{IsAntisymmetric}
 use Rattle.std.specs.Option.{option_or}
@@ -56,6 +56,17 @@ pub equal_is : (o : Ordering) → is_eq o ≡ true → o ≡ Equal
 equal_is Less h = absurd (false≢true h)
 equal_is Equal h = refl
 equal_is Greater h = absurd (false≢true h)
+
+pub greater_is : (o : Ordering) → is_gt o ≡ true → o ≡ Greater
+greater_is Less h = absurd (false≢true h)
+greater_is Equal h = absurd (false≢true h)
+greater_is Greater h = refl
+
+-- neither greater nor equal
+pub less_left : (o : Ordering) → is_gt o ≡ false → is_eq o ≡ false → o ≡ Less
+less_left Less h k = refl
+less_left Equal h k = absurd (false≢true (sym k))
+less_left Greater h k = absurd (false≢true (sym h))
 
 pub or_none : {A : Type 0} (o : Option A) → option_or o None ≡ o
 or_none None = refl

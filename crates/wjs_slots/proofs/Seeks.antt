@@ -1,8 +1,8 @@
 -- Where a key stands in a list in order.
-use Rattle.std.proofs.Common.{◌≡◌, ℕ, suc, ◌+◌, ◌<◌, ◌≤◌, subst, cond, not, T, List, [], ◌∷◌, length, set, get_or, Option, None, Some, Result, Ok, Err, slice_get, refl, ap, sym, ◌∙◌, arith}
+use Rattle.std.proofs.Common.{◌≡◌, ℕ, suc, ◌+◌, ◌<◌, ◌≤◌, zero, drop, subst, cond, false, not, T, List, [], ◌∷◌, length, set, get_or, Option, None, Some, Result, Ok, Err, slice_get, refl, ap, sym, ◌∙◌, arith}
 use Rattle.std.specs.declared.cmp.Ordering.{Ordering}
 use Rattle.std.specs.declared.cmp.Ordering.TheVariants.{Less, Equal, Greater}
-use Rattle.std.specs.Ordering.{is_lt, is_le, is_eq}
+use Rattle.std.specs.Ordering.{is_lt, is_le, is_gt, is_eq, ordering_reverse}
 use Rattle.std.specs.Cmp.{IsTotalOrder}
 use Rattle.std.specs.FinMap.{IsAntisymmetric}
 use Rattle.std.specs.FinMap.Entries.{put, find, is_sorted, below_all, by_order}
@@ -14,7 +14,7 @@ use Rattle.std.specs.Slice.{IsItemAt}
 use Rattle.std.proofs.lemmas.Option.{slice_get_past, slice_get_read}
 use Rattle.wjs_rows.specs.Order.{is_from, is_after}
 use Rattle.wjs_slots.specs.Lists.{seek, without}
-use Rattle.wjs_slots.proofs.Basics.{by_cmp, left_true, right_true}
+use Rattle.wjs_slots.proofs.Basics.{by_bool, by_cmp, less_left, left_true, right_true, T_true, less_is}
 use Rattle.wjs_slots.proofs.Lists.{first_after, none_below, all_without, below_tied, below_less}
 
 -- the key is at n
@@ -104,6 +104,60 @@ module _ {K V : Type 0} {R : K → K → Ordering} (total : IsTotalOrder R) (exa
       let r = missed_on 0 n es (sym h) in
       let e : r.0 ≡ n = let j = r.1 in omega arith in
       subst (IsMissedAt R k es) e r.2
+
+-- ---- a list in order, sought from an entry
+
+module _ {K : Type 0} {R : K → K → Ordering} (total : IsTotalOrder R) where
+  reversed : (x y : K) → R x y ≡ Less → R y x ≡ Greater
+  reversed x y h = total.antisymm y x ∙ ap ordering_reverse h
+
+less_read : {K V : Type 0} (R : K → K → Ordering) (x : K) (es : List (K × V)) (n : ℕ) (d : K × V) → T (below_all R x es) → n < length es → R x (get_or es n d).0 ≡ Less
+less_read R x [] n d h l = absurd (omega arith)
+less_read R x (e ∷ es) zero d h l = less_is (R x e.0) (T_true (is_lt (R x e.0)) (left_true (is_lt (R x e.0)) (below_all R x es) h))
+less_read R x (e ∷ es) (suc n) d h l = less_read R x es n d (right_true (is_lt (R x e.0)) (below_all R x es) h) (omega arith)
+
+module _ {K V : Type 0} {R : K → K → Ordering} (total : IsTotalOrder R) where
+  -- what is at an entry is past those before it
+  past_tied : (k : K) (e : K × V) (es : List (K × V)) (n : ℕ) (d : K × V) → T (is_sorted R (e ∷ es)) → n < length es → R k (get_or es n d).0 ≡ Equal → R k e.0 ≡ Greater
+  past_tied k e es n d h l o = total.congr k (get_or es n d).0 e.0 o ∙ reversed total e.0 (get_or es n d).0 (less_read R e.0 es n d (left_true (below_all R e.0 es) (is_sorted R es) h) l)
+
+  past_greater : (k : K) (e : K × V) (es : List (K × V)) (n : ℕ) (d : K × V) → T (is_sorted R (e ∷ es)) → n < length es → R k (get_or es n d).0 ≡ Greater → R k e.0 ≡ Greater
+  past_greater k e es n d h l o = reversed total e.0 k (total.trans e.0 (get_or es n d).0 k (less_read R e.0 es n d (left_true (below_all R e.0 es) (is_sorted R es) h) l) (total.antisymm (get_or es n d).0 k ∙ ap ordering_reverse o))
+
+  pub seek_at : (k : K) (i : ℕ) (es : List (K × V)) (n : ℕ) (d : K × V) → T (is_sorted R es) → n < length es → R k (get_or es n d).0 ≡ Equal → seek R k i es ≡ Ok (i + n)
+  seek_at k i [] n d h l o = absurd (omega arith)
+  seek_at k i (e ∷ es) zero d h l o = ap (λ c. by_order c (Err i) (Ok i) (seek R k (i + 1) es)) o ∙ ap Ok (let z : i ≡ i + 0 = omega arith in z)
+  seek_at k i (e ∷ es) (suc n) d h l o =
+      ap (λ c. by_order c (Err i) (Ok i) (seek R k (i + 1) es)) (past_tied k e es n d h (omega arith) o)
+      ∙ seek_at k (i + 1) es n d (right_true (below_all R e.0 es) (is_sorted R es) h) (omega arith) o
+      ∙ ap Ok (let z : i + 1 + n ≡ i + suc n = omega arith in z)
+
+  pub seek_past : (k : K) (i : ℕ) (es : List (K × V)) (n : ℕ) (d : K × V) → T (is_sorted R es) → n < length es → R k (get_or es n d).0 ≡ Greater → seek R k i es ≡ seek R k (i + suc n) (drop (suc n) es)
+  seek_past k i [] n d h l o = absurd (omega arith)
+  seek_past k i (e ∷ es) zero d h l o = ap (λ c. by_order c (Err i) (Ok i) (seek R k (i + 1) es)) o
+  seek_past k i (e ∷ es) (suc n) d h l o =
+      ap (λ c. by_order c (Err i) (Ok i) (seek R k (i + 1) es)) (past_greater k e es n d h (omega arith) o)
+      ∙ seek_past k (i + 1) es n d (right_true (below_all R e.0 es) (is_sorted R es) h) (omega arith) o
+      ∙ ap (λ j. seek R k j (drop (suc n) es)) (let z : i + 1 + suc n ≡ i + suc (suc n) = omega arith in z)
+
+-- a key that isn't there is less than each entry that it isn't greater than
+missing_first : {K V : Type 0} (R : K → K → Ordering) (k : K) (e : K × V) (es : List (K × V)) → find R k (e ∷ es) ≡ None → (is_eq (R k e.0) ≡ false) × (find R k es ≡ None)
+missing_first {V = V} R k e es m = by_bool (is_eq (R k e.0))
+    (λ t. let some : ◌≡◌ {A = Option V} (Some e.1) None = sym (ap (λ b. cond b (Some e.1) (find R k es)) t) ∙ m in cc)
+    (λ t. (t, sym (ap (λ b. cond b (Some e.1) (find R k es)) t) ∙ m))
+
+missing_less : {K V : Type 0} (R : K → K → Ordering) (k : K) (es : List (K × V)) (n : ℕ) (d : K × V) → n < length es → find R k es ≡ None → is_gt (R k (get_or es n d).0) ≡ false → R k (get_or es n d).0 ≡ Less
+missing_less R k [] n d l m h = absurd (omega arith)
+missing_less R k (e ∷ es) zero d l m h = less_left (R k e.0) h (missing_first R k e es m).0
+missing_less R k (e ∷ es) (suc n) d l m h = missing_less R k es n d (omega arith) (missing_first R k e es m).1 h
+
+seek_drop : {K V : Type 0} (R : K → K → Ordering) (k : K) (i : ℕ) (es : List (K × V)) (n : ℕ) (d : K × V) → n < length es → R k (get_or es n d).0 ≡ Less → seek R k i (drop n es) ≡ Err i
+seek_drop R k i [] n d l o = absurd (omega arith)
+seek_drop R k i (e ∷ es) zero d l o = ap (λ c. by_order c (Err i) (Ok i) (seek R k (i + 1) es)) o
+seek_drop R k i (e ∷ es) (suc n) d l o = seek_drop R k i es n d (omega arith) o
+
+pub seek_before : {K V : Type 0} (R : K → K → Ordering) (k : K) (es : List (K × V)) (n : ℕ) (d : K × V) → n < length es → find R k es ≡ None → is_gt (R k (get_or es n d).0) ≡ false → seek R k n (drop n es) ≡ Err n
+seek_before R k es n d l m h = seek_drop R k n es n d l (missing_less R k es n d l m h)
 
 -- what `get` of a slice lends
 pub got_at : {X : Type 0} (xs : List X) (i : ℕ) (r : Option (Bor X)) → IsItemAt xs i r → option_map (λ x. x.now) r ≡ slice_get xs i

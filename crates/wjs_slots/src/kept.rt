@@ -1,5 +1,6 @@
 //! The rows of one object, in a list or a tree.
 ghost use Rattle.std.specs.Prelude.{◌≡◌, not, is_some, OnOk, OnErr, IfOk, IfSome};
+ghost use Rattle.std.specs.Option.{option_copied};
 ghost use Rattle.std.specs.FinMap.Entries.{put, find};
 ghost use Rattle.std.specs.Map.{lookup_entry};
 ghost use Rattle.wjs_base.specs.Order.{name_cmp};
@@ -25,9 +26,8 @@ impl<V: Copy> Kept<V> {
     ghost use Rattle.wjs_slots.specs.Kept.{rows_of};
 
     /// The value at a name.
-    pub(crate) fn get(&self, name: Name) -> Option<V>
-        requires { IsInOrder name_cmp (rows_of self.now) }
-        ensures { result ≡ find name_cmp name (rows_of self.now) }
+    pub(crate) fn get(&self, name: Name) -> Option<&V>
+        ensures { option_copied result ≡ find name_cmp name (rows_of self.now) }
     {
         match self {
             Kept::Few(few) => few::get(few, name),
@@ -65,6 +65,7 @@ impl<V: Copy> Kept<V> {
 
     /// The first row at or after a name.
     pub(crate) fn next_from(&self, name: Name) -> Option<(Name, V)>
+        requires { IsInOrder name_cmp (rows_of self.now) }
         ensures { result ≡ lookup_entry (is_from name_cmp name) (rows_of self.now) }
     {
         match self {

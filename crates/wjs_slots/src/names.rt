@@ -1,5 +1,6 @@
 //! The rows of one object.
 ghost use Rattle.std.specs.Prelude.{◌≡◌, not, OnOk, OnErr, IfOk};
+ghost use Rattle.std.specs.Option.{option_copied};
 ghost use Rattle.std.specs.FinMap as map;
 ghost use Rattle.std.specs.Map.{lookup_entry};
 ghost use Rattle.wjs_base.specs.Order.{name_cmp};
@@ -44,8 +45,8 @@ impl<V: Copy> Names<V> {
     }
 
     /// The value at a name.
-    pub(crate) fn get(&self, name: Name) -> Option<V>
-        ensures { result ≡ map.get self.now name }
+    pub(crate) fn get(&self, name: Name) -> Option<&V>
+        ensures { option_copied result ≡ map.get self.now name }
     {
         self.kept.get(name)
     }

@@ -1,5 +1,6 @@
 //! Rows by slot, in two parts: those of the first objects of one owner, and all others.
 ghost use Rattle.std.specs.Prelude.{◌≡◌, true, false, not, OnOk, OnErr, IfOk, None};
+ghost use Rattle.std.specs.Option.{option_copied};
 ghost use Rattle.std.specs.Ordering.{is_le};
 ghost use Rattle.std.specs.FinMap as map;
 ghost use Rattle.std.specs.FinMap.{find};
@@ -54,8 +55,8 @@ impl<V: Copy> Parts<V> {
     }
 
     /// The value at a slot.
-    pub(crate) fn get(&self, slot: Slot) -> Option<V>
-        ensures { result ≡ map.get self.now slot }
+    pub(crate) fn get(&self, slot: Slot) -> Option<&V>
+        ensures { option_copied result ≡ map.get self.now slot }
     {
         match self.near.place(slot.object) {
             Some(place) => self.near.objects[place].get(slot.name),

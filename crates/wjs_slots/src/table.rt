@@ -1,5 +1,6 @@
 //! Rows by slot, whose calls count their steps.
 ghost use Rattle.std.specs.Prelude.{◌≡◌, ◌+◌, ◌≤◌, length, OnOk, OnErr, IfOk};
+ghost use Rattle.std.specs.Option.{option_copied};
 ghost use Rattle.std.specs.FinMap as map;
 ghost use Rattle.std.specs.Map.{lookup_entry};
 ghost use Rattle.wjs_base.specs.Order.{slot_cmp};
@@ -58,8 +59,8 @@ impl<V: Copy> Table<V> {
     }
 
     /// The value at a slot; None exactly where there is no row.
-    pub fn get<L: Ledger>(&self, slot: Slot, steps: &mut Steps<L>) -> Option<V>
-        ensures row { result ≡ map.get self.now slot }
+    pub fn get<L: Ledger>(&self, slot: Slot, steps: &mut Steps<L>) -> Option<&V>
+        ensures row { option_copied result ≡ map.get self.now slot }
         ensures step { steps.new ≡ steps.old + 1 }
     {
         steps.tick();

@@ -1,5 +1,6 @@
 //! Trees, whose entries contracts see as lists.
 ghost use Rattle.std.specs.Prelude.{◌≡◌, not, is_some, OnOk, OnErr, IfOk};
+ghost use Rattle.std.specs.Option.{option_copied};
 ghost use Rattle.std.specs.FinMap.Entries.{put, find};
 ghost use Rattle.std.specs.Map.{lookup_entry};
 ghost use Rattle.wjs_rows.specs.Order.{is_from, is_after};
@@ -10,10 +11,10 @@ use std::ops::Bound;
 use wjs_base::OutOfMemory;
 
 /// The value at a key.
-pub(crate) fn get<K: Ord, V: Copy>(tree: &BTreeMap<K, V>, key: &K) -> Option<V>
-    ensures { result ≡ find K.cmp key.now tree.now.entries }
+pub(crate) fn get<'a, K: Ord, V: Copy>(tree: &'a BTreeMap<K, V>, key: &K) -> Option<&'a V>
+    ensures { option_copied result ≡ find K.cmp key.now tree.now.entries }
 {
-    tree.get(key).copied()
+    tree.get(key)
 }
 
 /// Puts a value at a key, and says whether the key is new. After a refusal the tree is as it was.

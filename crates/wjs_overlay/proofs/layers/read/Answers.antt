@@ -20,10 +20,10 @@ pub content-found-requires-clause-there : goal.content-found-requires-clause-the
 content-found-requires-clause-there g c = (above_at c.args.layers.now c.requires.sparse c.args.world c.requires.there (get_or c.args.layers.now c.args.world.place c.index-layers-world.result) (slice_get_at c.args.layers.now c.args.world.place c.index-layers-world.result (below_at c.args.layers.now c.args.world c.requires.sparse c.requires.there)) c.in-Untouched.above c.in-Untouched.ensures.seen.2).0
 
 pub returns-in-Kept-clause-found : goal.returns-in-Kept-clause-found
-returns-in-Kept-clause-found g c = sym (content_row c.args.layers.now c.requires.sparse c.args.world c.requires.there (get_or c.args.layers.now c.args.world.place c.index-layers-world.result) (slice_get_at c.args.layers.now c.args.world.place c.index-layers-world.result (below_at c.args.layers.now c.args.world c.requires.sparse c.requires.there)) c.args.slot c.in-Kept.row c.in-Kept.ensures.seen)
+returns-in-Kept-clause-found g c = sym (content_row c.args.layers.now c.requires.sparse c.args.world c.requires.there (get_or c.args.layers.now c.args.world.place c.index-layers-world.result) (slice_get_at c.args.layers.now c.args.world.place c.index-layers-world.result (below_at c.args.layers.now c.args.world c.requires.sparse c.requires.there)) c.args.slot c.in-Kept.row.now c.in-Kept.ensures.seen)
 
 pub returns-in-Kept-clause-after : goal.returns-in-Kept-clause-after
-returns-in-Kept-clause-after g c = read_kept c.args.layers.now c.requires.sparse c.args.world c.requires.there (get_or c.args.layers.now c.args.world.place c.index-layers-world.result) (slice_get_at c.args.layers.now c.args.world.place c.index-layers-world.result (below_at c.args.layers.now c.args.world c.requires.sparse c.requires.there)) c.args.slot c.in-Kept.row c.in-Kept.ensures.seen
+returns-in-Kept-clause-after g c = read_kept c.args.layers.now c.requires.sparse c.args.world c.requires.there (get_or c.args.layers.now c.args.world.place c.index-layers-world.result) (slice_get_at c.args.layers.now c.args.world.place c.index-layers-world.result (below_at c.args.layers.now c.args.world c.requires.sparse c.requires.there)) c.args.slot c.in-Kept.row.now c.in-Kept.ensures.seen
 
 pub returns-in-Closed-clause-found : goal.returns-in-Closed-clause-found
 returns-in-Closed-clause-found g c = sym (content_closed c.args.layers.now c.requires.sparse c.args.world c.requires.there (get_or c.args.layers.now c.args.world.place c.index-layers-world.result) (slice_get_at c.args.layers.now c.args.world.place c.index-layers-world.result (below_at c.args.layers.now c.args.world c.requires.sparse c.requires.there)) c.args.slot c.in-Closed.ensures.seen.0 c.in-Closed.ensures.seen.1)

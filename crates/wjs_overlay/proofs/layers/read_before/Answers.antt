@@ -15,7 +15,7 @@ pub content-requires-clause-there : goal.content-requires-clause-there
 content-requires-clause-there g c = (above_at c.args.layers.now c.requires.sparse c.args.world c.requires.there c.index-layers-world.result (slice_read c.args.layers.now c.args.world.place c.index-layers-world.result c.index-layers-world.is (below_at c.args.layers.now c.args.world c.requires.sparse c.requires.there)) c.in-Untouched.above c.in-Untouched.ensures.seen.2).0
 
 pub returns-in-Kept-clause-read : goal.returns-in-Kept-clause-read
-returns-in-Kept-clause-read g c = λ x f. before_kept c.args.layers.now c.requires.sparse c.args.world c.requires.there c.index-layers-world.result (slice_read c.args.layers.now c.args.world.place c.index-layers-world.result c.index-layers-world.is (below_at c.args.layers.now c.args.world c.requires.sparse c.requires.there)) c.args.slot (subst (λ o. IfSome o (λ (r : Layer). is_some r.above ≡ true)) (slice_read c.args.layers.now c.args.world.place c.index-layers-world.result c.index-layers-world.is (below_at c.args.layers.now c.args.world c.requires.sparse c.requires.there)) c.requires.parent) x f c.in-Kept.row c.in-Kept.ensures.seen
+returns-in-Kept-clause-read g c = λ x f. before_kept c.args.layers.now c.requires.sparse c.args.world c.requires.there c.index-layers-world.result (slice_read c.args.layers.now c.args.world.place c.index-layers-world.result c.index-layers-world.is (below_at c.args.layers.now c.args.world c.requires.sparse c.requires.there)) c.args.slot (subst (λ o. IfSome o (λ (r : Layer). is_some r.above ≡ true)) (slice_read c.args.layers.now c.args.world.place c.index-layers-world.result c.index-layers-world.is (below_at c.args.layers.now c.args.world c.requires.sparse c.requires.there)) c.requires.parent) x f c.in-Kept.row.now c.in-Kept.ensures.seen
 
 pub returns-in-Closed-clause-read : goal.returns-in-Closed-clause-read
 returns-in-Closed-clause-read g c = λ x f. before_closed c.args.layers.now c.requires.sparse c.args.world c.requires.there c.index-layers-world.result (slice_read c.args.layers.now c.args.world.place c.index-layers-world.result c.index-layers-world.is (below_at c.args.layers.now c.args.world c.requires.sparse c.requires.there)) c.args.slot (subst (λ o. IfSome o (λ (r : Layer). is_some r.above ≡ true)) (slice_read c.args.layers.now c.args.world.place c.index-layers-world.result c.index-layers-world.is (below_at c.args.layers.now c.args.world c.requires.sparse c.requires.there)) c.requires.parent) x f c.in-Closed.ensures.seen
