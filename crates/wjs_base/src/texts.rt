@@ -1,5 +1,5 @@
 //! The table of interned texts.
-ghost use Rattle.std.specs.Prelude.{◌≡◌, ◌+◌, ◌<◌, ◌≤◌, ◌↔◌, ◌++◌, [], length, IfOk, OnOk, OnErr, IsErrOf};
+ghost use Rattle.std.specs.Prelude.{◌≡◌, ◌+◌, ◌<◌, ◌≤◌, ◌↔◌, ◌++◌, [], length, IfOk, OnOk, OnErr, IsErrOf, slice_get, Some, true};
 ghost use Rattle.wjs_base.specs.Text.{Denotes, Finds, Grows, Has, Interns, IsTable, IsText, Units, longest};
 
 use crate::ids::{OutOfMemory, TextId};
@@ -10,6 +10,9 @@ use thiserror::Error;
 
 /// The longest text, in code units.
 pub const LONGEST_TEXT: usize = 16_777_216;
+
+/// How many texts that are asked for again can be kept apart.
+const KEPT: usize = 16;
 
 /// Why a text is not interned.
 #[derive(Clone, Copy, Debug, PartialEq, Eq, Error)]
@@ -27,6 +30,8 @@ pub enum TextFault {
 #[derive(Drop)]
 pub struct Texts {
     texts: IndexSet<Vec<u16>>,
+    /// Where `find_again` found the latest text of each of its keys.
+    found: [usize; 16],
 }
 
 impl Model for Texts {
@@ -48,6 +53,7 @@ impl Texts {
     {
         Ok(Texts {
             texts: IndexSet::new(alloc),
+            found: [0; KEPT],
         })
     }
 
@@ -82,6 +88,35 @@ impl Texts {
         match self.texts.get_index_of(units) {
             Some(place) => Some(TextId(place as u64)),
             None => None,
+        }
+    }
+
+    /// What `find` gives. For a text that is looked for again and again it is quicker, where no other text is looked for by the
+    /// same key: a text keeps its number, so the one that was found by the key before is compared with the units first.
+    pub fn find_again(&mut self, key: usize, units: &[u16]) -> Option<TextId>
+        ensures finds { Finds self.old units.now result }
+        ensures same { self.new ≡ self.old }
+    {
+        let key = key % KEPT;
+        let place = self.found[key];
+        if self.stands_at(place, units) {
+            return Some(TextId(place as u64));
+        }
+        let Some(place) = self.texts.get_index_of(units) else {
+            return None;
+        };
+        self.found[key] = place;
+        Some(TextId(place as u64))
+    }
+
+    /// Whether the text of a number is there and has these code units.
+    #[inline(always)]
+    fn stands_at(&self, place: usize, units: &[u16]) -> bool
+        ensures { result ≡ true → slice_get self.now place ≡ Some units.now }
+    {
+        match self.texts.get_index(place) {
+            Some(text) => text.as_slice() == units,
+            None => false,
         }
     }
 
