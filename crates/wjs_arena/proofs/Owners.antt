@@ -1,7 +1,6 @@
 -- The finite map of all objects, by owner and serial.
-use Rattle.std.proofs.Common.{◌≡◌, ◌≢◌, ℕ, zero, suc, ◌+◌, ◌<◌, ◌≤◌, ◌==◌, Bool, true, false, not, cond, List, [], ◌∷◌, ◌++◌, length, Option, None, Some, refl, sym, ap, ◌∙◌, subst, arith, slice_get, IsTrue, ◌↔◌, is_some, eqb-true, eq-eqb, ltb, Result, Ok, Err, OnOk, OnErr, is_err, is_ok}
+use Rattle.std.proofs.Common.{◌≡◌, ℕ, zero, suc, ◌+◌, ◌<◌, ◌==◌, Bool, true, false, not, cond, List, [], ◌∷◌, ◌++◌, length, Option, None, Some, refl, sym, ap, ◌∙◌, subst, arith, slice_get, IsTrue, ◌↔◌, is_some, eqb-true, eq-eqb, ltb, Result, Ok, Err, OnOk, OnErr, is_err, is_ok}
 use Rattle.std.specs.Option.{option_map_or, IsSome}
-use Rattle.std.specs.declared.cmp.Ordering.{Ordering}
 use Rattle.std.specs.Ordering.{nat_cmp, eq_by_cmp}
 use Rattle.std.specs.Cmp.{eq_by_cmp_equiv, unsigned_tied, Equal-is}
 use Rattle.std.proofs.lemmas.Bool.Decides.{nat_tests}
@@ -208,6 +207,61 @@ module _ {V : Type 0} (items : V → List Entry) where
       (λ t.
       left ∙ ap (λ b. slice_get (option_map_or items (cond b (Some rows) (lookup (is_at (nat_cmp id.owner)) m)) []) id.serial) (tied ∙ t)
       ∙ sym (get_objects m id)))
+
+  -- what an owner's list says of its objects
+  pub owned : (xs : List (ℕ × V)) (owner : ℕ) (es : List Entry) → at_owner xs owner ≡ es → (id : ObjId) → id.owner ≡ owner → map.get (objects_in items xs) id ≡ slice_get es id.serial
+  owned xs owner es h id o = get_objects xs id ∙ ap (λ w. slice_get (at_owner xs w) id.serial) o ∙ ap (λ l. slice_get l id.serial) h
+
+  pub counted : (xs : List (ℕ × V)) (owner : ℕ) (es : List Entry) → at_owner xs owner ≡ es → length es ≡ (next_number (objects_in items xs) owner).serial
+  counted xs owner es h = ap length (sym h) ∙ sym (serial_objects xs owner)
+
+  -- the first list is owner 0's
+  at_zero : (first : V) (xs : List (ℕ × V)) (owner : ℕ) (b : Bool) → (owner == 0) ≡ b → lookup (is_at (nat_cmp owner)) ((0, first) ∷ xs) ≡ cond b (Some first) (lookup (is_at (nat_cmp owner)) xs)
+  at_zero first xs owner b e =
+      let tied : is_at (nat_cmp owner) 0 ≡ (owner == 0) = unsigned_tied owner 0 in
+      ap (λ b. cond b (Some first) (lookup (is_at (nat_cmp owner)) xs)) (tied ∙ e)
+
+  apart_from : (a b : ℕ) → (a ≡ b → ⊥) → (a == b) ≡ false
+  apart_from a b h = by_bool (a == b) (λ e. absurd (h (eqb-true a b e))) (λ e. e)
+
+  pub zero_first : (first : V) (xs : List (ℕ × V)) (owner : ℕ) → owner ≡ 0 → lookup (is_at (nat_cmp owner)) ((0, first) ∷ xs) ≡ Some first
+  zero_first first xs owner o = at_zero first xs owner true (eq-eqb owner 0 o)
+
+  pub others_after : (first : V) (xs : List (ℕ × V)) (owner : ℕ) → (owner ≡ 0 → ⊥) → lookup (is_at (nat_cmp owner)) ((0, first) ∷ xs) ≡ lookup (is_at (nat_cmp owner)) xs
+  others_after first xs owner h = at_zero first xs owner false (apart_from owner 0 h)
+
+  -- it is written
+  pub first_written : (first rows : V) (xs : List (ℕ × V)) (owner : ℕ) → owner ≡ 0 → (q : ℕ) → lookup (is_at (nat_cmp q)) ((0, rows) ∷ xs) ≡ cond (is_at (nat_cmp owner) q) (Some rows) (lookup (is_at (nat_cmp q)) ((0, first) ∷ xs))
+  first_written first rows xs owner o q =
+      let tied : is_at (nat_cmp owner) q ≡ (owner == q) = unsigned_tied owner q in
+      by_bool (owner == q)
+      (λ e.
+      let z : q ≡ 0 = sym (eqb-true owner q e) ∙ o in
+      zero_first rows xs q z ∙ sym (ap (λ b. cond b (Some rows) (lookup (is_at (nat_cmp q)) ((0, first) ∷ xs))) (tied ∙ e)))
+      (λ e.
+      let far : q ≡ 0 → ⊥ = λ z. let t : (owner == q) ≡ true = eq-eqb owner q (o ∙ sym z) in cc in
+      others_after rows xs q far ∙ sym (others_after first xs q far) ∙ sym (ap (λ b. cond b (Some rows) (lookup (is_at (nat_cmp q)) ((0, first) ∷ xs))) (tied ∙ e)))
+
+  -- another is written
+  pub other_written : (first rows : V) (m n : List (ℕ × V)) (owner : ℕ) → (owner ≡ 0 → ⊥) → ((q : ℕ) → lookup (is_at (nat_cmp q)) n ≡ cond (is_at (nat_cmp owner) q) (Some rows) (lookup (is_at (nat_cmp q)) m)) → (q : ℕ) → lookup (is_at (nat_cmp q)) ((0, first) ∷ n) ≡ cond (is_at (nat_cmp owner) q) (Some rows) (lookup (is_at (nat_cmp q)) ((0, first) ∷ m))
+  other_written first rows m n owner o h q =
+      let tied : is_at (nat_cmp owner) q ≡ (owner == q) = unsigned_tied owner q in
+      by_bool (q == 0)
+      (λ e.
+      let z : q ≡ 0 = eqb-true q 0 e in
+      let far : (owner == q) ≡ false = apart_from owner q (λ t. o (t ∙ z)) in
+      zero_first first n q z ∙ sym (ap (λ b. cond b (Some rows) (lookup (is_at (nat_cmp q)) ((0, first) ∷ m))) (tied ∙ far) ∙ zero_first first m q z))
+      (λ e.
+      let far : q ≡ 0 → ⊥ = λ z. let t : (q == 0) ≡ true = eq-eqb q 0 z in cc in
+      others_after first n q far ∙ h q ∙ ap (λ r. cond (is_at (nat_cmp owner) q) (Some rows) r) (sym (others_after first m q far)))
+
+  -- of no lists
+  pub nothing : (first : V) (xs : List (ℕ × V)) → items first ≡ [] → xs ≡ [] → objects_in items ((0, first) ∷ xs) ≡ map.empty
+  nothing first xs f e = map.same_map obj_total obj_exact _ _ (λ id.
+      let none : at_owner ((0, first) ∷ xs) id.owner ≡ [] = by_bool (id.owner == 0)
+      (λ t. at_found ((0, first) ∷ xs) id.owner first (zero_first first xs id.owner (eqb-true id.owner 0 t)) ∙ f)
+      (λ t. at_missing ((0, first) ∷ xs) id.owner (at_zero first xs id.owner false t ∙ ap (λ l. lookup (is_at (nat_cmp id.owner)) l) e)) in
+      get_objects ((0, first) ∷ xs) id ∙ ap (λ l. slice_get l id.serial) none ∙ sym (map.get-empty obj_cmp id))
 
 -- ---- answers
 

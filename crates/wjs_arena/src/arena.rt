@@ -88,6 +88,7 @@ impl Arena {
     }
 
     /// The object of a number that is there.
+    #[inline(always)]
     pub fn object(&self, id: ObjId) -> &Object
         requires { IsTrue (has self.now id) }
         ensures object { IfSome (map.get self.now id) (λ entry. result.now ≡ entry.object) }
@@ -97,6 +98,7 @@ impl Arena {
     }
 
     /// The value of a fixed property, which no world changes; None exactly where the object has none of this name.
+    #[inline(always)]
     pub fn fixed(&self, id: ObjId, name: Name) -> Option<Value>
         requires { IsTrue (has self.now id) }
         ensures fixed { result ≡ fixed self.now id name }

@@ -1,5 +1,5 @@
 //! Objects by number: for each owner those that it has, by serial.
-ghost use Rattle.std.specs.Prelude.{◌≡◌, ◌<◌, ◌↔◌, ◌++◌, ◌∷◌, [], OnOk, OnErr, IsTrue};
+ghost use Rattle.std.specs.Prelude.{◌≡◌, ◌<◌, ◌↔◌, ◌++◌, ◌∷◌, [], OnOk, OnErr, IsTrue, Some, length, slice_get};
 ghost use Rattle.std.specs.FinMap as map;
 ghost use Rattle.wjs_base.specs.declared.ids.ObjId.{ObjId};
 ghost use Rattle.wjs_arena.specs.Entries.{has, next_number};
@@ -12,9 +12,12 @@ use std::marker::Model;
 use wjs_base::{ObjId, OutOfMemory};
 
 /// The objects of each owner. Contracts see the finite map of all of them.
+///
+/// Those of owner 0, which has every object of a program that runs alone, are found with no search among the owners.
 #[derive(Drop)]
 pub struct Rows {
     alloc: Global,
+    first: Vec<Entry>,
     owners: BTreeMap<u32, Vec<Entry>>,
 }
 
@@ -23,12 +26,13 @@ impl Model for Rows {
     ghost use Rattle.wjs_arena.specs.Entries.{Objects};
     ghost use Rattle.wjs_arena.specs.Codes.{coded_object, coded_entry};
     ghost use Rattle.wjs_arena.specs.Rows.{objects_in};
+    ghost use Rattle.std.specs.Prelude.{◌∷◌};
 
     ghost Value = { Objects };
 
     ghost coded = { map.code coded_object coded_entry };
 
-    ghost view = { λ r. objects_in (λ rows. rows.items) r.owners.entries };
+    ghost view = { λ r. objects_in (λ rows. rows.items) ((0, r.first) ∷ r.owners.entries) };
 }
 
 impl Rows {
@@ -38,6 +42,7 @@ impl Rows {
     {
         Rows {
             alloc,
+            first: Vec::new(alloc),
             owners: BTreeMap::new(alloc),
         }
     }
@@ -46,32 +51,43 @@ impl Rows {
         self.alloc
     }
 
+    /// The objects of an owner, by serial.
+    #[inline(always)]
+    fn list(&self, owner: u32) -> &[Entry]
+        ensures objects { (id : ObjId) → id.owner ≡ owner → map.get self.now id ≡ slice_get result.now id.serial }
+        ensures count { length result.now ≡ (next_number self.now owner).serial }
+        ensures serials { (id : ObjId) → IsTrue (has self.now id) ↔ (id.serial < (next_number self.now id.owner).serial) }
+    {
+        if owner == 0 {
+            return self.first.as_slice();
+        }
+        match self.owners.get(&owner) {
+            Some(rows) => rows.as_slice(),
+            None => &[],
+        }
+    }
+
     /// How many objects an owner has: their serials go from 0 on.
     pub fn len(&self, owner: u32) -> u64
         ensures count { result ≡ (next_number self.now owner).serial }
         ensures serials { (id : ObjId) → IsTrue (has self.now id) ↔ (id.serial < (next_number self.now id.owner).serial) }
     {
-        match self.owners.get(&owner) {
-            Some(rows) => rows.len() as u64,
-            None => 0,
-        }
+        self.list(owner).len() as u64
     }
 
     pub fn has(&self, id: ObjId) -> bool
         ensures { result ≡ has self.now id }
     {
-        match self.owners.get(&id.owner) {
-            Some(rows) => id.serial < rows.len() as u64,
-            None => false,
-        }
+        id.serial < self.list(id.owner).len() as u64
     }
 
     /// The object of a number that is there.
+    #[inline(always)]
     pub fn at(&self, id: ObjId) -> &Entry
         requires { IsTrue (has self.now id) }
         ensures { map.get self.now id ≡ Some result.now }
     {
-        &self.owners[&id.owner][id.serial as usize]
+        &self.list(id.owner)[id.serial as usize]
     }
 
     /// Puts an owner's next object; after a refusal nothing has changed.
@@ -80,6 +96,9 @@ impl Rows {
         ensures err { OnErr result (self.new ≡ self.old) }
         ensures serials { (id : ObjId) → IsTrue (has self.new id) ↔ (id.serial < (next_number self.new id.owner).serial) }
     {
+        if owner == 0 {
+            return push_last(&mut self.first, entry);
+        }
         match self.owners.get_mut(&owner) {
             Some(rows) => push_last(rows, entry),
             None => push_first(self.alloc, &mut self.owners, owner, entry),
