@@ -1,9 +1,14 @@
 -- A walk over statements, of which some are still to visit.
-use Rattle.std.specs.Prelude.{ℕ, zero, suc, ◌+◌, List, [], ◌∷◌, ◌++◌, map as each}
+use Rattle.std.specs.Prelude.{ℕ, zero, suc, ◌+◌, List, [], ◌∷◌, ◌++◌, Option, None, Some, map as each}
 use Rattle.wjs_base.specs.declared.ids.TextId.{TextId}
 use Rattle.wjs_tree.specs.declared.node.NodeId.{NodeId}
 use Rattle.wjs_tree.specs.declared.node.Node.{Node}
 use Rattle.wjs_declared.specs.Names.{node_at, own_names, parts_of, names_to}
+
+-- a list with one more in front of it, if there is one
+abbrev pub with_next : {A : Type 0} → Option A → List A → List A
+with_next None xs = xs
+with_next (Some x) xs = x ∷ xs
 
 -- statements to a depth
 abbrev pub parts_below : ℕ → List NodeId → List (NodeId × ℕ)

@@ -107,28 +107,30 @@ fn variables_of(
     ensures { IfOk result (λ list. list ≡ variables_among unit.now.program.nodes elements.now) }
 {
     let mut names = Names::new(alloc);
+    let mut todo = Todo::new(alloc);
     for element in elements {
-        add_variables(alloc, unit, *element, &mut names)?;
+        add_variables(unit, *element, &mut names, &mut todo)?;
     }
     names.to_sequence(alloc)
 }
 
 /// Adds the names of a statement's `var`s.
 fn add_variables(
-    alloc: Global,
     unit: &Unit,
     element: NodeId,
     names: &mut Names,
+    todo: &mut Todo,
 ) -> Result<(), OutOfMemory>
-    ensures { OnOk result (names.new ≡ with_names names.old (var_names unit.now.program.nodes element)) }
+    requires { todo.old ≡ [] }
+    ensures names { OnOk result (names.new ≡ with_names names.old (var_names unit.now.program.nodes element)) }
+    ensures todo { OnOk result (todo.new ≡ []) }
 {
     let Some(depth) = element.0.checked_add(1) else {
         return Err(OutOfMemory);
     };
-    let mut todo = Todo::new(alloc);
     todo.push(element, depth)?;
     'walk: while let Some((id, depth)) = todo.pop() {
-        visit(unit, id, depth, names, &mut todo)?;
+        visit(unit, id, depth, names, todo)?;
     }
     Ok(())
 }
