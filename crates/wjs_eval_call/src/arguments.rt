@@ -32,15 +32,27 @@ use wjs_tree::NodeId;
 /// The greatest array index (section 15.4).
 const GREATEST_INDEX: usize = 4_294_967_294;
 
+/// An Arguments object, and the names of two of its slots.
+#[derive(Clone, Copy)]
+struct Arguments {
+    object: ObjId,
+    callee: Name,
+    length: Name,
+}
+
 /// Makes an Arguments object of the values of a call.
 fn create_arguments<S: WorldStore>(
     config: &mut Config<S>,
     values: &[Value],
-) -> Result<ObjId, OutOfMemory>
+) -> Result<Arguments, OutOfMemory>
     requires base { Base S.meaning config.old }
-    ensures does { IfOk result (λ o. Does S.meaning (λ t go. Do (Create config.old.owner (line.arguments_object (map (value_in t) values.now))) go) (λ t. o) config.old config.new) }
+    ensures does { IfOk result (λ made. Does S.meaning (λ t go. Do (Create config.old.owner (line.arguments_object (map (value_in t) values.now))) go) (λ t. made.object) config.old config.new) }
     ensures later { OnOk result (Later S.meaning config.old config.new) }
-    ensures found { IfOk result (λ o. HasObject config.new o) }
+    ensures found { IfOk result (λ made. HasObject config.new made.object) }
+    ensures callee { IfOk result (λ made. HasName config.new made.callee) }
+    ensures length { IfOk result (λ made. HasName config.new made.length) }
+    ensures callee_text { IfOk result (λ made. (t : Table) → Grows config.new.heap.texts t → name_in t made.callee ≡ callee_name) }
+    ensures length_text { IfOk result (λ made. (t : Table) → Grows config.new.heap.texts t → name_in t made.length ≡ length_name) }
 {
     let names = arguments_names(config)?;
     let alloc = config.heap.arena.allocator();
@@ -48,7 +60,12 @@ fn create_arguments<S: WorldStore>(
     let prototype = builtin(config, 0);
     let mut object = object_of(alloc, Class::Arguments, Some(prototype));
     object.flags = flags;
-    create(config, object)
+    let id = create(config, object)?;
+    Ok(Arguments {
+        object: id,
+        callee: names.0,
+        length: names.1,
+    })
 }
 
 /// The names `callee` and `length`, whose texts are put last where they are new. No deed is done.
@@ -185,27 +202,32 @@ fn write_variable<S: WorldStore>(
 fn write_arguments<S: WorldStore>(
     config: &mut Config<S>,
     frame: &Frame,
-    object: ObjId,
+    arguments: Arguments,
     function: ObjId,
     values: &[Value],
 ) -> Result<(), OutOfMemory>
     requires base { Base S.meaning config.old }
     requires there { IsThere S.meaning config.old frame.now }
-    requires object { HasObject config.old object }
+    requires object { HasObject config.old arguments.object }
+    requires callee { HasName config.old arguments.callee }
+    requires length { HasName config.old arguments.length }
+    requires callee_text { (t : Table) → Grows config.old.heap.texts t → name_in t arguments.callee ≡ callee_name }
+    requires length_text { (t : Table) → Grows config.old.heap.texts t → name_in t arguments.length ≡ length_name }
     requires function { HasObject config.old function }
     requires values { All (HasValue config.old) values.now }
-    ensures does { OnOk result (DoesFirst S.meaning (λ t. write_all frame.now.world (line.arguments_slots object function (map (value_in t) values.now))) config.old config.new) }
+    ensures does { OnOk result (DoesFirst S.meaning (λ t. write_all frame.now.world (line.arguments_slots arguments.object function (map (value_in t) values.now))) config.old config.new) }
     ensures later { OnOk result (Later S.meaning config.old config.new) }
 {
+    let object = arguments.object;
     let length = whole_value(values.len())?;
-    write_known(
+    write(
         config,
         frame,
         object,
-        Known::Callee,
+        arguments.callee,
         Value::Object(function),
     )?;
-    write_known(config, frame, object, Known::Length, length)?;
+    write(config, frame, object, arguments.length, length)?;
     write_elements(config, frame, object, values)
 }
 
@@ -236,7 +258,7 @@ pub(crate) fn fill_scope<S: WorldStore>(
         frame,
         scope,
         Known::Arguments,
-        Value::Object(arguments),
+        Value::Object(arguments.object),
     )?;
     write_formals(config, frame, scope, declared.formals.as_slice(), values)?;
     declare_functions(config, frame, declared.functions.as_slice(), scope)?;
