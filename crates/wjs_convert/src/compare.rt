@@ -23,6 +23,7 @@ pub fn same_content(a: Content, b: Content) -> bool
 }
 
 /// `===` (ECMA-262, 3rd edition, section 11.9.6): one value, but NaN equals nothing. Objects are equal where they are one.
+#[inline(always)]
 pub fn strictly_equal(a: Value, b: Value) -> bool
     ensures { (texts : Table) → knows_value texts a ≡ true → knows_value texts b ≡ true → result ≡ strictly_equal (value_in texts a) (value_in texts b) }
 {
@@ -31,6 +32,7 @@ pub fn strictly_equal(a: Value, b: Value) -> bool
 
 /// `==` of primitives (ECMA-262, 3rd edition, section 11.9.3): undefined and null equal each other alone, values of one type
 /// are compared as by `===`, and others as numbers. An object equals itself alone.
+#[inline(always)]
 pub fn loosely_equal(texts: &Texts, a: Value, b: Value) -> bool
     requires first { knows_value texts.now a ≡ true }
     requires second { knows_value texts.now b ≡ true }
@@ -47,6 +49,7 @@ pub fn loosely_equal(texts: &Texts, a: Value, b: Value) -> bool
 
 /// `<` of primitives (ECMA-262, 3rd edition, section 11.8.5): two texts by their code units, others as numbers, the left
 /// one converted first; None exactly where one of these is NaN. An object counts as NaN.
+#[inline(always)]
 pub fn less_than(texts: &Texts, a: Value, b: Value) -> Option<bool>
     requires first { knows_value texts.now a ≡ true }
     requires second { knows_value texts.now b ≡ true }
@@ -59,6 +62,7 @@ pub fn less_than(texts: &Texts, a: Value, b: Value) -> Option<bool>
 }
 
 /// Whether two numbers are one; NaN equals nothing.
+#[inline(always)]
 fn equal(a: Whole, b: Whole) -> bool
     ensures { result ≡ equal a.number b.number }
 {
@@ -66,6 +70,7 @@ fn equal(a: Whole, b: Whole) -> bool
 }
 
 /// Whether it is the number NaN.
+#[inline(always)]
 fn is_nan(value: Value) -> bool
     ensures { (texts : Table) → result ≡ is_nan (value_in texts value) }
 {
@@ -73,6 +78,7 @@ fn is_nan(value: Value) -> bool
 }
 
 /// Whether it is undefined or null.
+#[inline(always)]
 fn is_nullish(value: Value) -> bool
     ensures { (texts : Table) → result ≡ is_nullish (value_in texts value) }
 {
@@ -80,6 +86,7 @@ fn is_nullish(value: Value) -> bool
 }
 
 /// Whether both are truth values, both texts or both objects.
+#[inline(always)]
 fn alike(a: Value, b: Value) -> bool
     ensures { (texts : Table) → result ≡ alike (value_in texts a) (value_in texts b) }
 {

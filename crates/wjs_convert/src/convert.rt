@@ -27,6 +27,7 @@ pub fn is_primitive(value: Value) -> bool
 
 /// Whether the value counts as true (ECMA-262, 3rd edition, section 9.2): not undefined, null, false, 0, NaN and the empty
 /// text.
+#[inline(always)]
 pub fn to_boolean(texts: &Texts, value: Value) -> bool
     requires { knows_value texts.now value ≡ true }
     ensures { result ≡ to_boolean (value_in texts.now value) }
@@ -42,6 +43,7 @@ pub fn to_boolean(texts: &Texts, value: Value) -> bool
 
 /// The number that a primitive counts as (ECMA-262, 3rd edition, section 9.3): NaN for undefined, 0 for null and false, 1
 /// for true, and of a text what it spells. An object counts as NaN.
+#[inline(always)]
 pub fn to_number(texts: &Texts, value: Value) -> Whole
     requires { knows_value texts.now value ≡ true }
     ensures { result.number ≡ primitive_number (value_in texts.now value) }

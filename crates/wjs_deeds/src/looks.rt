@@ -52,6 +52,7 @@ pub fn prototype_of<S: WorldStore>(config: &Config<S>, object: ObjId) -> Option<
 }
 
 /// The scope of a function, or the next scope outwards.
+#[inline(always)]
 pub fn scope_of<S: WorldStore>(config: &Config<S>, object: ObjId) -> Option<ObjId>
     requires base { Base S.meaning config.now }
     requires object { HasObject config.now object }
@@ -152,6 +153,7 @@ fn is_array_class(class: Class) -> bool
 }
 
 /// The value of a fixed property; None exactly where the object has none of this name.
+#[inline(always)]
 pub fn fixed<S: WorldStore>(config: &Config<S>, object: ObjId, name: Name) -> Option<Value>
     requires base { Base S.meaning config.now }
     requires object { HasObject config.now object }
@@ -175,6 +177,7 @@ pub fn is_hidden<S: WorldStore>(config: &Config<S>, object: ObjId, name: Name) -
 }
 
 /// The scope that is so many scopes outwards. Where there is none further out, it is the last.
+#[inline(always)]
 pub fn scope_up<S: WorldStore>(config: &Config<S>, scope: ObjId, hops: u32) -> ObjId
     requires base { Base S.meaning config.now }
     requires scope { HasObject config.now scope }
@@ -192,6 +195,7 @@ pub fn scope_up<S: WorldStore>(config: &Config<S>, scope: ObjId, hops: u32) -> O
 }
 
 /// The next scope outwards; where there is none, the scope itself.
+#[inline(always)]
 fn scope_out<S: WorldStore>(config: &Config<S>, scope: ObjId) -> ObjId
     requires base { Base S.meaning config.now }
     requires scope { HasObject config.now scope }

@@ -16,6 +16,7 @@ use wjs_props::{PutAnswer, Visits};
 use wjs_store::WorldStore;
 
 /// What the object or its nearest prototype that has the name holds there: its [[Get]] (section 8.6.2.1).
+#[inline(always)]
 pub fn get<S: WorldStore>(
     config: &mut Config<S>,
     frame: &Frame,
@@ -35,6 +36,7 @@ pub fn get<S: WorldStore>(
 }
 
 /// What [[Get]] finds, where absent counts as undefined.
+#[inline(always)]
 pub fn get_value<S: WorldStore>(
     config: &mut Config<S>,
     frame: &Frame,
@@ -75,6 +77,7 @@ pub fn has<S: WorldStore>(
 }
 
 /// Sets a property: [[Put]] (section 8.6.2.2, and 15.4.5.1 for arrays).
+#[inline(always)]
 pub fn put<S: WorldStore>(
     config: &mut Config<S>,
     frame: &Frame,

@@ -26,6 +26,7 @@ use wjs_scope::Place;
 use wjs_store::WorldStore;
 
 /// The reference of a name at its place (section 10.1.4).
+#[inline(always)]
 pub fn reference_at<S: WorldStore>(
     config: &Config<S>,
     frame: &Frame,
@@ -46,6 +47,7 @@ pub fn reference_at<S: WorldStore>(
 }
 
 /// The value of a reference (section 8.7.1), or what is thrown.
+#[inline(always)]
 pub fn value_of<S: WorldStore>(
     config: &mut Config<S>,
     frame: &Frame,
@@ -72,6 +74,7 @@ pub fn value_of<S: WorldStore>(
 }
 
 /// The value of a name in a scope: a function's own name is fixed.
+#[inline(always)]
 pub fn local_value<S: WorldStore>(
     config: &mut Config<S>,
     frame: &Frame,
@@ -93,6 +96,7 @@ pub fn local_value<S: WorldStore>(
 }
 
 /// The value of a property of the global object; where it is absent that is thrown.
+#[inline(always)]
 fn global_value<S: WorldStore>(
     config: &mut Config<S>,
     frame: &Frame,
@@ -117,6 +121,7 @@ fn global_value<S: WorldStore>(
 }
 
 /// A store to a reference (section 8.7.2), or what is thrown.
+#[inline(always)]
 pub fn store<S: WorldStore>(
     config: &mut Config<S>,
     frame: &Frame,
@@ -145,6 +150,7 @@ pub fn store<S: WorldStore>(
 }
 
 /// A store to a member: that of a primitive stays as it is.
+#[inline(always)]
 fn store_member<S: WorldStore>(
     config: &mut Config<S>,
     frame: &Frame,
@@ -168,6 +174,7 @@ fn store_member<S: WorldStore>(
 }
 
 /// A store to a name in a scope: a function's own name stays as it is.
+#[inline(always)]
 fn store_local<S: WorldStore>(
     config: &mut Config<S>,
     frame: &Frame,
@@ -190,6 +197,7 @@ fn store_local<S: WorldStore>(
 }
 
 /// A put, after which a bad length of an Array is thrown.
+#[inline(always)]
 fn store_property<S: WorldStore>(
     config: &mut Config<S>,
     frame: &Frame,

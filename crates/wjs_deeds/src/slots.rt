@@ -14,6 +14,7 @@ use wjs_model::{Config, Frame};
 use wjs_store::WorldStore;
 
 /// What a slot holds.
+#[inline(always)]
 pub fn read_content<S: WorldStore>(
     config: &mut Config<S>,
     frame: &Frame,
@@ -33,6 +34,7 @@ pub fn read_content<S: WorldStore>(
 }
 
 /// What a slot holds, where absent counts as undefined.
+#[inline(always)]
 pub fn read<S: WorldStore>(
     config: &mut Config<S>,
     frame: &Frame,
@@ -55,6 +57,7 @@ pub fn read<S: WorldStore>(
 }
 
 /// Sets a slot.
+#[inline(always)]
 pub fn write<S: WorldStore>(
     config: &mut Config<S>,
     frame: &Frame,

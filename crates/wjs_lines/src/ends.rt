@@ -18,6 +18,7 @@ use wjs_num::NumFault;
 use wjs_store::WorldStore;
 
 /// Ends with a value.
+#[inline(always)]
 pub fn give<S: WorldStore>(
     config: &mut Config<S>,
     frame: Frame,
@@ -92,6 +93,7 @@ fn give_short<S: WorldStore>(
 }
 
 /// Ends with a result of arithmetic; its fault is thrown as an error.
+#[inline(always)]
 pub fn give_result<S: WorldStore>(
     config: &mut Config<S>,
     frame: Frame,

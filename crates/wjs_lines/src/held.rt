@@ -8,6 +8,7 @@ use wjs_model::{Config, Frame, Reference};
 use wjs_store::WorldStore;
 
 /// The latest value.
+#[inline(always)]
 pub fn held_value<S: WorldStore>(config: &Config<S>, frame: &Frame) -> Value
     requires { IsThere S.meaning config.now frame.now }
     ensures is { result ≡ value_held frame.now.held }
@@ -18,6 +19,7 @@ pub fn held_value<S: WorldStore>(config: &Config<S>, frame: &Frame) -> Value
 }
 
 /// The latest reference.
+#[inline(always)]
 pub fn held_reference<S: WorldStore>(config: &Config<S>, frame: &Frame) -> Reference
     requires { IsThere S.meaning config.now frame.now }
     ensures is { result ≡ reference_held frame.now.held }

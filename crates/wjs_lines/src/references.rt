@@ -16,6 +16,7 @@ use wjs_moves::finish;
 use wjs_store::WorldStore;
 
 /// Ends with the value of a reference.
+#[inline(always)]
 pub fn give_value_of<S: WorldStore>(
     config: &mut Config<S>,
     frame: Frame,
@@ -35,6 +36,7 @@ pub fn give_value_of<S: WorldStore>(
 }
 
 /// Stores a value to a reference, and ends with another.
+#[inline(always)]
 pub fn store_and_give<S: WorldStore>(
     config: &mut Config<S>,
     frame: Frame,

@@ -10,6 +10,7 @@ use wjs_model::Config;
 use wjs_store::WorldStore;
 
 /// Whether it is an object.
+#[inline(always)]
 pub fn is_object(value: Value) -> bool
     ensures { (t : Table) → conversions.is_object (value_in t value) ≡ result }
 {
@@ -17,6 +18,7 @@ pub fn is_object(value: Value) -> bool
 }
 
 /// Whether neither is an object.
+#[inline(always)]
 pub fn are_primitives(left: Value, right: Value) -> bool
     ensures first { result ≡ true → (t : Table) → conversions.is_object (value_in t left) ≡ false }
     ensures second { result ≡ true → (t : Table) → conversions.is_object (value_in t right) ≡ false }
@@ -25,6 +27,7 @@ pub fn are_primitives(left: Value, right: Value) -> bool
 }
 
 /// Whether it is undefined or null.
+#[inline(always)]
 pub fn is_nullish(value: Value) -> bool
     ensures { (t : Table) → conversions.is_nullish (value_in t value) ≡ result }
 {
@@ -32,6 +35,7 @@ pub fn is_nullish(value: Value) -> bool
 }
 
 /// Whether it is a text.
+#[inline(always)]
 pub fn is_text(value: Value) -> bool
     ensures { (t : Table) → conversions.is_text (value_in t value) ≡ result }
 {
@@ -39,6 +43,7 @@ pub fn is_text(value: Value) -> bool
 }
 
 /// Whether the value counts as true (ECMA-262, 3rd edition, section 9.2).
+#[inline(always)]
 pub fn to_boolean<S: WorldStore>(config: &Config<S>, value: Value) -> bool
     requires base { Base S.meaning config.now }
     requires value { HasValue config.now value }
@@ -48,6 +53,7 @@ pub fn to_boolean<S: WorldStore>(config: &Config<S>, value: Value) -> bool
 }
 
 /// The number that a primitive counts as (section 9.3).
+#[inline(always)]
 pub fn to_number<S: WorldStore>(config: &Config<S>, value: Value) -> Whole
     requires base { Base S.meaning config.now }
     requires value { HasValue config.now value }
@@ -57,6 +63,7 @@ pub fn to_number<S: WorldStore>(config: &Config<S>, value: Value) -> Whole
 }
 
 /// `===` (section 11.9.6).
+#[inline(always)]
 pub fn strictly_equal<S: WorldStore>(config: &Config<S>, left: Value, right: Value) -> bool
     requires base { Base S.meaning config.now }
     requires left { HasValue config.now left }
@@ -68,6 +75,7 @@ pub fn strictly_equal<S: WorldStore>(config: &Config<S>, left: Value, right: Val
 }
 
 /// `==` of primitives (section 11.9.3).
+#[inline(always)]
 pub fn loosely_equal<S: WorldStore>(config: &Config<S>, left: Value, right: Value) -> bool
     requires base { Base S.meaning config.now }
     requires left { HasValue config.now left }
@@ -78,6 +86,7 @@ pub fn loosely_equal<S: WorldStore>(config: &Config<S>, left: Value, right: Valu
 }
 
 /// `<` of primitives; None exactly where a number is NaN (section 11.8.5).
+#[inline(always)]
 pub fn less_than<S: WorldStore>(config: &Config<S>, left: Value, right: Value) -> Option<bool>
     requires base { Base S.meaning config.now }
     requires left { HasValue config.now left }

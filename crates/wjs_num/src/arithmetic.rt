@@ -15,6 +15,7 @@ pub enum NumFault {
 }
 
 /// A number that is in range.
+#[inline(always)]
 pub(crate) fn whole(number: i64) -> Whole
     requires { InRange number }
     ensures { result.number ≡ Some number }
@@ -23,6 +24,7 @@ pub(crate) fn whole(number: i64) -> Whole
 }
 
 /// The exact result, if it is in range.
+#[inline(always)]
 pub(crate) fn fit(number: i64) -> Result<Whole, NumFault>
     ensures { answer result ≡ exact number }
 {
@@ -30,6 +32,7 @@ pub(crate) fn fit(number: i64) -> Result<Whole, NumFault>
 }
 
 /// The sum; OutOfRange exactly where it is out of range (ECMA-262 11.6.3).
+#[inline(always)]
 pub fn add(a: Whole, b: Whole) -> Result<Whole, NumFault>
     ensures { answer result ≡ sum a.number b.number }
 {
@@ -40,6 +43,7 @@ pub fn add(a: Whole, b: Whole) -> Result<Whole, NumFault>
 }
 
 /// The difference; OutOfRange exactly where it is out of range (ECMA-262 11.6.3).
+#[inline(always)]
 pub fn sub(a: Whole, b: Whole) -> Result<Whole, NumFault>
     ensures { answer result ≡ difference a.number b.number }
 {
@@ -50,6 +54,7 @@ pub fn sub(a: Whole, b: Whole) -> Result<Whole, NumFault>
 }
 
 /// The product; OutOfRange exactly where it is out of range (ECMA-262 11.5.1).
+#[inline(always)]
 pub fn mul(a: Whole, b: Whole) -> Result<Whole, NumFault>
     ensures { answer result ≡ product a.number b.number }
 {
@@ -64,6 +69,7 @@ pub fn mul(a: Whole, b: Whole) -> Result<Whole, NumFault>
 
 /// The exact quotient (ECMA-262 11.5.2). A quotient that is not whole is NotWhole; a number other
 /// than 0 by 0 is OutOfRange, and 0 by 0 is NaN.
+#[inline(always)]
 pub fn div(a: Whole, b: Whole) -> Result<Whole, NumFault>
     ensures { answer result ≡ quotient a.number b.number }
 {
@@ -84,6 +90,7 @@ pub fn div(a: Whole, b: Whole) -> Result<Whole, NumFault>
 }
 
 /// The remainder, which has the sign of `a`; NaN where `b` is 0 (ECMA-262 11.5.3). It never refuses.
+#[inline(always)]
 pub fn rem(a: Whole, b: Whole) -> Result<Whole, NumFault>
     ensures { answer result ≡ Ok (remainder a.number b.number) }
 {
@@ -104,6 +111,7 @@ pub fn neg(a: Whole) -> Whole
 }
 
 /// Whether the left number is below the right; None exactly where one is NaN (ECMA-262 11.8.5).
+#[inline(always)]
 pub fn less(a: Whole, b: Whole) -> Option<bool>
     ensures { result ≡ is_less a.number b.number }
 {

@@ -6,6 +6,7 @@ use crate::arithmetic::whole;
 use wjs_base::Whole;
 
 /// The number modulo 2^32; 0 for NaN (ECMA-262 9.6).
+#[inline(always)]
 pub fn to_uint32(a: Whole) -> u32
     ensures { result ≡ uint32 a.number }
 {
@@ -16,6 +17,7 @@ pub fn to_uint32(a: Whole) -> u32
 }
 
 /// The number modulo 2^32, from -(2^31) to 2^31 - 1; 0 for NaN (ECMA-262 9.5).
+#[inline(always)]
 pub fn to_int32(a: Whole) -> i32
     ensures { result ≡ int32 a.number }
 {
@@ -23,6 +25,7 @@ pub fn to_int32(a: Whole) -> i32
 }
 
 /// 32 bits as a number from -(2^31) to 2^31 - 1.
+#[inline(always)]
 fn to_signed(bits: u32) -> i32
     ensures { result ≡ signed bits }
 {
@@ -30,6 +33,7 @@ fn to_signed(bits: u32) -> i32
 }
 
 /// 32 bits as a number of the language, from -(2^31) to 2^31 - 1.
+#[inline(always)]
 fn from_bits(bits: u32) -> Whole
     ensures { result.number ≡ Some (signed bits) }
 {
@@ -37,6 +41,7 @@ fn from_bits(bits: u32) -> Whole
 }
 
 /// The lowest five bits of a shift count (ECMA-262 11.7).
+#[inline(always)]
 fn count(b: Whole) -> u32
     ensures value { result ≡ shift_count b.number }
     ensures bound { result < 32 }
@@ -45,6 +50,7 @@ fn count(b: Whole) -> u32
 }
 
 /// `a` shifted left by the lowest five bits of `b` (ECMA-262 11.7.1).
+#[inline(always)]
 pub fn shl(a: Whole, b: Whole) -> Whole
     ensures { result.number ≡ Some (shifted_left a.number b.number) }
 {
@@ -52,6 +58,7 @@ pub fn shl(a: Whole, b: Whole) -> Whole
 }
 
 /// `a` shifted right by the lowest five bits of `b`, with its sign (ECMA-262 11.7.2).
+#[inline(always)]
 pub fn shr(a: Whole, b: Whole) -> Whole
     ensures { result.number ≡ Some (shifted_right a.number b.number) }
 {
@@ -59,6 +66,7 @@ pub fn shr(a: Whole, b: Whole) -> Whole
 }
 
 /// `a` modulo 2^32 shifted right by the lowest five bits of `b` (ECMA-262 11.7.3).
+#[inline(always)]
 pub fn ushr(a: Whole, b: Whole) -> Whole
     ensures { result.number ≡ Some (pos (shifted_unsigned a.number b.number)) }
 {
@@ -66,6 +74,7 @@ pub fn ushr(a: Whole, b: Whole) -> Whole
 }
 
 /// The bits that both have (ECMA-262 11.10).
+#[inline(always)]
 pub fn bit_and(a: Whole, b: Whole) -> Whole
     ensures { result.number ≡ Some (by_bits bit_and a.number b.number) }
 {
@@ -73,6 +82,7 @@ pub fn bit_and(a: Whole, b: Whole) -> Whole
 }
 
 /// The bits that one or both have (ECMA-262 11.10).
+#[inline(always)]
 pub fn bit_or(a: Whole, b: Whole) -> Whole
     ensures { result.number ≡ Some (by_bits bit_or a.number b.number) }
 {
@@ -80,6 +90,7 @@ pub fn bit_or(a: Whole, b: Whole) -> Whole
 }
 
 /// The bits that exactly one has (ECMA-262 11.10).
+#[inline(always)]
 pub fn bit_xor(a: Whole, b: Whole) -> Whole
     ensures { result.number ≡ Some (by_bits bit_xor a.number b.number) }
 {
@@ -87,6 +98,7 @@ pub fn bit_xor(a: Whole, b: Whole) -> Whole
 }
 
 /// The bits that `a` lacks (ECMA-262 11.4.8).
+#[inline(always)]
 pub fn bit_not(a: Whole) -> Whole
     ensures { result.number ≡ Some (complement a.number) }
 {

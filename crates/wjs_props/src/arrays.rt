@@ -47,6 +47,7 @@ pub fn put_in_array<S: WorldStore>(
 }
 
 /// Writes the slot.
+#[inline(always)]
 pub fn put_slot<S: WorldStore>(
     heap: &mut Heap<S>,
     world: WorldId,

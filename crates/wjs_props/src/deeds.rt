@@ -26,6 +26,7 @@ use wjs_base::{Content, Names, ObjId, OutOfMemory, Slot, WorldId};
 use wjs_store::{Verdict, WorldStore};
 
 /// Reads a slot.
+#[inline(always)]
 pub fn read<S: WorldStore>(
     heap: &mut Heap<S>,
     world: WorldId,
@@ -42,6 +43,7 @@ pub fn read<S: WorldStore>(
 }
 
 /// Sets a slot.
+#[inline(always)]
 pub fn write<S: WorldStore>(
     heap: &mut Heap<S>,
     world: WorldId,

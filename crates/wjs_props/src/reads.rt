@@ -17,6 +17,7 @@ use wjs_store::WorldStore;
 
 /// What the object or its nearest prototype that has the name holds there in the world (ECMA-262, 3rd edition, section
 /// 8.6.2.1): along the prototypes an object's fixed property before its slot. Each slot that it visits is read.
+#[inline(always)]
 pub fn get<S: WorldStore>(
     heap: &mut Heap<S>,
     world: WorldId,

@@ -27,6 +27,7 @@ use wjs_store::WorldStore;
 /// element, and then `length` i + 1 where i is not below what was read. Its put of `length` n reads the old length m. Then
 /// the elements from n to m - 1 go: at most 64 are each read, and at once written absent where present; of more, those that
 /// a listing has are written absent, ascending. Then `length` is written.
+#[inline(always)]
 pub fn put<S: WorldStore>(
     heap: &mut Heap<S>,
     world: WorldId,
@@ -51,6 +52,7 @@ pub fn put<S: WorldStore>(
 }
 
 /// Whether the object is an Array.
+#[inline(always)]
 fn is_array(arena: &Arena, object: ObjId) -> bool
     requires { IsTrue (has arena.now object) }
     ensures { (t : Table) → is_array (arena_in t arena.now) object ≡ result }
