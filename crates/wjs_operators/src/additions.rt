@@ -17,6 +17,7 @@ use wjs_store::WorldStore;
 use wjs_tree::BinaryOperator;
 
 /// The sum of two values.
+#[inline(always)]
 pub(crate) fn add<S: WorldStore>(
     config: &mut Config<S>,
     frame: Frame,
@@ -78,6 +79,7 @@ pub(crate) fn add_right<S: WorldStore>(
 }
 
 /// Both are primitives.
+#[inline(always)]
 pub(crate) fn added<S: WorldStore>(
     config: &mut Config<S>,
     frame: Frame,

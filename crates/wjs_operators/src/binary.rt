@@ -36,6 +36,7 @@ pub fn binary_start<S: WorldStore>(
 
 /// After the left value: `&&` and `||` may end with it (section 11.11); every other operator holds it and enters the right
 /// operand.
+#[inline(always)]
 pub fn binary_left<S: WorldStore>(
     config: &mut Config<S>,
     frame: Frame,
@@ -60,6 +61,7 @@ pub fn binary_left<S: WorldStore>(
 }
 
 /// The left value is held, and the right operand is entered.
+#[inline(always)]
 fn hold_left<S: WorldStore>(
     config: &mut Config<S>,
     frame: Frame,
@@ -124,6 +126,7 @@ fn or_left<S: WorldStore>(
 }
 
 /// After the right value: the operation on the left one, which is held, and the right one.
+#[inline(always)]
 pub fn binary_right<S: WorldStore>(
     config: &mut Config<S>,
     frame: Frame,

@@ -17,6 +17,7 @@ use wjs_store::WorldStore;
 use wjs_tree::BinaryOperator;
 
 /// The comparison of two values.
+#[inline(always)]
 pub(crate) fn compare<S: WorldStore>(
     config: &mut Config<S>,
     frame: Frame,
@@ -84,6 +85,7 @@ pub(crate) fn compare_right<S: WorldStore>(
 }
 
 /// Both are primitives.
+#[inline(always)]
 pub(crate) fn compared<S: WorldStore>(
     config: &mut Config<S>,
     frame: Frame,
@@ -103,6 +105,7 @@ pub(crate) fn compared<S: WorldStore>(
 }
 
 /// Whether the comparison holds.
+#[inline(always)]
 fn is_so<S: WorldStore>(
     config: &Config<S>,
     operator: BinaryOperator,
@@ -123,12 +126,14 @@ fn is_so<S: WorldStore>(
     }
 }
 
+#[inline(always)]
 fn is_true(truth: Option<bool>) -> bool
     ensures { result ≡ unwrap_or truth false }
 {
     matches!(truth, Some(true))
 }
 
+#[inline(always)]
 fn is_false(truth: Option<bool>) -> bool
     ensures { result ≡ unwrap_or (option_map not truth) false }
 {

@@ -20,6 +20,7 @@ use wjs_store::WorldStore;
 use wjs_tree::BinaryOperator;
 
 /// `===` and `!==`.
+#[inline(always)]
 pub(crate) fn equal_strictly<S: WorldStore>(
     config: &mut Config<S>,
     frame: Frame,
@@ -38,6 +39,7 @@ pub(crate) fn equal_strictly<S: WorldStore>(
 }
 
 /// Ends with a truth value, or with its opposite.
+#[inline(always)]
 fn tell<S: WorldStore>(
     config: &mut Config<S>,
     frame: Frame,
@@ -53,6 +55,7 @@ fn tell<S: WorldStore>(
 }
 
 /// `==` and `!=`.
+#[inline(always)]
 pub(crate) fn equal<S: WorldStore>(
     config: &mut Config<S>,
     frame: Frame,
@@ -100,6 +103,7 @@ fn object_equal<S: WorldStore>(
 }
 
 /// A primitive on the left.
+#[inline(always)]
 fn primitive_equal<S: WorldStore>(
     config: &mut Config<S>,
     frame: Frame,
@@ -124,6 +128,7 @@ fn primitive_equal<S: WorldStore>(
 }
 
 /// Both are primitives, or one was.
+#[inline(always)]
 fn equal_primitives<S: WorldStore>(
     config: &mut Config<S>,
     frame: Frame,

@@ -21,6 +21,7 @@ use wjs_store::WorldStore;
 use wjs_tree::BinaryOperator;
 
 /// The arithmetic of an operator.
+#[inline(always)]
 pub(crate) fn arithmetic(operator: BinaryOperator, x: Whole, y: Whole) -> Result<Whole, NumFault>
     ensures { answer result ≡ line.arithmetic operator x.number y.number }
 {
@@ -40,6 +41,7 @@ pub(crate) fn arithmetic(operator: BinaryOperator, x: Whole, y: Whole) -> Result
 }
 
 /// An operator on two numbers.
+#[inline(always)]
 pub(crate) fn calculate<S: WorldStore>(
     config: &mut Config<S>,
     frame: Frame,
@@ -108,6 +110,7 @@ pub(crate) fn calculate_right<S: WorldStore>(
 }
 
 /// Both are numbers.
+#[inline(always)]
 pub(crate) fn calculated<S: WorldStore>(
     config: &mut Config<S>,
     frame: Frame,

@@ -26,6 +26,7 @@ use wjs_tree::BinaryOperator;
 
 /// The operation on two values: at once where both are primitives; an object is converted while the frame waits at place 3 for
 /// the left value and at place 4 for the right one (ECMA-262, 3rd edition, sections 11.5 to 11.10).
+#[inline(always)]
 pub fn operate<S: WorldStore>(
     config: &mut Config<S>,
     frame: Frame,

@@ -15,6 +15,7 @@ use wjs_tree::BinaryOperator;
 
 /// The number that the operator makes of two numbers (ECMA-262, 3rd edition, sections 11.5 to 11.7 and 11.10), with which the
 /// operation ends at once. None where a value is no number, or the operation makes none or throws.
+#[inline(always)]
 pub fn quick(operator: BinaryOperator, left: Value, right: Value) -> Option<Whole>
     ensures { IfSome result (λ number. (t : Table) (env : Env) → Shortens (line.operate operator (value_in t left) (value_in t right) env) (give (Number number.number))) }
 {
@@ -27,6 +28,7 @@ pub fn quick(operator: BinaryOperator, left: Value, right: Value) -> Option<Whol
     number_of(operator, x, y)
 }
 
+#[inline(always)]
 fn number_of(operator: BinaryOperator, x: Whole, y: Whole) -> Option<Whole>
     ensures { IfSome result (λ number. (env : Env) → Shortens (line.operate operator (Number x.number) (Number y.number) env) (give (Number number.number))) }
 {
@@ -39,6 +41,7 @@ fn number_of(operator: BinaryOperator, x: Whole, y: Whole) -> Option<Whole>
     }
 }
 
+#[inline(always)]
 fn sum(x: Whole, y: Whole) -> Option<Whole>
     ensures { IfSome result (λ number. (env : Env) → Shortens (line.operate BinaryOperator.Add (Number x.number) (Number y.number) env) (give (Number number.number))) }
 {
@@ -48,6 +51,7 @@ fn sum(x: Whole, y: Whole) -> Option<Whole>
     }
 }
 
+#[inline(always)]
 fn calculation(operator: BinaryOperator, x: Whole, y: Whole) -> Option<Whole>
     requires { is_calculation operator ≡ true }
     ensures { IfSome result (λ number. (env : Env) → Shortens (line.operate operator (Number x.number) (Number y.number) env) (give (Number number.number))) }
@@ -59,6 +63,7 @@ fn calculation(operator: BinaryOperator, x: Whole, y: Whole) -> Option<Whole>
 }
 
 /// Whether the operator is one on two numbers.
+#[inline(always)]
 fn is_calculation(operator: BinaryOperator) -> bool
     ensures { result ≡ is_calculation operator }
 {
