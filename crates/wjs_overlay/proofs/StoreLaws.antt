@@ -32,7 +32,7 @@ use Rattle.wjs_store.proofs.Writes.{found_id}
 use Rattle.wjs_overlay.specs.declared.layer.Spot.{Spot}
 use Rattle.wjs_overlay.specs.Sparse.{Keeps, IsAt, read_of, mark_of}
 use Rattle.wjs_overlay.specs.Store.{worlds_of, first_id}
-use Rattle.wjs_overlay.proofs.Places.{no_none, place_none, place_head, place_older}
+use Rattle.wjs_overlay.proofs.Places.{some_is, no_none, place_none, place_head, place_older}
 use Rattle.wjs_overlay.proofs.Changes.{kept_push}
 use Rattle.wjs_overlay.proofs.Looks.{found_at, world_at, keeps_at}
 use Rattle.wjs_overlay.proofs.Puts.{stand_by}
@@ -210,6 +210,13 @@ first_at layers places owners r k s =
     let x = found_at (full_of layers) f.0 0 f.2 in
     let kr = k.sparse.kept.at f.0 0 x.0 r f.2 x.1 s in
     f.1 ∙ ap (λ i. Some i) (sym (found_id (full_of layers) f.0 x.0 x.1) ∙ kr.id)
+
+-- the first world stands at 0
+pub first_placed : (layers : List Layer) (places : FinMap world_cmp ℕ) (owners : FinMap nat_cmp ℕ) (r : Layer) → IsStore layers places owners → slice_get layers 0 ≡ Some r → place_of (full_of layers) r.id ≡ Some 0
+first_placed layers places owners r k s =
+    let l : 0 < length (full_of layers) = omega (arith, k.some, k.sparse.kept.many) in
+    let f = first_any (full_of layers) k.sparse.reached l in
+    subst (λ i. place_of (full_of layers) i ≡ Some 0) (some_is f.0 r.id (sym f.1 ∙ first_at layers places owners r k s)) f.2
 
 pub parent_at : (layers : List Layer) (h : IsSparse layers) (at : Spot) (here : IsAt layers at) (r : Layer) (s : slice_get layers at.place ≡ Some r) → parent_of (full_of layers) at.world ≡ option_map (λ (a : Spot). a.world) r.above
 parent_at layers h at here r s = let x = world_at layers h at here r s in ap (option_and_then (λ (z : World plain). z.parent)) x.1 ∙ (keeps_at layers h at here r s).parent

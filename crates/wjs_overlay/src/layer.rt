@@ -51,6 +51,7 @@ pub enum Look<'a> {
     Nowhere,
 }
 
+#[inline(always)]
 pub fn look_at<'a, L: Ledger>(layer: &'a Layer, slot: Slot, steps: &mut Steps<L>) -> Look<'a>
     ensures seen { Looked layer.now slot result }
     ensures steps { steps.new ≤ steps.old + 2 }
@@ -68,6 +69,7 @@ pub fn look_at<'a, L: Ledger>(layer: &'a Layer, slot: Slot, steps: &mut Steps<L>
 }
 
 /// Puts a row in, or takes it out.
+#[inline(always)]
 pub fn put<L: Ledger>(
     layer: &mut Layer,
     slot: Slot,

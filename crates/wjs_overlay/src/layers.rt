@@ -56,6 +56,7 @@ pub fn content<L: Ledger>(
 }
 
 /// Puts a row into a world, or takes it out.
+#[inline(always)]
 fn put_row<L: Ledger>(
     layers: &mut [Layer],
     world: Spot,
@@ -102,6 +103,7 @@ pub fn read<L: Ledger>(
 }
 
 /// The row of a slot in the first world, where it is present.
+#[inline(always)]
 fn first_row(content: Content) -> Option<Row>
     ensures { result ≡ first_row_of content }
 {
@@ -143,6 +145,7 @@ fn read_before<L: Ledger>(
 }
 
 /// The row that a write leaves in a world; none where it leaves nothing in the first world.
+#[inline(always)]
 fn written_row<L: Ledger>(
     layers: &[Layer],
     world: Spot,

@@ -1,8 +1,8 @@
 -- Where a key stands in a list in order.
-use Rattle.std.proofs.Common.{◌≡◌, ℕ, suc, ◌+◌, ◌<◌, ◌≤◌, zero, drop, subst, cond, false, not, T, List, [], ◌∷◌, length, set, get_or, Option, None, Some, Result, Ok, Err, slice_get, refl, ap, sym, ◌∙◌, arith}
+use Rattle.std.proofs.Common.{◌≡◌, ℕ, suc, ◌+◌, ◌<◌, ◌≤◌, zero, drop, subst, cond, not, T, List, [], ◌∷◌, length, set, get_or, Option, None, Some, Result, Ok, Err, slice_get, refl, ap, sym, ◌∙◌, arith}
 use Rattle.std.specs.declared.cmp.Ordering.{Ordering}
 use Rattle.std.specs.declared.cmp.Ordering.TheVariants.{Less, Equal, Greater}
-use Rattle.std.specs.Ordering.{is_lt, is_le, is_gt, is_eq, ordering_reverse}
+use Rattle.std.specs.Ordering.{is_lt, is_le, is_eq, ordering_reverse}
 use Rattle.std.specs.Cmp.{IsTotalOrder}
 use Rattle.std.specs.FinMap.{IsAntisymmetric}
 use Rattle.std.specs.FinMap.Entries.{put, find, is_sorted, below_all, by_order}
@@ -14,7 +14,7 @@ use Rattle.std.specs.Slice.{IsItemAt}
 use Rattle.std.proofs.lemmas.Option.{slice_get_past, slice_get_read}
 use Rattle.wjs_rows.specs.Order.{is_from, is_after}
 use Rattle.wjs_slots.specs.Lists.{seek, without}
-use Rattle.wjs_slots.proofs.Basics.{by_bool, by_cmp, less_left, left_true, right_true, T_true, less_is}
+use Rattle.wjs_slots.proofs.Basics.{by_cmp, left_true, right_true, T_true, less_is}
 use Rattle.wjs_slots.proofs.Lists.{first_after, none_below, all_without, below_tied, below_less}
 
 -- the key is at n
@@ -140,24 +140,26 @@ module _ {K V : Type 0} {R : K → K → Ordering} (total : IsTotalOrder R) wher
       ∙ seek_past k (i + 1) es n d (right_true (below_all R e.0 es) (is_sorted R es) h) (omega arith) o
       ∙ ap (λ j. seek R k j (drop (suc n) es)) (let z : i + 1 + suc n ≡ i + suc (suc n) = omega arith in z)
 
--- a key that isn't there is less than each entry that it isn't greater than
-missing_first : {K V : Type 0} (R : K → K → Ordering) (k : K) (e : K × V) (es : List (K × V)) → find R k (e ∷ es) ≡ None → (is_eq (R k e.0) ≡ false) × (find R k es ≡ None)
-missing_first {V = V} R k e es m = by_bool (is_eq (R k e.0))
-    (λ t. let some : ◌≡◌ {A = Option V} (Some e.1) None = sym (ap (λ b. cond b (Some e.1) (find R k es)) t) ∙ m in cc)
-    (λ t. (t, sym (ap (λ b. cond b (Some e.1) (find R k es)) t) ∙ m))
-
-missing_less : {K V : Type 0} (R : K → K → Ordering) (k : K) (es : List (K × V)) (n : ℕ) (d : K × V) → n < length es → find R k es ≡ None → is_gt (R k (get_or es n d).0) ≡ false → R k (get_or es n d).0 ≡ Less
-missing_less R k [] n d l m h = absurd (omega arith)
-missing_less R k (e ∷ es) zero d l m h = less_left (R k e.0) h (missing_first R k e es m).0
-missing_less R k (e ∷ es) (suc n) d l m h = missing_less R k es n d (omega arith) (missing_first R k e es m).1 h
-
-seek_drop : {K V : Type 0} (R : K → K → Ordering) (k : K) (i : ℕ) (es : List (K × V)) (n : ℕ) (d : K × V) → n < length es → R k (get_or es n d).0 ≡ Less → seek R k i (drop n es) ≡ Err i
+pub seek_drop : {K V : Type 0} (R : K → K → Ordering) (k : K) (i : ℕ) (es : List (K × V)) (n : ℕ) (d : K × V) → n < length es → R k (get_or es n d).0 ≡ Less → seek R k i (drop n es) ≡ Err i
 seek_drop R k i [] n d l o = absurd (omega arith)
 seek_drop R k i (e ∷ es) zero d l o = ap (λ c. by_order c (Err i) (Ok i) (seek R k (i + 1) es)) o
 seek_drop R k i (e ∷ es) (suc n) d l o = seek_drop R k i es n d (omega arith) o
 
-pub seek_before : {K V : Type 0} (R : K → K → Ordering) (k : K) (es : List (K × V)) (n : ℕ) (d : K × V) → n < length es → find R k es ≡ None → is_gt (R k (get_or es n d).0) ≡ false → seek R k n (drop n es) ≡ Err n
-seek_before R k es n d l m h = seek_drop R k n es n d l (missing_less R k es n d l m h)
+drop_whole : {A : Type 0} (xs : List A) → drop (length xs) xs ≡ []
+drop_whole [] = refl
+drop_whole (x ∷ xs) = drop_whole xs
+
+-- nothing is left past the last entry
+pub seek_end : {K V : Type 0} (R : K → K → Ordering) (k : K) (n : ℕ) (es : List (K × V)) → n ≤ length es → length es ≤ n → seek R k n (drop n es) ≡ Err n
+seek_end R k n es u l = ap (λ j. seek R k n (drop j es)) (let e : n ≡ length es = omega arith in e) ∙ ap (seek R k n) (drop_whole es)
+
+-- a key past the last entry
+pub seek_last : {K V : Type 0} {R : K → K → Ordering} (total : IsTotalOrder R) (k : K) (es : List (K × V)) (n : ℕ) (d : K × V) → T (is_sorted R es) → n < length es → suc n ≡ length es → R k (get_or es n d).0 ≡ Greater → seek R k 0 es ≡ Err (length es)
+seek_last {R = R} total k es n d h l e o =
+    seek_past total k 0 es n d h l o
+    ∙ ap (λ j. seek R k j (drop (suc n) es)) (let z : 0 + suc n ≡ length es = omega (arith, e) in z)
+    ∙ ap (λ j. seek R k (length es) (drop j es)) e
+    ∙ ap (seek R k (length es)) (drop_whole es)
 
 -- what `get` of a slice lends
 pub got_at : {X : Type 0} (xs : List X) (i : ℕ) (r : Option (Bor X)) → IsItemAt xs i r → option_map (λ x. x.now) r ≡ slice_get xs i

@@ -1,5 +1,8 @@
 //! The rows of an object that has few: a short list in the order of names.
-ghost use Rattle.std.specs.Prelude.{◌≡◌, not, is_some, OnOk, OnErr, IfOk, MatchOption, None, Ok, Err};
+ghost use Rattle.std.specs.Prelude.{◌≡◌, not, is_some, OnOk, OnErr, IfOk, MatchOption, None, Some, Ok, Err, IsTrue, length, cond, false, drop, slice_get, ◌≤◌};
+ghost use Rattle.std.specs.Ordering.{is_gt, is_eq};
+ghost use Rattle.wjs_base.specs.declared.values.Name.{Name};
+ghost use Rattle.wjs_base.specs.declared.values.Name.TheVariants.{Text};
 ghost use Rattle.std.specs.Option.{option_copied};
 ghost use Rattle.std.specs.FinMap.Entries.{put, find};
 ghost use Rattle.std.specs.Map.{lookup_entry};
@@ -10,58 +13,155 @@ ghost use Rattle.wjs_slots.specs.Lists.{IsInOrder, seek, without};
 use crate::tree;
 use std::alloc::Global;
 use std::collections::BTreeMap;
-use wjs_base::{Name, OutOfMemory};
+use wjs_base::{Name, OutOfMemory, TextId};
+
+/// Up to how many rows a list is gone through row by row: a longer one is halved instead.
+const SHORT_LIST: usize = 12;
 
 /// Where a name stands, or would stand where it isn't there.
 fn seek<V: Copy>(few: &[(Name, V)], name: Name) -> Result<usize, usize>
     requires { IsInOrder name_cmp few.now }
     ensures { result ≡ seek name_cmp name 0 few.now }
 {
-    match place_of(few, name) {
-        Some(place) => Ok(place),
-        None => Err(place_for(few, name)),
+    let place = first_from(few, name);
+    if place < few.len() && few[place].0 == name {
+        Ok(place)
+    } else {
+        Err(place)
     }
 }
 
+/// The place of the first name that isn't less than a name, found by halving.
+fn first_from<V: Copy>(few: &[(Name, V)], name: Name) -> usize
+    requires { IsInOrder name_cmp few.now }
+    ensures within { result ≤ length few.now }
+    ensures before { seek name_cmp name 0 few.now ≡ seek name_cmp name result (drop result few.now) }
+    ensures after { (row : Name × V) → slice_get few.now result ≡ Some row → is_gt (name_cmp name row.0) ≡ false }
+{
+    let mut low = 0;
+    let mut high = few.len();
+    while low < high {
+        let middle = low + (high - low) / 2;
+        if comes_after(name, few[middle].0) {
+            low = middle + 1;
+        } else {
+            high = middle;
+        }
+    }
+    low
+}
+
+/// Whether a name comes after another: `cmp` would put three cases in order.
+#[inline(always)]
+fn comes_after(name: Name, other: Name) -> bool
+    ensures { result ≡ is_gt (name_cmp name other) }
+{
+    match (name, other) {
+        (Name::Index(index), Name::Index(other)) => index > other,
+        (Name::Index(_), Name::Text(_)) => false,
+        (Name::Text(_), Name::Index(_)) => true,
+        (Name::Text(text), Name::Text(other)) => text.0 > other.0,
+    }
+}
+
+/// Whether a name comes after all that are there, as most new names do.
+fn goes_last<V: Copy>(few: &[(Name, V)], name: Name) -> bool
+    requires { IsInOrder name_cmp few.now }
+    ensures { IsTrue result → seek name_cmp name 0 few.now ≡ Err (length few.now) }
+{
+    let count = few.len();
+    count == 0 || comes_after(name, few[count - 1].0)
+}
+
+/// `seek`, which looks at the end first.
+fn seek_end<V: Copy>(few: &[(Name, V)], name: Name) -> Result<usize, usize>
+    requires { IsInOrder name_cmp few.now }
+    ensures { result ≡ seek name_cmp name 0 few.now }
+{
+    if goes_last(few, name) {
+        return Err(few.len());
+    }
+    seek(few, name)
+}
+
 /// Where a name stands; None where it isn't there.
+#[inline(always)]
 fn place_of<V: Copy>(few: &[(Name, V)], name: Name) -> Option<usize>
     requires { IsInOrder name_cmp few.now }
     ensures { MatchOption result (find name_cmp name few.now ≡ None) (λ place. Ok place ≡ seek name_cmp name 0 few.now) }
 {
+    match name {
+        Name::Text(text) if few.len() <= SHORT_LIST => place_of_text(few, text),
+        Name::Index(index) if is_at(few, index as usize, name) => Some(index as usize),
+        _ => match seek(few, name) {
+            Ok(place) => Some(place),
+            Err(_) => None,
+        },
+    }
+}
+
+/// Whether a name stands at a place, as an index does in an array without holes.
+#[inline(always)]
+fn is_at<V: Copy>(few: &[(Name, V)], place: usize, name: Name) -> bool
+    requires { IsInOrder name_cmp few.now }
+    ensures { IsTrue result → Ok place ≡ seek name_cmp name 0 few.now }
+{
+    place < few.len() && few[place].0 == name
+}
+
+/// Where a text stands; None where it isn't there.
+fn place_of_text<V: Copy>(few: &[(Name, V)], text: TextId) -> Option<usize>
+    requires { IsInOrder name_cmp few.now }
+    ensures { MatchOption result (find name_cmp (Text text) few.now ≡ None) (λ place. Ok place ≡ seek name_cmp (Text text) 0 few.now) }
+{
     for (place, row) in few.iter().enumerate() {
-        if row.0 == name {
+        if is_text(row.0, text) {
             return Some(place);
         }
     }
     None
 }
 
-/// Where a name that isn't there would stand. New names mostly come last, so it is sought from there.
-fn place_for<V: Copy>(few: &[(Name, V)], name: Name) -> usize
-    requires order { IsInOrder name_cmp few.now }
-    requires missing { find name_cmp name few.now ≡ None }
-    ensures { Err result ≡ seek name_cmp name 0 few.now }
+/// Whether a name is this text.
+#[inline(always)]
+fn is_text(name: Name, text: TextId) -> bool
+    ensures { result ≡ is_eq (name_cmp (Text text) name) }
 {
-    let mut left = few.len();
-    while left > 0 {
-        if name.cmp(&few[left - 1].0).is_gt() {
-            return left;
-        }
-        left -= 1;
+    match name {
+        Name::Index(_) => false,
+        Name::Text(other) => other.0 == text.0,
     }
-    0
 }
 
 /// The value at a name.
+#[inline(always)]
 pub(crate) fn get<V: Copy>(few: &[(Name, V)], name: Name) -> Option<&V>
+    requires { IsInOrder name_cmp few.now }
     ensures { option_copied result ≡ find name_cmp name few.now }
 {
-    for row in few {
-        if row.0 == name {
-            return Some(&row.1);
-        }
+    match place_of(few, name) {
+        Some(place) => Some(&few[place].1),
+        None => None,
     }
-    None
+}
+
+/// Puts a value at a name that is there, and says whether it is: elsewhere the list stays as it is.
+#[inline(always)]
+pub(crate) fn replace<V: Copy>(few: &mut [(Name, V)], name: Name, value: V) -> bool
+    requires { IsInOrder name_cmp few.old }
+    ensures found { result ≡ is_some (find name_cmp name few.old) }
+    ensures replaced { few.new ≡ cond result (put name_cmp name value few.old) few.old }
+{
+    if goes_last(few, name) {
+        return false;
+    }
+    match place_of(few, name) {
+        Some(place) => {
+            few[place] = (name, value);
+            true
+        }
+        None => false,
+    }
 }
 
 /// Puts a value at a name, and says whether the name is new. After a refusal the list is as it was.
@@ -75,7 +175,7 @@ pub(crate) fn set<V: Copy>(
     ensures added { IfOk result (λ added. added ≡ not (is_some (find name_cmp name few.old.items))) }
     ensures err { OnErr result (few.new.items ≡ few.old.items) }
 {
-    match seek(few, name) {
+    match seek_end(few, name) {
         Ok(place) => {
             few[place] = (name, value);
             Ok(false)

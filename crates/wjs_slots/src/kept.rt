@@ -1,5 +1,5 @@
 //! The rows of one object, in a list or a tree.
-ghost use Rattle.std.specs.Prelude.{◌≡◌, not, is_some, OnOk, OnErr, IfOk, IfSome};
+ghost use Rattle.std.specs.Prelude.{◌≡◌, not, is_some, OnOk, OnErr, IfOk, IfSome, IsTrue, true, cond};
 ghost use Rattle.std.specs.Option.{option_copied};
 ghost use Rattle.std.specs.FinMap.Entries.{put, find};
 ghost use Rattle.std.specs.Map.{lookup_entry};
@@ -12,8 +12,8 @@ use std::alloc::Global;
 use std::collections::BTreeMap;
 use wjs_base::{Name, OutOfMemory};
 
-/// How many rows a list has at most: past that, to find one and to make room takes a tree.
-const LONGEST_LIST: usize = 16;
+/// How many rows a list has at most: past that, to make room for one in between takes a tree.
+const LONGEST_LIST: usize = 512;
 
 /// Rows in the order of their names.
 #[derive(Drop)]
@@ -26,7 +26,9 @@ impl<V: Copy> Kept<V> {
     ghost use Rattle.wjs_slots.specs.Kept.{rows_of};
 
     /// The value at a name.
+    #[inline(always)]
     pub(crate) fn get(&self, name: Name) -> Option<&V>
+        requires { IsInOrder name_cmp (rows_of self.now) }
         ensures { option_copied result ≡ find name_cmp name (rows_of self.now) }
     {
         match self {
@@ -36,7 +38,35 @@ impl<V: Copy> Kept<V> {
     }
 
     /// Puts a value at a name, and says whether the name is new. After a refusal all is as it was.
+    #[inline(always)]
     pub(crate) fn set(&mut self, name: Name, value: V, alloc: Global) -> Result<bool, OutOfMemory>
+        requires { IsInOrder name_cmp (rows_of self.old) }
+        ensures ok { OnOk result (rows_of self.new ≡ put name_cmp name value (rows_of self.old)) }
+        ensures added { IfOk result (λ added. added ≡ not (is_some (find name_cmp name (rows_of self.old)))) }
+        ensures err { OnErr result (rows_of self.new ≡ rows_of self.old) }
+    {
+        if self.replace(name, value) {
+            return Ok(false);
+        }
+        self.add(name, value, alloc)
+    }
+
+    /// Puts a value at a name that is there in a list, and says whether it is: elsewhere all stays as it is.
+    #[inline(always)]
+    fn replace(&mut self, name: Name, value: V) -> bool
+        requires { IsInOrder name_cmp (rows_of self.old) }
+        ensures found { IsTrue result → is_some (find name_cmp name (rows_of self.old)) ≡ true }
+        ensures replaced { rows_of self.new ≡ cond result (put name_cmp name value (rows_of self.old)) (rows_of self.old) }
+    {
+        match self {
+            Kept::Few(few) => few::replace(few, name, value),
+            Kept::Many(_) => false,
+        }
+    }
+
+    /// `set`, with room for one more row in the list.
+    #[inline(never)]
+    fn add(&mut self, name: Name, value: V, alloc: Global) -> Result<bool, OutOfMemory>
         requires { IsInOrder name_cmp (rows_of self.old) }
         ensures ok { OnOk result (rows_of self.new ≡ put name_cmp name value (rows_of self.old)) }
         ensures added { IfOk result (λ added. added ≡ not (is_some (find name_cmp name (rows_of self.old)))) }

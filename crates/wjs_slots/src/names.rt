@@ -45,6 +45,7 @@ impl<V: Copy> Names<V> {
     }
 
     /// The value at a name.
+    #[inline(always)]
     pub(crate) fn get(&self, name: Name) -> Option<&V>
         ensures { option_copied result ≡ map.get self.now name }
     {
@@ -52,6 +53,7 @@ impl<V: Copy> Names<V> {
     }
 
     /// Puts a value at a name, and says whether the name is new. After a refusal all is as it was.
+    #[inline(always)]
     pub(crate) fn set(&mut self, name: Name, value: V, alloc: Global) -> Result<bool, OutOfMemory>
         ensures ok { OnOk result (self.new ≡ map.insert self.old name value) }
         ensures added { IfOk result (λ added. added ≡ not (map.contains_key self.old name)) }

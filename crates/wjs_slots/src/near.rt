@@ -32,6 +32,7 @@ impl<V: Copy> Near<V> {
     }
 
     /// Where an object stands; None exactly where it isn't among these.
+    #[inline(always)]
     pub(crate) fn place(&self, object: ObjId) -> Option<usize>
         ensures { result ≡ place_in self.now.owner (length self.now.objects.items) object }
     {

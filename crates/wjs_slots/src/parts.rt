@@ -55,6 +55,7 @@ impl<V: Copy> Parts<V> {
     }
 
     /// The value at a slot.
+    #[inline(always)]
     pub(crate) fn get(&self, slot: Slot) -> Option<&V>
         ensures { option_copied result ≡ map.get self.now slot }
     {
@@ -65,6 +66,7 @@ impl<V: Copy> Parts<V> {
     }
 
     /// Puts a value at a slot, and says whether the slot is new. After a refusal all is as it was.
+    #[inline(always)]
     pub(crate) fn set(&mut self, slot: Slot, value: V) -> Result<bool, OutOfMemory>
         ensures ok { OnOk result (self.new ≡ map.insert self.old slot value) }
         ensures added { IfOk result (λ added. added ≡ not (map.contains_key self.old slot)) }
@@ -112,6 +114,7 @@ impl<V: Copy> Parts<V> {
     }
 
     /// Makes an object near where it stands close behind the near ones with no far row in between.
+    #[inline(always)]
     fn reach(&mut self, object: ObjId) -> Result<(), OutOfMemory>
         ensures { self.new ≡ self.old }
     {

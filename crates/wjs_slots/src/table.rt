@@ -59,6 +59,7 @@ impl<V: Copy> Table<V> {
     }
 
     /// The value at a slot; None exactly where there is no row.
+    #[inline(always)]
     pub fn get<L: Ledger>(&self, slot: Slot, steps: &mut Steps<L>) -> Option<&V>
         ensures row { option_copied result ≡ map.get self.now slot }
         ensures step { steps.new ≡ steps.old + 1 }
@@ -68,6 +69,7 @@ impl<V: Copy> Table<V> {
     }
 
     /// Puts a value at a slot. After a refusal the table is as it was.
+    #[inline(always)]
     pub fn set<L: Ledger>(
         &mut self,
         slot: Slot,

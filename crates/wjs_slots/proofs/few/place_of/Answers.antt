@@ -1,14 +1,12 @@
-use Rattle.std.proofs.Common.{rules, ◌≡◌, ◌∙◌, true, ap, sym, Ok, ◌+◌, arith}
-use Rattle.std.specs.Ordering.{is_eq}
-use Rattle.wjs_base.specs.Order.{name_cmp, name_total}
-use Rattle.wjs_slots.proofs.Basics.{equal_is}
-use Rattle.wjs_slots.proofs.Seeks.{seek_at}
+use Rattle.std.proofs.Common.{◌≡◌, ◌∙◌, ap, sym}
+use Rattle.std.specs.FinMap.Entries.{find}
+use Rattle.wjs_base.specs.Order.{name_cmp, name_total, name_exact}
+use Rattle.wjs_slots.proofs.Seeks.{missed_at}
 use Rattle.wjs_slots.proofs.few.place_of.Goals as goal
+use Rattle.wjs_slots.proofs.few.place_of.Goals.{in_default-via-in-Text+else-few-le-SHORT_LIST, in_default-via-in-Index+else-is_at}
 
-pub returns-then-eq : goal.returns-then-eq
-returns-then-eq g c =
-    let t : is_eq (name_cmp c.args.name c.index-few-place.result.0) ≡ true = search rules in
-    let z : 0 + c.loop-place.place ≡ c.loop-place.place = omega arith in
-    sym (seek_at name_total c.args.name 0 c.args.few.now c.loop-place.place c.index-few-place.result c.requires c.loop-place-test.true
-    (ap (λ e. name_cmp c.args.name e.0) (sym c.index-few-place.is) ∙ equal_is (name_cmp c.args.name c.index-few-place.result.0) t)
-    ∙ ap Ok z)
+pub returns-in-Err : goal.returns-in-Err
+returns-in-Err g c =
+    let same : c.in_default.name ≡ c.args.name = elim c.in_default.branch [ in_default-via-in-Text+else-few-le-SHORT_LIST w ↦ w.name-is ∙ sym w.in-Text.is | in_default-via-in-Index+else-is_at w ↦ w.name-is ∙ sym w.in-Index.is ] in
+    ap (λ n. find name_cmp n c.args.few.now) (sym same)
+    ∙ (missed_at name_total name_exact c.in_default.name c.in-Err.field-0 c.args.few.now c.in-Err.ensures).none c.requires
