@@ -109,9 +109,9 @@ fn first_row(content: Content) -> Option<Row>
 {
     match content {
         Content::Absent => None,
-        Content::Present(value) => Some(Row {
+        Content::Present(_) => Some(Row {
             read: None,
-            now: Content::Present(value),
+            now: content,
             written: false,
         }),
     }

@@ -1,4 +1,4 @@
-//! The rows of an object that has few: a short list in the order of names.
+//! The rows of an object in a list, in the order of names.
 ghost use Rattle.std.specs.Prelude.{◌≡◌, not, is_some, OnOk, OnErr, IfOk, MatchOption, None, Some, Ok, Err, IsTrue, length, cond, false, drop, slice_get, ◌≤◌};
 ghost use Rattle.std.specs.Ordering.{is_gt, is_eq};
 ghost use Rattle.wjs_base.specs.declared.values.Name.{Name};
