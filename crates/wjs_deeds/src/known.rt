@@ -1,6 +1,6 @@
 //! The names that the machine itself uses.
 ghost use Rattle.std.specs.Prelude.{◌≡◌, ◌≤◌, length, IfOk, OnOk};
-ghost use Rattle.wjs_base.specs.Text.{Table, Grows, Has, longest};
+ghost use Rattle.wjs_base.specs.Text.{Table, Finds, Grows, Has, longest};
 ghost use Rattle.wjs_content.specs.Names.{slot};
 ghost use Rattle.wjs_content.specs.Tables.{text_in, name_in, value_in};
 ghost use Rattle.wjs_props.specs.Means.{nothing};
@@ -69,7 +69,33 @@ fn units(known: Known) -> &'static [u16]
     }
 }
 
+/// A key of the name's own, by which its text is found again.
+#[inline(always)]
+fn key(known: Known) -> usize {
+    match known {
+        Known::Length => 0,
+        Known::Prototype => 1,
+        Known::Constructor => 2,
+        Known::Arguments => 3,
+        Known::Callee => 4,
+        Known::Name => 5,
+        Known::Message => 6,
+        Known::ToString => 7,
+        Known::ValueOf => 8,
+    }
+}
+
+/// The number of the name's text; None exactly where no text of the table has it.
+#[inline(always)]
+fn find<S: WorldStore>(config: &mut Config<S>, known: Known) -> Option<TextId>
+    ensures finds { Finds config.old.heap.texts (text_of known) result }
+    ensures same { config.new ≡ config.old }
+{
+    config.heap.texts.find_again(key(known), units(known))
+}
+
 /// The number of the name's text, which is put last where it is new. No deed is done.
+#[inline(always)]
 fn known_text<S: WorldStore>(config: &mut Config<S>, known: Known) -> Result<TextId, OutOfMemory>
     requires base { Base S.meaning config.old }
     ensures does { IfOk result (λ id. Does S.meaning (λ t go. go (text_of known)) (λ t. text_in t id) config.old config.new) }
@@ -77,13 +103,14 @@ fn known_text<S: WorldStore>(config: &mut Config<S>, known: Known) -> Result<Tex
     ensures found { IfOk result (λ id. Has config.new.heap.texts id) }
     ensures text { IfOk result (λ id. (t : Table) → Grows config.new.heap.texts t → text_in t id ≡ text_of known) }
 {
-    match config.heap.texts.find(units(known)) {
+    match find(config, known) {
         Some(id) => Ok(id),
         None => intern(config, units(known)),
     }
 }
 
 /// The name, whose text is put last where it is new. No deed is done.
+#[inline(always)]
 pub fn known_name<S: WorldStore>(config: &mut Config<S>, known: Known) -> Result<Name, OutOfMemory>
     requires base { Base S.meaning config.old }
     ensures does { IfOk result (λ name. Does S.meaning (λ t go. go (text_of known)) (λ t. name_in t name) config.old config.new) }
