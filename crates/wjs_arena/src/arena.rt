@@ -179,6 +179,7 @@ fn flags_of(object: &Object, name: Name) -> Flags
 }
 
 /// Puts an object at its owner's next number, and under its world; after a refusal nothing has changed.
+#[inline(always)]
 fn put(
     rows: &mut Rows,
     worlds: &mut Worlds,
@@ -204,6 +205,7 @@ fn put(
     }
 }
 
+#[inline(always)]
 fn note(worlds: &mut Worlds, world: Option<WorldId>, id: ObjId) -> Result<(), OutOfMemory>
     ensures ok { OnOk result (worlds.new ≡ with_world worlds.old world id) }
     ensures err { OnErr result (worlds.new ≡ worlds.old) }

@@ -91,6 +91,7 @@ impl Rows {
     }
 
     /// Puts an owner's next object; after a refusal nothing has changed.
+    #[inline(always)]
     pub fn push(&mut self, owner: u32, entry: Entry) -> Result<(), OutOfMemory>
         ensures ok { OnOk result (self.new ≡ map.insert self.old (next_number self.old owner) entry) }
         ensures err { OnErr result (self.new ≡ self.old) }
@@ -107,6 +108,7 @@ impl Rows {
 }
 
 /// Puts one object more after those of an owner.
+#[inline(always)]
 fn push_last(rows: &mut Vec<Entry>, entry: Entry) -> Result<(), OutOfMemory>
     ensures ok { OnOk result (rows.new.items ≡ rows.old.items ++ entry ∷ []) }
     ensures err { OnErr result (rows.new.items ≡ rows.old.items) }

@@ -22,6 +22,7 @@ use wjs_moves::{finish, wait};
 use wjs_store::WorldStore;
 
 /// Calls a function, with the values that the frame holds as its arguments: it is entered in the frame's place.
+#[inline(always)]
 pub fn call<S: WorldStore>(
     config: &mut Config<S>,
     frame: Frame,
@@ -43,6 +44,7 @@ pub fn call<S: WorldStore>(
 }
 
 /// Calls a function that a script made, where `this` becomes an object.
+#[inline(always)]
 fn call_script<S: WorldStore>(
     config: &mut Config<S>,
     frame: Frame,
@@ -96,6 +98,7 @@ pub fn call_if<S: WorldStore>(config: &mut Config<S>, frame: Frame) -> Result<()
 }
 
 /// Calls a value that must be a function (section 11.2.3).
+#[inline(always)]
 pub fn call_value<S: WorldStore>(
     config: &mut Config<S>,
     frame: Frame,

@@ -109,6 +109,7 @@ fn give_prototype<S: WorldStore>(
 }
 
 /// Makes the functions that a body declares, in order, and writes each to an object under its name.
+#[inline(always)]
 pub fn declare_functions<S: WorldStore>(
     config: &mut Config<S>,
     frame: &Frame,

@@ -18,6 +18,7 @@ use wjs_tree::NodeId;
 /// What the body at a node declares; nothing where the node is no body's.
 ///
 /// It takes time and memory in proportion to the statements of the body.
+#[inline(always)]
 pub fn declared(alloc: Global, unit: &Unit, body: NodeId) -> Result<Declared, OutOfMemory>
     ensures formals { IfOk result (λ d. (t : Table) → map (text_in t) d.formals ≡ (declared_by (unit_in t unit.now) body.0).formals) }
     ensures functions { IfOk result (λ d. (t : Table) → numbers d.functions ≡ (declared_by (unit_in t unit.now) body.0).functions) }

@@ -159,6 +159,7 @@ fn argument_at(values: &[Value], i: usize) -> Value
 }
 
 /// Writes variables as undefined.
+#[inline(always)]
 fn write_undefined<S: WorldStore>(
     config: &mut Config<S>,
     frame: &Frame,

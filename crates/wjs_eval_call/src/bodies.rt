@@ -176,6 +176,7 @@ fn after_element<S: WorldStore>(
 }
 
 /// The elements of a function's body from one on.
+#[inline(always)]
 fn run_body<S: WorldStore>(
     config: &mut Config<S>,
     frame: Frame,
