@@ -37,6 +37,7 @@ pub(crate) fn assign_start<S: WorldStore>(
 }
 
 /// After the target: `=` enters the right side, an operator with `=` first takes the target's value.
+#[inline(always)]
 pub(crate) fn assign_reference<S: WorldStore>(
     config: &mut Config<S>,
     frame: Frame,
@@ -60,6 +61,7 @@ pub(crate) fn assign_reference<S: WorldStore>(
 }
 
 /// The operator that an assignment applies.
+#[inline(always)]
 pub(crate) fn operator_of(sign: AssignOperator) -> Option<BinaryOperator>
     ensures { result ≡ compound sign }
 {
@@ -80,6 +82,7 @@ pub(crate) fn operator_of(sign: AssignOperator) -> Option<BinaryOperator>
 }
 
 /// `=`: the reference is held, and the right side is entered.
+#[inline(always)]
 fn assign_plain<S: WorldStore>(
     config: &mut Config<S>,
     frame: Frame,
@@ -102,6 +105,7 @@ fn assign_plain<S: WorldStore>(
 }
 
 /// An operator with `=`: the target's value comes first.
+#[inline(always)]
 fn assign_compound<S: WorldStore>(
     config: &mut Config<S>,
     frame: Frame,
@@ -128,6 +132,7 @@ fn assign_compound<S: WorldStore>(
 }
 
 /// The reference and its value are held, and the right side is entered.
+#[inline(always)]
 fn compound_old<S: WorldStore>(
     config: &mut Config<S>,
     frame: Frame,
@@ -156,6 +161,7 @@ fn compound_old<S: WorldStore>(
 }
 
 /// After the value that is stored.
+#[inline(always)]
 pub(crate) fn assign_value<S: WorldStore>(
     config: &mut Config<S>,
     frame: Frame,
@@ -172,6 +178,7 @@ pub(crate) fn assign_value<S: WorldStore>(
 }
 
 /// After the right value of an operator with `=`: two numbers need no frame.
+#[inline(always)]
 pub(crate) fn compound_value<S: WorldStore>(
     config: &mut Config<S>,
     frame: Frame,

@@ -49,6 +49,7 @@ pub(crate) fn postfix_start<S: WorldStore>(
 }
 
 /// Behind a target: after its reference.
+#[inline(always)]
 pub(crate) fn postfix_reference<S: WorldStore>(
     config: &mut Config<S>,
     frame: Frame,
@@ -69,6 +70,7 @@ pub(crate) fn postfix_reference<S: WorldStore>(
 }
 
 /// After the target: its value is made a number.
+#[inline(always)]
 pub(crate) fn update_reference<S: WorldStore>(
     config: &mut Config<S>,
     frame: Frame,
@@ -91,6 +93,7 @@ pub(crate) fn update_reference<S: WorldStore>(
 }
 
 /// After the value of the target: a primitive is a number at once.
+#[inline(always)]
 fn update_value<S: WorldStore>(
     config: &mut Config<S>,
     frame: Frame,
@@ -179,6 +182,7 @@ fn update_held<S: WorldStore>(
 }
 
 /// After the number: the next or the previous one is stored.
+#[inline(always)]
 fn update_number<S: WorldStore>(
     config: &mut Config<S>,
     frame: Frame,
@@ -209,6 +213,7 @@ fn update_number<S: WorldStore>(
 }
 
 /// The number after, or before.
+#[inline(always)]
 fn updated(operator: UpdateOperator, number: Whole) -> Result<Whole, NumFault>
     ensures { answer result ≡ line.updated operator number.number }
 {
@@ -226,6 +231,7 @@ fn one() -> Whole
 }
 
 /// The number that is given.
+#[inline(always)]
 fn given(fix: Fix, old: Whole, new: Whole) -> Whole
     ensures { result.number ≡ line.given (fix_of fix) old.number new.number }
 {
