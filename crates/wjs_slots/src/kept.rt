@@ -13,7 +13,7 @@ use std::collections::BTreeMap;
 use wjs_base::{Name, OutOfMemory};
 
 /// How many rows a list has at most: past that, to make room for one in between takes a tree.
-const LONGEST_LIST: usize = 512;
+const LONGEST_LIST: usize = 256;
 
 /// Rows in the order of their names.
 #[derive(Drop)]
