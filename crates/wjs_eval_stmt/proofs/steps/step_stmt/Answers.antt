@@ -37,5 +37,5 @@ returns-in-Given g c =
     let t = new.heap.texts in
     let env = env_in meaning mid t f in
     let P : Form → Completion → Type 0 = λ x e. OnOk c.resume.result (Follows meaning (after (node_in t (node_now meaning mid f)) x f.node.0 f.place (holding_in t f.held) env (completion_in t e)) mid new) in
-    let given = subst (λ e. P form.Stmt e) c.completion.ensures c.resume.ensures in
+    let given = subst (λ e. P form.Stmt e) c.completion-completion.ensures c.resume.ensures in
     takes.by new c.resume.result (subst (λ x. P x (given_of f.phase)) (sym (top_is old.state old.frames f c.requires.turn takes.taken)) given)
