@@ -47,6 +47,7 @@ fn run_turns<S: WorldStore, O: Sink>(config: &mut Config<S>, out: &mut O) -> Res
 }
 
 /// Takes turns until a step is taken, or the run has ended.
+#[inline(always)]
 fn run_to_step<S: WorldStore, O: Sink>(config: &mut Config<S>, out: &mut O) -> Result<(), Halt>
     requires plain { IsPlain S.meaning }
     requires running { config.old.state ≡ State.Running }

@@ -18,6 +18,7 @@ use wjs_rows::Steps;
 use wjs_store::Verdict;
 
 /// Reads a slot in a world.
+#[inline(always)]
 pub fn read<L: Ledger>(
     layers: &mut Vec<Layer>,
     world: Spot,
@@ -35,6 +36,7 @@ pub fn read<L: Ledger>(
 }
 
 /// Writes a slot in a world.
+#[inline(always)]
 pub fn write<L: Ledger>(
     layers: &mut Vec<Layer>,
     world: Spot,

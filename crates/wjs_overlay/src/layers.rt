@@ -73,6 +73,7 @@ fn put_row<L: Ledger>(
 }
 
 /// What a slot holds in a world, which is recorded there where the slot was untouched.
+#[inline(always)]
 pub fn read<L: Ledger>(
     layers: &mut [Layer],
     world: Spot,
@@ -170,6 +171,7 @@ fn written_row<L: Ledger>(
 }
 
 /// Sets a slot in a world. The descendants that are untouched at the slot have no row there, and hold it too.
+#[inline(always)]
 pub fn write<L: Ledger>(
     layers: &mut [Layer],
     world: Spot,

@@ -101,6 +101,7 @@ impl Overlay {
     }
 
     /// `read`, in at most twice the depth and 3 steps.
+    #[inline(always)]
     pub fn read_counted<L: Ledger>(
         &mut self,
         world: WorldId,
@@ -122,6 +123,7 @@ impl Overlay {
     }
 
     /// `write`, in at most twice the depth and 7 steps.
+    #[inline(always)]
     pub fn write_counted<L: Ledger>(
         &mut self,
         world: WorldId,
@@ -266,10 +268,12 @@ impl WorldStore for Overlay {
         self.spent
     }
 
+    #[inline(always)]
     fn read(&mut self, world: WorldId, slot: Slot) -> Result<Content, OutOfMemory> {
         uncounted::read_uncounted::<Brand>(self, world, slot, Blank::new(1))
     }
 
+    #[inline(always)]
     fn write(&mut self, world: WorldId, slot: Slot, content: Content) -> Result<(), OutOfMemory> {
         uncounted::write_uncounted::<Brand>(self, world, slot, content, Blank::new(1))
     }
