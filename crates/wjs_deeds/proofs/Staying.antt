@@ -37,11 +37,13 @@ use Rattle.wjs_model.specs.declared.frame.Completion.{Completion}
 use Rattle.wjs_model.specs.declared.frame.Completion.TheVariants as completions
 use Rattle.wjs_model.specs.declared.frame.Held.{Held}
 use Rattle.wjs_model.specs.declared.frame.Held.TheVariants as holds
+use Rattle.wjs_model.specs.declared.operand.Operand.{Operand}
+use Rattle.wjs_model.specs.declared.operand.Operand.TheVariants as operands
 use Rattle.wjs_model.specs.declared.frame.Phase.{Phase}
 use Rattle.wjs_model.specs.declared.frame.Phase.TheVariants as phases
 use Rattle.wjs_model.specs.declared.frame.Activation.{Activation as Frame}
 use Rattle.wjs_model.specs.declared.config.Config.{Config}
-use Rattle.wjs_model.specs.Soundness.{HasObject, HasName, HasValue, HasSlot, HasLabel, HasReference, HasCompletion, HasItem, HasItems, HasPhase, HasWorld, IsThere, Base}
+use Rattle.wjs_model.specs.Soundness.{HasObject, HasName, HasValue, HasSlot, HasLabel, HasReference, HasCompletion, HasItem, HasItems, HasOperand, HasPhase, HasWorld, IsThere, Base}
 use Rattle.wjs_model.specs.Standing.{FunctionStands, FrameStands}
 use Rattle.wjs_model.proofs.Placed.{placed_stay}
 use Rattle.wjs_model.proofs.Standing.{has_kept, frame_kept}
@@ -151,8 +153,14 @@ module _ {S : Type 0} (old new : Config S) (g : Grows old.heap.texts new.heap.te
   items_there [] h = tt
   items_there (i ∷ is) h = (item_there i h.0, items_there is h.1)
 
+  operand_there : (o : Operand) → HasOperand old o → HasOperand new o
+  operand_there (operands.Value v) h = value_there v h
+  operand_there (operands.Name place id) h = Grows-Has old.heap.texts new.heap.texts id g h
+  operand_there (operands.Target place id) h = Grows-Has old.heap.texts new.heap.texts id g h
+
   phase_there : (p : Phase) → HasPhase old p → HasPhase new p
   phase_there (phases.Given e) h = completion_there e h
+  phase_there (phases.Entering o) h = operand_there o h
   phase_there phases.Due h = tt
   phase_there phases.Ready h = tt
   phase_there phases.Waiting h = tt

@@ -8,6 +8,7 @@ mod known;
 mod looks;
 mod makes;
 mod messages;
+mod operands;
 mod output;
 mod properties;
 mod references;
@@ -26,6 +27,7 @@ pub use makes::{
     builtin, create, create_array, create_plain, create_scope, create_wrapper, object_of,
     one_fixed, two_fixed,
 };
+pub use operands::operand_completion;
 pub use output::emit;
 pub use properties::{delete, get, get_value, has, put, visits};
 pub use references::{local_value, reference_at, store, value_of};

@@ -11,6 +11,7 @@ use crate::bodies::{after_body, begin_body};
 use crate::conversions::{after_conversion, begin_conversion};
 use wjs_base::OutOfMemory;
 use wjs_calls::call_if;
+use wjs_deeds::operand_completion;
 use wjs_model::{Completion, Config, Form, Frame, State, Turn};
 use wjs_moves::{Top, finish, take_top};
 use wjs_store::WorldStore;
@@ -24,6 +25,10 @@ pub fn step_call<S: WorldStore>(config: &mut Config<S>) -> Result<(), OutOfMemor
     match take_top(config) {
         Top::Stops => Ok(()),
         Top::Begins(frame) => begin(config, frame),
+        Top::Enters(frame, operand) => {
+            let completion = operand_completion(config, &frame, operand)?;
+            resume(config, frame, completion)
+        }
         Top::Given(frame) => {
             let completion = frame.completion();
             resume(config, frame, completion)

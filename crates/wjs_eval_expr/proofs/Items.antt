@@ -21,7 +21,7 @@ use Rattle.wjs_model.specs.Texts.{KnowsKey, KnowsNode, KnowsUnit}
 use Rattle.wjs_model.specs.Waiting.{after, array_rest, array_item, object_rest, object_item}
 use Rattle.wjs_moves.specs.Parts.{node_among}
 use Rattle.wjs_lines.proofs.Parts.{each_at, each_past}
-use Rattle.wjs_calls.proofs.FunctionNodes.{node_known}
+use Rattle.wjs_moves.proofs.Places.{node_known}
 use Rattle.wjs_eval_expr.specs.Parts.{items_of, is_array, properties_of, is_object}
 
 -- ---- arrays

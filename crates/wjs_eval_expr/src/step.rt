@@ -10,12 +10,14 @@ ghost use Rattle.wjs_moves.specs.Taking.{Turns};
 use crate::resumes::{member_given, value_given};
 use crate::starts::expr_begin;
 use wjs_base::OutOfMemory;
+use wjs_deeds::operand_completion;
 use wjs_members::target_start;
 use wjs_model::{Completion, Config, Form, Frame, State, Turn};
 use wjs_moves::{Top, take_top};
 use wjs_store::WorldStore;
 
 /// Takes the turn of an expression or a target.
+#[inline(always)]
 pub fn step_expr<S: WorldStore>(config: &mut Config<S>) -> Result<(), OutOfMemory>
     requires turn { turn_of config.old.state config.old.frames ≡ Turn.Expr }
     requires sound { Sound S.meaning config.old }
@@ -24,6 +26,10 @@ pub fn step_expr<S: WorldStore>(config: &mut Config<S>) -> Result<(), OutOfMemor
     match take_top(config) {
         Top::Stops => Ok(()),
         Top::Begins(frame) => begin(config, frame),
+        Top::Enters(frame, operand) => {
+            let completion = operand_completion(config, &frame, operand)?;
+            resume(config, frame, completion)
+        }
         Top::Given(frame) => {
             let completion = frame.completion();
             resume(config, frame, completion)
@@ -32,6 +38,7 @@ pub fn step_expr<S: WorldStore>(config: &mut Config<S>) -> Result<(), OutOfMemor
 }
 
 /// The frame begins.
+#[inline(always)]
 fn begin<S: WorldStore>(config: &mut Config<S>, frame: Frame) -> Result<(), OutOfMemory>
     requires running { config.old.state ≡ State.Running }
     requires base { Base S.meaning config.old }
@@ -46,6 +53,7 @@ fn begin<S: WorldStore>(config: &mut Config<S>, frame: Frame) -> Result<(), OutO
 }
 
 /// The frame goes on with the completion that it waited for.
+#[inline(always)]
 fn resume<S: WorldStore>(
     config: &mut Config<S>,
     frame: Frame,

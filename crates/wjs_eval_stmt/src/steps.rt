@@ -7,6 +7,7 @@ ghost use Rattle.wjs_moves.specs.Taking.{Turns};
 use crate::begins::begin;
 use crate::resumes::resume;
 use wjs_base::OutOfMemory;
+use wjs_deeds::operand_completion;
 use wjs_model::{Config, Turn};
 use wjs_moves::{Top, take_top};
 use wjs_store::WorldStore;
@@ -20,6 +21,10 @@ pub fn step_stmt<S: WorldStore>(config: &mut Config<S>) -> Result<(), OutOfMemor
     match take_top(config) {
         Top::Stops => Ok(()),
         Top::Begins(frame) => begin(config, frame),
+        Top::Enters(frame, operand) => {
+            let completion = operand_completion(config, &frame, operand)?;
+            resume(config, frame, completion)
+        }
         Top::Given(frame) => {
             let completion = frame.completion();
             resume(config, frame, completion)

@@ -15,7 +15,7 @@ use wjs_base::{OutOfMemory, TextId};
 use wjs_deeds::reference_at;
 use wjs_lines::give_value_of;
 use wjs_model::{Completion, Config, Frame, State};
-use wjs_moves::finish;
+use wjs_moves::{finish, place_at};
 use wjs_scope::Place;
 use wjs_store::WorldStore;
 use wjs_tree::Node;
@@ -24,10 +24,7 @@ use wjs_tree::Node;
 fn place_of<S: WorldStore>(config: &Config<S>, frame: &Frame) -> Place
     ensures { (t : Table) → (tree_here (env_in S.meaning config.now t frame.now)).place frame.now.node.0 ≡ place_in result }
 {
-    match config.units.get(frame.tree() as usize) {
-        Some(unit) => unit.place(frame.node()),
-        None => Place::Global,
-    }
+    place_at(config, frame, frame.node())
 }
 
 /// A name for its value.

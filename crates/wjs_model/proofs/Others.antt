@@ -18,6 +18,8 @@ use Rattle.wjs_model.specs.declared.frame.Completion.{Completion}
 use Rattle.wjs_model.specs.declared.frame.Completion.TheVariants as completions
 use Rattle.wjs_model.specs.declared.frame.Held.{Held}
 use Rattle.wjs_model.specs.declared.frame.Held.TheVariants as holds
+use Rattle.wjs_model.specs.declared.operand.Operand.{Operand}
+use Rattle.wjs_model.specs.declared.operand.Operand.TheVariants as operands
 use Rattle.wjs_model.specs.declared.frame.Phase.{Phase}
 use Rattle.wjs_model.specs.declared.frame.Phase.TheVariants as phases
 use Rattle.wjs_model.specs.declared.frame.Activation.{Activation as Frame}
@@ -26,8 +28,8 @@ use Rattle.wjs_model.specs.declared.config.State.{State}
 use Rattle.wjs_model.specs.declared.config.State.TheVariants as states
 use Rattle.wjs_model.specs.Configurations.{Stays}
 use Rattle.wjs_model.specs.Apart.{is_apart, IsNear, NearValue, NearIf, NamesNear}
-use Rattle.wjs_model.specs.Soundness.{HasObject, HasValue, HasReference, HasCompletion, HasItem, HasItems, HasPhase, HasThrown, IsThere, Base, Sound}
-use Rattle.wjs_model.specs.Others.{Other, OtherIf, OtherValue, OtherReference, OtherCompletion, OtherItem, OtherItems, OtherPhase, OtherState, OtherFrame, OtherNamed, KeptApart}
+use Rattle.wjs_model.specs.Soundness.{HasObject, HasValue, HasReference, HasCompletion, HasItem, HasItems, HasOperand, HasPhase, HasThrown, IsThere, Base, Sound}
+use Rattle.wjs_model.specs.Others.{Other, OtherIf, OtherValue, OtherReference, OtherCompletion, OtherItem, OtherItems, OtherOperand, OtherPhase, OtherState, OtherFrame, OtherNamed, KeptApart}
 
 not_both : (b : Bool) → IsTrue b → IsTrue (not b) → ⊥
 not_both true h k = absurd (cc)
@@ -98,8 +100,14 @@ module _ {S : Type 0} (c : Config S) (u : ℕ) (a : IsTrue (is_apart c.apart.ite
   other_items [] h = tt
   other_items (i ∷ is) h = (other_item i h.0, other_items is h.1)
 
+  other_operand : (o : Operand) → HasOperand c o → OtherOperand u o
+  other_operand (operands.Value v) h = other_value v h
+  other_operand (operands.Name place id) h = tt
+  other_operand (operands.Target place id) h = tt
+
   other_phase : (p : Phase) → HasPhase c p → OtherPhase u p
   other_phase (phases.Given e) h = other_completion e h
+  other_phase (phases.Entering o) h = other_operand o h
   other_phase phases.Due h = tt
   other_phase phases.Ready h = tt
   other_phase phases.Waiting h = tt
@@ -221,8 +229,14 @@ module _ {S : Type 0} (c new : Config S) where
   items_listed [] h k = tt
   items_listed (i ∷ is) h k = (item_listed i h.0 (λ u a. (k u a).0), items_listed is h.1 (λ u a. (k u a).1))
 
+  operand_listed : (o : Operand) → HasOperand c o → Each (λ u. OtherOperand u o) → HasOperand listed o
+  operand_listed (operands.Value v) h k = value_listed v h k
+  operand_listed (operands.Name place id) h k = h
+  operand_listed (operands.Target place id) h k = h
+
   phase_listed : (p : Phase) → HasPhase c p → Each (λ u. OtherPhase u p) → HasPhase listed p
   phase_listed (phases.Given e) h k = completion_listed e h k
+  phase_listed (phases.Entering o) h k = operand_listed o h k
   phase_listed phases.Due h k = tt
   phase_listed phases.Ready h k = tt
   phase_listed phases.Waiting h k = tt

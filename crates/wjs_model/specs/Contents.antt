@@ -8,10 +8,10 @@ use Rattle.wjs_base.specs.declared.values.Slot.{Slot as NumberedSlot}
 use Rattle.wjs_base.specs.declared.values.Value.{Value as NumberedValue}
 use Rattle.wjs_base.specs.declared.values.Value.TheVariants as values
 use Rattle.wjs_base.specs.Text.{Table}
-use Rattle.wjs_content.specs.Values.{Value, Undefined}
+use Rattle.wjs_content.specs.Values.{Text, Value, Undefined}
 use Rattle.wjs_content.specs.Names.{Slot, index_name}
 use Rattle.wjs_content.specs.Tables.{text_in, name_in, value_in, slot_in}
-use Rattle.wjs_meaning.specs.Trees.{Tree}
+use Rattle.wjs_meaning.specs.Trees.{Tree, Place}
 use Rattle.wjs_meaning.specs.Deeds.{Env, Reference, Local, Global, Member, Completion, Gives, Refers, Normal, Breaks, Continues, Returns, Throws}
 use Rattle.wjs_model.specs.Frames.{earliest_first}
 use Rattle.wjs_model.specs.declared.frame.Reference.{Reference as NumberedReference}
@@ -20,6 +20,9 @@ use Rattle.wjs_model.specs.declared.frame.Completion.{Completion as NumberedComp
 use Rattle.wjs_model.specs.declared.frame.Completion.TheVariants as completions
 use Rattle.wjs_model.specs.declared.frame.Held.{Held}
 use Rattle.wjs_model.specs.declared.frame.Held.TheVariants as holds
+use Rattle.wjs_model.specs.Units.{place_in}
+use Rattle.wjs_model.specs.declared.operand.Operand.{Operand as NumberedOperand}
+use Rattle.wjs_model.specs.declared.operand.Operand.TheVariants as operands
 use Rattle.wjs_model.specs.declared.frame.Phase.{Phase}
 use Rattle.wjs_model.specs.declared.frame.Phase.TheVariants as phases
 use Rattle.wjs_model.specs.declared.frame.Form.{Form}
@@ -47,12 +50,19 @@ pub record Holding : Type 0 where
 abbrev pub nothing : Holding
 nothing = record { value = Undefined; values = []; reference = Member Undefined (index_name 0); callee = (Undefined, Undefined); by_new = false; begun = false; elements = (record { owner = 0; serial = 0 }, 0); earlier = Normal; visits = [] }
 
+-- a literal or `this`; a name at its place, for its value or as a target
+pub data Operand : Type 0 where
+  ValueOperand : Value → Operand
+  NameOperand : Place → Text → Operand
+  TargetOperand : Place → Text → Operand
+
 -- when a frame goes on
 pub data Moment : Type 0 where
   Due : Moment
   Ready : Moment
   Waiting : Moment
   Given : Completion → Moment
+  Entering : Operand → Moment
 
 -- a node that is being run
 pub record Frame : Type 0 where
@@ -147,11 +157,17 @@ module _ (texts : Table) where
     visits = each (slot_in texts) (visits_held held);
   }
 
+  abbrev pub operand_in : NumberedOperand → Operand
+  operand_in (operands.Value v) = ValueOperand (value_in texts v)
+  operand_in (operands.Name place id) = NameOperand (place_in place) (text_in texts id)
+  operand_in (operands.Target place id) = TargetOperand (place_in place) (text_in texts id)
+
   abbrev pub moment_in : Phase → Moment
   moment_in phases.Due = Due
   moment_in phases.Ready = Ready
   moment_in phases.Waiting = Waiting
   moment_in (phases.Given c) = Given (completion_in c)
+  moment_in (phases.Entering o) = Entering (operand_in o)
 
   abbrev pub frame_in : NumberedFrame → Frame
   frame_in f = record {

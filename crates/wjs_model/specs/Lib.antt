@@ -3,6 +3,7 @@ pub mod Units
 pub mod Texts
 pub mod Turns
 pub mod Contents
+pub mod Operands
 pub mod Waiting
 pub mod Rest
 pub mod Laws

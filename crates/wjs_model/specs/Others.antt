@@ -15,6 +15,8 @@ use Rattle.wjs_model.specs.declared.frame.Reference.{Reference}
 use Rattle.wjs_model.specs.declared.frame.Reference.TheVariants as references
 use Rattle.wjs_model.specs.declared.frame.Completion.{Completion}
 use Rattle.wjs_model.specs.declared.frame.Completion.TheVariants as completions
+use Rattle.wjs_model.specs.declared.operand.Operand.{Operand}
+use Rattle.wjs_model.specs.declared.operand.Operand.TheVariants as operands
 use Rattle.wjs_model.specs.declared.frame.Held.{Held}
 use Rattle.wjs_model.specs.declared.frame.Held.TheVariants as holds
 use Rattle.wjs_model.specs.declared.frame.Phase.{Phase}
@@ -69,8 +71,14 @@ module _ (u : ℕ) where
   OtherItems [] = Unit {0}
   OtherItems (x ∷ xs) = OtherItem x × OtherItems xs
 
+  abbrev pub OtherOperand : Operand → Type 0
+  OtherOperand (operands.Value v) = OtherValue v
+  OtherOperand (operands.Name place id) = Unit {0}
+  OtherOperand (operands.Target place id) = Unit {0}
+
   abbrev pub OtherPhase : Phase → Type 0
   OtherPhase (phases.Given e) = OtherCompletion e
+  OtherPhase (phases.Entering o) = OtherOperand o
   OtherPhase phases.Due = Unit {0}
   OtherPhase phases.Ready = Unit {0}
   OtherPhase phases.Waiting = Unit {0}

@@ -25,7 +25,8 @@ use Rattle.wjs_model.specs.declared.frame.Conversion.TheVariants as to
 use Rattle.wjs_model.specs.declared.frame.Form.{Form}
 use Rattle.wjs_model.specs.declared.frame.Form.TheVariants as form
 use Rattle.wjs_model.specs.Frames.{last, front}
-use Rattle.wjs_model.specs.Contents.{Frame, Holding, Moment, Due, Ready, Waiting, Given, Run, env_of}
+use Rattle.wjs_model.specs.Contents.{Frame, Holding, Moment, Due, Ready, Waiting, Given, Entering, Run, env_of}
+use Rattle.wjs_model.specs.Operands.{with_operand}
 use Rattle.wjs_model.specs.Waiting.{after, variables_of}
 
 -- ---- what a frame begins with, after the step that is due or at once
@@ -115,6 +116,7 @@ act_at run f Due = Tick (begin f (env_of run f))
 act_at run f Ready = begin f (env_of run f)
 act_at run f Waiting = given run f Normal
 act_at run f (Given c) = given run f c
+act_at run f (Entering o) = Tick (with_operand o (env_of run f) (given run f))
 
 abbrev pub act_of : Run → Frame → Act
 act_of run f = act_at run f f.moment
@@ -163,6 +165,7 @@ turns_over run act fs st = turns_act act st (turns_under run fs (λ c st'. 0))
 -- where a step is due none; else the frame's own turn, and those that follow
 abbrev pub turns_at : Run → List Frame → Frame → Moment → St → ℕ
 turns_at run fs f Due st = 0
+turns_at run fs f (Entering o) st = 0
 turns_at run fs f moment st = suc (turns_over run (act_at run f moment) fs st)
 
 abbrev pub turns_top : Run → List Frame → Option Frame → St → ℕ

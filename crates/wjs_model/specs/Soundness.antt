@@ -24,6 +24,8 @@ use Rattle.wjs_model.specs.declared.frame.Reference.{Reference}
 use Rattle.wjs_model.specs.declared.frame.Reference.TheVariants as references
 use Rattle.wjs_model.specs.declared.frame.Completion.{Completion}
 use Rattle.wjs_model.specs.declared.frame.Completion.TheVariants as completions
+use Rattle.wjs_model.specs.declared.operand.Operand.{Operand}
+use Rattle.wjs_model.specs.declared.operand.Operand.TheVariants as operands
 use Rattle.wjs_model.specs.declared.frame.Held.{Held}
 use Rattle.wjs_model.specs.declared.frame.Held.TheVariants as holds
 use Rattle.wjs_model.specs.declared.frame.Phase.{Phase}
@@ -94,8 +96,14 @@ module _ {S : Type 0} (c : Config S) where
   HasItems [] = Unit {0}
   HasItems (x ∷ xs) = HasItem x × HasItems xs
 
+  abbrev pub HasOperand : Operand → Type 0
+  HasOperand (operands.Value v) = HasValue v
+  HasOperand (operands.Name place id) = Has c.heap.texts id
+  HasOperand (operands.Target place id) = Has c.heap.texts id
+
   abbrev pub HasPhase : Phase → Type 0
   HasPhase (phases.Given e) = HasCompletion e
+  HasPhase (phases.Entering o) = HasOperand o
   HasPhase _ = Unit {0}
 
   abbrev pub HasThrown : State → Type 0

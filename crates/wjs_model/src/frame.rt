@@ -1,9 +1,10 @@
 //! What a configuration has still to do, a frame for each node that is being run.
 
-ghost use Rattle.std.specs.Prelude.{◌≡◌, ◌++◌, ◌∷◌, [], IfOk, OnOk, OnErr, is_some, option_map};
+ghost use Rattle.std.specs.Prelude.{◌≡◌, ◌++◌, ◌∷◌, [], IfOk, OnOk, OnErr, is_some, option_map, true};
 ghost use Rattle.wjs_model.specs.Begun.{begun_at, given_of};
 ghost use Rattle.wjs_model.specs.Frames.{last, on_last, Pops, Uncovers};
 
+use crate::operand::Operand;
 use std::alloc::Global;
 use std::marker::Model;
 use std::mem;
@@ -70,6 +71,8 @@ pub enum Phase {
     Waiting,
     /// With this completion, which it waited for.
     Given(Completion),
+    /// With the completion of this, for which a step is due first.
+    Entering(Operand),
 }
 
 /// What a frame holds until it goes on.
@@ -137,6 +140,13 @@ impl Items {
         ensures { Uncovers self.old result self.new }
     {
         self.list.pop()
+    }
+
+    /// Whether nothing is held.
+    fn is_empty(&self) -> bool
+        ensures yes { result ≡ true → self.now ≡ [] }
+    {
+        self.list.is_empty()
     }
 
     /// Holds nothing any more. The memory of what it held is used again.
@@ -320,6 +330,17 @@ impl Frame {
         self.at.world = other.world();
     }
 
+    /// It begins at once, and holds something. Where that is nothing, the memory of what it held before is used again.
+    fn go_on_holding(&mut self, held: Items)
+        requires { self.old.held ≡ [] }
+        ensures { self.new ≡ record self.old { phase = Phase.Ready; held = held } }
+    {
+        self.at.phase = Phase::Ready;
+        if !held.is_empty() {
+            self.at.held = held;
+        }
+    }
+
     pub fn set_held(&mut self, held: Items)
         ensures { self.new ≡ record self.old { held = held } }
     {
@@ -439,6 +460,24 @@ impl Frames {
         ensures { OnOk result (self.new ≡ (self.old ++ frame ∷ []) ++ begun_at frame form node place ∷ []) }
     {
         let above = self.begun(&frame, form, node, place)?;
+        self.push(frame)?;
+        self.push(above)
+    }
+
+    /// Puts a frame on top, and one more above it, which begins at once, at a place of a node that it runs as a form, around the
+    /// same and with what it holds.
+    pub fn push_ready(
+        &mut self,
+        frame: Frame,
+        form: Form,
+        node: NodeId,
+        place: u32,
+        held: Items,
+    ) -> Result<(), OutOfMemory>
+        ensures { OnOk result (self.new ≡ (self.old ++ frame ∷ []) ++ record (begun_at frame form node place) { phase = Phase.Ready; held = held } ∷ []) }
+    {
+        let mut above = self.begun(&frame, form, node, place)?;
+        above.go_on_holding(held);
         self.push(frame)?;
         self.push(above)
     }

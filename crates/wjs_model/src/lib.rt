@@ -6,6 +6,7 @@ mod frame;
 mod held;
 mod laws;
 mod nodes;
+mod operand;
 mod turn;
 mod unit;
 
@@ -16,6 +17,7 @@ pub use frame::{
 pub use laws::{
     ends_go_down, kept_apart_stays, may_be_kept_apart, sound_keeps_apart, start_is_the_run,
 };
+pub use operand::Operand;
 pub use turn::Turn;
 pub use unit::Unit;
 pub use wjs_meaning::{LIBRARY, Trouble};

@@ -9,18 +9,22 @@ use Rattle.wjs_meaning.proofs.Steps.{entries_lem}
 use Rattle.wjs_model.specs.declared.config.Config.{Config}
 use Rattle.wjs_model.specs.declared.config.State.TheVariants as states
 use Rattle.wjs_model.specs.declared.frame.Phase.TheVariants as phases
+use Rattle.wjs_model.specs.declared.operand.Operand.{Operand}
 use Rattle.wjs_model.specs.declared.frame.Activation.{Activation as NumberedFrame}
-use Rattle.wjs_model.specs.Contents.{Frame, Run, frame_in, holding_in}
+use Rattle.wjs_model.specs.Contents.{Frame, Run, frame_in, holding_in, operand_in}
+use Rattle.wjs_model.specs.Operands.{with_operand}
 use Rattle.wjs_model.specs.Rest.{Go, under, given, begin, begin_form, turns_over, turns_act}
 use Rattle.wjs_model.specs.Waiting.{after}
 use Rattle.wjs_model.specs.Configurations.{seen, tells, run_in, state_in, frames_in}
 use Rattle.wjs_moves.specs.declared.place.Part.{Part}
 use Rattle.wjs_moves.specs.declared.place.Part.TheVariants as part
 use Rattle.wjs_moves.specs.Parts.{goal_of, form_of, node_of, place_of, due_frame, env_in, then_at, begins_at}
+use Rattle.wjs_moves.specs.Operands.{IsOperand}
 use Rattle.wjs_moves.specs.Keeping.{rest_with, Keeps, Opens}
 use Rattle.wjs_moves.proofs.Frames.{each_snoc, under_snoc, turns_under_snoc}
 use Rattle.wjs_moves.proofs.Places.{node_same}
 use Rattle.wjs_moves.proofs.Keeping.{keeps_framed}
+use Rattle.wjs_moves.proofs.OperandLines.{entered_same}
 
 -- what a part's frame begins with is the part's entry
 pub begins_part : (t : Table) (p : Part) (env : Env) → begin_form (node_here env (node_of p).0) (form_of p) ((node_of p).0) (place_of p) (holding_in t []) env ≡ entry (goal_of p) env
@@ -89,6 +93,18 @@ module _ {S : Type 0} (meaning : S → Meaning) where
       let eg : each (frame_in t) mid ≡ frames_in meaning t old ++ frame_in t w ∷ [] = ap (each (frame_in t)) em ∙ each_snoc (frame_in t) old.frames w in
       keeps_framed meaning t 1 _ (Tick (entry (goal_of p) env)) old frames mid (due_frame f p) er ef (ap Tick (begins_part t p env))
       (λ st n. ap (λ go. rest_with run (Eval (goal_of p) env go) (frames_in meaning t old) st n) (sym (given_then t old f place)) ∙ enter_rest run (goal_of p) env (frames_in meaning t old) (frame_in t w) st n ∙ sym (ap (λ l. rest_with run (Tick (entry (goal_of p) env)) l st n) eg))
+      (λ st. one_due _)
+
+  -- a frame waits for an operand, whose step is due
+  pub keeps_operand : (t : Table) (old : Config S) (f : NumberedFrame) (place : ℕ) (p : Part) (o : Operand) (frames : List NumberedFrame) → old.state ≡ states.Running → IsOperand meaning old f p o → frames ≡ old.frames ++ record f { place = place; phase = phases.Entering o } ∷ []
+      → Keeps meaning t 1 (Eval (goal_of p) (env_in meaning old t f) (then_at meaning old f place t (env_in meaning old t f))) old (record old { frames = frames })
+  keeps_operand t old f place p o frames er is ef =
+      let run = run_in meaning t old in
+      let env = env_in meaning old t f in
+      let go = then_at meaning old f place t env in
+      let act = with_operand (operand_in t o) env go in
+      keeps_framed meaning t 1 _ (Tick act) old frames old.frames (record f { place = place; phase = phases.Entering o }) er ef (ap (λ k. Tick (with_operand (operand_in t o) env k)) (given_then t old f place))
+      (λ st n. ap (λ out. run_next (then_do out (under run (frames_in meaning t old) Ends)) (λ st' n'. (Done, st'))) (entered_same (goal_of p) env go act (is.does t go) st n))
       (λ st. one_due _)
 
   -- a part is due in the place of a frame

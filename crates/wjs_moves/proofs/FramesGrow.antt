@@ -19,12 +19,15 @@ use Rattle.wjs_model.specs.declared.frame.Completion.{Completion}
 use Rattle.wjs_model.specs.declared.frame.Completion.TheVariants as completions
 use Rattle.wjs_model.specs.declared.frame.Held.{Held}
 use Rattle.wjs_model.specs.declared.frame.Held.TheVariants as holds
+use Rattle.wjs_model.specs.Units.{place_in}
+use Rattle.wjs_model.specs.declared.operand.Operand.{Operand}
+use Rattle.wjs_model.specs.declared.operand.Operand.TheVariants as operands
 use Rattle.wjs_model.specs.declared.frame.Phase.{Phase}
 use Rattle.wjs_model.specs.declared.frame.Phase.TheVariants as phases
 use Rattle.wjs_model.specs.declared.frame.Activation.{Activation as Frame}
 use Rattle.wjs_model.specs.Frames.{earliest_first}
-use Rattle.wjs_model.specs.Contents.{Given, value_held, values_held, reference_held, callee_held, new_held, begun_held, elements_held, earlier_held, visits_held, reference_in, completion_in, holding_in, moment_in, frame_in}
-use Rattle.wjs_model.specs.Soundness.{HasName, HasValue, HasReference, HasCompletion, HasItems, HasPhase, IsThere}
+use Rattle.wjs_model.specs.Contents.{Given, Entering, ValueOperand, NameOperand, TargetOperand, operand_in, value_held, values_held, reference_held, callee_held, new_held, begun_held, elements_held, earlier_held, visits_held, reference_in, completion_in, holding_in, moment_in, frame_in}
+use Rattle.wjs_model.specs.Soundness.{HasName, HasValue, HasReference, HasCompletion, HasItems, HasOperand, HasPhase, IsThere}
 use Rattle.wjs_moves.proofs.NodesGrow.{label_grows}
 
 module _ {S : Type 0} (c : Config S) (new : Table) (g : Grows c.heap.texts new) where
@@ -155,11 +158,17 @@ module _ {S : Type 0} (c : Config S) (new : Table) (g : Grows c.heap.texts new) 
         visits = visits i;
       }
 
+  operand_grows : (o : Operand) → HasOperand c o → operand_in new o ≡ operand_in c.heap.texts o
+  operand_grows (operands.Value v) k = ap ValueOperand (value_grows v k)
+  operand_grows (operands.Name place id) k = ap (NameOperand (place_in place)) (text_stays c.heap.texts new g id k)
+  operand_grows (operands.Target place id) k = ap (TargetOperand (place_in place)) (text_stays c.heap.texts new g id k)
+
   moment_grows : (p : Phase) → HasPhase c p → moment_in new p ≡ moment_in c.heap.texts p
   moment_grows phases.Due k = refl
   moment_grows phases.Ready k = refl
   moment_grows phases.Waiting k = refl
   moment_grows (phases.Given e) k = ap Given (completion_grows e k)
+  moment_grows (phases.Entering o) k = ap Entering (operand_grows o k)
 
   pub frame_grows : (meaning : S → Meaning) (f : Frame) → IsThere meaning c f → frame_in new f ≡ frame_in c.heap.texts f
   frame_grows meaning f k =

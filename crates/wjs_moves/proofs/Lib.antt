@@ -3,6 +3,7 @@ pub mod Places
 pub mod Keeping
 pub mod Sounding
 pub mod Ending
+pub mod OperandLines
 pub mod Entering
 pub mod Taking
 pub mod Moving

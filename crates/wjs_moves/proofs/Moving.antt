@@ -12,6 +12,7 @@ use Rattle.wjs_model.specs.declared.config.State.TheVariants as states
 use Rattle.wjs_model.specs.declared.frame.Completion.{Completion}
 use Rattle.wjs_model.specs.declared.frame.Completion.TheVariants as completions
 use Rattle.wjs_model.specs.declared.frame.Phase.TheVariants as phases
+use Rattle.wjs_model.specs.declared.operand.Operand.{Operand}
 use Rattle.wjs_model.specs.declared.frame.Activation.{Activation as Frame}
 use Rattle.wjs_model.specs.declared.frame.Form.{Form}
 use Rattle.wjs_model.specs.declared.frame.Held.{Held}
@@ -29,12 +30,13 @@ use Rattle.wjs_arena.specs.Entries.{Objects}
 use Rattle.wjs_moves.specs.declared.place.Part.{Part}
 use Rattle.wjs_moves.specs.declared.place.Part.TheVariants as part
 use Rattle.wjs_moves.specs.Parts.{goal_of, form_of, node_of, due_frame, env_in, then_at, begins_at, ended, node_among}
+use Rattle.wjs_moves.specs.Operands.{IsOperand}
 use Rattle.wjs_moves.specs.Keeping.{Keeps}
 use Rattle.wjs_moves.specs.Following.{Follows, Later}
 use Rattle.wjs_moves.specs.Nesting.{Nests}
 use Rattle.wjs_moves.proofs.Sounding.{there_at, there_framed, base_framed, sound_push, there_pop}
 use Rattle.wjs_moves.proofs.Keeping.{grows_same}
-use Rattle.wjs_moves.proofs.Entering.{keeps_enter, keeps_last, keeps_ready, keeps_due, opens_waiting}
+use Rattle.wjs_moves.proofs.Entering.{keeps_enter, keeps_operand, keeps_last, keeps_ready, keeps_due, opens_waiting}
 use Rattle.wjs_moves.proofs.Ending.{keeps_given, keeps_ended}
 
 thrown_ended : {S : Type 0} (c : Config S) (e : Completion) → HasCompletion c e → HasThrown c (ended e)
@@ -84,6 +86,14 @@ module _ {S : Type 0} (meaning : S → Meaning) where
   follows_enter old f place p mid frames er b h s em ef = record {
     keeps = keeps_enter meaning old.heap.texts old f place p mid frames er em ef;
     sound = sound_push meaning old frames mid (due_frame f p) er b (all_waiting old f place mid b h em) (there_due old f p h s) ef;
+  }
+
+  -- a frame waits for an operand
+  pub follows_operand : (old : Config S) (f : Frame) (place : ℕ) (p : Part) (o : Operand) (frames : List Frame) → old.state ≡ states.Running → Base meaning old → IsThere meaning old f → IsOperand meaning old f p o → frames ≡ old.frames ++ record f { place = place; phase = phases.Entering o } ∷ []
+      → Follows meaning (let t = old.heap.texts in Eval (goal_of p) (env_in meaning old t f) (then_at meaning old f place t (env_in meaning old t f))) old (record old { frames = frames })
+  follows_operand old f place p o frames er b h is ef = record {
+    keeps = keeps_operand meaning old.heap.texts old f place p o frames er is ef;
+    sound = sound_push meaning old frames old.frames _ er b b.frames (there_at meaning old f place (phases.Entering o) is.has h) ef;
   }
 
   -- a part is due in the place of a frame

@@ -1,7 +1,8 @@
 -- The node at a place of a run is the numbered node under the table.
-use Rattle.std.proofs.Common.{◌≡◌, ℕ, List, Option, None, Some, refl, ap, ◌∙◌}
-use Rattle.std.specs.Prelude.{map as each, slice_get, unwrap_or}
+use Rattle.std.proofs.Common.{◌≡◌, ℕ, zero, suc, List, [], ◌∷◌, Option, None, Some, refl, ap, ◌∙◌, subst}
+use Rattle.std.specs.Prelude.{map as each, All, slice_get, unwrap_or}
 use Rattle.std.specs.Option.{option_map}
+use Rattle.std.proofs.lemmas.List.Elements.{All-head, All-tail}
 use Rattle.std.proofs.lemmas.Option.{slice_get-map}
 use Rattle.wjs_base.specs.Text.{Table}
 use Rattle.wjs_tree.specs.declared.node.NodeId.{NodeId}
@@ -10,6 +11,7 @@ use Rattle.wjs_tree.specs.declared.node.Node.TheVariants as nodes
 use Rattle.wjs_meaning.specs.Trees.{Empty, empty_tree, node_at, tree_at}
 use Rattle.wjs_meaning.specs.Reading.{node_in}
 use Rattle.wjs_model.specs.declared.unit.Unit.{Unit as Program}
+use Rattle.wjs_model.specs.Texts.{KnowsNode, KnowsUnit}
 use Rattle.wjs_model.specs.Units as program
 use Rattle.wjs_moves.specs.Parts.{node_among}
 
@@ -27,3 +29,17 @@ among_units t (Some u) id = among_unit t u id
 -- the node of a tree by content
 pub node_same : (t : Table) (units : List Program) (tree : ℕ) (id : NodeId) → node_at (tree_at (each (program.unit_in t) units) tree) id.0 ≡ node_in t (node_among units tree id)
 node_same t units tree id = ap (λ o. node_at (unwrap_or o empty_tree) id.0) (slice_get-map (program.unit_in t) units tree) ∙ among_units t (slice_get units tree) id
+
+node_in_known : (t : Table) (ns : List NumberedNode) (k : ℕ) → All (KnowsNode t) ns → KnowsNode t (unwrap_or (slice_get ns k) nodes.Empty)
+node_in_known t [] k h = tt
+node_in_known t (n ∷ ns) zero h = All-head (KnowsNode t) n ns h
+node_in_known t (n ∷ ns) (suc k) h = node_in_known t ns k (All-tail (KnowsNode t) n ns h)
+
+among_known : (t : Table) (units : List Program) (tree : ℕ) (id : NodeId) → All (KnowsUnit t) units → KnowsNode t (node_among units tree id)
+among_known t [] tree id h = tt
+among_known t (u ∷ us) zero id h = node_in_known t u.program.nodes id.0 (All-head (KnowsUnit t) u us h)
+among_known t (u ∷ us) (suc k) id h = among_known t us k id (All-tail (KnowsUnit t) u us h)
+
+-- the texts of a node are there
+pub node_known : (t : Table) (units : List Program) (tree : ℕ) (id : NodeId) (n : NumberedNode) → All (KnowsUnit t) units → node_among units tree id ≡ n → KnowsNode t n
+node_known t units tree id n h e = subst (KnowsNode t) e (among_known t units tree id h)

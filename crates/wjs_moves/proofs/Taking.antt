@@ -9,18 +9,20 @@ use Rattle.wjs_store.specs.Meaning.{Meaning, PlainAct, PlainReply}
 use Rattle.wjs_content.specs.Names.{content}
 use Rattle.wjs_content.specs.Objects.{Arena}
 use Rattle.wjs_content.specs.Worlds.{told_by}
-use Rattle.wjs_meaning.specs.Deeds.{St, Env, Act, Completion as Said, Normal}
+use Rattle.wjs_meaning.specs.Deeds.{St, Env, Act, Tick, Completion as Said, Normal}
 use Rattle.wjs_meaning.specs.Programs.{Ending, Done, StepsSpent, run_next}
 use Rattle.wjs_model.specs.declared.config.Config.{Config}
 use Rattle.wjs_model.specs.declared.config.State.TheVariants as states
 use Rattle.wjs_model.specs.declared.frame.Phase.{Phase}
 use Rattle.wjs_model.specs.declared.frame.Phase.TheVariants as phases
+use Rattle.wjs_model.specs.declared.operand.Operand.{Operand}
 use Rattle.wjs_model.specs.declared.frame.Completion.{Completion}
 use Rattle.wjs_model.specs.declared.frame.Activation.{Activation as NumberedFrame}
 use Rattle.wjs_model.specs.Frames.{last, front}
 use Rattle.wjs_model.specs.Begun.{given_of}
 use Rattle.wjs_model.proofs.Tops.{last-snoc}
-use Rattle.wjs_model.specs.Contents.{Frame, Run, Moment, frame_in, moment_in, completion_in}
+use Rattle.wjs_model.specs.Contents.{Frame, Run, Moment, frame_in, moment_in, completion_in, operand_in}
+use Rattle.wjs_model.specs.Operands.{with_operand}
 use Rattle.wjs_model.specs.Rest.{act_at, rest_of, rest_top, turns_of, turns_over, turns_at}
 use Rattle.wjs_model.specs.Configurations.{seen, tells, run_in, state_in, frames_in, rest_by, turns_by, Stays, Turned, quietly, by_step, stopped}
 use Rattle.wjs_moves.specs.Keeping.{rest_with}
@@ -28,7 +30,7 @@ use Rattle.wjs_moves.specs.Following.{Follows}
 use Rattle.wjs_moves.specs.Parts.{env_in, then_at, begins_at}
 use Rattle.wjs_moves.specs.Taking.{is_due, Turns, TakesOff}
 use Rattle.wjs_moves.proofs.Frames.{each_snoc, rest_of_snoc, turns_of_snoc}
-use Rattle.wjs_model.specs.Soundness.{HasPhase, HasCompletion, IsThere, Base}
+use Rattle.wjs_model.specs.Soundness.{HasPhase, HasCompletion, HasOperand, IsThere, Base}
 use Rattle.wjs_moves.proofs.Sounding.{there_framed, base_framed, there_pop}
 use Rattle.wjs_moves.proofs.Entering.{given_then, begin_then}
 use Rattle.wjs_moves.proofs.Keeping.{stays_framed}
@@ -40,20 +42,16 @@ falls_below x y k e h = omega (arith, e, h)
 pub due_last : (fs : List NumberedFrame) (f : NumberedFrame) → is_due (option_map (λ (q : NumberedFrame). q.phase) (last (fs ++ f ∷ []))) ≡ is_due (Some f.phase)
 due_last fs f = ap (λ o. is_due (option_map (λ (q : NumberedFrame). q.phase) o)) (last-snoc fs f)
 
-pub due_phase : (p : Phase) → is_due (Some p) ≡ true → p ≡ phases.Due
-due_phase phases.Due h = refl
-due_phase phases.Ready h = absurd (cc)
-due_phase phases.Waiting h = absurd (cc)
-due_phase (phases.Given c) h = absurd (cc)
+-- the frame that was on top has a phase in which a step is due
+pub taken_due : (all fs : List NumberedFrame) (f : NumberedFrame) (p : Phase) → all ≡ fs ++ f ∷ [] → is_due (option_map (λ (q : NumberedFrame). q.phase) (last all)) ≡ true → f.phase ≡ p → is_due (Some p) ≡ false → ⊥
+taken_due all fs f p e h d n =
+    let one : false ≡ is_due (option_map (λ (q : NumberedFrame). q.phase) (last all)) = sym (ap (λ l. is_due (option_map (λ (q : NumberedFrame). q.phase) (last l))) e ∙ due_last fs f ∙ ap (λ q. is_due (Some q)) d ∙ n) in
+    cc
 
--- the frame that was on top is due
-pub taken_due : (all fs : List NumberedFrame) (f : NumberedFrame) → all ≡ fs ++ f ∷ [] → is_due (option_map (λ (q : NumberedFrame). q.phase) (last all)) ≡ true → f.phase ≡ phases.Due
-taken_due all fs f e h = due_phase f.phase (sym (due_last fs f) ∙ sym (ap (λ l. is_due (option_map (λ (q : NumberedFrame). q.phase) (last l))) e) ∙ h)
-
--- or isn't
-pub taken_not_due : (all fs : List NumberedFrame) (f : NumberedFrame) → all ≡ fs ++ f ∷ [] → is_due (option_map (λ (q : NumberedFrame). q.phase) (last all)) ≡ false → f.phase ≡ phases.Due → ⊥
-taken_not_due all fs f e h d =
-    let one : true ≡ is_due (option_map (λ (q : NumberedFrame). q.phase) (last all)) = sym (ap (λ l. is_due (option_map (λ (q : NumberedFrame). q.phase) (last l))) e ∙ due_last fs f ∙ ap (λ p. is_due (Some p)) d) in
+-- or has one in which none is
+pub taken_not_due : (all fs : List NumberedFrame) (f : NumberedFrame) (p : Phase) → all ≡ fs ++ f ∷ [] → is_due (option_map (λ (q : NumberedFrame). q.phase) (last all)) ≡ false → f.phase ≡ p → is_due (Some p) ≡ true → ⊥
+taken_not_due all fs f p e h d n =
+    let one : true ≡ is_due (option_map (λ (q : NumberedFrame). q.phase) (last all)) = sym (ap (λ l. is_due (option_map (λ (q : NumberedFrame). q.phase) (last l))) e ∙ due_last fs f ∙ ap (λ q. is_due (Some q)) d ∙ n) in
     cc
 
 -- without frames none is due
@@ -69,6 +67,7 @@ last_each f (x ∷ y ∷ xs) = last_each f (y ∷ xs)
 
 due_by : (t : Table) (run : Run) (g : Frame) (fs : List Frame) (st : St) (p : Phase) → g.moment ≡ moment_in t p → is_due (Some p) ≡ true → run_next (rest_top run fs (Some g) st 0) (λ st' n'. (Done, st')) ≡ (StepsSpent, st)
 due_by t run g fs st phases.Due e h = ap (λ m. rest_with run (act_at run g m) fs st 0) e
+due_by t run g fs st (phases.Entering o) e h = ap (λ m. rest_with run (act_at run g m) fs st 0) e
 due_by t run g fs st phases.Ready e h = absurd (cc)
 due_by t run g fs st phases.Waiting e h = absurd (cc)
 due_by t run g fs st (phases.Given c) e h = absurd (cc)
@@ -80,6 +79,7 @@ rest_due t run fs (Some f) st h = due_by t run (frame_in t f) fs st f.phase refl
 -- where no step is due the frame's own turn is one more
 turns_not_due : (t : Table) (run : Run) (fs : List Frame) (f : Frame) (p : Phase) (st : St) → is_due (Some p) ≡ false → turns_at run fs f (moment_in t p) st ≡ suc (turns_over run (act_at run f (moment_in t p)) fs st)
 turns_not_due t run fs f phases.Due st h = absurd (cc)
+turns_not_due t run fs f (phases.Entering o) st h = absurd (cc)
 turns_not_due t run fs f phases.Ready st h = refl
 turns_not_due t run fs f phases.Waiting st h = refl
 turns_not_due t run fs f (phases.Given c) st h = refl
@@ -96,6 +96,7 @@ seen_spent t (Some told) e full arena out = refl
 
 given_there : {S : Type 0} (c : Config S) (p : Phase) → HasPhase c p → HasCompletion c (given_of p)
 given_there c (phases.Given e) h = h
+given_there c (phases.Entering o) h = tt
 given_there c phases.Due h = tt
 given_there c phases.Ready h = tt
 given_there c phases.Waiting h = tt
@@ -173,30 +174,42 @@ module _ {S : Type 0} (meaning : S → Meaning) where
   takes_waiting old fs f er b eo ep = takes_now old fs f _ phases.Waiting er b eo ep refl (λ t. ap (λ (go : Said → Act). go Normal) (given_then meaning t old f f.place) ∙ ap (λ (p : Phase). then_at meaning old f f.place t (env_in meaning old t f) (completion_in t (given_of p))) (sym ep))
 
   -- a frame goes on with its step
-  due_turn : (old : Config S) (fs : List NumberedFrame) (f : NumberedFrame) (left : ℕ) → old.state ≡ states.Running → old.frames ≡ fs ++ f ∷ [] → f.phase ≡ phases.Due → old.left ≡ suc left
-      → (later : Config S) → Follows meaning (begins_at meaning old f f.place later.heap.texts (env_in meaning old later.heap.texts f)) (record old { frames = fs; left = left }) later → Turns meaning old later
-  due_turn old fs f left er eo ep el later k = record {
+  step_turn : (old : Config S) (fs : List NumberedFrame) (f : NumberedFrame) (left : ℕ) (act : Table → Act) (p : Phase) → old.state ≡ states.Running → old.frames ≡ fs ++ f ∷ [] → f.phase ≡ p → old.left ≡ suc left → ((t : Table) → act_at (run_in meaning t old) (frame_in t f) (moment_in t p) ≡ Tick (act t))
+      → (later : Config S) → Follows meaning (act later.heap.texts) (record old { frames = fs; left = left }) later → Turns meaning old later
+  step_turn old fs f left act p er eo ep el ea later k = record {
     turned = by_step (record {
       stays = stays_after old later fs left k.keeps.stays;
       left = el ∙ ap suc (sym k.keeps.left);
       kept = λ v a h n.
           let t = later.heap.texts in
           let st = state_in meaning t v old in
-          ap (seen (tells meaning old)) (rest_taken t old fs f (moment_in t phases.Due) st (suc n) er eo (ap (moment_in t) ep) ∙ ap (λ d. rest_with (run_in meaning t old) d (each (frame_in t) fs) st n) (begin_then meaning t old f))
+          ap (seen (tells meaning old)) (rest_taken t old fs f (moment_in t p) st (suc n) er eo (ap (moment_in t) ep) ∙ ap (λ d. rest_with (run_in meaning t old) d (each (frame_in t) fs) st (suc n)) (ea t))
           ∙ k.keeps.kept v a h n;
       alive = k.keeps.alive;
     });
     sound = k.sound;
   }
 
-  pub takes_due : (old : Config S) (fs : List NumberedFrame) (f : NumberedFrame) (left : ℕ) → old.state ≡ states.Running → Base meaning old → old.frames ≡ fs ++ f ∷ [] → f.phase ≡ phases.Due → old.left ≡ suc left → TakesOff meaning f (begins_at meaning (record old { frames = fs; left = left }) f f.place) old (record old { frames = fs; left = left })
-  takes_due old fs f left er b eo ep el = record {
+  takes_step : (old : Config S) (fs : List NumberedFrame) (f : NumberedFrame) (left : ℕ) (line : Table → Env → Act) (p : Phase) → old.state ≡ states.Running → Base meaning old → old.frames ≡ fs ++ f ∷ [] → f.phase ≡ p → old.left ≡ suc left → ((t : Table) → act_at (run_in meaning t old) (frame_in t f) (moment_in t p) ≡ Tick (line t (env_in meaning old t f)))
+      → TakesOff meaning f line old (record old { frames = fs; left = left })
+  takes_step old fs f left line p er b eo ep el ea = record {
     taken = ap last eo ∙ last-snoc fs f;
     running = er;
     base = taken_base old fs f left b eo;
     there = taken_there old fs f left b eo;
-    by = λ later r k. on_ok r (λ h. due_turn old fs f left er eo ep el later h) k;
+    by = λ later r k. on_ok r (λ h. step_turn old fs f left (λ t. line t (env_in meaning old t f)) p er eo ep el ea later h) k;
   }
+
+  pub takes_due : (old : Config S) (fs : List NumberedFrame) (f : NumberedFrame) (left : ℕ) → old.state ≡ states.Running → Base meaning old → old.frames ≡ fs ++ f ∷ [] → f.phase ≡ phases.Due → old.left ≡ suc left → TakesOff meaning f (begins_at meaning (record old { frames = fs; left = left }) f f.place) old (record old { frames = fs; left = left })
+  takes_due old fs f left er b eo ep el = takes_step old fs f left _ phases.Due er b eo ep el (λ t. ap Tick (begin_then meaning t old f))
+
+  pub takes_operand : (old : Config S) (fs : List NumberedFrame) (f : NumberedFrame) (left : ℕ) (o : Operand) → old.state ≡ states.Running → Base meaning old → old.frames ≡ fs ++ f ∷ [] → f.phase ≡ phases.Entering o → old.left ≡ suc left
+      → TakesOff meaning f (λ t env. with_operand (operand_in t o) env (then_at meaning (record old { frames = fs; left = left }) f f.place t env)) old (record old { frames = fs; left = left })
+  takes_operand old fs f left o er b eo ep el = takes_step old fs f left _ (phases.Entering o) er b eo ep el (λ t. ap (λ k. Tick (with_operand (operand_in t o) (env_in meaning old t f) k)) (given_then meaning t old f f.place))
+
+  -- the operand is there
+  pub has_operand : (old : Config S) (fs : List NumberedFrame) (f : NumberedFrame) (o : Operand) (left : ℕ) → Base meaning old → old.frames ≡ fs ++ f ∷ [] → f.phase ≡ phases.Entering o → HasOperand (record old { frames = fs; left = left }) o
+  has_operand old fs f o left b eo ep = subst (HasPhase (record old { frames = fs; left = left })) ep (there_pop meaning old fs f eo b).1.phase
 
   -- a step is due and none is left
   stops_turned : (old : Config S) → old.state ≡ states.Running → old.left ≡ 0 → is_due (option_map (λ (q : NumberedFrame). q.phase) (last old.frames)) ≡ true → Turned meaning old (record old { state = states.StepsSpent })

@@ -1,4 +1,5 @@
 pub mod Parts
+pub mod Operands
 pub mod Keeping
 pub mod Following
 pub mod Taking

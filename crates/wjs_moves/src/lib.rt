@@ -10,6 +10,7 @@ mod enters;
 mod holds;
 mod laws;
 mod node;
+mod operands;
 mod place;
 mod take;
 mod waits;
@@ -22,7 +23,7 @@ pub use laws::{
     looks_follow, more_texts_change_nothing, nested_ends_shorten, reached_is_reached,
     shorter_follow, turns_reach,
 };
-pub use node::node_of;
+pub use node::{node_of, place_at};
 pub use place::Part;
 pub use take::{Top, take_top};
 pub use waits::{due_later, nest, wait};

@@ -1,10 +1,8 @@
 //! The parts of nodes, and the frames that run them.
-ghost use Rattle.std.specs.Prelude.{◌≡◌, IfOk};
+ghost use Rattle.std.specs.Prelude.{◌≡◌};
 ghost use Rattle.wjs_moves.specs.Parts.{form_of, node_of, place_of};
 
-use std::alloc::Global;
-use wjs_base::OutOfMemory;
-use wjs_model::{Activation, Form, Frame, Items, Phase};
+use wjs_model::{Form, Frame, Phase};
 use wjs_tree::NodeId;
 
 /// What is entered by a step: an expression for its value or as a target, a statement, a loop at its next turn.
@@ -14,32 +12,6 @@ pub enum Part {
     Target(NodeId),
     Stmt(NodeId),
     Again(NodeId),
-}
-
-/// A frame that runs a form at a place of a node, where another frame is run.
-pub(crate) fn frame_at(
-    alloc: Global,
-    at: &Frame,
-    form: Form,
-    node: NodeId,
-    place: u32,
-    phase: Phase,
-    held: Items,
-) -> Result<Frame, OutOfMemory>
-    ensures { IfOk result (λ frame. frame ≡ record { form = form; tree = at.now.tree; node = node; place = place; phase = phase; scope = at.now.scope; this = at.now.this; world = at.now.world; held = held }) }
-{
-    let activation = Activation {
-        form,
-        tree: at.tree(),
-        node,
-        place,
-        phase,
-        scope: at.scope(),
-        this: at.this(),
-        world: at.world(),
-        held,
-    };
-    Frame::new(alloc, activation)
 }
 
 impl Part {

@@ -4,7 +4,7 @@ ghost use Rattle.wjs_model.specs.Frames.{last};
 ghost use Rattle.wjs_model.specs.Soundness.{Sound};
 ghost use Rattle.wjs_moves.specs.Taking.{Takes, is_due};
 
-use wjs_model::{Config, Frame, Phase, State};
+use wjs_model::{Config, Frame, Operand, Phase, State};
 use wjs_store::WorldStore;
 
 /// What a turn finds on top.
@@ -16,6 +16,8 @@ pub enum Top {
     Begins(Frame),
     /// The frame goes on with the completion that it waited for, which it tells.
     Given(Frame),
+    /// The frame goes on with the completion of an operand, whose step is taken.
+    Enters(Frame, Operand),
 }
 
 /// Takes the frame that runs off, with its step where one is due. Without a step left it only says so: nothing else changes.
@@ -47,7 +49,13 @@ fn take_due<S: WorldStore>(config: &mut Config<S>) -> Top
     config.left -= 1;
     match config.frames.pop() {
         None => Top::Stops,
-        Some(frame) => Top::Begins(frame),
+        Some(frame) => match frame.phase() {
+            Phase::Due => Top::Begins(frame),
+            Phase::Entering(operand) => Top::Enters(frame, operand),
+            Phase::Ready => Top::Begins(frame),
+            Phase::Waiting => Top::Given(frame),
+            Phase::Given(_) => Top::Given(frame),
+        },
     }
 }
 
@@ -69,6 +77,7 @@ fn take_now<S: WorldStore>(config: &mut Config<S>) -> Top
             Phase::Waiting => Top::Given(frame),
             Phase::Ready => Top::Begins(frame),
             Phase::Due => Top::Begins(frame),
+            Phase::Entering(operand) => Top::Enters(frame, operand),
         },
     }
 }
@@ -79,7 +88,7 @@ fn is_due(phase: Option<Phase>) -> bool
     ensures { result ≡ is_due phase }
 {
     match phase {
-        Some(Phase::Due) => true,
+        Some(Phase::Due | Phase::Entering(_)) => true,
         _ => false,
     }
 }

@@ -10,7 +10,7 @@ ghost use Rattle.wjs_moves.specs.Parts.{env_in, then_at, begins_at, node_among};
 ghost use Rattle.wjs_moves.specs.Following.{Follows, Later};
 ghost use Rattle.wjs_moves.specs.Nesting.{Nests};
 
-use crate::place::{frame_at, waiting_at};
+use crate::place::waiting_at;
 use wjs_base::OutOfMemory;
 use wjs_model::{Config, Form, Frame, Items, Phase, State};
 use wjs_store::WorldStore;
@@ -52,10 +52,8 @@ pub fn nest<S: WorldStore>(
     requires body { BodyStands config.old.units.items config.old.heap.arena form (begun_held held) frame.tree node frame.scope }
     ensures { let t = config.new.heap.texts in let env = env_in S.meaning config.old t frame in OnOk result (Follows S.meaning (Sub (begin_form (node_in t (node_among config.old.units.items frame.tree node)) form node.0 start (holding_in t held) env) (then_at S.meaning config.old frame place t env)) config.old config.new) }
 {
-    let alloc = config.heap.arena.allocator();
-    let above = frame_at(alloc, &frame, form, node, start, Phase::Ready, held)?;
-    config.frames.push(waiting_at(frame, place))?;
-    config.frames.push(above)?;
+    let waiting = waiting_at(frame, place);
+    config.frames.push_ready(waiting, form, node, start, held)?;
     Ok(())
 }
 

@@ -12,6 +12,7 @@ use crate::glue::glue_on;
 use crate::runs::run;
 use wjs_arena::Native;
 use wjs_base::OutOfMemory;
+use wjs_deeds::operand_completion;
 use wjs_model::{Completion, Config, Form, Frame, State, Turn};
 use wjs_moves::{Top, finish, take_top};
 use wjs_natives::{Progress, begin, resume};
@@ -26,6 +27,10 @@ pub fn step_text<S: WorldStore>(config: &mut Config<S>) -> Result<(), OutOfMemor
     match take_top(config) {
         Top::Stops => Ok(()),
         Top::Begins(frame) => begin_text(config, frame),
+        Top::Enters(frame, operand) => {
+            let completion = operand_completion(config, &frame, operand)?;
+            resume_text(config, frame, completion)
+        }
         Top::Given(frame) => {
             let completion = frame.completion();
             resume_text(config, frame, completion)

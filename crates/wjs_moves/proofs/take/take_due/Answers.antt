@@ -1,6 +1,7 @@
-use Rattle.std.proofs.Common.{◌≡◌, suc, ◌-◌, subst, arith}
+use Rattle.std.proofs.Common.{◌≡◌, suc, ◌-◌, refl, sym, ◌∙◌, subst, arith}
+use Rattle.wjs_model.specs.declared.frame.Phase.TheVariants as phases
 use Rattle.wjs_model.specs.Frames.{Pops}
-use Rattle.wjs_moves.proofs.Taking.{stops, takes_due, taken_due, none_due}
+use Rattle.wjs_moves.proofs.Taking.{stops, takes_due, takes_operand, has_operand, taken_due, none_due}
 use Rattle.wjs_moves.proofs.take.take_due.Goals as goal
 
 pub returns-then-config-eq0 : goal.returns-then-config-eq0
@@ -9,9 +10,28 @@ returns-then-config-eq0 g c = stops g.S.WorldStore.meaning c.args.config.now c.r
 pub returns-in-None : goal.returns-in-None
 returns-in-None g c = absurd (none_due c.args.config.now.frames (subst (λ r. Pops c.args.config.now.frames r c.pop.new.self) c.in-None.is c.pop.ensures).0 c.requires.due)
 
-pub returns-in-Some : goal.returns-in-Some
-returns-in-Some g c =
+pub returns-in-Due : goal.returns-in-Due
+returns-in-Due g c =
     let old = c.args.config.now in
     let eo = subst (λ r. Pops old.frames r c.pop.new.self) c.in-Some.is c.pop.ensures in
     let left_is : old.left ≡ suc (old.left - 1) = omega (arith, c.if-config-eq0.false) in
-    takes_due g.S.WorldStore.meaning old c.pop.new.self c.in-Some.frame (old.left - 1) c.requires.running c.requires.sound.base eo (taken_due old.frames c.pop.new.self c.in-Some.frame eo c.requires.due) left_is
+    takes_due g.S.WorldStore.meaning old c.pop.new.self c.in-Some.frame (old.left - 1) c.requires.running c.requires.sound.base eo (sym c.phase.ensures ∙ c.in-Due.is) left_is
+
+pub returns-in-Entering : goal.returns-in-Entering
+returns-in-Entering g c =
+    let old = c.args.config.now in
+    let eo = subst (λ r. Pops old.frames r c.pop.new.self) c.in-Some.is c.pop.ensures in
+    let left_is : old.left ≡ suc (old.left - 1) = omega (arith, c.if-config-eq0.false) in
+    let is = sym c.phase.ensures ∙ c.in-Entering.is in (
+      takes_operand g.S.WorldStore.meaning old c.pop.new.self c.in-Some.frame (old.left - 1) c.in-Entering.operand c.requires.running c.requires.sound.base eo is left_is,
+      has_operand g.S.WorldStore.meaning old c.pop.new.self c.in-Some.frame c.in-Entering.operand (old.left - 1) c.requires.sound.base eo is,
+    )
+
+pub returns-in-Ready : goal.returns-in-Ready
+returns-in-Ready g c = absurd (taken_due c.args.config.now.frames c.pop.new.self c.in-Some.frame phases.Ready (subst (λ r. Pops c.args.config.now.frames r c.pop.new.self) c.in-Some.is c.pop.ensures) c.requires.due (sym c.phase.ensures ∙ c.in-Ready.is) refl)
+
+pub returns-in-Waiting : goal.returns-in-Waiting
+returns-in-Waiting g c = absurd (taken_due c.args.config.now.frames c.pop.new.self c.in-Some.frame phases.Waiting (subst (λ r. Pops c.args.config.now.frames r c.pop.new.self) c.in-Some.is c.pop.ensures) c.requires.due (sym c.phase.ensures ∙ c.in-Waiting.is) refl)
+
+pub returns-in-Given : goal.returns-in-Given
+returns-in-Given g c = absurd (taken_due c.args.config.now.frames c.pop.new.self c.in-Some.frame (phases.Given c.in-Given.field-0) (subst (λ r. Pops c.args.config.now.frames r c.pop.new.self) c.in-Some.is c.pop.ensures) c.requires.due (sym c.phase.ensures ∙ c.in-Given.is) refl)

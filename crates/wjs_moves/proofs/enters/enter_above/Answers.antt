@@ -2,7 +2,7 @@ use Rattle.std.proofs.Common.{◌∷◌, [], ◌++◌, ap, ◌∙◌}
 use Rattle.wjs_model.specs.Begun.{begun_at}
 use Rattle.wjs_model.specs.declared.frame.Activation.{Activation as Frame}
 use Rattle.wjs_moves.proofs.Moving.{follows_enter}
-use Rattle.wjs_moves.proofs.enters.enter.Goals as goal
+use Rattle.wjs_moves.proofs.enters.enter_above.Goals as goal
 
 pub returns : goal.returns
 returns g c =
