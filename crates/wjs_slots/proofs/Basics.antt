@@ -1,5 +1,5 @@
 -- Cases, and facts of orders and tests.
-use Rattle.std.proofs.Common.{◌≡◌, Bool, true, false, ◌&&◌, T, Option, None, Some, Result, Ok, Err, OnOk, OnErr, IfOk, refl, ap, sym, ◌∙◌}
+use Rattle.std.proofs.Common.{◌≡◌, Bool, true, false, ◌&&◌, not, T, Option, None, Some, Result, Ok, Err, OnOk, OnErr, IfOk, refl, ap, sym, ◌∙◌}
 use Rattle.std.specs.declared.cmp.Ordering.{Ordering}
 use Rattle.std.specs.declared.cmp.Ordering.TheVariants.{Less, Equal, Greater}
 use Rattle.std.specs.Ordering.{is_lt, is_gt, is_eq, ordering_reverse, eq_by_cmp}
@@ -105,3 +105,10 @@ on_ok (Err e) f h = tt
 pub if_ok : {T E : Type 0} {A B : T → Type 0} (r : Result T E) → ((t : T) → A t → B t) → IfOk r A → IfOk r B
 if_ok (Ok t) f h = f t h
 if_ok (Err e) f h = tt
+
+-- two tests of which one is the other turned
+pub not_back_again : (a b : Bool) → a ≡ not b → b ≡ not a
+not_back_again true true h = absurd (false≢true (sym h))
+not_back_again true false h = refl
+not_back_again false true h = refl
+not_back_again false false h = h

@@ -14,23 +14,23 @@ use Rattle.wjs_slots.specs.Near.{place_in, value_in, near_value, IsApart}
 use Rattle.wjs_slots.proofs.Basics.{by_bool, no_none, equal_is, key_is, or_none}
 use Rattle.wjs_slots.proofs.Values.{not_then, same_object, placed_is, placed_at, near_present, near_other, near_absent, table, get_table, IsPlaced}
 
-set_same : {X : Type 0} (xs : List X) (i : ℕ) (x : X) → i < length xs → slice_get (set xs i x) i ≡ Some x
+pub set_same : {X : Type 0} (xs : List X) (i : ℕ) (x : X) → i < length xs → slice_get (set xs i x) i ≡ Some x
 set_same [] i x l = absurd (omega arith)
 set_same (y ∷ xs) zero x l = refl
 set_same (y ∷ xs) (suc i) x l = set_same xs i x (omega arith)
 
-set_other : {X : Type 0} (xs : List X) (i j : ℕ) (x : X) → (i ≡ j → ⊥) → slice_get (set xs i x) j ≡ slice_get xs j
+pub set_other : {X : Type 0} (xs : List X) (i j : ℕ) (x : X) → (i ≡ j → ⊥) → slice_get (set xs i x) j ≡ slice_get xs j
 set_other [] i j x n = refl
 set_other (y ∷ xs) zero zero x n = absurd (n refl)
 set_other (y ∷ xs) zero (suc j) x n = refl
 set_other (y ∷ xs) (suc i) zero x n = refl
 set_other (y ∷ xs) (suc i) (suc j) x n = set_other xs i j x (λ e. n (ap suc e))
 
-or_first : {A : Type 0} (b : Bool) (w o p : Option A) → (b ≡ true → p ≡ None) → option_or (cond b w o) p ≡ cond b w (option_or o p)
+pub or_first : {A : Type 0} (b : Bool) (w o p : Option A) → (b ≡ true → p ≡ None) → option_or (cond b w o) p ≡ cond b w (option_or o p)
 or_first true w o p h = ap (option_or w) (h refl) ∙ or_none w
 or_first false w o p h = refl
 
-or_second : {A : Type 0} (b : Bool) (w o p : Option A) → (b ≡ true → o ≡ None) → option_or o (cond b w p) ≡ cond b w (option_or o p)
+pub or_second : {A : Type 0} (b : Bool) (w o p : Option A) → (b ≡ true → o ≡ None) → option_or o (cond b w p) ≡ cond b w (option_or o p)
 or_second true w o p h = ap (λ z. option_or z w) (h refl)
 or_second false w o p h = refl
 

@@ -5,6 +5,8 @@ pub mod Sorted
 pub mod Values
 pub mod Changes
 pub mod Least
+pub mod Dense
+pub mod Firsts
 pub mod Walks
 pub mod Between
 pub mod Halves

@@ -1,5 +1,5 @@
 -- Lists in the order of their keys.
-use Rattle.std.proofs.Common.{◌≡◌, ℕ, zero, suc, ◌<◌, length, drop, get_or, arith, Bool, true, false, cond, not, T, List, [], ◌∷◌, ◌++◌, Option, None, Some, slice_get, refl, ap, sym, ◌∙◌}
+use Rattle.std.proofs.Common.{◌≡◌, Bool, true, false, cond, not, T, List, [], ◌∷◌, ◌++◌, Option, None, Some, slice_get, refl, ap, sym, ◌∙◌}
 use Rattle.std.specs.declared.cmp.Ordering.{Ordering}
 use Rattle.std.specs.declared.cmp.Ordering.TheVariants.{Less, Equal, Greater}
 use Rattle.std.specs.Ordering.{is_lt, is_eq, match_ordering, eq_by_cmp}
@@ -87,16 +87,3 @@ nothing_without R k [] h = refl
 nothing_without {V = V} R k (e ∷ es) h = by_bool (is_eq (R k e.0))
     (λ t. let some : ◌≡◌ {A = Option V} (Some e.1) None = sym (ap (λ b. cond b (Some e.1) (find R k es)) t) ∙ h in cc)
     (λ t. ap (λ b. cond (not b) (e ∷ without R k es) (without R k es)) t ∙ ap (λ rest. e ∷ rest) (nothing_without R k es (sym (ap (λ b. cond b (Some e.1) (find R k es)) t) ∙ h)))
-
-pub put_first : {K V : Type 0} (R : K → K → Ordering) (k : K) (v : V) (es : List (K × V)) → T (below_all R k es) → put R k v es ≡ (k, v) ∷ es
-put_first R k v [] h = refl
-put_first R k v (e ∷ es) h = ap (λ o. by_order o ((k, v) ∷ e ∷ es) ((e.0, v) ∷ es) (e ∷ put R k v es)) (less_is (R k e.0) (T_true (is_lt (R k e.0)) (left_true (is_lt (R k e.0)) (below_all R k es) h)))
-
--- the entry at n goes before those after it
-pub put_before : {K V : Type 0} (R : K → K → Ordering) (es : List (K × V)) (n : ℕ) (d : K × V) → T (is_sorted R es) → n < length es → put R (get_or es n d).0 (get_or es n d).1 (drop (suc n) es) ≡ drop n es
-put_before R [] n d h l = absurd (omega arith)
-put_before R (e ∷ es) zero d h l = put_first R e.0 e.1 es (left_true (below_all R e.0 es) (is_sorted R es) h)
-put_before R (e ∷ es) (suc n) d h l = put_before R es n d (right_true (below_all R e.0 es) (is_sorted R es) h) (omega arith)
-
-pub put_read : {K V : Type 0} (R : K → K → Ordering) (es : List (K × V)) (n : ℕ) (e : K × V) → T (is_sorted R es) → n < length es → e ≡ get_or es n e → put R e.0 e.1 (drop (suc n) es) ≡ drop n es
-put_read R es n e h l is = ap (λ d. put R d.0 d.1 (drop (suc n) es)) is ∙ put_before R es n e h l

@@ -1,5 +1,5 @@
 -- Where a key stands in a list in order.
-use Rattle.std.proofs.Common.{◌≡◌, ℕ, suc, ◌+◌, ◌<◌, ◌≤◌, zero, drop, subst, cond, not, T, List, [], ◌∷◌, length, set, get_or, Option, None, Some, Result, Ok, Err, slice_get, refl, ap, sym, ◌∙◌, arith}
+use Rattle.std.proofs.Common.{◌≡◌, ℕ, suc, ◌+◌, ◌<◌, ◌≤◌, zero, drop, take, subst, cond, not, T, List, [], ◌∷◌, length, set, get_or, Option, None, Some, Result, Ok, Err, slice_get, refl, ap, sym, ◌∙◌, arith}
 use Rattle.std.specs.declared.cmp.Ordering.{Ordering}
 use Rattle.std.specs.declared.cmp.Ordering.TheVariants.{Less, Equal, Greater}
 use Rattle.std.specs.Ordering.{is_lt, is_le, is_eq, ordering_reverse}
@@ -165,3 +165,14 @@ seek_last {R = R} total k es n d h l e o =
 pub got_at : {X : Type 0} (xs : List X) (i : ℕ) (r : Option (Bor X)) → IsItemAt xs i r → option_map (λ x. x.now) r ≡ slice_get xs i
 got_at xs i None h = sym (slice_get_past xs i h.3)
 got_at xs i (Some x) h = sym (slice_get_read xs (length xs) i x.now refl h.3.0 h.1)
+
+-- the entry at n goes after those before it
+put_after : {K V : Type 0} {R : K → K → Ordering} (total : IsTotalOrder R) (es : List (K × V)) (n : ℕ) (d : K × V) → T (is_sorted R es) → n < length es → put R (get_or es n d).0 (get_or es n d).1 (take n es) ≡ take (suc n) es
+put_after total [] n d h l = absurd (omega arith)
+put_after total (e ∷ es) zero d h l = refl
+put_after {R = R} total (e ∷ es) (suc n) d h l =
+    ap (λ c. by_order c (((get_or es n d).0, (get_or es n d).1) ∷ e ∷ take n es) ((e.0, (get_or es n d).1) ∷ take n es) (e ∷ put R (get_or es n d).0 (get_or es n d).1 (take n es))) (reversed total e.0 (get_or es n d).0 (less_read R e.0 es n d (left_true (below_all R e.0 es) (is_sorted R es) h) (omega arith)))
+    ∙ ap (λ rest. e ∷ rest) (put_after total es n d (right_true (below_all R e.0 es) (is_sorted R es) h) (omega arith))
+
+pub put_next : {K V : Type 0} {R : K → K → Ordering} (total : IsTotalOrder R) (es : List (K × V)) (n : ℕ) (e : K × V) → T (is_sorted R es) → n < length es → e ≡ get_or es n e → put R e.0 e.1 (take n es) ≡ take (n + 1) es
+put_next {R = R} total es n e h l is = ap (λ d. put R d.0 d.1 (take n es)) is ∙ put_after total es n e h l ∙ ap (λ m. take m es) (let s : suc n ≡ n + 1 = omega arith in s)

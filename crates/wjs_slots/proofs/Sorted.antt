@@ -1,11 +1,11 @@
 -- A list in order, seen as a finite map.
-use Rattle.std.proofs.Common.{◌≡◌, Bool, true, false, cond, not, T, List, [], length, None, refl, ap, sym, ◌∙◌, subst}
+use Rattle.std.proofs.Common.{◌≡◌, Bool, true, false, cond, not, T, List, [], ◌∷◌, arith, length, None, refl, ap, sym, ◌∙◌, subst}
 use Rattle.std.specs.declared.cmp.Ordering.{Ordering}
 use Rattle.std.specs.Ordering.{is_eq, eq_by_cmp}
 use Rattle.std.specs.Cmp.{IsTotalOrder, eq_by_cmp_equiv, alike_right}
 use Rattle.std.specs.FinMap as map
-use Rattle.std.specs.FinMap.{IsAntisymmetric}
-use Rattle.std.specs.FinMap.Entries.{put, find, is_sorted, is_sorted-put, is_sorted-where_key, find-where_key}
+use Rattle.std.specs.FinMap.{FinMap, IsAntisymmetric}
+use Rattle.std.specs.FinMap.Entries.{put, find, is_sorted, is_sorted-put, is_sorted-where_key, find-where_key, same_entries}
 use Rattle.wjs_slots.specs.Lists.{without}
 
 turned : {A : Type 0} (b : Bool) (x y : A) → cond (not b) x y ≡ cond b y x
@@ -39,3 +39,24 @@ module _ {K V : Type 0} {R : K → K → Ordering} (total : IsTotalOrder R) wher
 -- a map of no entries
 pub empty_sorted : {K V : Type 0} (R : K → K → Ordering) (es : List (K × V)) → es ≡ [] → map.from_sorted {R = R} es ≡ map.empty
 empty_sorted R es e = map.empty_of_len (map.from_sorted es) (map.len-entries (map.from_sorted es) ∙ ap (λ l. length (map.entries (map.from_sorted {R = R} l))) e ∙ ap length (map.entries-from_sorted R [] tt))
+
+-- the entries of a map with one taken out
+pub entries_removed : {K V : Type 0} {R : K → K → Ordering} → IsTotalOrder R → IsAntisymmetric R → (m n : FinMap R V) (k : K) → n ≡ map.remove m k → map.entries n ≡ without R k (map.entries m)
+entries_removed {R = R} total exact m n k e =
+    same_entries R total exact (map.entries n) (without R k (map.entries m)) (map.entries_sorted n) (sorted_without total (map.entries m) (without R k (map.entries m)) k (map.entries_sorted m) refl) (λ q.
+    sym (map.get-entries n q)
+    ∙ ap (λ x. map.get x q) e
+    ∙ map.get-remove total m k q
+    ∙ ap (cond (eq_by_cmp R q k) None) (map.get-entries m q)
+    ∙ sym (find_without total k (map.entries m) q))
+
+pub entries_none : {K V : Type 0} (R : K → K → Ordering) (m : FinMap R V) → m ≡ map.empty → map.entries m ≡ []
+entries_none {V = V} R m e = no_items (map.entries m) (sym (map.len-entries m) ∙ ap map.len e ∙ map.len-empty R V)
+  where
+    no_items : {A : Type 0} (xs : List A) → length xs ≡ 0 → xs ≡ []
+    no_items [] h = refl
+    no_items (x ∷ xs) h = absurd (omega arith)
+
+pub entries_either : {K V : Type 0} {R : K → K → Ordering} (b : Bool) (m n : FinMap R V) (es : List (K × V)) → map.entries m ≡ es → map.entries (cond b m n) ≡ cond b es (map.entries n)
+entries_either true m n es e = e
+entries_either false m n es e = refl

@@ -1,5 +1,6 @@
 pub mod Codes
 pub mod Lists
+pub mod Dense
 pub mod Kept
 pub mod Near
 pub mod Least

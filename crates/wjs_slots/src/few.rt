@@ -10,9 +10,6 @@ ghost use Rattle.wjs_base.specs.Order.{name_cmp};
 ghost use Rattle.wjs_rows.specs.Order.{is_from, is_after};
 ghost use Rattle.wjs_slots.specs.Lists.{IsInOrder, seek, without};
 
-use crate::tree;
-use std::alloc::Global;
-use std::collections::BTreeMap;
 use wjs_base::{Name, OutOfMemory, TextId};
 
 /// Up to how many rows a list is gone through row by row: a longer one is halved instead.
@@ -222,22 +219,4 @@ pub(crate) fn next_after<V: Copy>(few: &[(Name, V)], name: Name) -> Option<(Name
         Ok(place) => few.get(place + 1).copied(),
         Err(place) => few.get(place).copied(),
     }
-}
-
-/// The same rows as a tree.
-pub(crate) fn to_tree<V: Copy>(
-    few: &[(Name, V)],
-    alloc: Global,
-) -> Result<BTreeMap<Name, V>, OutOfMemory>
-    requires { IsInOrder name_cmp few.now }
-    ensures { IfOk result (λ all. all.entries ≡ few.now) }
-{
-    let mut all = BTreeMap::new(alloc);
-    let mut left = few.len();
-    while left > 0 {
-        left -= 1;
-        let row = few[left];
-        tree::set(&mut all, row.0, row.1)?;
-    }
-    Ok(all)
 }

@@ -1,25 +1,26 @@
-//! The rows of one object, in a list or a tree.
+//! The rows of one object, in a list or by their indices.
 ghost use Rattle.std.specs.Prelude.{◌≡◌, not, is_some, OnOk, OnErr, IfOk, IfSome, IsTrue, true, cond};
 ghost use Rattle.std.specs.Option.{option_copied};
+ghost use Rattle.std.specs.FinMap as map;
 ghost use Rattle.std.specs.FinMap.Entries.{put, find};
 ghost use Rattle.std.specs.Map.{lookup_entry};
 ghost use Rattle.wjs_base.specs.Order.{name_cmp};
 ghost use Rattle.wjs_rows.specs.Order.{is_from, is_after};
 ghost use Rattle.wjs_slots.specs.Lists.{IsInOrder, without};
 
-use crate::{few, tree};
+use crate::few;
+use crate::many::Many;
 use std::alloc::Global;
-use std::collections::BTreeMap;
 use wjs_base::{Name, OutOfMemory};
 
-/// How many rows a list has at most: past that, to make room for one in between takes a tree.
+/// How many rows a list has at most: past that, room for one in between would take too long a move.
 const LONGEST_LIST: usize = 256;
 
 /// Rows in the order of their names.
 #[derive(Drop)]
 pub(crate) enum Kept<V> {
     Few(Vec<(Name, V)>),
-    Many(BTreeMap<Name, V>),
+    Many(Many<V>),
 }
 
 impl<V: Copy> Kept<V> {
@@ -33,7 +34,7 @@ impl<V: Copy> Kept<V> {
     {
         match self {
             Kept::Few(few) => few::get(few, name),
-            Kept::Many(many) => tree::get(many, &name),
+            Kept::Many(many) => many.get(name),
         }
     }
 
@@ -51,7 +52,7 @@ impl<V: Copy> Kept<V> {
         self.add(name, value, alloc)
     }
 
-    /// Puts a value at a name that is there in a list, and says whether it is: elsewhere all stays as it is.
+    /// Puts a value at a name that is there, and says whether it did: elsewhere all stays as it is.
     #[inline(always)]
     fn replace(&mut self, name: Name, value: V) -> bool
         requires { IsInOrder name_cmp (rows_of self.old) }
@@ -60,7 +61,7 @@ impl<V: Copy> Kept<V> {
     {
         match self {
             Kept::Few(few) => few::replace(few, name, value),
-            Kept::Many(_) => false,
+            Kept::Many(many) => many.replace(name, value),
         }
     }
 
@@ -77,7 +78,7 @@ impl<V: Copy> Kept<V> {
         }
         match self {
             Kept::Few(few) => few::set(few, name, value),
-            Kept::Many(many) => tree::set(many, name, value),
+            Kept::Many(many) => many.set(name, value),
         }
     }
 
@@ -89,7 +90,7 @@ impl<V: Copy> Kept<V> {
     {
         match self {
             Kept::Few(few) => few::remove(few, name),
-            Kept::Many(many) => tree::remove(many, &name),
+            Kept::Many(many) => many.remove(name),
         }
     }
 
@@ -100,7 +101,7 @@ impl<V: Copy> Kept<V> {
     {
         match self {
             Kept::Few(few) => few::next_from(few, name),
-            Kept::Many(many) => tree::next_from(many, &name),
+            Kept::Many(many) => many.next_from(name),
         }
     }
 
@@ -111,11 +112,11 @@ impl<V: Copy> Kept<V> {
     {
         match self {
             Kept::Few(few) => few::next_after(few, name),
-            Kept::Many(many) => tree::next_after(many, &name),
+            Kept::Many(many) => many.next_after(name),
         }
     }
 
-    /// Moves the rows into a tree where their list is full.
+    /// Moves the rows out of their list where it is full.
     fn make_room(&mut self, alloc: Global) -> Result<(), OutOfMemory>
         requires { IsInOrder name_cmp (rows_of self.old) }
         ensures { rows_of self.new ≡ rows_of self.old }
@@ -130,17 +131,17 @@ impl<V: Copy> Kept<V> {
         }
     }
 
-    /// The rows as a tree, where their list is full.
-    fn outgrown(&self, alloc: Global) -> Result<Option<BTreeMap<Name, V>>, OutOfMemory>
+    /// The rows in another form, where their list is full.
+    fn outgrown(&self, alloc: Global) -> Result<Option<Many<V>>, OutOfMemory>
         requires { IsInOrder name_cmp (rows_of self.now) }
-        ensures { IfOk result (λ tree. IfSome tree (λ many. many.entries ≡ rows_of self.now)) }
+        ensures { IfOk result (λ outgrown. IfSome outgrown (λ many. map.entries many ≡ rows_of self.now)) }
     {
         match self {
             Kept::Few(few) => {
                 if few.len() < LONGEST_LIST {
                     return Ok(None);
                 }
-                match few::to_tree(few, alloc) {
+                match Many::of_list(few, alloc) {
                     Ok(many) => Ok(Some(many)),
                     Err(_) => Err(OutOfMemory),
                 }

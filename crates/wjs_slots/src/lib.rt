@@ -3,6 +3,7 @@
 
 mod few;
 mod kept;
+mod many;
 mod names;
 mod near;
 mod parts;

@@ -16,9 +16,10 @@ use wjs_rows::Steps;
 
 /// Rows by slot, seen as a finite map.
 ///
-/// The rows of objects that one owner numbers 0, 1, 2, .. are found by that number. The memory goes
-/// with the rows, and with that count as far as rows come without a gap of 64 objects: a table whose
-/// objects have great numbers stays small.
+/// The rows of objects that one owner numbers 0, 1, 2, .. are found by that number, and the rows of
+/// an object with many that stand at 0, 1, 2, .. by that index. The memory goes with the rows, with
+/// that count as far as rows come without a gap of 64 objects, and with the rows taken out from
+/// before others among such indices: a table whose objects or indices have great numbers stays small.
 #[derive(Drop)]
 pub struct Table<V> {
     parts: Parts<V>,

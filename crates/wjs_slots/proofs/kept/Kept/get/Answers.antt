@@ -1,0 +1,9 @@
+use Rattle.std.proofs.Common.{◌∙◌, ap, sym}
+use Rattle.std.specs.FinMap as map
+use Rattle.std.specs.FinMap.Entries.{find}
+use Rattle.wjs_base.specs.Order.{name_cmp}
+use Rattle.wjs_slots.specs.Kept.{rows_of}
+use Rattle.wjs_slots.proofs.kept.Kept.get.Goals as goal
+
+pub returns-in-Many : goal.returns-in-Many
+returns-in-Many g c = c.get-in-Many.ensures ∙ map.get-entries c.in-Many.many c.args.name ∙ ap (λ k. find name_cmp c.args.name (rows_of k)) (sym c.in-Many.is)

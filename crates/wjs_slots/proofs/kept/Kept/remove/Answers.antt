@@ -1,0 +1,19 @@
+use Rattle.std.proofs.Common.{◌∙◌, is_some, ap, sym}
+use Rattle.std.specs.FinMap as map
+use Rattle.std.specs.FinMap.Entries.{find}
+use Rattle.wjs_base.specs.Order.{name_cmp, name_total, name_exact}
+use Rattle.wjs_slots.specs.Kept.{rows_of}
+use Rattle.wjs_slots.specs.Lists.{without}
+use Rattle.wjs_slots.proofs.Sorted.{entries_removed}
+use Rattle.wjs_slots.proofs.kept.Kept.remove.Goals as goal
+
+pub returns-in-Many-clause-removed : goal.returns-in-Many-clause-removed
+returns-in-Many-clause-removed g c =
+    entries_removed name_total name_exact c.in-Many.many c.remove-in-Many.new.self c.args.name c.remove-in-Many.ensures.removed
+    ∙ ap (λ k. without name_cmp c.args.name (rows_of k)) (sym c.in-Many.is)
+
+pub returns-in-Many-clause-found : goal.returns-in-Many-clause-found
+returns-in-Many-clause-found g c =
+    c.remove-in-Many.ensures.found
+    ∙ ap is_some (map.get-entries c.in-Many.many c.args.name)
+    ∙ ap (λ k. is_some (find name_cmp c.args.name (rows_of k))) (sym c.in-Many.is)
