@@ -15,13 +15,12 @@ use Rattle.wjs_overlay.specs.declared.maps.Row.{Row}
 use Rattle.wjs_overlay.specs.declared.layer.Layer.{Layer}
 use Rattle.wjs_overlay.specs.Sparse.{now_of, read_of, mark_of}
 use Rattle.wjs_overlay.specs.declared.layer.Look.{Look}
-use Rattle.wjs_overlay.specs.declared.layer.Look.TheVariants.{Kept, Closed, Untouched, Nowhere}
+use Rattle.wjs_overlay.specs.declared.layer.Look.TheVariants.{Closed, Untouched, Nowhere}
 
 abbrev pub Looked : Layer → Slot → Look → Type 0
-Looked r s (Kept row) = map.get r.rows s ≡ Some row.now
 Looked r s Closed = (map.get r.rows s ≡ None) × (map.contains_key r.closed s.object ≡ true)
 Looked r s (Untouched above) = (map.get r.rows s ≡ None) × (map.contains_key r.closed s.object ≡ false) × (r.above ≡ Some above)
-Looked r s Nowhere = (map.get r.rows s ≡ None) × (map.contains_key r.closed s.object ≡ false) × (r.above ≡ None)
+Looked r s Nowhere = (map.get r.rows s ≡ None) × (r.above ≡ None)
 
 -- the world y is x but for one slot, where it is what the row says
 pub record Puts (r : Layer) (s : Slot) (o : Option Row) (x y : World plain) : Type 0 where

@@ -14,6 +14,6 @@ returns-then-world-first-2-clause-at c =
     let r = c.index.result.now in
     let k = c.args.self.now.kept c.requires.live in
     let s = slice_read layers 0 r c.index.ensures k.some in
-    let owner : r.id.owner ≡ c.args.world.owner = sym c.if-world-first.true in
-    let serial : r.id.serial ≡ c.args.world.serial = sym c.if-world-first-2.true in
+    let owner : r.id.owner ≡ c.args.world.owner = sym (c.if-world-first.true ∙ ap (λ (w : WorldId). w.owner) c.id-first.ensures) in
+    let serial : r.id.serial ≡ c.args.world.serial = sym (c.if-world-first-2.true ∙ ap (λ (w : WorldId). w.serial) c.id-first.ensures) in
     subst (λ (w : WorldId). place_of (full_of layers) w ≡ Some 0) (λ i. record { owner = owner i; serial = serial i }) (first_placed layers c.args.self.now.places c.args.self.now.owners r k s)
