@@ -9,7 +9,7 @@ ghost use Rattle.std.specs.Prelude.{Option};
 ghost use Rattle.wjs_store.specs.Naming.{plain};
 ghost use Rattle.wjs_store.specs.State.{World};
 ghost use Rattle.wjs_overlay.specs.Sparse.{Keeps, read_of};
-ghost use Rattle.wjs_overlay.specs.Moves.{handed, handed_rows, ReadsAgree, closed_all, cleared};
+ghost use Rattle.wjs_overlay.specs.Moves.{handed, handed_rows, ReadsAgree, closed_all};
 ghost use Rattle.std.specs.Prelude.{true};
 ghost use Rattle.wjs_base.specs.declared.values.Slot.{Slot};
 

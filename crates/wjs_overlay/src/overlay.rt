@@ -43,7 +43,7 @@ impl Overlay {
     ghost use Rattle.wjs_store.specs.Meaning.{Answers, worlds};
     ghost use Rattle.wjs_store.specs.State.{has_world, read, write, list, sprout, commit, found, wrote, listed, sprouted, committed};
     ghost use Rattle.wjs_store.specs.Shown.{content_of, slots_of, verdict_of};
-    ghost use Rattle.wjs_overlay.specs.Sparse.{IsAt, full_of, depth_of};
+    ghost use Rattle.wjs_overlay.specs.Sparse.{IsAt, full_of, place_of, depth_of};
     ghost use Rattle.wjs_overlay.specs.Store.{check_of};
     ghost use Rattle.wjs_overlay.specs.Work.{rows_of, closed_of, rows_above};
     ghost use Rattle.std.specs.Prelude.{IsSome, ◌&&◌};
@@ -75,6 +75,7 @@ impl Overlay {
     }
 
     /// A world by its number, and its place: the first world, in which most calls are, is known without a search.
+    #[inline(always)]
     fn spot(&self, world: WorldId) -> Spot
         requires live { self.now.spent ≡ false }
         requires there { IsTrue (has_world (full_of self.now.layers.items) world) }
@@ -87,8 +88,18 @@ impl Overlay {
         }
         Spot {
             world,
-            place: self.places.get(world).unwrap(),
+            place: self.search(world),
         }
+    }
+
+    /// The place of a world.
+    #[inline(never)]
+    fn search(&self, world: WorldId) -> usize
+        requires live { self.now.spent ≡ false }
+        requires there { IsTrue (has_world (full_of self.now.layers.items) world) }
+        ensures { place_of (full_of self.now.layers.items) world ≡ Some result }
+    {
+        self.places.get(world).unwrap()
     }
 
     /// `read`, in at most twice the depth and 3 steps.

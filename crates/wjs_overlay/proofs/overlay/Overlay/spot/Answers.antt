@@ -5,9 +5,6 @@ use Rattle.wjs_overlay.proofs.Places.{place_find, slice_read}
 use Rattle.wjs_overlay.proofs.StoreLaws.{is_some_of, first_placed}
 use Rattle.wjs_overlay.proofs.overlay.Overlay.spot.Goals as goal
 
-pub unwrap-requires : goal.unwrap-requires
-unwrap-requires c = is_some_of c.get.result (ap is_some (c.get.ensures ∙ (c.args.self.now.kept c.requires.live).placed c.args.world) ∙ place_find (full_of c.args.self.now.layers.items) c.args.world ∙ c.requires.there)
-
 pub returns-then-world-first-2-clause-at : goal.returns-then-world-first-2-clause-at
 returns-then-world-first-2-clause-at c =
     let layers = c.args.self.now.layers.items in
