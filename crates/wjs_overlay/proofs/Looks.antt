@@ -86,6 +86,12 @@ module _ (layers : List Layer) (h : IsSparse layers) (at : Spot) (here : IsAt la
   pub content_first : (q : Slot) → map.get r.rows q ≡ None → r.above ≡ None → content_at (full_of layers) at.world q ≡ None
   content_first q e u = holds q ∙ keeps_at.bare q u e
 
+  -- the first world
+  pub content_kept : (q : Slot) → r.above ≡ None → option_and_then now_of (map.get r.rows q) ≡ content_at (full_of layers) at.world q
+  content_kept q u = by_option (map.get r.rows q)
+      (λ e. ap (option_and_then now_of) e ∙ sym (content_first q e u))
+      (λ row e. ap (option_and_then now_of) e ∙ sym (content_row q row e))
+
   pub above_at : (a : Spot) → r.above ≡ Some a → IsAt layers a × (a.place < at.place)
   above_at a u = h.kept.up at.world at.place r a here s u
 

@@ -16,7 +16,7 @@ use Rattle.wjs_store.proofs.Marks.{marks_read, marks_at}
 use Rattle.wjs_overlay.specs.declared.maps.Row.{Row}
 use Rattle.wjs_overlay.specs.declared.layer.Spot.{Spot}
 use Rattle.wjs_overlay.specs.declared.layer.Layer.{Layer}
-use Rattle.wjs_overlay.specs.declared.layer.Look.TheVariants.{Closed, Untouched, Nowhere}
+use Rattle.wjs_overlay.specs.declared.layer.Look.TheVariants.{Closed, Untouched}
 use Rattle.wjs_overlay.specs.Look.{Looked}
 use Rattle.wjs_overlay.specs.Sparse.{mark_of, full_of, Keeps, IsSparse, IsAt, StandFor}
 use Rattle.wjs_overlay.proofs.Full.{untouched, row_some, row_none, closed_same, by_option}
@@ -79,10 +79,10 @@ module _ (layers : List Layer) (h : IsSparse layers) (at : Spot) (here : IsAt la
       let k = keeps_at layers h at here r s in
       read_stays (and_false (is_some x.parent) (is_touched x q) (ap (λ b. b || map.contains_key x.closed q.object) (row_none r x k q e.0) ∙ closed_same r x k q ∙ e.1))
 
-  pub read_nowhere : Looked r q Nowhere → StandFor layers (after_read (full_of layers) at.world q)
-  read_nowhere e =
+  pub read_first : r.above ≡ None → StandFor layers (after_read (full_of layers) at.world q)
+  read_first u =
       let x = (world_at layers h at here r s).0 in
-      read_stays (ap (λ b. b && not (is_touched x q)) (no_parent e.1))
+      read_stays (ap (λ b. b && not (is_touched x q)) (no_parent u))
 
   -- what an untouched slot holds is recorded
   module _ (a : Spot) (found : Content) (e : Looked r q (Untouched a)) (c : content_of found ≡ content_at (full_of layers) a.world q) where

@@ -1,12 +1,11 @@
 -- What contracts see of a layer, by its fields.
-use Rattle.std.proofs.Common.{◌≡◌, ap, sym, ◌∙◌, Option, None, Some}
+use Rattle.std.proofs.Common.{◌≡◌, ap, sym, ◌∙◌}
 use Rattle.std.specs.FinMap as map
 use Rattle.std.specs.FinMap.{FinMap}
-use Rattle.wjs_base.specs.declared.values.Slot.{Slot}
 use Rattle.wjs_base.specs.declared.values.Value.{Value}
 use Rattle.wjs_base.specs.declared.ids.ObjId.{ObjId}
 use Rattle.wjs_base.specs.Order.{slot_cmp, obj_cmp}
-use Rattle.wjs_store.specs.State.{KeySet, put}
+use Rattle.wjs_store.specs.State.{KeySet}
 use Rattle.wjs_overlay.specs.declared.maps.Row.{Row}
 use Rattle.wjs_overlay.specs.declared.layer.Spot.{Spot}
 use Rattle.wjs_overlay.specs.declared.layer.Kept.{Kept}
@@ -25,24 +24,6 @@ module _ (a : Inside) (r : Layer) (v : shown a ≡ r) where
 
   pub rows_under : (up : Spot) (m : FinMap slot_cmp Row) → a.kept ≡ Under up m → m ≡ r.rows
   rows_under up m e = sym (ap rows_in e) ∙ ap (λ (l : Layer). l.rows) v
-
-  above_first : (m : FinMap slot_cmp Value) → a.kept ≡ First m → None ≡ r.above
-  above_first m e = sym (ap above_in e) ∙ above_shown
-
-  above_under : (up : Spot) (m : FinMap slot_cmp Row) → a.kept ≡ Under up m → Some up ≡ r.above
-  above_under up m e = sym (ap above_in e) ∙ above_shown
-
-  pub set_value_shown : (m n : FinMap slot_cmp Value) (s : Slot) (o : Option Row) → a.kept ≡ First m → first_rows n ≡ put (first_rows m) s o → shown (record a { kept = First n }) ≡ record r { rows = put r.rows s o }
-  set_value_shown m n s o e is =
-      let up = above_first m e in
-      let rows = is ∙ ap (λ t. put t s o) (rows_first m e) in
-      λ i. record { id = (v i).id; above = up i; strict = (v i).strict; rows = rows i; closed = (v i).closed }
-
-  pub set_row_shown : (at : Spot) (m n : FinMap slot_cmp Row) (s : Slot) (row : Row) → a.kept ≡ Under at m → n ≡ map.insert m s row → shown (record a { kept = Under at n }) ≡ record r { rows = map.insert r.rows s row }
-  set_row_shown at m n s row e is =
-      let up = above_under at m e in
-      let rows = is ∙ ap (λ t. map.insert t s row) (rows_under at m e) in
-      λ i. record { id = (v i).id; above = up i; strict = (v i).strict; rows = rows i; closed = (v i).closed }
 
   pub close_shown : (n : KeySet obj_cmp) (o : ObjId) → n ≡ map.insert a.closed o tt → shown (record a { closed = n }) ≡ record r { closed = map.insert r.closed o tt }
   close_shown n o is =

@@ -1,6 +1,6 @@
 -- The first world's values, each as a row.
 use Rattle.std.proofs.Common.{◌≡◌, Bool, true, false, cond, ◌&&◌, List, [], ◌∷◌, length, refl, ap, sym, ◌∙◌, subst, Option, None, Some, suc, T, map as each}
-use Rattle.std.specs.Option.{option_map}
+use Rattle.std.specs.Option.{option_map, option_and_then}
 use Rattle.std.specs.Ordering.{eq_by_cmp, is_lt}
 use Rattle.std.specs.Map.{lookup_entry}
 use Rattle.std.specs.FinMap as map
@@ -9,6 +9,7 @@ use Rattle.std.specs.FinMap.Entries.{below_all, is_sorted, find}
 use Rattle.wjs_base.specs.declared.values.Slot.{Slot}
 use Rattle.wjs_base.specs.declared.values.Value.{Value}
 use Rattle.wjs_base.specs.Order.{slot_cmp, slot_total, slot_exact}
+use Rattle.wjs_overlay.specs.Sparse.{now_of}
 use Rattle.wjs_overlay.specs.Tables.{row_with, entry_with, first_rows}
 
 below_same : (s : Slot) (es : List (Slot × Value)) → below_all slot_cmp s (each entry_with es) ≡ below_all slot_cmp s es
@@ -74,3 +75,11 @@ lookup_with p (e ∷ es) = ap (cond (p e.0) (Some (entry_with e))) (lookup_with 
 
 pub first_lookup : (p : Slot → Bool) (m : FinMap slot_cmp Value) → lookup_entry p (map.entries (first_rows m)) ≡ option_map entry_with (lookup_entry p (map.entries m))
 first_lookup p m = ap (lookup_entry p) (first_entries m) ∙ lookup_with p (map.entries m)
+
+then_now : (o : Option Value) → option_and_then now_of (option_map row_with o) ≡ o
+then_now None = refl
+then_now (Some v) = refl
+
+-- a slot of the first world holds its value
+pub first_now : (m : FinMap slot_cmp Value) (q : Slot) → option_and_then now_of (map.get (first_rows m) q) ≡ map.get m q
+first_now m q = ap (option_and_then now_of) (first_get m q) ∙ then_now (map.get m q)

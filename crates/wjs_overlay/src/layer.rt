@@ -14,7 +14,7 @@ ghost use Rattle.std.specs.Prelude.{true};
 ghost use Rattle.wjs_base.specs.declared.values.Slot.{Slot};
 
 use crate::maps::{ObjectSet, Row};
-use crate::values::{held, present, set_value, with_entry, with_row};
+use crate::values::{content_with, held, present, set_value, with_entry, with_row};
 use std::alloc::Global;
 use std::marker::Model;
 use std::sync::ledger::Ledger;
@@ -82,12 +82,14 @@ impl Model for Layer {
 
 impl Layer {
     ghost use Rattle.std.specs.Prelude.{◌≡◌, ◌+◌, ◌≤◌, length, OnOk, IfOk, Option, Some, None, is_some, true, false};
-    ghost use Rattle.std.specs.Option.{option_map};
+    ghost use Rattle.std.specs.Option.{option_map, option_and_then};
     ghost use Rattle.std.specs.FinMap as map;
     ghost use Rattle.std.specs.Map.{lookup_entry};
     ghost use Rattle.wjs_base.specs.Order.{slot_cmp};
     ghost use Rattle.wjs_rows.specs.Order.{is_from, is_after};
     ghost use Rattle.wjs_store.specs.State.{put};
+    ghost use Rattle.wjs_store.specs.Shown.{content_of};
+    ghost use Rattle.wjs_overlay.specs.Sparse.{now_of};
     ghost use Rattle.wjs_overlay.specs.declared.maps.Row.{Row};
     ghost use Rattle.wjs_overlay.specs.Look.{first_row_of};
     ghost use Rattle.wjs_overlay.specs.Moves.{cleared};
@@ -149,7 +151,6 @@ impl Layer {
     }
 
     /// What the row of a slot says that it holds; None exactly where there is no row.
-    #[inline(always)]
     pub fn now<L: Ledger>(&self, slot: Slot, steps: &mut Steps<L>) -> Option<Content>
         ensures now { result ≡ option_map (λ (row : Row). row.now) (map.get self.now.rows slot) }
         ensures step { steps.new ≡ steps.old + 1 }
@@ -157,6 +158,19 @@ impl Layer {
         match &self.kept {
             Kept::First(values) => present(values.get(slot, steps)),
             Kept::Under(_, rows) => held(rows.get(slot, steps)),
+        }
+    }
+
+    /// What a slot of the first world holds.
+    #[inline(always)]
+    pub fn get_first<L: Ledger>(&self, slot: Slot, steps: &mut Steps<L>) -> Content
+        requires { self.now.above ≡ None }
+        ensures content { content_of result ≡ option_and_then now_of (map.get self.now.rows slot) }
+        ensures step { steps.new ≡ steps.old + 1 }
+    {
+        match &self.kept {
+            Kept::First(values) => content_with(values.get(slot, steps)),
+            Kept::Under(_, _) => unreachable!(),
         }
     }
 

@@ -2,6 +2,7 @@
 ghost use Rattle.std.specs.Prelude.{◌≡◌, ◌+◌, OnOk};
 ghost use Rattle.std.specs.Option.{option_map, option_copied};
 ghost use Rattle.wjs_store.specs.State.{put};
+ghost use Rattle.wjs_store.specs.Shown.{content_of};
 ghost use Rattle.wjs_overlay.specs.declared.maps.Row.{Row};
 ghost use Rattle.wjs_overlay.specs.Look.{first_row_of};
 ghost use Rattle.wjs_overlay.specs.Tables.{row_with, entry_with, first_rows};
@@ -23,8 +24,18 @@ fn row_of(value: Value) -> Row
     }
 }
 
-/// What the row of a slot with a value says that it holds.
+/// What a slot with this value, or with none, holds.
 #[inline(always)]
+pub fn content_with(value: Option<&Value>) -> Content
+    ensures { content_of result ≡ option_copied value.entry }
+{
+    match value {
+        None => Content::Absent,
+        Some(value) => Content::Present(*value),
+    }
+}
+
+/// What the row of a slot with a value says that it holds.
 pub fn present(value: Option<&Value>) -> Option<Content>
     ensures { result ≡ option_map (λ (row : Row). row.now) (option_map row_with (option_copied value.entry)) }
 {
@@ -35,7 +46,6 @@ pub fn present(value: Option<&Value>) -> Option<Content>
 }
 
 /// What a row says that its slot holds.
-#[inline(always)]
 pub fn held(row: Option<&Row>) -> Option<Content>
     ensures { result ≡ option_map (λ (row : Row). row.now) (option_copied row.entry) }
 {

@@ -1,8 +1,8 @@
-use Rattle.std.proofs.Common.{◌≡◌, ap, sym, subst, ◌∙◌, Some, is_some}
+use Rattle.std.proofs.Common.{◌≡◌, ap, sym, subst, ◌∙◌, Some}
 use Rattle.wjs_base.specs.declared.ids.WorldId.{WorldId}
 use Rattle.wjs_overlay.specs.Sparse.{full_of, place_of}
-use Rattle.wjs_overlay.proofs.Places.{place_find, slice_read}
-use Rattle.wjs_overlay.proofs.StoreLaws.{is_some_of, first_placed}
+use Rattle.wjs_overlay.proofs.Places.{slice_read}
+use Rattle.wjs_overlay.proofs.StoreLaws.{first_placed}
 use Rattle.wjs_overlay.proofs.overlay.Overlay.spot.Goals as goal
 
 pub returns-then-world-first-2-clause-at : goal.returns-then-world-first-2-clause-at
