@@ -1,4 +1,6 @@
 pub mod Lists
+pub mod Tables
+pub mod Shapes
 pub mod Places
 pub mod Full
 pub mod Changes

@@ -1,13 +1,15 @@
 -- What a slot holds in a world, by the nearest row.
-use Rattle.std.proofs.Common.{◌≡◌, ℕ, ◌<◌, ◌+◌, true, false, cond, List, [], ◌∷◌, length, refl, ap, sym, ◌∙◌, None, Some, is_some, slice_get, arith}
+use Rattle.std.proofs.Common.{◌≡◌, ℕ, ◌<◌, ◌+◌, true, false, cond, List, [], ◌∷◌, length, refl, ap, sym, ◌∙◌, None, Some, Option, is_some, slice_get, arith}
 use Rattle.std.specs.Option.{option_map, option_map_or, option_and_then}
 use Rattle.std.specs.FinMap as map
 use Rattle.std.proofs.lemmas.Bool.{false≢true}
 use Rattle.wjs_base.specs.declared.ids.WorldId.{WorldId}
 use Rattle.wjs_base.specs.declared.values.Slot.{Slot}
+use Rattle.wjs_base.specs.declared.values.Content.{Content}
 use Rattle.wjs_store.specs.Naming.{plain}
 use Rattle.wjs_store.specs.State.{World, State, find_world, same_world, content_at}
 use Rattle.wjs_store.specs.Reached.{IsReached}
+use Rattle.wjs_store.specs.Shown.{content_of}
 use Rattle.wjs_store.proofs.Writes.{by_bool, not_older}
 use Rattle.wjs_store.proofs.Commits.{local_find, inherits_find, parent_there}
 use Rattle.wjs_overlay.specs.declared.maps.Row.{Row}
@@ -47,6 +49,15 @@ depth_up (y ∷ older) w p x h f e = by_bool (same_world y.id w)
 
 -- ---- contents
 
+-- what a row says, by the row
+pub now_row : (o : Option Row) (c : Content) → Some c ≡ option_map (λ (row : Row). row.now) o → (row : Row) × (o ≡ Some row) × (row.now ≡ c)
+now_row None c e = absurd (no_none c (sym e))
+now_row (Some row) c e = (row, refl, sym (some_is c row.now e))
+
+pub now_none : (o : Option Row) → None ≡ option_map (λ (row : Row). row.now) o → o ≡ None
+now_none None e = refl
+now_none (Some row) e = absurd (no_none row.now e)
+
 -- the world at a place
 pub found_at : (F : State plain) (w : WorldId) (i : ℕ) → place_of F w ≡ Some i → (x : World plain) × (find_world F w ≡ Some x)
 found_at F w i p = by_option (find_world F w)
@@ -66,11 +77,20 @@ module _ (layers : List Layer) (h : IsSparse layers) (at : Spot) (here : IsAt la
   pub content_row : (q : Slot) (row : Row) → map.get r.rows q ≡ Some row → content_at (full_of layers) at.world q ≡ now_of row
   content_row q row e = holds q ∙ keeps_at.now q row e
 
+  pub content_now : (q : Slot) (c : Content) → Some c ≡ option_map (λ (row : Row). row.now) (map.get r.rows q) → content_of c ≡ content_at (full_of layers) at.world q
+  content_now q c e = let w = now_row (map.get r.rows q) c e in ap content_of (sym w.2) ∙ sym (content_row q w.0 w.1)
+
   pub content_closed : (q : Slot) → map.get r.rows q ≡ None → map.contains_key r.closed q.object ≡ true → content_at (full_of layers) at.world q ≡ None
   content_closed q e c = holds q ∙ (local_find (full_of layers) at.world world_at.0 h.reached world_at.1).absent q (closed_same r world_at.0 keeps_at q ∙ c) (row_none r world_at.0 keeps_at q e)
 
   pub content_first : (q : Slot) → map.get r.rows q ≡ None → r.above ≡ None → content_at (full_of layers) at.world q ≡ None
   content_first q e u = holds q ∙ keeps_at.bare q u e
+
+  -- the first world
+  pub content_kept : (q : Slot) → r.above ≡ None → option_and_then now_of (map.get r.rows q) ≡ content_at (full_of layers) at.world q
+  content_kept q u = by_option (map.get r.rows q)
+      (λ e. ap (option_and_then now_of) e ∙ sym (content_first q e u))
+      (λ row e. ap (option_and_then now_of) e ∙ sym (content_row q row e))
 
   pub above_at : (a : Spot) → r.above ≡ Some a → IsAt layers a × (a.place < at.place)
   above_at a u = h.kept.up at.world at.place r a here s u

@@ -16,12 +16,12 @@ use Rattle.wjs_store.proofs.Marks.{marks_read, marks_at}
 use Rattle.wjs_overlay.specs.declared.maps.Row.{Row}
 use Rattle.wjs_overlay.specs.declared.layer.Spot.{Spot}
 use Rattle.wjs_overlay.specs.declared.layer.Layer.{Layer}
-use Rattle.wjs_overlay.specs.declared.layer.Look.TheVariants.{Closed, Untouched, Nowhere}
+use Rattle.wjs_overlay.specs.declared.layer.Look.TheVariants.{Closed, Untouched}
 use Rattle.wjs_overlay.specs.Look.{Looked}
 use Rattle.wjs_overlay.specs.Sparse.{mark_of, full_of, Keeps, IsSparse, IsAt, StandFor}
 use Rattle.wjs_overlay.proofs.Full.{untouched, row_some, row_none, closed_same, by_option}
 use Rattle.wjs_overlay.proofs.Changes.{kept_set}
-use Rattle.wjs_overlay.proofs.Looks.{world_at, keeps_at, holds, parent_is, content_above}
+use Rattle.wjs_overlay.proofs.Looks.{world_at, keeps_at, holds, parent_is, content_above, now_row}
 use Rattle.wjs_overlay.specs.Look.{Puts}
 use Rattle.wjs_overlay.proofs.Puts.{keeps_put, stand_by, at_one, at_other, set_same}
 
@@ -63,12 +63,15 @@ module _ (layers : List Layer) (h : IsSparse layers) (at : Spot) (here : IsAt la
   has_parent a e = ap is_some (parent_is layers h at here r s a e)
 
   -- a slot with a row is recorded already, or the world has no parent
-  pub read_kept : (row : Row) → map.get r.rows q ≡ Some row → StandFor layers (after_read (full_of layers) at.world q)
+  read_kept : (row : Row) → map.get r.rows q ≡ Some row → StandFor layers (after_read (full_of layers) at.world q)
   read_kept row e =
       let x = (world_at layers h at here r s).0 in
       read_stays (by_option r.above
       (λ u. ap (λ b. b && not (is_touched x q)) (no_parent u))
       (λ a u. and_false (is_some x.parent) (is_touched x q) (ap (λ b. b || map.contains_key x.closed q.object) (row_some r x (keeps_at layers h at here r s) q row (ap is_some u) e))))
+
+  pub read_now : (c : Content) → Some c ≡ option_map (λ (row : Row). row.now) (map.get r.rows q) → StandFor layers (after_read (full_of layers) at.world q)
+  read_now c e = let w = now_row (map.get r.rows q) c e in read_kept w.0 w.1
 
   pub read_closed : Looked r q Closed → StandFor layers (after_read (full_of layers) at.world q)
   read_closed e =
@@ -76,10 +79,10 @@ module _ (layers : List Layer) (h : IsSparse layers) (at : Spot) (here : IsAt la
       let k = keeps_at layers h at here r s in
       read_stays (and_false (is_some x.parent) (is_touched x q) (ap (λ b. b || map.contains_key x.closed q.object) (row_none r x k q e.0) ∙ closed_same r x k q ∙ e.1))
 
-  pub read_nowhere : Looked r q Nowhere → StandFor layers (after_read (full_of layers) at.world q)
-  read_nowhere e =
+  pub read_first : r.above ≡ None → StandFor layers (after_read (full_of layers) at.world q)
+  read_first u =
       let x = (world_at layers h at here r s).0 in
-      read_stays (ap (λ b. b && not (is_touched x q)) (no_parent e.2))
+      read_stays (ap (λ b. b && not (is_touched x q)) (no_parent u))
 
   -- what an untouched slot holds is recorded
   module _ (a : Spot) (found : Content) (e : Looked r q (Untouched a)) (c : content_of found ≡ content_at (full_of layers) a.world q) where

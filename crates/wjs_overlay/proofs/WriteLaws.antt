@@ -125,11 +125,11 @@ or_true true = refl
 or_true false = refl
 
 -- a world with a parent
-pub puts_marked : (r : Layer) (x : World plain) (s : Slot) (a : Spot) (read : Option Content) (content : Content) → Keeps r x → r.above ≡ Some a → option_map content_of read ≡ read_after x s → Puts r s (Some (record { read = read; now = content; written = true })) x (write_in s (content_of content) x)
-puts_marked r x s a read content k u h =
+pub puts_marked : (r : Layer) (x : World plain) (s : Slot) (read : Option Content) (content : Content) → Keeps r x → is_some r.above ≡ true → option_map content_of read ≡ read_after x s → Puts r s (Some (record { read = read; now = content; written = true })) x (write_in s (content_of content) x)
+puts_marked r x s read content k u h =
     let row : Row = record { read = read; now = content; written = true } in
     let b = is_some x.parent && (not (has_row x s) && (map.contains_key x.closed s.object || x.strict)) in
-    let p : is_some x.parent ≡ true = ap is_some (k.parent ∙ ap (option_map (λ (a : Spot). a.world)) u) in
+    let p : is_some x.parent ≡ true = by_option r.above (λ e. absurd (false≢true (sym (ap is_some e) ∙ u))) (λ a e. ap is_some (k.parent ∙ ap (option_map (λ (a : Spot). a.world)) e)) in
     record {
       id = refl;
       parent = refl;
@@ -141,8 +141,8 @@ puts_marked r x s a read content k u h =
       first_other = get_apart b x.first s (map.get x.copy s);
       written_other = get_apart (is_some x.parent) x.written s tt;
       copy_other = put_apart x.copy s (content_of content);
-      marked = λ w e. let z : row ≡ w = cc in ap (λ (w : Row). is_some w.read || w.written) (sym z) ∙ or_true (is_some read) ∙ sym (ap is_some u);
-      present = λ w v e. absurd (true≢false (ap is_some (sym u ∙ v)));
+      marked = λ w e. let z : row ≡ w = cc in ap (λ (w : Row). is_some w.read || w.written) (sym z) ∙ or_true (is_some read) ∙ sym u;
+      present = λ w v e. absurd (true≢false (sym u ∙ ap is_some v));
     }
 
 first_read : (content : Content) → option_and_then read_of (first_row_of content) ≡ None
@@ -220,4 +220,4 @@ module _ (layers : List Layer) (h : IsSparse layers) (at : Spot) (here : IsAt la
   before_strict a found e n c = sym (bare_first e.0 false e.1 ∙ ap (λ b. cond b (Some (map.get x.copy q)) None) n ∙ ap (λ o. Some o) (sym (ap (option_and_then (λ (y : World plain). map.get y.copy q)) f) ∙ content_above layers h at here r s q a e.0 e.1 e.2 ∙ sym c))
 
   pub before_nowhere : Looked r q Nowhere → None ≡ read_after x q
-  before_nowhere e = absurd (false≢true (sym (ap is_some e.2) ∙ up))
+  before_nowhere e = absurd (false≢true (sym (ap is_some e.1) ∙ up))

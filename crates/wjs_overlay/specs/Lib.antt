@@ -1,4 +1,6 @@
 pub mod Codes
+pub mod Shape
+pub mod Tables
 pub mod Sparse
 pub mod Look
 pub mod Work

@@ -13,15 +13,15 @@ use Rattle.wjs_store.specs.Naming.{plain}
 use Rattle.wjs_store.specs.State.{World, has_row}
 use Rattle.wjs_overlay.specs.declared.maps.Row.{Row}
 use Rattle.wjs_overlay.specs.declared.layer.Layer.{Layer}
+use Rattle.wjs_overlay.specs.Tables.{row_with}
 use Rattle.wjs_overlay.specs.Sparse.{now_of, read_of, mark_of}
 use Rattle.wjs_overlay.specs.declared.layer.Look.{Look}
-use Rattle.wjs_overlay.specs.declared.layer.Look.TheVariants.{Kept, Closed, Untouched, Nowhere}
+use Rattle.wjs_overlay.specs.declared.layer.Look.TheVariants.{Closed, Untouched, Nowhere}
 
 abbrev pub Looked : Layer → Slot → Look → Type 0
-Looked r s (Kept row) = map.get r.rows s ≡ Some row.now
 Looked r s Closed = (map.get r.rows s ≡ None) × (map.contains_key r.closed s.object ≡ true)
 Looked r s (Untouched above) = (map.get r.rows s ≡ None) × (map.contains_key r.closed s.object ≡ false) × (r.above ≡ Some above)
-Looked r s Nowhere = (map.get r.rows s ≡ None) × (map.contains_key r.closed s.object ≡ false) × (r.above ≡ None)
+Looked r s Nowhere = (map.get r.rows s ≡ None) × (r.above ≡ None)
 
 -- the world y is x but for one slot, where it is what the row says
 pub record Puts (r : Layer) (s : Slot) (o : Option Row) (x y : World plain) : Type 0 where
@@ -45,7 +45,7 @@ read_after x s = cond (is_some x.parent && (not (has_row x s) && (map.contains_k
 -- the row of a slot in the first world
 abbrev pub first_row_of : Content → Option Row
 first_row_of Absent = None
-first_row_of (Present v) = Some (record { read = None; now = Present v; written = false })
+first_row_of (Present v) = Some (row_with v)
 
 -- an object is marked as listed, in a world with a parent
 abbrev pub closed_layer : ObjId → Layer → Layer

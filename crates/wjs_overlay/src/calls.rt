@@ -113,7 +113,7 @@ fn commit_slots<L: Ledger>(
     ensures steps { steps.new ≤ steps.old + (rows_of (full_of layers.old) world.world + closed_of (full_of layers.old) world.world + rows_above (full_of layers.old) world.world + 1) * (4 * depth_of (full_of layers.old) world.world + 20) }
 {
     let layer = &layers[world.place];
-    match layer.above {
+    match layer.above() {
         None => Ok(Verdict::NoParent),
         Some(above) => match fault(layers, world, above, steps) {
             Some(slot) => Ok(Verdict::Disagrees(slot)),
@@ -153,7 +153,7 @@ pub fn check_in<L: Ledger>(layers: &[Layer], world: Spot, blank: Blank) -> Optio
 {
     let mut steps = Steps::<L>::new(blank);
     let layer = &layers[world.place];
-    match layer.above {
+    match layer.above() {
         None => None,
         Some(above) => fault(layers, world, above, &mut steps),
     }

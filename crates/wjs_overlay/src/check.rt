@@ -65,12 +65,12 @@ fn fault_in_reads<L: Ledger>(
     ensures steps { (x : World plain) → find_world (full_of layers.now) world.world ≡ Some x → is_some x.parent ≡ true → steps.new ≤ steps.old + (length (row_slots x) * (2 * depth_of (full_of layers.now) above.world + 3) + 1) }
 {
     let layer = &layers[world.place];
-    let mut next = layer.rows.next_from(least_slot(), steps);
+    let mut next = layer.next_from(least_slot(), steps);
     'rows: while let Some((slot, row)) = next {
         if row_differs(layers, above, slot, row, steps) {
             return Some(slot);
         }
-        next = layer.rows.next_after(slot, steps);
+        next = layer.next_after(slot, steps);
     }
     None
 }
@@ -90,7 +90,7 @@ fn slot_unseen<L: Ledger>(
 {
     match content(layers, above, slot, steps) {
         Content::Absent => false,
-        Content::Present(_) => layer.rows.get(slot, steps).is_none(),
+        Content::Present(_) => layer.get(slot, steps).is_none(),
     }
 }
 
@@ -135,12 +135,12 @@ fn fault_in_closed<L: Ledger>(
     ensures steps { (x : World plain) → find_world (full_of layers.now) world.world ≡ Some x → steps.new ≤ steps.old + (map.len x.closed * (depth_of (full_of layers.now) above.world + 2) + kept_from (λ (s : Slot). map.contains_key x.closed s.object) (full_of layers.now) above.world * (3 * depth_of (full_of layers.now) above.world + 4) + 1) }
 {
     let layer = &layers[world.place];
-    let mut next = layer.closed.next_from(least_object(), steps);
+    let mut next = layer.closed().next_from(least_object(), steps);
     'objects: while let Some(object) = next {
         if let Some(slot) = fault_on_object(layers, world, above, object, steps) {
             return Some(slot);
         }
-        next = layer.closed.next_after(object, steps);
+        next = layer.closed().next_after(object, steps);
     }
     None
 }

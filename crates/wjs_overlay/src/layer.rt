@@ -1,23 +1,24 @@
 //! A world, and its rows.
 ghost use Rattle.std.specs.Prelude.{◌≡◌, ◌+◌, ◌*◌, ◌≤◌, length, OnOk};
-ghost use Rattle.wjs_store.specs.State.{put};
 ghost use Rattle.wjs_overlay.specs.Look.{Looked, closed_layer};
 ghost use Rattle.wjs_overlay.specs.Cursor.{IsNextRow, least_slot_of, on_object_of};
-ghost use Rattle.std.specs.Prelude.{IfSome, is_some, ◌||◌, Some};
+ghost use Rattle.std.specs.Prelude.{IfSome, is_some, ◌||◌, Some, None};
 ghost use Rattle.std.specs.FinMap as map;
 ghost use Rattle.wjs_base.specs.declared.values.Value.{Value};
 ghost use Rattle.std.specs.Prelude.{Option};
 ghost use Rattle.wjs_store.specs.Naming.{plain};
 ghost use Rattle.wjs_store.specs.State.{World};
 ghost use Rattle.wjs_overlay.specs.Sparse.{Keeps, read_of};
-ghost use Rattle.wjs_overlay.specs.Moves.{handed, handed_rows, ReadsAgree, closed_all, cleared};
+ghost use Rattle.wjs_overlay.specs.Moves.{handed, handed_rows, ReadsAgree, closed_all};
 ghost use Rattle.std.specs.Prelude.{true};
 ghost use Rattle.wjs_base.specs.declared.values.Slot.{Slot};
 
 use crate::maps::{ObjectSet, Row};
+use crate::values::{content_with, held, present, set_value, with_entry, with_row};
 use std::alloc::Global;
+use std::marker::Model;
 use std::sync::ledger::Ledger;
-use wjs_base::{Name, ObjId, OutOfMemory, Slot, WorldId};
+use wjs_base::{Content, Name, ObjId, OutOfMemory, Slot, Value, WorldId};
 use wjs_rows::Steps;
 use wjs_slots::Table;
 
@@ -28,22 +29,265 @@ pub struct Spot {
     pub place: usize,
 }
 
-/// A world laid over its parent: what was touched in it. Of the first world it keeps the present slots.
+/// What a world keeps of slots.
+///
+/// Nearly all reads and writes are in the first world, and there a row says no more than its value.
 #[derive(Drop)]
-pub struct Layer {
-    pub id: WorldId,
-    /// Its parent.
-    pub above: Option<Spot>,
-    pub strict: bool,
-    pub rows: Table<Row>,
-    pub closed: ObjectSet,
+enum Kept {
+    /// The first world's present slots.
+    First(Table<Value>),
+    /// What was touched in a world with this parent.
+    Under(Spot, Table<Row>),
 }
 
-/// What a world itself says of a slot.
-pub enum Look<'a> {
-    /// It has a row.
-    Kept(&'a Row),
-    /// It has no row, and the object is listed there.
+impl Kept {
+    ghost use Rattle.std.specs.Prelude.{◌≡◌};
+    ghost use Rattle.std.specs.FinMap as map;
+    ghost use Rattle.wjs_overlay.specs.Tables.{above_in, rows_in};
+
+    /// Takes all rows out.
+    fn clear(&mut self, alloc: Global)
+        ensures above { above_in self.new ≡ above_in self.old }
+        ensures rows { rows_in self.new ≡ map.empty }
+    {
+        match self {
+            Kept::First(values) => *values = Table::new(alloc),
+            Kept::Under(_, rows) => *rows = Table::new(alloc),
+        }
+    }
+}
+
+/// A world laid over its parent: what was touched in it. Of the first world it keeps the present slots.
+///
+/// Contracts see its rows as one finite map, in which each value of the first world is the row of a present slot.
+#[derive(Drop)]
+pub struct Layer {
+    id: WorldId,
+    strict: bool,
+    kept: Kept,
+    closed: ObjectSet,
+}
+
+impl Model for Layer {
+    ghost use Rattle.wjs_overlay.specs.Shape.{Shape, coded_shape};
+
+    ghost Value = { Shape };
+
+    ghost coded = { coded_shape };
+
+    ghost use Rattle.wjs_overlay.specs.Tables.{shown};
+
+    ghost view = { shown };
+}
+
+impl Layer {
+    ghost use Rattle.std.specs.Prelude.{◌≡◌, ◌+◌, ◌≤◌, length, OnOk, IfOk, Option, Some, None, is_some, true, false};
+    ghost use Rattle.std.specs.Option.{option_map, option_and_then};
+    ghost use Rattle.std.specs.FinMap as map;
+    ghost use Rattle.std.specs.Map.{lookup_entry};
+    ghost use Rattle.wjs_base.specs.Order.{slot_cmp};
+    ghost use Rattle.wjs_rows.specs.Order.{is_from, is_after};
+    ghost use Rattle.wjs_store.specs.State.{put};
+    ghost use Rattle.wjs_store.specs.Shown.{content_of};
+    ghost use Rattle.wjs_overlay.specs.Sparse.{now_of};
+    ghost use Rattle.wjs_overlay.specs.declared.maps.Row.{Row};
+    ghost use Rattle.wjs_overlay.specs.Look.{first_row_of};
+    ghost use Rattle.wjs_overlay.specs.Moves.{cleared};
+
+    /// The first world, in which all slots are absent.
+    pub fn first(alloc: Global, id: WorldId) -> Layer
+        ensures { result ≡ record { id = id; above = None; strict = false; rows = map.empty; closed = map.empty } }
+    {
+        Layer {
+            id,
+            strict: false,
+            kept: Kept::First(Table::new(alloc)),
+            closed: ObjectSet::new(alloc),
+        }
+    }
+
+    /// A world in which nothing was touched.
+    pub fn under(alloc: Global, above: Spot, id: WorldId, strict: bool) -> Layer
+        ensures { result ≡ record { id = id; above = Some above; strict = strict; rows = map.empty; closed = map.empty } }
+    {
+        Layer {
+            id,
+            strict,
+            kept: Kept::Under(above, Table::new(alloc)),
+            closed: ObjectSet::new(alloc),
+        }
+    }
+
+    #[inline(always)]
+    pub fn id(&self) -> WorldId
+        ensures { result ≡ self.now.id }
+    {
+        self.id
+    }
+
+    /// Its parent.
+    #[inline(always)]
+    pub fn above(&self) -> Option<Spot>
+        ensures { result ≡ self.now.above }
+    {
+        match &self.kept {
+            Kept::First(_) => None,
+            Kept::Under(above, _) => Some(*above),
+        }
+    }
+
+    pub fn is_strict(&self) -> bool
+        ensures { result ≡ self.now.strict }
+    {
+        self.strict
+    }
+
+    /// The objects that were listed there.
+    #[inline(always)]
+    pub fn closed(&self) -> &ObjectSet
+        ensures { result.now ≡ self.now.closed }
+    {
+        &self.closed
+    }
+
+    /// What the row of a slot says that it holds; None exactly where there is no row.
+    pub fn now<L: Ledger>(&self, slot: Slot, steps: &mut Steps<L>) -> Option<Content>
+        ensures now { result ≡ option_map (λ (row : Row). row.now) (map.get self.now.rows slot) }
+        ensures step { steps.new ≡ steps.old + 1 }
+    {
+        match &self.kept {
+            Kept::First(values) => present(values.get(slot, steps)),
+            Kept::Under(_, rows) => held(rows.get(slot, steps)),
+        }
+    }
+
+    /// What a slot of the first world holds.
+    #[inline(always)]
+    pub fn get_first<L: Ledger>(&self, slot: Slot, steps: &mut Steps<L>) -> Content
+        requires { self.now.above ≡ None }
+        ensures content { content_of result ≡ option_and_then now_of (map.get self.now.rows slot) }
+        ensures step { steps.new ≡ steps.old + 1 }
+    {
+        match &self.kept {
+            Kept::First(values) => content_with(values.get(slot, steps)),
+            Kept::Under(_, _) => unreachable!(),
+        }
+    }
+
+    /// The row of a slot; None exactly where there is none.
+    pub fn get<L: Ledger>(&self, slot: Slot, steps: &mut Steps<L>) -> Option<Row>
+        ensures row { result ≡ map.get self.now.rows slot }
+        ensures step { steps.new ≡ steps.old + 1 }
+    {
+        match &self.kept {
+            Kept::First(values) => with_row(values.get(slot, steps)),
+            Kept::Under(_, rows) => rows.get(slot, steps).copied(),
+        }
+    }
+
+    /// How many rows there are.
+    pub fn len(&self) -> usize
+        ensures { result ≡ length (map.entries self.now.rows) }
+    {
+        match &self.kept {
+            Kept::First(values) => values.len(),
+            Kept::Under(_, rows) => rows.len(),
+        }
+    }
+
+    /// The least row at or after a slot; None exactly where there is none.
+    pub fn next_from<L: Ledger>(&self, slot: Slot, steps: &mut Steps<L>) -> Option<(Slot, Row)>
+        ensures least { result ≡ lookup_entry (is_from slot_cmp slot) (map.entries self.now.rows) }
+        ensures step { steps.new ≡ steps.old + 1 }
+    {
+        match &self.kept {
+            Kept::First(values) => with_entry(values.next_from(slot, steps)),
+            Kept::Under(_, rows) => rows.next_from(slot, steps),
+        }
+    }
+
+    /// The least row after a slot; None exactly where there is none.
+    pub fn next_after<L: Ledger>(&self, slot: Slot, steps: &mut Steps<L>) -> Option<(Slot, Row)>
+        ensures least { result ≡ lookup_entry (is_after slot_cmp slot) (map.entries self.now.rows) }
+        ensures step { steps.new ≡ steps.old + 1 }
+    {
+        match &self.kept {
+            Kept::First(values) => with_entry(values.next_after(slot, steps)),
+            Kept::Under(_, rows) => rows.next_after(slot, steps),
+        }
+    }
+
+    /// All rows of a world with a parent, in the order of slots.
+    pub fn entries<L: Ledger>(
+        &self,
+        alloc: Global,
+        steps: &mut Steps<L>,
+    ) -> Result<Vec<(Slot, Row)>, OutOfMemory>
+        requires { is_some self.now.above ≡ true }
+        ensures all { IfOk result (λ all. all.items ≡ map.entries self.now.rows) }
+        ensures steps { steps.new ≤ steps.old + (length (map.entries self.now.rows) + 1) }
+    {
+        match &self.kept {
+            Kept::First(_) => unreachable!(),
+            Kept::Under(_, rows) => rows.entries(alloc, steps),
+        }
+    }
+
+    /// Sets a slot of the first world.
+    #[inline(always)]
+    pub fn set_first<L: Ledger>(
+        &mut self,
+        slot: Slot,
+        content: Content,
+        steps: &mut Steps<L>,
+    ) -> Result<(), OutOfMemory>
+        requires { self.old.above ≡ None }
+        ensures ok { OnOk result (self.new ≡ record self.old { rows = put self.old.rows slot (first_row_of content) }) }
+        ensures step { steps.new ≡ steps.old + 1 }
+    {
+        match &mut self.kept {
+            Kept::First(values) => set_value(values, slot, content, steps),
+            Kept::Under(_, _) => unreachable!(),
+        }
+    }
+
+    /// Puts a row into a world with a parent.
+    pub fn set<L: Ledger>(
+        &mut self,
+        slot: Slot,
+        row: Row,
+        steps: &mut Steps<L>,
+    ) -> Result<(), OutOfMemory>
+        requires { is_some self.old.above ≡ true }
+        ensures ok { OnOk result (self.new ≡ record self.old { rows = map.insert self.old.rows slot row }) }
+        ensures step { steps.new ≡ steps.old + 1 }
+    {
+        match &mut self.kept {
+            Kept::First(_) => unreachable!(),
+            Kept::Under(_, rows) => rows.set(slot, row, steps),
+        }
+    }
+
+    /// Marks an object as listed.
+    fn close<L: Ledger>(&mut self, object: ObjId, steps: &mut Steps<L>) -> Result<(), OutOfMemory>
+        ensures ok { OnOk result (self.new ≡ record self.old { closed = map.insert self.old.closed object tt }) }
+        ensures step { steps.new ≡ steps.old + 1 }
+    {
+        self.closed.insert(object, steps)
+    }
+
+    /// Takes all rows out, and unmarks all objects.
+    pub fn clear(&mut self, alloc: Global)
+        ensures { self.new ≡ cleared self.old }
+    {
+        self.kept.clear(alloc);
+        self.closed = ObjectSet::new(alloc);
+    }
+}
+
+/// What a world without a row of a slot says of it.
+pub enum Look {
+    /// The object is listed there.
     Closed,
     /// It is untouched: it holds what the parent holds.
     Untouched(Spot),
@@ -52,39 +296,20 @@ pub enum Look<'a> {
 }
 
 #[inline(always)]
-pub fn look_at<'a, L: Ledger>(layer: &'a Layer, slot: Slot, steps: &mut Steps<L>) -> Look<'a>
+pub fn look_past<L: Ledger>(layer: &Layer, slot: Slot, steps: &mut Steps<L>) -> Look
+    requires { map.get layer.now.rows slot ≡ None }
     ensures seen { Looked layer.now slot result }
-    ensures steps { steps.new ≤ steps.old + 2 }
+    ensures step { steps.new ≤ steps.old + 1 }
 {
-    if let Some(row) = layer.rows.get(slot, steps) {
-        return Look::Kept(row);
-    }
-    if layer.closed.has(slot.object, steps) {
-        return Look::Closed;
-    }
-    match layer.above {
-        Some(above) => Look::Untouched(above),
+    match layer.above() {
         None => Look::Nowhere,
-    }
-}
-
-/// Puts a row in, or takes it out.
-#[inline(always)]
-pub fn put<L: Ledger>(
-    layer: &mut Layer,
-    slot: Slot,
-    row: Option<Row>,
-    steps: &mut Steps<L>,
-) -> Result<(), OutOfMemory>
-    ensures ok { OnOk result (layer.new ≡ record layer.old { rows = put layer.old.rows slot row }) }
-    ensures step { steps.new ≡ steps.old + 1 }
-{
-    match row {
-        None => {
-            layer.rows.remove(slot, steps);
-            Ok(())
+        Some(above) => {
+            if layer.closed().has(slot.object, steps) {
+                Look::Closed
+            } else {
+                Look::Untouched(above)
+            }
         }
-        Some(row) => layer.rows.set(slot, row, steps),
     }
 }
 
@@ -126,8 +351,8 @@ pub fn next_row<L: Ledger>(
     ensures step { steps.new ≡ steps.old + 1 }
 {
     match passed {
-        None => on_object(layer.rows.next_from(least_slot(object), steps), object),
-        Some(slot) => on_object(layer.rows.next_after(slot, steps), object),
+        None => on_object(layer.next_from(least_slot(object), steps), object),
+        Some(slot) => on_object(layer.next_after(slot, steps), object),
     }
 }
 
@@ -140,10 +365,10 @@ pub fn close_layer<L: Ledger>(
     ensures ok { OnOk result (layer.new ≡ closed_layer object layer.old) }
     ensures step { steps.new ≤ steps.old + 1 }
 {
-    if layer.above.is_some() {
-        layer.closed.insert(object, steps)?;
+    match layer.above() {
+        None => Ok(()),
+        Some(_) => layer.close(object, steps),
     }
-    Ok(())
 }
 
 /// Whether a slot is touched in a world with a parent.
@@ -151,16 +376,17 @@ fn is_marked<L: Ledger>(layer: &Layer, slot: Slot, steps: &mut Steps<L>) -> bool
     ensures marked { result ≡ (is_some (map.get layer.now.rows slot) || map.contains_key layer.now.closed slot.object) }
     ensures steps { steps.new ≤ steps.old + 2 }
 {
-    layer.rows.get(slot, steps).is_some() || layer.closed.has(slot.object, steps)
+    layer.get(slot, steps).is_some() || layer.closed().has(slot.object, steps)
 }
 
-/// Records a child's read, where the slot is untouched.
+/// Records a child's read, where the slot is untouched, in a world with a parent.
 fn hand_read<L: Ledger>(
     layer: &mut Layer,
     slot: Slot,
     row: Row,
     steps: &mut Steps<L>,
 ) -> Result<(), OutOfMemory>
+    requires { is_some layer.old.above ≡ true }
     ensures kept { OnOk result ((layer.new.above ≡ layer.old.above) × ((y : World plain) → Keeps layer.old y → is_some y.parent ≡ true → ((c : Option Value) → read_of row ≡ Some c → map.get y.copy slot ≡ c) → Keeps layer.new (handed y (slot, row)))) }
     ensures steps { steps.new ≤ steps.old + 3 }
 {
@@ -175,7 +401,7 @@ fn hand_read<L: Ledger>(
                 now: read,
                 written: false,
             };
-            put(layer, slot, Some(handed), steps)
+            layer.set(slot, handed, steps)
         }
     }
 }
@@ -189,7 +415,7 @@ pub fn hand_reads<L: Ledger>(
     ensures kept { OnOk result ((layer.new.above ≡ layer.old.above) × ((y : World plain) → Keeps layer.old y → ReadsAgree rows.now y → Keeps layer.new (handed_rows rows.now y))) }
     ensures steps { steps.new ≤ steps.old + 3 * length rows.now }
 {
-    if layer.above.is_none() {
+    if layer.above().is_none() {
         return Ok(());
     }
     for (slot, row) in rows {
@@ -211,12 +437,4 @@ pub fn close_all<L: Ledger>(
         close_layer(layer, *object, steps)?;
     }
     Ok(())
-}
-
-/// Empties the marks of a world with a parent.
-pub fn clear(alloc: Global, layer: &mut Layer)
-    ensures { layer.new ≡ cleared layer.old }
-{
-    layer.rows = Table::new(alloc);
-    layer.closed = ObjectSet::new(alloc);
 }

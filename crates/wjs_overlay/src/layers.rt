@@ -2,7 +2,7 @@
 ghost use Rattle.std.specs.Prelude.{◌≡◌, ◌+◌, ◌*◌, ◌<◌, ◌≤◌, length, OnOk, IfOk, IfSome, is_some, true, cond, Some, slice_get, slice_set};
 ghost use Rattle.std.specs.Option.{option_map};
 ghost use Rattle.wjs_store.specs.Naming.{plain};
-ghost use Rattle.wjs_store.specs.State.{World, find_world, content_at, put, write_in, next_id, after_read, after_write, after_sprout, after_list, after_commit, at_world, clear_marks, close_in, fault_in, slots_at};
+ghost use Rattle.wjs_store.specs.State.{World, find_world, content_at, put, next_id, after_read, after_write, after_sprout, after_list, after_commit, at_world, clear_marks, close_in, fault_in, slots_at};
 ghost use Rattle.std.specs.Prelude.{None};
 ghost use Rattle.std.specs.FinMap as map;
 ghost use Rattle.wjs_store.specs.State.{State};
@@ -14,18 +14,15 @@ ghost use Rattle.wjs_base.specs.declared.values.Slot.{Slot};
 ghost use Rattle.wjs_overlay.specs.declared.layer.Layer.{Layer};
 ghost use Rattle.wjs_overlay.specs.Cursor.{IsNextSlot, lesser_of, with_present};
 ghost use Rattle.wjs_overlay.specs.Work.{row_slots};
-ghost use Rattle.wjs_overlay.specs.Look.{Puts, read_after, first_row_of};
+ghost use Rattle.wjs_overlay.specs.Look.{Looked, read_after, first_row_of};
 ghost use Rattle.wjs_overlay.specs.Sparse.{IsSparse, IsAt, StandFor, full_of, depth_of};
 
-use crate::layer::{
-    Layer, Look, Spot, clear, close_all, close_layer, hand_reads, look_at, next_row, put,
-};
-use crate::maps::{ObjectSet, Row, SlotSet};
+use crate::layer::{Layer, Look, Spot, close_all, close_layer, hand_reads, look_past, next_row};
+use crate::maps::{Row, SlotSet};
 use std::alloc::Global;
 use std::sync::ledger::Ledger;
 use wjs_base::{Content, ObjId, OutOfMemory, Slot, WorldId};
 use wjs_rows::Steps;
-use wjs_slots::Table;
 
 /// What a slot holds in a world: what the nearest row upward says, and nothing past a closed object.
 pub fn content<L: Ledger>(
@@ -42,34 +39,32 @@ pub fn content<L: Ledger>(
     let mut at = world;
     'up: loop {
         let layer = &layers[at.place];
-        if let Some(row) = layer.rows.get(slot, steps) {
-            return row.now;
+        if let Some(now) = layer.now(slot, steps) {
+            return now;
         }
-        if layer.closed.has(slot.object, steps) {
-            return Content::Absent;
-        }
-        match layer.above {
-            None => return Content::Absent,
-            Some(above) => at = above,
+        match look_past(layer, slot, steps) {
+            Look::Closed => return Content::Absent,
+            Look::Nowhere => return Content::Absent,
+            Look::Untouched(above) => at = above,
         }
     }
 }
 
-/// Puts a row into a world, or takes it out.
-#[inline(always)]
+/// Puts a row into a world with a parent.
 fn put_row<L: Ledger>(
     layers: &mut [Layer],
     world: Spot,
     slot: Slot,
-    row: Option<Row>,
+    row: Row,
     steps: &mut Steps<L>,
 ) -> Result<(), OutOfMemory>
-    requires { world.place < length layers.old }
-    ensures ok { OnOk result (IfSome (slice_get layers.old world.place) (λ (r : Layer). layers.new ≡ slice_set layers.old world.place (record r { rows = put r.rows slot row }))) }
+    requires there { world.place < length layers.old }
+    requires parent { IfSome (slice_get layers.old world.place) (λ (r : Layer). is_some r.above ≡ true) }
+    ensures ok { OnOk result (IfSome (slice_get layers.old world.place) (λ (r : Layer). layers.new ≡ slice_set layers.old world.place (record r { rows = map.insert r.rows slot row }))) }
     ensures step { steps.new ≡ steps.old + 1 }
 {
     let layer = &mut layers[world.place];
-    put(layer, slot, row, steps)
+    layer.set(slot, row, steps)
 }
 
 /// What a slot holds in a world, which is recorded there where the slot was untouched.
@@ -86,36 +81,61 @@ pub fn read<L: Ledger>(
     ensures after { OnOk result (StandFor layers.new (after_read (full_of layers.old) world.world slot)) }
     ensures steps { steps.new ≤ steps.old + (2 * depth_of (full_of layers.old) world.world + 3) }
 {
-    match look_at(&layers[world.place], slot, steps) {
-        Look::Kept(row) => Ok(row.now),
-        Look::Closed => Ok(Content::Absent),
-        Look::Nowhere => Ok(Content::Absent),
-        Look::Untouched(above) => {
-            let found = content(layers, above, slot, steps);
-            let row = Row {
-                read: Some(found),
-                now: found,
-                written: false,
-            };
-            put_row(layers, world, slot, Some(row), steps)?;
-            Ok(found)
-        }
+    let layer = &layers[world.place];
+    match layer.above() {
+        None => Ok(layer.get_first(slot, steps)),
+        Some(_) => read_marked(layers, world, slot, steps),
     }
 }
 
-/// The row of a slot in the first world, where it is present.
-#[inline(always)]
-fn first_row(content: Content) -> Option<Row>
-    ensures { result ≡ first_row_of content }
+/// `read`, without the short way through the first world.
+#[inline(never)]
+fn read_marked<L: Ledger>(
+    layers: &mut [Layer],
+    world: Spot,
+    slot: Slot,
+    steps: &mut Steps<L>,
+) -> Result<Content, OutOfMemory>
+    requires sparse { IsSparse layers.old }
+    requires there { IsAt layers.old world }
+    ensures found { IfOk result (λ found. content_of found ≡ content_at (full_of layers.old) world.world slot) }
+    ensures after { OnOk result (StandFor layers.new (after_read (full_of layers.old) world.world slot)) }
+    ensures steps { steps.new ≤ steps.old + (2 * depth_of (full_of layers.old) world.world + 3) }
 {
-    match content {
-        Content::Absent => None,
-        Content::Present(_) => Some(Row {
-            read: None,
-            now: content,
-            written: false,
-        }),
+    let layer = &layers[world.place];
+    if let Some(now) = layer.now(slot, steps) {
+        return Ok(now);
     }
+    match look_past(layer, slot, steps) {
+        Look::Closed => Ok(Content::Absent),
+        Look::Nowhere => Ok(Content::Absent),
+        Look::Untouched(above) => read_above(layers, world, above, slot, steps),
+    }
+}
+
+/// Reads a slot that is untouched in a world, and records what it holds.
+fn read_above<L: Ledger>(
+    layers: &mut [Layer],
+    world: Spot,
+    above: Spot,
+    slot: Slot,
+    steps: &mut Steps<L>,
+) -> Result<Content, OutOfMemory>
+    requires sparse { IsSparse layers.old }
+    requires there { IsAt layers.old world }
+    requires untouched { IfSome (slice_get layers.old world.place) (λ (r : Layer). Looked r slot (Look.Untouched above)) }
+    ensures found { IfOk result (λ found. content_of found ≡ content_at (full_of layers.old) world.world slot) }
+    ensures after { OnOk result (StandFor layers.new (after_read (full_of layers.old) world.world slot)) }
+    ensures steps { steps.new ≤ steps.old + (2 * depth_of (full_of layers.old) world.world + 1) }
+{
+    let found = content(layers, above, slot, steps);
+    let row = Row {
+        read: Some(found),
+        now: found,
+        written: false,
+    };
+    put_row(layers, world, slot, row, steps)?;
+    Ok(found)
 }
 
 /// The recorded read that a slot has in a world with a parent once it is written there.
@@ -132,41 +152,18 @@ fn read_before<L: Ledger>(
     ensures steps { steps.new ≤ steps.old + (2 * depth_of (full_of layers.now) world.world + 2) }
 {
     let layer = &layers[world.place];
-    match look_at(layer, slot, steps) {
-        Look::Kept(row) => row.read,
+    if let Some(row) = layer.get(slot, steps) {
+        return row.read;
+    }
+    match look_past(layer, slot, steps) {
         Look::Closed => Some(Content::Absent),
         Look::Untouched(above) => {
-            if !layer.strict {
+            if !layer.is_strict() {
                 return None;
             }
             Some(content(layers, above, slot, steps))
         }
         Look::Nowhere => None,
-    }
-}
-
-/// The row that a write leaves in a world; none where it leaves nothing in the first world.
-#[inline(always)]
-fn written_row<L: Ledger>(
-    layers: &[Layer],
-    world: Spot,
-    slot: Slot,
-    content: Content,
-    steps: &mut Steps<L>,
-) -> Option<Row>
-    requires sparse { IsSparse layers.now }
-    requires there { IsAt layers.now world }
-    ensures row { (r : Layer) (x : World plain) → slice_get layers.now world.place ≡ Some r → find_world (full_of layers.now) world.world ≡ Some x → Puts r slot result x (write_in slot (content_of content) x) }
-    ensures steps { steps.new ≤ steps.old + (2 * depth_of (full_of layers.now) world.world + 2) }
-{
-    let layer = &layers[world.place];
-    match layer.above {
-        None => first_row(content),
-        Some(_) => Some(Row {
-            read: read_before(layers, world, slot, steps),
-            now: content,
-            written: true,
-        }),
     }
 }
 
@@ -184,7 +181,50 @@ pub fn write<L: Ledger>(
     ensures after { OnOk result (StandFor layers.new (after_write (full_of layers.old) world.world slot (content_of content))) }
     ensures steps { steps.new ≤ steps.old + (2 * depth_of (full_of layers.old) world.world + 3) }
 {
-    let row = written_row(layers, world, slot, content, steps);
+    match layers[world.place].above() {
+        None => write_first(layers, world, slot, content, steps),
+        Some(_) => write_marked(layers, world, slot, content, steps),
+    }
+}
+
+/// Sets a slot in the first world.
+#[inline(always)]
+fn write_first<L: Ledger>(
+    layers: &mut [Layer],
+    world: Spot,
+    slot: Slot,
+    content: Content,
+    steps: &mut Steps<L>,
+) -> Result<(), OutOfMemory>
+    requires there { world.place < length layers.old }
+    requires first { IfSome (slice_get layers.old world.place) (λ (r : Layer). r.above ≡ None) }
+    ensures ok { OnOk result (IfSome (slice_get layers.old world.place) (λ (r : Layer). layers.new ≡ slice_set layers.old world.place (record r { rows = put r.rows slot (first_row_of content) }))) }
+    ensures step { steps.new ≡ steps.old + 1 }
+{
+    let layer = &mut layers[world.place];
+    layer.set_first(slot, content, steps)
+}
+
+/// Sets a slot in a world with a parent, where the slot is marked as written.
+#[inline(never)]
+fn write_marked<L: Ledger>(
+    layers: &mut [Layer],
+    world: Spot,
+    slot: Slot,
+    content: Content,
+    steps: &mut Steps<L>,
+) -> Result<(), OutOfMemory>
+    requires sparse { IsSparse layers.old }
+    requires there { IsAt layers.old world }
+    requires parent { IfSome (slice_get layers.old world.place) (λ (r : Layer). is_some r.above ≡ true) }
+    ensures after { OnOk result (StandFor layers.new (after_write (full_of layers.old) world.world slot (content_of content))) }
+    ensures steps { steps.new ≤ steps.old + (2 * depth_of (full_of layers.old) world.world + 3) }
+{
+    let row = Row {
+        read: read_before(layers, world, slot, steps),
+        now: content,
+        written: true,
+    };
     put_row(layers, world, slot, row, steps)
 }
 
@@ -201,14 +241,7 @@ pub fn sprout(
     requires next { id ≡ next_id (full_of layers.old.items) id.owner }
     ensures after { OnOk result (StandFor layers.new.items (after_sprout (full_of layers.old.items) world.world id.owner strict)) }
 {
-    let child = Layer {
-        id,
-        above: Some(world),
-        strict,
-        rows: Table::new(alloc),
-        closed: ObjectSet::new(alloc),
-    };
-    if layers.push(child).is_err() {
+    if layers.push(Layer::under(alloc, world, id, strict)).is_err() {
         return Err(OutOfMemory);
     }
     Ok(())
@@ -244,7 +277,7 @@ pub fn next_slot<L: Ledger>(
     'up: loop {
         let layer = &layers[at.place];
         least = lesser(least, next_row(layer, object, passed, steps));
-        match layer.above {
+        match layer.above() {
             None => return least,
             Some(above) => at = above,
         }
@@ -371,7 +404,7 @@ fn clear_in(alloc: Global, layers: &mut [Layer], world: Spot)
     ensures kept { (F : State plain) → AreKept layers.old F → place_of F world.world ≡ Some world.place → ((x : World plain) → find_world F world.world ≡ Some x → is_some x.parent ≡ true) → AreKept layers.new (at_world world.world clear_marks F) }
 {
     let layer = &mut layers[world.place];
-    clear(alloc, layer);
+    layer.clear(alloc);
 }
 
 /// Writes the written rows of a child into a world.
@@ -427,8 +460,8 @@ pub fn settle<L: Ledger>(
     ensures steps { (x : World plain) → find_world (full_of layers.old) world.world ≡ Some x → steps.new ≤ steps.old + (length (row_slots x) * (2 * depth_of (full_of layers.old) above.world + 7) + map.len x.closed * 2 + 2) }
 {
     let layer = &layers[world.place];
-    let rows = layer.rows.entries(alloc, steps)?;
-    let objects = layer.closed.objects(alloc, steps)?;
+    let rows = layer.entries(alloc, steps)?;
+    let objects = layer.closed().objects(alloc, steps)?;
     hand_to(layers, above, rows.as_slice(), steps)?;
     write_rows(layers, above, rows.as_slice(), steps)?;
     close_to(layers, above, objects.as_slice(), steps)?;

@@ -13,5 +13,6 @@ mod marks;
 mod numbers;
 mod overlay;
 mod uncounted;
+mod values;
 
 pub use overlay::Overlay;

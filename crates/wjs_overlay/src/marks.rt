@@ -33,22 +33,22 @@ pub fn count_marks<L: Ledger>(layer: &Layer, blank: Blank) -> Counts
     ensures closed { result.closed ≡ map.len layer.now.closed }
 {
     let mut steps = Steps::<L>::new(blank);
-    let total = layer.rows.len();
+    let total = layer.len();
     let mut seen = 0usize;
     let mut reads = 0u64;
     let mut writes = 0u64;
-    let mut next = layer.rows.next_from(least_slot(), &mut steps);
+    let mut next = layer.next_from(least_slot(), &mut steps);
     'marks: while let Some((slot, row)) = next {
         prove!(seen < total);
         reads += one_if(row.read.is_some());
         writes += one_if(row.written);
         seen += 1;
-        next = layer.rows.next_after(slot, &mut steps);
+        next = layer.next_after(slot, &mut steps);
     }
     Counts {
         reads,
         writes,
-        closed: layer.closed.len() as u64,
+        closed: layer.closed().len() as u64,
     }
 }
 
@@ -61,8 +61,8 @@ fn row_after<L: Ledger>(
     ensures { result ≡ lookup_entry (to_come passed) (map.entries layer.now.rows) }
 {
     match passed {
-        None => layer.rows.next_from(least_slot(), steps),
-        Some(slot) => layer.rows.next_after(slot, steps),
+        None => layer.next_from(least_slot(), steps),
+        Some(slot) => layer.next_after(slot, steps),
     }
 }
 

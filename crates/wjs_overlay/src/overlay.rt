@@ -3,7 +3,6 @@ ghost use Rattle.std.specs.Prelude.{◌≡◌, false, IfOk, IsTrue};
 ghost use Rattle.wjs_overlay.specs.Store.{IsStore, store_prop, first_id};
 
 use crate::layer::{Layer, Spot};
-use crate::maps::ObjectSet;
 use crate::marks::count_marks;
 use crate::numbers::{Owners, Places};
 use crate::{calls, layers, marks, uncounted};
@@ -12,7 +11,6 @@ use std::marker::Brand;
 use std::sync::ledger::{Blank, Ledger};
 use wjs_base::{Content, Names, ObjId, OutOfMemory, Slot, WorldId};
 use wjs_rows::Steps;
-use wjs_slots::Table;
 use wjs_store::{Counts, Verdict, WorldStore};
 
 /// Worlds of which only what was touched is kept: a row for each slot that was read or written in a world, and the
@@ -45,7 +43,7 @@ impl Overlay {
     ghost use Rattle.wjs_store.specs.Meaning.{Answers, worlds};
     ghost use Rattle.wjs_store.specs.State.{has_world, read, write, list, sprout, commit, found, wrote, listed, sprouted, committed};
     ghost use Rattle.wjs_store.specs.Shown.{content_of, slots_of, verdict_of};
-    ghost use Rattle.wjs_overlay.specs.Sparse.{IsAt, full_of, depth_of};
+    ghost use Rattle.wjs_overlay.specs.Sparse.{IsAt, full_of, place_of, depth_of};
     ghost use Rattle.wjs_overlay.specs.Store.{check_of};
     ghost use Rattle.wjs_overlay.specs.Work.{rows_of, closed_of, rows_above};
     ghost use Rattle.std.specs.Prelude.{IsSome, ◌&&◌};
@@ -62,16 +60,9 @@ impl Overlay {
         let mut layers = Vec::new(alloc);
         let mut places = Places::new(alloc);
         let mut owners = Owners::new(alloc);
-        let first = Layer {
-            id: first_world(),
-            above: None,
-            strict: false,
-            rows: Table::new(alloc),
-            closed: ObjectSet::new(alloc),
-        };
         places.insert(first_world(), 0)?;
         owners.insert(0, 1)?;
-        if layers.push(first).is_err() {
+        if layers.push(Layer::first(alloc, first_world())).is_err() {
             return Err(OutOfMemory);
         }
         Ok(Overlay {
@@ -84,20 +75,31 @@ impl Overlay {
     }
 
     /// A world by its number, and its place: the first world, in which most calls are, is known without a search.
+    #[inline(always)]
     fn spot(&self, world: WorldId) -> Spot
         requires live { self.now.spent ≡ false }
         requires there { IsTrue (has_world (full_of self.now.layers.items) world) }
         ensures at { IsAt self.now.layers.items result }
         ensures world { result.world ≡ world }
     {
-        let first = self.layers[0].id;
+        let first = self.layers[0].id();
         if world.owner == first.owner && world.serial == first.serial {
             return Spot { world, place: 0 };
         }
         Spot {
             world,
-            place: self.places.get(world).unwrap(),
+            place: self.search(world),
         }
+    }
+
+    /// The place of a world.
+    #[inline(never)]
+    fn search(&self, world: WorldId) -> usize
+        requires live { self.now.spent ≡ false }
+        requires there { IsTrue (has_world (full_of self.now.layers.items) world) }
+        ensures { place_of (full_of self.now.layers.items) world ≡ Some result }
+    {
+        self.places.get(world).unwrap()
     }
 
     /// `read`, in at most twice the depth and 3 steps.
@@ -254,7 +256,7 @@ impl WorldStore for Overlay {
         if self.spent {
             return first_world();
         }
-        self.layers[0].id
+        self.layers[0].id()
     }
 
     fn has_world(&self, world: WorldId) -> bool {
@@ -296,7 +298,7 @@ impl WorldStore for Overlay {
         }
         let at = self.spot(world);
         let layer = &self.layers[at.place];
-        match layer.above {
+        match layer.above() {
             None => None,
             Some(above) => Some(above.world),
         }

@@ -1,4 +1,4 @@
-use Rattle.std.proofs.Common.{◌≡◌, rules, ◌<◌, length, subst, arith, true, is_some, IfSome}
+use Rattle.std.proofs.Common.{◌≡◌, rules, ◌<◌, length, sym, ◌∙◌, subst, arith, true, is_some, IfSome}
 use Rattle.wjs_overlay.specs.declared.layer.Layer.{Layer}
 use Rattle.wjs_overlay.proofs.Places.{slice_read}
 use Rattle.wjs_overlay.proofs.Looks.{above_at, depth_above, below_at}
@@ -14,8 +14,11 @@ bounds-layers-world g c = (below_at c.args.layers.now c.args.world c.requires.sp
 pub content-requires-clause-there : goal.content-requires-clause-there
 content-requires-clause-there g c = (above_at c.args.layers.now c.requires.sparse c.args.world c.requires.there c.index-layers-world.result (slice_read c.args.layers.now c.args.world.place c.index-layers-world.result c.index-layers-world.is (below_at c.args.layers.now c.args.world c.requires.sparse c.requires.there)) c.in-Untouched.above c.in-Untouched.ensures.seen.2).0
 
-pub returns-in-Kept-clause-read : goal.returns-in-Kept-clause-read
-returns-in-Kept-clause-read g c = λ x f. before_kept c.args.layers.now c.requires.sparse c.args.world c.requires.there c.index-layers-world.result (slice_read c.args.layers.now c.args.world.place c.index-layers-world.result c.index-layers-world.is (below_at c.args.layers.now c.args.world c.requires.sparse c.requires.there)) c.args.slot (subst (λ o. IfSome o (λ (r : Layer). is_some r.above ≡ true)) (slice_read c.args.layers.now c.args.world.place c.index-layers-world.result c.index-layers-world.is (below_at c.args.layers.now c.args.world c.requires.sparse c.requires.there)) c.requires.parent) x f c.in-Kept.row.now c.in-Kept.ensures.seen
+pub look_past-requires : goal.look_past-requires
+look_past-requires g c = sym c.get.ensures.row ∙ c.in_default.is
+
+pub returns-in-Some-clause-read : goal.returns-in-Some-clause-read
+returns-in-Some-clause-read g c = λ x f. before_kept c.args.layers.now c.requires.sparse c.args.world c.requires.there c.index-layers-world.result (slice_read c.args.layers.now c.args.world.place c.index-layers-world.result c.index-layers-world.is (below_at c.args.layers.now c.args.world c.requires.sparse c.requires.there)) c.args.slot (subst (λ o. IfSome o (λ (r : Layer). is_some r.above ≡ true)) (slice_read c.args.layers.now c.args.world.place c.index-layers-world.result c.index-layers-world.is (below_at c.args.layers.now c.args.world c.requires.sparse c.requires.there)) c.requires.parent) x f c.in-Some.row (sym c.in-Some.ensures.row)
 
 pub returns-in-Closed-clause-read : goal.returns-in-Closed-clause-read
 returns-in-Closed-clause-read g c = λ x f. before_closed c.args.layers.now c.requires.sparse c.args.world c.requires.there c.index-layers-world.result (slice_read c.args.layers.now c.args.world.place c.index-layers-world.result c.index-layers-world.is (below_at c.args.layers.now c.args.world c.requires.sparse c.requires.there)) c.args.slot (subst (λ o. IfSome o (λ (r : Layer). is_some r.above ≡ true)) (slice_read c.args.layers.now c.args.world.place c.index-layers-world.result c.index-layers-world.is (below_at c.args.layers.now c.args.world c.requires.sparse c.requires.there)) c.requires.parent) x f c.in-Closed.ensures.seen
@@ -23,13 +26,13 @@ returns-in-Closed-clause-read g c = λ x f. before_closed c.args.layers.now c.re
 pub returns-in-Nowhere-clause-read : goal.returns-in-Nowhere-clause-read
 returns-in-Nowhere-clause-read g c = λ x f. before_nowhere c.args.layers.now c.requires.sparse c.args.world c.requires.there c.index-layers-world.result (slice_read c.args.layers.now c.args.world.place c.index-layers-world.result c.index-layers-world.is (below_at c.args.layers.now c.args.world c.requires.sparse c.requires.there)) c.args.slot (subst (λ o. IfSome o (λ (r : Layer). is_some r.above ≡ true)) (slice_read c.args.layers.now c.args.world.place c.index-layers-world.result c.index-layers-world.is (below_at c.args.layers.now c.args.world c.requires.sparse c.requires.there)) c.requires.parent) x f c.in-Nowhere.ensures.seen
 
-pub returns-then-not-layer-clause-read : goal.returns-then-not-layer-clause-read
-returns-then-not-layer-clause-read g c = λ x f. before_plain c.args.layers.now c.requires.sparse c.args.world c.requires.there c.index-layers-world.result (slice_read c.args.layers.now c.args.world.place c.index-layers-world.result c.index-layers-world.is (below_at c.args.layers.now c.args.world c.requires.sparse c.requires.there)) c.args.slot (subst (λ o. IfSome o (λ (r : Layer). is_some r.above ≡ true)) (slice_read c.args.layers.now c.args.world.place c.index-layers-world.result c.index-layers-world.is (below_at c.args.layers.now c.args.world c.requires.sparse c.requires.there)) c.requires.parent) x f c.in-Untouched.above c.in-Untouched.ensures.seen c.if-not-layer.true
+pub returns-then-not-is_strict-clause-read : goal.returns-then-not-is_strict-clause-read
+returns-then-not-is_strict-clause-read g c = λ x f. before_plain c.args.layers.now c.requires.sparse c.args.world c.requires.there c.index-layers-world.result (slice_read c.args.layers.now c.args.world.place c.index-layers-world.result c.index-layers-world.is (below_at c.args.layers.now c.args.world c.requires.sparse c.requires.there)) c.args.slot (subst (λ o. IfSome o (λ (r : Layer). is_some r.above ≡ true)) (slice_read c.args.layers.now c.args.world.place c.index-layers-world.result c.index-layers-world.is (below_at c.args.layers.now c.args.world c.requires.sparse c.requires.there)) c.requires.parent) x f c.in-Untouched.above c.in-Untouched.ensures.seen (sym c.is_strict.ensures ∙ c.if-not-is_strict.true)
 
-pub returns-else-not-layer-clause-read : goal.returns-else-not-layer-clause-read
-returns-else-not-layer-clause-read g c = λ x f. before_strict c.args.layers.now c.requires.sparse c.args.world c.requires.there c.index-layers-world.result (slice_read c.args.layers.now c.args.world.place c.index-layers-world.result c.index-layers-world.is (below_at c.args.layers.now c.args.world c.requires.sparse c.requires.there)) c.args.slot (subst (λ o. IfSome o (λ (r : Layer). is_some r.above ≡ true)) (slice_read c.args.layers.now c.args.world.place c.index-layers-world.result c.index-layers-world.is (below_at c.args.layers.now c.args.world c.requires.sparse c.requires.there)) c.requires.parent) x f c.in-Untouched.above c.content.result c.in-Untouched.ensures.seen c.if-not-layer.false c.content.ensures.content
+pub returns-else-not-is_strict-clause-read : goal.returns-else-not-is_strict-clause-read
+returns-else-not-is_strict-clause-read g c = λ x f. before_strict c.args.layers.now c.requires.sparse c.args.world c.requires.there c.index-layers-world.result (slice_read c.args.layers.now c.args.world.place c.index-layers-world.result c.index-layers-world.is (below_at c.args.layers.now c.args.world c.requires.sparse c.requires.there)) c.args.slot (subst (λ o. IfSome o (λ (r : Layer). is_some r.above ≡ true)) (slice_read c.args.layers.now c.args.world.place c.index-layers-world.result c.index-layers-world.is (below_at c.args.layers.now c.args.world c.requires.sparse c.requires.there)) c.requires.parent) x f c.in-Untouched.above c.content.result c.in-Untouched.ensures.seen (sym c.is_strict.ensures ∙ c.if-not-is_strict.false) c.content.ensures.content
 
-pub returns-else-not-layer-clause-steps : goal.returns-else-not-layer-clause-steps
-returns-else-not-layer-clause-steps g c =
+pub returns-else-not-is_strict-clause-steps : goal.returns-else-not-is_strict-clause-steps
+returns-else-not-is_strict-clause-steps g c =
     let d = depth_above c.args.layers.now c.requires.sparse c.args.world c.requires.there c.index-layers-world.result (slice_read c.args.layers.now c.args.world.place c.index-layers-world.result c.index-layers-world.is (below_at c.args.layers.now c.args.world c.requires.sparse c.requires.there)) c.in-Untouched.above c.in-Untouched.ensures.seen.2 in
-    omega (arith, d, c.look_at.ensures.steps, c.content.ensures.steps)
+    omega (arith, d, c.get.ensures.step, c.look_past.ensures.step, c.content.ensures.steps)

@@ -1,7 +1,6 @@
-use Rattle.std.proofs.Common.{◌≡◌, ◌++◌, ◌∷◌, [], sym, ap, ◌∙◌, subst, cond, Some}
+use Rattle.std.proofs.Common.{◌≡◌, ◌++◌, ◌∷◌, [], sym, ap, ◌∙◌, subst, cond}
 use Rattle.wjs_store.proofs.Trees.{ok_of}
 use Rattle.wjs_store.specs.State.{after_sprout}
-use Rattle.wjs_overlay.specs.declared.layer.Layer.{Layer}
 use Rattle.wjs_overlay.specs.Sparse.{StandFor, full_of}
 use Rattle.wjs_overlay.proofs.SproutLaws.{sprout_by, bare_layer}
 use Rattle.wjs_overlay.proofs.layers.sprout.Goals as goal
@@ -9,7 +8,7 @@ use Rattle.wjs_overlay.proofs.layers.sprout.Goals as goal
 pub returns : goal.returns
 returns c =
     let t = c.args.layers.now.items in
-    let child : Layer = record { id = c.args.id; above = Some c.args.world; strict = c.args.strict; rows = c.new.result; closed = c.new-2.result } in
+    let child = c.under.result in
     let pushed : c.push.new.self.items ≡ t ++ child ∷ [] = c.push.ensures.items ∙ ap (λ b. cond b (t ++ child ∷ []) t) (ok_of c.push.result (sym c.if-is_err.ensures.value)) in
-    let is : child ≡ bare_layer c.args.id c.args.world c.args.strict = (let e = c.new.ensures in let f = c.new-2.ensures in λ i. record { id = c.args.id; above = Some c.args.world; strict = c.args.strict; rows = e i; closed = f i }) in
+    let is : child ≡ bare_layer c.args.id c.args.world c.args.strict = c.under.ensures in
     record { after = subst (λ ls. StandFor ls (after_sprout (full_of t) c.args.world.world c.args.id.owner c.args.strict)) (sym (pushed ∙ ap (λ l. t ++ l ∷ []) is)) (sprout_by t c.requires.sparse c.args.world c.requires.there c.args.id c.args.strict c.requires.next) }

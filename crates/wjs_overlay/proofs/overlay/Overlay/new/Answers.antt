@@ -1,6 +1,5 @@
-use Rattle.std.proofs.Common.{◌≡◌, sym, ap, ◌∙◌, subst, None, false}
+use Rattle.std.proofs.Common.{◌≡◌, sym, ap, ◌∙◌, subst, false}
 use Rattle.std.specs.FinMap as map
-use Rattle.wjs_overlay.specs.declared.layer.Layer.{Layer}
 use Rattle.wjs_overlay.specs.Sparse.{full_of}
 use Rattle.wjs_overlay.specs.Store.{IsStore, first_id}
 use Rattle.wjs_overlay.proofs.StoreLaws.{first_stand, first_store, first_layer}
@@ -11,16 +10,16 @@ use Rattle.wjs_overlay.proofs.overlay.Overlay.new.Goals as goal
 
 pub invariant_of-result : goal.invariant_of-result
 invariant_of-result c =
-    let child : Layer = record { id = c.first_world.result; above = None; strict = false; rows = c.new.result; closed = c.new-2.result } in
-    let is : child ≡ first_layer = (let a = c.first_world.ensures in let e = c.new.ensures in let f = c.new-2.ensures in λ i. record { id = a i; above = None; strict = false; rows = e i; closed = f i }) in
+    let child = c.first.result in
+    let is : child ≡ first_layer = c.first.ensures ∙ ap (λ j. record first_layer { id = j }) c.first_world-2.ensures in
     let la : c.push.new.self.items ≡ first_layer ∷ [] = c.push.ensures.items ∙ ap (λ b. cond b (c.new-layers.result.items ++ child ∷ []) c.new-layers.result.items) (ok_of c.push.result (sym c.if-is_err.ensures.value)) ∙ ap (λ xs. xs ++ child ∷ []) c.new-layers.ensures.items ∙ ap (λ l. l ∷ []) is in
-    let pl : c.insert.new.self ≡ map.insert map.empty first_id 0 = c.in_ok-insert.ensures.ok ∙ ap (λ m. map.insert m c.first_world-2.result 0) c.new-places.ensures ∙ ap (λ j. map.insert map.empty j 0) c.first_world-2.ensures in
+    let pl : c.insert.new.self ≡ map.insert map.empty first_id 0 = c.in_ok-insert.ensures.ok ∙ ap (λ m. map.insert m c.first_world.result 0) c.new-places.ensures ∙ ap (λ j. map.insert map.empty j 0) c.first_world.ensures in
     let ow : c.insert-2.new.self ≡ map.insert map.empty 0 1 = c.in_ok-insert-2.ensures.ok ∙ ap (λ m. map.insert m 0 1) c.new-owners.ensures in
     record { kept = λ e. subst (λ ls. IsStore ls c.insert.new.self c.insert-2.new.self) (sym la) (subst (λ m. IsStore (first_layer ∷ []) m c.insert-2.new.self) (sym pl) (subst (IsStore (first_layer ∷ []) (map.insert map.empty first_id 0)) (sym ow) first_store)) }
 
 pub returns : goal.returns
 returns c =
-    let child : Layer = record { id = c.first_world.result; above = None; strict = false; rows = c.new.result; closed = c.new-2.result } in
-    let is : child ≡ first_layer = (let a = c.first_world.ensures in let e = c.new.ensures in let f = c.new-2.ensures in λ i. record { id = a i; above = None; strict = false; rows = e i; closed = f i }) in
+    let child = c.first.result in
+    let is : child ≡ first_layer = c.first.ensures ∙ ap (λ j. record first_layer { id = j }) c.first_world-2.ensures in
     let la : c.push.new.self.items ≡ first_layer ∷ [] = c.push.ensures.items ∙ ap (λ b. cond b (c.new-layers.result.items ++ child ∷ []) c.new-layers.result.items) (ok_of c.push.result (sym c.if-is_err.ensures.value)) ∙ ap (λ xs. xs ++ child ∷ []) c.new-layers.ensures.items ∙ ap (λ l. l ∷ []) is in
     ap (λ ls. fixed (full_of ls) false) la ∙ ap (λ G. fixed G false) first_stand.full

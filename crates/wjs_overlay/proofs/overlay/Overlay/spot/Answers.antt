@@ -1,12 +1,9 @@
-use Rattle.std.proofs.Common.{◌≡◌, ap, sym, subst, ◌∙◌, Some, is_some}
+use Rattle.std.proofs.Common.{◌≡◌, ap, sym, subst, ◌∙◌, Some}
 use Rattle.wjs_base.specs.declared.ids.WorldId.{WorldId}
 use Rattle.wjs_overlay.specs.Sparse.{full_of, place_of}
-use Rattle.wjs_overlay.proofs.Places.{place_find, slice_read}
-use Rattle.wjs_overlay.proofs.StoreLaws.{is_some_of, first_placed}
+use Rattle.wjs_overlay.proofs.Places.{slice_read}
+use Rattle.wjs_overlay.proofs.StoreLaws.{first_placed}
 use Rattle.wjs_overlay.proofs.overlay.Overlay.spot.Goals as goal
-
-pub unwrap-requires : goal.unwrap-requires
-unwrap-requires c = is_some_of c.get.result (ap is_some (c.get.ensures ∙ (c.args.self.now.kept c.requires.live).placed c.args.world) ∙ place_find (full_of c.args.self.now.layers.items) c.args.world ∙ c.requires.there)
 
 pub returns-then-world-first-2-clause-at : goal.returns-then-world-first-2-clause-at
 returns-then-world-first-2-clause-at c =
@@ -14,6 +11,6 @@ returns-then-world-first-2-clause-at c =
     let r = c.index.result.now in
     let k = c.args.self.now.kept c.requires.live in
     let s = slice_read layers 0 r c.index.ensures k.some in
-    let owner : r.id.owner ≡ c.args.world.owner = sym c.if-world-first.true in
-    let serial : r.id.serial ≡ c.args.world.serial = sym c.if-world-first-2.true in
+    let owner : r.id.owner ≡ c.args.world.owner = sym (c.if-world-first.true ∙ ap (λ (w : WorldId). w.owner) c.id-first.ensures) in
+    let serial : r.id.serial ≡ c.args.world.serial = sym (c.if-world-first-2.true ∙ ap (λ (w : WorldId). w.serial) c.id-first.ensures) in
     subst (λ (w : WorldId). place_of (full_of layers) w ≡ Some 0) (λ i. record { owner = owner i; serial = serial i }) (first_placed layers c.args.self.now.places c.args.self.now.owners r k s)
