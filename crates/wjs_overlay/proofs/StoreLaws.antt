@@ -155,6 +155,11 @@ pub answers_store : (spent : Bool) (layers : List Layer) (G : State plain) (a : 
 answers_store true layers G a r s e f = absurd (true≢false s)
 answers_store false layers G a r s e f = answers_full (full_of layers) G false a r refl e f
 
+-- the same where the store stays as it is
+pub answers_same : (spent : Bool) (layers : List Layer) (a : PlainAct) (r : PlainReply) → spent ≡ false → r ≡ answer_to (full_of layers) a → full_of layers ≡ after (full_of layers) a → Does (fixed (worlds_of spent layers) spent) a r (fixed (worlds_of spent layers) spent) × IsTrue (not spent)
+answers_same true layers a r s e f = absurd (true≢false s)
+answers_same false layers a r s e f = answers_full (full_of layers) (full_of layers) false a r refl e f
+
 -- ---- the first world
 
 empty_kept : AreKept [] []

@@ -82,27 +82,6 @@ pub fn read<L: Ledger>(
     ensures steps { steps.new ≤ steps.old + (2 * depth_of (full_of layers.old) world.world + 3) }
 {
     let layer = &layers[world.place];
-    match layer.above() {
-        None => Ok(layer.get_first(slot, steps)),
-        Some(_) => read_marked(layers, world, slot, steps),
-    }
-}
-
-/// `read`, without the short way through the first world.
-#[inline(never)]
-fn read_marked<L: Ledger>(
-    layers: &mut [Layer],
-    world: Spot,
-    slot: Slot,
-    steps: &mut Steps<L>,
-) -> Result<Content, OutOfMemory>
-    requires sparse { IsSparse layers.old }
-    requires there { IsAt layers.old world }
-    ensures found { IfOk result (λ found. content_of found ≡ content_at (full_of layers.old) world.world slot) }
-    ensures after { OnOk result (StandFor layers.new (after_read (full_of layers.old) world.world slot)) }
-    ensures steps { steps.new ≤ steps.old + (2 * depth_of (full_of layers.old) world.world + 3) }
-{
-    let layer = &layers[world.place];
     if let Some(now) = layer.now(slot, steps) {
         return Ok(now);
     }
@@ -206,7 +185,7 @@ fn write_first<L: Ledger>(
 }
 
 /// Sets a slot in a world with a parent, where the slot is marked as written.
-#[inline(never)]
+#[inline(always)]
 fn write_marked<L: Ledger>(
     layers: &mut [Layer],
     world: Spot,

@@ -118,6 +118,26 @@ impl Overlay {
             return Err(OutOfMemory);
         }
         let at = self.spot(world);
+        let layer = &self.layers[at.place];
+        match layer.above() {
+            None => Ok(layer.get_first(slot, steps)),
+            Some(_) => self.read_marked(at, slot, steps),
+        }
+    }
+
+    /// `read_counted` at a place, without the short way through the first world.
+    #[inline(always)]
+    fn read_marked<L: Ledger>(
+        &mut self,
+        at: Spot,
+        slot: Slot,
+        steps: &mut Steps<L>,
+    ) -> Result<Content, OutOfMemory>
+        requires live { self.old.spent ≡ false }
+        requires there { IsAt self.old.layers.items at }
+        ensures answers { Answers (⟦<Overlay as WorldStore>⟧.meaning self.old) (read at.world slot) (λ content. found (content_of content)) result (⟦<Overlay as WorldStore>⟧.meaning self.new) }
+        ensures steps { steps.new ≤ steps.old + (2 * depth_of (full_of self.old.layers.items) at.world + 3) }
+    {
         self.spent = true;
         let answer = calls::read(&mut self.layers, at, slot, steps)?;
         self.spent = false;

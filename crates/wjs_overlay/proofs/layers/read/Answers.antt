@@ -1,7 +1,10 @@
-use Rattle.std.proofs.Common.{rules, ◌<◌, length, sym, ◌∙◌, get_or}
+use Rattle.std.proofs.Common.{rules, ◌<◌, length, sym, ◌∙◌, subst, IfSome, get_or}
+use Rattle.wjs_overlay.specs.declared.layer.Layer.{Layer}
+use Rattle.wjs_overlay.specs.declared.layer.Look.TheVariants.{Untouched}
+use Rattle.wjs_overlay.specs.Look.{Looked}
 use Rattle.wjs_store.proofs.Tables.{slice_get_at}
-use Rattle.wjs_overlay.proofs.Looks.{content_kept, below_at}
-use Rattle.wjs_overlay.proofs.ReadLaws.{read_first}
+use Rattle.wjs_overlay.proofs.Looks.{content_now, content_closed, content_first, now_none, below_at}
+use Rattle.wjs_overlay.proofs.ReadLaws.{read_now, read_closed, read_first}
 use Rattle.wjs_overlay.proofs.layers.read.Goals as goal
 
 pub offset_bounds-layers-world : goal.offset_bounds-layers-world
@@ -10,8 +13,26 @@ offset_bounds-layers-world g c = let l : c.args.world.place < length c.args.laye
 pub bounds-layers-world : goal.bounds-layers-world
 bounds-layers-world g c = below_at c.args.layers.now c.args.world c.requires.sparse c.requires.there
 
-pub returns-in-None-clause-found : goal.returns-in-None-clause-found
-returns-in-None-clause-found g c = c.get_first.ensures.content ∙ content_kept c.args.layers.now c.requires.sparse c.args.world c.requires.there (get_or c.args.layers.now c.args.world.place c.index-layers-world.result) (slice_get_at c.args.layers.now c.args.world.place c.index-layers-world.result (below_at c.args.layers.now c.args.world c.requires.sparse c.requires.there)) c.args.slot (sym c.in-None.ensures)
+pub look_past-requires : goal.look_past-requires
+look_past-requires g c = now_none _ (sym c.in_default.is ∙ c.now.ensures.now)
 
-pub returns-in-None-clause-after : goal.returns-in-None-clause-after
-returns-in-None-clause-after g c = read_first c.args.layers.now c.requires.sparse c.args.world c.requires.there (get_or c.args.layers.now c.args.world.place c.index-layers-world.result) (slice_get_at c.args.layers.now c.args.world.place c.index-layers-world.result (below_at c.args.layers.now c.args.world c.requires.sparse c.requires.there)) c.args.slot (sym c.in-None.ensures)
+pub read_above-requires-clause-untouched : goal.read_above-requires-clause-untouched
+read_above-requires-clause-untouched g c = subst (λ o. IfSome o (λ (r : Layer). Looked r c.args.slot (Untouched c.in-Untouched.above))) (sym (slice_get_at c.args.layers.now c.args.world.place c.index-layers-world.result (below_at c.args.layers.now c.args.world c.requires.sparse c.requires.there))) c.in-Untouched.ensures.seen
+
+pub returns-in-Some-clause-found : goal.returns-in-Some-clause-found
+returns-in-Some-clause-found g c = content_now c.args.layers.now c.requires.sparse c.args.world c.requires.there (get_or c.args.layers.now c.args.world.place c.index-layers-world.result) (slice_get_at c.args.layers.now c.args.world.place c.index-layers-world.result (below_at c.args.layers.now c.args.world c.requires.sparse c.requires.there)) c.args.slot c.in-Some.now c.in-Some.ensures.now
+
+pub returns-in-Some-clause-after : goal.returns-in-Some-clause-after
+returns-in-Some-clause-after g c = read_now c.args.layers.now c.requires.sparse c.args.world c.requires.there (get_or c.args.layers.now c.args.world.place c.index-layers-world.result) (slice_get_at c.args.layers.now c.args.world.place c.index-layers-world.result (below_at c.args.layers.now c.args.world c.requires.sparse c.requires.there)) c.args.slot c.in-Some.now c.in-Some.ensures.now
+
+pub returns-in-Closed-clause-found : goal.returns-in-Closed-clause-found
+returns-in-Closed-clause-found g c = sym (content_closed c.args.layers.now c.requires.sparse c.args.world c.requires.there (get_or c.args.layers.now c.args.world.place c.index-layers-world.result) (slice_get_at c.args.layers.now c.args.world.place c.index-layers-world.result (below_at c.args.layers.now c.args.world c.requires.sparse c.requires.there)) c.args.slot c.in-Closed.ensures.seen.0 c.in-Closed.ensures.seen.1)
+
+pub returns-in-Closed-clause-after : goal.returns-in-Closed-clause-after
+returns-in-Closed-clause-after g c = read_closed c.args.layers.now c.requires.sparse c.args.world c.requires.there (get_or c.args.layers.now c.args.world.place c.index-layers-world.result) (slice_get_at c.args.layers.now c.args.world.place c.index-layers-world.result (below_at c.args.layers.now c.args.world c.requires.sparse c.requires.there)) c.args.slot c.in-Closed.ensures.seen
+
+pub returns-in-Nowhere-clause-found : goal.returns-in-Nowhere-clause-found
+returns-in-Nowhere-clause-found g c = sym (content_first c.args.layers.now c.requires.sparse c.args.world c.requires.there (get_or c.args.layers.now c.args.world.place c.index-layers-world.result) (slice_get_at c.args.layers.now c.args.world.place c.index-layers-world.result (below_at c.args.layers.now c.args.world c.requires.sparse c.requires.there)) c.args.slot c.in-Nowhere.ensures.seen.0 c.in-Nowhere.ensures.seen.1)
+
+pub returns-in-Nowhere-clause-after : goal.returns-in-Nowhere-clause-after
+returns-in-Nowhere-clause-after g c = read_first c.args.layers.now c.requires.sparse c.args.world c.requires.there (get_or c.args.layers.now c.args.world.place c.index-layers-world.result) (slice_get_at c.args.layers.now c.args.world.place c.index-layers-world.result (below_at c.args.layers.now c.args.world c.requires.sparse c.requires.there)) c.args.slot c.in-Nowhere.ensures.seen.1
