@@ -20,6 +20,7 @@ use wjs_tree::Node;
 use wjs_visits::{for_in_next, for_var_in_next};
 
 /// Goes on with a completion: blocks and the statements of one expression, and then the others.
+#[inline(always)]
 pub(crate) fn resume<S: WorldStore>(
     config: &mut Config<S>,
     frame: Frame,

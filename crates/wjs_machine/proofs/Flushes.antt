@@ -8,7 +8,7 @@ use Rattle.wjs_meaning.specs.Programs.{entry, eval_to, eval, Ending, Done, run_n
 use Rattle.wjs_model.specs.declared.config.Config.{Config}
 use Rattle.wjs_model.specs.declared.config.State.{State}
 use Rattle.wjs_model.specs.declared.config.State.TheVariants as states
-use Rattle.wjs_model.specs.Contents.{Frame, Moment, Due, Ready, Waiting, Given, Run}
+use Rattle.wjs_model.specs.Contents.{Frame, Moment, Due, Ready, Waiting, Given, Entering, Run}
 use Rattle.wjs_model.specs.Frames.{last, front}
 use Rattle.wjs_model.specs.Rest.{Go, under, act_of, act_at, given, rest_over, rest_top, rest_of, Count, turns_act, turns_under, turns_over, turns_at, turns_top}
 use Rattle.wjs_model.specs.Outside.{Outside}
@@ -140,6 +140,7 @@ over_turns p run act fs st = act_turns p act st _ (under_turns p run fs (λ c st
 
 at_turns : (p : List ℕ) (run : Run) (fs : List Frame) (f : Frame) (m : Moment) (st : St) → turns_at run fs f m (put p st) ≡ turns_at run fs f m st
 at_turns p run fs f Due st = refl
+at_turns p run fs f (Entering o) st = refl
 at_turns p run fs f Ready st = ap suc (over_turns p run (act_at run f Ready) fs st)
 at_turns p run fs f Waiting st = ap suc (over_turns p run (act_at run f Waiting) fs st)
 at_turns p run fs f (Given c) st = ap suc (over_turns p run (act_at run f (Given c)) fs st)
