@@ -1,0 +1,42 @@
+use Rattle.std.proofs.Common.{◌≡◌, List, Some, sym, ap, ◌∙◌, subst}
+use Rattle.std.specs.Prelude.{OnOk}
+use Rattle.wjs_meaning.specs.Deeds.{Act}
+use Rattle.wjs_meaning.specs.Reading.{node_in}
+use Rattle.wjs_model.specs.declared.config.State.{State}
+use Rattle.wjs_model.specs.declared.config.State.TheVariants as states
+use Rattle.wjs_model.specs.declared.frame.Activation.{Activation as Frame}
+use Rattle.wjs_model.specs.declared.turn.Turn.TheVariants as turn
+use Rattle.wjs_model.specs.Frames.{last}
+use Rattle.wjs_model.specs.Turns.{turn_of, turn_of_top, turn_of_form}
+use Rattle.wjs_model.specs.Contents.{completion_in, holding_in}
+use Rattle.wjs_model.specs.Waiting.{after}
+use Rattle.wjs_moves.specs.Following.{Follows}
+use Rattle.wjs_moves.specs.Parts.{env_in, node_among, then_at}
+use Rattle.wjs_deeds.proofs.Composing.{env_later}
+use Rattle.wjs_native_text.proofs.step.step_text.Goals as goal
+
+-- the frame that was taken off takes such a turn
+took : (s : State) (frames : List Frame) (f : Frame) → turn_of s frames ≡ turn.TextNative → last frames ≡ Some f → turn_of_form f.form ≡ turn.TextNative
+took states.Running frames f e t = sym (ap turn_of_top t) ∙ e
+took _ frames f e t = absurd (cc)
+
+pub resume_text-requires-clause-there : goal.resume_text-requires-clause-there
+resume_text-requires-clause-there g c = c.in_ok-completion-in-Enters.ensures.later.frames c.in-Enters.frame c.in-Enters.ensures.0.there
+
+pub resume_text-requires-clause-turn : goal.resume_text-requires-clause-turn
+resume_text-requires-clause-turn g c = took c.args.config.now.state c.args.config.now.frames c.in-Enters.frame c.requires.turn c.in-Enters.ensures.0.taken
+
+pub returns-in_ok-completion-in-Enters : goal.returns-in_ok-completion-in-Enters
+returns-in_ok-completion-in-Enters g c =
+    let m = g.S.WorldStore.meaning in
+    let mid = c.take_top.new.config in
+    let near = c.operand_completion.new.config in
+    let new = c.resume_text.new.config in
+    let f = c.in-Enters.frame in
+    let r = c.resume_text.result in
+    let t = new.heap.texts in
+    let had = c.in_ok-completion-in-Enters in
+    let l = had.ensures.later in
+    let P : Act → Type 0 = λ act. OnOk r (Follows m act near new) in
+    let here = subst P (λ i. after (node_in t (node_among (l.units i).items f.tree f.node)) f.form f.node.0 f.place (holding_in t f.held) (env_later m mid near t f l i) (completion_in t had.completion)) c.resume_text.ensures in
+    c.in-Enters.ensures.0.by new r (had.ensures.does.by (then_at m mid f f.place t (env_in m mid t f)) new r here)
