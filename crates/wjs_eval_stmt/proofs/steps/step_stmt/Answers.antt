@@ -33,14 +33,14 @@ returns-in-Given g c =
     let meaning = g.S.WorldStore.meaning in
     let old = c.args.config.now in
     let mid = c.take_top.new.config in
-    let new = c.resume.new.config in
+    let new = c.resume-in-Given.new.config in
     let f = c.in-Given.frame in
     let takes = c.in-Given.ensures.0 in
     let t = new.heap.texts in
     let env = env_in meaning mid t f in
-    let P : Form → Completion → Type 0 = λ x e. OnOk c.resume.result (Follows meaning (after (node_in t (node_now meaning mid f)) x f.node.0 f.place (holding_in t f.held) env (completion_in t e)) mid new) in
-    let given = subst (λ e. P form.Stmt e) c.completion-completion.ensures c.resume.ensures in
-    takes.by new c.resume.result (subst (λ x. P x (given_of f.phase)) (sym (top_is old.state old.frames f c.requires.turn takes.taken)) given)
+    let P : Form → Completion → Type 0 = λ x e. OnOk c.resume-in-Given.result (Follows meaning (after (node_in t (node_now meaning mid f)) x f.node.0 f.place (holding_in t f.held) env (completion_in t e)) mid new) in
+    let given = subst (λ e. P form.Stmt e) c.completion-completion.ensures c.resume-in-Given.ensures in
+    takes.by new c.resume-in-Given.result (subst (λ x. P x (given_of f.phase)) (sym (top_is old.state old.frames f c.requires.turn takes.taken)) given)
 
 pub resume-requires-clause-there : goal.resume-requires-clause-there
 resume-requires-clause-there g c = c.in_ok-completion-in-Enters.ensures.later.frames c.in-Enters.frame c.in-Enters.ensures.0.there
