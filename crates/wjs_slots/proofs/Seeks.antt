@@ -1,5 +1,5 @@
 -- Where a key stands in a list in order.
-use Rattle.std.proofs.Common.{◌≡◌, ℕ, suc, ◌+◌, ◌<◌, ◌≤◌, zero, drop, take, subst, cond, not, T, List, [], ◌∷◌, length, set, get_or, Option, None, Some, Result, Ok, Err, slice_get, refl, ap, sym, ◌∙◌, arith}
+use Rattle.std.proofs.Common.{◌≡◌, ℕ, suc, ◌+◌, ◌<◌, ◌≤◌, zero, drop, take, subst, cond, not, T, List, [], ◌∷◌, ◌++◌, length, set, get_or, Option, None, Some, Result, Ok, Err, slice_get, refl, ap, sym, ◌∙◌, arith}
 use Rattle.std.specs.declared.cmp.Ordering.{Ordering}
 use Rattle.std.specs.declared.cmp.Ordering.TheVariants.{Less, Equal, Greater}
 use Rattle.std.specs.Ordering.{is_lt, is_le, is_eq, ordering_reverse}
@@ -160,6 +160,16 @@ seek_last {R = R} total k es n d h l e o =
     ∙ ap (λ j. seek R k j (drop (suc n) es)) (let z : 0 + suc n ≡ length es = omega (arith, e) in z)
     ∙ ap (λ j. seek R k (length es) (drop j es)) e
     ∙ ap (seek R k (length es)) (drop_whole es)
+
+take_whole : {A : Type 0} (xs : List A) → take (length xs) xs ≡ xs
+take_whole [] = refl
+take_whole (x ∷ xs) = ap (λ rest. x ∷ rest) (take_whole xs)
+
+-- a key past the last entry is put last
+pub put_last : {K V : Type 0} {R : K → K → Ordering} (total : IsTotalOrder R) (exact : IsAntisymmetric R) (k : K) (v : V) (es : List (K × V)) → Err (length es) ≡ seek R k 0 es → es ++ (k, v) ∷ [] ≡ put R k v es
+put_last total exact k v es h =
+    sym (ap (λ front. front ++ (k, v) ∷ drop (length es) es) (take_whole es) ∙ ap (λ rest. es ++ (k, v) ∷ rest) (drop_whole es))
+    ∙ (missed_at total exact k (length es) es h).puts v
 
 -- what `get` of a slice lends
 pub got_at : {X : Type 0} (xs : List X) (i : ℕ) (r : Option (Bor X)) → IsItemAt xs i r → option_map (λ x. x.now) r ≡ slice_get xs i

@@ -7,4 +7,4 @@ use Rattle.wjs_slots.specs.declared.kept.Kept.TheVariants.{Few, Many}
 
 abbrev pub rows_of : {V : Type 0} → Kept V → List (Name × V)
 rows_of (Few few) = few.items
-rows_of (Many many) = map.entries many
+rows_of (Many many) = map.entries many.value

@@ -1,5 +1,5 @@
 //! The rows of an object in a list, in the order of names.
-ghost use Rattle.std.specs.Prelude.{◌≡◌, not, is_some, OnOk, OnErr, IfOk, MatchOption, None, Some, Ok, Err, IsTrue, length, cond, false, drop, slice_get, ◌≤◌};
+ghost use Rattle.std.specs.Prelude.{◌≡◌, not, ◌++◌, ◌∷◌, [], is_some, OnOk, OnErr, IfOk, MatchOption, None, Some, Ok, Err, IsTrue, length, cond, true, false, drop, slice_get, ◌≤◌};
 ghost use Rattle.std.specs.Ordering.{is_gt, is_eq};
 ghost use Rattle.wjs_base.specs.declared.values.Name.{Name};
 ghost use Rattle.wjs_base.specs.declared.values.Name.TheVariants.{Text};
@@ -15,7 +15,11 @@ use wjs_base::{Name, OutOfMemory, TextId};
 /// Up to how many rows a list is gone through row by row: a longer one is halved instead.
 const SHORT_LIST: usize = 12;
 
+/// For how many rows a list has room first: the scope and the arguments of a short call have no more.
+const FIRST_ROWS: usize = 3;
+
 /// Where a name stands, or would stand where it isn't there.
+#[inline(always)]
 fn seek<V: Copy>(few: &[(Name, V)], name: Name) -> Result<usize, usize>
     requires { IsInOrder name_cmp few.now }
     ensures { result ≡ seek name_cmp name 0 few.now }
@@ -29,6 +33,7 @@ fn seek<V: Copy>(few: &[(Name, V)], name: Name) -> Result<usize, usize>
 }
 
 /// The place of the first name that isn't less than a name, found by halving.
+#[inline(always)]
 fn first_from<V: Copy>(few: &[(Name, V)], name: Name) -> usize
     requires { IsInOrder name_cmp few.now }
     ensures within { result ≤ length few.now }
@@ -70,17 +75,6 @@ fn goes_last<V: Copy>(few: &[(Name, V)], name: Name) -> bool
     count == 0 || comes_after(name, few[count - 1].0)
 }
 
-/// `seek`, which looks at the end first.
-fn seek_end<V: Copy>(few: &[(Name, V)], name: Name) -> Result<usize, usize>
-    requires { IsInOrder name_cmp few.now }
-    ensures { result ≡ seek name_cmp name 0 few.now }
-{
-    if goes_last(few, name) {
-        return Err(few.len());
-    }
-    seek(few, name)
-}
-
 /// Where a name stands; None where it isn't there.
 #[inline(always)]
 fn place_of<V: Copy>(few: &[(Name, V)], name: Name) -> Option<usize>
@@ -89,11 +83,33 @@ fn place_of<V: Copy>(few: &[(Name, V)], name: Name) -> Option<usize>
 {
     match name {
         Name::Text(text) if few.len() <= SHORT_LIST => place_of_text(few, text),
+        Name::Text(text) => seek_text(few, text),
         Name::Index(index) if is_at(few, index as usize, name) => Some(index as usize),
-        _ => match seek(few, name) {
-            Ok(place) => Some(place),
-            Err(_) => None,
-        },
+        Name::Index(_) => seek_name(few, name),
+    }
+}
+
+/// `place_of` by halving.
+#[inline(never)]
+fn seek_name<V: Copy>(few: &[(Name, V)], name: Name) -> Option<usize>
+    requires { IsInOrder name_cmp few.now }
+    ensures { MatchOption result (find name_cmp name few.now ≡ None) (λ place. Ok place ≡ seek name_cmp name 0 few.now) }
+{
+    match seek(few, name) {
+        Ok(place) => Some(place),
+        Err(_) => None,
+    }
+}
+
+/// `seek_name` of a text: of which kind a name is need not be asked at each halving.
+#[inline(never)]
+fn seek_text<V: Copy>(few: &[(Name, V)], text: TextId) -> Option<usize>
+    requires { IsInOrder name_cmp few.now }
+    ensures { MatchOption result (find name_cmp (Text text) few.now ≡ None) (λ place. Ok place ≡ seek name_cmp (Text text) 0 few.now) }
+{
+    match seek(few, Name::Text(text)) {
+        Ok(place) => Some(place),
+        Err(_) => None,
     }
 }
 
@@ -172,7 +188,10 @@ pub(crate) fn set<V: Copy>(
     ensures added { IfOk result (λ added. added ≡ not (is_some (find name_cmp name few.old.items))) }
     ensures err { OnErr result (few.new.items ≡ few.old.items) }
 {
-    match seek_end(few, name) {
+    if goes_last(few, name) {
+        return push(few, name, value);
+    }
+    match seek(few, name) {
         Ok(place) => {
             few[place] = (name, value);
             Ok(false)
@@ -181,6 +200,21 @@ pub(crate) fn set<V: Copy>(
             Ok(()) => Ok(true),
             Err(_) => Err(OutOfMemory),
         },
+    }
+}
+
+/// Puts a row last. After a refusal the list is as it was.
+fn push<V: Copy>(few: &mut Vec<(Name, V)>, name: Name, value: V) -> Result<bool, OutOfMemory>
+    ensures ok { OnOk result (few.new.items ≡ few.old.items ++ (name, value) ∷ []) }
+    ensures added { IfOk result (λ added. added ≡ true) }
+    ensures err { OnErr result (few.new.items ≡ few.old.items) }
+{
+    if few.is_empty() && few.reserve_exact(FIRST_ROWS).is_err() {
+        return Err(OutOfMemory);
+    }
+    match few.push((name, value)) {
+        Ok(()) => Ok(true),
+        Err(_) => Err(OutOfMemory),
     }
 }
 

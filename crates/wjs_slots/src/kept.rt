@@ -16,11 +16,11 @@ use wjs_base::{Name, OutOfMemory};
 /// How many rows a list has at most: past that, room for one in between would take too long a move.
 const LONGEST_LIST: usize = 256;
 
-/// Rows in the order of their names.
+/// Rows in the order of their names. Those of an object with many stand elsewhere: each object takes the room of the larger form.
 #[derive(Drop)]
 pub(crate) enum Kept<V> {
     Few(Vec<(Name, V)>),
-    Many(Many<V>),
+    Many(Box<Many<V>>),
 }
 
 impl<V: Copy> Kept<V> {
@@ -132,16 +132,17 @@ impl<V: Copy> Kept<V> {
     }
 
     /// The rows in another form, where their list is full.
-    fn outgrown(&self, alloc: Global) -> Result<Option<Many<V>>, OutOfMemory>
+    fn outgrown(&self, alloc: Global) -> Result<Option<Box<Many<V>>>, OutOfMemory>
         requires { IsInOrder name_cmp (rows_of self.now) }
-        ensures { IfOk result (λ outgrown. IfSome outgrown (λ many. map.entries many ≡ rows_of self.now)) }
+        ensures { IfOk result (λ outgrown. IfSome outgrown (λ many. map.entries many.value ≡ rows_of self.now)) }
     {
         match self {
             Kept::Few(few) => {
                 if few.len() < LONGEST_LIST {
                     return Ok(None);
                 }
-                match Many::of_list(few, alloc) {
+                let many = Many::of_list(few, alloc)?;
+                match Box::new(alloc, many) {
                     Ok(many) => Ok(Some(many)),
                     Err(_) => Err(OutOfMemory),
                 }

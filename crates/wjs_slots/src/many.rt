@@ -23,6 +23,8 @@ use wjs_base::{Name, OutOfMemory};
 #[derive(Drop)]
 pub(crate) struct Many<V> {
     dense: Vec<Option<V>>,
+    /// How many of the first indices have no row. Only where new rows go depends on it.
+    holes: usize,
     rest: BTreeMap<Name, V>,
 }
 
@@ -49,6 +51,7 @@ impl<V: Copy> Many<V> {
     {
         Many {
             dense: Vec::new(alloc),
+            holes: 0,
             rest: BTreeMap::new(alloc),
         }
     }
@@ -106,10 +109,11 @@ impl<V: Copy> Many<V> {
             Some(place) => {
                 let added = self.dense[place].is_none();
                 self.dense[place] = Some(value);
+                self.holes = self.holes.saturating_sub(added as usize);
                 Ok(added)
             }
             None => {
-                if goes_next(self.dense.len(), &self.rest, name) {
+                if !self.is_hollow() && goes_next(self.dense.len(), &self.rest, name) {
                     return push(&mut self.dense, value);
                 }
                 tree::set(&mut self.rest, name, value)
@@ -126,11 +130,21 @@ impl<V: Copy> Many<V> {
             Some(place) => {
                 let found = self.dense[place].is_some();
                 self.dense[place] = None;
+                self.holes = self.holes.saturating_add(found as usize);
+                let count = self.dense.len();
                 trim(&mut self.dense);
+                self.holes = self.holes.saturating_sub(count - self.dense.len());
                 found
             }
             None => tree::remove(&mut self.rest, &name),
         }
+    }
+
+    /// Whether more than half of the first indices have no row, as where a queue is pushed at its end
+    /// and deleted from its front. Further rows go to the tree then, so that these indices are never
+    /// more than twice the rows that were there at once.
+    fn is_hollow(&self) -> bool {
+        self.holes > self.dense.len() / 2
     }
 
     /// The least row at or after a name.

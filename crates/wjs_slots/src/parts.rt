@@ -113,9 +113,20 @@ impl<V: Copy> Parts<V> {
         )
     }
 
-    /// Makes an object near where it stands close behind the near ones with no far row in between.
+    /// Makes an object near where it can be.
     #[inline(always)]
     fn reach(&mut self, object: ObjId) -> Result<(), OutOfMemory>
+        ensures { self.new ≡ self.old }
+    {
+        match self.near.place(object) {
+            Some(_) => Ok(()),
+            None => self.grow(object),
+        }
+    }
+
+    /// Makes an object near that stands close behind the near ones with no far row in between.
+    #[inline(never)]
+    fn grow(&mut self, object: ObjId) -> Result<(), OutOfMemory>
         ensures { self.new ≡ self.old }
     {
         self.near.settle(object.owner);

@@ -17,9 +17,10 @@ use wjs_rows::Steps;
 /// Rows by slot, seen as a finite map.
 ///
 /// The rows of objects that one owner numbers 0, 1, 2, .. are found by that number, and the rows of
-/// an object with many that stand at 0, 1, 2, .. by that index. The memory goes with the rows, with
-/// that count as far as rows come without a gap of 64 objects, and with the rows taken out from
-/// before others among such indices: a table whose objects or indices have great numbers stays small.
+/// an object with many that stand at 0, 1, 2, .. by that index. The memory goes with the rows that an
+/// object had at once, and with that count as far as rows come without a gap of 64 objects: a table
+/// whose objects or indices have great numbers stays small, and so does one whose object gets rows at
+/// one end and loses them at the other.
 #[derive(Drop)]
 pub struct Table<V> {
     parts: Parts<V>,
@@ -93,6 +94,7 @@ impl<V: Copy> Table<V> {
     }
 
     /// Takes the row at a slot out, if there is one.
+    #[inline(never)]
     pub fn remove<L: Ledger>(&mut self, slot: Slot, steps: &mut Steps<L>)
         ensures removed { self.new ≡ map.remove self.old slot }
         ensures step { steps.new ≡ steps.old + 1 }

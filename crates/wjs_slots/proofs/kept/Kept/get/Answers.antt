@@ -6,4 +6,7 @@ use Rattle.wjs_slots.specs.Kept.{rows_of}
 use Rattle.wjs_slots.proofs.kept.Kept.get.Goals as goal
 
 pub returns-in-Many : goal.returns-in-Many
-returns-in-Many g c = c.get-in-Many.ensures ∙ map.get-entries c.in-Many.many c.args.name ∙ ap (λ k. find name_cmp c.args.name (rows_of k)) (sym c.in-Many.is)
+returns-in-Many g c =
+    c.get-in-Many.ensures
+    ∙ map.get-entries c.deref-in-Many.result.now c.args.name
+    ∙ ap (find name_cmp c.args.name) (ap map.entries c.deref-in-Many.ensures ∙ ap rows_of (sym c.in-Many.is))

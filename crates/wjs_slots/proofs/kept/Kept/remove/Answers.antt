@@ -9,11 +9,11 @@ use Rattle.wjs_slots.proofs.kept.Kept.remove.Goals as goal
 
 pub returns-in-Many-clause-removed : goal.returns-in-Many-clause-removed
 returns-in-Many-clause-removed g c =
-    entries_removed name_total name_exact c.in-Many.many c.remove-in-Many.new.self c.args.name c.remove-in-Many.ensures.removed
-    ∙ ap (λ k. without name_cmp c.args.name (rows_of k)) (sym c.in-Many.is)
+    entries_removed name_total name_exact c.deref_mut.result.now c.remove-in-Many.new.self c.args.name c.remove-in-Many.ensures.removed
+    ∙ ap (without name_cmp c.args.name) (ap map.entries c.deref_mut.ensures.value ∙ ap rows_of (sym c.in-Many.is))
 
 pub returns-in-Many-clause-found : goal.returns-in-Many-clause-found
 returns-in-Many-clause-found g c =
     c.remove-in-Many.ensures.found
-    ∙ ap is_some (map.get-entries c.in-Many.many c.args.name)
-    ∙ ap (λ k. is_some (find name_cmp c.args.name (rows_of k))) (sym c.in-Many.is)
+    ∙ ap is_some (map.get-entries c.deref_mut.result.now c.args.name)
+    ∙ ap (λ es. is_some (find name_cmp c.args.name es)) (ap map.entries c.deref_mut.ensures.value ∙ ap rows_of (sym c.in-Many.is))

@@ -31,7 +31,7 @@ returns-in-Some-clause-added g c =
 pub returns-then-goes_next-clause-ok : goal.returns-then-goes_next-clause-ok
 returns-then-goes_next-clause-ok g c =
     let m = c.self.inside in
-    let n : c.len-in-None.result ≡ length m.dense.items = omega (arith, c.len-in-None.ensures, m.dense.ok.0) in
+    let n : c.len-then-not-is_hollow.result ≡ length m.dense.items = omega (arith, c.len-then-not-is_hollow.ensures, m.dense.ok.0) in
     let is = c.goes_next.ensures.next c.if-goes_next.true ∙ ap Index n in
     on_ok c.push.result (λ e.
     inserted (all m.dense.items m.rest.entries) _ c.args.name c.args.value
@@ -60,8 +60,8 @@ invariant_of-self-in-None g c =
     (λ e. subst (λ es. IsBeside (length m.dense.items) es) (sym e) c.self.invariant)
     c.set.ensures.ok c.set.ensures.err
 
-pub returns-else-goes_next-clause-ok : goal.returns-else-goes_next-clause-ok
-returns-else-goes_next-clause-ok g c =
+pub returns-else-not-is_hollow-clause-ok : goal.returns-else-not-is_hollow-clause-ok
+returns-else-not-is_hollow-clause-ok g c =
     let m = c.self.inside in
     let n : c.len.result ≡ length m.dense.items = omega (arith, c.len.ensures, m.dense.ok.0) in
     on_ok c.set.result (λ e.
@@ -70,8 +70,8 @@ returns-else-goes_next-clause-ok g c =
     (λ q. ap (find name_cmp q) e ∙ find-put name_cmp name_total q c.args.name c.args.value m.rest.entries))
     ∙ ap (λ x. map.insert x c.args.name c.args.value) c.self.view_is) c.set.ensures.ok
 
-pub returns-else-goes_next-clause-added : goal.returns-else-goes_next-clause-added
-returns-else-goes_next-clause-added g c =
+pub returns-else-not-is_hollow-clause-added : goal.returns-else-not-is_hollow-clause-added
+returns-else-not-is_hollow-clause-added g c =
     let m = c.self.inside in
     let n : c.len.result ≡ length m.dense.items = omega (arith, c.len.ensures, m.dense.ok.0) in
     if_ok c.set.result (λ added e.

@@ -7,7 +7,7 @@ use Rattle.wjs_slots.specs.Near.{IsSplit}
 use Rattle.wjs_slots.proofs.Changes.{grown}
 use Rattle.wjs_slots.proofs.Halves.{settled, split_settled, split_grown}
 use Rattle.wjs_slots.proofs.Values.{table}
-use Rattle.wjs_slots.proofs.parts.Parts.reach.Goals as goal
+use Rattle.wjs_slots.proofs.parts.Parts.grow.Goals as goal
 
 pub returns : goal.returns
 returns g c =
