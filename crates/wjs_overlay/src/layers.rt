@@ -185,7 +185,7 @@ fn write_first<L: Ledger>(
 }
 
 /// Sets a slot in a world with a parent, where the slot is marked as written.
-#[inline(always)]
+#[inline(never)]
 fn write_marked<L: Ledger>(
     layers: &mut [Layer],
     world: Spot,

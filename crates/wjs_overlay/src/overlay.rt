@@ -126,7 +126,7 @@ impl Overlay {
     }
 
     /// `read_counted` at a place, without the short way through the first world.
-    #[inline(always)]
+    #[inline(never)]
     fn read_marked<L: Ledger>(
         &mut self,
         at: Spot,

@@ -11,6 +11,7 @@ use wjs_rows::Steps;
 use wjs_store::{Verdict, WorldStore};
 
 /// `read`, whose steps nobody counts.
+#[inline(always)]
 pub fn read_uncounted<L: Ledger>(
     store: &mut Overlay,
     world: WorldId,
@@ -28,6 +29,7 @@ pub fn read_uncounted<L: Ledger>(
 }
 
 /// `write`, whose steps nobody counts.
+#[inline(never)]
 pub fn write_uncounted<L: Ledger>(
     store: &mut Overlay,
     world: WorldId,
