@@ -26,22 +26,24 @@ STEPS_SPENT = 2
 # what each needs in front of a script
 OTHERS = {'mujs': '', 'qjs': '', 'node': 'var print = console.log;\n'}
 NUMBERS = (1000, 20000, 50000)
+# the setting that ./worlds gives the program
+AS_STARTED = {'GLIBC_TUNABLES': 'glibc.malloc.hugetlb=1', **os.environ}
 
 
-def run(words, given=''):
+def run(words, given='', around=AS_STARTED):
     """The status, what was printed, the seconds of the processor, and the peak of memory in bytes."""
     with tempfile.TemporaryFile() as source, tempfile.TemporaryFile() as out:
         source.write(given.encode())
         source.seek(0)
-        started = subprocess.Popen(words, stdin=source, stdout=out, stderr=subprocess.DEVNULL)
+        started = subprocess.Popen(words, stdin=source, stdout=out, stderr=subprocess.DEVNULL, env=around)
         _, status, used = os.wait4(started.pid, 0)
         started.returncode = os.waitstatus_to_exitcode(status)
         out.seek(0)
         return started.returncode, out.read(), used.ru_utime + used.ru_stime, used.ru_maxrss * 1024
 
 
-def best(runs, words, given=''):
-    return min((run(words, given) for _ in range(runs)), key=lambda it: it[2])
+def best(runs, words, given='', around=AS_STARTED):
+    return min((run(words, given, around) for _ in range(runs)), key=lambda it: it[2])
 
 
 def steps_of(program, text):
@@ -76,13 +78,14 @@ def time_script(runs, program, path, finds):
         with tempfile.NamedTemporaryFile('w', suffix='.js') as it:
             it.write(prelude + text)
             it.flush()
-            _, theirs, others[other], _ = best(runs, [other, it.name])
+            _, theirs, others[other], _ = best(runs, [other, it.name], around=os.environ)
         if theirs != printed:
             sys.exit(f'{name}: {other} prints {theirs!r}, and the program {printed!r}')
     a_step = f'{seconds * 1e9 / int(said[1]):8.0f} ns a step' if said else ''
     times = f'{seconds / others["mujs"]:8.1f} x mujs' if others.get('mujs') else ''
     beside = ''.join(f'  {other} {theirs:.3f} s' for other, theirs in others.items())
     print(f'{name:8} {seconds:8.3f} s {a_step} {times} {beside}', flush=True)
+    return seconds, others.get('mujs')
 
 
 def time_generated(runs, program, number):
@@ -101,8 +104,10 @@ def main(words):
         else:
             runs = int(words.pop(0))
     program = words or [PROGRAM]
-    for path in sorted(glob.glob(os.path.join(HERE, 'scripts', '*.js'))):
-        time_script(runs, program, path, finds)
+    times = [time_script(runs, program, path, finds) for path in sorted(glob.glob(os.path.join(HERE, 'scripts', '*.js')))]
+    ours = sum(seconds for seconds, _ in times)
+    theirs = sum(seconds or 0 for _, seconds in times)
+    print(f'all      {ours:8.3f} s' + (f'                {ours / theirs:8.2f} x mujs' if theirs else ''), flush=True)
     for number in NUMBERS:
         time_generated(runs, program, number)
 
