@@ -5,7 +5,8 @@ part of the gate.
 usage: bench/run.py [--runs N] [--steps] [COMMAND..]
 
 COMMAND runs the program, with its words; left out, it is crates/worlds/out/worlds. Each script of bench/scripts runs N times (3 if
-left out), and the least time of the processor counts; every interpreter must print what the program prints. A script's comment
+left out), and the least time of the processor counts; the interpreters run in turn, since a machine's speed drifts, and each must
+print what the program prints. A script's comment
 `// steps: N` tells how many steps it takes; --steps finds that by bisection, and writes it there.
 
 For a script the columns are seconds, nanoseconds a step, and seconds as a multiple of mujs's; for a generated script seconds,
@@ -42,8 +43,10 @@ def run(words, given='', around=AS_STARTED):
         return started.returncode, out.read(), used.ru_utime + used.ru_stime, used.ru_maxrss * 1024
 
 
-def best(runs, words, given='', around=AS_STARTED):
-    return min((run(words, given, around) for _ in range(runs)), key=lambda it: it[2])
+def best_of_each(runs, commands):
+    """For each command, (words, given, around), the run that took the least time; they run in turn."""
+    rounds = [[run(*command) for command in commands] for _ in range(runs)]
+    return [min(each, key=lambda it: it[2]) for each in zip(*rounds)]
 
 
 def steps_of(program, text):
@@ -68,29 +71,31 @@ def time_script(runs, program, path, finds):
         with open(path, 'w', encoding='utf-8') as it:
             it.write(text)
     said = re.match(r'// steps: (\d+)\n', text)
-    status, printed, seconds, _ = best(runs, [*program, '--steps', str(MOST_STEPS)], text)
+    peers = [peer for peer in OTHERS if shutil.which(peer)]
+    with tempfile.TemporaryDirectory() as folder:
+        commands = [([*program, '--steps', str(MOST_STEPS)], text, AS_STARTED)]
+        for peer in peers:
+            theirs = os.path.join(folder, f'{peer}.js')
+            with open(theirs, 'w', encoding='utf-8') as it:
+                it.write(OTHERS[peer] + text)
+            commands.append(([peer, theirs], '', os.environ))
+        (status, printed, seconds, _), *answers = best_of_each(runs, commands)
     if status:
         sys.exit(f'{name}: the program ended with {status}')
     others = {}
-    for other, prelude in OTHERS.items():
-        if not shutil.which(other):
-            continue
-        with tempfile.NamedTemporaryFile('w', suffix='.js') as it:
-            it.write(prelude + text)
-            it.flush()
-            _, theirs, others[other], _ = best(runs, [other, it.name], around=os.environ)
+    for peer, (_, theirs, others[peer], _) in zip(peers, answers):
         if theirs != printed:
-            sys.exit(f'{name}: {other} prints {theirs!r}, and the program {printed!r}')
+            sys.exit(f'{name}: {peer} prints {theirs!r}, and the program {printed!r}')
     a_step = f'{seconds * 1e9 / int(said[1]):8.0f} ns a step' if said else ''
     times = f'{seconds / others["mujs"]:8.1f} x mujs' if others.get('mujs') else ''
-    beside = ''.join(f'  {other} {theirs:.3f} s' for other, theirs in others.items())
+    beside = ''.join(f'  {peer} {theirs:.3f} s' for peer, theirs in others.items())
     print(f'{name:8} {seconds:8.3f} s {a_step} {times} {beside}', flush=True)
     return seconds, others.get('mujs')
 
 
 def time_generated(runs, program, number):
     words = [*program, '--mode', 'gen', '--number', str(number), '--steps', str(MOST_STEPS)]
-    status, _, seconds, peak = best(runs, words)
+    [(status, _, seconds, peak)] = best_of_each(runs, [(words, '', AS_STARTED)])
     if status:
         sys.exit(f'gen {number}: the program ended with {status}')
     print(f'gen {number:5} {seconds:7.3f} s {peak / 1e6:8.1f} MB {peak / number:8.0f} bytes a world', flush=True)
