@@ -7,7 +7,8 @@ COMMAND runs the program, with its words; left out, it is crates/worlds/out/worl
 grammar:
 
   peers    a plain script, with semicolons left out at random, prints and ends as in node, or else as in mujs, each where it is on PATH
-  syntax   a few statements with tokens put in, left out or swapped are refused exactly where one of these refuses them
+  syntax   a few statements with tokens put in, left out or swapped are refused only where one of these refuses them, and read only
+           where node reads them
   commits  with statements at random run in worlds that are committed right after it prints what the plain script prints
   drops    run in a world that is dropped, and then once more, it prints twice what it prints
 
@@ -74,12 +75,10 @@ def in_mujs(text, mode):
     return (0 if status == 0 else 1 if mode == 'run' else REFUSED), out
 
 
-def rounds(ours, theirs):
+def is_rounded(ours, theirs):
     """Whether they differ first where a number out of range was thrown here."""
-    for mine, other in zip(ours.split('\n'), theirs.split('\n')):
-        if mine != other:
-            return mine == 'RangeError'
-    return False
+    differing = (mine for mine, other in zip(ours.split('\n'), theirs.split('\n')) if mine != other)
+    return next(differing, '') == 'number out of range'
 
 
 class Checks:
@@ -108,11 +107,13 @@ class Checks:
             ours = self.ours(text, *words)
             if ours[0] in (None, STEPS_SPENT) or node and node[0] is None:
                 continue
-            ours = (ours[0], '' if mode == 'read' else ours[1])
-            agrees = lambda theirs: theirs and (ours == theirs or mode == 'run' and rounds(ours[1], theirs[1]))
+            if mode == 'read':
+                ours = (ours[0], '')
             # what later editions have added node reads, and mujs doesn't; as the body of a function mujs reads more than a script
-            may_differ = not (node and mode == 'read' and ours[0] == 0)
-            self.check(kind, f'{grammar}-{seed}', text, agrees(node) or may_differ and agrees(in_mujs(text, mode)))
+            decides = node and mode == 'read' and ours[0] == 0
+            peers = [it for it in (node, ours != node and not decides and in_mujs(text, mode)) if it]
+            if ours in peers or not (mode == 'run' and any(is_rounded(ours[1], theirs) for _, theirs in peers)):
+                self.check(kind, f'{grammar}-{seed}', text, ours in peers)
 
     def worlds(self, grammar, seed):
         plain = self.ours(script(grammar, seed))

@@ -6,7 +6,7 @@ function show(v) {
   if (t === "function") return "fn";
   if (v === null) return "null";
   if (t !== "object") return t.charAt(0) + ":" + v;
-  if (v instanceof Error) return v.name;
+  if (v instanceof Error) return v.message === "number out of range" ? v.message : v.name;
   if (Array.isArray(v)) {
     if (v.length > 20) return "[" + v.length;
     for (r = "[", i = 0; i < v.length; i++) r += (i in v ? typeof v[i] === "object" ? "{}" : show(v[i]) : "-") + ",";
