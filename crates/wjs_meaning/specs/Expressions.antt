@@ -17,7 +17,7 @@ use Rattle.wjs_content.specs.Names.{slot, length_name, index_name}
 use Rattle.wjs_content.specs.Objects.{Arena, function_of, is_callable, world_object}
 use Rattle.wjs_meaning.specs.declared.trouble.Trouble.TheVariants.{NotAnObject}
 use Rattle.wjs_convert.specs.Conversions.{to_boolean, is_nullish}
-use Rattle.wjs_meaning.specs.Trees.{Node, Key, Spelled, Numeral, Name, NumberLit, TextLit, This, ThisWorld, NullLit, BoolLit, Paren, ArrayLit, ObjectLit, Function, Dot, At, Call, NewWith, NewBare, Postfix, Prefix, Binary, Cond, Assign, Comma, is_target}
+use Rattle.wjs_meaning.specs.Trees.{Node, Key, Spelled, Numeral, Name, NumberLit, TextLit, This, ThisWorld, NullLit, BoolLit, Paren, ArrayLit, ObjectLit, Function, Dot, At, Call, NewWith, NewBare, Postfix, Prefix, Binary, Cond, Assign, Comma, is_target, name_place}
 use Rattle.wjs_meaning.specs.Deeds.{Env, Act, Ret, Eval, Sub, Do, Write, Look, Create, AtExpr, AtTarget, Reference, Local, Global, Member, Refers, Normal, give, then_value, then_number, then_text, then_reference, tree_here, node_here}
 use Rattle.wjs_meaning.specs.Properties.{get_value, delete}
 use Rattle.wjs_meaning.specs.Errors.{throw, trouble_of}
@@ -49,7 +49,7 @@ at_base i env go base = Eval (AtExpr i) env (then_value (at_index base env go))
 
 -- the reference of a Name, a Dot or an At
 abbrev pub reference_of : ℕ → Node → Env → (Reference → Act) → Act
-reference_of here (Name name) env go = reference_at ((tree_here env).place here) name env go
+reference_of here (Name name) env go = reference_at (name_place (tree_here env) here 0) name env go
 reference_of here (Dot e name) env go = Eval (AtExpr e) env (then_value (dot_base name env go))
 reference_of here (At e i) env go = Eval (AtExpr e) env (then_value (at_base i env go))
 reference_of here _ env go = Ret Normal

@@ -6,7 +6,7 @@ use Rattle.wjs_content.specs.Names.{Slot}
 use Rattle.wjs_meaning.specs.declared.trouble.Trouble.TheVariants.{NotAnObject}
 use Rattle.wjs_meaning.specs.Builtins.{class_prototype}
 use Rattle.wjs_convert.specs.Conversions.{to_boolean}
-use Rattle.wjs_meaning.specs.Trees.{labels, has_text}
+use Rattle.wjs_meaning.specs.Trees.{labels, has_text, name_place}
 use Rattle.wjs_meaning.specs.Deeds.{Env, Act, Ret, Eval, Do, Read, AtExpr, AtTarget, AtStmt, Again, Reference, Completion, Normal, Breaks, Continues, then_value, then_reference, tree_here}
 use Rattle.wjs_meaning.specs.Properties.{visits}
 use Rattle.wjs_meaning.specs.Errors.{throw}
@@ -76,7 +76,7 @@ visit_body here s name env again r = store r (String name) env (Eval (AtStmt s) 
 -- the reference that takes the name
 abbrev pub visit_take : ℕ → Taker → ℕ → Text → Env → Act → Act
 visit_take here (TargetNode t) s name env again = Eval (AtTarget t) env (then_reference (visit_body here s name env again))
-visit_take here (VarName x) s name env again = reference_at ((tree_here env).var_place here 0) x env (visit_body here s name env again)
+visit_take here (VarName x) s name env again = reference_at (name_place (tree_here env) here 0) x env (visit_body here s name env again)
 
 -- each visit's slot is read, and where it is absent the visit is left out
 abbrev pub visits_from : ℕ → Taker → ℕ → List Slot → Env → Act

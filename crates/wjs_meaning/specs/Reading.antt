@@ -105,5 +105,5 @@ module _ (texts : Table) where
   node_in (form.Program elements) = Program (numbers elements)
 
   -- a program with the places of its names
-  abbrev pub tree_in : List NumberedNode → NodeId → (ℕ → Place) → (ℕ → ℕ → Place) → Tree
-  tree_in nodes body place var_place = record { nodes = each node_in nodes; body = body.0; place = place; var_place = var_place }
+  abbrev pub tree_in : List NumberedNode → NodeId → List (List Place) → Tree
+  tree_in nodes body places = record { nodes = each node_in nodes; body = body.0; places = places }

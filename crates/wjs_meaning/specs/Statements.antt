@@ -4,7 +4,7 @@ use Rattle.wjs_base.specs.declared.ids.WorldId.{WorldId}
 use Rattle.wjs_content.specs.Values.{Text, Value, Undefined, same_text}
 use Rattle.wjs_content.specs.Names.{slot}
 use Rattle.wjs_convert.specs.Conversions.{to_boolean, strictly_equal}
-use Rattle.wjs_meaning.specs.Trees.{Node, Init, NoInit, InitExpr, InitVar, Block, Var, Expr, If, DoWhile, While, For, ForIn, ForVarIn, Continue, Break, Return, Throw, Label, Switch, Try, Within}
+use Rattle.wjs_meaning.specs.Trees.{Node, Init, NoInit, InitExpr, InitVar, Block, Var, Expr, If, DoWhile, While, For, ForIn, ForVarIn, Continue, Break, Return, Throw, Label, Switch, Try, Within, name_place}
 use Rattle.wjs_meaning.specs.Deeds.{Env, Act, Ret, Eval, Sub, Do, Write, Create, AtExpr, AtStmt, Completion, Normal, Breaks, Continues, Returns, Throws, then_value, then_normal, tree_here, node_here}
 use Rattle.wjs_meaning.specs.NewObjects.{scope_object}
 use Rattle.wjs_meaning.specs.References.{reference_at, store}
@@ -24,7 +24,7 @@ abbrev pub vars_from : ℕ → ℕ → List (Text × Option ℕ) → Env → Act
 vars_from here i [] env = Ret Normal
 vars_from here i ((name, None) ∷ xs) env = vars_from here (i + 1) xs env
 vars_from here i ((name, Some e) ∷ xs) env = Eval (AtExpr e) env (then_value (λ v.
-    reference_at ((tree_here env).var_place here i) name env (λ r.
+    reference_at (name_place (tree_here env) here i) name env (λ r.
     store r v env (vars_from here (i + 1) xs env))))
 
 -- after the value, which is dropped

@@ -1,5 +1,5 @@
 -- Trees of programs by content: their nodes by number, each with its parts, a child by its number.
-use Rattle.std.specs.Prelude.{ℕ, zero, suc, Bool, true, false, ◌==◌, List, [], ◌∷◌, Option, None, Some, slice_get, unwrap_or}
+use Rattle.std.specs.Prelude.{ℕ, zero, suc, Bool, true, false, List, [], ◌∷◌, drop, Option, None, Some, slice_get, unwrap_or}
 use Rattle.wjs_tree.specs.declared.operators.UpdateOperator.{UpdateOperator}
 use Rattle.wjs_tree.specs.declared.operators.PrefixOperator.{PrefixOperator}
 use Rattle.wjs_tree.specs.declared.operators.BinaryOperator.{BinaryOperator}
@@ -70,17 +70,15 @@ pub data Place : Type 0 where
   Local : ℕ → Place
   Global : Place
 
--- one program: its nodes, its body, and what its scopes give
+-- one program: its nodes, its body, and where its names are found
 pub record Tree : Type 0 where
   pub nodes : List Node
   pub body : ℕ
-  -- the place of the name at a node
-  pub place : ℕ → Place
-  -- the place of the name of this number among those that a node's `var` declares
-  pub var_place : ℕ → ℕ → Place
+  -- for each node the places of its own names, in order: of a Name its place, else of the names that its `var` declares
+  pub places : List (List Place)
 
 abbrev pub empty_tree : Tree
-empty_tree = record { nodes = []; body = 0; place = λ k. Global; var_place = λ k i. Global }
+empty_tree = record { nodes = []; body = 0; places = [] }
 
 -- the program of a number
 abbrev pub tree_at : List Tree → ℕ → Tree
@@ -89,6 +87,10 @@ tree_at trees k = unwrap_or (slice_get trees k) empty_tree
 -- the node of a number
 abbrev pub node_at : Tree → ℕ → Node
 node_at tree k = unwrap_or (slice_get tree.nodes k) Empty
+
+-- the place of the name of this number among a node's own names
+abbrev pub name_place : Tree → ℕ → ℕ → Place
+name_place tree k i = unwrap_or (slice_get (unwrap_or (slice_get tree.places k) []) i) Global
 
 -- ---- functions
 
@@ -131,14 +133,15 @@ is_target tree k = is_target_to (suc k) tree k
 
 -- ---- labels
 
--- the labels of a statement: those of the Labels that it stands in with no other statement between (12.12)
-abbrev pub labels_from : List Node → ℕ → ℕ → List Text
-labels_from [] here s = []
-labels_from (Label name t ∷ nodes) here s = elim (t == s) [ true ↦ name ∷ labels_from nodes (suc here) here | false ↦ labels_from nodes (suc here) s ]
-labels_from (_ ∷ nodes) here s = labels_from nodes (suc here) s
+-- the labels of the Labels that come first
+abbrev pub first_labels : List Node → List Text
+first_labels (Label name s ∷ nodes) = name ∷ first_labels nodes
+first_labels _ = []
 
+-- the labels of a statement: those of the Labels that it stands in with no other statement between (12.12); a Label's number
+-- is the one behind its statement's
 abbrev pub labels : Tree → ℕ → List Text
-labels tree s = labels_from tree.nodes 0 s
+labels tree s = first_labels (drop (suc s) tree.nodes)
 
 -- whether the text is in the list
 abbrev pub has_text : List Text → Text → Bool

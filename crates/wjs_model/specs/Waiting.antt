@@ -11,7 +11,7 @@ use Rattle.wjs_arena.specs.declared.native.Native.{Native}
 use Rattle.wjs_content.specs.Values.{Text, Value, Undefined, Object}
 use Rattle.wjs_content.specs.Names.{Slot, slot, index_name}
 use Rattle.wjs_meaning.specs.declared.trouble.Trouble.TheVariants.{NoPrimitiveValue}
-use Rattle.wjs_meaning.specs.Trees.{Node, Key, Init, InitVar, ArrayLit, ObjectLit, Dot, At, Call, NewWith, NewBare, Postfix, Prefix, Binary, Cond, Assign, Comma, Block, Var, Expr, If, DoWhile, While, For, ForIn, ForVarIn, Return, Throw, Label, Switch, Try, Within, Program, elements_of}
+use Rattle.wjs_meaning.specs.Trees.{Node, Key, Init, InitVar, ArrayLit, ObjectLit, Dot, At, Call, NewWith, NewBare, Postfix, Prefix, Binary, Cond, Assign, Comma, Block, Var, Expr, If, DoWhile, While, For, ForIn, ForVarIn, Return, Throw, Label, Switch, Try, Within, Program, elements_of, name_place}
 use Rattle.wjs_meaning.specs.Deeds.{Env, Act, Ret, Eval, Do, Write, AtProgram, Reference, Completion, Refers, Normal, Throws, then_value, then_number, then_text, then_reference, then_normal, tree_here}
 use Rattle.wjs_meaning.specs.Errors.{throw}
 use Rattle.wjs_meaning.specs.NativesOfObjects.{whole_of}
@@ -164,7 +164,7 @@ after_expr _ place held env go = Ret
 -- the first variable's value, stored to its name; then come the others
 abbrev pub store_variable : ℕ → List (Text × Option ℕ) → ℕ → Env → Value → Act
 store_variable here [] i env v = Ret Normal
-store_variable here (x ∷ xs) i env v = reference_at ((tree_here env).var_place here i) x.0 env (λ r. store r v env (vars_from here (i + 1) xs env))
+store_variable here (x ∷ xs) i env v = reference_at (name_place (tree_here env) here i) x.0 env (λ r. store r v env (vars_from here (i + 1) xs env))
 
 abbrev pub variables_of : Init → List (Text × Option ℕ)
 variables_of (InitVar xs) = xs

@@ -1,0 +1,2 @@
+//! A program's nodes in the order of their tree.
+#![tactic(auto)]
