@@ -1,0 +1,4 @@
+//! The tree of a program by content, and that bytes spell one at most.
+//!
+//! There is no code: each law is the contract of a function that does nothing.
+#![tactic(auto)]
