@@ -8,7 +8,7 @@ use Rattle.wjs_parse.specs.Readings.{ProgramReading}
 use Rattle.wjs_meaning.specs.Trees.{Tree}
 use Rattle.wjs_programs.specs.Numbered.{tree_of}
 
--- by a table of texts the bytes are tokens, and these spell a well-formed program, whose tree this is
+-- by a table of texts the bytes are tokens, and these spell one well-formed program, whose tree this is
 pub record IsProgram (bytes : List ℕ) (tree : Tree) : Type 0 where
   pub texts : Table
   pub table : IsTable texts
@@ -16,6 +16,7 @@ pub record IsProgram (bytes : List ℕ) (tree : Tree) : Type 0 where
   pub tokens : HasTokens bytes texts toks
   pub program : Elements
   pub reading : ProgramReading toks program
+  pub only : (other : Elements) → ProgramReading toks other → other ≡ program
   pub is : tree ≡ tree_of texts program
 
 -- by a table of texts the bytes are tokens, and these spell no well-formed program
