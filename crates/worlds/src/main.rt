@@ -2,18 +2,9 @@
 //! on standard output and a line on standard error where it is refused or a fault comes.
 #![tactic(auto)]
 
-mod command;
-pub mod laws;
-mod perform;
-mod report;
-mod running;
-mod status;
-#[cfg(test)]
-mod tests;
-
-use crate::command::command;
 use std::env;
 use std::process::ExitCode;
+use wjs_command::command;
 use wjs_io::{StdSink, StdSource};
 
 /// What the program ends with where it can't have its words.

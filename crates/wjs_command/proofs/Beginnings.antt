@@ -1,0 +1,57 @@
+-- A run before its first step.
+use Rattle.std.proofs.Common.{ℕ, [], ◌∷◌, Option, None, Some, ◌∙◌, sym, subst, IfSome, false, Result, Ok, Err, IfOk}
+use Rattle.std.specs.Option.{option_map}
+use Rattle.std.proofs.lemmas.List.Elements.{All-nil, All-cons, All-head}
+use Rattle.wjs_base.specs.declared.ids.OutOfMemory.{OutOfMemory}
+use Rattle.wjs_base.specs.Text.{Table, Grows}
+use Rattle.wjs_base.proofs.TextLaws.{Grows-trans}
+use Rattle.wjs_store.specs.Meaning.{Meaning}
+use Rattle.wjs_meaning.specs.Trees.{Tree}
+use Rattle.wjs_meaning.specs.Programs.{machine}
+use Rattle.wjs_meaning.specs.declared.library.TheConstants.{LIBRARY}
+use Rattle.wjs_model.specs.declared.config.Config.{Config}
+use Rattle.wjs_model.specs.declared.unit.Unit.{Unit as Program}
+use Rattle.wjs_model.specs.Configurations.{seen}
+use Rattle.wjs_model.specs.Soundness.{Sound}
+use Rattle.wjs_model.specs.Texts.{KnowsUnit, PlacesUnit}
+use Rattle.wjs_model.specs.Units.{unit_in}
+use Rattle.wjs_model.proofs.Placed.{placed_stay}
+use Rattle.wjs_moves.proofs.NodesGrow.{unit_grows}
+use Rattle.wjs_deeds.proofs.Staying.{units_stay}
+use Rattle.wjs_start.specs.Starting.{Starts}
+use Rattle.wjs_load.specs.Loading.{IsProgramOrNot}
+use Rattle.wjs_machine.specs.Runs.{IsPlain}
+use Rattle.wjs_command.specs.Scripts.{IsLibrary}
+use Rattle.wjs_command.specs.Attempt.{Begins}
+
+-- a program whose texts are in a table is so in a table that has grown
+pub known_later : (old new : Table) (u : Program) → Grows old new → KnowsUnit old u → KnowsUnit new u
+known_later old new u g h = All-head (KnowsUnit new) u [] (units_stay old new g (u ∷ []) (All-cons (KnowsUnit old) u [] h (All-nil (KnowsUnit old))))
+
+-- and its places stay right there
+pub places_later : (old new : Table) (u : Program) → Grows old new → KnowsUnit old u → PlacesUnit old u → PlacesUnit new u
+places_later old new u g h p = All-head (PlacesUnit new) u [] (placed_stay old new g (u ∷ []) (All-cons (KnowsUnit old) u [] h (All-nil (KnowsUnit old))) (All-cons (PlacesUnit old) u [] p (All-nil (PlacesUnit old))))
+
+-- the library's tree, in a table that has grown
+pub library_is : (texts t : Table) (library : Option Program) → Grows texts t → IsProgramOrNot LIBRARY.now (option_map (unit_in texts) library) → IfSome library (KnowsUnit texts) → IsLibrary (option_map (unit_in t) library)
+library_is texts t None g loads known = loads
+library_is texts t (Some u) g loads known = subst (λ (tree : Tree). IsLibrary (Some tree)) (sym (unit_grows texts t g u known)) loads
+
+module _ {S : Type 0} (meaning : S → Meaning) (plain : IsPlain meaning) where
+  pub begins : (texts grown : Table) (store : S) (library : Option Program) (script : Program) (steps : ℕ) (c : Config S) → Grows texts grown → IsProgramOrNot LIBRARY.now (option_map (unit_in grown) library) → IfSome library (KnowsUnit grown) → KnowsUnit texts script → Starts meaning grown (meaning store) library script steps c → Sound meaning c → Begins meaning texts script steps c
+  begins texts grown store library script steps c g loads known script_known starts sound =
+      let t = c.heap.texts in
+      let lib = option_map (unit_in t) library in
+      let later = unit_grows texts t (Grows-trans texts grown t g starts.grows) script script_known in
+      record {
+        library = lib;
+        first = library_is grown t library starts.grows loads known;
+        run = starts.machine_run (plain.silent store) (meaning c.heap.store).own (plain.admits_own c.heap.store) c.left
+            ∙ (λ i. seen false (machine lib (later i) (starts.left i)));
+        sound = sound;
+        world = starts.world;
+      }
+
+  pub begins_if : (texts grown : Table) (store : S) (library : Option Program) (script : Program) (steps : ℕ) (r : Result (Config S) OutOfMemory) → Grows texts grown → IsProgramOrNot LIBRARY.now (option_map (unit_in grown) library) → IfSome library (KnowsUnit grown) → KnowsUnit texts script → IfOk r (Starts meaning grown (meaning store) library script steps) → IfOk r (Sound meaning) → IfOk r (Begins meaning texts script steps)
+  begins_if texts grown store library script steps (Ok c) g loads known script_known starts sound = begins texts grown store library script steps c g loads known script_known starts sound
+  begins_if texts grown store library script steps (Err e) g loads known script_known starts sound = tt

@@ -1,0 +1,6 @@
+mod Deliveries
+mod Beginnings
+mod Endings
+mod Scripts
+mod Attempts
+mod OneDue

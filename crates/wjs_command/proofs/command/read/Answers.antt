@@ -1,0 +1,39 @@
+use Rattle.std.proofs.Common.{List, ℕ, Err, ap, subst}
+use Rattle.wjs_io.specs.Streams.{stream}
+use Rattle.wjs_io.specs.Stops.{StopsAfter}
+use Rattle.wjs_io.specs.declared.loops.ReadFault.{ReadFault}
+use Rattle.wjs_command.specs.Due.{most_bytes, IsTold}
+use Rattle.wjs_command.specs.Attempt.{Comes}
+use Rattle.wjs_command.proofs.Attempts.{serve_read, serve_failed, serve_spent, serve_long}
+use Rattle.wjs_command.proofs.command.read.Goals as goal
+
+pub returns-in-Ok : goal.returns-in-Ok
+returns-in-Ok g c =
+    let left = g.S.Source.left in
+    let counted = g.S.Source.faults in
+    let out = stream (g.O.Sink.held c.args.out.now) (g.O.Sink.held c.perform.new.out) (g.O.Sink.faults c.args.out.now) (g.O.Sink.faults c.perform.new.out) in
+    let P : List ℕ → Type 0 = λ bytes. Comes (IsTold c.args.options bytes) out c.perform.result in
+    serve_read c.args.options (left c.args.source.now) (left c.read_all.new.source) (counted c.args.source.now) (counted c.read_all.new.source) out c.in-Ok.bytes.items c.perform.result
+    c.requires c.in-Ok.ensures.all c.in-Ok.ensures.end c.in-Ok.ensures.within (subst P c.as_slice.ensures.value c.perform.ensures)
+
+pub returns-in-Err-TooLong : goal.returns-in-Err-TooLong
+returns-in-Err-TooLong g c =
+    let left = g.S.Source.left in
+    let counted = g.S.Source.faults in
+    let P : ReadFault → Type 0 = λ fault. StopsAfter most_bytes (left c.args.source.now) (left c.read_all.new.source) fault in
+    let stops = subst P c.in-Err-TooLong.field-0-is c.in-Err-TooLong.ensures.stops in
+    serve_long c.args.options (left c.args.source.now) (left c.read_all.new.source) (g.O.Sink.held c.args.out.now) (counted c.args.source.now) (counted c.read_all.new.source) (g.O.Sink.faults c.args.out.now) stops.0 c.refuse_length.result
+    c.requires stops.1 stops.2 c.refuse_length.ensures
+
+pub returns-in-Err-Failed : goal.returns-in-Err-Failed
+returns-in-Err-Failed g c =
+    let left = g.S.Source.left in
+    let counted = g.S.Source.faults in
+    serve_failed c.args.options (left c.args.source.now) (left c.read_all.new.source) (g.O.Sink.held c.args.out.now) (counted c.args.source.now) (counted c.read_all.new.source) (g.O.Sink.faults c.args.out.now)
+    (c.in-Err-Failed.ensures.failed (ap Err c.in-Err-Failed.field-0-is))
+
+pub returns-in-Err-OutOfMemory : goal.returns-in-Err-OutOfMemory
+returns-in-Err-OutOfMemory g c =
+    let left = g.S.Source.left in
+    let counted = g.S.Source.faults in
+    serve_spent c.args.options (left c.args.source.now) (left c.read_all.new.source) (g.O.Sink.held c.args.out.now) (counted c.args.source.now) (counted c.read_all.new.source) (g.O.Sink.faults c.args.out.now)

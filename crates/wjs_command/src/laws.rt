@@ -1,0 +1,24 @@
+//! What holds of the definitions that the program is proved by.
+ghost use Rattle.std.specs.Prelude.{◌≡◌, ℕ, List};
+ghost use Rattle.wjs_command.specs.declared.status.Status.{Status};
+ghost use Rattle.wjs_io.specs.Streams.{Stream};
+ghost use Rattle.wjs_command.specs.Due.{OneDue, OneUsage};
+ghost use Rattle.wjs_command.specs.Command.{EndsBy, IsComplete};
+
+use wjs_load::one_answer;
+use wjs_programs::one_program;
+
+/// Where no count of faults rose, a run ends with all that is due, or memory ran out.
+pub fn completeness()
+    ensures { (words : List (List ℕ)) (bytes : List ℕ) (source out err : Stream) (status : Status) → EndsBy words bytes source out err status → IsComplete words bytes source out err status }
+{}
+
+/// For words without a fault at most one thing is due: one list of bytes on out, one on err, one status, and one number of
+/// bytes that are taken. For words with a fault the same holds of all but the text behind `usage: `, which is `clap`'s.
+pub fn one_due()
+    ensures faultless { OneDue }
+    ensures usage { OneUsage }
+{
+    one_program();
+    one_answer();
+}

@@ -1,0 +1,16 @@
+//! What the program does for its words and the bytes of its source: it reads a script, runs it in a world, and writes what it
+//! prints on one sink and a line on another where it is refused or a fault comes.
+#![tactic(auto)]
+
+mod command;
+mod laws;
+mod perform;
+mod report;
+mod running;
+mod status;
+
+pub use command::command;
+pub use laws::{completeness, one_due};
+pub use perform::{perform, perform_in};
+pub use report::{Report, Stop};
+pub use status::Status;

@@ -1,0 +1,85 @@
+//! A script's bytes, checked or run.
+ghost use Rattle.std.specs.Prelude.{◌≡◌, ◌≤◌, [], codes, length};
+ghost use Rattle.wjs_io.specs.Streams.{stream};
+ghost use Rattle.wjs_start.specs.First.{IsNew};
+ghost use Rattle.wjs_machine.specs.Runs.{IsPlain};
+ghost use Rattle.wjs_command.specs.declared.status.Status.TheVariants as statuses;
+ghost use Rattle.wjs_command.specs.Table.{line};
+ghost use Rattle.wjs_command.specs.Due.{most_bytes, IsTold};
+ghost use Rattle.wjs_command.specs.Attempt.{Delivers, Comes, RefusesAs};
+
+use crate::report::{Report, Stop, done, refuse};
+use crate::running::{run_script, write_or_stop};
+use std::alloc::Global;
+use wjs_base::{OutOfMemory, Texts};
+use wjs_io::Sink;
+use wjs_load::{LoadFault, load};
+use wjs_overlay::Overlay;
+use wjs_store::WorldStore;
+use wjs_words::{Mode, Options};
+
+/// Does what the options ask with a script's bytes, in sparse worlds.
+pub fn perform<O: Sink>(
+    alloc: Global,
+    options: Options,
+    bytes: &[u8],
+    out: &mut O,
+) -> Result<Report, Stop>
+    requires { length bytes.now ≤ most_bytes }
+    ensures { Comes (IsTold options bytes.now) (stream (O.held out.old) (O.held out.new) (O.faults out.old) (O.faults out.new)) result }
+{
+    match Overlay::new(alloc) {
+        Ok(store) => perform_in(alloc, store, options, bytes, out),
+        Err(OutOfMemory) => Err(Stop::OutOfMemory),
+    }
+}
+
+/// Does what the options ask with a script's bytes, over a new store of worlds.
+pub fn perform_in<S: WorldStore + Drop, O: Sink>(
+    alloc: Global,
+    store: S,
+    options: Options,
+    bytes: &[u8],
+    out: &mut O,
+) -> Result<Report, Stop>
+    requires plain { IsPlain S.meaning }
+    requires new { IsNew (S.meaning store) }
+    requires within { length bytes.now ≤ most_bytes }
+    ensures { Comes (IsTold options bytes.now) (stream (O.held out.old) (O.held out.new) (O.faults out.old) (O.faults out.new)) result }
+{
+    let mut texts = match Texts::new(alloc) {
+        Ok(texts) => texts,
+        Err(_) => return Err(Stop::OutOfMemory),
+    };
+    let script = match load(alloc, bytes, &mut texts) {
+        Ok(script) => script,
+        Err(fault) => return refuse_or_stop(alloc, fault),
+    };
+    match options.mode {
+        Mode::Check => accept(alloc, out),
+        mode => run_script(alloc, store, texts, script, options.steps, mode, out),
+    }
+}
+
+/// The report of bytes that are no script.
+fn refuse_or_stop(alloc: Global, fault: LoadFault) -> Result<Report, Stop>
+    ensures { RefusesAs fault result }
+{
+    match fault {
+        LoadFault::Refused(refusal) => match refuse(alloc, refusal) {
+            Ok(report) => Ok(report),
+            Err(OutOfMemory) => Err(Stop::OutOfMemory),
+        },
+        LoadFault::OutOfMemory => Err(Stop::OutOfMemory),
+    }
+}
+
+/// Says that the bytes are a script.
+fn accept<O: Sink>(alloc: Global, out: &mut O) -> Result<Report, Stop>
+    ensures { Delivers (record { out = line (codes "ok"); err = []; status = statuses.Done }) (stream (O.held out.old) (O.held out.new) (O.faults out.old) (O.faults out.new)) result }
+{
+    match write_or_stop(b"ok\n", out) {
+        Ok(()) => Ok(done(alloc)),
+        Err(stop) => Err(stop),
+    }
+}

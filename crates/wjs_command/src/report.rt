@@ -1,0 +1,81 @@
+//! What a run comes to: its status, and the line that tells of it.
+ghost use Rattle.std.specs.Prelude.{◌≡◌, ◌++◌, [], IfOk, codes};
+ghost use Rattle.wjs_command.specs.declared.status.Status.TheVariants as statuses;
+ghost use Rattle.wjs_command.specs.Table.{line as as_line};
+ghost use Rattle.wjs_command.specs.Due.{text_of_refusal};
+ghost use Rattle.wjs_command.specs.Attempt.{IsReport};
+
+use crate::status::Status;
+use std::alloc::Global;
+use wjs_base::OutOfMemory;
+use wjs_load::Refusal;
+
+/// How a run ends whose output is written: the status, and the line on errors, which is empty where there is none.
+#[derive(Debug, Drop)]
+pub struct Report {
+    pub status: Status,
+    pub line: Vec<u8>,
+}
+
+/// Why a run ended before its end.
+#[derive(Clone, Copy, Debug, PartialEq, Eq)]
+pub enum Stop {
+    /// The source failed.
+    ReadFault,
+    /// What is due on out could not be written.
+    OutFault,
+    OutOfMemory,
+}
+
+/// The report of a run that ended normally: there is no line.
+pub fn done(alloc: Global) -> Report
+    ensures { IsReport statuses.Done [] result }
+{
+    Report {
+        status: Status::Done,
+        line: Vec::new(alloc),
+    }
+}
+
+/// A report whose line is these two texts and an LF.
+pub fn report_line(
+    alloc: Global,
+    status: Status,
+    first: &[u8],
+    second: &[u8],
+) -> Result<Report, OutOfMemory>
+    ensures { IfOk result (IsReport status (as_line (first.now ++ second.now))) }
+{
+    let mut line = Vec::new(alloc);
+    if line.extend_from_slice(first).is_err()
+        || line.extend_from_slice(second).is_err()
+        || line.push(b'\n').is_err()
+    {
+        return Err(OutOfMemory);
+    }
+    Ok(Report { status, line })
+}
+
+/// The report of bytes that are no script.
+pub fn refuse(alloc: Global, refusal: Refusal) -> Result<Report, OutOfMemory>
+    ensures { IfOk result (IsReport statuses.Refused (as_line (text_of_refusal refusal))) }
+{
+    match refusal {
+        Refusal::NotUtf8 => report_line(alloc, Status::Refused, b"not UTF-8", b""),
+        Refusal::NotAToken { line } => refuse_token(alloc, line),
+        Refusal::NotAScript => report_line(alloc, Status::Refused, b"syntax error", b""),
+    }
+}
+
+/// The report of bytes where no piece begins at a place on this line.
+fn refuse_token(alloc: Global, line: u64) -> Result<Report, OutOfMemory>
+    ensures { IfOk result (IsReport statuses.Refused (as_line (text_of_refusal (Refusal.NotAToken line)))) }
+{
+    match format!(in alloc; "line {line}: not a token\n") {
+        Ok(text) => Ok(Report {
+            status: Status::Refused,
+            line: text.into_bytes(),
+        }),
+        Err(_) => Err(OutOfMemory),
+    }
+}

@@ -1,0 +1,16 @@
+//! Laws over the definitions of what bytes spell.
+ghost use Rattle.wjs_load.specs.Laws.{OneAnswer, OneRefusal, ProgramOrRefusal};
+
+use wjs_lexer::one_reading;
+use wjs_programs::one_program;
+
+/// Bytes spell one program, or are refused for one reason, and never both. So the answers of [`load`](crate::load) other than
+/// `OutOfMemory` exclude each other.
+pub fn one_answer()
+    ensures refusal { OneRefusal }
+    ensures either { ProgramOrRefusal }
+    ensures answer { OneAnswer }
+{
+    one_reading();
+    one_program();
+}

@@ -1,5 +1,0 @@
-mod Deliveries
-mod Beginnings
-mod Endings
-mod Scripts
-mod Attempts
