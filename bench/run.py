@@ -10,7 +10,8 @@ print what the program prints. A script's comment
 `// steps: N` tells how many steps it takes; --steps finds that by bisection, and writes it there.
 
 For a script the columns are seconds, nanoseconds a step, and seconds as a multiple of mujs's; for a generated script seconds,
-megabytes at the peak, and bytes a world. The peak is the kernel's, which counts no less than this runner itself had.
+megabytes at the peak, and bytes a world. The peak is the kernel's, which counts no less than this runner itself had. A loop with
+1 MiB of dead code in its body goes on 100,000 times by a labelled `continue`, and by one without label: it should take the same time.
 """
 import glob
 import os
@@ -101,6 +102,16 @@ def time_generated(runs, program, number):
     print(f'gen {number:5} {seconds:7.3f} s {peak / 1e6:8.1f} MB {peak / number:8.0f} bytes a world', flush=True)
 
 
+def time_labels(runs, program):
+    dead = 'dead(1);\n' * (2**20 // 9)
+    looping = lambda label, jump: f'{label} for (var i = 0; i < 100000; i++) {{ {jump}; {dead} }}'
+    scripts = [looping('a:', 'continue a'), looping('', 'continue')]
+    (status, _, labelled, _), (other, _, plain, _) = best_of_each(runs, [(program, script, AS_STARTED) for script in scripts])
+    if status or other:
+        sys.exit(f'labels: the program ended with {status} and {other}')
+    print(f'labels   {labelled:8.3f} s {plain:8.3f} s without {labelled / plain:8.2f} x', flush=True)
+
+
 def main(words):
     runs, finds = 3, False
     while words and words[0] in ('--runs', '--steps'):
@@ -113,6 +124,7 @@ def main(words):
     ours = sum(seconds for seconds, _ in times)
     theirs = sum(seconds or 0 for _, seconds in times)
     print(f'all      {ours:8.3f} s' + (f'                {ours / theirs:8.2f} x mujs' if theirs else ''), flush=True)
+    time_labels(runs, program)
     for number in NUMBERS:
         time_generated(runs, program, number)
 
