@@ -2,6 +2,8 @@ pub mod Names
 pub mod RenamedForms
 pub mod RenamedJumps
 pub mod RenamedLevels
+pub mod RenamedNames
 pub mod RenamedStands
 pub mod RenamedTokens
+pub mod RenamedTrees
 pub mod Renaming
