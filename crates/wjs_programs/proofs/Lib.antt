@@ -1,4 +1,6 @@
 pub mod Names
+pub mod OneProgram
+pub mod OtherTokens
 pub mod RenamedForms
 pub mod RenamedJumps
 pub mod RenamedLevels
@@ -7,3 +9,4 @@ pub mod RenamedStands
 pub mod RenamedTokens
 pub mod RenamedTrees
 pub mod Renaming
+pub mod Renumbering
