@@ -1,1 +1,9 @@
 pub mod Names
+pub mod Parts
+pub mod Scopes
+pub mod Declared
+pub mod Steps
+pub mod Listing
+pub mod Among
+pub mod Rows
+pub mod Whole
