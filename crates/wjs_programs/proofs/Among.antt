@@ -1,5 +1,5 @@
 -- The scopes around the nodes of a program, by the texts of their names.
-use Rattle.std.specs.Prelude.{◌≡◌, ℕ, List, [], ◌∷◌, ◌++◌, All, Option, None, Some}
+use Rattle.std.specs.Prelude.{ℕ, List, [], ◌∷◌, ◌++◌, All, Option, None, Some}
 use Rattle.std.proofs.Common.{refl, sym, subst, inl, inr}
 use Rattle.wjs_base.specs.declared.ids.TextId.{TextId}
 use Rattle.wjs_base.specs.Text.{Table, IsTable, Finds, Has as InTable}

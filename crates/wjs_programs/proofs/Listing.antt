@@ -52,9 +52,9 @@ module _ (texts : Table) (ns : List NumberedNode) (HasEntry : ℕ → Entry → 
     expr_part around k (Name x) i used h a = named_leaf k i around (node.Name (text_in texts x)) (x ∷ []) h.0 a h.1 refl refl
     expr_part around k (Number n) i used h a = plain_leaf k i around (node.NumberLit n.number) h.0 a h.1 refl refl
     expr_part around k (Text x) i used h a = plain_leaf k i around (node.TextLit (text_in texts x)) h.0 a h.1 refl refl
-    expr_part around k This i used h a = plain_leaf k i around (node.This) h.0 a h.1 refl refl
-    expr_part around k ThisWorld i used h a = plain_leaf k i around (node.ThisWorld) h.0 a h.1 refl refl
-    expr_part around k Null i used h a = plain_leaf k i around (node.NullLit) h.0 a h.1 refl refl
+    expr_part around k This i used h a = plain_leaf k i around node.This h.0 a h.1 refl refl
+    expr_part around k ThisWorld i used h a = plain_leaf k i around node.ThisWorld h.0 a h.1 refl refl
+    expr_part around k Null i used h a = plain_leaf k i around node.NullLit h.0 a h.1 refl refl
     expr_part around k (Boolean b) i used h a = plain_leaf k i around (node.BoolLit b) h.0 a h.1 refl refl
     expr_part around k (Paren e) i used h a = plain_part i around (λ (v : ℕ). node.Paren v) h.2 a h.3 refl refl (expr_part around (k - 1) e h.0 h.1 h.4 (of_parts i around (h.0 ∷ []) h.2 a refl).0)
     expr_part around k (ArrayLit xs) i used h a = plain_part i around (λ (v : List (Option ℕ)). node.ArrayLit v) h.2 a h.3 refl refl (items_part around (k - 1) xs h.0 h.1 h.4 (of_parts i around (item_parts h.0) h.2 a refl))
@@ -133,7 +133,7 @@ module _ (texts : Table) (ns : List NumberedNode) (HasEntry : ℕ → Entry → 
     pub stmt_part : (around : Scopes) (k : ℕ) (t : Stmt) (i : NodeId) (used : List ℕ) → StmtShows ns t i used → Among i around → Part HasEntry ℕ i.0 k used k (stmt texts around k t)
     stmt_part around k (Block body) i used h a = plain_part i around (λ (v : List ℕ). node.Block v) h.2 a h.3 refl refl (stmts_part around (k - 1) body h.0 h.1 h.4 (of_parts i around (h.0) h.2 a refl))
     stmt_part around k (Var vs end) i used h a = named_part i around (λ (v : List (Units × Option ℕ)). node.Var v) (variable_names vs) h.2 a h.3 refl (names_shown ns vs h.0 h.1 h.4) (variables_part around (k - 1) vs h.0 h.1 h.4 (of_parts i around (initialisers h.0) h.2 a refl))
-    stmt_part around k Empty i used h a = plain_leaf k i around (node.Empty) h.0 a h.1 refl refl
+    stmt_part around k Empty i used h a = plain_leaf k i around node.Empty h.0 a h.1 refl refl
     stmt_part around k (ExprStmt e end) i used h a = plain_part i around (λ (v : ℕ). node.Expr v) h.2 a h.3 refl refl (expr_part around (k - 1) e h.0 h.1 h.4 (of_parts i around (h.0 ∷ []) h.2 a refl).0)
     stmt_part around k (If e s) i used h a =
         let z = of_parts i around (h.0 ∷ h.1 ∷ []) h.4 a refl in

@@ -1,15 +1,14 @@
 -- The nodes of a unit by number, with the places of their names.
-use Rattle.std.specs.Prelude.{◌≡◌, ℕ, zero, suc, ◌+◌, List, [], ◌∷◌, map as each, Option, None, Some, slice_get}
+use Rattle.std.specs.Prelude.{◌≡◌, ℕ, zero, suc, ◌+◌, List, [], ◌∷◌, map as each, Option, Some, slice_get}
 use Rattle.std.specs.Option.{option_map}
-use Rattle.std.proofs.Common.{refl, sym, ap, subst, ◌∙◌, arith}
+use Rattle.std.proofs.Common.{refl, ap, ◌∙◌, arith}
 use Rattle.std.proofs.lemmas.Option.{none-some, same_Some, slice_get-map}
 use Rattle.wjs_base.specs.declared.ids.TextId.{TextId}
-use Rattle.wjs_base.specs.Text.{Table, Has as InTable, IsTable, Finds}
+use Rattle.wjs_base.specs.Text.{Table, IsTable, Finds}
 use Rattle.wjs_tree.specs.declared.node.Node.{Node}
 use Rattle.wjs_tree.specs.declared.node.NodeId.{NodeId}
 use Rattle.wjs_tree.specs.Shows.{Has}
 use Rattle.wjs_scope.specs.declared.place.Place.{Place as Found}
-use Rattle.wjs_scope.specs.Scopes.{resolve}
 use Rattle.wjs_scope.specs.Places.{ArePlaces, arguments_text, placed_names}
 use Rattle.wjs_scope.specs.Contents.{resolve_text}
 use Rattle.wjs_content.specs.Values.{same_text}

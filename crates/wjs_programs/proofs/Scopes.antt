@@ -1,5 +1,5 @@
 -- Scopes of names, and scopes of texts in which the same names are found.
-use Rattle.std.specs.Prelude.{◌≡◌, ℕ, suc, Bool, true, false, if◌then◌else◌, List, [], ◌∷◌, ◌++◌, map as each, All, nat_eq, Option, None, Some, slice_get, unwrap_or}
+use Rattle.std.specs.Prelude.{◌≡◌, ℕ, suc, Bool, true, false, if◌then◌else◌, List, [], ◌∷◌, ◌++◌, map as each, All, nat_eq, Option, None, Some, unwrap_or}
 use Rattle.std.specs.List.{list_any}
 use Rattle.std.proofs.Common.{refl, sym, ap, ◌∙◌, ◌||◌, append_assoc, append-nil}
 use Rattle.std.proofs.lemmas.Bool.{eqb-true}
@@ -9,7 +9,6 @@ use Rattle.std.proofs.lemmas.Option.{slice_get-get_or, slice_get_within}
 use Rattle.wjs_base.specs.declared.ids.TextId.{TextId}
 use Rattle.wjs_base.specs.Text.{Units, Table, Has, IsTable, Denotes, Finds}
 use Rattle.wjs_tree.specs.Trees.{Elements}
-use Rattle.wjs_scope.specs.declared.place.Place.{Place}
 use Rattle.wjs_scope.specs.declared.place.Place.TheVariants.{Local, Global}
 use Rattle.wjs_scope.specs.Declarations.{elements_declared, with_name, with_names, variables}
 use Rattle.wjs_scope.specs.Scopes.{Scope, is_in, place_past, some_name, function_scope, with_own_name}
@@ -19,7 +18,7 @@ use Rattle.wjs_scope.proofs.Texts.{by_text}
 use Rattle.wjs_content.specs.Values.{same_text, text_Decides}
 use Rattle.wjs_content.specs.Tables.{text_in}
 use Rattle.wjs_model.specs.Texts.{HasText}
-use Rattle.wjs_programs.specs.Numbered.{Scopes, functions_declared, texts_in, names_within, within}
+use Rattle.wjs_programs.specs.Numbered.{Scopes, functions_declared, names_within, within}
 
 -- ---- the names of a function's scope, in whatever order
 

@@ -1,5 +1,5 @@
 -- What is known of a program's nodes by the scopes around them, and the parts of the program that follow from it.
-use Rattle.std.specs.Prelude.{◌≡◌, ℕ, List, [], ◌∷◌, ◌++◌, Option, None, Some}
+use Rattle.std.specs.Prelude.{ℕ, List, [], ◌∷◌, ◌++◌, Option, None, Some}
 use Rattle.std.specs.List.{AllByRecursion}
 use Rattle.std.proofs.Common.{refl, inl, inr}
 use Rattle.wjs_base.specs.declared.ids.TextId.{TextId}
