@@ -10,3 +10,11 @@ pub mod RenamedTokens
 pub mod RenamedTrees
 pub mod Renaming
 pub mod Renumbering
+pub mod Parts
+pub mod Scopes
+pub mod Declared
+pub mod Steps
+pub mod Listing
+pub mod Among
+pub mod Rows
+pub mod Whole

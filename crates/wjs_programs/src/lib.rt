@@ -5,4 +5,4 @@
 
 mod laws;
 
-pub use laws::{one_program, program_or_none};
+pub use laws::{one_program, program_or_none, units_are_trees};
