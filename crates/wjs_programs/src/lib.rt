@@ -2,3 +2,7 @@
 //!
 //! There is no code: each law is the contract of a function that does nothing.
 #![tactic(auto)]
+
+mod laws;
+
+pub use laws::{one_program, program_or_none, units_are_trees};

@@ -1,0 +1,17 @@
+//! The laws.
+ghost use Rattle.wjs_programs.specs.Laws.{OneProgram, ProgramOrNone, UnitsAreTrees};
+
+/// A unit is the tree of its program: its nodes are numbered as the tree's, and its names are found where the tree's are.
+pub fn units_are_trees()
+    ensures { UnitsAreTrees }
+{}
+
+/// Bytes spell one program at most, whatever table of texts numbers their texts.
+pub fn one_program()
+    ensures { OneProgram }
+{}
+
+/// Bytes that spell a program by one table of texts spell one by each.
+pub fn program_or_none()
+    ensures { ProgramOrNone }
+{}
