@@ -2,7 +2,7 @@
 ghost use Rattle.wjs_load.specs.Laws.{OneAnswer, OneRefusal, ProgramOrRefusal};
 
 use wjs_lexer::one_reading;
-use wjs_programs::one_program;
+use wjs_programs::{one_program, program_or_none};
 
 /// Bytes spell one program, or are refused for one reason, and never both. So the answers of [`load`](crate::load) other than
 /// `OutOfMemory` exclude each other.
@@ -13,4 +13,5 @@ pub fn one_answer()
 {
     one_reading();
     one_program();
+    program_or_none();
 }

@@ -2,7 +2,7 @@ use Rattle.wjs_command.proofs.OneDue.{one_due, one_usage}
 use Rattle.wjs_command.proofs.laws.one_due.Goals as goal
 
 pub returns-clause-faultless : goal.returns-clause-faultless
-returns-clause-faultless c = one_due c.one_answer.ensures.refusal c.one_answer.ensures.either c.one_answer.ensures.answer c.one_program.ensures.one
+returns-clause-faultless c = one_due c.one_answer.ensures.refusal c.one_answer.ensures.either c.one_answer.ensures.answer c.one_program.ensures
 
 pub returns-clause-usage : goal.returns-clause-usage
 returns-clause-usage c = one_usage

@@ -5,7 +5,7 @@ pub returns-clause-refusal : goal.returns-clause-refusal
 returns-clause-refusal c = one_refusal c.one_reading.ensures.fault c.one_reading.ensures.either
 
 pub returns-clause-either : goal.returns-clause-either
-returns-clause-either c = program_or_refusal c.one_reading.ensures.fault c.one_reading.ensures.either c.one_program.ensures.one c.one_program.ensures.either
+returns-clause-either c = program_or_refusal c.one_reading.ensures.fault c.one_reading.ensures.either c.one_program.ensures c.program_or_none.ensures
 
 pub returns-clause-answer : goal.returns-clause-answer
-returns-clause-answer c = one_answer c.one_reading.ensures.fault c.one_reading.ensures.either c.one_program.ensures.one c.one_program.ensures.either
+returns-clause-answer c = one_answer c.one_reading.ensures.fault c.one_reading.ensures.either c.one_program.ensures c.program_or_none.ensures
