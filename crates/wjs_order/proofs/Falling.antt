@@ -31,17 +31,17 @@ once_drop (suc n) [] h = tt
 once_drop (suc n) (m ∷ us) h = once_drop n us h.1
 
 others : (t : List ℕ) (k v : ℕ) (us : List ℕ) → (IsUsed us k → ⊥) → map (number_in (set t k v)) us ≡ map (number_in t) us
-others t k v [] no = refl
-others t k v (m ∷ us) no =
-    let ne : m ≢ k = λ e. no (inl (sym e)) in
+others t k v [] apart = refl
+others t k v (m ∷ us) apart =
+    let ne : m ≢ k = λ e. apart (inl (sym e)) in
     let here = get_or-set_other t k m v 0 ne in
-    let rest = others t k v us (λ h. no (inr h)) in
+    let rest = others t k v us (λ h. apart (inr h)) in
     cc
 
 put : (t more : List ℕ) (k v : ℕ) → v ≡ length more → k < length t → (IsUsed more k → ⊥) → map (number_in t) more ≡ falling (length more) → map (number_in (set t k v)) (k ∷ more) ≡ falling (length (k ∷ more))
-put t more k v long lt no same =
+put t more k v long lt apart same =
     let here = get_or-set_same t k v 0 lt in
-    let rest = others t k v more no in
+    let rest = others t k v more apart in
     cc
 
 -- the numbers from one of them on have their new numbers in the table

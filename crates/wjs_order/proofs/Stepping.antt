@@ -78,7 +78,7 @@ among_left (x ∷ xs) ys c (inl e) = inl e
 among_left (x ∷ xs) ys c (inr h) = inr (among_left xs ys c h)
 
 -- a node that waits is one of those that the trees are made of
-waits : (ns : List Node) (xs : List NodeId) (us : List ℕ) → AllStand ns 200 (on_side Around xs) us → (c : NodeId) → IsAmong xs c → IsUsed us c.0
+pub waits : (ns : List Node) (xs : List NodeId) (us : List ℕ) → AllStand ns 200 (on_side Around xs) us → (c : NodeId) → IsAmong xs c → IsUsed us c.0
 waits ns xs us a c h =
     let part = found ns 200 (on_side Around xs) (c, Around) us a (among_around xs c h) in
     part.among c.0 (inside ns 200 (omega arith) c part.own [] c part.stands refl)

@@ -12,12 +12,13 @@ use Rattle.wjs_tree.specs.Shows.{Has, ElementsShow, IsBody}
 use Rattle.wjs_tree.specs.Used.{IsUsed, IsOnce, AreApart}
 use Rattle.wjs_tree.proofs.Using.{used_cases, once_both}
 use Rattle.wjs_tree.proofs.OneUse.{elements_one_use}
-use Rattle.wjs_scope.specs.Nesting.{Around, on_side}
+use Rattle.wjs_scope.specs.Nesting.{Around, on_side, IsAmong}
 use Rattle.wjs_scope.specs.Places.{IsScript}
 use Rattle.wjs_scope.proofs.Standing.{AllStand, elements}
 use Rattle.wjs_order.specs.Parts.{parts_of}
+use Rattle.wjs_order.specs.Moves.{AreBehind}
 use Rattle.wjs_order.proofs.Counting.{AreUnder, few}
-use Rattle.wjs_order.proofs.Stepping.{step, first_node, parts_low}
+use Rattle.wjs_order.proofs.Stepping.{step, first_node, parts_low, waits, behind}
 
 -- the nodes that have been taken and those of which what waits is made are the tree's, in its order
 pub record Taking (ns : List Node) (body : NodeId) (taken : List ℕ) (stack : List NodeId) : Type 0 where
@@ -29,6 +30,16 @@ pub record Taking (ns : List Node) (body : NodeId) (taken : List ℕ) (stack : L
   pub apart : AreApart taken rest
   pub taken_low : All (λ k. k < body.0) taken
   pub stack_low : All (λ (i : NodeId). i.0 < body.0) stack
+
+-- a script's elements stand for trees
+script_stands : (ns : List Node) (body : NodeId) (s : IsScript ns body) → AllStand ns 200 (on_side Around s.list) s.used
+script_stands ns body s = elements ns 200 Around s.tree s.list s.used s.shows s.low
+
+pub script_behind : (ns : List Node) (body : NodeId) (s : IsScript ns body) → AreBehind ns s.used
+script_behind ns body s = behind (length s.used) ns s.list s.used (omega arith) (script_stands ns body s)
+
+pub script_uses : (ns : List Node) (body : NodeId) (s : IsScript ns body) (c : NodeId) → IsAmong s.list c → IsUsed s.used c.0
+script_uses ns body s c h = waits ns s.list s.used (script_stands ns body s) c h
 
 -- the nodes of a body's elements are the same for each tree that they stand for
 pub one_used : (ns : List Node) (body : NodeId) (tree : Elements) (list : List NodeId) (used : List ℕ) → Has ns body (nodes.Program list) → ElementsShow ns tree list used → (other : Elements) (is : IsBody ns other body) → used ≡ is.used
@@ -44,7 +55,7 @@ begins ns body node stack s has below e =
     let is : stack ≡ parts_of node = e ∙ append-nil (parts_of node) in
     record {
       rest = s.used;
-      stand = subst (λ z. AllStand ns 200 (on_side Around z) s.used) (sym (is ∙ ap parts_of (sym same))) (elements ns 200 Around s.tree s.list s.used s.shows s.low);
+      stand = subst (λ z. AllStand ns 200 (on_side Around z) s.used) (sym (is ∙ ap parts_of (sym same))) (script_stands ns body s);
       all = one_used ns body s.tree s.list s.used s.has s.shows;
       once_taken = tt;
       once_rest = s.once;
