@@ -1,2 +1,4 @@
 pub mod Names
 pub mod Standing
+pub mod Tokens
+pub mod Knowing

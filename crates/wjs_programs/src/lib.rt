@@ -2,3 +2,7 @@
 //!
 //! There is no code: each law is the contract of a function that does nothing.
 #![tactic(auto)]
+
+mod known;
+
+pub use known::nodes_are_known;
