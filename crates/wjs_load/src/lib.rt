@@ -1,7 +1,7 @@
 //! Scripts that are loaded: bytes as units of a run.
 #![tactic(auto)]
 
-mod known;
+mod script;
 mod tokens;
 mod units;
 
