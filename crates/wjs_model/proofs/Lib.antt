@@ -6,3 +6,4 @@ pub mod Holdings
 pub mod Placed
 pub mod Standing
 pub mod Others
+pub mod NamePlaces

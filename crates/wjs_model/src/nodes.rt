@@ -1,6 +1,9 @@
 //! What the nodes of a unit are, and where their names are found.
-ghost use Rattle.std.specs.Prelude.{◌≡◌, MatchOption};
-ghost use Rattle.wjs_model.specs.Units.{node_of, place_of, var_place_of, place_or_global};
+ghost use Rattle.std.specs.Prelude.{◌≡◌, ◌<◌, length, MatchOption};
+ghost use Rattle.wjs_base.specs.Text.{Table};
+ghost use Rattle.wjs_scope.specs.Places.{placed_names};
+ghost use Rattle.wjs_meaning.specs.Trees.{name_place};
+ghost use Rattle.wjs_model.specs.Units.{node_of, place_in, place_or_global, unit_in};
 
 use crate::unit::Unit;
 use wjs_scope::Place;
@@ -18,17 +21,10 @@ impl Unit {
         }
     }
 
-    /// The place of the name at a node, and the global object where the node is no name.
-    pub fn place(&self, node: NodeId) -> Place
-        ensures { result ≡ place_of self.now node.0 }
-    {
-        place_or_global(self.places.get(node, 0))
-    }
-
-    /// The place of the name of this number among those that the node's `var` declares, and the global object where it
-    /// declares none.
-    pub fn var_place(&self, node: NodeId, at: usize) -> Place
-        ensures { result ≡ var_place_of self.now node.0 at }
+    /// The place of the name of this number among a node's own: a Name's, or those that its `var` declares. Where the node has
+    /// no name of this number, it is any place.
+    pub fn place(&self, node: NodeId, at: usize) -> Place
+        ensures { at < length (placed_names (node_of self.now node)) → (t : Table) → name_place (unit_in t self.now) node.0 at ≡ place_in result }
     {
         place_or_global(self.places.get(node, at))
     }
