@@ -2,3 +2,11 @@ pub mod Names
 pub mod Standing
 pub mod Tokens
 pub mod Knowing
+pub mod Parts
+pub mod Scopes
+pub mod Declared
+pub mod Steps
+pub mod Listing
+pub mod Among
+pub mod Rows
+pub mod Whole

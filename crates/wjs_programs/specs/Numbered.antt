@@ -6,7 +6,7 @@ use Rattle.wjs_base.specs.Text.{Table}
 use Rattle.wjs_tree.specs.Trees.{Expr, Optional, Arguments, Items, Properties, Variables, Init, Stmt, Stmts, Clauses, Elements, Name, Number, Text, This, ThisWorld, Null, Boolean, Paren, ArrayLit, ObjectLit, Function, Dot, At, Call, NewWith, NewBare, Postfix, Prefix, Binary, Cond, Assign, Comma, Absent, Present, NoArgument, Argument, NoItem, Hole, Item, LastItem, NoProperty, Property, LastProperty, NoVariable, Variable, NoInit, InitExpr, InitVar, Block, Var, Empty, ExprStmt, If, IfElse, DoWhile, While, For, ForIn, ForVarIn, Continue, Break, Return, Throw, Label, Switch, TryCatch, TryFinally, TryBoth, Within, NoStmt, MoreStmts, NoClause, Case, Default, NoElement, Statement, FunctionDecl}
 use Rattle.wjs_scope.specs.Declarations.{variable_names, init_names, elements_declared}
 use Rattle.wjs_scope.specs.Places.{arguments_text}
-use Rattle.wjs_scope.specs.Answers.{resolve_text}
+use Rattle.wjs_scope.specs.Contents.{resolve_text}
 use Rattle.wjs_content.specs.Values.{Text as Units, same_text}
 use Rattle.wjs_content.specs.Tables.{text_in}
 use Rattle.wjs_meaning.specs.Trees.{Key, Node, Place, Tree}
@@ -26,6 +26,10 @@ pub record Entry : Type 0 where
 -- a node that has no names of its own, before its parts
 abbrev pub plain : Node → List Entry → List Entry
 plain n parts = record { node = n; places = [] } ∷ parts
+
+-- a block before its statements
+abbrev pub block : List ℕ × List Entry → List Entry
+block l = plain (node.Block l.0) l.1
 
 -- the first number below those of the nodes that begin at k
 abbrev pub below : ℕ → List Entry → ℕ
@@ -113,11 +117,8 @@ module _ (texts : Table) where
     init around k (InitExpr e) = (node.InitExpr k, expr around k e)
     init around k (InitVar vs) = let l = variables around k vs in (node.InitVar l.0, l.1)
 
-    pub block : Scopes → ℕ → Stmts → List Entry
-    block around k body = let l = stmts around (k - 1) body in plain (node.Block l.0) l.1
-
     pub stmt : Scopes → ℕ → Stmt → List Entry
-    stmt around k (Block body) = block around k body
+    stmt around k (Block body) = block (stmts around (k - 1) body)
     stmt around k (Var vs end) = let l = variables around (k - 1) vs in record { node = node.Var l.0; places = places_of around (variable_names vs) } ∷ l.1
     stmt around k Empty = plain node.Empty []
     stmt around k (ExprStmt e end) = plain (node.Expr (k - 1)) (expr around (k - 1) e)
@@ -155,17 +156,17 @@ module _ (texts : Table) where
     stmt around k (Label x s) = plain (node.Label (text_in texts x) (k - 1)) (stmt around (k - 1) s)
     stmt around k (Switch e list) = let l = expr around (k - 1) e in let r = clauses around (below (k - 1) l) list in plain (node.Switch (k - 1) r.0) (l ++ r.1)
     stmt around k (TryCatch b x c) =
-        let l = block around (k - 1) b in
+        let l = block (stmts around (k - 1 - 1) b) in
         let q = below (k - 1) l in
-        plain (node.Try (k - 1) (Some (text_in texts x, q)) None) (l ++ block ((text_in texts x ∷ []) ∷ around) q c)
-    stmt around k (TryFinally b f) = let l = block around (k - 1) b in let q = below (k - 1) l in plain (node.Try (k - 1) None (Some q)) (l ++ block around q f)
+        plain (node.Try (k - 1) (Some (text_in texts x, q)) None) (l ++ block (stmts ((text_in texts x ∷ []) ∷ around) (q - 1) c))
+    stmt around k (TryFinally b f) = let l = block (stmts around (k - 1 - 1) b) in let q = below (k - 1) l in plain (node.Try (k - 1) None (Some q)) (l ++ block (stmts around (q - 1) f))
     stmt around k (TryBoth b x c f) =
-        let l = block around (k - 1) b in
+        let l = block (stmts around (k - 1 - 1) b) in
         let q = below (k - 1) l in
-        let h = block ((text_in texts x ∷ []) ∷ around) q c in
+        let h = block (stmts ((text_in texts x ∷ []) ∷ around) (q - 1) c) in
         let r = below q h in
-        plain (node.Try (k - 1) (Some (text_in texts x, q)) (Some r)) (l ++ (h ++ block around r f))
-    stmt around k (Within e b) = let l = expr around (k - 1) e in let p = below (k - 1) l in plain (node.Within (k - 1) p) (l ++ block around p b)
+        plain (node.Try (k - 1) (Some (text_in texts x, q)) (Some r)) (l ++ (h ++ block (stmts around (r - 1) f)))
+    stmt around k (Within e b) = let l = expr around (k - 1) e in let p = below (k - 1) l in plain (node.Within (k - 1) p) (l ++ block (stmts around (p - 1) b))
 
     pub stmts : Scopes → ℕ → Stmts → List ℕ × List Entry
     stmts around k NoStmt = ([], [])

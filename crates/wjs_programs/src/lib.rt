@@ -4,5 +4,7 @@
 #![tactic(auto)]
 
 mod known;
+mod laws;
 
 pub use known::nodes_are_known;
+pub use laws::units_are_trees;
