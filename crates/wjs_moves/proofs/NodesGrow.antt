@@ -21,7 +21,7 @@ use Rattle.wjs_content.proofs.Growth.{text_stays}
 use Rattle.wjs_meaning.specs.Trees.{Spelled, Init, InitVar, Name, TextLit, ObjectLit, Function, Dot, Var, For, ForVarIn, Continue, Break, Label, Try, FunctionDecl}
 use Rattle.wjs_meaning.specs.Reading.{numbers, number, spelt_in, key_in, pair_in, variable_in, init_in, handler_in, label_in, node_in}
 use Rattle.wjs_model.specs.declared.unit.Unit.{Unit as Program}
-use Rattle.wjs_model.specs.Units.{unit_in, place_in, place_of, var_place_of}
+use Rattle.wjs_model.specs.Units.{unit_in, rows_from}
 use Rattle.wjs_model.specs.Texts.{HasText, KnowsSpelt, KnowsKey, KnowsInit, KnowsHandler, KnowsNode, KnowsUnit}
 use Rattle.wjs_moves.proofs.Lists.{each_alike}
 
@@ -85,4 +85,4 @@ module _ (old new : Table) (g : Grows old new) where
   pub unit_grows : (u : Program) → KnowsUnit old u → unit_in new u ≡ unit_in old u
   unit_grows u k =
       let nodes = each_alike (node_in new) (node_in old) (KnowsNode old) node_grows u.program.nodes k in
-      λ i. record { nodes = nodes i; body = u.program.body.0; place = λ k. place_in (place_of u k); var_place = λ k at. place_in (var_place_of u k at) }
+      λ i. record { nodes = nodes i; body = u.program.body.0; places = rows_from u 0 u.program.nodes }

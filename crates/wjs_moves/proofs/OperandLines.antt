@@ -1,5 +1,5 @@
 -- The entry of a literal, of `this` or of a name does what the operand does.
-use Rattle.std.proofs.Common.{◌≡◌, ℕ, zero, suc, Option, None, Some, ap, ◌∙◌}
+use Rattle.std.proofs.Common.{◌≡◌, ℕ, zero, suc, ◌<◌, lit<, Option, None, Some, sym, ap, ◌∙◌, subst, length}
 use Rattle.wjs_base.specs.declared.ids.TextId.{TextId}
 use Rattle.wjs_base.specs.declared.ids.WorldId.{WorldId}
 use Rattle.wjs_base.specs.declared.ids.ObjId.{ObjId}
@@ -10,15 +10,14 @@ use Rattle.wjs_tree.specs.declared.node.NodeId.{NodeId}
 use Rattle.wjs_tree.specs.declared.node.Node.{Node}
 use Rattle.wjs_tree.specs.declared.node.Node.TheVariants as nodes
 use Rattle.wjs_scope.specs.declared.place.Place.{Place as Found}
+use Rattle.wjs_scope.specs.Places.{placed_names}
 use Rattle.wjs_content.specs.Values.{Text, Value, Object, value_or_undefined}
 use Rattle.wjs_content.specs.Names.{slot}
 use Rattle.wjs_content.specs.Objects.{fixed, scope_up}
 use Rattle.wjs_content.specs.Plans.{Plan, Gives as Answers, Reads, Writes, Lists}
 use Rattle.wjs_content.specs.Tables.{text_in, value_in}
-use Rattle.wjs_meaning.specs.declared.trouble.Trouble.TheVariants.{NotDefined}
-use Rattle.wjs_meaning.specs.Trees.{Place}
-use Rattle.wjs_meaning.specs.Deeds.{St, Env, Goal, AtExpr, AtTarget, Local, Global, Completion, Gives, Refers, Throws, Act, Ret, Tick, Eval, Sub, Do, Look, Read, Create, interp, then_do, carry_out, give, tree_here}
-use Rattle.wjs_meaning.specs.Errors.{error_of}
+use Rattle.wjs_meaning.specs.Trees.{Place, name_place}
+use Rattle.wjs_meaning.specs.Deeds.{St, Env, Goal, AtExpr, Local, Global, Completion, Gives, Refers, Throws, Act, Ret, Tick, Eval, Sub, Do, Read, interp, then_do, carry_out, give, tree_here}
 use Rattle.wjs_meaning.specs.Reading.{node_in}
 use Rattle.wjs_meaning.specs.References.{reference_at, value_of, defined_value}
 use Rattle.wjs_meaning.specs.Expressions.{expr_of, target_of}
@@ -84,24 +83,31 @@ module _ {S : Type 0} (meaning : S → Meaning) (c : Config S) (f : Frame) (e : 
   pub value_is : (n : Node) (v : Numbered) → node_among c.units.items f.tree e ≡ n → HasValue c v → ((t : Table) → expr_of e.0 (node_in t n) (env_in meaning c t f) ≡ give (value_in t v)) → IsOperand meaning c f (part.Expr e) (operands.Value v)
   value_is n v is h gives = record { has = h; does = λ t go st k. ap (λ a. interp eval (Sub a go) st k) (expr_is n t is ∙ gives t) }
 
+  -- the place of the part's name, where it has one
+  abbrev pub IsAt : Found → Type 0
+  IsAt place = 0 < length (placed_names (node_among c.units.items f.tree e)) → (t : Table) → name_place (tree_here (env_in meaning c t f)) e.0 0 ≡ place_in place
+
+  has_name : (id : TextId) → node_among c.units.items f.tree e ≡ nodes.Name id → 0 < length (placed_names (node_among c.units.items f.tree e))
+  has_name id is = let P : Node → Type 0 = λ n. 0 < length (placed_names n) in subst P (sym is) (lit< tt)
+
   -- a name for its value
-  pub name_is : (id : TextId) (place : Found) → node_among c.units.items f.tree e ≡ nodes.Name id → Base meaning c → ((t : Table) → (tree_here (env_in meaning c t f)).place e.0 ≡ place_in place) → IsOperand meaning c f (part.Expr e) (operands.Name place id)
+  pub name_is : (id : TextId) (place : Found) → node_among c.units.items f.tree e ≡ nodes.Name id → Base meaning c → IsAt place → IsOperand meaning c f (part.Expr e) (operands.Name place id)
   name_is id place is b at = record {
     has = node_known c.heap.texts c.units.items f.tree e (nodes.Name id) b.units is;
     does = λ t go st k.
         let env = env_in meaning c t f in
         ap (λ a. interp eval (Sub a go) st k) (expr_is (nodes.Name id) t is)
-        ∙ (named_shortens env go ((tree_here env).place e.0) (text_in t id)).same st k
-        ∙ ap (λ p. interp eval (named p (text_in t id) env go) st k) (at t);
+        ∙ (named_shortens env go (name_place (tree_here env) e.0 0) (text_in t id)).same st k
+        ∙ ap (λ p. interp eval (named p (text_in t id) env go) st k) (at (has_name id is) t);
   }
 
   -- a name as a target
-  pub target_is : (id : TextId) (place : Found) → node_among c.units.items f.tree e ≡ nodes.Name id → Base meaning c → ((t : Table) → (tree_here (env_in meaning c t f)).place e.0 ≡ place_in place) → IsOperand meaning c f (part.Target e) (operands.Target place id)
+  pub target_is : (id : TextId) (place : Found) → node_among c.units.items f.tree e ≡ nodes.Name id → Base meaning c → IsAt place → IsOperand meaning c f (part.Target e) (operands.Target place id)
   target_is id place is b at = record {
     has = node_known c.heap.texts c.units.items f.tree e (nodes.Name id) b.units is;
     does = λ t go st k.
         let env = env_in meaning c t f in
         ap (λ node. interp eval (Sub (target_of e.0 node env) go) st k) (node_same t c.units.items f.tree e ∙ ap (node_in t) is)
-        ∙ (refer_shortens env go ((tree_here env).place e.0) (text_in t id)).same st k
-        ∙ ap (λ p. interp eval (reference_at p (text_in t id) env (λ r. go (Refers r))) st k) (at t);
+        ∙ (refer_shortens env go (name_place (tree_here env) e.0 0) (text_in t id)).same st k
+        ∙ ap (λ p. interp eval (reference_at p (text_in t id) env (λ r. go (Refers r))) st k) (at (has_name id is) t);
   }

@@ -1,5 +1,5 @@
 -- The node at a place of a run is the numbered node under the table.
-use Rattle.std.proofs.Common.{◌≡◌, ℕ, zero, suc, List, [], ◌∷◌, Option, None, Some, refl, ap, ◌∙◌, subst}
+use Rattle.std.proofs.Common.{◌≡◌, ℕ, zero, suc, ◌<◌, List, [], ◌∷◌, Option, None, Some, refl, ap, ◌∙◌, subst, length}
 use Rattle.std.specs.Prelude.{map as each, All, slice_get, unwrap_or}
 use Rattle.std.specs.Option.{option_map}
 use Rattle.std.proofs.lemmas.List.Elements.{All-head, All-tail}
@@ -8,7 +8,9 @@ use Rattle.wjs_base.specs.Text.{Table}
 use Rattle.wjs_tree.specs.declared.node.NodeId.{NodeId}
 use Rattle.wjs_tree.specs.declared.node.Node.{Node as NumberedNode}
 use Rattle.wjs_tree.specs.declared.node.Node.TheVariants as nodes
-use Rattle.wjs_meaning.specs.Trees.{Empty, empty_tree, node_at, tree_at}
+use Rattle.wjs_scope.specs.declared.place.Place.{Place as Found}
+use Rattle.wjs_scope.specs.Places.{placed_names}
+use Rattle.wjs_meaning.specs.Trees.{Tree, Global, Empty, empty_tree, node_at, tree_at, name_place}
 use Rattle.wjs_meaning.specs.Reading.{node_in}
 use Rattle.wjs_model.specs.declared.unit.Unit.{Unit as Program}
 use Rattle.wjs_model.specs.Texts.{KnowsNode, KnowsUnit}
@@ -29,6 +31,16 @@ among_units t (Some u) id = among_unit t u id
 -- the node of a tree by content
 pub node_same : (t : Table) (units : List Program) (tree : ℕ) (id : NodeId) → node_at (tree_at (each (program.unit_in t) units) tree) id.0 ≡ node_in t (node_among units tree id)
 node_same t units tree id = ap (λ o. node_at (unwrap_or o empty_tree) id.0) (slice_get-map (program.unit_in t) units tree) ∙ among_units t (slice_get units tree) id
+
+-- the place of a name in a tree by content
+pub place_same : (t : Table) (units : List Program) (tree : ℕ) (u : Program) (id : NodeId) (at : ℕ) (place : Found) → slice_get units tree ≡ Some u → (at < length (placed_names (program.node_of u id)) → (t : Table) → name_place (program.unit_in t u) id.0 at ≡ program.place_in place)
+    → at < length (placed_names (node_among units tree id)) → name_place (tree_at (each (program.unit_in t) units) tree) id.0 at ≡ program.place_in place
+place_same t units tree u id at place e h lt =
+    let P : Option Program → Type 0 = λ o. at < length (placed_names (unwrap_or (option_map (λ (u : Program). program.node_of u id) o) nodes.Empty)) in
+    ap (λ (o : Option Tree). name_place (unwrap_or o empty_tree) id.0 at) (slice_get-map (program.unit_in t) units tree ∙ ap (option_map (program.unit_in t)) e) ∙ h (subst P e lt) t
+
+pub place_none : (t : Table) (units : List Program) (tree : ℕ) (id : NodeId) (at : ℕ) → slice_get units tree ≡ None → name_place (tree_at (each (program.unit_in t) units) tree) id.0 at ≡ Global
+place_none t units tree id at e = ap (λ (o : Option Tree). name_place (unwrap_or o empty_tree) id.0 at) (slice_get-map (program.unit_in t) units tree ∙ ap (option_map (program.unit_in t)) e)
 
 node_in_known : (t : Table) (ns : List NumberedNode) (k : ℕ) → All (KnowsNode t) ns → KnowsNode t (unwrap_or (slice_get ns k) nodes.Empty)
 node_in_known t [] k h = tt

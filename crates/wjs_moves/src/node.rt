@@ -1,6 +1,8 @@
 //! The node of a frame, and nodes around it.
-ghost use Rattle.std.specs.Prelude.{◌≡◌, MatchOption};
+ghost use Rattle.std.specs.Prelude.{◌≡◌, ◌<◌, length, MatchOption};
 ghost use Rattle.wjs_base.specs.Text.{Table};
+ghost use Rattle.wjs_scope.specs.Places.{placed_names};
+ghost use Rattle.wjs_meaning.specs.Trees.{name_place};
 ghost use Rattle.wjs_meaning.specs.Deeds.{tree_here};
 ghost use Rattle.wjs_model.specs.Units.{place_in};
 ghost use Rattle.wjs_moves.specs.Parts.{env_in, node_among, node_now};
@@ -32,13 +34,13 @@ pub(crate) fn node_among<S: WorldStore>(
     }
 }
 
-/// Where the name at a node is found, in the tree that a frame runs.
+/// Where the name of this number among a node's own is found, in the tree that a frame runs.
 #[inline(always)]
-pub fn place_at<S: WorldStore>(config: &Config<S>, frame: &Frame, node: NodeId) -> Place
-    ensures { (t : Table) → (tree_here (env_in S.meaning config.now t frame.now)).place node.0 ≡ place_in result }
+pub fn place_at<S: WorldStore>(config: &Config<S>, frame: &Frame, node: NodeId, at: usize) -> Place
+    ensures { at < length (placed_names (node_among config.now.units.items frame.now.tree node)) → (t : Table) → name_place (tree_here (env_in S.meaning config.now t frame.now)) node.0 at ≡ place_in result }
 {
     match config.units.get(frame.tree() as usize) {
-        Some(unit) => unit.place(node),
+        Some(unit) => unit.place(node, at),
         None => Place::Global,
     }
 }

@@ -36,7 +36,7 @@ fn value_operand<S: WorldStore>(config: &Config<S>, frame: &Frame, node: NodeId)
     ensures { IfSome result (λ operand. IsOperand S.meaning config.now frame.now (Part.Expr node) operand) }
 {
     match node_among(config, frame.tree(), node) {
-        Some(Node::Name(id)) => Some(Operand::Name(place_at(config, frame, node), *id)),
+        Some(Node::Name(id)) => Some(Operand::Name(place_at(config, frame, node, 0), *id)),
         Some(Node::Number(number)) => Some(Operand::Value(Value::Number(*number))),
         Some(Node::Text(id)) => Some(Operand::Value(Value::Text(*id))),
         Some(Node::This) => Some(Operand::Value(frame.this())),
@@ -54,7 +54,7 @@ fn target_operand<S: WorldStore>(config: &Config<S>, frame: &Frame, node: NodeId
     ensures { IfSome result (λ operand. IsOperand S.meaning config.now frame.now (Part.Target node) operand) }
 {
     match node_among(config, frame.tree(), node) {
-        Some(Node::Name(id)) => Some(Operand::Target(place_at(config, frame, node), *id)),
+        Some(Node::Name(id)) => Some(Operand::Target(place_at(config, frame, node, 0), *id)),
         _ => None,
     }
 }
