@@ -59,7 +59,9 @@ module _ (texts : Table) (ns : List NumberedNode) (HasEntry : ℕ → Entry → 
     expr_part around k (Paren e) i used h a = plain_part i around (λ (v : ℕ). node.Paren v) h.2 a h.3 refl refl (expr_part around (k - 1) e h.0 h.1 h.4 (of_parts i around (h.0 ∷ []) h.2 a refl).0)
     expr_part around k (ArrayLit xs) i used h a = plain_part i around (λ (v : List (Option ℕ)). node.ArrayLit v) h.2 a h.3 refl refl (items_part around (k - 1) xs h.0 h.1 h.4 (of_parts i around (item_parts h.0) h.2 a refl))
     expr_part around k (ObjectLit ps) i used h a = plain_part i around (λ (v : List (Key × ℕ)). node.ObjectLit v) h.2 a h.3 refl refl (properties_part around (k - 1) ps h.0 h.1 h.4 (of_parts i around (property_parts h.0) h.2 a refl))
-    expr_part around k (Function name formals body) i used h a = plain_part i around (λ (v : List ℕ). node.Function (label_in texts name) (texts_in texts formals) v) h.2 a h.3 refl refl (elements_part (within texts name formals body around) (k - 1) body h.0 h.1 h.4 (steps.inside i name formals h.0 body h.1 around h.2 a h.4))
+    expr_part around k (Function name formals body) i used h a =
+        plain_part i around (λ (v : List ℕ). node.Function (label_in texts name) (texts_in texts formals) v) h.2 a h.3 refl refl
+        (elements_part (within texts name formals body around) (k - 1) body h.0 h.1 h.4 (steps.inside i name formals h.0 body h.1 around h.2 a h.4))
     expr_part around k (Dot e x) i used h a = plain_part i around (λ (v : ℕ). node.Dot v (spelt_in texts x)) h.2 a h.3 refl refl (expr_part around (k - 1) e h.0 h.1 h.4 (of_parts i around (h.0 ∷ []) h.2 a refl).0)
     expr_part around k (NewBare e) i used h a = plain_part i around (λ (v : ℕ). node.NewBare v) h.2 a h.3 refl refl (expr_part around (k - 1) e h.0 h.1 h.4 (of_parts i around (h.0 ∷ []) h.2 a refl).0)
     expr_part around k (Postfix e op) i used h a = plain_part i around (λ (v : ℕ). node.Postfix v op) h.2 a h.3 refl refl (expr_part around (k - 1) e h.0 h.1 h.4 (of_parts i around (h.0 ∷ []) h.2 a refl).0)
@@ -94,17 +96,20 @@ module _ (texts : Table) (ns : List NumberedNode) (HasEntry : ℕ → Entry → 
         plain_part i around (λ (v : ℕ × ℕ). node.Comma v.0 v.1) h.4 a h.5 refl refl
         (pair HasEntry (expr_part around (k - 1) l h.0 h.2 h.6 z.0) (expr_part around (below (k - 1) (expr texts around (k - 1) l)) r h.1 h.3 h.7 z.1.0))
 
-    pub optional_part : (around : Scopes) (k : ℕ) (t : Optional) (o : Option NodeId) (used : List ℕ) → OptionalShows ns t o used → AllAmong Among around (option_part o) → Part HasEntry (Option ℕ) (number o) (optional texts around k t).0 used k (optional texts around k t).1
+    pub optional_part : (around : Scopes) (k : ℕ) (t : Optional) (o : Option NodeId) (used : List ℕ) → OptionalShows ns t o used → AllAmong Among around (option_part o)
+        → Part HasEntry (Option ℕ) (number o) (optional texts around k t).0 used k (optional texts around k t).1
     optional_part around k Absent o used h a = nothing HasEntry k (ap number h.0) h.1
     optional_part around k (Present e) o used h a = only HasEntry (λ (v : ℕ). Some v) (ap number h.1) (expr_part around k e h.0 used h.2 (subst (λ z. AllAmong Among around (option_part z)) h.1 a).0)
 
-    pub arguments_part : (around : Scopes) (k : ℕ) (t : Arguments) (list : List NodeId) (used : List ℕ) → ArgumentsShow ns t list used → AllAmong Among around list → Part HasEntry (List ℕ) (numbers list) (arguments texts around k t).0 used k (arguments texts around k t).1
+    pub arguments_part : (around : Scopes) (k : ℕ) (t : Arguments) (list : List NodeId) (used : List ℕ) → ArgumentsShow ns t list used → AllAmong Among around list
+        → Part HasEntry (List ℕ) (numbers list) (arguments texts around k t).0 used k (arguments texts around k t).1
     arguments_part around k NoArgument list used h a = nothing HasEntry k (ap numbers h.0) h.1
     arguments_part around k (Argument e rest) list used h a =
         let z = subst (AllAmong Among around) h.4 a in
         joined HasEntry (λ (v : ℕ) (w : List ℕ). v ∷ w) (ap numbers h.4) h.5 (expr_part around k e h.0 h.2 h.6 z.0) (arguments_part around (below k (expr texts around k e)) rest h.1 h.3 h.7 z.1)
 
-    pub items_part : (around : Scopes) (k : ℕ) (t : Items) (list : List (Option NodeId)) (used : List ℕ) → ItemsShow ns t list used → AllAmong Among around (item_parts list) → Part HasEntry (List (Option ℕ)) (each number list) (items texts around k t).0 used k (items texts around k t).1
+    pub items_part : (around : Scopes) (k : ℕ) (t : Items) (list : List (Option NodeId)) (used : List ℕ) → ItemsShow ns t list used → AllAmong Among around (item_parts list)
+        → Part HasEntry (List (Option ℕ)) (each number list) (items texts around k t).0 used k (items texts around k t).1
     items_part around k NoItem list used h a = nothing HasEntry k (ap (λ z. each number z) h.0) h.1
     items_part around k (Hole rest) list used h a = only HasEntry (λ (w : List (Option ℕ)). None ∷ w) (ap (λ z. each number z) h.1) (items_part around k rest h.0 used h.2 (subst (λ z. AllAmong Among around (item_parts z)) h.1 a))
     items_part around k (Item e rest) list used h a =
@@ -112,27 +117,34 @@ module _ (texts : Table) (ns : List NumberedNode) (HasEntry : ℕ → Entry → 
         joined HasEntry (λ (v : ℕ) (w : List (Option ℕ)). Some v ∷ w) (ap (λ z. each number z) h.4) h.5 (expr_part around k e h.0 h.2 h.6 z.0) (items_part around (below k (expr texts around k e)) rest h.1 h.3 h.7 z.1)
     items_part around k (LastItem e) list used h a = only HasEntry (λ (v : ℕ). Some v ∷ []) (ap (λ z. each number z) h.1) (expr_part around k e h.0 used h.2 (subst (λ z. AllAmong Among around (item_parts z)) h.1 a).0)
 
-    pub properties_part : (around : Scopes) (k : ℕ) (t : Properties) (list : List Pair) (used : List ℕ) → PropertiesShow ns t list used → AllAmong Among around (property_parts list) → Part HasEntry (List (Key × ℕ)) (each (pair_in texts) list) (properties texts around k t).0 used k (properties texts around k t).1
+    pub properties_part : (around : Scopes) (k : ℕ) (t : Properties) (list : List Pair) (used : List ℕ) → PropertiesShow ns t list used → AllAmong Among around (property_parts list)
+        → Part HasEntry (List (Key × ℕ)) (each (pair_in texts) list) (properties texts around k t).0 used k (properties texts around k t).1
     properties_part around k NoProperty list used h a = nothing HasEntry k (ap (λ z. each (pair_in texts) z) h.0) h.1
     properties_part around k (Property key e rest) list used h a =
         let z = subst (λ z. AllAmong Among around (property_parts z)) h.4 a in
         joined HasEntry (λ (v : ℕ) (w : List (Key × ℕ)). (key_in texts key, v) ∷ w) (ap (λ z. each (pair_in texts) z) h.4) h.5 (expr_part around k e h.0 h.2 h.6 z.0) (properties_part around (below k (expr texts around k e)) rest h.1 h.3 h.7 z.1)
-    properties_part around k (LastProperty key e) list used h a = only HasEntry (λ (v : ℕ). (key_in texts key, v) ∷ []) (ap (λ z. each (pair_in texts) z) h.1) (expr_part around k e h.0 used h.2 (subst (λ z. AllAmong Among around (property_parts z)) h.1 a).0)
+    properties_part around k (LastProperty key e) list used h a =
+        only HasEntry (λ (v : ℕ). (key_in texts key, v) ∷ []) (ap (λ z. each (pair_in texts) z) h.1)
+        (expr_part around k e h.0 used h.2 (subst (λ z. AllAmong Among around (property_parts z)) h.1 a).0)
 
-    pub variables_part : (around : Scopes) (k : ℕ) (t : Variables) (list : List Declarator) (used : List ℕ) → VariablesShow ns t list used → AllAmong Among around (initialisers list) → Part HasEntry (List (Units × Option ℕ)) (each (variable_in texts) list) (variables texts around k t).0 used k (variables texts around k t).1
+    pub variables_part : (around : Scopes) (k : ℕ) (t : Variables) (list : List Declarator) (used : List ℕ) → VariablesShow ns t list used → AllAmong Among around (initialisers list)
+        → Part HasEntry (List (Units × Option ℕ)) (each (variable_in texts) list) (variables texts around k t).0 used k (variables texts around k t).1
     variables_part around k NoVariable list used h a = nothing HasEntry k (ap (λ z. each (variable_in texts) z) h.0) h.1
     variables_part around k (Variable x e rest) list used h a =
         let z = all_apart Among around (option_part h.0) (initialisers h.1) (subst (λ z. AllAmong Among around (initialisers z)) h.4 a) in
         joined HasEntry (λ (v : Option ℕ) (w : List (Units × Option ℕ)). (text_in texts x, v) ∷ w) (ap (λ z. each (variable_in texts) z) h.4) h.5 (optional_part around k e h.0 h.2 h.6 z.0) (variables_part around (below k (optional texts around k e).1) rest h.1 h.3 h.7 z.1)
 
-    pub init_part : (around : Scopes) (k : ℕ) (t : Init) (f : ForInit) (used : List ℕ) → InitShows ns t f used → AllAmong Among around (init_parts f) → Part HasEntry node.Init (init_in texts f) (init texts around k t).0 used k (init texts around k t).1
+    pub init_part : (around : Scopes) (k : ℕ) (t : Init) (f : ForInit) (used : List ℕ) → InitShows ns t f used → AllAmong Among around (init_parts f)
+        → Part HasEntry node.Init (init_in texts f) (init texts around k t).0 used k (init texts around k t).1
     init_part around k NoInit f used h a = nothing HasEntry k (ap (init_in texts) h.0) h.1
     init_part around k (InitExpr e) f used h a = only HasEntry (λ (v : ℕ). node.InitExpr v) (ap (init_in texts) h.1) (expr_part around k e h.0 used h.2 (subst (λ z. AllAmong Among around (init_parts z)) h.1 a).0)
     init_part around k (InitVar vs) f used h a = only HasEntry (λ (v : List (Units × Option ℕ)). node.InitVar v) (ap (init_in texts) h.1) (variables_part around k vs h.0 used h.2 (subst (λ z. AllAmong Among around (init_parts z)) h.1 a))
 
     pub stmt_part : (around : Scopes) (k : ℕ) (t : Stmt) (i : NodeId) (used : List ℕ) → StmtShows ns t i used → Among i around → Part HasEntry ℕ i.0 k used k (stmt texts around k t)
     stmt_part around k (Block body) i used h a = plain_part i around (λ (v : List ℕ). node.Block v) h.2 a h.3 refl refl (stmts_part around (k - 1) body h.0 h.1 h.4 (of_parts i around (h.0) h.2 a refl))
-    stmt_part around k (Var vs end) i used h a = named_part i around (λ (v : List (Units × Option ℕ)). node.Var v) (variable_names vs) h.2 a h.3 refl (names_shown ns vs h.0 h.1 h.4) (variables_part around (k - 1) vs h.0 h.1 h.4 (of_parts i around (initialisers h.0) h.2 a refl))
+    stmt_part around k (Var vs end) i used h a =
+        named_part i around (λ (v : List (Units × Option ℕ)). node.Var v) (variable_names vs) h.2 a h.3 refl (names_shown ns vs h.0 h.1 h.4)
+        (variables_part around (k - 1) vs h.0 h.1 h.4 (of_parts i around (initialisers h.0) h.2 a refl))
     stmt_part around k Empty i used h a = plain_leaf k i around node.Empty h.0 a h.1 refl refl
     stmt_part around k (ExprStmt e end) i used h a = plain_part i around (λ (v : ℕ). node.Expr v) h.2 a h.3 refl refl (expr_part around (k - 1) e h.0 h.1 h.4 (of_parts i around (h.0 ∷ []) h.2 a refl).0)
     stmt_part around k (If e s) i used h a =
@@ -209,13 +221,15 @@ module _ (texts : Table) (ns : List NumberedNode) (HasEntry : ℕ → Entry → 
         plain_part i around (λ (v : ℕ × ℕ). node.Within v.0 v.1) h.5 a h.6 refl refl
         (pair HasEntry (expr_part around (k - 1) e h.0 h.3 h.7 z.0) (plain_part h.1 around (λ (v : List ℕ). node.Block v) h.8 z.1.0 refl refl refl (stmts_part around (m - 1) b h.2 h.4 h.9 (of_parts h.1 around h.2 h.8 z.1.0 refl))))
 
-    pub stmts_part : (around : Scopes) (k : ℕ) (t : Stmts) (list : List NodeId) (used : List ℕ) → StmtsShow ns t list used → AllAmong Among around list → Part HasEntry (List ℕ) (numbers list) (stmts texts around k t).0 used k (stmts texts around k t).1
+    pub stmts_part : (around : Scopes) (k : ℕ) (t : Stmts) (list : List NodeId) (used : List ℕ) → StmtsShow ns t list used → AllAmong Among around list
+        → Part HasEntry (List ℕ) (numbers list) (stmts texts around k t).0 used k (stmts texts around k t).1
     stmts_part around k NoStmt list used h a = nothing HasEntry k (ap numbers h.0) h.1
     stmts_part around k (MoreStmts s rest) list used h a =
         let z = subst (AllAmong Among around) h.4 a in
         joined HasEntry (λ (v : ℕ) (w : List ℕ). v ∷ w) (ap numbers h.4) h.5 (stmt_part around k s h.0 h.2 h.6 z.0) (stmts_part around (below k (stmt texts around k s)) rest h.1 h.3 h.7 z.1)
 
-    pub clauses_part : (around : Scopes) (k : ℕ) (t : Clauses) (list : List Clause) (used : List ℕ) → ClausesShow ns t list used → AllAmong Among around (clause_parts list) → Part HasEntry (List (Option ℕ × List ℕ)) (each (clause_in texts) list) (clauses texts around k t).0 used k (clauses texts around k t).1
+    pub clauses_part : (around : Scopes) (k : ℕ) (t : Clauses) (list : List Clause) (used : List ℕ) → ClausesShow ns t list used → AllAmong Among around (clause_parts list)
+        → Part HasEntry (List (Option ℕ × List ℕ)) (each (clause_in texts) list) (clauses texts around k t).0 used k (clauses texts around k t).1
     clauses_part around k NoClause list used h a = nothing HasEntry k (ap (λ z. each (clause_in texts) z) h.0) h.1
     clauses_part around k (Case e body rest) list used h a =
         let y = subst (λ z. AllAmong Among around (clause_parts z)) h.6 a in
@@ -227,7 +241,8 @@ module _ (texts : Table) (ns : List NumberedNode) (HasEntry : ℕ → Entry → 
         let z = all_apart Among around h.0 (clause_parts h.1) (subst (λ z. AllAmong Among around (clause_parts z)) h.4 a) in
         joined HasEntry (λ (v : List ℕ) (w : List (Option ℕ × List ℕ)). (None, v) ∷ w) (ap (λ z. each (clause_in texts) z) h.4) h.5 (stmts_part around k body h.0 h.2 h.6 z.0) (clauses_part around (below k (stmts texts around k body).1) rest h.1 h.3 h.7 z.1)
 
-    pub elements_part : (around : Scopes) (k : ℕ) (t : Elements) (list : List NodeId) (used : List ℕ) → ElementsShow ns t list used → AllAmong Among around list → Part HasEntry (List ℕ) (numbers list) (elements texts around k t).0 used k (elements texts around k t).1
+    pub elements_part : (around : Scopes) (k : ℕ) (t : Elements) (list : List NodeId) (used : List ℕ) → ElementsShow ns t list used → AllAmong Among around list
+        → Part HasEntry (List ℕ) (numbers list) (elements texts around k t).0 used k (elements texts around k t).1
     elements_part around k NoElement list used h a = nothing HasEntry k (ap numbers h.0) h.1
     elements_part around k (Statement s rest) list used h a =
         let z = subst (AllAmong Among around) h.4 a in
