@@ -20,6 +20,8 @@ use Rattle.wjs_tree.specs.Trees.{Expr, Optional, Arguments, Items, Properties, V
 use Rattle.wjs_tree.specs.Shows.{Has, Shows, OptionalShows, ArgumentsShow, ItemsShow, PropertiesShow, VariablesShow, InitShows, StmtShows, StmtsShow, ClausesShow, ElementsShow, has_tail, has_comma}
 use Rattle.wjs_order.specs.Order.{falling, IsNumbered}
 use Rattle.wjs_model.specs.Texts.{HasText, KnowsSpelt, KnowsKey, KnowsInit, KnowsNode}
+use Rattle.wjs_programs.specs.Laws.{NodesAreKnown}
+use Rattle.wjs_programs.proofs.Tokens.{texts_are_there}
 use Rattle.wjs_programs.proofs.Names.{OptionNames, ListNames, SpeltNames, KeyNames, Names, OptionalNames, ArgumentsNames, ItemsNames, PropertiesNames, VariablesNames, InitNames, StmtNames, StmtsNames, ClausesNames, ElementsNames}
 
 module _ (t : Table) (ns : List Node) where
@@ -209,9 +211,12 @@ module _ (t : Table) (ns : List Node) where
   falling_known (suc n) each i lt = below_more IsKnown n (falling_known n (All-tail IsKnown n (falling n) each)) (All-head IsKnown n (falling n) each) i (omega arith)
 
   -- the texts of all nodes are in the table where those of the tree are
-  pub nodes_known : (tree : Elements) (body : NodeId) → IsNumbered ns tree body → ElementsNames (IsThere t) tree → All (KnowsNode t) ns
+  nodes_known : (tree : Elements) (body : NodeId) → IsNumbered ns tree body → ElementsNames (IsThere t) tree → All (KnowsNode t) ns
   nodes_known tree body numbered k =
       let is = numbered.is in
       let each = All-cons IsKnown body.0 is.used (nodes.Program is.list, is.has, tt) (elements_known tree is.list is.used is.shows k) in
       let all : All IsKnown (falling (length ns)) = subst (All IsKnown) numbered.order each in
       λ i d lt. let n = falling_known (length ns) all i lt in subst (KnowsNode t) (sym (get_or_from_slice_get ns i n.0 d n.1)) n.2
+
+pub nodes_are_known : NodesAreKnown
+nodes_are_known bytes texts toks tree ns body tokens stands numbered = nodes_known texts ns tree body numbered (texts_are_there bytes texts toks tree tokens stands)
