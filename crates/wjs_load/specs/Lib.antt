@@ -1,2 +1,3 @@
+pub mod Laws
 pub mod Loading
-pub mod Naming
+pub mod Reading

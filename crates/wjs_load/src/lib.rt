@@ -1,9 +1,11 @@
 //! Scripts that are loaded: bytes as units of a run.
 #![tactic(auto)]
 
-mod known;
+mod laws;
+mod script;
 mod tokens;
 mod units;
 
+pub use laws::one_answer;
 pub use tokens::{LoadFault, Refusal};
 pub use units::{library, load};

@@ -10,6 +10,9 @@ pub mod RenamedTokens
 pub mod RenamedTrees
 pub mod Renaming
 pub mod Renumbering
+pub mod Standing
+pub mod Tokens
+pub mod Knowing
 pub mod Parts
 pub mod Scopes
 pub mod Declared

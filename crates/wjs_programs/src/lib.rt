@@ -3,6 +3,8 @@
 //! There is no code: each law is the contract of a function that does nothing.
 #![tactic(auto)]
 
+mod known;
 mod laws;
 
+pub use known::nodes_are_known;
 pub use laws::{one_program, program_or_none, units_are_trees};
