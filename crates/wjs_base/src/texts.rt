@@ -156,8 +156,8 @@ impl Texts {
         }
     }
 
-    // How many texts there are.
-    pub(crate) fn len(&self) -> usize
+    /// How many texts there are.
+    pub fn len(&self) -> usize
         ensures len { result ≡ length self.now }
         ensures table { IsTable self.now }
     {

@@ -1,20 +1,18 @@
 -- The listed names in their own order: the renamed slots, sorted, are what the named state lists.
-use Rattle.std.proofs.Common.{◌≡◌, Bool, true, false, cond, ◌&&◌, ◌||◌, T, List, [], ◌∷◌, refl, ap, sym, ◌∙◌, filter, map as each, Option, None, Some, Ordering, IsPermutation}
-use Rattle.std.specs.Option.{option_map_or}
-use Rattle.std.specs.Ordering.{eq_by_cmp, is_lt}
+use Rattle.std.proofs.Common.{◌≡◌, cond, List, ap, sym, ◌∙◌, map as each, None, Some, Ordering, IsPermutation}
+use Rattle.std.specs.Ordering.{eq_by_cmp}
 use Rattle.std.specs.Cmp.{IsTotalOrder}
-use Rattle.std.specs.List.{list_any}
-use Rattle.std.specs.FinMap as map
 use Rattle.std.specs.FinMap.{IsAntisymmetric}
-use Rattle.std.specs.FinMap.Entries.{below_all, same_entries}
+use Rattle.std.specs.FinMap.Entries.{same_entries}
 use Rattle.std.proofs.lemmas.List.Sorted.{IsPermutation-trans, IsPermutation-sym, list_any-IsPermutation}
 use Rattle.wjs_base.specs.declared.ids.WorldId.{WorldId}
 use Rattle.wjs_base.specs.declared.ids.ObjId.{ObjId}
 use Rattle.wjs_store.specs.Naming.{Naming}
-use Rattle.wjs_store.specs.State.{World, State, same_object, find_world, slots_in, slots_at}
+use Rattle.wjs_store.specs.State.{State, slots_at}
 use Rattle.wjs_rename.specs.Names.{Names, Known, named_state}
 use Rattle.wjs_rename.specs.Ascends.{tagged, Ascends}
-use Rattle.wjs_store.proofs.Ascending.{firsts, untagged, find_tag, ascends_filter}
+use Rattle.wjs_store.proofs.Ascending.{firsts, untagged, find_tag}
+pub use Rattle.wjs_store.proofs.Ascending.{slots_ascend}
 use Rattle.wjs_rename.proofs.Known.{named_slots}
 
 -- a list has one ascending order
@@ -22,14 +20,6 @@ pub one_order : {J : Type 0} {S : J → J → Ordering} → IsTotalOrder S → I
 one_order {S = S} total exact ss ts h k p = sym (untagged ss)
     ∙ ap firsts (same_entries S total exact (tagged ss) (tagged ts) h k (λ q. find_tag S q ss ∙ ap (λ b. cond b (Some tt) None) (list_any-IsPermutation (eq_by_cmp S q) ss ts p) ∙ sym (find_tag S q ts)))
     ∙ untagged ts
-
-module _ {J W : Type 0} {m : Naming J W} where
-  found_ascends : (o : ObjId) (q : Option (World m)) → Ascends m.cmp (option_map_or (slots_in o) q [])
-  found_ascends o None = tt
-  found_ascends o (Some x) = ascends_filter m.cmp (λ s. same_object (m.object s) o) (map.entries x.copy) (map.entries_sorted x.copy)
-
-  pub slots_ascend : (G : State m) (w : WorldId) (o : ObjId) → Ascends m.cmp (slots_at G w o)
-  slots_ascend G w o = found_ascends o (find_world G w)
 
 -- the renamed slots in ascending order are the named state's
 pub named_listing : {K V J W : Type 0} {n : Naming K V} {m : Naming J W} (r : Names n m) (F : State n) (w : WorldId) (o : ObjId) → Known r F → (ts : List J) → Ascends m.cmp ts → IsPermutation (each r.slot (slots_at F w o)) ts → ts ≡ slots_at (named_state r F) w o

@@ -1,5 +1,6 @@
 -- Two maps that hold the same of some keys list them alike.
-use Rattle.std.proofs.Common.{◌≡◌, Bool, true, false, cond, ◌&&◌, ◌||◌, T, List, [], ◌∷◌, refl, ap, sym, ◌∙◌, filter, map as each, None, Some, Ordering}
+use Rattle.std.proofs.Common.{◌≡◌, Bool, true, false, cond, ◌&&◌, ◌||◌, T, List, [], ◌∷◌, refl, ap, sym, ◌∙◌, filter, map as each, Option, None, Some, Ordering}
+use Rattle.std.specs.Option.{option_map_or}
 use Rattle.std.specs.Ordering.{eq_by_cmp, is_lt}
 use Rattle.std.specs.Cmp.{IsTotalOrder}
 use Rattle.std.specs.List.{list_any}
@@ -7,6 +8,11 @@ use Rattle.std.specs.FinMap as map
 use Rattle.std.specs.FinMap.{FinMap, IsAntisymmetric}
 use Rattle.std.specs.FinMap.Entries.{below_all, same_entries}
 use Rattle.std.proofs.lemmas.Bool.{true≢false, false≢true}
+use Rattle.wjs_base.specs.declared.ids.WorldId.{WorldId}
+use Rattle.wjs_base.specs.declared.ids.ObjId.{ObjId}
+use Rattle.wjs_store.specs.Naming.{Naming}
+use Rattle.wjs_store.specs.State.{World, State, same_object, find_world, slots_in, slots_at}
+use Rattle.wjs_store.specs.Ascends.{tagged, Ascends}
 use Rattle.wjs_store.proofs.Marks.{key_is}
 use Rattle.wjs_store.proofs.Writes.{by_bool}
 
@@ -24,13 +30,6 @@ right_true false b h = absurd h
 
 abbrev pub firsts : {K X : Type 0} → List (K × X) → List K
 firsts es = each (λ e. e.0) es
-
-abbrev pub tagged : {J : Type 0} → List J → List (J × Unit {0})
-tagged ss = each (λ s. (s, tt)) ss
-
--- strictly ascending
-abbrev pub Ascends : {J : Type 0} → (J → J → Ordering) → List J → Type 0
-Ascends S ss = T (map.is_sorted S (tagged ss))
 
 pub untagged : {J : Type 0} (ss : List J) → firsts (tagged ss) ≡ ss
 untagged [] = refl
@@ -99,3 +98,12 @@ same_listed {K = K} {R = R} total exact p a b h =
         (λ e. ap (λ c. p q && c) (sym (map.contains_key-keys a q) ∙ h q e ∙ map.contains_key-keys b q))
         (λ e. ap (λ c. c && list_any (eq_by_cmp R q) (map.keys a)) e ∙ ap (λ c. c && list_any (eq_by_cmp R q) (map.keys b)) (sym e))
         ∙ sym (any_passing R exact p q (map.keys b))
+
+-- a listing is in order
+module _ {J W : Type 0} {m : Naming J W} where
+  found_ascends : (o : ObjId) (q : Option (World m)) → Ascends m.cmp (option_map_or (slots_in o) q [])
+  found_ascends o None = tt
+  found_ascends o (Some x) = ascends_filter m.cmp (λ s. same_object (m.object s) o) (map.entries x.copy) (map.entries_sorted x.copy)
+
+  pub slots_ascend : (G : State m) (w : WorldId) (o : ObjId) → Ascends m.cmp (slots_at G w o)
+  slots_ascend G w o = found_ascends o (find_world G w)

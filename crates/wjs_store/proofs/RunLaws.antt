@@ -90,11 +90,11 @@ run_none old a n s w =
 
 -- ---- one more action
 
-after_more : (xs : List Action) (a : Action) (F : Worlds) → after_all F (xs ++ a ∷ []) ≡ after_in (after_all F xs) a
+pub after_more : (xs : List Action) (a : Action) (F : Worlds) → after_all F (xs ++ a ∷ []) ≡ after_in (after_all F xs) a
 after_more [] a F = refl
 after_more (x ∷ xs) a F = after_more xs a (after_in F x)
 
-answers_more : (xs : List Action) (a : Action) (F : Worlds) → answers_in F (xs ++ a ∷ []) ≡ answers_in F xs ++ answer_in (after_all F xs) a ∷ []
+pub answers_more : (xs : List Action) (a : Action) (F : Worlds) → answers_in F (xs ++ a ∷ []) ≡ answers_in F xs ++ answer_in (after_all F xs) a ∷ []
 answers_more [] a F = refl
 answers_more (x ∷ xs) a F = ap (λ rs. answer_in F x ∷ rs) (answers_more xs a (after_in F x))
 

@@ -1,4 +1,5 @@
 pub mod Naming
+pub mod Ascends
 pub mod State
 pub mod Reached
 pub mod Meaning

@@ -24,5 +24,5 @@ pub use laws::{
     reached_states_stay_reached, refused_commit_changes_nothing, sprouts_copy_contents,
     write_reaches_by_path, writes_set_contents,
 };
-pub use run::run_actions;
+pub use run::{act, run_actions};
 pub use store::{Counts, Verdict, WorldStore};

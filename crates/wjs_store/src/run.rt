@@ -34,8 +34,8 @@ fn perform<S: WorldStore>(store: &mut S, action: Action) -> Result<Answer, OutOf
     }
 }
 
-/// Does one action.
-fn act<S: WorldStore>(store: &mut S, action: Action) -> Result<Answer, OutOfMemory>
+/// Does one action; an action on a world that is not there is answered NoWorld and does nothing.
+pub fn act<S: WorldStore>(store: &mut S, action: Action) -> Result<Answer, OutOfMemory>
     requires { IsTrue (not (S.meaning store.old).spent) }
     ensures { IfOk result (λ answer. Runs (S.meaning store.old) (action ∷ []) (answer ∷ []) (S.meaning store.new)) }
 {
