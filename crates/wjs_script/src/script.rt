@@ -10,7 +10,7 @@ use wjs_scope::{Places, places};
 use wjs_tree::{Program, Tok};
 
 /// A program, with the places of its names.
-#[derive(Debug, Drop)]
+#[derive(Drop)]
 pub struct Script {
     pub program: Program,
     pub places: Places,

@@ -3,7 +3,7 @@
 use std::alloc::Global;
 use std::process::Abort;
 use std::test::Fail;
-use wjs_base::{Content, Name, Names, ObjId, Slot, TextId, Value, WorldId};
+use wjs_base::{Content, Name, Names, ObjId, Slot, TextId, Value, WorldId, same_value};
 use wjs_overlay::Overlay;
 use wjs_store::{Action, Answer, FullStore, Verdict, run_actions, serial_history};
 
@@ -271,7 +271,10 @@ fn are_names(names: &Names, due: &[Name]) -> bool {
 
 fn is_due(answer: &Answer, due: Due) -> bool {
     match (answer, due) {
-        (Answer::Found(content), Due::Found(due)) => *content == due,
+        (Answer::Found(Content::Absent), Due::Found(Content::Absent)) => true,
+        (Answer::Found(Content::Present(value)), Due::Found(Content::Present(due))) => {
+            same_value(*value, due)
+        }
         (Answer::Wrote, Due::Wrote) => true,
         (Answer::Listed(names), Due::Listed(due)) => are_names(names, due),
         (Answer::Sprouted(world), Due::Sprouted(due)) => *world == due,
