@@ -2,7 +2,7 @@
 
 /// What kind of object it is: its [[Class]] (ECMA-262, 3rd edition, section 8.6.2), and the kinds that the language has of its
 /// own.
-#[derive(Clone, Copy, Debug, PartialEq, Eq)]
+#[derive(Clone, Copy)]
 pub enum Class {
     Plain,
     Function,

@@ -3,7 +3,7 @@
 use crate::object::Object;
 
 /// An object, and how deep it is: one deeper than its prototype and its scope.
-#[derive(Debug, Drop)]
+#[derive(Drop)]
 pub struct Entry {
     pub object: Object,
     pub depth: u64,

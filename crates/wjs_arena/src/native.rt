@@ -2,7 +2,7 @@
 
 /// A function that the machine itself has (ECMA-262, 3rd edition, section 15; those of worlds by Warth, Ohshima, Kaehler and
 /// Kay, ECOOP 2011).
-#[derive(Clone, Copy, Debug, PartialEq, Eq)]
+#[derive(Clone, Copy)]
 pub enum Native {
     Print,
     ParseInt,

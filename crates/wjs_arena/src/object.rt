@@ -6,7 +6,7 @@ use crate::under::Under;
 use wjs_base::{NodeId, ObjId, Value, WorldId};
 
 /// The code of a function: the body at a node of a tree, or a native function's. None where the object is no function.
-#[derive(Clone, Copy, Debug, PartialEq, Eq)]
+#[derive(Clone, Copy)]
 pub enum Code {
     None,
     Script { tree: u32, node: NodeId },
@@ -14,7 +14,7 @@ pub enum Code {
 }
 
 /// Attributes of a property (ECMA-262, 3rd edition, section 8.6.1).
-#[derive(Clone, Copy, Debug, PartialEq, Eq)]
+#[derive(Clone, Copy)]
 pub struct Flags {
     /// DontEnum: no listing has it.
     pub hidden: bool,
@@ -24,7 +24,7 @@ pub struct Flags {
 
 /// What an object is in all worlds, fixed when it is made: its internal properties (section 8.6.2), the properties that are
 /// read-only, and the attributes of the others.
-#[derive(Debug, Drop)]
+#[derive(Drop)]
 pub struct Object {
     pub class: Class,
     pub prototype: Option<ObjId>,

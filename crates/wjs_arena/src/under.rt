@@ -7,7 +7,7 @@ use std::marker::Model;
 use wjs_base::Name;
 
 /// A finished list of names, each with what stands under it. Contracts see the list.
-#[derive(Debug, Drop)]
+#[derive(Drop)]
 pub struct Under<T> {
     items: Vec<(Name, T)>,
 }

@@ -46,7 +46,7 @@ pub(crate) fn prefix_start<S: WorldStore>(
 }
 
 /// What an operator takes: a target or a value, a target, a value.
-#[derive(Clone, Copy, Debug, PartialEq, Eq)]
+#[derive(Clone, Copy)]
 pub(crate) enum Operand {
     Any,
     Target,

@@ -24,7 +24,7 @@ use wjs_store::WorldStore;
 use wjs_tree::{Node, NodeId, UpdateOperator};
 
 /// Which number an operator gives: the old one behind a target, the new one before it.
-#[derive(Clone, Copy, Debug, PartialEq, Eq)]
+#[derive(Clone, Copy)]
 pub(crate) enum Fix {
     Post,
     Pre,

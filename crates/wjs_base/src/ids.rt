@@ -5,22 +5,22 @@
 pub struct OutOfMemory;
 
 /// The number of an interned text. Texts of equal content have equal numbers.
-#[derive(Clone, Copy, Debug, PartialEq, Eq, PartialOrd, Ord)]
+#[derive(Clone, Copy, PartialEq, Eq)]
 pub struct TextId(pub u64);
 
 /// The number of a node of a script's tree. A child has a smaller number than its parent.
-#[derive(Clone, Copy, Debug, PartialEq, Eq, PartialOrd, Ord)]
+#[derive(Clone, Copy)]
 pub struct NodeId(pub u64);
 
 /// An object: who made it, and its place among that owner's objects, counted from 0.
-#[derive(Clone, Copy, Debug, PartialEq, Eq, PartialOrd, Ord)]
+#[derive(Clone, Copy, PartialEq, Eq, PartialOrd, Ord)]
 pub struct ObjId {
     pub owner: u32,
     pub serial: u64,
 }
 
 /// A world: who sprouted it, and its place among that owner's worlds, counted from 0.
-#[derive(Clone, Copy, Debug, PartialEq, Eq, PartialOrd, Ord)]
+#[derive(Clone, Copy, PartialEq, Eq, PartialOrd, Ord)]
 pub struct WorldId {
     pub owner: u32,
     pub serial: u64,

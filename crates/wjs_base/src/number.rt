@@ -2,7 +2,7 @@
 ghost use Rattle.wjs_base.specs.Range.{IsInRange, in_range_prop};
 
 /// NaN, or a whole number from -(2^53 - 1) to 2^53 - 1.
-#[derive(Clone, Copy, Debug, PartialEq, Eq)]
+#[derive(Clone, Copy, PartialEq, Eq)]
 pub struct Whole {
     number: Option<i64>,
     pub ghost in_range: { IsInRange number } by { in_range_prop number },

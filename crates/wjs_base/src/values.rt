@@ -7,7 +7,7 @@ use crate::number::Whole;
 use std::cmp::Ordering;
 
 /// The name of a property: an array index, or any other text (ECMA-262, 3rd edition, section 15.4).
-#[derive(Clone, Copy, Debug, PartialEq, Eq)]
+#[derive(Clone, Copy, PartialEq, Eq)]
 pub enum Name {
     /// From 0 to 4,294,967,294.
     Index(u32),
@@ -79,7 +79,7 @@ impl PartialOrd for Name {
 }
 
 /// A value of the language (ECMA-262, 3rd edition, section 8).
-#[derive(Clone, Copy, Debug, PartialEq, Eq)]
+#[derive(Clone, Copy)]
 pub enum Value {
     Undefined,
     Null,
@@ -90,14 +90,14 @@ pub enum Value {
 }
 
 /// What a slot holds in a world.
-#[derive(Clone, Copy, Debug, PartialEq, Eq)]
+#[derive(Clone, Copy)]
 pub enum Content {
     Absent,
     Present(Value),
 }
 
 /// An object with a name. Slots are ordered by owner, serial, then name.
-#[derive(Clone, Copy, Debug, PartialEq, Eq, PartialOrd, Ord)]
+#[derive(Clone, Copy, PartialEq, Eq, PartialOrd, Ord)]
 pub struct Slot {
     pub object: ObjId,
     pub name: Name,

@@ -13,7 +13,7 @@ use wjs_base::OutOfMemory;
 use wjs_tree::{Clause, NodeId};
 
 /// A clause with an expression, by its number.
-#[derive(Clone, Copy, Debug, PartialEq, Eq)]
+#[derive(Clone, Copy)]
 pub(crate) struct Case {
     pub at: usize,
     pub test: NodeId,

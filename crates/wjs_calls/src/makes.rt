@@ -27,7 +27,7 @@ use wjs_store::WorldStore;
 use wjs_tree::NodeId;
 
 /// The names `length` and `prototype`.
-#[derive(Clone, Copy, Debug)]
+#[derive(Clone, Copy)]
 pub(crate) struct FunctionNames {
     length: Name,
     prototype: Name,

@@ -11,14 +11,14 @@ use wjs_base::OutOfMemory;
 use wjs_load::Refusal;
 
 /// How a run ends whose output is written: the status, and the line on errors, which is empty where there is none.
-#[derive(Debug, Drop)]
+#[derive(Drop)]
 pub struct Report {
     pub status: Status,
     pub line: Vec<u8>,
 }
 
 /// Why a run ended before its end.
-#[derive(Clone, Copy, Debug, PartialEq, Eq)]
+#[derive(Clone, Copy)]
 pub enum Stop {
     /// The source failed.
     ReadFault,

@@ -20,7 +20,7 @@ use wjs_model::{Config, Frame};
 use wjs_store::WorldStore;
 
 /// A name that the machine itself uses.
-#[derive(Clone, Copy, Debug, PartialEq, Eq)]
+#[derive(Clone, Copy)]
 pub enum Known {
     Length,
     Prototype,

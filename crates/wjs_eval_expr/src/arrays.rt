@@ -22,7 +22,7 @@ use wjs_store::WorldStore;
 use wjs_tree::{Node, NodeId};
 
 /// What comes next of the items from a number on.
-#[derive(Clone, Copy, Debug, PartialEq, Eq)]
+#[derive(Clone, Copy)]
 pub(crate) enum Next {
     /// The first that is there, with its number.
     Item(usize, NodeId),

@@ -4,7 +4,7 @@ ghost use Rattle.wjs_lexer.specs.Characters.{is_blank, is_line_end, starts_name,
 ghost use Rattle.wjs_lexer.specs.KindSteps.{kind_of};
 
 /// The kind of a character, which tells the kinds of piece that may begin with it.
-#[derive(Clone, Copy, Debug, PartialEq, Eq)]
+#[derive(Clone, Copy)]
 pub(crate) enum Kind {
     Space,
     LineEnd,

@@ -27,7 +27,7 @@ pub enum LexFault {
 }
 
 /// What a piece gives.
-#[derive(Clone, Copy, Debug, PartialEq, Eq)]
+#[derive(Clone, Copy)]
 enum Step {
     Token(Token),
     /// No token; with whether the piece is a line terminator or holds one.

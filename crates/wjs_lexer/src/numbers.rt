@@ -10,7 +10,7 @@ use crate::cursor::Cursor;
 use crate::pieces::Scanned;
 
 /// How the digits of a numeric literal are read.
-#[derive(Clone, Copy, Debug, PartialEq, Eq)]
+#[derive(Clone, Copy)]
 pub(crate) enum Base {
     Decimal,
     Hexadecimal,

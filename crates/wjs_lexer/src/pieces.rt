@@ -8,7 +8,7 @@ use std::alloc::AllocError;
 use wjs_tree::{Key, Sign};
 
 /// What stands at a place of a text. The code units of a word or a text are kept beside it.
-#[derive(Clone, Copy, Debug, PartialEq, Eq)]
+#[derive(Clone, Copy)]
 pub(crate) enum Scanned {
     Space,
     LineEnd,

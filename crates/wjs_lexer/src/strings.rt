@@ -12,7 +12,7 @@ use crate::words::push_char;
 use std::alloc::AllocError;
 
 /// What a part of a string literal stands for.
-#[derive(Clone, Copy, Debug, PartialEq, Eq)]
+#[derive(Clone, Copy)]
 pub(crate) enum Stands {
     /// No code unit: a line continuation.
     Nothing,
@@ -22,7 +22,7 @@ pub(crate) enum Stands {
 }
 
 /// A part of a string literal: a character, an escape or a line continuation.
-#[derive(Clone, Copy, Debug, PartialEq, Eq)]
+#[derive(Clone, Copy)]
 pub(crate) struct Part {
     /// How many characters it has.
     pub(crate) size: usize,

@@ -15,7 +15,7 @@ use wjs_model::{Completion, Config, Frame};
 use wjs_store::WorldStore;
 
 /// What follows a loop's body.
-#[derive(Clone, Copy, Debug, PartialEq, Eq)]
+#[derive(Clone, Copy)]
 pub enum AfterBody {
     Again,
     Ends(Completion),

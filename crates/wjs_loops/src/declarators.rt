@@ -10,7 +10,7 @@ ghost use Rattle.wjs_loops.specs.Variables.{initialiser_goes};
 use wjs_tree::{Declarator, NodeId};
 
 /// An initialiser, and the number of its variable.
-#[derive(Clone, Copy, Debug, PartialEq, Eq)]
+#[derive(Clone, Copy)]
 pub(crate) struct Initialiser {
     pub at: usize,
     pub value: NodeId,

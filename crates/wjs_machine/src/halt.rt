@@ -11,7 +11,7 @@ pub enum Halt {
 }
 
 /// How a run ended.
-#[derive(Clone, Copy, Debug, PartialEq, Eq)]
+#[derive(Clone, Copy)]
 pub enum Ending {
     Done,
     /// By a throw that nothing caught.

@@ -1,7 +1,7 @@
 //! The errors that the machine makes.
 
 /// An error that the machine makes, one for each message (ECMA-262, 3rd edition, section 15.11.6).
-#[derive(Clone, Copy, Debug, PartialEq, Eq)]
+#[derive(Clone, Copy)]
 pub enum Trouble {
     /// A ReferenceError: `NAME is not defined`.
     NotDefined,

@@ -50,7 +50,7 @@ pub fn target_start<S: WorldStore>(config: &mut Config<S>, frame: Frame) -> Resu
 }
 
 /// Whether a form is a target.
-#[derive(Clone, Copy, Debug, PartialEq, Eq)]
+#[derive(Clone, Copy)]
 pub(crate) enum TargetForm {
     Target,
     /// It is one where its part is.

@@ -7,7 +7,7 @@ use wjs_props::Heap;
 use wjs_store::WorldStore;
 
 /// Whether a configuration goes on.
-#[derive(Clone, Copy, Debug, PartialEq, Eq)]
+#[derive(Clone, Copy)]
 pub enum State {
     Running,
     Done,

@@ -13,7 +13,7 @@ use wjs_base::{Name, ObjId, OutOfMemory, Slot, TextId, Value, WorldId};
 use wjs_tree::NodeId;
 
 /// What can be read and stored to (ECMA-262, 3rd edition, section 8.7).
-#[derive(Clone, Copy, Debug, PartialEq, Eq)]
+#[derive(Clone, Copy)]
 pub enum Reference {
     /// A name in a scope.
     Local(ObjId, Name),
@@ -24,7 +24,7 @@ pub enum Reference {
 }
 
 /// How a node ended (section 8.9): an expression by a value or a reference, a statement by one of the others; both may throw.
-#[derive(Clone, Copy, Debug, PartialEq, Eq)]
+#[derive(Clone, Copy)]
 pub enum Completion {
     Gives(Value),
     Refers(Reference),
@@ -36,7 +36,7 @@ pub enum Completion {
 }
 
 /// What a conversion makes (section 9).
-#[derive(Clone, Copy, Debug, PartialEq, Eq)]
+#[derive(Clone, Copy)]
 pub enum Conversion {
     /// A primitive, of an object by its method `toString` first.
     TextFirst,
@@ -49,7 +49,7 @@ pub enum Conversion {
 
 /// What a frame runs: the node as an expression for its value or as a target, as a statement, as a function's or a program's
 /// body; a conversion, a call, a native function.
-#[derive(Clone, Copy, Debug, PartialEq, Eq)]
+#[derive(Clone, Copy)]
 pub enum Form {
     Expr,
     Target,
@@ -61,7 +61,7 @@ pub enum Form {
 }
 
 /// When a frame goes on.
-#[derive(Clone, Copy, Debug, PartialEq, Eq)]
+#[derive(Clone, Copy)]
 pub enum Phase {
     /// A step is due first.
     Due,
@@ -76,7 +76,7 @@ pub enum Phase {
 }
 
 /// What a frame holds until it goes on.
-#[derive(Clone, Copy, Debug, PartialEq, Eq)]
+#[derive(Clone, Copy)]
 pub enum Held {
     Value(Value),
     Reference(Reference),

@@ -8,7 +8,7 @@ use wjs_arena::Native;
 use wjs_store::WorldStore;
 
 /// Whose step is next.
-#[derive(Clone, Copy, Debug, PartialEq, Eq)]
+#[derive(Clone, Copy)]
 pub enum Turn {
     Expr,
     Call,

@@ -6,7 +6,7 @@ use wjs_model::{Form, Frame, Phase};
 use wjs_tree::NodeId;
 
 /// What is entered by a step: an expression for its value or as a target, a statement, a loop at its next turn.
-#[derive(Clone, Copy, Debug, PartialEq, Eq)]
+#[derive(Clone, Copy)]
 pub enum Part {
     Expr(NodeId),
     Target(NodeId),

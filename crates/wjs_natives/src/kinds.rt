@@ -12,7 +12,7 @@ use wjs_base::Value;
 use wjs_model::Conversion;
 
 /// How a value is converted: not at all, to a text, to a number, to a whole number; or else only where it is not undefined.
-#[derive(Clone, Copy, Debug, PartialEq, Eq)]
+#[derive(Clone, Copy)]
 pub(crate) enum Kind {
     AsIs,
     Text,
@@ -24,7 +24,7 @@ pub(crate) enum Kind {
 }
 
 /// The kinds of a native function's arguments: so many, or one for each that is given, or one where any is given.
-#[derive(Clone, Copy, Debug, PartialEq, Eq)]
+#[derive(Clone, Copy)]
 enum Kinds {
     None,
     One(Kind),

@@ -23,7 +23,7 @@ use wjs_rows::Steps;
 use wjs_slots::Table;
 
 /// A world by its number, and its place among the worlds.
-#[derive(Clone, Copy, Debug, PartialEq, Eq)]
+#[derive(Clone, Copy)]
 pub struct Spot {
     pub world: WorldId,
     pub place: usize,

@@ -14,7 +14,7 @@ use wjs_base::{Content, ObjId, OutOfMemory, Slot};
 use wjs_rows::{Rows, Steps};
 
 /// What a world keeps of a slot.
-#[derive(Clone, Copy, Debug, PartialEq, Eq)]
+#[derive(Clone, Copy)]
 pub struct Row {
     /// The recorded read, if there is one.
     pub read: Option<Content>,

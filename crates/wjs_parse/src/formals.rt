@@ -9,14 +9,14 @@ use wjs_parse_stmt::push_last;
 use wjs_tree::{Key, Sequence, Sign, Tok, Token};
 
 /// Formals, and the place after them.
-#[derive(Debug, Drop)]
+#[derive(Drop)]
 pub struct ListedFormals {
     pub list: Sequence<TextId>,
     pub next: usize,
 }
 
 /// The name and the formals of a function, and the place after the brace that opens its body.
-#[derive(Debug, Drop)]
+#[derive(Drop)]
 pub struct Head {
     pub name: Option<TextId>,
     pub formals: Sequence<TextId>,

@@ -3,7 +3,7 @@
 use wjs_tree::NodeId;
 
 /// A node and the place after its tokens.
-#[derive(Clone, Copy, Debug)]
+#[derive(Clone, Copy)]
 pub struct Found {
     pub node: NodeId,
     pub next: usize,

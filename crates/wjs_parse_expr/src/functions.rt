@@ -8,7 +8,7 @@ use wjs_tree::NodeId;
 
 /// From the place of a `function` token to its finished node and the place after it. Function bodies are read innermost
 /// first, so that expressions never read statements.
-#[derive(Debug, Drop)]
+#[derive(Drop)]
 pub struct Functions {
     entries: HashMap<usize, (NodeId, usize)>,
 }

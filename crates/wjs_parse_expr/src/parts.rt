@@ -6,7 +6,7 @@ use wjs_base::OutOfMemory;
 use wjs_tree::{NodeId, Property, Sequence};
 
 /// A node, the place after its tokens, and whether it may be assigned to.
-#[derive(Clone, Copy, Debug)]
+#[derive(Clone, Copy)]
 pub struct Part {
     pub node: NodeId,
     pub next: usize,
@@ -14,21 +14,21 @@ pub struct Part {
 }
 
 /// What a chain of names, indices and calls begins with or is, and whether it is `new` without arguments.
-#[derive(Clone, Copy, Debug)]
+#[derive(Clone, Copy)]
 pub struct Head {
     pub part: Part,
     pub is_bare: bool,
 }
 
 /// Arguments, and the place of the closing parenthesis.
-#[derive(Debug, Drop)]
+#[derive(Drop)]
 pub struct Listed {
     pub list: Sequence<NodeId>,
     pub next: usize,
 }
 
 /// Items, whether one more comma stands behind a last expression, and the place of the closing bracket.
-#[derive(Debug, Drop)]
+#[derive(Drop)]
 pub struct ListedItems {
     pub list: Sequence<Option<NodeId>>,
     pub tail: bool,
@@ -36,7 +36,7 @@ pub struct ListedItems {
 }
 
 /// Properties, whether one more comma stands behind the last, and the place of the closing brace.
-#[derive(Debug, Drop)]
+#[derive(Drop)]
 pub struct ListedProperties {
     pub list: Sequence<Property>,
     pub comma: bool,

@@ -18,7 +18,7 @@ use wjs_base::OutOfMemory;
 use wjs_tree::{Key, Node, NodeId, Nodes, Property, PropertyKey, Sequence, Sign, Tok, Token};
 
 /// What a reserved word is as an expression.
-#[derive(Clone, Copy, Debug)]
+#[derive(Clone, Copy)]
 enum Reserved {
     This,
     ThisWorld,

@@ -8,7 +8,7 @@ use wjs_parse_expr::token_at;
 use wjs_tree::{Key, Sign, Tok, Token};
 
 /// A kind of statement, by its first tokens.
-#[derive(Clone, Copy, Debug)]
+#[derive(Clone, Copy)]
 pub enum Kind {
     Block,
     Variables,

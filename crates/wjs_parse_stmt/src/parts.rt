@@ -6,7 +6,7 @@ use wjs_base::OutOfMemory;
 use wjs_tree::{Clause, Declarator, End, Handler, NodeId, Sequence};
 
 /// A statement, the place after it, and whether an `else` there would belong to an `if` in it.
-#[derive(Clone, Copy, Debug)]
+#[derive(Clone, Copy)]
 pub struct Piece {
     pub node: NodeId,
     pub next: usize,
@@ -14,21 +14,21 @@ pub struct Piece {
 }
 
 /// A node, and the place after its tokens.
-#[derive(Clone, Copy, Debug)]
+#[derive(Clone, Copy)]
 pub struct Spot {
     pub node: NodeId,
     pub next: usize,
 }
 
 /// The end of a statement, and the place after it.
-#[derive(Clone, Copy, Debug)]
+#[derive(Clone, Copy)]
 pub struct Ended {
     pub end: End,
     pub next: usize,
 }
 
 /// An expression with the end of its statement, and the place after it.
-#[derive(Clone, Copy, Debug)]
+#[derive(Clone, Copy)]
 pub struct Valued {
     pub node: NodeId,
     pub end: End,
@@ -36,14 +36,14 @@ pub struct Valued {
 }
 
 /// An expression or nothing, and the place after it.
-#[derive(Clone, Copy, Debug)]
+#[derive(Clone, Copy)]
 pub struct Maybe {
     pub node: Option<NodeId>,
     pub next: usize,
 }
 
 /// What a statement ends in before its end.
-#[derive(Clone, Copy, Debug)]
+#[derive(Clone, Copy)]
 pub enum Stop {
     /// Nothing continues it.
     Complete,
@@ -54,7 +54,7 @@ pub enum Stop {
 }
 
 /// Both parts of the header of a `for` behind its first, and the statement with the place after it.
-#[derive(Clone, Copy, Debug)]
+#[derive(Clone, Copy)]
 pub struct Rest {
     pub test: Option<NodeId>,
     pub update: Option<NodeId>,
@@ -64,7 +64,7 @@ pub struct Rest {
 }
 
 /// A variable, the place after it, and what it ends in.
-#[derive(Clone, Copy, Debug)]
+#[derive(Clone, Copy)]
 pub struct Declared {
     pub declarator: Declarator,
     pub next: usize,
@@ -73,7 +73,7 @@ pub struct Declared {
 
 /// An `if` without what stands behind `else`: the test, the statement, the place after it, and whether an `else` there
 /// would belong to an `if` in the statement.
-#[derive(Clone, Copy, Debug)]
+#[derive(Clone, Copy)]
 pub struct Branch {
     pub test: NodeId,
     pub body: NodeId,
@@ -82,28 +82,28 @@ pub struct Branch {
 }
 
 /// The name and the block of a `catch`, and the place after it.
-#[derive(Clone, Copy, Debug)]
+#[derive(Clone, Copy)]
 pub struct Handled {
     pub handler: Handler,
     pub next: usize,
 }
 
 /// A clause of a `switch`, and the place after it.
-#[derive(Debug, Drop)]
+#[derive(Drop)]
 pub struct Arm {
     pub clause: Clause,
     pub next: usize,
 }
 
 /// Statements or elements, and the place of the token that closes them.
-#[derive(Debug, Drop)]
+#[derive(Drop)]
 pub struct Listed {
     pub list: Sequence<NodeId>,
     pub next: usize,
 }
 
 /// Variables, the place after them, and what they end in.
-#[derive(Debug, Drop)]
+#[derive(Drop)]
 pub struct ListedVariables {
     pub list: Sequence<Declarator>,
     pub next: usize,
@@ -111,7 +111,7 @@ pub struct ListedVariables {
 }
 
 /// The clauses of a `switch`, and the place of the brace that closes them.
-#[derive(Debug, Drop)]
+#[derive(Drop)]
 pub struct ListedClauses {
     pub list: Sequence<Clause>,
     pub next: usize,

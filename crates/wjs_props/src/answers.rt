@@ -1,7 +1,7 @@
 //! What the operations answer.
 
 /// What became of a put.
-#[derive(Clone, Copy, Debug, PartialEq, Eq)]
+#[derive(Clone, Copy)]
 pub enum PutAnswer {
     Done,
     /// An object of the chain has the name as a fixed property; nothing changed.

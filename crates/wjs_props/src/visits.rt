@@ -6,14 +6,14 @@ use std::marker::Model;
 use wjs_base::{Name, ObjId, OutOfMemory};
 
 /// A name that a `for`-`in` visits, and the object that has it.
-#[derive(Clone, Copy, Debug, PartialEq, Eq)]
+#[derive(Clone, Copy)]
 pub struct Visit {
     pub object: ObjId,
     pub name: Name,
 }
 
 /// Visits in their order. Contracts see the list.
-#[derive(Debug, Drop)]
+#[derive(Drop)]
 pub struct Visits {
     items: Vec<Visit>,
 }

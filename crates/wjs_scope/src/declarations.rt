@@ -5,7 +5,7 @@ use wjs_base::TextId;
 use wjs_tree::{NodeId, Sequence};
 
 /// What a body declares (ECMA-262, 3rd edition, section 10.1.3).
-#[derive(Debug, Drop)]
+#[derive(Drop)]
 pub struct Declared {
     pub(crate) formals: Sequence<TextId>,
     pub(crate) functions: Sequence<NodeId>,

@@ -5,7 +5,7 @@ use std::marker::Model;
 use wjs_tree::NodeId;
 
 /// The places of the names of one script: for each node those of its names, in order.
-#[derive(Debug, Drop)]
+#[derive(Drop)]
 pub struct Places {
     pub(crate) starts: Vec<usize>,
     pub(crate) list: Vec<Place>,

@@ -7,7 +7,7 @@ use crate::store::Verdict;
 use wjs_base::{Content, Names, ObjId, Slot, WorldId};
 
 /// One call of a store of worlds.
-#[derive(Clone, Copy, Debug, PartialEq, Eq)]
+#[derive(Clone, Copy)]
 pub enum Action {
     Read {
         world: WorldId,
@@ -48,7 +48,7 @@ impl Action {
 }
 
 /// What a store answers to an action.
-#[derive(Debug, Drop)]
+#[derive(Drop)]
 pub enum Answer {
     /// To a read: what the slot holds.
     Found(Content),

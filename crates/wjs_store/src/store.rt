@@ -7,7 +7,7 @@ ghost use Rattle.wjs_store.specs.Shown.{content_of, slots_of, verdict_of, first_
 use wjs_base::{Content, Names, ObjId, OutOfMemory, Slot, WorldId};
 
 /// What a commit answers.
-#[derive(Clone, Copy, Debug, PartialEq, Eq)]
+#[derive(Clone, Copy, PartialEq, Eq)]
 pub enum Verdict {
     /// The check passed, and what was written is in the parent.
     Moved,
@@ -18,7 +18,7 @@ pub enum Verdict {
 }
 
 /// The sizes of a world's marks.
-#[derive(Clone, Copy, Debug, PartialEq, Eq)]
+#[derive(Clone, Copy)]
 pub struct Counts {
     /// Slots with a recorded read.
     pub reads: u64,

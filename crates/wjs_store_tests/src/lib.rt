@@ -1,11 +1,5 @@
-//! Tests of the stores of worlds: full copies, sparse worlds, and the rows that these keep.
+//! Tests of the stores of worlds: full copies and sparse worlds answer the same actions alike.
 #![tactic(auto)]
 
 #[cfg(test)]
-mod client;
-#[cfg(test)]
-mod full;
-#[cfg(test)]
-mod rows;
-#[cfg(test)]
-mod sparse;
+mod stores;

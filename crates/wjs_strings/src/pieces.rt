@@ -10,7 +10,7 @@ use std::alloc::Global;
 use wjs_base::OutOfMemory;
 
 /// A piece of a text, from its first code unit to before its end.
-#[derive(Clone, Copy, Debug, PartialEq, Eq)]
+#[derive(Clone, Copy)]
 pub struct Piece {
     pub start: usize,
     pub end: usize,

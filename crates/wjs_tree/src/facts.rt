@@ -6,7 +6,7 @@ ghost use Rattle.wjs_tree.specs.Facts.{AreFacts, fact_at, highest, height_at, op
 use crate::node::{Clause, Declarator, ForInit, Handler, Node, NodeId, Property};
 
 /// The level, the height and two tests of a node.
-#[derive(Clone, Copy, Debug)]
+#[derive(Clone, Copy)]
 pub struct Facts {
     pub level: u32,
     pub height: u64,

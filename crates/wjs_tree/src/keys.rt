@@ -4,7 +4,7 @@ ghost use Rattle.wjs_tree.specs.Keys.{spelling};
 
 /// A reserved word: it is no identifier (ECMA-262, 3rd edition, section 7.5.1), but `thisWorld` is
 /// this language's own.
-#[derive(Clone, Copy, Debug, PartialEq, Eq)]
+#[derive(Clone, Copy, PartialEq, Eq)]
 pub enum Key {
     Break,
     Case,

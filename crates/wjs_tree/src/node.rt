@@ -6,11 +6,11 @@ use crate::sequence::Sequence;
 use wjs_base::{TextId, Whole};
 
 /// The number of a node, counted from 0.
-#[derive(Clone, Copy, Debug, PartialEq, Eq)]
+#[derive(Clone, Copy, PartialEq, Eq)]
 pub struct NodeId(pub u64);
 
 /// How a statement ends: by `;`, or by one that was inserted (section 7.9).
-#[derive(Clone, Copy, Debug, PartialEq, Eq)]
+#[derive(Clone, Copy)]
 pub enum End {
     Written,
     Inserted,
@@ -18,14 +18,14 @@ pub enum End {
 
 /// A name behind a dot or before a colon: an identifier, or a reserved word (ECMA-262, 5th edition,
 /// section 11.2.1).
-#[derive(Clone, Copy, Debug, PartialEq, Eq)]
+#[derive(Clone, Copy)]
 pub enum Spelt {
     Word(TextId),
     Key(Key),
 }
 
 /// The name of a property in an object literal (section 11.1.5).
-#[derive(Clone, Copy, Debug, PartialEq, Eq)]
+#[derive(Clone, Copy)]
 pub enum PropertyKey {
     Spelt(Spelt),
     Text(TextId),
@@ -33,21 +33,21 @@ pub enum PropertyKey {
 }
 
 /// A property of an object literal.
-#[derive(Clone, Copy, Debug, PartialEq, Eq)]
+#[derive(Clone, Copy)]
 pub struct Property {
     pub key: PropertyKey,
     pub value: NodeId,
 }
 
 /// A variable and its initialiser (section 12.2).
-#[derive(Clone, Copy, Debug, PartialEq, Eq)]
+#[derive(Clone, Copy)]
 pub struct Declarator {
     pub name: TextId,
     pub value: Option<NodeId>,
 }
 
 /// What stands first in the header of a `for` (section 12.6.3).
-#[derive(Debug, Drop)]
+#[derive(Drop)]
 pub enum ForInit {
     Nothing,
     Expr(NodeId),
@@ -55,21 +55,21 @@ pub enum ForInit {
 }
 
 /// A clause of a `switch`, without an expression for `default` (section 12.11).
-#[derive(Debug, Drop)]
+#[derive(Drop)]
 pub struct Clause {
     pub test: Option<NodeId>,
     pub body: Sequence<NodeId>,
 }
 
 /// The `catch` of a `try`: the name and the block (section 12.14).
-#[derive(Clone, Copy, Debug, PartialEq, Eq)]
+#[derive(Clone, Copy)]
 pub struct Handler {
     pub name: TextId,
     pub block: NodeId,
 }
 
 /// A form, with its parts in the order in which they are spelled.
-#[derive(Debug, Drop)]
+#[derive(Drop)]
 pub enum Node {
     Name(TextId),
     Number(Whole),

@@ -15,7 +15,7 @@ use std::marker::Model;
 use wjs_base::OutOfMemory;
 
 /// The nodes of trees, each child with a smaller number than its parent. Contracts see their list.
-#[derive(Debug, Drop)]
+#[derive(Drop)]
 pub struct Nodes {
     list: Vec<Node>,
     facts: Vec<Facts>,
@@ -130,7 +130,7 @@ impl Nodes {
 }
 
 /// A script's nodes, and the number of its Program.
-#[derive(Debug, Drop)]
+#[derive(Drop)]
 pub struct Program {
     pub nodes: Nodes,
     pub body: NodeId,

@@ -7,14 +7,14 @@ use crate::signs::Sign;
 use crate::tokens::Token;
 
 /// An operator behind a target (section 11.3).
-#[derive(Clone, Copy, Debug, PartialEq, Eq)]
+#[derive(Clone, Copy)]
 pub enum UpdateOperator {
     Increment,
     Decrement,
 }
 
 /// An operator before an operand (section 11.4).
-#[derive(Clone, Copy, Debug, PartialEq, Eq)]
+#[derive(Clone, Copy)]
 pub enum PrefixOperator {
     Delete,
     Void,
@@ -28,7 +28,7 @@ pub enum PrefixOperator {
 }
 
 /// An operator between two operands (sections 11.5 to 11.11).
-#[derive(Clone, Copy, Debug, PartialEq, Eq)]
+#[derive(Clone, Copy, PartialEq, Eq)]
 pub enum BinaryOperator {
     Multiply,
     Divide,
@@ -56,7 +56,7 @@ pub enum BinaryOperator {
 }
 
 /// An assignment sign (section 11.13).
-#[derive(Clone, Copy, Debug, PartialEq, Eq)]
+#[derive(Clone, Copy)]
 pub enum AssignOperator {
     Plain,
     Multiply,

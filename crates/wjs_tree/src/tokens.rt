@@ -5,7 +5,7 @@ use crate::signs::Sign;
 use wjs_base::{TextId, Whole};
 
 /// A token, without its place (ECMA-262, 3rd edition, section 7.5).
-#[derive(Clone, Copy, Debug, PartialEq, Eq)]
+#[derive(Clone, Copy)]
 pub enum Token {
     /// An identifier, by its text.
     Word(TextId),
@@ -18,7 +18,7 @@ pub enum Token {
 }
 
 /// A token of a script at its place.
-#[derive(Clone, Copy, Debug, PartialEq, Eq)]
+#[derive(Clone, Copy)]
 pub struct Tok {
     pub token: Token,
     /// How many bytes of the script stand before it.

@@ -19,7 +19,7 @@ use wjs_store::WorldStore;
 use wjs_tree::{Node, NodeId};
 
 /// What takes the names: a target, or the name of the `var`.
-#[derive(Clone, Copy, Debug, PartialEq, Eq)]
+#[derive(Clone, Copy)]
 pub(crate) enum Taker {
     Target(NodeId),
     Variable(TextId),

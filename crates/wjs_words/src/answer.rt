@@ -5,7 +5,7 @@ use crate::mode::Mode;
 use std::alloc::AllocError;
 
 /// What the words ask for.
-#[derive(Clone, Copy, Debug, PartialEq, Eq)]
+#[derive(Clone, Copy)]
 pub struct Options {
     /// The most steps that the run may take, from 1 to 1,000,000,000,000.
     pub steps: u64,

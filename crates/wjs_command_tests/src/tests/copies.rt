@@ -3,23 +3,17 @@ ghost use Rattle.wjs_start.specs.First.{IsNew};
 ghost use Rattle.wjs_machine.specs.Runs.{IsPlain};
 
 use super::*;
-use crate::tests::scripts::SCRIPTS;
+use crate::tests::scripts::{SCRIPTS, TREES};
 use wjs_command::perform_in;
 use wjs_store::{FullStore, WorldStore};
 use wjs_words::{Mode, Options};
-
-/// How the scripts are run.
-const OPTIONS: Options = Options {
-    steps: 10_000_000,
-    mode: Mode::Run,
-    number: 1,
-};
 
 /// What the script prints over a new store.
 fn printed_over<S: WorldStore + Drop>(
     rt: &impl Abort,
     alloc: Global,
     store: S,
+    mode: Mode,
     script: &str,
 ) -> Result<Vec<u8>, Fail>
     requires new { IsNew (S.meaning store) }
@@ -27,20 +21,35 @@ fn printed_over<S: WorldStore + Drop>(
 {
     assert!(rt; script.len() <= 16_777_216);
     let mut out = MemSink::new(alloc, Vec::new(alloc), 4096);
-    let Ok(report) = perform_in(alloc, store, OPTIONS, script.as_bytes(), &mut out) else {
+    let options = Options {
+        steps: 10_000_000,
+        mode,
+        number: 1,
+    };
+    let Ok(report) = perform_in(alloc, store, options, script.as_bytes(), &mut out) else {
         return Err("stopped")?;
     };
     assert_eq!(rt; report.status, Status::Done, "{script}");
     Ok(out.content().to_vec(alloc)?)
 }
 
-#[test]
-fn scripts_over_full_copies(rt: HostRuntime) -> Result<(), Fail> {
-    let alloc = rt.alloc();
-    for (script, printed) in SCRIPTS {
+/// Runs each script in the mode, and compares what it prints.
+fn expect(
+    rt: &impl Abort,
+    alloc: Global,
+    mode: Mode,
+    scripts: &[(&str, &str)],
+) -> Result<(), Fail> {
+    for (script, printed) in scripts {
         let store = FullStore::new(alloc)?;
-        let out = printed_over(&rt, alloc, store, script)?;
+        let out = printed_over(rt, alloc, store, mode, script)?;
         assert_eq!(rt; out.as_slice(), printed.as_bytes(), "{script}");
     }
     Ok(())
+}
+
+#[test]
+fn scripts_over_full_copies(rt: HostRuntime) -> Result<(), Fail> {
+    expect(&rt, rt.alloc(), Mode::Run, &SCRIPTS)?;
+    expect(&rt, rt.alloc(), Mode::Tree, &TREES)
 }

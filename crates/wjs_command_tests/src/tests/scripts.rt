@@ -104,3 +104,31 @@ pub(crate) const SCRIPTS: [(&str, &str); 29] = [
     ("print(\"\\u20AC\\uD800\");", "€\u{FFFD}\n"),
     ("print(thisWorld);", "[object World]\n"),
 ];
+
+/// Scripts whose worlds are shown at the end, and what is written then. They are run by the program as rows of `tests/decisions.jsonl`.
+pub(crate) const TREES: [(&str, &str); 6] = [
+    (
+        "var a = [1, 2]; var w = thisWorld.sprout(); in w { a[0] = 5; }",
+        "world 0 reads 0 writes 0 closed 0\nworld 1 parent 0 reads 2 writes 1 closed 0\n",
+    ),
+    (
+        "var a = [1]; a[64] = 1; var w = thisWorld.sprout(); in w { a.length = 0; }",
+        "world 0 reads 0 writes 0 closed 0\nworld 1 parent 0 reads 4 writes 3 closed 1\n",
+    ),
+    (
+        "var x = 1; var w = thisWorld.sprout(); in w { delete x; delete nothing; }",
+        "world 0 reads 0 writes 0 closed 0\nworld 1 parent 0 reads 1 writes 1 closed 0\n",
+    ),
+    (
+        "var w = thisWorld.sprout(); in w { for (var k in {}) ; }",
+        "world 0 reads 0 writes 0 closed 0\nworld 1 parent 0 reads 6 writes 0 closed 2\n",
+    ),
+    (
+        "var w = thisWorld.sproutStrict(); function f(n) { } in w { f(1); }",
+        "world 0 reads 0 writes 0 closed 0\nworld 1 parent 0 reads 6 writes 5 closed 0\n",
+    ),
+    (
+        "var a = thisWorld.sproutStrict(), b; in a { b = thisWorld.sprout(); in b { y = 1; } b.commit(); }",
+        "world 0 reads 0 writes 0 closed 0\nworld 1 parent 0 reads 6 writes 2 closed 0\nworld 2 parent 1 reads 0 writes 0 closed 0\n",
+    ),
+];
