@@ -13,7 +13,7 @@ import subprocess
 import sys
 
 TOP = os.path.dirname(os.path.dirname(os.path.abspath(__file__)))
-START = ('wjs_command', 'src/command.rt', 'pub fn command<')
+START = ('wjs_command', 'src/work.rt', 'pub fn command<')
 WORD = re.compile(r"[^\s(){}\[\],;.@\\]+")
 
 

@@ -2,15 +2,15 @@
 //! prints on one sink and a line on another where it is refused or a fault comes.
 #![tactic(auto)]
 
-mod command;
 mod laws;
-mod perform;
+mod performing;
 mod report;
 mod running;
 mod status;
+mod work;
 
-pub use command::command;
 pub use laws::{completeness, one_due};
-pub use perform::{perform, perform_in};
+pub use performing::{perform, perform_in};
 pub use report::{Report, Stop};
 pub use status::Status;
+pub use work::command;

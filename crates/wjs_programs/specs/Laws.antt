@@ -32,6 +32,6 @@ UnitsAreTrees =
 abbrev pub OneProgram : Type 0
 OneProgram = (bytes : List ℕ) (a b : Tree) → IsProgram bytes a → IsProgram bytes b → b ≡ a
 
--- where bytes spell a program by one table of texts, they spell one by each
+-- bytes that spell a program by one table of texts are refused by none
 abbrev pub ProgramOrNone : Type 0
 ProgramOrNone = (bytes : List ℕ) (a : Tree) → IsProgram bytes a → IsNoProgram bytes → ⊥

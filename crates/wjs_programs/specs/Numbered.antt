@@ -190,7 +190,7 @@ module _ (texts : Table) where
         let r = elements around (below k l) rest in
         (k ∷ r.0, l ++ r.1)
 
-  -- how many nodes elements are made of
+  -- how many nodes elements are made of, wherever their numbers begin
   abbrev pub count : Elements → ℕ
   count program = length (elements [] 0 program).1
 

@@ -11,7 +11,7 @@ pub fn one_program()
     ensures { OneProgram }
 {}
 
-/// Bytes that spell a program by one table of texts spell one by each.
+/// Bytes that spell a program by one table of texts are refused by none.
 pub fn program_or_none()
     ensures { ProgramOrNone }
 {}

@@ -5,7 +5,7 @@ use Rattle.wjs_io.specs.declared.loops.ReadFault.{ReadFault}
 use Rattle.wjs_command.specs.Due.{most_bytes, IsTold}
 use Rattle.wjs_command.specs.Attempt.{Comes}
 use Rattle.wjs_command.proofs.Attempts.{serve_read, serve_failed, serve_spent, serve_long}
-use Rattle.wjs_command.proofs.command.read.Goals as goal
+use Rattle.wjs_command.proofs.work.read.Goals as goal
 
 pub returns-in-Ok : goal.returns-in-Ok
 returns-in-Ok g c =

@@ -7,7 +7,7 @@ use Rattle.wjs_command.specs.Due.{IsTold}
 use Rattle.wjs_command.specs.Attempt.{IsRunOf}
 use Rattle.wjs_command.proofs.Deliveries.{comes_as}
 use Rattle.wjs_command.proofs.Scripts.{run_told, fault_comes, check_comes}
-use Rattle.wjs_command.proofs.perform.perform_in.Goals as goal
+use Rattle.wjs_command.proofs.performing.perform_in.Goals as goal
 
 pub returns-in-Check : goal.returns-in-Check
 returns-in-Check g c =

@@ -1,6 +1,6 @@
 use Rattle.wjs_io.specs.Streams.{stream}
 use Rattle.wjs_command.proofs.Attempts.{serve_generated}
-use Rattle.wjs_command.proofs.command.obey.Goals as goal
+use Rattle.wjs_command.proofs.work.obey.Goals as goal
 
 pub returns-in-Gen : goal.returns-in-Gen
 returns-in-Gen g c =

@@ -5,7 +5,7 @@ use Rattle.wjs_io.specs.Streams.{stream}
 use Rattle.wjs_command.specs.Table.{line}
 use Rattle.wjs_command.specs.Attempt.{Finishes}
 use Rattle.wjs_io.proofs.Written.{tried}
-use Rattle.wjs_command.proofs.command.explain.Goals as goal
+use Rattle.wjs_command.proofs.work.explain.Goals as goal
 
 pub returns-in-OutOfMemory : goal.returns-in-OutOfMemory
 returns-in-OutOfMemory g c =

@@ -2,7 +2,7 @@ use Rattle.std.proofs.Common.{map as each}
 use Rattle.std.specs.String.{string_bytes}
 use Rattle.wjs_io.specs.Streams.{stream}
 use Rattle.wjs_command.proofs.Attempts.{ends_from}
-use Rattle.wjs_command.proofs.command.command.Goals as goal
+use Rattle.wjs_command.proofs.work.command.Goals as goal
 
 pub returns-clause-ends : goal.returns-clause-ends
 returns-clause-ends g c =

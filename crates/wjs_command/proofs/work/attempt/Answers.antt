@@ -9,7 +9,7 @@ use Rattle.wjs_words.specs.declared.answer.WordsFault.{WordsFault}
 use Rattle.wjs_command.specs.declared.status.Status.TheVariants.{Usage}
 use Rattle.wjs_command.specs.declared.report.Report.{Report}
 use Rattle.wjs_command.proofs.Attempts.{attempt_served, attempt_usage, attempt_spent}
-use Rattle.wjs_command.proofs.command.attempt.Goals as goal
+use Rattle.wjs_command.proofs.work.attempt.Goals as goal
 
 pub returns-in-Ok : goal.returns-in-Ok
 returns-in-Ok g c =

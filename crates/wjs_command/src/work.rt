@@ -7,7 +7,7 @@ ghost use Rattle.wjs_command.specs.Due.{IsTold};
 ghost use Rattle.wjs_command.specs.Attempt.{Attempts, Serves, Comes, Refuses, Reports, Finishes};
 ghost use Rattle.wjs_command.specs.Command.{Ends, Causes};
 
-use crate::perform::perform;
+use crate::performing::perform;
 use crate::report::{Report, Stop, report_line};
 use crate::status::Status;
 use std::alloc::Global;

@@ -2,7 +2,7 @@ use Rattle.std.proofs.Common.{List, ℕ, subst, ◌∙◌}
 use Rattle.wjs_io.specs.Streams.{stream}
 use Rattle.wjs_command.specs.Due.{IsTold}
 use Rattle.wjs_command.specs.Attempt.{Comes}
-use Rattle.wjs_command.proofs.command.generate.Goals as goal
+use Rattle.wjs_command.proofs.work.generate.Goals as goal
 
 pub returns-in-Ok : goal.returns-in-Ok
 returns-in-Ok g c =

@@ -1,6 +1,6 @@
 use Rattle.std.proofs.Common.{inr, refl}
 use Rattle.wjs_io.proofs.Written.{stops_at}
-use Rattle.wjs_command.proofs.command.report.Goals as goal
+use Rattle.wjs_command.proofs.work.report.Goals as goal
 
 pub returns-in-Err : goal.returns-in-Err
 returns-in-Err g c =
