@@ -1,7 +1,7 @@
 -- The walk over the tree of a script, by what has been taken and what waits.
-use Rattle.std.specs.Prelude.{◌≡◌, ℕ, ◌<◌, List, [], ◌∷◌, ◌++◌, length, All, Some}
-use Rattle.std.proofs.Common.{refl, sym, ap, subst, ◌∙◌, inl, inr, arith, append_assoc, append-nil, length-append}
-use Rattle.std.proofs.lemmas.List.Elements.{All-nil, All-cons, All-head, All-tail, All-append, All-push, All-weaker}
+use Rattle.std.specs.Prelude.{◌≡◌, ℕ, ◌<◌, List, [], ◌∷◌, ◌++◌, length, All}
+use Rattle.std.proofs.Common.{sym, ap, subst, ◌∙◌, inl, inr, arith, append_assoc, append-nil, length-append}
+use Rattle.std.proofs.lemmas.List.Elements.{All-nil, All-head, All-tail, All-append, All-push, All-weaker}
 use Rattle.std.proofs.lemmas.Option.{slice_get_within}
 use Rattle.wjs_tree.specs.declared.node.Node.{Node}
 use Rattle.wjs_tree.specs.declared.node.NodeId.{NodeId}
@@ -79,6 +79,15 @@ module _ (ns : List Node) (body : NodeId) (taken : List ℕ) (i : NodeId) (stack
   first_low : i.0 < body.0
   first_low = All-head (λ (j : NodeId). j.0 < body.0) i stack lows
 
+  others_apart : (rest : List ℕ) → t.rest ≡ i.0 ∷ rest → AreApart taken (i.0 ∷ rest)
+  others_apart rest e = subst (AreApart taken) e t.apart
+
+  once_more : (rest : List ℕ) → t.rest ≡ i.0 ∷ rest → IsOnce (taken ++ i.0 ∷ [])
+  once_more rest e = once_both taken (i.0 ∷ []) t.once_taken (λ h. h, tt) (λ n h g. others_apart rest e n h (elim g as (λ _. IsUsed (i.0 ∷ rest) n) [ inl q ↦ inl q | inr r ↦ absurd r ]))
+
+  low_more : All (λ k. k < body.0) (taken ++ i.0 ∷ [])
+  low_more = All-push (λ k. k < body.0) taken i.0 t.taken_low first_low
+
   pub there : i.0 < length ns
   there = let here = first_node ns i stack t.rest waiting in slice_get_within ns i.0 here.0 here.1
 
@@ -86,18 +95,17 @@ module _ (ns : List Node) (body : NodeId) (taken : List ℕ) (i : NodeId) (stack
   goes_on node new has below e =
       let s = step ns i node stack t.rest waiting has in
       let once : IsOnce (i.0 ∷ s.rest) = subst IsOnce s.is t.once_rest in
-      let apart : AreApart taken (i.0 ∷ s.rest) = subst (AreApart taken) s.is t.apart in
       record {
         rest = s.rest;
         stand = subst (λ z. AllStand ns 200 (on_side Around z) s.rest) (sym e) s.stand;
         all = λ tree is. append_assoc taken (i.0 ∷ []) s.rest ∙ ap (λ z. taken ++ z) (sym s.is) ∙ t.all tree is;
-        once_taken = once_both taken (i.0 ∷ []) t.once_taken (λ h. h, tt) (λ n h g. apart n h (elim g as (λ _. IsUsed (i.0 ∷ s.rest) n) [ inl q ↦ inl q | inr r ↦ absurd r ]));
+        once_taken = once_more s.rest s.is;
         once_rest = once.1;
         apart = λ n h g. elim (used_cases taken (i.0 ∷ []) n h) as (λ _. ⊥) [
-          | inl u ↦ apart n u (inr g)
+          | inl u ↦ others_apart s.rest s.is n u (inr g)
           | inr u ↦ elim u as (λ _. ⊥) [ inl q ↦ once.0 (subst (IsUsed s.rest) q g) | inr r ↦ r ]
         ];
-        taken_low = All-push (λ k. k < body.0) taken i.0 t.taken_low first_low;
+        taken_low = low_more;
         stack_low =
             subst (All (λ (j : NodeId). j.0 < body.0)) (sym e)
             (All-append (λ (j : NodeId). j.0 < body.0) (parts_of node) stack
@@ -108,10 +116,9 @@ module _ (ns : List Node) (body : NodeId) (taken : List ℕ) (i : NodeId) (stack
   -- there is room for one more
   pub fewer : length taken < body.0
   fewer =
-      let s = step ns i (first_node ns i stack t.rest waiting).0 stack t.rest waiting (first_node ns i stack t.rest waiting).1 in
-      let apart : AreApart taken (i.0 ∷ s.rest) = subst (AreApart taken) s.is t.apart in
-      let once : IsOnce (taken ++ i.0 ∷ []) = once_both taken (i.0 ∷ []) t.once_taken (λ h. h, tt) (λ n h g. apart n h (elim g as (λ _. IsUsed (i.0 ∷ s.rest) n) [ inl q ↦ inl q | inr r ↦ absurd r ])) in
-      let most = few body.0 (taken ++ i.0 ∷ []) once (under body.0 (taken ++ i.0 ∷ []) (All-push (λ k. k < body.0) taken i.0 t.taken_low first_low)) in
+      let here = first_node ns i stack t.rest waiting in
+      let s = step ns i here.0 stack t.rest waiting here.1 in
+      let most = few body.0 (taken ++ i.0 ∷ []) (once_more s.rest s.is) (under body.0 (taken ++ i.0 ∷ []) low_more) in
       omega (arith, length-append taken (i.0 ∷ []))
 
 pub ends : (ns : List Node) (body : NodeId) (taken : List ℕ) (stack : List NodeId) → stack ≡ [] → Taking ns body taken stack → (tree : Elements) (is : IsBody ns tree body) → taken ≡ is.used
