@@ -1,5 +1,5 @@
 -- Variables with initialisers, from one of a number on.
-use Rattle.std.proofs.Common.{◌≡◌, ℕ, suc, ◌+◌, ◌-◌, ◌<◌, ◌≤◌, List, ◌∷◌, Option, None, Some, refl, sym, ap, ◌∙◌, subst, length, drop, get_or, arith}
+use Rattle.std.proofs.Common.{◌≡◌, ℕ, zero, suc, ◌+◌, ◌-◌, ◌<◌, ◌≤◌, List, [], ◌∷◌, Option, None, Some, refl, sym, ap, ◌∙◌, subst, length, drop, get_or, arith}
 use Rattle.std.specs.Prelude.{map, slice_get}
 use Rattle.std.proofs.lemmas.Option.{slice_get-get_or, slice_get_past}
 use Rattle.std.specs.Option.{option_map}
@@ -10,9 +10,10 @@ use Rattle.wjs_tree.specs.declared.node.Declarator.{Declarator}
 use Rattle.wjs_tree.specs.declared.node.ForInit.TheVariants as inits
 use Rattle.wjs_tree.specs.declared.node.Node.{Node as NumberedNode}
 use Rattle.wjs_tree.specs.declared.node.Node.TheVariants as nodes
+use Rattle.wjs_scope.specs.Places.{declarator_names, placed_names}
 use Rattle.wjs_content.specs.Values.{Text, Value}
 use Rattle.wjs_content.specs.Tables.{text_in}
-use Rattle.wjs_meaning.specs.Trees.{Place}
+use Rattle.wjs_meaning.specs.Trees.{Place, name_place}
 use Rattle.wjs_meaning.specs.Deeds.{Env, Completion, Act, Ret, Eval, AtExpr, Normal, then_value, tree_here}
 use Rattle.wjs_meaning.specs.References.{reference_at, store}
 use Rattle.wjs_meaning.specs.Reading.{node_in, variable_in, number}
@@ -96,6 +97,19 @@ found_enters t node f here place first held env x ef e1 ep lt =
 abbrev name_among : List Declarator → ℕ → Option TextId
 name_among ds at = option_map (λ (d : Declarator). d.name) (slice_get ds at)
 
+within_names : (ds : List Declarator) (at : ℕ) (name : TextId) → Some name ≡ name_among ds at → at < length (declarator_names ds)
+within_names [] at name e = absurd (cc)
+within_names (d ∷ ds) zero name e = omega arith
+within_names (d ∷ ds) (suc at) name e = let h = within_names ds at name e in omega (arith, h)
+
+-- a variable's name is one of the names of its node that have places
+pub variable_named : (node : NumberedNode) (at : ℕ) (name : TextId) → Some name ≡ name_among (declarators_in node) at → at < length (placed_names node)
+variable_named (nodes.Var xs end) at name e = within_names xs at name e
+variable_named (nodes.For (inits.Var xs) test u s) at name e = within_names xs at name e
+variable_named (nodes.For (inits.Expr x) test u s) at name e = absurd (cc)
+variable_named (nodes.For inits.Nothing test u s) at name e = absurd (cc)
+variable_named _ at name e = absurd (cc)
+
 module _ (t : Table) (here : ℕ) (env : Env) (ds : List Declarator) (at : ℕ) (v : Value) where
   abbrev these : List (Text × Option ℕ)
   these = map (variable_in t) ds
@@ -103,13 +117,13 @@ module _ (t : Table) (here : ℕ) (env : Env) (ds : List Declarator) (at : ℕ) 
   abbrev stored_at : Place → Text → Act
   stored_at place name = reference_at place name env (λ r. store r v env (vars_from here (at + 1) (drop (at + 1) these) env))
 
-  first_stored : (place : Place) (d : Declarator) → (tree_here env).var_place here at ≡ place → slice_get ds at ≡ Some d → stored_at place (text_in t d.name) ≡ store_variable here (drop at these) at env v
+  first_stored : (place : Place) (d : Declarator) → name_place (tree_here env) here at ≡ place → slice_get ds at ≡ Some d → stored_at place (text_in t d.name) ≡ store_variable here (drop at these) at env v
   first_stored place d p e =
       let k : suc at ≡ at + 1 = omega arith in
       sym (ap (λ (xs : List (Text × Option ℕ)). store_variable here xs at env v) (each_at (variable_in t) ds at d e ∙ ap (λ (i : ℕ). variable_in t d ∷ drop i these) k)
       ∙ ap (λ (q : Place). stored_at q (text_in t d.name)) p)
 
-  named_stored : (place : Place) (name : TextId) (o : Option Declarator) → (tree_here env).var_place here at ≡ place → slice_get ds at ≡ o → Some name ≡ option_map (λ (d : Declarator). d.name) o → stored_at place (text_in t name) ≡ store_variable here (drop at these) at env v
+  named_stored : (place : Place) (name : TextId) (o : Option Declarator) → name_place (tree_here env) here at ≡ place → slice_get ds at ≡ o → Some name ≡ option_map (λ (d : Declarator). d.name) o → stored_at place (text_in t name) ≡ store_variable here (drop at these) at env v
   named_stored place name None p e k = absurd (cc)
   named_stored place name (Some d) p e k = let q : name ≡ d.name = cc in ap (λ (id : TextId). stored_at place (text_in t id)) q ∙ first_stored place d p e
 
@@ -119,7 +133,7 @@ module _ (t : Table) (here : ℕ) (env : Env) (ds : List Declarator) (at : ℕ) 
 
 module _ (t : Table) (node : NumberedNode) (here : ℕ) (env : Env) (at : ℕ) (v : Value) where
   -- a value is stored to the variable, and then come those behind it
-  pub variable_stores : (place : Place) (name : TextId) → (tree_here env).var_place here at ≡ place → Some name ≡ name_among (declarators_in node) at → reference_at place (text_in t name) env (λ r. store r v env (vars_from here (at + 1) (drop (at + 1) (variables_in (node_in t node))) env)) ≡ store_variable here (drop at (variables_in (node_in t node))) at env v
+  pub variable_stores : (place : Place) (name : TextId) → name_place (tree_here env) here at ≡ place → Some name ≡ name_among (declarators_in node) at → reference_at place (text_in t name) env (λ r. store r v env (vars_from here (at + 1) (drop (at + 1) (variables_in (node_in t node))) env)) ≡ store_variable here (drop at (variables_in (node_in t node))) at env v
   variable_stores place name p e =
       let P : List (Text × Option ℕ) → Type 0 = λ l. reference_at place (text_in t name) env (λ r. store r v env (vars_from here (at + 1) (drop (at + 1) l) env)) ≡ store_variable here (drop at l) at env v in
       subst P (sym (variables_same t node)) (named_stored t here env (declarators_in node) at v place name (slice_get (declarators_in node) at) p refl e)

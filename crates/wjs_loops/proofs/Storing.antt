@@ -10,6 +10,7 @@ use Rattle.wjs_store.specs.Meaning.{Meaning}
 use Rattle.wjs_tree.specs.declared.node.Declarator.{Declarator}
 use Rattle.wjs_scope.specs.declared.place.Place.{Place as Found}
 use Rattle.wjs_content.specs.Tables.{text_in, value_in}
+use Rattle.wjs_meaning.specs.Trees.{name_place}
 use Rattle.wjs_meaning.specs.Deeds.{Env, Act, Ret, Throws, tree_here}
 use Rattle.wjs_meaning.specs.Reading.{node_in}
 use Rattle.wjs_meaning.specs.References.{reference_at, store}
@@ -49,16 +50,16 @@ module _ {S : Type 0} (meaning : S → Meaning) (old mid later : Config S) (r : 
       ap (λ (e : Env). vars_from here (at + 1) (drop (at + 1) (variables_in (node_in texts (node_now meaning mid f)))) e) (env_later meaning old mid texts f l)
       ∙ ap (λ (us : List Program). vars_from here (at + 1) (drop (at + 1) (variables_in (node_in texts (node_among us f.tree f.node)))) (env_in meaning old texts f)) (λ i. (l.units i).items)
 
-  stored : (tree_here (env_in meaning old texts f)).var_place here at ≡ place_in place → Some name ≡ option_map (λ (d : Declarator). d.name) (slice_get (declarators_in (node_now meaning old f)) at) → stores texts (behind old) ≡ goes
+  stored : name_place (tree_here (env_in meaning old texts f)) here at ≡ place_in place → Some name ≡ option_map (λ (d : Declarator). d.name) (slice_get (declarators_in (node_now meaning old f)) at) → stores texts (behind old) ≡ goes
   stored p e = variable_stores texts (node_now meaning old f) here (env_in meaning old texts f) at (value_in texts v) (place_in place) name p e
 
-  pub stored_follows : (tree_here (env_in meaning old texts f)).var_place here at ≡ place_in place → Some name ≡ option_map (λ (d : Declarator). d.name) (slice_get (declarators_in (node_now meaning old f)) at) → DoesFirst meaning stores old mid → Later meaning old mid → OnOk r (Follows meaning (behind mid) mid later) → OnOk r (Follows meaning goes old later)
+  pub stored_follows : name_place (tree_here (env_in meaning old texts f)) here at ≡ place_in place → Some name ≡ option_map (λ (d : Declarator). d.name) (slice_get (declarators_in (node_now meaning old f)) at) → DoesFirst meaning stores old mid → Later meaning old mid → OnOk r (Follows meaning (behind mid) mid later) → OnOk r (Follows meaning goes old later)
   stored_follows p e d l h =
       let M : Act → Type 0 = λ act. OnOk r (Follows meaning act mid later) in
       let O : Act → Type 0 = λ act. OnOk r (Follows meaning act old later) in
       subst O (stored p e) (d.by (behind old) later r (subst M (behind_later l) h))
 
-  pub unstored_follows : (error : NumberedValue) → (tree_here (env_in meaning old texts f)).var_place here at ≡ place_in place → Some name ≡ option_map (λ (d : Declarator). d.name) (slice_get (declarators_in (node_now meaning old f)) at) → FailsFirst meaning stores (λ t. value_in t error) old mid → OnOk r (Follows meaning (Ret (Throws (value_in texts error))) mid later) → OnOk r (Follows meaning goes old later)
+  pub unstored_follows : (error : NumberedValue) → name_place (tree_here (env_in meaning old texts f)) here at ≡ place_in place → Some name ≡ option_map (λ (d : Declarator). d.name) (slice_get (declarators_in (node_now meaning old f)) at) → FailsFirst meaning stores (λ t. value_in t error) old mid → OnOk r (Follows meaning (Ret (Throws (value_in texts error))) mid later) → OnOk r (Follows meaning goes old later)
   unstored_follows error p e d h =
       let O : Act → Type 0 = λ act. OnOk r (Follows meaning act old later) in
       subst O (stored p e) (d.by (behind old) later r h)

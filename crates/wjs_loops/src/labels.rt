@@ -39,42 +39,30 @@ pub(crate) fn has_label<S: WorldStore>(config: &Config<S>, frame: &Frame, label:
     }
 }
 
-/// Whether a label is one of a statement's, by one walk over the nodes.
+/// Whether a label is one of a statement's: those of the Labels that stand right behind it.
 fn is_label(texts: &Texts, unit: &Unit, node: NodeId, label: TextId) -> bool
     requires table { IsTable texts.now }
     requires label { Has texts.now label }
     requires unit { KnowsUnit texts.now unit.now }
     ensures { (t : Table) → Grows texts.now t → has_text (labels (unit_in t unit.now) node.0) (text_in t label) ≡ result }
 {
-    let last = unit.program.body.0;
-    let mut statement = node.0;
-    for at in 0..last {
-        let found = label_at(unit, at, statement);
-        if let Some(name) = found {
-            if same_label(texts, name, label) {
-                return true;
-            }
-            statement = at;
+    for at in node.0..unit.program.body.0 {
+        let Some(name) = label_at(unit, at + 1) else {
+            return false;
+        };
+        if same_label(texts, name, label) {
+            return true;
         }
     }
-    match label_at(unit, last, statement) {
-        Some(name) => same_label(texts, name, label),
-        None => false,
-    }
+    false
 }
 
-/// The label that a node is of a statement.
-fn label_at(unit: &Unit, at: u64, statement: u64) -> Option<TextId>
-    ensures { result ≡ label_of (node_of unit.now (record { 0 = at })) statement }
+/// The label of a node, where it is a Label.
+fn label_at(unit: &Unit, at: u64) -> Option<TextId>
+    ensures { result ≡ label_of (node_of unit.now (record { 0 = at })) }
 {
     match unit.node(NodeId(at)) {
-        Some(Node::Label(name, labelled)) => {
-            if labelled.0 == statement {
-                Some(*name)
-            } else {
-                None
-            }
-        }
+        Some(Node::Label(name, _)) => Some(*name),
         _ => None,
     }
 }

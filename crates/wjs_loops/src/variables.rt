@@ -1,9 +1,11 @@
 //! Variables with initialisers, of a `var` and of a `for` (sections 12.2 and 12.6.3). The place behind an initialiser is that of the
 //! first, which is 1 in a `var` and 6 in a `for`, and the number of the variable.
-ghost use Rattle.std.specs.Prelude.{◌≡◌, ◌<◌, ◌+◌, ◌^◌, drop, slice_get, IfSome, OnOk};
+ghost use Rattle.std.specs.Prelude.{◌≡◌, ◌<◌, ◌+◌, ◌^◌, length, drop, slice_get, IfSome, OnOk};
 ghost use Rattle.std.specs.Option.{option_map};
 ghost use Rattle.wjs_base.specs.Text.{Table, Has};
+ghost use Rattle.wjs_scope.specs.Places.{placed_names};
 ghost use Rattle.wjs_content.specs.Tables.{value_in};
+ghost use Rattle.wjs_meaning.specs.Trees.{name_place};
 ghost use Rattle.wjs_meaning.specs.Deeds.{tree_here, then_value};
 ghost use Rattle.wjs_meaning.specs.Reading.{node_in};
 ghost use Rattle.wjs_meaning.specs.Statements.{vars_from};
@@ -61,12 +63,10 @@ fn first_place<S: WorldStore>(config: &Config<S>, frame: &Frame) -> u32
 
 /// Where the name of a variable of this number is found.
 pub fn place_of<S: WorldStore>(config: &Config<S>, frame: &Frame, at: usize) -> Place
-    ensures { (t : Table) → (tree_here (env_in S.meaning config.now t frame.now)).var_place frame.now.node.0 at ≡ place_in result }
+    requires named { at < length (placed_names (node_now S.meaning config.now frame.now)) }
+    ensures { (t : Table) → name_place (tree_here (env_in S.meaning config.now t frame.now)) frame.now.node.0 at ≡ place_in result }
 {
-    match config.units.get(frame.tree() as usize) {
-        Some(unit) => unit.var_place(frame.node(), at),
-        None => Place::Global,
-    }
+    wjs_moves::place_at(config, frame, frame.node(), at)
 }
 
 /// The variables from one of a number on: the first initialiser is entered.

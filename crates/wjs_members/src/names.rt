@@ -1,10 +1,11 @@
 //! Names, for their value and as targets (ECMA-262, 3rd edition, sections 10.1.4 and 11.1.2).
-ghost use Rattle.std.specs.Prelude.{◌≡◌, OnOk};
+ghost use Rattle.std.specs.Prelude.{◌≡◌, ◌<◌, length, OnOk};
 ghost use Rattle.wjs_base.specs.Text.{Table};
+ghost use Rattle.wjs_scope.specs.Places.{placed_names};
 ghost use Rattle.wjs_content.specs.Tables.{text_in};
 ghost use Rattle.wjs_meaning.specs.Deeds.{tree_here};
 ghost use Rattle.wjs_meaning.specs.Expressions as line;
-ghost use Rattle.wjs_meaning.specs.Trees.{Name};
+ghost use Rattle.wjs_meaning.specs.Trees.{Name, name_place};
 ghost use Rattle.wjs_model.specs.Units.{place_in};
 ghost use Rattle.wjs_model.specs.Waiting.{refer};
 ghost use Rattle.wjs_model.specs.Soundness.{Base, IsThere};
@@ -22,9 +23,10 @@ use wjs_tree::Node;
 
 /// Where the name at a frame's node is found.
 fn place_of<S: WorldStore>(config: &Config<S>, frame: &Frame) -> Place
-    ensures { (t : Table) → (tree_here (env_in S.meaning config.now t frame.now)).place frame.now.node.0 ≡ place_in result }
+    requires named { 0 < length (placed_names (node_now S.meaning config.now frame.now)) }
+    ensures { (t : Table) → name_place (tree_here (env_in S.meaning config.now t frame.now)) frame.now.node.0 0 ≡ place_in result }
 {
-    place_at(config, frame, frame.node())
+    place_at(config, frame, frame.node(), 0)
 }
 
 /// A name for its value.

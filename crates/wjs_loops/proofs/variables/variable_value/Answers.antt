@@ -1,8 +1,12 @@
 use Rattle.std.proofs.lemmas.Result.{MatchResult-at_ok, MatchResult-at_err}
 use Rattle.wjs_lines.proofs.Following.{follows_as}
-use Rattle.wjs_loops.proofs.Declared.{no_variable_stores}
+use Rattle.wjs_moves.specs.Parts.{node_now}
+use Rattle.wjs_loops.proofs.Declared.{variable_named, no_variable_stores}
 use Rattle.wjs_loops.proofs.Storing.{stored_follows, unstored_follows}
 use Rattle.wjs_loops.proofs.variables.variable_value.Goals as goal
+
+pub place_of-place-requires : goal.place_of-place-requires
+place_of-place-requires g c = record { named = variable_named (node_now g.S.WorldStore.meaning c.args.config.now c.args.frame) c.args.at c.in-Some.name c.in-Some.ensures.is }
 
 pub returns-in-Ok : goal.returns-in-Ok
 returns-in-Ok g c =

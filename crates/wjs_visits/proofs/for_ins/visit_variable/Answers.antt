@@ -12,10 +12,13 @@ use Rattle.wjs_moves.specs.Parts.{env_in}
 use Rattle.wjs_moves.specs.Following.{Follows}
 use Rattle.wjs_deeds.proofs.Later.{later_twice}
 use Rattle.wjs_visits.specs.declared.for_ins.Taker.TheVariants.{Variable}
-use Rattle.wjs_visits.proofs.Knowing.{variable_known}
+use Rattle.wjs_visits.proofs.Knowing.{variable_known, variable_named}
 use Rattle.wjs_visits.proofs.Storing.{named_follows, named_fails, body_entered, entered_later}
 use Rattle.wjs_visits.proofs.Standing.{body_stands_later}
 use Rattle.wjs_visits.proofs.for_ins.visit_variable.Goals as goal
+
+pub place_of-place-requires : goal.place_of-place-requires
+place_of-place-requires g c = record { named = variable_named g.S.WorldStore.meaning c.args.config.now c.args.frame c.args.name c.args.s c.requires.node }
 
 pub assign-requires-clause-name : goal.assign-requires-clause-name
 assign-requires-clause-name g c =
