@@ -42,7 +42,7 @@ LEFT_OUT = {'Lib', 'Laws', 'Reading'}
 MAPS = open(os.path.join(HERE, 'Maps.antt.txt')).read()
 HEAD = open(os.path.join(HERE, 'Head.antt.txt')).read()
 SHOWN = open(os.path.join(HERE, 'Shown.antt.txt')).read()
-USE_SHOWN = 'use Rattle.rows.proofs.Shown.{found_at, bytes_of, tree_bytes_of}\n'
+USE_SHOWN = 'use Rattle.rows.proofs.Shown.{bytes_of, tree_bytes_of}\n'
 USE_LIBRARY = 'use Rattle.rows.proofs.Library.{tree_library}\n'
 
 

@@ -420,27 +420,26 @@ def option(x):
     return 'None' if x is None else f'(Some {x})'
 
 
+def names_of(form):
+    """The names of a node itself, in order: a Name's, or those that it declares by `var`."""
+    if form[0] in ('Name', 'ForVarIn'):
+        return [form[1]]
+    pairs = form[1] if form[0] == 'Var' else form[1][1] if form[0] == 'For' and form[1][0] == 'InitVar' else []
+    return [name for name, _ in pairs]
+
+
 class Numbering:
-    """Nodes in the order in which they are finished, so that a child's number is below its parent's."""
+    """Nodes, each before its parts, in the order in which these are spelled. The first of so many has the greatest number, and from
+    there the numbers fall by one."""
 
-    def __init__(self):
-        self.nodes, self.places, self.var_places = [], [], []
-
-    def add(self, line):
-        self.nodes.append(line)
-        return len(self.nodes) - 1
+    def __init__(self, count):
+        self.count, self.lines, self.rows = count, [], []
 
     def resolve(self, name, scopes):
         for hops, scope in enumerate(scopes):
             if bytes_of(name) in scope:
                 return f'Local {hops}'
-        return None
-
-    def places_of(self, node, names, scopes):
-        for i, name in enumerate(names):
-            place = self.resolve(name, scopes)
-            if place:
-                self.var_places.append(f'({node * 1000 + i}, {place})')
+        return 'Global'
 
     def all(self, forms, scopes):
         return spelled_list([self.node(f, scopes) for f in forms])
@@ -448,7 +447,47 @@ class Numbering:
     def maybe(self, form, scopes):
         return option(None if form is None else self.node(form, scopes))
 
-    def body(self, form, scopes):
+    def declarators(self, pairs, scopes):
+        return spelled_list([f'({text(n)}, {self.maybe(e, scopes)})' for n, e in pairs])
+
+    def node(self, form, scopes):
+        place = len(self.lines)
+        self.lines.append(None)
+        self.rows.append(spelled_list([self.resolve(name, scopes) for name in names_of(form)]))
+        self.lines[place] = getattr(self, 'of_' + form[0], self.plain)(form, scopes)
+        return self.count - 1 - place
+
+    def plain(self, form, scopes):
+        kind, parts = form[0], []
+        for p in form[1:]:
+            if isinstance(p, str):
+                parts.append({'Postfix': 'update.', 'Prefix': 'prefix.', 'Binary': 'binary.', 'Assign': 'assign.'}[kind] + p)
+            elif isinstance(p, tuple):
+                parts.append(str(self.node(p, scopes)))
+            else:
+                parts.append(self.all(p, scopes))
+        return ' '.join([kind] + parts)
+
+    def of_Name(self, form, scopes):
+        return f'Name {text(form[1])}'
+
+    def of_NumberLit(self, form, scopes):
+        return f'NumberLit (Some (pos {form[1]}))'
+
+    def of_TextLit(self, form, scopes):
+        return f'TextLit {text(form[1])}'
+
+    def of_BoolLit(self, form, scopes):
+        return f'BoolLit {"true" if form[1] else "false"}'
+
+    def of_ArrayLit(self, form, scopes):
+        return f'ArrayLit {spelled_list([self.maybe(e, scopes) for e in form[1]])}'
+
+    def of_ObjectLit(self, form, scopes):
+        pairs = [(f'Numeral (Some (pos {k}))' if isinstance(k, int) else f'Spelled {text(k)}', self.node(e, scopes)) for k, e in form[1]]
+        return f'ObjectLit {spelled_list([f"({k}, {e})" for k, e in pairs])}'
+
+    def of_Function(self, form, scopes):
         name, formals, elements = form[1:]
         own = {bytes_of(units('arguments'))} | set(map(bytes_of, formals)) | set(vars_of(elements))
         own |= {bytes_of(e[1]) for e in elements if e[0] == 'FunctionDecl'}
@@ -457,107 +496,65 @@ class Numbering:
         spelled = option(None if name is None else text(name)) if form[0] == 'Function' else text(name)
         return f'{form[0]} {spelled} {spelled_list(map(text, formals))} {inner}'
 
-    def declarators(self, pairs, scopes):
-        return spelled_list([f'({text(n)}, {self.maybe(e, scopes)})' for n, e in pairs])
-
-    def node(self, form, scopes):
-        kind = form[0]
-        rule = getattr(self, 'of_' + kind, None)
-        if rule:
-            return rule(form, scopes)
-        parts = []
-        for p in form[1:]:
-            if isinstance(p, str):
-                parts.append({'Postfix': 'update.', 'Prefix': 'prefix.', 'Binary': 'binary.', 'Assign': 'assign.'}[kind] + p)
-            elif isinstance(p, tuple):
-                parts.append(str(self.node(p, scopes)))
-            else:
-                parts.append(self.all(p, scopes))
-        return self.add(' '.join([kind] + parts))
-
-    def of_Name(self, form, scopes):
-        place, here = self.resolve(form[1], scopes), self.add(f'Name {text(form[1])}')
-        if place:
-            self.places.append(f'({here}, {place})')
-        return here
-
-    def of_NumberLit(self, form, scopes):
-        return self.add(f'NumberLit (Some (pos {form[1]}))')
-
-    def of_TextLit(self, form, scopes):
-        return self.add(f'TextLit {text(form[1])}')
-
-    def of_BoolLit(self, form, scopes):
-        return self.add(f'BoolLit {"true" if form[1] else "false"}')
-
-    def of_ArrayLit(self, form, scopes):
-        return self.add(f'ArrayLit {spelled_list([self.maybe(e, scopes) for e in form[1]])}')
-
-    def of_ObjectLit(self, form, scopes):
-        pairs = [(f'Numeral (Some (pos {k}))' if isinstance(k, int) else f'Spelled {text(k)}', self.node(e, scopes)) for k, e in form[1]]
-        return self.add(f'ObjectLit {spelled_list([f"({k}, {e})" for k, e in pairs])}')
-
-    def of_Function(self, form, scopes):
-        return self.add(self.body(form, scopes))
-
     of_FunctionDecl = of_Function
 
     def of_Dot(self, form, scopes):
-        return self.add(f'Dot {self.node(form[1], scopes)} {text(form[2])}')
+        return f'Dot {self.node(form[1], scopes)} {text(form[2])}'
 
     def of_Var(self, form, scopes):
-        here = self.add(f'Var {self.declarators(form[1], scopes)}')
-        self.places_of(here, [n for n, _ in form[1]], scopes)
-        return here
+        return f'Var {self.declarators(form[1], scopes)}'
 
     def of_If(self, form, scopes):
-        return self.add(f'If {self.node(form[1], scopes)} {self.node(form[2], scopes)} {self.maybe(form[3], scopes)}')
+        return f'If {self.node(form[1], scopes)} {self.node(form[2], scopes)} {self.maybe(form[3], scopes)}'
 
     def of_For(self, form, scopes):
         init = form[1]
         parts = {'NoInit': lambda: 'NoInit', 'InitExpr': lambda: f'(InitExpr {self.node(init[1], scopes)})',
                  'InitVar': lambda: f'(InitVar {self.declarators(init[1], scopes)})'}[init[0]]()
-        here = self.add(f'For {parts} {self.maybe(form[2], scopes)} {self.maybe(form[3], scopes)} {self.node(form[4], scopes)}')
-        if init[0] == 'InitVar':
-            self.places_of(here, [n for n, _ in init[1]], scopes)
-        return here
+        return f'For {parts} {self.maybe(form[2], scopes)} {self.maybe(form[3], scopes)} {self.node(form[4], scopes)}'
 
     def of_ForVarIn(self, form, scopes):
-        here = self.add(f'ForVarIn {text(form[1])} {self.node(form[2], scopes)} {self.node(form[3], scopes)}')
-        self.places_of(here, [form[1]], scopes)
-        return here
+        return f'ForVarIn {text(form[1])} {self.node(form[2], scopes)} {self.node(form[3], scopes)}'
 
     def of_Continue(self, form, scopes):
-        return self.add(f'{form[0]} {option(None if form[1] is None else text(form[1]))}')
+        return f'{form[0]} {option(None if form[1] is None else text(form[1]))}'
 
     of_Break = of_Continue
 
     def of_Return(self, form, scopes):
-        return self.add(f'Return {self.maybe(form[1], scopes)}')
+        return f'Return {self.maybe(form[1], scopes)}'
 
     def of_Label(self, form, scopes):
-        return self.add(f'Label {text(form[1])} {self.node(form[2], scopes)}')
+        return f'Label {text(form[1])} {self.node(form[2], scopes)}'
 
     def of_Switch(self, form, scopes):
         value = self.node(form[1], scopes)
         clauses = [f'({self.maybe(t, scopes)}, {self.all(ss, scopes)})' for t, ss in form[2]]
-        return self.add(f'Switch {value} {spelled_list(clauses)}')
+        return f'Switch {value} {spelled_list(clauses)}'
 
     def of_Try(self, form, scopes):
         block, handler = self.node(form[1], scopes), None
         if form[2]:
             handler = f'({text(form[2][0])}, {self.node(form[2][1], [{bytes_of(form[2][0])}] + scopes)})'
-        return self.add(f'Try {block} {option(handler)} {self.maybe(form[3], scopes)}')
+        return f'Try {block} {option(handler)} {self.maybe(form[3], scopes)}'
+
+
+def numbered(program):
+    """The nodes of a program and, for each, the places of its names, by number."""
+    counted = Numbering(0)
+    counted.node(program, [])
+    numbers = Numbering(len(counted.lines))
+    numbers.node(program, [])
+    return numbers.lines[::-1], numbers.rows[::-1]
 
 
 def tree(name, script):
     """The definitions of the script's tree in antt."""
-    reader, numbers = Reader(script), Numbering()
+    reader = Reader(script)
     elements = reader.elements()
     assert reader.toks[reader.at][0] == 'end', reader.toks[reader.at]
-    body = numbers.add(f'Program {numbers.all(elements, [])}')
-    lines = [f'abbrev pub tree_{name} : Tree', f'tree_{name} = record {{', f'  body = {body};', '  nodes =']
-    lines += [f'    {line} ∷' for line in numbers.nodes] + ['    [];']
-    lines.append(f'  place = λ k. found_at k {spelled_list(numbers.places)};')
-    lines.append(f'  var_place = λ k i. found_at (k * 1000 + i) {spelled_list(numbers.var_places)};')
+    nodes, rows = numbered(('Program', elements))
+    lines = [f'abbrev pub tree_{name} : Tree', f'tree_{name} = record {{', f'  body = {len(nodes) - 1};', '  nodes =']
+    lines += [f'    {line} ∷' for line in nodes] + ['    [];', '  places =']
+    lines += [f'    {row} ∷' for row in rows] + ['    [];']
     return '\n'.join(lines + ['}', ''])
