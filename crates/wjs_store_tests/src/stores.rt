@@ -128,142 +128,6 @@ enum Due {
     NoWorld,
 }
 
-/// Actions, their answers, and the places of the first world's history.
-type Case = (&'static [Action], &'static [Due], &'static [u64]);
-
-const CASES: [Case; 7] = [
-    // what was read and is written above
-    (
-        &[SPROUT, READ_ONE, WRITE_FIRST, READ_ONE, LIST, COMMIT],
-        &[
-            Due::Sprouted(ONE),
-            Due::Found(Content::Absent),
-            Due::Wrote,
-            Due::Found(Content::Absent),
-            Due::Listed(&[]),
-            Due::Committed(Verdict::Disagrees(S)),
-        ],
-        &[2],
-    ),
-    // a slot that comes under an object that was listed without it
-    (
-        &[WRITE_TWO, SPROUT, LIST, WRITE_FIRST, READ_ONE, COMMIT],
-        &[
-            Due::NoWorld,
-            Due::Sprouted(ONE),
-            Due::Listed(&[]),
-            Due::Wrote,
-            Due::Found(Content::Absent),
-            Due::Committed(Verdict::Disagrees(S)),
-        ],
-        &[3],
-    ),
-    // two children
-    (
-        &[
-            SPROUT,
-            SPROUT,
-            WRITE_ONE,
-            READ_TWO,
-            WRITE_TWO_T,
-            READ_FIRST,
-            COMMIT,
-            READ_FIRST,
-            COMMIT_TWO,
-        ],
-        &[
-            Due::Sprouted(ONE),
-            Due::Sprouted(TWO),
-            Due::Wrote,
-            Due::Found(Content::Absent),
-            Due::Wrote,
-            Due::Found(Content::Absent),
-            Due::Committed(Verdict::Moved),
-            Due::Found(NULL),
-            Due::Committed(Verdict::Moved),
-        ],
-        &[5, 2, 7, 3, 4],
-    ),
-    // a strict world records what it writes over: that has changed above
-    (
-        &[
-            WRITE_FIRST,
-            SPROUT_STRICT,
-            WRITE_ONE,
-            LIST,
-            WRITE_FIRST_NO,
-            COMMIT,
-            READ_FIRST,
-        ],
-        &[
-            Due::Wrote,
-            Due::Sprouted(ONE),
-            Due::Wrote,
-            Due::Listed(&[Name::Text(TextId(1))]),
-            Due::Wrote,
-            Due::Committed(Verdict::Disagrees(S)),
-            Due::Found(NO),
-        ],
-        &[0, 4, 6],
-    ),
-    // or is the same again
-    (
-        &[
-            WRITE_FIRST,
-            SPROUT_STRICT,
-            WRITE_ONE,
-            WRITE_FIRST,
-            COMMIT,
-            READ_FIRST,
-        ],
-        &[
-            Due::Wrote,
-            Due::Sprouted(ONE),
-            Due::Wrote,
-            Due::Wrote,
-            Due::Committed(Verdict::Moved),
-            Due::Found(NULL),
-        ],
-        &[0, 3, 2, 5],
-    ),
-    // what a plain child of a strict world writes is recorded in the strict world once it is moved there
-    (
-        &[
-            WRITE_FIRST,
-            SPROUT_STRICT,
-            SPROUT_OF_ONE,
-            WRITE_TWO,
-            COMMIT_TWO,
-            WRITE_FIRST_NO,
-            COMMIT,
-            READ_ONE,
-        ],
-        &[
-            Due::Wrote,
-            Due::Sprouted(ONE),
-            Due::Sprouted(TWO),
-            Due::Wrote,
-            Due::Committed(Verdict::Moved),
-            Due::Wrote,
-            Due::Committed(Verdict::Disagrees(S)),
-            Due::Found(NO),
-        ],
-        &[0, 5],
-    ),
-    // worlds that aren't there, and one without a parent
-    (
-        &[READ_ONE, LIST, SPROUT_OF_ONE, COMMIT, COMMIT_FIRST],
-        &[
-            Due::NoWorld,
-            Due::NoWorld,
-            Due::NoWorld,
-            Due::NoWorld,
-            Due::Committed(Verdict::NoParent),
-        ],
-        &[],
-    ),
-];
-
 fn are_names(names: &Names, due: &[Name]) -> bool {
     names.len() == due.len()
         && (0..names.len()).all(|i| i < names.len() && due.get(i) == Some(&names.at(i)))
@@ -311,9 +175,141 @@ fn expect(
 }
 
 #[test]
-fn both_stores_answer_alike(rt: HostRuntime) -> Result<(), Fail> {
-    for (actions, due, history) in &CASES {
-        expect(&rt, rt.alloc(), actions, due, history)?;
-    }
-    Ok(())
+fn what_was_read_and_is_written_above_is_refused(rt: HostRuntime) -> Result<(), Fail> {
+    // what was read and is written above
+    let actions = [SPROUT, READ_ONE, WRITE_FIRST, READ_ONE, LIST, COMMIT];
+    let due = [
+        Due::Sprouted(ONE),
+        Due::Found(Content::Absent),
+        Due::Wrote,
+        Due::Found(Content::Absent),
+        Due::Listed(&[]),
+        Due::Committed(Verdict::Disagrees(S)),
+    ];
+    expect(&rt, rt.alloc(), &actions, &due, &[2])
+}
+
+#[test]
+fn a_slot_under_a_listed_object_is_refused(rt: HostRuntime) -> Result<(), Fail> {
+    // a slot that comes under an object that was listed without it
+    let actions = [WRITE_TWO, SPROUT, LIST, WRITE_FIRST, READ_ONE, COMMIT];
+    let due = [
+        Due::NoWorld,
+        Due::Sprouted(ONE),
+        Due::Listed(&[]),
+        Due::Wrote,
+        Due::Found(Content::Absent),
+        Due::Committed(Verdict::Disagrees(S)),
+    ];
+    expect(&rt, rt.alloc(), &actions, &due, &[3])
+}
+
+#[test]
+fn two_children_are_one_history(rt: HostRuntime) -> Result<(), Fail> {
+    // two children
+    let actions = [
+        SPROUT,
+        SPROUT,
+        WRITE_ONE,
+        READ_TWO,
+        WRITE_TWO_T,
+        READ_FIRST,
+        COMMIT,
+        READ_FIRST,
+        COMMIT_TWO,
+    ];
+    let due = [
+        Due::Sprouted(ONE),
+        Due::Sprouted(TWO),
+        Due::Wrote,
+        Due::Found(Content::Absent),
+        Due::Wrote,
+        Due::Found(Content::Absent),
+        Due::Committed(Verdict::Moved),
+        Due::Found(NULL),
+        Due::Committed(Verdict::Moved),
+    ];
+    expect(&rt, rt.alloc(), &actions, &due, &[5, 2, 7, 3, 4])
+}
+
+#[test]
+fn a_strict_world_records_what_it_writes_over(rt: HostRuntime) -> Result<(), Fail> {
+    // a strict world records what it writes over: that has changed above
+    let actions = [
+        WRITE_FIRST,
+        SPROUT_STRICT,
+        WRITE_ONE,
+        LIST,
+        WRITE_FIRST_NO,
+        COMMIT,
+        READ_FIRST,
+    ];
+    let due = [
+        Due::Wrote,
+        Due::Sprouted(ONE),
+        Due::Wrote,
+        Due::Listed(&[Name::Text(TextId(1))]),
+        Due::Wrote,
+        Due::Committed(Verdict::Disagrees(S)),
+        Due::Found(NO),
+    ];
+    expect(&rt, rt.alloc(), &actions, &due, &[0, 4, 6])?;
+    // or is the same again
+    let actions = [
+        WRITE_FIRST,
+        SPROUT_STRICT,
+        WRITE_ONE,
+        WRITE_FIRST,
+        COMMIT,
+        READ_FIRST,
+    ];
+    let due = [
+        Due::Wrote,
+        Due::Sprouted(ONE),
+        Due::Wrote,
+        Due::Wrote,
+        Due::Committed(Verdict::Moved),
+        Due::Found(NULL),
+    ];
+    expect(&rt, rt.alloc(), &actions, &due, &[0, 3, 2, 5])
+}
+
+#[test]
+fn what_moves_into_a_strict_world_is_recorded(rt: HostRuntime) -> Result<(), Fail> {
+    // what a plain child of a strict world writes is recorded in the strict world once it is moved there
+    let actions = [
+        WRITE_FIRST,
+        SPROUT_STRICT,
+        SPROUT_OF_ONE,
+        WRITE_TWO,
+        COMMIT_TWO,
+        WRITE_FIRST_NO,
+        COMMIT,
+        READ_ONE,
+    ];
+    let due = [
+        Due::Wrote,
+        Due::Sprouted(ONE),
+        Due::Sprouted(TWO),
+        Due::Wrote,
+        Due::Committed(Verdict::Moved),
+        Due::Wrote,
+        Due::Committed(Verdict::Disagrees(S)),
+        Due::Found(NO),
+    ];
+    expect(&rt, rt.alloc(), &actions, &due, &[0, 5])
+}
+
+#[test]
+fn worlds_that_are_not_there_are_told(rt: HostRuntime) -> Result<(), Fail> {
+    // worlds that aren't there, and one without a parent
+    let actions = [READ_ONE, LIST, SPROUT_OF_ONE, COMMIT, COMMIT_FIRST];
+    let due = [
+        Due::NoWorld,
+        Due::NoWorld,
+        Due::NoWorld,
+        Due::NoWorld,
+        Due::Committed(Verdict::NoParent),
+    ];
+    expect(&rt, rt.alloc(), &actions, &due, &[])
 }
