@@ -8,8 +8,11 @@ An `err` of `usage: ` stands for one line that begins so. Of an example, example
 standard error, and status 0. A row may have besides:
   times        standard input is that many times `stdin`
   stdin_from   standard input is this file or folder
-  full         `out` or `err`: the stream whose writes all fail
+  full         of `out` and `err` the streams whose writes all fail
+  gone         of `out` and `err` the streams that are pipes whose reader has gone
+  closed       of `in`, `out` and `err` the streams that are closed
   memory_mb    the program has so much address space
+  stack_kb     the program has so much stack
 
 Without a COMMAND the program is what ./worlds runs, which is proved and built first where a source is newer.
 Each row that differs has a line here. The last line counts, and the status is 1 where a row differs.
@@ -26,6 +29,8 @@ import sys
 TOP = os.path.dirname(os.path.dirname(os.path.abspath(__file__)))
 SECONDS = 120
 SHOWN = 300
+STREAMS = ('in', 'out', 'err')
+LIMITS = (('memory_mb', resource.RLIMIT_AS, 20), ('stack_kb', resource.RLIMIT_STACK, 10))
 
 
 def rows_of_table(path):
@@ -48,8 +53,15 @@ def built():
 
 
 def streams_of(row, opened):
-    full = opened.enter_context(open('/dev/full', 'wb'))
-    streams = {name: full if row.get('full') == short else subprocess.PIPE for name, short in (('stdout', 'out'), ('stderr', 'err'))}
+    streams = {'stdout': subprocess.PIPE, 'stderr': subprocess.PIPE}
+    if 'full' in row:
+        full = opened.enter_context(open('/dev/full', 'wb'))
+        streams |= {'std' + name: full for name in row['full'].split()}
+    if 'gone' in row:
+        reader, writer = os.pipe()
+        os.close(reader)
+        opened.callback(os.close, writer)
+        streams |= {'std' + name: writer for name in row['gone'].split()}
     if 'stdin_from' in row:
         # a folder too, which `open` refuses
         source = os.open(row['stdin_from'], os.O_RDONLY)
@@ -59,11 +71,17 @@ def streams_of(row, opened):
     return streams | {'input': given * row.get('times', 1)}
 
 
-def limits_of(row):
-    if 'memory_mb' not in row:
-        return None
-    size = row['memory_mb'] << 20
-    return lambda: resource.setrlimit(resource.RLIMIT_AS, (size, size))
+def preparation_of(row):
+    """What is done in the program's process before it begins, where there is something."""
+    limits = [(limit, row[field] << bits) for field, limit, bits in LIMITS if field in row]
+    closed = [STREAMS.index(name) for name in row.get('closed', '').split()]
+
+    def prepare():
+        for limit, size in limits:
+            resource.setrlimit(limit, (size, size))
+        for stream in closed:
+            os.close(stream)
+    return prepare if limits or closed else None
 
 
 def is_due(row, out, err, status):
@@ -82,7 +100,7 @@ def difference(row, command):
     """What was got in place of what is due, None where that is the same."""
     try:
         with contextlib.ExitStack() as opened:
-            done = subprocess.run(command + row['words'], timeout=SECONDS, preexec_fn=limits_of(row), **streams_of(row, opened))
+            done = subprocess.run(command + row['words'], timeout=SECONDS, preexec_fn=preparation_of(row), **streams_of(row, opened))
     except subprocess.TimeoutExpired:
         return f'no end in {SECONDS} seconds'
     out, err = done.stdout or b'', done.stderr or b''
