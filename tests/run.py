@@ -13,6 +13,8 @@ standard error, and status 0. A row may have besides:
   closed       of `in`, `out` and `err` the streams that are closed
   memory_mb    the program has so much address space
   stack_kb     the program has so much stack
+  fronts       in place of `out`, `err` and `status`: the script is not run alone, but each of its fronts. A part of this list has the
+               greatest length of the fronts for which it holds, then their `out`, `err` and `status`
 
 Without a COMMAND the program is what ./worlds runs, which is proved and built first where a source is newer.
 Each row that differs has a line here. The last line counts, and the status is 1 where a row differs.
@@ -35,7 +37,16 @@ LIMITS = (('memory_mb', resource.RLIMIT_AS, 20), ('stack_kb', resource.RLIMIT_ST
 
 def rows_of_table(path):
     with open(path, encoding='utf-8') as table:
-        return [json.loads(line) for line in table]
+        for row in map(json.loads, table):
+            yield from rows_of_fronts(row) if 'fronts' in row else [row]
+
+
+def rows_of_fronts(row):
+    length = 0
+    for greatest, out, err, status in row['fronts']:
+        while length <= greatest:
+            yield row | {'id': f"{row['id']}-{length}", 'stdin': row['stdin'][:length], 'out': out, 'err': err, 'status': status}
+            length += 1
 
 
 def rows_of_examples():
