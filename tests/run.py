@@ -3,7 +3,8 @@
 
 usage: tests/run.py [TABLE..] [-- COMMAND..]     no TABLE: all of tests/*.jsonl, and the examples
 
-A table has a row a line, a JSON object: `id`, `words`, `stdin` (or `stdin_hex`), and the `out`, `err` and `status` that are due.
+A table has a row a line, a JSON object: `id`, `words`, `stdin` (or `stdin_hex`, or `parts`: texts, each with how many times it stands
+there, `#` in it being the number of the time), and the `out`, `err` and `status` that are due.
 An `err` of `usage: ` stands for one line that begins so. Of an example, examples/NAME.js, examples/NAME.out is due, nothing on
 standard error, and status 0. A row may have besides:
   times        standard input is that many times `stdin`
@@ -78,8 +79,13 @@ def streams_of(row, opened):
         source = os.open(row['stdin_from'], os.O_RDONLY)
         opened.callback(os.close, source)
         return streams | {'stdin': source}
-    given = bytes.fromhex(row['stdin_hex']) if 'stdin_hex' in row else row['stdin'].encode()
-    return streams | {'input': given * row.get('times', 1)}
+    return streams | {'input': given_by(row) * row.get('times', 1)}
+
+
+def given_by(row):
+    if 'parts' in row:
+        return ''.join(text.replace('#', str(i)) for text, times in row['parts'] for i in range(times)).encode()
+    return bytes.fromhex(row['stdin_hex']) if 'stdin_hex' in row else row['stdin'].encode()
 
 
 def preparation_of(row):
