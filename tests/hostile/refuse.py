@@ -1,7 +1,7 @@
 #!/usr/bin/env python3
 """Refuses memory to the program, one allocation at a time, and looks how it ends.
 
-usage: tests/hostile/refuse.py [--gate] [--jobs N] [-- COMMAND..]     --gate: three of the runs, for .ci/run
+usage: tests/hostile/refuse.py [--gate] [-- COMMAND..]     --gate: three of the runs, and no address spaces, for .ci/run
 
 Each run is made once in peace, where it must give what is due, and its allocations are counted (refuse.c, which `cc` compiles, is
 preloaded). Then it is made again for each number of an allocation, first with that one refused, then with all from it on: every
@@ -9,6 +9,7 @@ number up to 4,000, and from there on every 97th. At last it is made in address 
 There it must end with what is due, or with a front of the due output, status 3 and `out of memory`; or with nothing and status 9,
 where its words can't be had, which it takes first.
 """
+import collections
 import concurrent.futures
 import json
 import os
@@ -42,6 +43,8 @@ def runs():
     yield 'refused-place', [], 'x = 1;\n#', '', 'line 2: not a token\n', 4
     yield 'refused-tokens', [], 'x = {;', '', 'syntax error\n', 4
     yield 'refused-words', ['--mode', 'nothing'], '', '', "usage: error: invalid value 'nothing' for '--mode <mode>'\n", 5
+    # two pieces of output go out, and the rest waits
+    yield 'printing', [], 'for (var i = 0; i < 1100; i++) print("abcdefg");', 'abcdefg\n' * 1100, '', 0
     yield 'spent', ['--steps', '1000'], 'print(1); while (true) {}', '1\n', 'step budget spent\n', 2
 
 
@@ -63,47 +66,57 @@ def is_right(due, got, how):
     return status == 3 and err == b'out of memory\n' and due[0].startswith(out)
 
 
-def limits(most=256 << 20):
+def limits():
     size = 8 << 20
-    while size < most:
-        yield size & -4096
+    while size < 256 << 20:
+        yield {'memory': size & -4096}
         size += size // 8
+
+
+def asked_for(command, library, words, script, due):
+    """How many allocations the run asks for in peace, None where it doesn't end as is due."""
+    with tempfile.NamedTemporaryFile('r', encoding='ascii') as told:
+        if ended(command, words, script, LD_PRELOAD=library, REFUSE_TOLD=told.name) != due:
+            return None
+        return int(told.read())
+
+
+def refusals(asked, library):
+    numbers = [n for n in range(1, asked + 2) if n <= EACH or n % STRIDE == 0]
+    return [{'LD_PRELOAD': library, 'REFUSE_AT': str(n)} | more for more in ({}, {'REFUSE_ON': '1'}) for n in numbers]
+
+
+def tried(pool, command, run, hows):
+    """The endings of the run, counted, with a line for each that is wrong; then how many are."""
+    name, words, script, *due = run
+    due, counts, wrong = (due[0].encode(), due[1].encode(), due[2]), collections.Counter(), 0
+    for how, got in zip(hows, pool.map(lambda how: ended(command, words, script, **how), hows)):
+        counts['due' if got == due else f'status {got[2]}'] += 1
+        if not is_right(due, got, how):
+            wrong += 1
+            print(name, {key: how[key] for key in how if key != 'LD_PRELOAD'}, 'ended with', got, flush=True)
+    return counts, wrong
 
 
 def main(words):
     command = words[words.index('--') + 1:] if '--' in words else [os.path.join(TOP, 'crates', 'worlds', 'out', 'worlds')]
     words = words[:words.index('--')] if '--' in words else words
-    jobs = int(words[words.index('--jobs') + 1]) if '--jobs' in words else 4 if '--gate' in words else 1
-    made = wrong = 0
-    with tempfile.TemporaryDirectory() as folder, concurrent.futures.ThreadPoolExecutor(jobs) as pool:
-        library, told = os.path.join(folder, 'refuse.so'), os.path.join(folder, 'told')
-        subprocess.run(['cc', '-O1', '-shared', '-fPIC', '-o', library, os.path.join(os.path.dirname(os.path.abspath(__file__)), 'refuse.c')],
-                       check=True)
-        for name, given, script, out, err, status in runs():
-            if '--gate' in words and name not in GATE:
+    in_gate, made, wrong = '--gate' in words, 0, 0
+    with tempfile.TemporaryDirectory() as folder, concurrent.futures.ThreadPoolExecutor(4 if in_gate else 1) as pool:
+        library = os.path.join(folder, 'refuse.so')
+        subprocess.run(['cc', '-O1', '-shared', '-fPIC', '-o', library, os.path.join(TOP, 'tests', 'hostile', 'refuse.c')], check=True)
+        for run in runs():
+            if in_gate and run[0] not in GATE:
                 continue
-            due = (out.encode(), err.encode(), status)
-            if ended(command, given, script, LD_PRELOAD=library, REFUSE_TOLD=told) != due:
-                print(name, 'does not end as is due', flush=True)
+            asked = asked_for(command, library, run[1], run[2], (run[3].encode(), run[4].encode(), run[5]))
+            if asked is None:
+                print(run[0], 'does not end as is due', flush=True)
                 wrong += 1
                 continue
-            with open(told, encoding='ascii') as count:
-                asked = int(count.read())
-            numbers = [n for n in range(1, asked + 2) if n <= EACH or n % STRIDE == 0]
-            tried = [{'LD_PRELOAD': library, 'REFUSE_AT': str(n)} | more for more in ({}, {'REFUSE_ON': '1'}) for n in numbers]
-            if '--gate' not in words:
-                tried += [{'memory': size} for size in limits()]
-            counts = {}
-            for how, got in zip(tried, pool.map(lambda how: ended(command, given, script, **how), tried)):
-                made += 1
-                kind = got[2] if got != due else 'due'
-                counts[kind] = counts.get(kind, 0) + 1
-                if not is_right(due, got, how):
-                    wrong += 1
-                    how.pop('LD_PRELOAD', None)
-                    print(name, how, 'ended with', got, flush=True)
-            if '--gate' not in words:
-                print(name, f'{asked} allocations;', ', '.join(f'{kind}: {count}' for kind, count in counts.items()), flush=True)
+            counts, faults = tried(pool, command, run, refusals(asked, library) + ([] if in_gate else list(limits())))
+            made, wrong = made + counts.total(), wrong + faults
+            if not in_gate:
+                print(f'{run[0]}: {asked} allocations;', ', '.join(f'{kind} {count}' for kind, count in counts.items()), flush=True)
     print(f'{made} runs with memory refused, {wrong} wrong')
     return 1 if wrong else 0
 
