@@ -3,13 +3,19 @@
 
 usage: tests/run.py [TABLE..] [-- COMMAND..]     no TABLE: all of tests/*.jsonl, and the examples
 
-A table has a row a line, a JSON object: `id`, `words`, `stdin` (or `stdin_hex`), and the `out`, `err` and `status` that are due.
+A table has a row a line, a JSON object: `id`, `words`, `stdin` (or `stdin_hex`, or `parts`: texts, each with how many times it stands
+there, `#` in it being the number of the time), and the `out`, `err` and `status` that are due.
 An `err` of `usage: ` stands for one line that begins so. Of an example, examples/NAME.js, examples/NAME.out is due, nothing on
 standard error, and status 0. A row may have besides:
   times        standard input is that many times `stdin`
   stdin_from   standard input is this file or folder
-  full         `out` or `err`: the stream whose writes all fail
+  full         of `out` and `err` the streams whose writes all fail
+  gone         of `out` and `err` the streams that are pipes whose reader has gone
+  closed       of `in`, `out` and `err` the streams that are closed
   memory_mb    the program has so much address space
+  stack_kb     the program has so much stack
+  fronts       in place of `out`, `err` and `status`: the script is not run alone, but each of its fronts. A part of this list has the
+               greatest length of the fronts for which it holds, then their `out`, `err` and `status`
 
 Without a COMMAND the program is what ./worlds runs, which is proved and built first where a source is newer.
 Each row that differs has a line here. The last line counts, and the status is 1 where a row differs.
@@ -26,11 +32,22 @@ import sys
 TOP = os.path.dirname(os.path.dirname(os.path.abspath(__file__)))
 SECONDS = 120
 SHOWN = 300
+STREAMS = ('in', 'out', 'err')
+LIMITS = (('memory_mb', resource.RLIMIT_AS, 20), ('stack_kb', resource.RLIMIT_STACK, 10))
 
 
 def rows_of_table(path):
     with open(path, encoding='utf-8') as table:
-        return [json.loads(line) for line in table]
+        for row in map(json.loads, table):
+            yield from rows_of_fronts(row) if 'fronts' in row else [row]
+
+
+def rows_of_fronts(row):
+    length = 0
+    for greatest, out, err, status in row['fronts']:
+        while length <= greatest:
+            yield row | {'id': f"{row['id']}-{length}", 'stdin': row['stdin'][:length], 'out': out, 'err': err, 'status': status}
+            length += 1
 
 
 def rows_of_examples():
@@ -48,22 +65,40 @@ def built():
 
 
 def streams_of(row, opened):
-    full = opened.enter_context(open('/dev/full', 'wb'))
-    streams = {name: full if row.get('full') == short else subprocess.PIPE for name, short in (('stdout', 'out'), ('stderr', 'err'))}
+    streams = {'stdout': subprocess.PIPE, 'stderr': subprocess.PIPE}
+    if 'full' in row:
+        full = opened.enter_context(open('/dev/full', 'wb'))
+        streams |= {'std' + name: full for name in row['full'].split()}
+    if 'gone' in row:
+        reader, writer = os.pipe()
+        os.close(reader)
+        opened.callback(os.close, writer)
+        streams |= {'std' + name: writer for name in row['gone'].split()}
     if 'stdin_from' in row:
         # a folder too, which `open` refuses
         source = os.open(row['stdin_from'], os.O_RDONLY)
         opened.callback(os.close, source)
         return streams | {'stdin': source}
-    given = bytes.fromhex(row['stdin_hex']) if 'stdin_hex' in row else row['stdin'].encode()
-    return streams | {'input': given * row.get('times', 1)}
+    return streams | {'input': given_by(row) * row.get('times', 1)}
 
 
-def limits_of(row):
-    if 'memory_mb' not in row:
-        return None
-    size = row['memory_mb'] << 20
-    return lambda: resource.setrlimit(resource.RLIMIT_AS, (size, size))
+def given_by(row):
+    if 'parts' in row:
+        return ''.join(text.replace('#', str(i)) for text, times in row['parts'] for i in range(times)).encode()
+    return bytes.fromhex(row['stdin_hex']) if 'stdin_hex' in row else row['stdin'].encode()
+
+
+def preparation_of(row):
+    """What is done in the program's process before it begins, where there is something."""
+    limits = [(limit, row[field] << bits) for field, limit, bits in LIMITS if field in row]
+    closed = [STREAMS.index(name) for name in row.get('closed', '').split()]
+
+    def prepare():
+        for limit, size in limits:
+            resource.setrlimit(limit, (size, size))
+        for stream in closed:
+            os.close(stream)
+    return prepare if limits or closed else None
 
 
 def is_due(row, out, err, status):
@@ -82,7 +117,7 @@ def difference(row, command):
     """What was got in place of what is due, None where that is the same."""
     try:
         with contextlib.ExitStack() as opened:
-            done = subprocess.run(command + row['words'], timeout=SECONDS, preexec_fn=limits_of(row), **streams_of(row, opened))
+            done = subprocess.run(command + row['words'], timeout=SECONDS, preexec_fn=preparation_of(row), **streams_of(row, opened))
     except subprocess.TimeoutExpired:
         return f'no end in {SECONDS} seconds'
     out, err = done.stdout or b'', done.stderr or b''
