@@ -1,14 +1,12 @@
 -- In a program's tree each node stands behind its parts, and a Paren and a Label right behind theirs.
-use Rattle.std.specs.Prelude.{◌≡◌, ℕ, suc, ◌-◌, ◌<◌, ◌≤◌, List, [], ◌∷◌, ◌++◌, length, Option, None, Some}
-use Rattle.std.specs.List.{AllByRecursion}
+use Rattle.std.specs.Prelude.{◌≡◌, ℕ, suc, ◌-◌, ◌≤◌, List, [], ◌∷◌, length, None}
 use Rattle.std.proofs.Common.{arith}
-use Rattle.wjs_base.specs.declared.ids.TextId.{TextId}
 use Rattle.wjs_base.specs.Text.{Table}
 use Rattle.wjs_tree.specs.Trees.{Expr, Optional, Arguments, Items, Properties, Variables, Init, Stmt, Stmts, Clauses, Elements, Name, Number, Text, This, ThisWorld, Null, Boolean, Paren, ArrayLit, ObjectLit, Function, Dot, At, Call, NewWith, NewBare, Postfix, Prefix, Binary, Cond, Assign, Comma, Absent, Present, NoArgument, Argument, NoItem, Hole, Item, LastItem, NoProperty, Property, LastProperty, NoVariable, Variable, NoInit, InitExpr, InitVar, Block, Var, Empty, ExprStmt, If, IfElse, DoWhile, While, For, ForIn, ForVarIn, Continue, Break, Return, Throw, Label, Switch, TryCatch, TryFinally, TryBoth, Within, NoStmt, MoreStmts, NoClause, Case, Default, NoElement, Statement, FunctionDecl}
 use Rattle.wjs_content.specs.Tables.{text_in}
 use Rattle.wjs_meaning.specs.Trees as node
-use Rattle.wjs_programs.specs.Numbered.{Scopes, Entry, below, within, block, expr, optional, arguments, items, properties, variables, init, stmt, stmts, clauses, elements}
-use Rattle.wjs_programs.proofs.Over.{inner_parts, clause_parts, IsNext, Falls, nothing, only, both, node_over}
+use Rattle.wjs_programs.specs.Numbered.{Scopes, Entry, within, block, expr, optional, arguments, items, properties, variables, init, stmt, stmts, clauses, elements}
+use Rattle.wjs_programs.proofs.Over.{clause_parts, Falls, nothing, only, both, node_over}
 
 -- a part stands right before the node
 right_before : {k : ℕ} {l others : List Entry} → Falls (k - 1) ((k - 1) ∷ []) l others → length l ≤ k → k ≡ suc (k - 1)

@@ -1,7 +1,7 @@
 -- Nodes whose parts have lower numbers.
-use Rattle.std.specs.Prelude.{◌≡◌, ℕ, zero, suc, ◌+◌, ◌-◌, ◌<◌, ◌≤◌, List, [], ◌∷◌, ◌++◌, length, Option, None, Some}
+use Rattle.std.specs.Prelude.{◌≡◌, ℕ, suc, ◌-◌, ◌<◌, ◌≤◌, List, [], ◌∷◌, ◌++◌, length, Option, None, Some}
 use Rattle.std.specs.List.{AllByRecursion}
-use Rattle.std.proofs.Common.{refl, sym, ap, subst, ◌∙◌, arith, length-append}
+use Rattle.std.proofs.Common.{refl, ap, subst, ◌∙◌, arith, length-append}
 use Rattle.wjs_content.specs.Values.{Text}
 use Rattle.wjs_meaning.specs.Trees.{Node, Place}
 use Rattle.wjs_meaning.specs.Trees as node
