@@ -21,3 +21,7 @@ pub mod Listing
 pub mod Among
 pub mod Rows
 pub mod Whole
+pub mod Over
+pub mod Lowering
+pub mod Depths
+pub mod Next

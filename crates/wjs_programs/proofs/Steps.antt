@@ -15,14 +15,14 @@ use Rattle.wjs_scope.specs.Places.{placed_names}
 use Rattle.wjs_content.specs.Tables.{text_in}
 use Rattle.wjs_meaning.specs.Reading.{node_in}
 use Rattle.wjs_programs.specs.Numbered.{Scopes, Entry, places_of, within}
+use Rattle.wjs_programs.proofs.Over.{all_apart as both_apart}
 
 -- around each of the nodes stand these scopes
 abbrev pub AllAmong : (NodeId → Scopes → Type 0) → Scopes → List NodeId → Type 0
 AllAmong Among around ids = AllByRecursion (λ (j : NodeId). Among j around) ids
 
 pub all_apart : (Among : NodeId → Scopes → Type 0) (around : Scopes) (xs ys : List NodeId) → AllAmong Among around (xs ++ ys) → AllAmong Among around xs × AllAmong Among around ys
-all_apart Among around [] ys a = (tt, a)
-all_apart Among around (x ∷ xs) ys a = let more = all_apart Among around xs ys a.1 in ((a.0, more.0), more.1)
+all_apart Among around xs ys a = both_apart (λ (j : NodeId). Among j around) xs ys a
 
 pub all_among : (Among : NodeId → Scopes → Type 0) (side : Side) (around : Scopes) (ids : List NodeId) → ((j : NodeId) → IsAmong (on_side side ids) (j, side) → Among j around) → AllAmong Among around ids
 all_among Among side around [] f = tt

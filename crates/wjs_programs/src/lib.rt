@@ -5,6 +5,8 @@
 
 mod known;
 mod laws;
+mod numbers;
 
 pub use known::nodes_are_known;
 pub use laws::{one_program, program_or_none, units_are_trees};
+pub use numbers::{depth_is_enough, labels_are_around, parts_are_next};
