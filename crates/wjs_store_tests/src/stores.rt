@@ -3,7 +3,9 @@
 use std::alloc::Global;
 use std::process::Abort;
 use std::test::Fail;
-use wjs_base::{Content, Name, Names, ObjId, Slot, TextId, Value, WorldId, same_value};
+use wjs_base::{
+    Content, Name, Names, ObjId, OutOfMemory, Slot, TextId, Value, WorldId, same_value,
+};
 use wjs_overlay::Overlay;
 use wjs_store::{Action, Answer, FullStore, Verdict, run_actions, serial_history};
 
@@ -117,50 +119,49 @@ const COMMIT_TWO: Action = Action::Commit { world: TWO };
 
 const COMMIT_FIRST: Action = Action::Commit { world: FIRST };
 
-/// An answer that is due.
-#[derive(Clone, Copy)]
-enum Due {
-    Found(Content),
-    Wrote,
-    Listed(&'static [Name]),
-    Sprouted(WorldId),
-    Committed(Verdict),
-    NoWorld,
+fn same_names(a: &Names, b: &Names) -> bool {
+    if a.len() != b.len() {
+        return false;
+    }
+    (0..a.len()).all(|place| place < b.len() && a.at(place) == b.at(place))
 }
 
-fn are_names(names: &Names, due: &[Name]) -> bool {
-    names.len() == due.len()
-        && (0..names.len()).all(|i| i < names.len() && due.get(i) == Some(&names.at(i)))
-}
-
-fn is_due(answer: &Answer, due: Due) -> bool {
-    match (answer, due) {
-        (Answer::Found(Content::Absent), Due::Found(Content::Absent)) => true,
-        (Answer::Found(Content::Present(value)), Due::Found(Content::Present(due))) => {
-            same_value(*value, due)
-        }
-        (Answer::Wrote, Due::Wrote) => true,
-        (Answer::Listed(names), Due::Listed(due)) => are_names(names, due),
-        (Answer::Sprouted(world), Due::Sprouted(due)) => *world == due,
-        (Answer::Committed(verdict), Due::Committed(due)) => *verdict == due,
-        (Answer::NoWorld, Due::NoWorld) => true,
+fn same_content(a: Content, b: Content) -> bool {
+    match (a, b) {
+        (Content::Absent, Content::Absent) => true,
+        (Content::Present(a), Content::Present(b)) => same_value(a, b),
         _ => false,
     }
 }
 
-fn are_due(answers: &[Answer], due: &[Due]) -> bool {
-    answers.len() == due.len()
-        && answers
-            .iter()
-            .zip(due)
-            .all(|(answer, due)| is_due(answer, *due))
+fn same_answer(a: &Answer, b: &Answer) -> bool {
+    match (a, b) {
+        (Answer::Found(a), Answer::Found(b)) => same_content(*a, *b),
+        (Answer::Wrote, Answer::Wrote) => true,
+        (Answer::Listed(a), Answer::Listed(b)) => same_names(a, b),
+        (Answer::Sprouted(a), Answer::Sprouted(b)) => a == b,
+        (Answer::Committed(a), Answer::Committed(b)) => a == b,
+        (Answer::NoWorld, Answer::NoWorld) => true,
+        _ => false,
+    }
+}
+
+fn same_answers(a: &[Answer], b: &[Answer]) -> bool {
+    a.len() == b.len() && a.iter().zip(b.iter()).all(|(a, b)| same_answer(a, b))
+}
+
+/// The names of one listed slot.
+fn one_name(alloc: Global, name: Name) -> Result<Names, OutOfMemory> {
+    let mut names = Names::new(alloc);
+    names.push(name)?;
+    Ok(names)
 }
 
 fn expect(
     rt: &impl Abort,
     alloc: Global,
     actions: &[Action],
-    due: &[Due],
+    due: &[Answer],
     history: &[u64],
 ) -> Result<(), Fail> {
     let mut full = FullStore::new(alloc)?;
@@ -168,8 +169,8 @@ fn expect(
     let told = run_actions(alloc, &mut full, actions)?;
     let got = run_actions(alloc, &mut overlay, actions)?;
     let places = serial_history(alloc, actions, got.as_slice())?;
-    assert!(rt; are_due(told.as_slice(), due), "full copies");
-    assert!(rt; are_due(got.as_slice(), due), "sparse worlds");
+    assert!(rt; same_answers(told.as_slice(), due), "full copies");
+    assert!(rt; same_answers(got.as_slice(), due), "sparse worlds");
     assert_eq!(rt; places.as_slice(), history);
     Ok(())
 }
@@ -179,12 +180,12 @@ fn what_was_read_and_is_written_above_is_refused(rt: HostRuntime) -> Result<(), 
     // what was read and is written above
     let actions = [SPROUT, READ_ONE, WRITE_FIRST, READ_ONE, LIST, COMMIT];
     let due = [
-        Due::Sprouted(ONE),
-        Due::Found(Content::Absent),
-        Due::Wrote,
-        Due::Found(Content::Absent),
-        Due::Listed(&[]),
-        Due::Committed(Verdict::Disagrees(S)),
+        Answer::Sprouted(ONE),
+        Answer::Found(Content::Absent),
+        Answer::Wrote,
+        Answer::Found(Content::Absent),
+        Answer::Listed(Names::new(rt.alloc())),
+        Answer::Committed(Verdict::Disagrees(S)),
     ];
     expect(&rt, rt.alloc(), &actions, &due, &[2])
 }
@@ -194,12 +195,12 @@ fn a_slot_under_a_listed_object_is_refused(rt: HostRuntime) -> Result<(), Fail> 
     // a slot that comes under an object that was listed without it
     let actions = [WRITE_TWO, SPROUT, LIST, WRITE_FIRST, READ_ONE, COMMIT];
     let due = [
-        Due::NoWorld,
-        Due::Sprouted(ONE),
-        Due::Listed(&[]),
-        Due::Wrote,
-        Due::Found(Content::Absent),
-        Due::Committed(Verdict::Disagrees(S)),
+        Answer::NoWorld,
+        Answer::Sprouted(ONE),
+        Answer::Listed(Names::new(rt.alloc())),
+        Answer::Wrote,
+        Answer::Found(Content::Absent),
+        Answer::Committed(Verdict::Disagrees(S)),
     ];
     expect(&rt, rt.alloc(), &actions, &due, &[3])
 }
@@ -219,15 +220,15 @@ fn two_children_are_one_history(rt: HostRuntime) -> Result<(), Fail> {
         COMMIT_TWO,
     ];
     let due = [
-        Due::Sprouted(ONE),
-        Due::Sprouted(TWO),
-        Due::Wrote,
-        Due::Found(Content::Absent),
-        Due::Wrote,
-        Due::Found(Content::Absent),
-        Due::Committed(Verdict::Moved),
-        Due::Found(NULL),
-        Due::Committed(Verdict::Moved),
+        Answer::Sprouted(ONE),
+        Answer::Sprouted(TWO),
+        Answer::Wrote,
+        Answer::Found(Content::Absent),
+        Answer::Wrote,
+        Answer::Found(Content::Absent),
+        Answer::Committed(Verdict::Moved),
+        Answer::Found(NULL),
+        Answer::Committed(Verdict::Moved),
     ];
     expect(&rt, rt.alloc(), &actions, &due, &[5, 2, 7, 3, 4])
 }
@@ -245,13 +246,13 @@ fn a_strict_world_records_what_it_writes_over(rt: HostRuntime) -> Result<(), Fai
         READ_FIRST,
     ];
     let due = [
-        Due::Wrote,
-        Due::Sprouted(ONE),
-        Due::Wrote,
-        Due::Listed(&[Name::Text(TextId(1))]),
-        Due::Wrote,
-        Due::Committed(Verdict::Disagrees(S)),
-        Due::Found(NO),
+        Answer::Wrote,
+        Answer::Sprouted(ONE),
+        Answer::Wrote,
+        Answer::Listed(one_name(rt.alloc(), Name::Text(TextId(1)))?),
+        Answer::Wrote,
+        Answer::Committed(Verdict::Disagrees(S)),
+        Answer::Found(NO),
     ];
     expect(&rt, rt.alloc(), &actions, &due, &[0, 4, 6])?;
     // or is the same again
@@ -264,12 +265,12 @@ fn a_strict_world_records_what_it_writes_over(rt: HostRuntime) -> Result<(), Fai
         READ_FIRST,
     ];
     let due = [
-        Due::Wrote,
-        Due::Sprouted(ONE),
-        Due::Wrote,
-        Due::Wrote,
-        Due::Committed(Verdict::Moved),
-        Due::Found(NULL),
+        Answer::Wrote,
+        Answer::Sprouted(ONE),
+        Answer::Wrote,
+        Answer::Wrote,
+        Answer::Committed(Verdict::Moved),
+        Answer::Found(NULL),
     ];
     expect(&rt, rt.alloc(), &actions, &due, &[0, 3, 2, 5])
 }
@@ -288,14 +289,14 @@ fn what_moves_into_a_strict_world_is_recorded(rt: HostRuntime) -> Result<(), Fai
         READ_ONE,
     ];
     let due = [
-        Due::Wrote,
-        Due::Sprouted(ONE),
-        Due::Sprouted(TWO),
-        Due::Wrote,
-        Due::Committed(Verdict::Moved),
-        Due::Wrote,
-        Due::Committed(Verdict::Disagrees(S)),
-        Due::Found(NO),
+        Answer::Wrote,
+        Answer::Sprouted(ONE),
+        Answer::Sprouted(TWO),
+        Answer::Wrote,
+        Answer::Committed(Verdict::Moved),
+        Answer::Wrote,
+        Answer::Committed(Verdict::Disagrees(S)),
+        Answer::Found(NO),
     ];
     expect(&rt, rt.alloc(), &actions, &due, &[0, 5])
 }
@@ -305,11 +306,11 @@ fn worlds_that_are_not_there_are_told(rt: HostRuntime) -> Result<(), Fail> {
     // worlds that aren't there, and one without a parent
     let actions = [READ_ONE, LIST, SPROUT_OF_ONE, COMMIT, COMMIT_FIRST];
     let due = [
-        Due::NoWorld,
-        Due::NoWorld,
-        Due::NoWorld,
-        Due::NoWorld,
-        Due::Committed(Verdict::NoParent),
+        Answer::NoWorld,
+        Answer::NoWorld,
+        Answer::NoWorld,
+        Answer::NoWorld,
+        Answer::Committed(Verdict::NoParent),
     ];
     expect(&rt, rt.alloc(), &actions, &due, &[])
 }
