@@ -1,0 +1,11 @@
+pub mod Deeds
+pub mod Tabled
+pub mod Machine
+pub mod Keeping
+pub mod Words
+pub mod Spellings
+pub mod Lines
+pub mod Readings
+pub mod Judgements
+pub mod Pushes
+pub mod Contents

@@ -1,0 +1,11 @@
+pub mod Deeds
+pub mod Spelling
+pub mod Logs
+pub mod Right
+pub mod Kept
+pub mod Recorded
+pub mod Telling
+pub mod Tables
+pub mod Parts
+pub mod Laws
+pub mod Codes

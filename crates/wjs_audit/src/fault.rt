@@ -1,0 +1,11 @@
+//! Why a log is refused.
+
+/// Why bytes are no log, or a log is not the machine's.
+#[derive(Clone, Copy, Debug, PartialEq, Eq)]
+pub enum AuditFault {
+    /// The first line that breaks the form, counted from 1 by LF.
+    NotALog { line: u64 },
+    /// The line of the first entry whose answer is not the full-copy machine's.
+    NotTheAnswer { line: u64 },
+    OutOfMemory,
+}
