@@ -27,7 +27,7 @@ pub fn load(alloc: Global, bytes: &[u8], texts: &mut Texts) -> Result<Unit, Load
     ensures table { IsTable texts.new }
 {
     let toks = tokens(alloc, bytes, texts)?;
-    match read(alloc, texts, toks.as_slice()) {
+    match read(alloc, texts, toks) {
         Ok(unit) => Ok(unit),
         Err(ParseFault::NotAScript) => Err(LoadFault::Refused(Refusal::NotAScript)),
         Err(ParseFault::OutOfMemory) => Err(LoadFault::OutOfMemory),

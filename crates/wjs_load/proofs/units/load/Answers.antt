@@ -3,10 +3,8 @@ use Rattle.wjs_load.proofs.units.load.Goals as goal
 
 pub returns-in-Ok-clause-ok : goal.returns-in-Ok-clause-ok
 returns-in-Ok-clause-ok c =
-    let read = rw c.as_slice.ensures.value at c.in-Ok.ensures in
-    spelled c.args.bytes.now c.tokens.new.texts c.in_ok-toks.toks.items c.in-Ok.unit c.in_ok-toks.ensures.ok read c.tokens.ensures.table
+    spelled c.args.bytes.now c.tokens.new.texts c.in_ok-toks.toks.items c.in-Ok.unit c.in_ok-toks.ensures.ok c.in-Ok.ensures c.tokens.ensures.table
 
 pub returns-in-Ok-clause-known : goal.returns-in-Ok-clause-known
 returns-in-Ok-clause-known c =
-    let read = rw c.as_slice.ensures.value at c.in-Ok.ensures in
-    knows_texts c.args.bytes.now c.tokens.new.texts c.in_ok-toks.toks.items c.in-Ok.unit c.in_ok-toks.ensures.ok read
+    knows_texts c.args.bytes.now c.tokens.new.texts c.in_ok-toks.toks.items c.in-Ok.unit c.in_ok-toks.ensures.ok c.in-Ok.ensures
