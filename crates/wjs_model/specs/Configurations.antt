@@ -1,12 +1,12 @@
 -- What a configuration of the code means under a table of texts and what stands outside it, and what a call on it keeps.
-use Rattle.std.specs.Prelude.{◌≡◌, ℕ, suc, ◌<◌, Bool, true, false, List, [], map as each, None, Some, is_some, unwrap_or}
+use Rattle.std.specs.Prelude.{◌≡◌, ℕ, ◌+◌, ◌<◌, Bool, true, false, List, [], map as each, None, Some, is_some, unwrap_or}
 use Rattle.std.specs.FinMap as map
 use Rattle.wjs_base.specs.declared.ids.ObjId.{ObjId}
 use Rattle.wjs_base.specs.Text.{Table, Grows}
 use Rattle.wjs_store.specs.Meaning.{Meaning}
 use Rattle.wjs_arena.specs.Entries.{Entry}
 use Rattle.wjs_content.specs.Tables.{value_in, arena_in}
-use Rattle.wjs_content.specs.Worlds.{worlds_in, told_by, KnowsWorlds}
+use Rattle.wjs_content.specs.Worlds.{worlds_in, told_by}
 use Rattle.wjs_meaning.specs.Deeds.{St}
 use Rattle.wjs_meaning.specs.Programs.{Ending, Done, Threw, StepsSpent}
 use Rattle.wjs_model.specs.declared.config.Config.{Config}
@@ -15,7 +15,7 @@ use Rattle.wjs_model.specs.declared.config.State.TheVariants as states
 use Rattle.wjs_model.specs.Units.{unit_in}
 use Rattle.wjs_model.specs.Contents.{Frame, Run, frame_in}
 use Rattle.wjs_model.specs.Rest.{rest_of, turns_of}
-use Rattle.wjs_model.specs.Outside.{Outside, Admits, beside}
+use Rattle.wjs_model.specs.Outside.{Outside, Admits, Knows, beside}
 
 -- ---- what is left to do
 
@@ -40,13 +40,13 @@ module _ {S : Type 0} (meaning : S → Meaning) where
   abbrev pub run_in : Table → Config S → Run
   run_in texts c = record { trees = each (unit_in texts) c.units.items; global = c.global; owner = c.owner }
 
-  -- the worlds under the view, the objects with the further ones beside them, the output that has not gone out, and the actions that the store tells
+  -- the worlds under the view and the actions that the store tells, by the table of what stands outside; the objects, by this one, with the further ones beside them; the output that has not gone out
   abbrev pub state_in : Table → Outside → Config S → St
   state_in texts v c = record {
-    full = worlds_in texts ((meaning c.heap.store).full v.view);
+    full = worlds_in v.texts ((meaning c.heap.store).full v.view);
     arena = beside (arena_in texts c.heap.arena) v.more;
     out = c.pending.items;
-    done = unwrap_or (told_by texts (meaning c.heap.store).told) [];
+    done = unwrap_or (told_by v.texts (meaning c.heap.store).told) [];
   }
 
   abbrev pub frames_in : Table → Config S → List Frame
@@ -80,23 +80,31 @@ module _ {S : Type 0} (meaning : S → Meaning) where
     pub around : (meaning new.heap.store).around ≡ (meaning old.heap.store).around
     pub narrows : (v : Outside) → Admits meaning new v → Admits meaning old v
 
-  -- under each view that is admitted afterwards and whose slots the old texts know, and with any further objects of other owners, what is left to do with some steps is what was left with others; in the new texts, and so in all later ones
+  -- under whatever stands outside that is admitted afterwards, and whose table knew the worlds: what is left to do with some steps is what was left with others; in the new texts, and so in all later ones
   abbrev pub RestIs : Config S → Config S → (ℕ → ℕ) → Type 0
-  RestIs old new before = let t = new.heap.texts in (v : Outside) → Admits meaning new v → KnowsWorlds old.heap.texts ((meaning old.heap.store).full v.view) → (n : ℕ) → rest t v old (before n) ≡ rest t v new n
+  RestIs old new before = let t = new.heap.texts in (v : Outside) → Admits meaning new v → Knows meaning old v → (n : ℕ) → rest t v old (before n) ≡ rest t v new n
+
+  -- and the table knows the worlds still
+  abbrev pub StaysKnown : Config S → Config S → Type 0
+  StaysKnown old new = (v : Outside) → Admits meaning new v → Knows meaning old v → Knows meaning new v
 
   -- a turn that takes no step: under each such view, and with such objects, there are fewer turns left before the next
   pub record Quiet (old new : Config S) : Type 0 where
     pub stays : Stays old new
     pub left : new.left ≡ old.left
     pub kept : RestIs old new (λ n. n)
-    pub falls : let t = new.heap.texts in (v : Outside) → Admits meaning new v → KnowsWorlds old.heap.texts ((meaning old.heap.store).full v.view) → turns t v new < turns t v old
+    pub knows : StaysKnown old new
+    pub falls : let t = new.heap.texts in (v : Outside) → Admits meaning new v → Knows meaning old v → turns t v new < turns t v old
     pub alive : ¬ (new.state ≡ states.StepsSpent)
 
-  -- a turn that takes a step
+  -- a turn that takes steps: one, or more
   pub record Stepped (old new : Config S) : Type 0 where
     pub stays : Stays old new
-    pub left : old.left ≡ suc new.left
-    pub kept : RestIs old new suc
+    pub steps : ℕ
+    pub some : 0 < steps
+    pub left : old.left ≡ steps + new.left
+    pub kept : RestIs old new (λ n. steps + n)
+    pub knows : StaysKnown old new
     pub alive : ¬ (new.state ≡ states.StepsSpent)
 
   -- a turn that finds a step due and none left, and changes nothing else

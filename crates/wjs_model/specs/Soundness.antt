@@ -138,11 +138,12 @@ module _ {S : Type 0} (meaning : S → Meaning) where
     pub places : All (PlacesUnit c.heap.texts) c.units.items
     -- its functions stand at nodes of its programs
     pub functions : (o : ObjId) (e : Entry) → map.get c.heap.arena o ≡ Some e → FunctionStands c.units.items c.heap.arena e.object.code e.object.scope
-    -- a world of its owner that an object stands for is in the store
+    -- each world of the store is its owner's, and so is the world that an object of it stands for; such a world is in the store
+    pub worlds_own : (w : WorldId) → HasWorld c w → w.owner ≡ c.owner
+    pub worlds_by : (o : ObjId) (e : Entry) (w : WorldId) → map.get c.heap.arena o ≡ Some e → e.object.world ≡ Some w → w.owner ≡ o.owner
     pub own_worlds : (o : ObjId) (e : Entry) (w : WorldId) → map.get c.heap.arena o ≡ Some e → e.object.world ≡ Some w → w.owner ≡ c.owner → HasWorld c w
-    -- its own owner is not kept apart, and where an owner is, no object of it has a world of the store
+    -- its own owner is not kept apart
     pub own : IsTrue (not (is_apart c.apart.items c.owner))
-    pub no_worlds : (o : ObjId) (e : Entry) (w : WorldId) → map.get c.heap.arena o ≡ Some e → IsTrue (is_apart c.apart.items o.owner) → e.object.world ≡ Some w → ¬ HasWorld c w
     -- the objects of the others name none of it, and neither do the present slots
     pub near_objects : (o : ObjId) (e : Entry) → map.get c.heap.arena o ≡ Some e → IsNear c.apart.items o → NamesNear c.apart.items e.object
     pub near_slots : NearSlots c.apart.items (worlds (meaning c.heap.store))

@@ -8,9 +8,9 @@ use Rattle.wjs_model.specs.Outside.{Outside, alone}
 use Rattle.wjs_model.specs.Configurations.{rest, turns, Stays, Turned}
 
 module _ {S : Type 0} (meaning : S → Meaning) where
-  -- the store's own view, and no further objects
+  -- the store's own view, no further objects, and the configuration's texts
   abbrev pub own_view : Config S → Outside
-  own_view c = alone (meaning c.heap.store).own
+  own_view c = alone (meaning c.heap.store).own c.heap.texts
 
   abbrev pub AdmitsOwn : Config S → Type 0
   AdmitsOwn c = IsTrue ((meaning c.heap.store).admits (meaning c.heap.store).own)

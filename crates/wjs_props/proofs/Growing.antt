@@ -67,7 +67,7 @@ module _ (h : Parts) (new : Table) (table : IsTable new) (g : Grows h.texts new)
   pub performs_grown : {A : Type 0} (w : WorldId) (p : Table → Plan A) (a : Table → A) (after : Parts) → Performs w p a (with_texts h new) after → Performs w p a h after
   performs_grown w p a after f = record {
     narrows = f.narrows;
-    carries = λ t gt v ok k. f.carries t gt v ok (worlds_grow h.texts new g (h.store.full v) k).0;
+    carries = λ t u gt gu v ok k. f.carries t u gt gu v ok k;
     marks = λ k. f.marks (worlds_grow h.texts new g (worlds h.store) k).0;
     told = λ k d. f.told (worlds_grow h.texts new g (worlds h.store) k).0 (λ t gt. d t (grows_twice h.texts new t g gt) ∙ sym (d new g));
     texts = grows_twice h.texts new after.texts g f.texts;

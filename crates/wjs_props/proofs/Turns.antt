@@ -18,7 +18,7 @@ grows_twice a b c f g = (f.0 ++ g.0, g.1 ∙ ap (λ (x : Table). x ++ g.0) f.1 �
 pub performs_nothing : {A : Type 0} (w : WorldId) (a : Table → A) (h : Parts) → IsHeap h → Performs w (λ t. Gives (a t)) a h h
 performs_nothing w a h heap = record {
   narrows = λ v ok. ok;
-  carries = λ t g v ok k. carries_nothing t w (a t) h.store v (worlds_grow h.texts t g (h.store.full v) k).0;
+  carries = λ t u g gu v ok k. carries_nothing u w (a t) h.store v k;
   marks = λ k. k;
   told = λ k d. d;
   texts = grows_itself h.texts;
@@ -35,10 +35,9 @@ pub performs_then : {A B : Type 0} (w : WorldId) (p : Table → Plan A) (go : Ta
     → Performs w p a old mid → Performs w (λ t. go t (a t)) b mid new → Performs w (λ t. then_plan (p t) (go t)) b old new
 performs_then w p go a b old mid new f s = record {
   narrows = λ v ok. f.narrows v (s.narrows v ok);
-  carries = λ t g v ok k.
-      carries_then t w (p t) (go t) (a t) (b t) old.store mid.store new.store v
-      (f.carries t (grows_twice mid.texts new.texts t s.texts g) v (s.narrows v ok) k)
-      (s.carries t g v ok (f.carries mid.texts (grows_itself mid.texts) v (s.narrows v ok) k).knows);
+  carries = λ t u g gu v ok k.
+      let first = f.carries t u (grows_twice mid.texts new.texts t s.texts g) gu v (s.narrows v ok) k in
+      carries_then u w (p t) (go t) (a t) (b t) old.store mid.store new.store v first (s.carries t u g gu v ok first.knows);
   marks = λ k. s.marks (f.marks k);
   told = λ k d. s.told (f.marks k) (f.told k d);
   texts = grows_twice old.texts mid.texts new.texts f.texts s.texts;
@@ -54,7 +53,7 @@ performs_then w p go a b old mid new f s = record {
 pub performs_same : {A : Type 0} (w : WorldId) (p q : Table → Plan A) (a b : Table → A) (old new : Parts) → ((t : Table) → Grows new.texts t → p t ≡ q t) → ((t : Table) → Grows new.texts t → a t ≡ b t) → Performs w p a old new → Performs w q b old new
 performs_same w p q a b old new e d f = record {
   narrows = f.narrows;
-  carries = λ t g v ok k. subst (λ x. Carries t w (q t) x old.store new.store v) (d t g) (subst (λ x. Carries t w x (a t) old.store new.store v) (e t g) (f.carries t g v ok k));
+  carries = λ t u g gu v ok k. subst (λ x. Carries u w (q t) x old.store new.store v) (d t g) (subst (λ x. Carries u w x (a t) old.store new.store v) (e t g) (f.carries t u g gu v ok k));
   marks = f.marks;
   told = f.told;
   texts = f.texts;

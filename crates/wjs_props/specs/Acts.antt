@@ -28,7 +28,7 @@ pub record ActsBy (texts : Table) (act : Act Slot Value) (answer : Heard) (old n
 -- a call did one action of the worlds, and heard this answer: by content in the same sense
 pub record Acts (act : Act Slot Value) (answer : Heard) (old new : Parts) : Type 0 where
   pub narrows : (v : View) → IsTrue (new.store.admits v) → IsTrue (old.store.admits v)
-  pub acts : (t : Table) → Grows new.texts t → (v : View) → IsTrue (new.store.admits v) → KnowsWorlds old.texts (old.store.full v) → ActsBy t act answer old.store new.store v
+  pub acts : (u : Table) → Grows new.texts u → (v : View) → IsTrue (new.store.admits v) → KnowsWorlds u (old.store.full v) → ActsBy u act answer old.store new.store v
   pub marks : KnowsWorlds old.texts (worlds old.store) → KnowsWorlds new.texts (worlds new.store)
   pub told : KnowsWorlds old.texts (worlds old.store) → KnowsTold old.texts old.store.told → KnowsTold new.texts new.store.told
   pub texts : new.texts ≡ old.texts

@@ -59,7 +59,7 @@ KnowsTold texts told = (t : Table) → Grows texts t → told_by t told ≡ told
 -- a call did in a world what the plan asks, and gave its answer: in the contents that the table gives or any table that has grown from it, and under each view that is admitted afterwards and whose slots the table knows
 pub record Performs {A : Type 0} (w : WorldId) (plan : Table → Plan A) (answer : Table → A) (old new : Parts) : Type 0 where
   pub narrows : (v : View) → IsTrue (new.store.admits v) → IsTrue (old.store.admits v)
-  pub carries : (t : Table) → Grows new.texts t → (v : View) → IsTrue (new.store.admits v) → KnowsWorlds old.texts (old.store.full v) → Carries t w (plan t) (answer t) old.store new.store v
+  pub carries : (t u : Table) → Grows new.texts t → Grows t u → (v : View) → IsTrue (new.store.admits v) → KnowsWorlds u (old.store.full v) → Carries u w (plan t) (answer t) old.store new.store v
   -- where the table knows what the worlds and their marks name, it does so afterwards
   pub marks : KnowsWorlds old.texts (worlds old.store) → KnowsWorlds new.texts (worlds new.store)
   -- and where the texts of the told actions are there, they are afterwards
