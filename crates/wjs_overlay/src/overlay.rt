@@ -39,7 +39,7 @@ fn first_world() -> WorldId
 
 impl Overlay {
     ghost use Rattle.std.specs.Prelude.{◌≡◌, ◌+◌, ◌*◌, ◌≤◌, false, IfOk, IsTrue};
-    ghost use Rattle.wjs_store.specs.Fixed.{fixed, fresh};
+    ghost use Rattle.wjs_store.specs.Fixed.{fixed, begun, fresh};
     ghost use Rattle.wjs_store.specs.Meaning.{Answers, worlds};
     ghost use Rattle.wjs_store.specs.State.{has_world, read, write, list, sprout, commit, found, wrote, listed, sprouted, committed};
     ghost use Rattle.wjs_store.specs.Shown.{content_of, slots_of, verdict_of};
@@ -53,16 +53,25 @@ impl Overlay {
     ghost use Rattle.wjs_overlay.specs.Marks.{is_written};
     ghost use Rattle.wjs_store.specs.State.{parent_of};
 
-    /// A store with the first world alone.
+    /// A store with the first world alone, which is owner 0's.
     pub fn new(alloc: Global) -> Result<Overlay, OutOfMemory>
         ensures { IfOk result (λ store. ⟦<Overlay as WorldStore>⟧.meaning store ≡ fixed fresh false) }
+    {
+        let store = Overlay::starting(alloc, first_world())?;
+        Ok(store)
+    }
+
+    /// A store with a first world of this number alone: its owner's first.
+    pub fn starting(alloc: Global, first: WorldId) -> Result<Overlay, OutOfMemory>
+        requires { first.serial ≡ 0 }
+        ensures { IfOk result (λ store. ⟦<Overlay as WorldStore>⟧.meaning store ≡ fixed (begun first) false) }
     {
         let mut layers = Vec::new(alloc);
         let mut places = Places::new(alloc);
         let mut owners = Owners::new(alloc);
-        places.insert(first_world(), 0)?;
-        owners.insert(0, 1)?;
-        if layers.push(Layer::first(alloc, first_world())).is_err() {
+        places.insert(first, 0)?;
+        owners.insert(first.owner, 1)?;
+        if layers.push(Layer::first(alloc, first)).is_err() {
             return Err(OutOfMemory);
         }
         Ok(Overlay {
