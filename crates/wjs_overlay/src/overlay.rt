@@ -46,7 +46,7 @@ impl Overlay {
     ghost use Rattle.wjs_overlay.specs.Sparse.{IsAt, full_of, place_of, depth_of};
     ghost use Rattle.wjs_overlay.specs.Store.{check_of};
     ghost use Rattle.wjs_overlay.specs.Work.{rows_of, closed_of, rows_above};
-    ghost use Rattle.std.specs.Prelude.{IsSome, ◌&&◌};
+    ghost use Rattle.std.specs.Prelude.{IsSome, IfSome, Ok, ◌&&◌};
     ghost use Rattle.wjs_base.specs.declared.values.Slot.{Slot};
     ghost use Rattle.wjs_overlay.specs.Check.{IsLeast};
     ghost use Rattle.wjs_overlay.specs.Cursor.{to_come};
@@ -151,6 +151,28 @@ impl Overlay {
         let answer = calls::read(&mut self.layers, at, slot, steps)?;
         self.spent = false;
         Ok(answer)
+    }
+
+    /// `peek` in a store that isn't spent, in one step. It answers in the first world, and in each other where the slot has
+    /// a row there: the look is `read_counted`'s first.
+    #[inline(always)]
+    pub fn peek_counted<L: Ledger>(
+        &self,
+        world: WorldId,
+        slot: Slot,
+        steps: &mut Steps<L>,
+    ) -> Option<Content>
+        requires live { (⟦<Overlay as WorldStore>⟧.meaning self.now).spent ≡ false }
+        requires there { IsTrue (has_world (worlds (⟦<Overlay as WorldStore>⟧.meaning self.now)) world) }
+        ensures answers { IfSome result (λ content. Answers (⟦<Overlay as WorldStore>⟧.meaning self.now) (read world slot) (λ c. found (content_of c)) (Ok content) (⟦<Overlay as WorldStore>⟧.meaning self.now)) }
+        ensures step { steps.new ≡ steps.old + 1 }
+    {
+        let at = self.spot(world);
+        let layer = &self.layers[at.place];
+        match layer.above() {
+            None => Some(layer.get_first(slot, steps)),
+            Some(_) => layer.now(slot, steps),
+        }
     }
 
     /// `write`, in at most twice the depth and 7 steps.
@@ -302,6 +324,11 @@ impl WorldStore for Overlay {
     #[inline(always)]
     fn read(&mut self, world: WorldId, slot: Slot) -> Result<Content, OutOfMemory> {
         uncounted::read_uncounted::<Brand>(self, world, slot, Blank::new(1))
+    }
+
+    #[inline(always)]
+    fn peek(&self, world: WorldId, slot: Slot) -> Option<Content> {
+        uncounted::peek_uncounted::<Brand>(self, world, slot, Blank::new(1))
     }
 
     #[inline(always)]
