@@ -1,5 +1,5 @@
 -- A part that is entered above a frame that waits.
-use Rattle.std.proofs.Common.{◌≡◌, ℕ, List, refl, sym, ap, ◌∙◌, subst}
+use Rattle.std.proofs.Common.{◌≡◌, ℕ, ◌+◌, List, refl, sym, ap, ◌∙◌, subst, arith}
 use Rattle.std.specs.Prelude.{Result, Ok, Err, OnOk}
 use Rattle.wjs_base.specs.declared.ids.OutOfMemory.{OutOfMemory}
 use Rattle.wjs_base.specs.Text.{Table}
@@ -31,10 +31,15 @@ module _ {S : Type 0} (meaning : S → Meaning) where
   pub inner_keeps : (t : Table) (goal : Goal) (env : Env) (go : Completion → Act) (old new : Config S) (frames : List NumberedFrame) → Keeps meaning t 1 (Sub (Eval goal env Ret) go) old new → Keeps meaning t 1 (Eval goal env Ret) (record old { frames = frames }) new → Keeps meaning t 1 (Eval goal env go) old new
   inner_keeps t goal env go old new frames outer inner = record {
     stays = outer.stays;
+    cost = outer.cost;
     left = outer.left;
     alive = outer.alive;
     kept = λ v a h n. ap (seen (tells meaning old)) (sym (inner_same (run_in meaning t old) goal env go (frames_in meaning t old) (state_in meaning t v old) n)) ∙ outer.kept v a h n;
-    falls = λ v a h. inner.falls v a h;
+    knows = outer.knows;
+    falls = λ free v a h.
+        let one : old.left ≡ outer.cost + new.left = outer.left in
+        let two : old.left ≡ inner.cost + new.left = inner.left in
+        inner.falls (omega (arith, one, two, free)) v a h;
   }
 
   pub inner_follows : (goal : Goal) (env : Env) (go : Table → Completion → Act) (old new : Config S) (frames : List NumberedFrame) (r : Result (Unit {0}) OutOfMemory) → Nests meaning go old (record old { frames = frames }) → OnOk r (Follows meaning (Eval goal env Ret) (record old { frames = frames }) new) → OnOk r (Follows meaning (Eval goal env (go new.heap.texts)) old new)

@@ -143,7 +143,7 @@ module _ {S : Type 0} (meaning : S → Meaning) where
       around = refl;
       narrows = λ v a. a;
     };
-    by = λ t gt v a k.
+    by = λ t gt v gv a k.
         let st = state_in meaning t v old in
         let grown : created st.arena old.owner (internals t) ≡ beside (arena_in t arena) v.more =
         ap (created st.arena old.owner) (sym (e t gt))
@@ -154,7 +154,7 @@ module _ {S : Type 0} (meaning : S → Meaning) where
         record {
           acts = [];
           knows = k;
-          told = told_same t (meaning old.heap.store).told;
+          told = told_same v.texts (meaning old.heap.store).told;
           runs = λ go n i. interp eval (go (number i)) (leaves i) n;
           counts = λ go m i. turns_act (go (number i)) (leaves i) m;
         };
@@ -223,11 +223,12 @@ module _ {S : Type 0} (meaning : S → Meaning) where
           ]
         ])
         (record {
-          no_worlds = λ o e w q a k. elim (new_or_old mid new old.owner y is_new o e q) [
+          worlds_own = b.worlds_own;
+          worlds_by = λ o e w q k. elim (new_or_old mid new old.owner y is_new o e q) [
             | inl same ↦ absurd (no_world y e w mid none_y same k)
             | inr q' ↦ elim (new_or_old old.heap.arena mid old.owner x is_mid o e q') [
               | inl same ↦ absurd (no_world x e w old.heap.arena none_x same k)
-              | inr q'' ↦ b.no_worlds o e w q'' a k
+              | inr q'' ↦ b.worlds_by o e w q'' k
             ]
           ];
           objects = λ o e q h. elim (new_or_old mid new old.owner y is_new o e q) [

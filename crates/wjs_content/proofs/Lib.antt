@@ -1,6 +1,7 @@
 pub mod Known
 pub mod Growth
 pub mod Listings
+pub mod Replies
 pub mod PlanLaws
 pub mod Carrying
 pub mod Same

@@ -1,20 +1,21 @@
 -- What a table of texts makes of worlds, and of the actions that were done in them.
-use Rattle.std.specs.Prelude.{List, map as each, Option}
+use Rattle.std.specs.Prelude.{◌≡◌, true, List, map as each, Option}
 use Rattle.std.specs.Option.{option_map}
 use Rattle.std.specs.FinMap as map
 use Rattle.wjs_base.specs.declared.ids.ObjId.{ObjId}
 use Rattle.wjs_base.specs.declared.values.Name.{Name}
+use Rattle.wjs_base.specs.declared.values.Slot.{Slot as NumberedSlot}
 use Rattle.wjs_base.specs.Text.{Table}
 use Rattle.wjs_store.specs.Meaning.{Worlds, PlainAct, PlainReply}
 use Rattle.wjs_store.specs.Shown.{slots_of}
-use Rattle.wjs_store.specs.State.{State, Act, found, wrote, listed, sprouted, committed}
+use Rattle.wjs_store.specs.State.{State, Act, Verdict, moved, differs, no_parent, found, wrote, listed, sprouted, committed}
 use Rattle.wjs_rename.specs.Ascends.{tagged}
-use Rattle.wjs_rename.specs.Names.{Known, KnownAct, named_state, named_act}
+use Rattle.wjs_rename.specs.Names.{Holds, Known, KnownAct, KnowsContent, named_state, named_act}
 use Rattle.wjs_rename.specs.Rename.{shape}
 use Rattle.wjs_content.specs.Values.{Text, Value}
 use Rattle.wjs_content.specs.Names.{Slot, slot_cmp, content}
 use Rattle.wjs_content.specs.Plans.{Heard, Found, Wrote, Listed, Sprouted, Committed, Told}
-use Rattle.wjs_content.specs.Tables.{slot_in, value_in}
+use Rattle.wjs_content.specs.Tables.{slot_in, value_in, knows_slot}
 use Rattle.wjs_content.specs.Telling.{names_of}
 
 -- the slots of a list in their order, each once
@@ -35,6 +36,20 @@ module _ (texts : Table) where
   -- those of an action are
   abbrev pub KnowsAct : PlainAct → Type 0
   KnowsAct a = KnownAct (names_of texts) a
+
+  -- the slot of a refused commit is
+  abbrev pub KnowsVerdict : Verdict NumberedSlot → Type 0
+  KnowsVerdict moved = Unit {0}
+  KnowsVerdict (differs s) = knows_slot texts s ≡ true
+  KnowsVerdict no_parent = Unit {0}
+
+  -- those of an answer are: a content that was found, slots that were listed, the slot of a refused commit
+  abbrev pub KnowsReply : PlainReply → Type 0
+  KnowsReply (found c) = KnowsContent (names_of texts) c
+  KnowsReply wrote = Unit {0}
+  KnowsReply (listed ss) = Holds (λ s. knows_slot texts s ≡ true) ss
+  KnowsReply (sprouted w) = Unit {0}
+  KnowsReply (committed v) = KnowsVerdict v
 
   -- a listing in the order of contents
   abbrev pub heard_in : PlainReply → Heard

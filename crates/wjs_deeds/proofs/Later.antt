@@ -1,5 +1,5 @@
 -- After each kind of deed what was there is there.
-use Rattle.std.proofs.Common.{◌≡◌, ℕ, Vec, Global, Bool, true, false, cond, Option, None, Some, refl, sym, ap, ◌∙◌, subst, IsTrue}
+use Rattle.std.proofs.Common.{◌≡◌, ℕ, Vec, Global, Bool, true, false, cond, Some, refl, sym, ap, ◌∙◌, subst, IsTrue}
 use Rattle.std.specs.Prelude.{not}
 use Rattle.std.specs.Option.{option_and_then}
 use Rattle.std.specs.FinMap as map
@@ -26,6 +26,7 @@ use Rattle.wjs_props.specs.Acts.{Acts, Creates}
 use Rattle.wjs_props.specs.Heap.{Performs, KnowsTold}
 use Rattle.wjs_props.specs.Means.{parts}
 use Rattle.wjs_props.proofs.Growing.{heap_grows}
+use Rattle.wjs_props.proofs.Told.{told_stays}
 use Rattle.wjs_model.specs.declared.config.Config.{Config}
 use Rattle.wjs_model.specs.Soundness.{HasObject, HasWorld, IsThere, Base}
 use Rattle.wjs_model.specs.Apart.{is_apart, IsNear, NearSlots, NamesNear}
@@ -36,10 +37,6 @@ use Rattle.wjs_deeds.proofs.Staying.{StaysApart, later_on, later_there}
 use Rattle.wjs_deeds.proofs.Nearing.{Left}
 
 module _ {S : Type 0} (meaning : S → Meaning) where
-  not_both : (b : Bool) → IsTrue b → IsTrue (not b) → ⊥
-  not_both true h k = absurd (cc)
-  not_both false h k = absurd (cc)
-
   pub later_same : (old : Config S) → Base meaning old → Later meaning old old
   later_same old b = later_there old old (Grows-refl old.heap.texts) (λ o h. h) meaning (λ w h. h) (λ o e h. h) refl refl refl refl b
 
@@ -69,7 +66,8 @@ module _ {S : Type 0} (meaning : S → Meaning) where
   -- where the objects stay, and no world is new
   stays_apart : (old : Config S) (heap : Heap S) → Base meaning old → heap.arena ≡ old.heap.arena → Left meaning old heap → StaysApart meaning old heap
   stays_apart old heap b arena left = record {
-    no_worlds = λ o e w h a k there. b.no_worlds o e w (ap (λ (m : Objects). map.get m o) (sym arena) ∙ h) a k (left.were w there);
+    worlds_own = λ w there. b.worlds_own w (left.were w there);
+    worlds_by = λ o e w h. b.worlds_by o e w (ap (λ (m : Objects). map.get m o) (sym arena) ∙ h);
     objects = λ o e h. b.near_objects o e (ap (λ (m : Objects). map.get m o) (sym arena) ∙ h);
     slots = left.slots;
     functions = λ o e h. subst (λ (m : Objects). FunctionStands old.units.items m e.object.code e.object.scope) (sym arena) (b.functions o e (ap (λ (m : Objects). map.get m o) (sym arena) ∙ h));
@@ -88,8 +86,8 @@ module _ {S : Type 0} (meaning : S → Meaning) where
 
   -- more texts
   pub later_texts : (old : Config S) (texts : Table) → Base meaning old → IsTable texts → Grows old.heap.texts texts → Later meaning old (record old { heap = record old.heap { texts = texts } })
-  later_texts old texts b table g = later_on meaning old (record old.heap { texts = texts }) g (λ o e h. h) (λ w h. h) b (heap_grows (parts meaning old.heap) texts table g b.heap) (worlds_grow old.heap.texts texts g (worlds (meaning old.heap.store)) b.marks).0 (λ t later. b.told t (Grows-trans old.heap.texts texts t g later) ∙ sym (b.told texts g)) b.works b.own_worlds
-      (record { no_worlds = b.no_worlds; objects = b.near_objects; slots = b.near_slots; functions = b.functions })
+  later_texts old texts b table g = later_on meaning old (record old.heap { texts = texts }) g (λ o e h. h) (λ w h. h) b (heap_grows (parts meaning old.heap) texts table g b.heap) (worlds_grow old.heap.texts texts g (worlds (meaning old.heap.store)) b.marks).0 (told_stays old.heap.texts texts g (meaning old.heap.store).told b.told) b.works b.own_worlds
+      (record { worlds_own = b.worlds_own; worlds_by = b.worlds_by; objects = b.near_objects; slots = b.near_slots; functions = b.functions })
 
   -- other output
   pub base_out : (old : Config S) (pending : Vec ℕ Global) → Base meaning old → Base meaning (record old { pending = pending })
@@ -102,9 +100,10 @@ module _ {S : Type 0} (meaning : S → Meaning) where
     units = b.units;
     places = b.places;
     functions = b.functions;
+    worlds_own = b.worlds_own;
+    worlds_by = b.worlds_by;
     own_worlds = b.own_worlds;
     own = b.own;
-    no_worlds = b.no_worlds;
     near_objects = b.near_objects;
     near_slots = b.near_slots;
     frames = All-weaker (IsThere meaning old) (IsThere meaning (record old { pending = pending })) (λ f h. record { scope = h.scope; this = h.this; world = h.world; held = h.held; phase = h.phase; stands = h.stands }) old.frames b.frames;
@@ -144,15 +143,18 @@ module _ {S : Type 0} (meaning : S → Meaning) where
       function o e true q = let is : entry_over old.heap.arena x ≡ e = cc in subst (λ (z : Entry). FunctionStands old.units.items heap.arena z.object.code z.object.scope) is (code_kept old.heap.arena heap.arena c.keeps old.units.items x.code x.scope code)
       function o e false q = code_kept old.heap.arena heap.arena c.keeps old.units.items e.object.code e.object.scope (b.functions o e q)
 
-      no_world : (o : ObjId) (e : Entry) (w : WorldId) (same : Bool) → eq_by_cmp obj_cmp o (next_number old.heap.arena old.owner) ≡ same → cond same (Some (entry_over old.heap.arena x)) (map.get old.heap.arena o) ≡ Some e → IsTrue (is_apart old.apart.items o.owner) → e.object.world ≡ Some w → HasWorld meaning old w → ⊥
-      no_world o e w true is q a k h =
-          let owner : o.owner ≡ old.owner = ap (λ (p : ObjId). p.owner) (obj_exact o (next_number old.heap.arena old.owner) ((Equal-is (obj_cmp o (next_number old.heap.arena old.owner))).0 is)) in
-          not_both (is_apart old.apart.items old.owner) (subst (λ n. IsTrue (is_apart old.apart.items n)) owner a) b.own
-      no_world o e w false is q a k h = b.no_worlds o e w q a k h
+      -- the new object is the owner's, and so is its world, since it is there
+      world_by : (o : ObjId) (e : Entry) (w : WorldId) (same : Bool) → eq_by_cmp obj_cmp o (next_number old.heap.arena old.owner) ≡ same → cond same (Some (entry_over old.heap.arena x)) (map.get old.heap.arena o) ≡ Some e → e.object.world ≡ Some w → w.owner ≡ o.owner
+      world_by o e w true at q k =
+          let is : entry_over old.heap.arena x ≡ e = cc in
+          let owner : o.owner ≡ old.owner = ap (λ (p : ObjId). p.owner) (obj_exact o (next_number old.heap.arena old.owner) ((Equal-is (obj_cmp o (next_number old.heap.arena old.owner))).0 at)) in
+          b.worlds_own w (own w (ap (λ (z : Entry). z.object.world) is ∙ k)) ∙ sym owner
+      world_by o e w false at q k = b.worlds_by o e w q k
 
       apart : StaysApart meaning old heap
       apart = record {
-        no_worlds = λ o e w h a k there. no_world o e w (eq_by_cmp obj_cmp o (next_number old.heap.arena old.owner)) refl (found o e h) a k (subst (λ (m : Meaning). IsTrue (has_world (worlds m) w)) c.store there);
+        worlds_own = λ w there. b.worlds_own w (subst (λ (m : Meaning). IsTrue (has_world (worlds m) w)) c.store there);
+        worlds_by = λ o e w h. world_by o e w (eq_by_cmp obj_cmp o (next_number old.heap.arena old.owner)) refl (found o e h);
         objects = λ o e h. near_object o e (eq_by_cmp obj_cmp o (next_number old.heap.arena old.owner)) (found o e h);
         slots = subst (λ (m : Meaning). NearSlots old.apart.items (worlds m)) (sym c.store) b.near_slots;
         functions = λ o e h. function o e (eq_by_cmp obj_cmp o (next_number old.heap.arena old.owner)) (found o e h);

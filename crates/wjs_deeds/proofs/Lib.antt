@@ -1,4 +1,4 @@
-pub mod Blind
+pub mod Earlier
 pub mod Running
 pub mod Steps
 pub mod NearPlans

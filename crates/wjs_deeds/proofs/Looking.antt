@@ -29,6 +29,7 @@ use Rattle.wjs_props.specs.Heap.{Parts, HasNamed, IsHeap}
 use Rattle.wjs_model.specs.declared.config.Config.{Config}
 use Rattle.wjs_model.specs.Apart.{is_apart, NearValue, NamesNear}
 use Rattle.wjs_model.specs.Soundness.{HasObject, HasWorld, Base}
+use Rattle.wjs_model.proofs.Apart.{no_worlds}
 
 -- an object that is there
 placed : (r : Option Entry) (x : Object) → is_some r ≡ true → IfSome r (λ e. x ≡ e.object) → (t : Table) → option_map_or (λ (e : Placed). e.object) (option_map (entry_in t) r) (object_of class.Plain None) ≡ object_in t x
@@ -158,7 +159,7 @@ found_or meaning c w (Some o) b h f = (world_there c.heap.arena w o f, by (is_ap
   where
     no_entry : (r : Option Entry) → map.get c.heap.arena o ≡ r → option_and_then (λ (e : Entry). e.object.world) r ≡ Some w → is_apart c.apart.items o.owner ≡ true → ⊥
     no_entry None q k a = cc
-    no_entry (Some e) q k a = b.no_worlds o e w q a k h
+    no_entry (Some e) q k a = no_worlds meaning c b o e w q a k h
 
     by : (a : Bool) → is_apart c.apart.items o.owner ≡ a → IsTrue (not a)
     by true a = absurd (no_entry (map.get c.heap.arena o) refl f a)

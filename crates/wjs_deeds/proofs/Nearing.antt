@@ -24,6 +24,7 @@ use Rattle.wjs_content.specs.Telling.{names_of}
 use Rattle.wjs_content.specs.Plans.{Plan, Gives, Reads, Writes, Lists, Heard, worlds_after, names_at}
 use Rattle.wjs_content.specs.Worlds.{worlds_in, KnowsWorlds}
 use Rattle.wjs_content.proofs.ArenaMaps.{object_found, prototype_same}
+use Rattle.wjs_content.proofs.Growth.{worlds_grow}
 use Rattle.wjs_props.specs.declared.heap.Heap.{Heap}
 use Rattle.wjs_props.specs.Acts.{Acts}
 use Rattle.wjs_props.specs.Heap.{IsHeap, Performs}
@@ -151,7 +152,8 @@ module _ {S : Type 0} (meaning : S → Meaning) (old : Config S) (heap : Heap S)
         let t = heap.texts in
         let own = (meaning heap.store).own in
         let works = works_still p.spent in
-        let c = p.carries t (Grows-refl t) own (sound works).admits_own (before_known p.own) in
+        let known = (worlds_grow old.heap.texts t p.texts before (before_known p.own)).0 in
+        let c = p.carries t t (Grows-refl t) (Grows-refl t) own (sound works).admits_own known in
         let r = reached near_old P (plan t) w (worlds_in t before) reaches (before_near p.own) in (
           subst P (sym c.answers) r.0,
           record {
@@ -162,16 +164,19 @@ module _ {S : Type 0} (meaning : S → Meaning) (old : Config S) (heap : Heap S)
         )
 
   module _ (act : Action Slot Value) (answer : Heard) (p : Acts act answer (parts meaning old.heap) (parts meaning heap)) where
+    before_now : KnowsWorlds heap.texts before
+    before_now = subst (λ t. KnowsWorlds t before) (sym p.texts) (before_known p.own)
+
     pub act_slots : Within (NearSlot near_old) (after (worlds_in heap.texts before) act) → NearSlots old.apart.items (worlds (meaning heap.store))
     act_slots h =
         let t = heap.texts in
-        let c = p.acts t (Grows-refl t) (meaning heap.store).own (sound (works_still p.spent)).admits_own (before_known p.own) in
+        let c = p.acts t (Grows-refl t) (meaning heap.store).own (sound (works_still p.spent)).admits_own before_now in
         numbered p.heap c.knows (subst (Within (NearSlot near_old)) (sym c.worlds) h)
 
     pub act_were : (i : WorldId) → (has_world (after (worlds_in heap.texts before) act) i ≡ true → has_world (worlds_in heap.texts before) i ≡ true) → has_world (worlds (meaning heap.store)) i ≡ true → has_world (worlds (meaning old.heap.store)) i ≡ true
     act_were i back =
         let t = heap.texts in
-        let c = p.acts t (Grows-refl t) (meaning heap.store).own (sound (works_still p.spent)).admits_own (before_known p.own) in
+        let c = p.acts t (Grows-refl t) (meaning heap.store).own (sound (works_still p.spent)).admits_own before_now in
         were_there (after (worlds_in t before) act) c.worlds p.own i back
 
   pub commit_left : (w : WorldId) (answer : Heard) → Acts (commit w) answer (parts meaning old.heap) (parts meaning heap) → Left meaning old heap

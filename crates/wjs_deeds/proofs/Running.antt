@@ -9,19 +9,19 @@ use Rattle.wjs_base.proofs.TextLaws.{Grows-trans}
 use Rattle.wjs_store.specs.Meaning.{Meaning, PlainAct, PlainReply}
 use Rattle.wjs_arena.specs.Entries.{Entry}
 use Rattle.wjs_content.specs.Plans.{Told}
-use Rattle.wjs_content.specs.Worlds.{told_by, KnowsWorlds}
+use Rattle.wjs_content.specs.Worlds.{told_by}
 use Rattle.wjs_content.specs.Carried.{tell}
 use Rattle.wjs_meaning.specs.Deeds.{Act, Ends, interp, then_do}
 use Rattle.wjs_meaning.specs.Programs.{Ending, Done, run_next, eval}
 use Rattle.wjs_meaning.specs.Deeds.{St}
 use Rattle.wjs_model.specs.declared.config.Config.{Config}
 use Rattle.wjs_model.specs.Rest.{Count, under, turns_act, turns_under, turns_over}
-use Rattle.wjs_model.specs.Outside.{Outside, Admits}
+use Rattle.wjs_model.specs.Outside.{Outside, Admits, Knows}
 use Rattle.wjs_model.specs.Configurations.{seen, tells, run_in, state_in, frames_in, turns, Stays}
 use Rattle.wjs_moves.specs.Keeping.{rest_with, Keeps}
 use Rattle.wjs_moves.specs.Following.{Follows}
 use Rattle.wjs_moves.specs.Doing.{Does}
-use Rattle.wjs_deeds.proofs.Blind.{rest_blind, turns_blind}
+use Rattle.wjs_deeds.proofs.Earlier.{rest_blind, turns_blind}
 
 -- the actions that a store tells are those that were done
 done_told : (t : Table) (old new : Option (List (PlainAct × PlainReply))) (acts : List Told) (F : List Told → Ending × St) → ((d e : List Told) → seen false (F d) ≡ seen false (F e)) → told_by t new ≡ tell acts (told_by t old)
@@ -59,8 +59,8 @@ module _ {S : Type 0} (meaning : S → Meaning) where
   -- under a table and what stands outside: the deeds run to their answer and the middle configuration's state, with these actions told more
   pub record Runs {A : Type 0} (deeds : (A → Act) → Act) (answer : A) (t : Table) (v : Outside) (old mid : Config S) : Type 0 where
     pub acts : List Told
-    pub knows : KnowsWorlds mid.heap.texts ((meaning mid.heap.store).full v.view)
-    pub told : told_by t (meaning mid.heap.store).told ≡ tell acts (told_by t (meaning old.heap.store).told)
+    pub knows : Knows meaning mid v
+    pub told : told_by v.texts (meaning mid.heap.store).told ≡ tell acts (told_by v.texts (meaning old.heap.store).told)
     pub runs : (go : A → Act) (n : ℕ) → interp eval (deeds go) (state_in meaning t v old) n ≡ interp eval (go answer) (record (state_in meaning t v mid) { done = (state_in meaning t v old).done ++ acts }) n
     pub counts : (go : A → Act) (k : Count) → turns_act (deeds go) (state_in meaning t v old) k ≡ turns_act (go answer) (record (state_in meaning t v mid) { done = (state_in meaning t v old).done ++ acts }) k
 
@@ -68,7 +68,7 @@ module _ {S : Type 0} (meaning : S → Meaning) where
   pub record Ran {A : Type 0} (deeds : Table → (A → Act) → Act) (answer : Table → A) (old mid : Config S) : Type 0 where
     pub same : mid ≡ record old { heap = mid.heap; pending = mid.pending }
     pub stays : Stays meaning old mid
-    pub by : (t : Table) → Grows mid.heap.texts t → (v : Outside) → Admits meaning mid v → KnowsWorlds old.heap.texts ((meaning old.heap.store).full v.view) → Runs (deeds t) (answer t) t v old mid
+    pub by : (t : Table) → Grows mid.heap.texts t → (v : Outside) → Grows t v.texts → Admits meaning mid v → Knows meaning old v → Runs (deeds t) (answer t) t v old mid
 
   module _ {A : Type 0} (deeds : Table → (A → Act) → Act) (answer : Table → A) (old mid : Config S) (ran : Ran deeds answer old mid) where
     kept_ran : (go : A → Act) (later : Config S) → Keeps meaning later.heap.texts 1 (go (answer later.heap.texts)) mid later → Keeps meaning later.heap.texts 1 (deeds later.heap.texts go) old later
@@ -76,23 +76,27 @@ module _ {S : Type 0} (meaning : S → Meaning) where
         let t = later.heap.texts in
         let run = run_in meaning t old in
         let fs = frames_in meaning t old in
+        let runs : (v : Outside) → Admits meaning later v → Knows meaning old v → Runs (deeds t) (answer t) t v old mid = λ v a h. ran.by t k.stays.texts v a.texts (k.stays.narrows v a) h in
         record {
           stays = stays_twice old mid later ran.stays k.stays;
-          left = k.left ∙ ap (λ (c : Config S). c.left) ran.same;
+          cost = k.cost;
+          left = ap (λ (c : Config S). c.left) (sym ran.same) ∙ k.left;
           alive = k.alive;
           kept = λ v a h n.
-              let e = ran.by t k.stays.texts v (k.stays.narrows v a) h in
-              ap (λ o. seen (tells meaning old) (run_next (then_do o (under run fs Ends)) (λ st' n'. (Done, st')))) (e.runs go n)
-              ∙ done_told t (meaning old.heap.store).told (meaning mid.heap.store).told e.acts (λ d. rest_with run (go (answer t)) fs (record (state_in meaning t v mid) { done = d }) n) (λ d d'. rest_blind run (go (answer t)) fs (record (state_in meaning t v mid) { done = d }) d' n) e.told
-              ∙ ap (λ (c : Config S). seen (tells meaning mid) (rest_with (run_in meaning t c) (go (answer t)) (frames_in meaning t c) (state_in meaning t v mid) n)) (sym ran.same)
+              let e = runs v a h in
+              let n' = k.cost + n in
+              ap (λ o. seen (tells meaning old) (run_next (then_do o (under run fs Ends)) (λ st' m. (Done, st')))) (e.runs go n')
+              ∙ done_told v.texts (meaning old.heap.store).told (meaning mid.heap.store).told e.acts (λ d. rest_with run (go (answer t)) fs (record (state_in meaning t v mid) { done = d }) n') (λ d d'. rest_blind run (go (answer t)) fs (state_in meaning t v mid) d d' n') e.told
+              ∙ ap (λ (c : Config S). seen (tells meaning mid) (rest_with (run_in meaning t c) (go (answer t)) (frames_in meaning t c) (state_in meaning t v mid) n')) (sym ran.same)
               ∙ k.kept v a e.knows n;
-          falls = λ v a h.
-              let e = ran.by t k.stays.texts v (k.stays.narrows v a) h in
+          knows = λ v a h. k.knows v a (runs v a h).knows;
+          falls = λ free v a h.
+              let e = runs v a h in
               let count : turns_over run (deeds t go) fs (state_in meaning t v old) ≡ turns_over (run_in meaning t mid) (go (answer t)) (frames_in meaning t mid) (state_in meaning t v mid) =
               e.counts go (turns_under run fs (λ c st'. 0))
-              ∙ turns_blind run (go (answer t)) fs (record (state_in meaning t v mid) { done = (state_in meaning t v old).done ++ e.acts }) (state_in meaning t v mid).done
+              ∙ turns_blind run (go (answer t)) fs (state_in meaning t v mid) ((state_in meaning t v old).done ++ e.acts) (state_in meaning t v mid).done
               ∙ ap (λ (c : Config S). turns_over (run_in meaning t c) (go (answer t)) (frames_in meaning t c) (state_in meaning t v mid)) (sym ran.same) in
-              subst (λ m. turns meaning t v later + 1 ≤ suc m) (sym count) (k.falls v a e.knows);
+              subst (λ m. turns meaning t v later + 1 ≤ suc m) (sym count) (k.falls free v a e.knows);
         }
 
     pub does_ran : Does meaning deeds answer old mid

@@ -14,7 +14,7 @@ use Rattle.wjs_content.specs.Objects.{object_at}
 use Rattle.wjs_content.specs.Names.{Slot, content}
 use Rattle.wjs_content.specs.Values.{Value, Undefined, Null, Boolean, Number, String, Object}
 use Rattle.wjs_content.specs.Plans.{Sprouted}
-use Rattle.wjs_content.specs.Worlds.{worlds_in}
+use Rattle.wjs_content.specs.Worlds.{worlds_in, KnowsWorlds}
 use Rattle.wjs_props.specs.declared.heap.Heap.{Heap}
 use Rattle.wjs_props.specs.Acts.{Acts}
 use Rattle.wjs_props.specs.Means.{parts}
@@ -26,7 +26,7 @@ use Rattle.wjs_meaning.specs.WorldValues.{world_found, world_of}
 use Rattle.wjs_model.specs.declared.config.Config.{Config}
 use Rattle.wjs_model.specs.Soundness.{HasWorld as WorldThere, Base}
 use Rattle.wjs_model.specs.Standing.{FunctionStands}
-use Rattle.wjs_model.specs.Apart.{is_apart, IsNear}
+use Rattle.wjs_model.specs.Apart.{IsNear}
 use Rattle.wjs_deeds.specs.Worlds.{found_then, world_then}
 use Rattle.wjs_deeds.proofs.NearPlans.{NearSlot}
 use Rattle.wjs_deeds.proofs.Nearing.{has_named, one_by_sprout, before, before_near, act_slots, act_were}
@@ -67,7 +67,7 @@ module _ {S : Type 0} (meaning : S → Meaning) (old : Config S) (heap : Heap S)
   child_is w strict child f =
       let own = (meaning old.heap.store).own in
       let t = heap.texts in
-      let a = f.acts t (Grows-refl t) own (subst (λ v. IsTrue ((meaning heap.store).admits v)) f.own later.admits_own) b.marks in
+      let a = f.acts t (Grows-refl t) own (subst (λ v. IsTrue ((meaning heap.store).admits v)) f.own later.admits_own) (subst (λ x. KnowsWorlds x (worlds (meaning old.heap.store))) (sym f.texts) b.marks) in
       is_child child _ a.answers ∙ (λ i. record { owner = old.owner; serial = counted t old.owner (worlds (meaning old.heap.store)) i })
     where
       is_child : (a c : WorldId) → Sprouted a ≡ Sprouted c → a ≡ c
@@ -92,10 +92,11 @@ module _ {S : Type 0} (meaning : S → Meaning) (old : Config S) (heap : Heap S)
       by e None q k = cc
       by e (Some x) q k = new_world child e (b.own_worlds o x child q k (ap (λ (i : WorldId). i.owner) e))
 
-  -- and what is kept apart is so still
+  -- the worlds have their owners, and what is kept apart is so still
   pub sprout_apart : (w : WorldId) (strict : Bool) (child : WorldId) → WorldThere meaning old w → Acts (sprout w old.owner strict) (Sprouted child) (parts meaning old.heap) (parts meaning heap) → StaysApart meaning old heap
   sprout_apart w strict child there f = record {
-    no_worlds = λ o e i h a k now. split o e i h a k now (same_world (next_id F old.owner) i) refl;
+    worlds_own = λ i now. split i now (same_world (next_id F old.owner) i) refl;
+    worlds_by = λ o e i h. b.worlds_by o e i (same o ∙ h);
     objects = λ o e h. b.near_objects o e (same o ∙ h);
     functions = λ o e h. subst (λ (m : Objects). FunctionStands old.units.items m e.object.code e.object.scope) (sym f.arena) (b.functions o e (same o ∙ h));
     slots = act_slots meaning old heap (λ _. later) b act (Sprouted child) f (within_sprout (NearSlot (IsNear old.apart.items)) F w old.owner strict here (before_near meaning old heap (λ _. later) b f.own));
@@ -113,11 +114,7 @@ module _ {S : Type 0} (meaning : S → Meaning) (old : Config S) (heap : Heap S)
       here : has_world F w ≡ true
       here = has_named heap.texts (before meaning old heap (λ _. later) b) w ∙ ap (λ v. has_world ((meaning old.heap.store).full v) w) f.own ∙ there
 
-      number : next_id F old.owner ≡ child
-      number =
-          let e = counted heap.texts old.owner (before meaning old heap (λ _. later) b) ∙ ap (λ v. count_of old.owner ((meaning old.heap.store).full v)) f.own in
-          (λ i. record { owner = old.owner; serial = e i }) ∙ sym (child_is w strict child f)
-
-      split : (o : ObjId) (e : Entry) (i : WorldId) → map.get heap.arena o ≡ Some e → IsTrue (is_apart old.apart.items o.owner) → e.object.world ≡ Some i → has_world (worlds (meaning heap.store)) i ≡ true → (s : Bool) → same_world (next_id F old.owner) i ≡ s → ⊥
-      split o e i h a k now true s = child_fresh w strict child f o (ap (option_and_then (λ (x : Entry). x.object.world)) h ∙ k ∙ ap Some (sym (world_is (next_id F old.owner) i s) ∙ number))
-      split o e i h a k now false s = b.no_worlds o e i (same o ∙ h) a k (act_were meaning old heap (λ _. later) b act (Sprouted child) f i (one_by_sprout F w old.owner strict i s) now)
+      -- the child is the owner's
+      split : (i : WorldId) → has_world (worlds (meaning heap.store)) i ≡ true → (s : Bool) → same_world (next_id F old.owner) i ≡ s → i.owner ≡ old.owner
+      split i now true s = ap (λ (j : WorldId). j.owner) (sym (world_is (next_id F old.owner) i s))
+      split i now false s = b.worlds_own i (act_were meaning old heap (λ _. later) b act (Sprouted child) f i (one_by_sprout F w old.owner strict i s) now)

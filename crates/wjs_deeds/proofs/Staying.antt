@@ -47,7 +47,7 @@ use Rattle.wjs_model.specs.Soundness.{HasObject, HasName, HasValue, HasSlot, Has
 use Rattle.wjs_model.specs.Standing.{FunctionStands, FrameStands}
 use Rattle.wjs_model.proofs.Placed.{placed_stay}
 use Rattle.wjs_model.proofs.Standing.{has_kept, frame_kept}
-use Rattle.wjs_model.specs.Apart.{is_apart, IsNear, NearSlots, NamesNear}
+use Rattle.wjs_model.specs.Apart.{IsNear, NearSlots, NamesNear}
 use Rattle.wjs_model.specs.Texts.{HasText, KnowsSpelt, KnowsKey, KnowsInit, KnowsHandler, KnowsNode, KnowsUnit}
 use Rattle.wjs_moves.specs.Following.{Later}
 
@@ -196,10 +196,11 @@ module _ {S : Type 0} (old new : Config S) (g : Grows old.heap.texts new.heap.te
       texts = g;
     }
 
--- on another heap what is kept apart is so, and the functions stand
+-- on another heap the worlds have their owners, what is kept apart is so, and the functions stand
 module _ {S : Type 0} (meaning : S → Meaning) where
   pub record StaysApart (old : Config S) (heap : Heap S) : Type 0 where
-    pub no_worlds : (o : ObjId) (e : Entry) (w : WorldId) → map.get heap.arena o ≡ Some e → IsTrue (is_apart old.apart.items o.owner) → e.object.world ≡ Some w → IsTrue (has_world (worlds (meaning heap.store)) w) → ⊥
+    pub worlds_own : (w : WorldId) → IsTrue (has_world (worlds (meaning heap.store)) w) → w.owner ≡ old.owner
+    pub worlds_by : (o : ObjId) (e : Entry) (w : WorldId) → map.get heap.arena o ≡ Some e → e.object.world ≡ Some w → w.owner ≡ o.owner
     pub objects : (o : ObjId) (e : Entry) → map.get heap.arena o ≡ Some e → IsNear old.apart.items o → NamesNear old.apart.items e.object
     pub slots : NearSlots old.apart.items (worlds (meaning heap.store))
     pub functions : (o : ObjId) (e : Entry) → map.get heap.arena o ≡ Some e → FunctionStands old.units.items heap.arena e.object.code e.object.scope
@@ -221,9 +222,10 @@ module _ {S : Type 0} (meaning : S → Meaning) (old : Config S) (heap : Heap S)
     units = units_stay old.heap.texts heap.texts g old.units.items b.units;
     places = placed_stay old.heap.texts heap.texts g old.units.items b.units b.places;
     functions = apart.functions;
+    worlds_own = apart.worlds_own;
+    worlds_by = apart.worlds_by;
     own_worlds = own;
     own = b.own;
-    no_worlds = apart.no_worlds;
     near_objects = apart.objects;
     near_slots = apart.slots;
     frames = All-weaker (IsThere meaning old) (IsThere meaning (record old { heap = heap })) (frame_there old (record old { heap = heap }) g objects_on meaning has_worlds keeps refl) old.frames b.frames;

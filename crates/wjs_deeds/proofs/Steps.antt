@@ -8,7 +8,7 @@ use Rattle.wjs_base.specs.declared.ids.ObjId.{ObjId}
 use Rattle.wjs_base.specs.declared.ids.WorldId.{WorldId}
 use Rattle.wjs_base.specs.Order.{obj_cmp, obj_total, obj_exact}
 use Rattle.wjs_base.specs.Text.{Table, Grows}
-use Rattle.wjs_base.proofs.TextLaws.{Grows-refl}
+use Rattle.wjs_base.proofs.TextLaws.{Grows-refl, Grows-trans}
 use Rattle.wjs_store.specs.State.{Verdict, Act as Action, read, write, list, sprout, commit, content_at, same_world, find_world, has_world, after, next_id, verdict_at}
 use Rattle.wjs_store.specs.Meaning.{Meaning, View, Worlds, IsSound, worlds}
 use Rattle.wjs_store.proofs.RunLaws.{has_same}
@@ -23,7 +23,6 @@ use Rattle.wjs_content.specs.Tables.{arena_in, object_in}
 use Rattle.wjs_content.specs.Plans.{Plan, Gives, Reads, Writes, Lists, Heard, Sprouted, Committed, told_of, names_at, answer_of, worlds_after, actions_of}
 use Rattle.wjs_content.specs.Telling.{names_of}
 use Rattle.wjs_content.specs.Worlds.{worlds_in, told_by, KnowsWorlds}
-use Rattle.wjs_content.proofs.Growth.{worlds_grow}
 use Rattle.wjs_props.specs.declared.heap.Heap.{Heap}
 use Rattle.wjs_props.specs.Acts.{Acts, Creates}
 use Rattle.wjs_props.specs.Heap.{Performs}
@@ -120,7 +119,11 @@ module _ {S : Type 0} (meaning : S → Meaning) where
     made = λ o e h k. absurd (both old o e h (ap (λ (m : Objects). map.get m o) (sym arena) ∙ k));
     own = own;
     around = around;
-    narrows = λ v a. record { view = narrows v.view a.view; further = further_before (meaning old.heap.store) (meaning heap.store) old.owner v.more still a.further };
+    narrows = λ v a. record {
+      view = narrows v.view a.view;
+      further = further_before (meaning old.heap.store) (meaning heap.store) old.owner v.more still a.further;
+      texts = Grows-trans old.heap.texts heap.texts v.texts g a.texts;
+    };
   }
 
   -- what the state has is seen
@@ -134,15 +137,15 @@ module _ {S : Type 0} (meaning : S → Meaning) where
   ran_plan w plan answer old heap alike p = record {
     same = refl;
     stays = stays;
-    by = λ t g v a k.
+    by = λ t g v gv a k.
         let st = state_in meaning t v old in
-        let c = p.carries t g v.view a.view k in
+        let c = p.carries t v.texts g gv v.view a.view k in
         let todo = plan t (arena_in t old.heap.arena) in
         let seen : plan t st.arena ≡ todo = alike t st.arena (sees_state old t v (stays.narrows v a)) in
         let leaves : planned todo w st ≡ record (state_in meaning t v (record old { heap = heap })) { done = st.done ++ actions_of todo w st.full } = state_same _ _ (sym c.worlds) (ap (λ (m : Objects). beside (arena_in t m) v.more) (sym p.arena)) refl refl in
         record {
           acts = actions_of todo w st.full;
-          knows = (p.carries heap.texts (Grows-refl heap.texts) v.view a.view k).knows;
+          knows = c.knows;
           told = c.told;
           runs = λ go n. ap (λ todo. interp eval (carry_out todo w go) st n) seen ∙ carry_interp todo w go st n ∙ (λ i. interp eval (go (sym c.answers i)) (leaves i) n);
           counts = λ go m. ap (λ todo. turns_act (carry_out todo w go) st m) seen ∙ carry_turns todo w go st m ∙ (λ i. turns_act (go (sym c.answers i)) (leaves i) m);
@@ -158,7 +161,7 @@ module _ {S : Type 0} (meaning : S → Meaning) where
   ran_actions w plan answer old heap p = let r = ran_plan w (λ t arena. plan t) answer old heap (λ t arena s. refl) p in record {
     same = r.same;
     stays = r.stays;
-    by = λ t g v a k. let e = r.by t g v a k in record { acts = e.acts; knows = e.knows; told = e.told; runs = e.runs; counts = e.counts };
+    by = λ t g v gv a k. let e = r.by t g v gv a k in record { acts = e.acts; knows = e.knows; told = e.told; runs = e.runs; counts = e.counts };
   }
 
   -- ---- no action of the worlds
@@ -169,13 +172,13 @@ module _ {S : Type 0} (meaning : S → Meaning) where
   ran_nothing said shown old heap g arena store e = record {
     same = refl;
     stays = stays_so old heap g arena (ap (λ (s : S). (meaning s).own) store) (ap (λ (s : S). (meaning s).around) store) (λ v a. subst (λ (s : S). IsTrue ((meaning s).admits v)) store a) (λ w h. subst (λ (s : S). IsTrue (has_world (worlds (meaning s)) w)) (sym store) h);
-    by = λ t gt v a k.
+    by = λ t gt v gv a k.
         let st = state_in meaning t v old in
-        let leaves : st ≡ record (state_in meaning t v (record old { heap = heap })) { done = st.done ++ [] } = state_same _ _ (ap (λ (s : S). worlds_in t ((meaning s).full v.view)) (sym store)) (ap (λ (m : Objects). beside (arena_in t m) v.more) (sym arena)) refl (sym (append-nil st.done)) in
+        let leaves : st ≡ record (state_in meaning t v (record old { heap = heap })) { done = st.done ++ [] } = state_same _ _ (ap (λ (s : S). worlds_in v.texts ((meaning s).full v.view)) (sym store)) (ap (λ (m : Objects). beside (arena_in t m) v.more) (sym arena)) refl (sym (append-nil st.done)) in
         record {
           acts = [];
-          knows = subst (λ (s : S). KnowsWorlds heap.texts ((meaning s).full v.view)) (sym store) (worlds_grow old.heap.texts heap.texts g ((meaning old.heap.store).full v.view) k).0;
-          told = ap (λ (s : S). told_by t (meaning s).told) store ∙ told_same t (meaning old.heap.store).told;
+          knows = subst (λ (s : S). KnowsWorlds v.texts ((meaning s).full v.view)) (sym store) k;
+          told = ap (λ (s : S). told_by v.texts (meaning s).told) store ∙ told_same v.texts (meaning old.heap.store).told;
           runs = λ go n i. interp eval (go (e t gt i)) (leaves i) n;
           counts = λ go m i. turns_act (go (e t gt i)) (leaves i) m;
         };
@@ -187,14 +190,14 @@ module _ {S : Type 0} (meaning : S → Meaning) where
   ran_look seen answer old e = record {
     same = refl;
     stays = stays_same old;
-    by = λ t gt v a k.
+    by = λ t gt v gv a k.
         let st = state_in meaning t v old in
         let leaves : st ≡ record st { done = st.done ++ [] } = state_same _ _ refl refl refl (sym (append-nil st.done)) in
         let found = e t gt st.arena (sees_state old t v a) in
         record {
           acts = [];
           knows = k;
-          told = told_same t (meaning old.heap.store).told;
+          told = told_same v.texts (meaning old.heap.store).told;
           runs = λ go n i. interp eval (go (found i)) (leaves i) n;
           counts = λ go m i. turns_act (go (found i)) (leaves i) m;
         };
@@ -217,13 +220,13 @@ module _ {S : Type 0} (meaning : S → Meaning) where
       around = refl;
       narrows = λ v a. a;
     };
-    by = λ t gt v a k.
+    by = λ t gt v gv a k.
         let st = state_in meaning t v old in
         let leaves : record st { out = st.out ++ bytes } ≡ record (state_in meaning t v (record old { pending = longer.pending })) { done = st.done ++ [] } = state_same _ _ refl refl (sym out) (sym (append-nil st.done)) in
         record {
           acts = [];
           knows = k;
-          told = told_same t (meaning old.heap.store).told;
+          told = told_same v.texts (meaning old.heap.store).told;
           runs = λ go n i. interp eval (go tt) (leaves i) n;
           counts = λ go m i. turns_act (go tt) (leaves i) m;
         };
@@ -243,14 +246,14 @@ module _ {S : Type 0} (meaning : S → Meaning) where
   ran_test w answer old sound is = record {
     same = refl;
     stays = stays_same old;
-    by = λ t gt v a k.
+    by = λ t gt v gv a k.
         let st = state_in meaning t v old in
         let leaves : st ≡ record st { done = st.done ++ [] } = state_same _ _ refl refl refl (sym (append-nil st.done)) in
-        let e : has_world st.full w ≡ answer = named_has t ((meaning old.heap.store).full v.view) w ∙ has_same (meaning old.heap.store) sound v.view a.view w ∙ sym is in
+        let e : has_world st.full w ≡ answer = named_has v.texts ((meaning old.heap.store).full v.view) w ∙ has_same (meaning old.heap.store) sound v.view a.view w ∙ sym is in
         record {
           acts = [];
           knows = k;
-          told = told_same t (meaning old.heap.store).told;
+          told = told_same v.texts (meaning old.heap.store).told;
           runs = λ go n i. interp eval (go (e i)) (leaves i) n;
           counts = λ go m i. turns_act (go (e i)) (leaves i) m;
         };
@@ -272,20 +275,20 @@ module _ {S : Type 0} (meaning : S → Meaning) where
       made = λ o y h k. made_by o y h (eq_by_cmp obj_cmp o (next_by old.heap.arena old.owner)) refl (sym (map.get-insert obj_total old.heap.arena (next_by old.heap.arena old.owner) (entry_over old.heap.arena x) o) ∙ ap (λ (m : Objects). map.get m o) (sym c.arena) ∙ k);
       own = ap (λ (m : Meaning). m.own) c.store;
       around = ap (λ (m : Meaning). m.around) c.store;
-      narrows = λ v a. subst (λ (m : Meaning). IsOutside m old.owner v) c.store a;
+      narrows = λ v a. subst (λ (x : Table). IsOutside (meaning old.heap.store) old.owner x v) c.texts (subst (λ (m : Meaning). IsOutside m old.owner heap.texts v) c.store a);
     };
-    by = λ t gt v a k.
+    by = λ t gt v gv a k.
         let st = state_in meaning t v old in
         let leaves : record st { arena = created st.arena old.owner (internals t) } ≡ record (state_in meaning t v (record old { heap = heap })) { done = st.done ++ [] } =
-        state_same _ _ (ap (λ (m : Meaning). worlds_in t (m.full v.view)) (sym c.store))
+        state_same _ _ (ap (λ (m : Meaning). worlds_in v.texts (m.full v.view)) (sym c.store))
         (ap (created st.arena old.owner) (sym (e t gt))
         ∙ created_beside (arena_in t old.heap.arena) v.more old.owner a.further.apart (object_in t x) (there_named t old.heap.arena x.prototype on) (there_named t old.heap.arena x.scope in_scope)
         ∙ ap (λ m. beside m v.more) (sym (c.arena_by t))) refl (sym (append-nil st.done)) in
         let number : next_number st.arena old.owner ≡ id = number_beside (arena_in t old.heap.arena) v.more old.owner a.further.apart ∙ sym (c.number_in t) in
         record {
           acts = [];
-          knows = subst (λ (m : Meaning). KnowsWorlds heap.texts (m.full v.view)) (sym c.store) (subst (λ texts. KnowsWorlds texts ((meaning old.heap.store).full v.view)) (sym c.texts) k);
-          told = ap (λ (m : Meaning). told_by t m.told) c.store ∙ told_same t (meaning old.heap.store).told;
+          knows = subst (λ (m : Meaning). KnowsWorlds v.texts (m.full v.view)) (sym c.store) k;
+          told = ap (λ (m : Meaning). told_by v.texts m.told) c.store ∙ told_same v.texts (meaning old.heap.store).told;
           runs = λ go n i. interp eval (go (number i)) (leaves i) n;
           counts = λ go m i. turns_act (go (number i)) (leaves i) m;
         };
@@ -305,15 +308,15 @@ module _ {S : Type 0} (meaning : S → Meaning) where
   ran_sprout w strict child old heap f = record {
     same = refl;
     stays = stays_acted (sprout w old.owner strict) (Sprouted child) old heap f;
-    by = λ t g v a k.
+    by = λ t g v gv a k.
         let st = state_in meaning t v old in
         let act : Action Slot Value = sprout w old.owner strict in
-        let c = f.acts t g v.view a.view k in
+        let c = f.acts v.texts a.texts v.view a.view k in
         let leaves : acted_first act st ≡ record (state_in meaning t v (record old { heap = heap })) { done = st.done ++ told_of st.full act ∷ [] } = state_same _ _ (sym c.worlds) (ap (λ (m : Objects). beside (arena_in t m) v.more) (sym f.arena)) refl refl in
         let number : next_id st.full old.owner ≡ child = is_child child (next_id st.full old.owner) c.answers in
         record {
           acts = told_of st.full act ∷ [];
-          knows = (f.acts heap.texts (Grows-refl heap.texts) v.view a.view k).knows;
+          knows = c.knows;
           told = c.told;
           runs = λ go n i. interp eval (go (number i)) (leaves i) n;
           counts = λ go m i. turns_act (go (number i)) (leaves i) m;
@@ -328,15 +331,15 @@ module _ {S : Type 0} (meaning : S → Meaning) where
   ran_commit w verdict old heap f = record {
     same = refl;
     stays = stays_acted (commit w) (Committed verdict) old heap f;
-    by = λ t g v a k.
+    by = λ t g v gv a k.
         let st = state_in meaning t v old in
         let act : Action Slot Value = commit w in
-        let c = f.acts t g v.view a.view k in
+        let c = f.acts v.texts a.texts v.view a.view k in
         let leaves : acted_first act st ≡ record (state_in meaning t v (record old { heap = heap })) { done = st.done ++ told_of st.full act ∷ [] } = state_same _ _ (sym c.worlds) (ap (λ (m : Objects). beside (arena_in t m) v.more) (sym f.arena)) refl refl in
         let says : shape (verdict_at st.full w) ≡ verdict = is_verdict verdict (shape (verdict_at st.full w)) c.answers in
         record {
           acts = told_of st.full act ∷ [];
-          knows = (f.acts heap.texts (Grows-refl heap.texts) v.view a.view k).knows;
+          knows = c.knows;
           told = c.told;
           runs = λ go n i. interp eval (go (says i)) (leaves i) n;
           counts = λ go m i. turns_act (go (says i)) (leaves i) m;

@@ -5,5 +5,6 @@ pub mod Latest
 pub mod Holdings
 pub mod Placed
 pub mod Standing
+pub mod Apart
 pub mod Others
 pub mod NamePlaces

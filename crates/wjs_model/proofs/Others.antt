@@ -29,11 +29,8 @@ use Rattle.wjs_model.specs.declared.config.State.TheVariants as states
 use Rattle.wjs_model.specs.Configurations.{Stays}
 use Rattle.wjs_model.specs.Apart.{is_apart, IsNear, NearValue, NearIf, NamesNear}
 use Rattle.wjs_model.specs.Soundness.{HasObject, HasValue, HasReference, HasCompletion, HasItem, HasItems, HasOperand, HasPhase, HasThrown, IsThere, Base, Sound}
+use Rattle.wjs_model.proofs.Apart.{not_both, no_worlds}
 use Rattle.wjs_model.specs.Others.{Other, OtherIf, OtherValue, OtherReference, OtherCompletion, OtherItem, OtherItems, OtherOperand, OtherPhase, OtherState, OtherFrame, OtherNamed, KeptApart}
-
-not_both : (b : Bool) → IsTrue b → IsTrue (not b) → ⊥
-not_both true h k = absurd (cc)
-not_both false h k = absurd (cc)
 
 by_bool : {P : Type 0} (b : Bool) → (b ≡ true → P) → (b ≡ false → P) → P
 by_bool true f g = f refl
@@ -125,7 +122,7 @@ module _ {S : Type 0} (c : Config S) (u : ℕ) (a : IsTrue (is_apart c.apart.ite
   keeps_apart meaning s rest =
       let b = s.base in
       record {
-        no_worlds = λ o e w q k. b.no_worlds o e w q (subst (λ n. IsTrue (is_apart c.apart.items n)) (sym k) a);
+        no_worlds = λ o e w q k. no_worlds meaning c b o e w q (subst (λ n. IsTrue (is_apart c.apart.items n)) (sym k) a);
         slots = λ i s v q. let near = b.near_slots i s v q in (other s.object near.0, near_other v near.1);
         frames = All-weaker (IsThere meaning c) (OtherFrame u) (other_frame meaning) c.frames b.frames;
         state = other_state c.state s.thrown;
@@ -288,9 +285,10 @@ module _ {S : Type 0} (c new : Config S) where
             units = b.units;
             places = b.places;
             functions = b.functions;
+            worlds_own = b.worlds_own;
+            worlds_by = b.worlds_by;
             own_worlds = b.own_worlds;
             own = near_by c.owner mine;
-            no_worlds = λ o e w q a. (kept o.owner a).no_worlds o e w q refl;
             near_objects = λ o e q n. near_named e.object (λ u a. (kept u a).objects o e q (not_of o n u a));
             near_slots = λ i s v q. (near_by s.object.owner (λ u a. ((kept u a).slots i s v q).0), near_value v (λ u a. ((kept u a).slots i s v q).1));
             frames = frames_listed c.frames b.frames (λ u a. (kept u a).frames);

@@ -1,11 +1,12 @@
 -- What a configuration of the code means under a table of texts and what stands outside it, and what a call on it keeps.
-use Rattle.std.specs.Prelude.{◌≡◌, ℕ, ◌+◌, ◌<◌, Bool, true, false, List, [], map as each, None, Some, is_some, unwrap_or}
+use Rattle.std.specs.Prelude.{◌≡◌, ℕ, ◌+◌, ◌<◌, Bool, true, false, List, [], ◌++◌, map as each, None, Some, is_some, unwrap_or}
 use Rattle.std.specs.FinMap as map
 use Rattle.wjs_base.specs.declared.ids.ObjId.{ObjId}
 use Rattle.wjs_base.specs.Text.{Table, Grows}
 use Rattle.wjs_store.specs.Meaning.{Meaning}
 use Rattle.wjs_arena.specs.Entries.{Entry}
 use Rattle.wjs_content.specs.Tables.{value_in, arena_in}
+use Rattle.wjs_content.specs.Plans.{Told}
 use Rattle.wjs_content.specs.Worlds.{worlds_in, told_by}
 use Rattle.wjs_meaning.specs.Deeds.{St}
 use Rattle.wjs_meaning.specs.Programs.{Ending, Done, Threw, StepsSpent}
@@ -34,6 +35,10 @@ turns_by _ run frames st = 0
 abbrev pub seen : Bool → Ending × St → Ending × St
 seen true r = r
 seen false r = (r.0, record r.1 { done = [] })
+
+-- the end of a run before which these actions were done
+abbrev pub after_done : List Told → Ending × St → Ending × St
+after_done done r = (r.0, record r.1 { done = done ++ (r.1).done })
 
 -- by what the store means
 module _ {S : Type 0} (meaning : S → Meaning) where

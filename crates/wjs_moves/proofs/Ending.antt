@@ -74,6 +74,7 @@ module _ {S : Type 0} (meaning : S → Meaning) where
       let gs = each (frame_in t) frames in
       record {
         stays = stays_framed meaning old frames state;
+        cost = 0;
         left = refl;
         alive = λ e. alive_ended c (sym es ∙ e);
         kept = λ v a k n.
@@ -82,7 +83,8 @@ module _ {S : Type 0} (meaning : S → Meaning) where
             ap (λ l. rest_with run (Ret (completion_in t c)) (each (frame_in t) l) st n) eo
             ∙ rest_ended t c run gs st n
             ∙ ap (λ s. rest_by t s run gs st n) (sym es));
-        falls = λ v a k.
+        knows = λ v a k. k;
+        falls = λ none v a k.
             let st = state_in meaning t v old in
             fewer_ended (turns_by state run gs st) _ (ap (λ s. turns_by s run gs st) es ∙ turns_ended c run gs st);
       }

@@ -141,18 +141,21 @@ module _ {S : Type 0} (meaning : S → Meaning) where
         let s = k.stays in
         record {
           stays = record { units = s.units; global = s.global; world = s.world; owner = s.owner; apart = s.apart; texts = s.texts; objects = s.objects; made = s.made; own = s.own; around = s.around; narrows = s.narrows };
+          cost = k.cost;
           left = k.left;
           alive = k.alive;
           kept = λ v a h n.
               let st = state_in meaning t v old in
-              ap (seen (tells meaning old)) (ap (λ q. rest_with run (Sub act q) (frames_in meaning t old) st n) (sym (given_then t old f place)) ∙ sub_rest run act (frames_in meaning t old) (frame_in t w) st n ∙ sym (ap (λ l. rest_with run act l st n) eg))
+              let m = k.cost + n in
+              ap (seen (tells meaning old)) (ap (λ q. rest_with run (Sub act q) (frames_in meaning t old) st m) (sym (given_then t old f place)) ∙ sub_rest run act (frames_in meaning t old) (frame_in t w) st m ∙ sym (ap (λ l. rest_with run act l st m) eg))
               ∙ k.kept v a h n;
-          falls = λ v a h.
+          knows = k.knows;
+          falls = λ none v a h.
               let st = state_in meaning t v old in
               let e : turns_over run (Sub act go) (frames_in meaning t old) st ≡ suc (turns_over run act (each (frame_in t) frames) st) =
               ap (λ q. turns_over run (Sub act q) (frames_in meaning t old) st) (sym (given_then t old f place))
               ∙ sub_turns run act (frames_in meaning t old) (frame_in t w) st
               ∙ ap (λ l. suc (turns_over run act l st)) (sym eg) in
-              fewer_above _ _ _ e (k.falls v a h);
+              fewer_above _ _ _ e (k.falls none v a h);
         };
   }

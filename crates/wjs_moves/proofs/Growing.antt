@@ -1,21 +1,22 @@
 -- What is left to do under a table that has grown.
-use Rattle.std.proofs.Common.{◌≡◌, ℕ, true, List, [], ◌∷◌, refl, ap, ◌∙◌}
+use Rattle.std.proofs.Common.{◌≡◌, ℕ, true, List, [], ◌∷◌, refl, sym, ap, ◌∙◌}
 use Rattle.std.specs.Prelude.{unwrap_or}
 use Rattle.wjs_base.specs.declared.values.Name.{Name}
 use Rattle.wjs_base.specs.declared.values.Value.{Value}
 use Rattle.wjs_base.specs.declared.values.Value.TheVariants as values
 use Rattle.wjs_base.specs.Spelling.{IsName}
 use Rattle.wjs_base.specs.Text.{Table, IsTable, Grows}
+use Rattle.wjs_base.proofs.TextLaws.{Grows-trans}
 use Rattle.wjs_store.specs.Meaning.{Meaning}
 use Rattle.wjs_arena.specs.declared.object.Object.{Object}
 use Rattle.wjs_arena.specs.Entries.{Objects}
 use Rattle.wjs_rename.specs.Names.{Holds}
 use Rattle.wjs_content.specs.Tables.{knows_value, KnowsUnder, KnowsObject, KnowsArena}
-use Rattle.wjs_content.specs.Worlds.{KnowsWorlds}
 use Rattle.wjs_content.proofs.Known.{text_known, name_known}
 use Rattle.wjs_content.proofs.Growth.{worlds_grow}
 use Rattle.wjs_content.proofs.ArenaGrowth.{arena_grows}
 use Rattle.wjs_props.specs.Heap.{HasValue, HasNamed, IsHeap, Parts}
+use Rattle.wjs_props.proofs.Told.{told_grows}
 use Rattle.wjs_meaning.specs.Deeds.{St}
 use Rattle.wjs_meaning.specs.Programs.{Threw}
 use Rattle.wjs_model.specs.declared.config.Config.{Config}
@@ -25,9 +26,9 @@ use Rattle.wjs_model.specs.Contents.{Frame, Run, frame_in}
 use Rattle.wjs_model.specs.Units.{unit_in}
 use Rattle.wjs_model.specs.Texts.{KnowsUnit}
 use Rattle.wjs_model.specs.Soundness.{HasThrown, IsThere, Sound}
-use Rattle.wjs_model.specs.Outside.{Outside, beside}
+use Rattle.wjs_model.specs.Outside.{Outside, Knows, beside}
 use Rattle.wjs_model.specs.Configurations.{seen, tells, run_in, state_in, frames_in, rest_by, turns_by}
-use Rattle.wjs_moves.specs.Growing.{LeftAlike}
+use Rattle.wjs_moves.specs.Growing.{LeftAlike, later}
 use Rattle.wjs_moves.proofs.Lists.{each_alike}
 use Rattle.wjs_moves.proofs.NodesGrow.{unit_grows}
 use Rattle.wjs_moves.proofs.FramesGrow.{value_grows, frame_grows}
@@ -56,7 +57,7 @@ module _ (texts : Table) (arena : Objects) (table : IsTable texts) where
 pub arena_known : (h : Parts) → IsHeap h → KnowsArena h.texts h.arena
 arena_known h k o e at = object_known h.texts h.arena k.table e.object (k.objects o e at)
 
-module _ {S : Type 0} (meaning : S → Meaning) (t : Table) (v : Outside) (c : Config S) (s : Sound meaning c) (g : Grows c.heap.texts t) (k : KnowsWorlds c.heap.texts ((meaning c.heap.store).full v.view)) where
+module _ {S : Type 0} (meaning : S → Meaning) (t : Table) (v : Outside) (c : Config S) (s : Sound meaning c) (g : Grows c.heap.texts t) where
   run_grows : run_in meaning t c ≡ run_in meaning c.heap.texts c
   run_grows =
       let trees = each_alike (unit_in t) (unit_in c.heap.texts) (KnowsUnit c.heap.texts) (unit_grows c.heap.texts t g) c.units.items s.base.units in
@@ -67,10 +68,8 @@ module _ {S : Type 0} (meaning : S → Meaning) (t : Table) (v : Outside) (c : C
 
   state_grows : state_in meaning t v c ≡ state_in meaning c.heap.texts v c
   state_grows =
-      let h = s.base.told t g in
-      let full = (worlds_grow c.heap.texts t g ((meaning c.heap.store).full v.view) k).1 in
       let arena = (arena_grows c.heap.texts t g c.heap.arena (arena_known _ s.base.heap)).1 in
-      λ i. record { full = full i; arena = beside (arena i) v.more; out = c.pending.items; done = unwrap_or (h i) [] }
+      λ i. record (state_in meaning c.heap.texts v c) { arena = beside (arena i) v.more }
 
   rest_grows : (q : State) → HasThrown c q → (run : Run) (fs : List Frame) (st : St) (n : ℕ) → rest_by t q run fs st n ≡ rest_by c.heap.texts q run fs st n
   rest_grows states.Running h run fs st n = refl
@@ -78,11 +77,25 @@ module _ {S : Type 0} (meaning : S → Meaning) (t : Table) (v : Outside) (c : C
   rest_grows (states.Threw x) h run fs st n = ap (λ e. (Threw e, st)) (value_grows c t g x h)
   rest_grows states.StepsSpent h run fs st n = refl
 
-  pub left_alike : LeftAlike meaning t v c
+  pub left_alike : LeftAlike meaning t v c.heap.texts v c
   left_alike = record {
     rest = λ n.
         ap (seen (tells meaning c)) (
         rest_grows c.state s.thrown (run_in meaning t c) (frames_in meaning t c) (state_in meaning t v c) n
         ∙ (λ i. rest_by c.heap.texts c.state (run_grows i) (frames_grow i) (state_grows i) n));
     turns = λ i. turns_by c.state (run_grows i) (frames_grow i) (state_grows i);
+  }
+
+-- under a later table of what stands outside
+module _ {S : Type 0} (meaning : S → Meaning) (t u : Table) (v : Outside) (c : Config S) (s : Sound meaning c) (g : Grows c.heap.texts v.texts) (gu : Grows v.texts u) (k : Knows meaning c v) where
+  state_later : state_in meaning t (later v u) c ≡ state_in meaning t v c
+  state_later =
+      let full = (worlds_grow v.texts u gu ((meaning c.heap.store).full v.view) k).1 in
+      let told = told_grows c.heap.texts u (Grows-trans c.heap.texts v.texts u g gu) (meaning c.heap.store).told s.base.told ∙ sym (told_grows c.heap.texts v.texts g (meaning c.heap.store).told s.base.told) in
+      λ i. record (state_in meaning t v c) { full = full i; done = unwrap_or (told i) [] }
+
+  pub later_alike : LeftAlike meaning t (later v u) t v c
+  later_alike = record {
+    rest = λ n i. seen (tells meaning c) (rest_by t c.state (run_in meaning t c) (frames_in meaning t c) (state_later i) n);
+    turns = λ i. turns_by c.state (run_in meaning t c) (frames_in meaning t c) (state_later i);
   }

@@ -59,6 +59,7 @@ module _ {S : Type 0} (meaning : S → Meaning) where
       let eg : each (frame_in t) frames ≡ gs ++ g ∷ [] = ap (each (frame_in t)) ef ∙ each_snoc (frame_in t) fs f in
       record {
         stays = stays_framed old frames old.state;
+        cost = 0;
         left = refl;
         alive = not_spent old.state er;
         kept = λ v a k n.
@@ -69,7 +70,8 @@ module _ {S : Type 0} (meaning : S → Meaning) where
             ∙ sym (rest_of_snoc run gs g st n)
             ∙ sym (ap (λ l. rest_of run l st n) eg)
             ∙ sym (ap (λ s. rest_by t s run (each (frame_in t) frames) st n) er));
-        falls = λ v a k.
+        knows = λ v a k. k;
+        falls = λ none v a k.
             let st = state_in meaning t v old in
             let e : turns_by old.state run (each (frame_in t) frames) st ≡ turns_at run gs g g.moment st =
             ap (λ s. turns_by s run (each (frame_in t) frames) st) er

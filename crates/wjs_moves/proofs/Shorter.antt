@@ -80,10 +80,12 @@ module _ {S : Type 0} (meaning : S → Meaning) where
       record {
         keeps = record {
           stays = f.keeps.stays;
+          cost = f.keeps.cost;
           left = f.keeps.left;
           alive = f.keeps.alive;
-          kept = λ v a k n. ap (λ o. seen (tells meaning old) (run_next (then_do o (under run fs Ends)) (λ st' n'. (Done, st')))) (h.same (state_in meaning t v old) n) ∙ f.keeps.kept v a k n;
-          falls = λ v a k. less_below _ _ _ (f.keeps.falls v a k) (h.fewer (state_in meaning t v old) (turns_under run fs (λ c st'. 0)));
+          kept = λ v a k n. ap (λ o. seen (tells meaning old) (run_next (then_do o (under run fs Ends)) (λ st' n'. (Done, st')))) (h.same (state_in meaning t v old) (f.keeps.cost + n)) ∙ f.keeps.kept v a k n;
+          knows = f.keeps.knows;
+          falls = λ none v a k. less_below _ _ _ (f.keeps.falls none v a k) (h.fewer (state_in meaning t v old) (turns_under run fs (λ c st'. 0)));
         };
         sound = f.sound;
       }
@@ -105,10 +107,12 @@ module _ {S : Type 0} (meaning : S → Meaning) where
       record {
         keeps = record {
           stays = f.keeps.stays;
+          cost = f.keeps.cost;
           left = f.keeps.left;
           alive = f.keeps.alive;
-          kept = λ v a k n. ap (λ q. seen (tells meaning old) (rest_with run q fs (state_in meaning t v old) n)) (seen_as v a) ∙ f.keeps.kept v a k n;
-          falls = λ v a k. subst (λ q. turns meaning t v new + 1 ≤ suc (turns_over run q fs (state_in meaning t v old))) (sym (seen_as v a)) (f.keeps.falls v a k);
+          kept = λ v a k n. ap (λ q. seen (tells meaning old) (rest_with run q fs (state_in meaning t v old) (f.keeps.cost + n))) (seen_as v a) ∙ f.keeps.kept v a k n;
+          knows = f.keeps.knows;
+          falls = λ none v a k. subst (λ q. turns meaning t v new + 1 ≤ suc (turns_over run q fs (state_in meaning t v old))) (sym (seen_as v a)) (f.keeps.falls none v a k);
         };
         sound = f.sound;
       }

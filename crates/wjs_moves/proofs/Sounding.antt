@@ -36,9 +36,10 @@ module _ {S : Type 0} (meaning : S → Meaning) where
     places = b.places;
     functions = b.functions;
     works = b.works;
+    worlds_own = b.worlds_own;
+    worlds_by = b.worlds_by;
     own_worlds = b.own_worlds;
     own = b.own;
-    no_worlds = b.no_worlds;
     near_objects = b.near_objects;
     near_slots = b.near_slots;
     frames = All-weaker (IsThere meaning old) (IsThere meaning (record old { frames = frames; left = left; state = state })) (λ f. there_framed old frames left state f) frames h;

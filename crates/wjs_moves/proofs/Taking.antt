@@ -1,5 +1,5 @@
 -- The frame on top is taken off.
-use Rattle.std.proofs.Common.{◌≡◌, ℕ, suc, ◌+◌, ◌<◌, ◌≤◌, List, [], ◌∷◌, ◌++◌, true, false, Option, None, Some, refl, sym, ap, ◌∙◌, subst, arith}
+use Rattle.std.proofs.Common.{◌≡◌, ℕ, zero, suc, ◌+◌, ◌<◌, ◌≤◌, List, [], ◌∷◌, ◌++◌, true, false, Option, None, Some, refl, sym, ap, ◌∙◌, subst, arith}
 use Rattle.std.specs.Prelude.{map as each, option_map, is_some, unwrap_or, Result, Ok, Err, OnOk}
 use Rattle.std.proofs.lemmas.List.Elements.{All-nil, All-same}
 use Rattle.wjs_base.specs.declared.ids.OutOfMemory.{OutOfMemory}
@@ -24,7 +24,7 @@ use Rattle.wjs_model.proofs.Tops.{last-snoc}
 use Rattle.wjs_model.specs.Contents.{Frame, Run, Moment, frame_in, moment_in, completion_in, operand_in}
 use Rattle.wjs_model.specs.Operands.{with_operand}
 use Rattle.wjs_model.specs.Rest.{act_at, rest_of, rest_top, turns_of, turns_over, turns_at}
-use Rattle.wjs_model.specs.Configurations.{seen, tells, run_in, state_in, frames_in, rest_by, turns_by, Stays, Turned, quietly, by_step, stopped}
+use Rattle.wjs_model.specs.Configurations.{seen, tells, run_in, state_in, frames_in, rest_by, turns_by, rest, Stays, RestIs, Turned, quietly, by_step, stopped}
 use Rattle.wjs_moves.specs.Keeping.{rest_with}
 use Rattle.wjs_moves.specs.Following.{Follows}
 use Rattle.wjs_moves.specs.Parts.{env_in, then_at, begins_at}
@@ -37,6 +37,9 @@ use Rattle.wjs_moves.proofs.Keeping.{stays_framed}
 
 falls_below : (x y k : ℕ) → k ≡ y → x + 1 ≤ y → x < k
 falls_below x y k e h = omega (arith, e, h)
+
+some_steps : (k m : ℕ) → k ≡ suc m → 0 < k
+some_steps k m e = omega (arith, e)
 
 -- what the last frame's phase says
 pub due_last : (fs : List NumberedFrame) (f : NumberedFrame) → is_due (option_map (λ (q : NumberedFrame). q.phase) (last (fs ++ f ∷ []))) ≡ is_due (Some f.phase)
@@ -131,24 +134,40 @@ module _ {S : Type 0} (meaning : S → Meaning) where
   -- a frame goes on with no step
   quiet_turn : (old : Config S) (fs : List NumberedFrame) (f : NumberedFrame) (act : Table → Act) (p : Phase) → old.state ≡ states.Running → old.frames ≡ fs ++ f ∷ [] → f.phase ≡ p → is_due (Some p) ≡ false → ((t : Table) → act_at (run_in meaning t old) (frame_in t f) (moment_in t p) ≡ act t)
       → (later : Config S) → Follows meaning (act later.heap.texts) (record old { frames = fs }) later → Turns meaning old later
-  quiet_turn old fs f act p er eo ep hp ea later k = record {
-    turned = quietly (record {
-      stays = stays_after old later fs old.left k.keeps.stays;
-      left = k.keeps.left;
-      kept = λ v a h n.
-          let t = later.heap.texts in
-          let run = run_in meaning t old in
-          ap (seen (tells meaning old)) (rest_taken t old fs f (moment_in t p) (state_in meaning t v old) n er eo (ap (moment_in t) ep) ∙ ap (λ d. rest_with run d (each (frame_in t) fs) (state_in meaning t v old) n) (ea t))
-          ∙ k.keeps.kept v a h n;
-      falls = λ v a h.
-          let t = later.heap.texts in
-          let run = run_in meaning t old in
-          let st = state_in meaning t v old in
-          falls_below _ _ _ (turns_taken t old fs f (moment_in t p) st er eo (ap (moment_in t) ep) ∙ turns_not_due t run (each (frame_in t) fs) (frame_in t f) p st hp ∙ ap (λ d. suc (turns_over run d (each (frame_in t) fs) st)) (ea t)) (k.keeps.falls v a h);
-      alive = k.keeps.alive;
-    });
-    sound = k.sound;
-  }
+  quiet_turn old fs f act p er eo ep hp ea later k = record { turned = by_cost k.keeps.cost refl; sound = k.sound }
+    where
+      t = later.heap.texts
+
+      stays : Stays meaning old later
+      stays = stays_after old later fs old.left k.keeps.stays
+
+      kept : RestIs meaning old later (λ n. k.keeps.cost + n)
+      kept v a h n =
+          let m = k.keeps.cost + n in
+          ap (seen (tells meaning old)) (rest_taken t old fs f (moment_in t p) (state_in meaning t v old) m er eo (ap (moment_in t) ep) ∙ ap (λ d. rest_with (run_in meaning t old) d (each (frame_in t) fs) (state_in meaning t v old) m) (ea t))
+          ∙ k.keeps.kept v a h n
+
+      by_cost : (cost : ℕ) → k.keeps.cost ≡ cost → Turned meaning old later
+      by_cost zero e = quietly (record {
+        stays = stays;
+        left = sym (k.keeps.left ∙ ap (λ m. m + later.left) e);
+        kept = λ v a h n. ap (λ m. rest meaning t v old (m + n)) (sym e) ∙ kept v a h n;
+        knows = k.keeps.knows;
+        falls = λ v a h.
+            let run = run_in meaning t old in
+            let st = state_in meaning t v old in
+            falls_below _ _ _ (turns_taken t old fs f (moment_in t p) st er eo (ap (moment_in t) ep) ∙ turns_not_due t run (each (frame_in t) fs) (frame_in t f) p st hp ∙ ap (λ d. suc (turns_over run d (each (frame_in t) fs) st)) (ea t)) (k.keeps.falls e v a h);
+        alive = k.keeps.alive;
+      })
+      by_cost (suc more) e = by_step (record {
+        stays = stays;
+        steps = k.keeps.cost;
+        some = some_steps _ _ e;
+        left = k.keeps.left;
+        kept = kept;
+        knows = k.keeps.knows;
+        alive = k.keeps.alive;
+      })
 
   takes_now : (old : Config S) (fs : List NumberedFrame) (f : NumberedFrame) (line : Table → Env → Act) (p : Phase) → old.state ≡ states.Running → Base meaning old → old.frames ≡ fs ++ f ∷ [] → f.phase ≡ p → is_due (Some p) ≡ false → ((t : Table) → act_at (run_in meaning t old) (frame_in t f) (moment_in t p) ≡ line t (env_in meaning old t f))
       → TakesOff meaning f line old (record old { frames = fs })
@@ -179,12 +198,16 @@ module _ {S : Type 0} (meaning : S → Meaning) where
   step_turn old fs f left act p er eo ep el ea later k = record {
     turned = by_step (record {
       stays = stays_after old later fs left k.keeps.stays;
-      left = el ∙ ap suc (sym k.keeps.left);
+      steps = suc k.keeps.cost;
+      some = omega arith;
+      left = el ∙ ap suc k.keeps.left;
       kept = λ v a h n.
           let t = later.heap.texts in
           let st = state_in meaning t v old in
-          ap (seen (tells meaning old)) (rest_taken t old fs f (moment_in t p) st (suc n) er eo (ap (moment_in t) ep) ∙ ap (λ d. rest_with (run_in meaning t old) d (each (frame_in t) fs) st (suc n)) (ea t))
+          let m = k.keeps.cost + n in
+          ap (seen (tells meaning old)) (rest_taken t old fs f (moment_in t p) st (suc m) er eo (ap (moment_in t) ep) ∙ ap (λ d. rest_with (run_in meaning t old) d (each (frame_in t) fs) st (suc m)) (ea t))
           ∙ k.keeps.kept v a h n;
+      knows = k.keeps.knows;
       alive = k.keeps.alive;
     });
     sound = k.sound;
@@ -246,6 +269,7 @@ module _ {S : Type 0} (meaning : S → Meaning) where
       stays = stays_framed meaning old frames states.Done;
       left = refl;
       kept = λ v a h n. ap (seen (tells meaning old)) (rest_empty old.heap.texts old (state_in meaning old.heap.texts v old) n er eo);
+      knows = λ v a h. h;
       falls = λ v a h. falls_below 0 1 _ (turns_empty old.heap.texts old (state_in meaning old.heap.texts v old) er eo) (omega arith);
       alive = λ e. cc;
     });

@@ -1,6 +1,6 @@
 //! Laws of what is followed and of what is left to do, each the contract of a function that does nothing.
 ghost use Rattle.wjs_moves.specs.Shortening.{NestedEndsShorten, ShorterFollow, LooksFollow};
-ghost use Rattle.wjs_moves.specs.Growing.{MoreTextsChangeNothing};
+ghost use Rattle.wjs_moves.specs.Growing.{MoreTextsChangeNothing, MoreTextsOutsideChangeNothing};
 ghost use Rattle.wjs_moves.specs.Reaching.{TurnsReach, ReachedIsReached};
 
 use wjs_store::WorldStore;
@@ -24,6 +24,11 @@ pub fn looks_follow<S: WorldStore>()
 /// are the turns before the next step that is due.
 pub fn more_texts_change_nothing<S: WorldStore>()
     ensures { MoreTextsChangeNothing S.meaning }
+{}
+
+/// It is the same too where the table of what stands outside has grown.
+pub fn more_texts_outside_change_nothing<S: WorldStore>()
+    ensures { MoreTextsOutsideChangeNothing S.meaning }
 {}
 
 /// What was left with the steps that were left before a turn is what is left with those after it; and steps are taken, or there

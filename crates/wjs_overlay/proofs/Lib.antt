@@ -22,6 +22,7 @@ pub mod Keyed
 pub mod CheckLoops
 pub mod CommitLaws
 pub mod StoreLaws
+pub mod Peeks
 pub mod MarkLaws
 pub mod Works
 pub mod Lefts

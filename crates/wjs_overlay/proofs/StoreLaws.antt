@@ -24,10 +24,10 @@ use Rattle.std.proofs.Common.{IsTrue, slice_get, ◌&&◌}
 use Rattle.wjs_base.specs.Order.{slot_cmp, obj_cmp}
 use Rattle.wjs_store.specs.State.{parent_of, child_of, next_id, after_sprout, answer_to, after}
 use Rattle.wjs_store.specs.Meaning.{PlainAct, PlainReply, Does}
-use Rattle.wjs_store.specs.Fixed.{fixed, fresh}
+use Rattle.wjs_store.specs.Fixed.{fixed, begun, fresh}
 use Rattle.wjs_store.specs.Shown.{first_of, counts_of, Counts}
 use Rattle.wjs_store.proofs.FixedStore.{answers_full}
-use Rattle.wjs_store.proofs.Commits.{reached_fresh}
+use Rattle.wjs_store.proofs.Commits.{reached_begun}
 use Rattle.wjs_store.proofs.Writes.{found_id}
 use Rattle.wjs_overlay.specs.declared.layer.Spot.{Spot}
 use Rattle.wjs_overlay.specs.Sparse.{Keeps, IsAt, read_of, mark_of}
@@ -169,14 +169,14 @@ empty_kept = record {
   up = λ w i r a p s u. no_none i (sym (place_none w) ∙ p);
 }
 
-abbrev pub first_layer : Layer
-first_layer = record { id = first_id; above = None; strict = false; rows = map.empty; closed = map.empty }
+abbrev pub first_layer : WorldId → Layer
+first_layer id = record { id = id; above = None; strict = false; rows = map.empty; closed = map.empty }
 
-abbrev first_of_all : World plain
-first_of_all = record { id = record { owner = 0; serial = 0 }; parent = None; strict = false; copy = map.empty; first = map.empty; written = map.empty; closed = map.empty }
+abbrev first_of_all : WorldId → World plain
+first_of_all id = record { id = id; parent = None; strict = false; copy = map.empty; first = map.empty; written = map.empty; closed = map.empty }
 
-keeps_first : Keeps first_layer first_of_all
-keeps_first = record {
+keeps_first : (id : WorldId) → Keeps (first_layer id) (first_of_all id)
+keeps_first id = record {
   id = refl;
   parent = refl;
   strict = refl;
@@ -189,16 +189,17 @@ keeps_first = record {
   bare = λ s u h. map.get-empty slot_cmp s;
 }
 
-pub first_stand : StandFor (first_layer ∷ []) fresh
-first_stand = stand_by (first_layer ∷ []) fresh reached_fresh (kept_push [] [] empty_kept first_layer first_of_all reached_fresh keeps_first (λ a u. no_none a u))
+module _ (id : WorldId) (zeroth : id.serial ≡ 0) where
+  pub first_stand : StandFor (first_layer id ∷ []) (begun id)
+  first_stand = let reached = reached_begun id zeroth in stand_by (first_layer id ∷ []) (begun id) reached (kept_push [] [] empty_kept (first_layer id) (first_of_all id) reached (keeps_first id) (λ a u. no_none a u))
 
-pub first_store : IsStore (first_layer ∷ []) (map.insert map.empty first_id 0) (map.insert map.empty 0 1)
-first_store = record {
-  sparse = first_stand.sparse;
-  some = omega arith;
-  placed = λ w. placed_more map.empty [] first_of_all (λ v. map.get-empty world_cmp v ∙ sym (place_none v)) w ∙ ap (λ F. place_of F w) (sym first_stand.full);
-  owned = λ o. owned_more map.empty [] first_of_all (λ p. ap (λ d. unwrap_or d 0) (map.get-empty nat_cmp p)) o ∙ ap (count_of o) (sym first_stand.full);
-}
+  pub first_store : IsStore (first_layer id ∷ []) (map.insert map.empty id 0) (map.insert map.empty id.owner 1)
+  first_store = record {
+    sparse = first_stand.sparse;
+    some = omega arith;
+    placed = λ w. placed_more map.empty [] (first_of_all id) (λ v. map.get-empty world_cmp v ∙ sym (place_none v)) w ∙ ap (λ F. place_of F w) (sym first_stand.full);
+    owned = λ o. owned_more map.empty [] (first_of_all id) (λ p. ap (λ d. unwrap_or d 0) (map.get-empty nat_cmp p)) o ∙ ap (count_of o) (sym first_stand.full);
+  }
 
 first_place : (x : World plain) (F : State plain) → IsReached (x ∷ F) → (w : WorldId) × (first_of (x ∷ F) ≡ Some w) × (place_of (x ∷ F) w ≡ Some 0)
 first_place x [] h = (x.id, refl, place_head x [] x.id (same_self x.id))
@@ -239,12 +240,12 @@ some_if false x = refl
 
 fresh_has : (w : WorldId) → has_world fresh w ≡ ((w.owner == 0) && (w.serial == 0))
 unfolding find_world
-fresh_has w = some_if (same_world first_id w) first_of_all ∙ ap (λ b. b && (0 == w.serial)) (eqb_turn 0 w.owner) ∙ ap (λ b. (w.owner == 0) && b) (eqb_turn 0 w.serial)
+fresh_has w = some_if (same_world first_id w) (first_of_all first_id) ∙ ap (λ b. b && (0 == w.serial)) (eqb_turn 0 w.owner) ∙ ap (λ b. (w.owner == 0) && b) (eqb_turn 0 w.serial)
 
 pub spent_has : (spent : Bool) (layers : List Layer) (w : WorldId) → spent ≡ true → has_world (worlds_of spent layers) w ≡ ((w.owner == 0) && (w.serial == 0))
 spent_has spent layers w e = ap (λ b. has_world (worlds_of b layers) w) e ∙ fresh_has w
 
-parent_if : (b : Bool) → option_and_then (λ (z : World plain). z.parent) (cond b (Some first_of_all) None) ≡ None
+parent_if : (b : Bool) → option_and_then (λ (z : World plain). z.parent) (cond b (Some (first_of_all first_id)) None) ≡ None
 parent_if true = refl
 parent_if false = refl
 
@@ -276,7 +277,7 @@ store_sprout layers new places owners k at here id strict place next st len =
       owned = λ o. ap (λ m. unwrap_or (map.get (map.insert owners id.owner (m + 1)) o) 0) c ∙ owned_more owners F child k.owned o ∙ ap (count_of o) (sym is);
     }
 
-counts_if : (b : Bool) → b ≡ true → option_map counts_of (cond b (Some first_of_all) None) ≡ Some (record { reads = 0; writes = 0; closed = 0 })
+counts_if : (b : Bool) → b ≡ true → option_map counts_of (cond b (Some (first_of_all first_id)) None) ≡ Some (record { reads = 0; writes = 0; closed = 0 })
 counts_if true e =
     let a = map.len-empty slot_cmp (Option Value) in
     let b = map.len-empty slot_cmp (Unit {0}) in
@@ -286,7 +287,7 @@ counts_if false e = absurd (false≢true e)
 
 fresh_counts : (w : WorldId) → has_world fresh w ≡ true → Counts fresh w (record { reads = 0; writes = 0; closed = 0 })
 unfolding find_world
-fresh_counts w h = counts_if (same_world first_id w) (sym (some_if (same_world first_id w) first_of_all) ∙ h)
+fresh_counts w h = counts_if (same_world first_id w) (sym (some_if (same_world first_id w) (first_of_all first_id)) ∙ h)
 
 pub spent_counts : (spent : Bool) (layers : List Layer) (w : WorldId) → spent ≡ true → IsTrue (has_world (worlds_of spent layers) w) → Counts (worlds_of spent layers) w (record { reads = 0; writes = 0; closed = 0 })
 spent_counts spent layers w e h = subst (λ b. Counts (worlds_of b layers) w (record { reads = 0; writes = 0; closed = 0 })) (sym e) (fresh_counts w (sym (ap (λ b. has_world (worlds_of b layers) w) e) ∙ h))

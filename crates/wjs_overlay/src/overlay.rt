@@ -39,30 +39,39 @@ fn first_world() -> WorldId
 
 impl Overlay {
     ghost use Rattle.std.specs.Prelude.{◌≡◌, ◌+◌, ◌*◌, ◌≤◌, false, IfOk, IsTrue};
-    ghost use Rattle.wjs_store.specs.Fixed.{fixed, fresh};
+    ghost use Rattle.wjs_store.specs.Fixed.{fixed, begun, fresh};
     ghost use Rattle.wjs_store.specs.Meaning.{Answers, worlds};
     ghost use Rattle.wjs_store.specs.State.{has_world, read, write, list, sprout, commit, found, wrote, listed, sprouted, committed};
     ghost use Rattle.wjs_store.specs.Shown.{content_of, slots_of, verdict_of};
     ghost use Rattle.wjs_overlay.specs.Sparse.{IsAt, full_of, place_of, depth_of};
     ghost use Rattle.wjs_overlay.specs.Store.{check_of};
     ghost use Rattle.wjs_overlay.specs.Work.{rows_of, closed_of, rows_above};
-    ghost use Rattle.std.specs.Prelude.{IsSome, ◌&&◌};
+    ghost use Rattle.std.specs.Prelude.{IsSome, IfSome, Ok, ◌&&◌};
     ghost use Rattle.wjs_base.specs.declared.values.Slot.{Slot};
     ghost use Rattle.wjs_overlay.specs.Check.{IsLeast};
     ghost use Rattle.wjs_overlay.specs.Cursor.{to_come};
     ghost use Rattle.wjs_overlay.specs.Marks.{is_written};
     ghost use Rattle.wjs_store.specs.State.{parent_of};
 
-    /// A store with the first world alone.
+    /// A store with the first world alone, which is owner 0's.
     pub fn new(alloc: Global) -> Result<Overlay, OutOfMemory>
         ensures { IfOk result (λ store. ⟦<Overlay as WorldStore>⟧.meaning store ≡ fixed fresh false) }
+    {
+        let store = Overlay::starting(alloc, first_world())?;
+        Ok(store)
+    }
+
+    /// A store with a first world of this number alone: its owner's first.
+    pub fn starting(alloc: Global, first: WorldId) -> Result<Overlay, OutOfMemory>
+        requires { first.serial ≡ 0 }
+        ensures { IfOk result (λ store. ⟦<Overlay as WorldStore>⟧.meaning store ≡ fixed (begun first) false) }
     {
         let mut layers = Vec::new(alloc);
         let mut places = Places::new(alloc);
         let mut owners = Owners::new(alloc);
-        places.insert(first_world(), 0)?;
-        owners.insert(0, 1)?;
-        if layers.push(Layer::first(alloc, first_world())).is_err() {
+        places.insert(first, 0)?;
+        owners.insert(first.owner, 1)?;
+        if layers.push(Layer::first(alloc, first)).is_err() {
             return Err(OutOfMemory);
         }
         Ok(Overlay {
@@ -142,6 +151,28 @@ impl Overlay {
         let answer = calls::read(&mut self.layers, at, slot, steps)?;
         self.spent = false;
         Ok(answer)
+    }
+
+    /// `peek` in a store that isn't spent, in one step. It answers in the first world, and in each other where the slot has
+    /// a row there: the look is `read_counted`'s first.
+    #[inline(always)]
+    pub fn peek_counted<L: Ledger>(
+        &self,
+        world: WorldId,
+        slot: Slot,
+        steps: &mut Steps<L>,
+    ) -> Option<Content>
+        requires live { (⟦<Overlay as WorldStore>⟧.meaning self.now).spent ≡ false }
+        requires there { IsTrue (has_world (worlds (⟦<Overlay as WorldStore>⟧.meaning self.now)) world) }
+        ensures answers { IfSome result (λ content. Answers (⟦<Overlay as WorldStore>⟧.meaning self.now) (read world slot) (λ c. found (content_of c)) (Ok content) (⟦<Overlay as WorldStore>⟧.meaning self.now)) }
+        ensures step { steps.new ≡ steps.old + 1 }
+    {
+        let at = self.spot(world);
+        let layer = &self.layers[at.place];
+        match layer.above() {
+            None => Some(layer.get_first(slot, steps)),
+            Some(_) => layer.now(slot, steps),
+        }
     }
 
     /// `write`, in at most twice the depth and 7 steps.
@@ -293,6 +324,11 @@ impl WorldStore for Overlay {
     #[inline(always)]
     fn read(&mut self, world: WorldId, slot: Slot) -> Result<Content, OutOfMemory> {
         uncounted::read_uncounted::<Brand>(self, world, slot, Blank::new(1))
+    }
+
+    #[inline(always)]
+    fn peek(&self, world: WorldId, slot: Slot) -> Option<Content> {
+        uncounted::peek_uncounted::<Brand>(self, world, slot, Blank::new(1))
     }
 
     #[inline(always)]

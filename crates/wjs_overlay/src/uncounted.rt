@@ -1,5 +1,5 @@
 //! The calls of the store of sparse worlds whose steps nobody counts.
-ghost use Rattle.std.specs.Prelude.{◌≡◌, ◌<◌, IsTrue};
+ghost use Rattle.std.specs.Prelude.{◌≡◌, ◌<◌, IsTrue, IfSome, Ok};
 ghost use Rattle.wjs_store.specs.Meaning.{Answers, worlds};
 ghost use Rattle.wjs_store.specs.State.{has_world, read, write, list, sprout, commit, found, wrote, listed, sprouted, committed};
 ghost use Rattle.wjs_store.specs.Shown.{content_of, slots_of, verdict_of};
@@ -26,6 +26,27 @@ pub fn read_uncounted<L: Ledger>(
 {
     let mut steps = Steps::<L>::new(blank);
     store.read_counted(world, slot, &mut steps)
+}
+
+/// `peek`, whose steps nobody counts.
+#[inline(always)]
+pub fn peek_uncounted<L: Ledger>(
+    store: &Overlay,
+    world: WorldId,
+    slot: Slot,
+    blank: Blank,
+) -> Option<Content>
+    requires name { blank.name ≡ L.name }
+    requires parts { blank.parts ≡ L.parts }
+    requires some { 0 < blank.parts }
+    requires there { IsTrue (has_world (worlds (⟦<Overlay as WorldStore>⟧.meaning store.now)) world) }
+    ensures { IfSome result (λ content. Answers (⟦<Overlay as WorldStore>⟧.meaning store.now) (read world slot) (λ c. found (content_of c)) (Ok content) (⟦<Overlay as WorldStore>⟧.meaning store.now)) }
+{
+    let mut steps = Steps::<L>::new(blank);
+    if store.is_spent() {
+        return None;
+    }
+    store.peek_counted(world, slot, &mut steps)
 }
 
 /// `write`, whose steps nobody counts.

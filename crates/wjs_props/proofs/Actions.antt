@@ -24,19 +24,21 @@ use Rattle.wjs_rename.proofs.Sorted.{slots_ascend}
 use Rattle.wjs_arena.specs.Entries.{Objects}
 use Rattle.wjs_content.specs.Names as content
 use Rattle.wjs_content.specs.Values as values
-use Rattle.wjs_content.specs.Plans.{Plan, Gives, Reads, Writes, Lists, Heard, Sprouted, Committed, heard, told_of, actions_of}
+use Rattle.wjs_content.specs.Plans.{Plan, Gives, Reads, Writes, Lists, Heard, Sprouted, Committed, heard, told_of}
 use Rattle.wjs_content.specs.Tables.{slot_in, content_in, knows_slot, knows_value}
 use Rattle.wjs_content.specs.Telling.{names_of}
 use Rattle.wjs_content.specs.Worlds.{in_order, listing, worlds_in, act_in, heard_in, told_by, KnowsWorlds, KnowsAct}
 use Rattle.wjs_content.specs.Carried.{Carries, tell}
 use Rattle.wjs_content.proofs.Carrying.{carries_read, carries_write, carries_list, heard_so, told_so, worlds_so, knows_so}
-use Rattle.wjs_content.proofs.Growth.{slot_grows, value_grows, worlds_grow}
+use Rattle.wjs_content.proofs.Growth.{slot_grows, value_grows}
 use Rattle.wjs_content.proofs.Known.{text_known, name_known}
+use Rattle.wjs_content.proofs.Replies.{slots_grow}
 use Rattle.wjs_props.specs.Heap.{Parts, HasValue, HasContent, HasSlot, IsHeap, Performs}
 use Rattle.wjs_props.specs.Acts.{Acts, ActsBy}
 use Rattle.wjs_props.specs.Means.{nothing}
 use Rattle.wjs_props.proofs.Kept.{Within, has_child, within_read, within_write, within_list, within_sprout, within_commit}
 use Rattle.wjs_props.proofs.Listed.{listed_hold, names_hold}
+use Rattle.wjs_props.proofs.Told.{told_after}
 use Rattle.wjs_props.proofs.Turns.{grows_itself, grows_twice}
 
 -- ---- what is there is known
@@ -77,22 +79,18 @@ module _ (h : Parts) (new : Meaning) (heap : IsHeap h) (sound : IsSound new) whe
 
   did : {A : Type 0} (w : WorldId) (a : PlainAct) (answer : PlainReply) (plan : Table → Plan A) (shows : Table → A) → Does h.store a answer new
       → ((t : Table) → Grows h.texts t → (v : View) → IsTrue (new.admits v) → KnowsWorlds t (h.store.full v) → Carries t w (plan t) (shows t) h.store new v)
+      → KnowsAct h.texts a
       → ((t : Table) → Grows h.texts t → plan t ≡ plan h.texts)
       → ((t : Table) → Grows h.texts t → shows t ≡ shows h.texts)
       → Within IsHeld (after (worlds h.store) a)
       → Performs w plan shows h (record { texts = h.texts; arena = h.arena; store = new })
-  did w a answer plan shows does carries still alike slots = record {
+  did w a answer plan shows does carries known still alike slots = record {
     narrows = does.narrows;
     carries = λ t u g gu v ok k.
         let both = grows_twice h.texts t u g gu in
         subst (λ p. Carries u w p (shows t) h.store new v) (still u both ∙ sym (still t g)) (subst (λ x. Carries u w (plan u) x h.store new v) (alike u both ∙ sym (alike t g)) (carries u both v ok k));
     marks = λ k. (carries h.texts (grows_itself h.texts) new.own sound.admits_own (own_known a answer does k)).knows;
-    told = λ k d t g.
-        let known = own_known a answer does k in
-        let grown = worlds_grow h.texts t g (h.store.full new.own) known in
-        (carries t g new.own sound.admits_own grown.0).told
-        ∙ (λ i. tell (actions_of (still t g i) w (grown.1 i)) (d t g i))
-        ∙ sym (carries h.texts (grows_itself h.texts) new.own sound.admits_own known).told;
+    told = λ k. told_after h.texts h.store a answer new does sound.admits_own (own_known a answer does k) known;
     texts = grows_itself h.texts;
     arena = refl;
     own = does.own;
@@ -125,6 +123,7 @@ module _ (h : Parts) (new : Meaning) (heap : IsHeap h) (sound : IsSound new) whe
       → Performs w (λ t. Reads (slot_in t s) Gives) (λ t. content_in t c) h (record { texts = h.texts; arena = h.arena; store = new })
   did_read w s c has does = did w (read w s) (found (content_of c)) _ _ does
       (λ t g v ok k. carries_read t w s c h.store new does v ok k (slot_knows h.texts t h.arena s heap.table g has))
+      (slot_knows h.texts h.texts h.arena s heap.table (grows_itself h.texts) has)
       (λ t g. ap (λ (x : content.Slot). Reads x Gives) (slot_still t g s has))
       (λ t g. content_still t g c (found_there w s c does))
       (within_read IsHeld (worlds h.store) w s heap.slots)
@@ -133,6 +132,7 @@ module _ (h : Parts) (new : Meaning) (heap : IsHeap h) (sound : IsSound new) whe
       → Performs w (λ t. Writes (slot_in t s) (content_in t c) (Gives nothing)) (λ t. nothing) h (record { texts = h.texts; arena = h.arena; store = new })
   did_write w s c has there does = did w (write w s (content_of c)) wrote _ _ does
       (λ t g v ok k. carries_write t w s c h.store new does v ok k (slot_knows h.texts t h.arena s heap.table g has) (content_knows h.texts t h.arena (content_of c) heap.table g there))
+      (slot_knows h.texts h.texts h.arena s heap.table (grows_itself h.texts) has, content_knows h.texts h.texts h.arena (content_of c) heap.table (grows_itself h.texts) there)
       (λ t g i. Writes (slot_still t g s has i) (content_still t g c there i) (Gives nothing))
       (λ t g. refl)
       (within_write IsHeld (worlds h.store) w s (content_of c) (λ v e. (has, subst (HasContent h.texts h.arena) e there)) heap.slots)
@@ -147,22 +147,19 @@ module _ (h : Parts) (new : Meaning) (heap : IsHeap h) (sound : IsSound new) whe
   pub listed_there : (w : WorldId) (o : ObjId) (names : List Name) → Does h.store (list w o) (listed (slots_of o names)) new → Holds (IsName h.texts) names
   listed_there w o names does = names_hold h.texts o names (subst (Holds (λ s. IsName h.texts s.name)) (listed_so w o names does) (listed_hold (worlds h.store) w o (λ s. IsName h.texts s.name) (λ s v e. (heap.slots w s v e).0.name)))
 
-  slots_still : (t : Table) → Grows h.texts t → (o : ObjId) (names : List Name) → Holds (IsName h.texts) names → each (slot_in t) (slots_of o names) ≡ each (slot_in h.texts) (slots_of o names)
-  slots_still t g o [] k = refl
-  slots_still t g o (n ∷ ns) k =
-      let first = (slot_grows h.texts t g (record { object = o; name = n }) (name_known h.texts heap.table n k.0)).1 in
-      let more = slots_still t g o ns k.1 in
-      λ i. first i ∷ more i
-
-  listing_still : (t : Table) → Grows h.texts t → (o : ObjId) (names : List Name) → Holds (IsName h.texts) names → listing t o names ≡ listing h.texts o names
-  listing_still t g o names k = ap (λ (ss : List content.Slot). each (λ s. s.name) (in_order ss)) (slots_still t g o names k)
+  listing_still : (t : Table) → Grows h.texts t → (w : WorldId) (o : ObjId) (names : List Name) → Does h.store (list w o) (listed (slots_of o names)) new → listing t o names ≡ listing h.texts o names
+  listing_still t g w o names does =
+      let known : Slot → Type 0 = λ s. knows_slot h.texts s ≡ true in
+      let all = listed_hold (worlds h.store) w o known (λ s v e. slot_knows h.texts h.texts h.arena s heap.table (grows_itself h.texts) (heap.slots w s v e).0) in
+      ap (λ (ss : List content.Slot). each (λ s. s.name) (in_order ss)) (slots_grow h.texts t g (slots_of o names) (subst (Holds known) (listed_so w o names does) all)).1
 
   pub did_list : (w : WorldId) (o : ObjId) (names : List Name) → Does h.store (list w o) (listed (slots_of o names)) new
       → Performs w (λ t. Lists o Gives) (λ t. listing t o names) h (record { texts = h.texts; arena = h.arena; store = new })
   did_list w o names does = did w (list w o) (listed (slots_of o names)) _ _ does
       (λ t g v ok k. carries_list t w o names h.store new does v ok k)
+      tt
       (λ t g. refl)
-      (λ t g. listing_still t g o names (listed_there w o names does))
+      (λ t g. listing_still t g w o names does)
       (within_list IsHeld (worlds h.store) w o heap.slots)
 
   pub listed_ascends : (w : WorldId) (o : ObjId) (names : List Name) → Does h.store (list w o) (listed (slots_of o names)) new → Ascends slot_cmp (slots_of o names)
@@ -175,14 +172,9 @@ module _ (h : Parts) (new : Meaning) (heap : IsHeap h) (sound : IsSound new) whe
       → Within IsHeld (after (worlds h.store) a) → Acts b shown h (record { texts = h.texts; arena = h.arena; store = new })
   acted a b answer shown same alike known does slots = record {
     narrows = does.narrows;
-    acts = λ u g v ok k. by u v ok k;
+    acts = λ u g. by u;
     marks = λ k. knows_so h.texts h.store a answer new does new.own sound.admits_own (own_known a answer does k) (known h.texts);
-    told = λ k d t g.
-        let seen = own_known a answer does k in
-        let grown = worlds_grow h.texts t g (h.store.full new.own) seen in
-        (by t new.own sound.admits_own grown.0).told
-        ∙ (λ i. tell (told_of (grown.1 i) b ∷ []) (d t g i))
-        ∙ sym (by h.texts new.own sound.admits_own seen).told;
+    told = λ k. told_after h.texts h.store a answer new does sound.admits_own (own_known a answer does k) (known h.texts);
     texts = refl;
     arena = refl;
     own = does.own;

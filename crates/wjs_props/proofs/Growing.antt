@@ -29,6 +29,7 @@ use Rattle.wjs_content.proofs.Growth.{worlds_grow}
 use Rattle.wjs_props.specs.Heap.{Parts, HasValue, HasSlot, HasNamed, IsHeap, Performs}
 use Rattle.wjs_props.specs.Acts.{Creates}
 use Rattle.wjs_props.specs.HeapLaws.{with_texts, with_arena}
+use Rattle.wjs_props.proofs.Told.{told_stays}
 use Rattle.wjs_props.proofs.Turns.{grows_twice}
 
 module _ (old new : Table) (g : Grows old new) (arena : Objects) where
@@ -69,7 +70,7 @@ module _ (h : Parts) (new : Table) (table : IsTable new) (g : Grows h.texts new)
     narrows = f.narrows;
     carries = λ t u gt gu v ok k. f.carries t u gt gu v ok k;
     marks = λ k. f.marks (worlds_grow h.texts new g (worlds h.store) k).0;
-    told = λ k d. f.told (worlds_grow h.texts new g (worlds h.store) k).0 (λ t gt. d t (grows_twice h.texts new t g gt) ∙ sym (d new g));
+    told = λ k d. f.told (worlds_grow h.texts new g (worlds h.store) k).0 (told_stays h.texts new g h.store.told d);
     texts = grows_twice h.texts new after.texts g f.texts;
     arena = f.arena;
     own = f.own;

@@ -1,6 +1,7 @@
 pub mod Sorting
 pub mod Turns
 pub mod Kept
+pub mod Told
 pub mod Actions
 pub mod ByContent
 pub mod Getting

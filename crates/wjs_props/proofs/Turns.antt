@@ -5,7 +5,6 @@ use Rattle.wjs_base.specs.Text.{Table, Grows}
 use Rattle.wjs_content.specs.Plans.{Plan, Gives, then_plan}
 use Rattle.wjs_content.specs.Carried.{Carries}
 use Rattle.wjs_content.proofs.Carrying.{carries_nothing, carries_then}
-use Rattle.wjs_content.proofs.Growth.{worlds_grow}
 use Rattle.wjs_props.specs.Heap.{Parts, IsHeap, Performs}
 
 pub grows_itself : (t : Table) → Grows t t

@@ -21,6 +21,7 @@ use Rattle.wjs_store.specs.Meaning.{worlds}
 use Rattle.wjs_store.specs.Shown.{slots_of}
 use Rattle.wjs_rename.specs.Ascends.{Ascends}
 use Rattle.wjs_rename.specs.Names.{Holds}
+use Rattle.wjs_rename.proofs.Found.{holds_append}
 use Rattle.wjs_arena.specs.declared.object.Object.{Object}
 use Rattle.wjs_arena.specs.Chains as numbered
 use Rattle.wjs_arena.specs.Chains.{chain_from, flags_in}
@@ -75,10 +76,6 @@ seen_among old new passed order fixed are more n =
     ∙ sym (list_any-append (eq_by_cmp name_cmp n) (passed ++ order) fixed)
 
 -- ---- lists
-
-holds_append : {A : Type 0} (P : A → Type 0) (xs ys : List A) → Holds P xs → Holds P ys → Holds P (xs ++ ys)
-holds_append P [] ys h k = k
-holds_append P (x ∷ xs) ys h k = (h.0, holds_append P xs ys h.1 k)
 
 visits_stay : (old new : Table) → Grows old new → (a b : Objects) → b ≡ a → (vs : List Visit) → Holds (HasVisit old a) vs → Holds (HasVisit new b) vs
 visits_stay old new g a b e [] h = tt

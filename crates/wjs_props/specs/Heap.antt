@@ -1,5 +1,5 @@
 -- A heap: texts, objects and a store of worlds. Each text and object is there that a present slot or its content, under the store's own view, or an object names.
-use Rattle.std.specs.Prelude.{◌≡◌, List, Option, None, Some, IsTrue}
+use Rattle.std.specs.Prelude.{◌≡◌, List, Option, None, Some, IfSome, IsTrue}
 use Rattle.std.specs.FinMap as map
 use Rattle.wjs_base.specs.declared.ids.ObjId.{ObjId}
 use Rattle.wjs_base.specs.declared.ids.WorldId.{WorldId}
@@ -14,7 +14,7 @@ use Rattle.wjs_arena.specs.declared.object.Object.{Object}
 use Rattle.wjs_arena.specs.Entries.{Objects, Entry, IsArena, has}
 use Rattle.wjs_rename.specs.Names.{Holds}
 use Rattle.wjs_content.specs.Plans.{Plan}
-use Rattle.wjs_content.specs.Worlds.{told_by, KnowsWorlds}
+use Rattle.wjs_content.specs.Worlds.{KnowsWorlds, KnowsAct, KnowsReply}
 use Rattle.wjs_content.specs.Carried.{Carries}
 
 -- what a heap means: its texts, its objects, and what its store means
@@ -52,9 +52,9 @@ pub record IsHeap (h : Parts) : Type 0 where
   pub objects : (o : ObjId) (e : Entry) → map.get h.arena o ≡ Some e → HasNamed h.texts h.arena e.object
   pub slots : (i : WorldId) (s : Slot) (v : Value) → content_at (worlds h.store) i s ≡ Some v → HasSlot h.texts h.arena s × HasValue h.texts h.arena v
 
--- the texts that the told actions and their answers name are there: under each table that has grown from the texts they are the same
+-- the table knows each slot and value that the told actions and their answers name
 abbrev pub KnowsTold : Table → Option (List (PlainAct × PlainReply)) → Type 0
-KnowsTold texts told = (t : Table) → Grows texts t → told_by t told ≡ told_by texts told
+KnowsTold texts told = IfSome told (λ done. Holds (λ e. KnowsAct texts e.0 × KnowsReply texts e.1) done)
 
 -- a call did in a world what the plan asks, and gave its answer: in the contents that the table gives or any table that has grown from it, and under each view that is admitted afterwards and whose slots the table knows
 pub record Performs {A : Type 0} (w : WorldId) (plan : Table → Plan A) (answer : Table → A) (old new : Parts) : Type 0 where
@@ -62,7 +62,7 @@ pub record Performs {A : Type 0} (w : WorldId) (plan : Table → Plan A) (answer
   pub carries : (t u : Table) → Grows new.texts t → Grows t u → (v : View) → IsTrue (new.store.admits v) → KnowsWorlds u (old.store.full v) → Carries u w (plan t) (answer t) old.store new.store v
   -- where the table knows what the worlds and their marks name, it does so afterwards
   pub marks : KnowsWorlds old.texts (worlds old.store) → KnowsWorlds new.texts (worlds new.store)
-  -- and where the texts of the told actions are there, they are afterwards
+  -- and where it knows the told actions, it does so afterwards
   pub told : KnowsWorlds old.texts (worlds old.store) → KnowsTold old.texts old.store.told → KnowsTold new.texts new.store.told
   -- texts keep their numbers
   pub texts : Grows old.texts new.texts

@@ -42,6 +42,21 @@ pub fn read<S: WorldStore>(
     Ok(found)
 }
 
+/// What a slot holds, where a read of it would change nothing; else None, which any store may answer.
+#[inline(always)]
+pub(crate) fn look<S: WorldStore>(heap: &Heap<S>, world: WorldId, slot: Slot) -> Option<Content>
+    requires heap { IsHeap (parts S.meaning heap.now) }
+    requires world { IsTrue (has_world (worlds (S.meaning heap.now.store)) world) }
+    requires slot { HasSlot heap.now.texts heap.now.arena slot }
+    ensures reads { IfSome result (λ found. Performs world (λ t. Reads (slot_in t slot) Gives) (λ t. content_in t found) (parts S.meaning heap.now) (parts S.meaning heap.now)) }
+    ensures found { IfSome result (λ found. HasContent heap.now.texts heap.now.arena (content_of found)) }
+{
+    match heap.store.peek(world, slot) {
+        None => None,
+        Some(found) => Some(found),
+    }
+}
+
 /// Sets a slot.
 #[inline(always)]
 pub fn write<S: WorldStore>(

@@ -20,6 +20,6 @@ pub use deeds::{commit, create, read, sprout, write};
 pub use heap::Heap;
 pub use laws::{heaps_begin, more_objects_keep, more_texts_keep};
 pub use listing::list_names;
-pub use reads::{get, has};
+pub use reads::{get, has, peek};
 pub use visits::{Visit, Visits};
 pub use writes::{delete, put};

@@ -1,5 +1,5 @@
 //! Reading and testing properties.
-ghost use Rattle.std.specs.Prelude.{◌≡◌, IfOk, IsTrue};
+ghost use Rattle.std.specs.Prelude.{◌≡◌, IfOk, IfSome, IsTrue};
 ghost use Rattle.wjs_base.specs.Spelling.{IsName};
 ghost use Rattle.wjs_store.specs.State.{has_world};
 ghost use Rattle.wjs_store.specs.Meaning.{worlds};
@@ -10,7 +10,7 @@ ghost use Rattle.wjs_props.specs.Heap.{IsHeap, HasContent, Performs};
 ghost use Rattle.wjs_props.specs.Means.{parts};
 ghost use Rattle.wjs_props.specs.Properties as plan;
 
-use crate::deeds::read;
+use crate::deeds::{look, read};
 use crate::heap::Heap;
 use wjs_base::{Content, Name, ObjId, OutOfMemory, Slot, WorldId};
 use wjs_store::WorldStore;
@@ -42,6 +42,37 @@ pub fn get<S: WorldStore>(
         }
         match heap.arena.object(at).prototype {
             None => return Ok(Content::Absent),
+            Some(prototype) => at = prototype,
+        }
+    }
+}
+
+/// What `get` would find, where it would change nothing; else None, which any store may answer.
+#[inline(always)]
+pub fn peek<S: WorldStore>(
+    heap: &Heap<S>,
+    world: WorldId,
+    object: ObjId,
+    name: Name,
+) -> Option<Content>
+    requires heap { IsHeap (parts S.meaning heap.now) }
+    requires world { IsTrue (has_world (worlds (S.meaning heap.now.store)) world) }
+    requires object { IsTrue (has heap.now.arena object) }
+    requires name { IsName heap.now.texts name }
+    ensures gets { IfSome result (λ found. Performs world (λ t. plan.get (arena_in t heap.now.arena) object (name_in t name)) (λ t. content_in t found) (parts S.meaning heap.now) (parts S.meaning heap.now)) }
+    ensures found { IfSome result (λ found. HasContent heap.now.texts heap.now.arena (content_of found)) }
+{
+    let mut at = object;
+    'up: loop {
+        if let Some(value) = heap.arena.fixed(at, name) {
+            return Some(Content::Present(value));
+        }
+        let found = look(heap, world, Slot { object: at, name })?;
+        if let Content::Present(_) = found {
+            return Some(found);
+        }
+        match heap.arena.object(at).prototype {
+            None => return Some(Content::Absent),
             Some(prototype) => at = prototype,
         }
     }

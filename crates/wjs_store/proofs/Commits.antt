@@ -15,15 +15,15 @@ use Rattle.wjs_base.specs.Order.{obj_cmp, obj_total, slot_cmp}
 use Rattle.wjs_store.specs.Naming.{Naming}
 use Rattle.wjs_store.specs.State.{World, State, same_world, find_world, has_world, content_at, count_of, put, is_below, is_touched, has_row, write_in, write_at, after_write, write_all, at_world, hand_entries, hand_objects, clear_marks, moves, reads_of, settle, fails, fault_in, least, lesser, same_content, with_parent, after_commit}
 use Rattle.wjs_store.specs.Reached.{IsReached}
-use Rattle.wjs_store.specs.Fixed.{fresh}
+use Rattle.wjs_store.specs.Fixed.{begun, fresh}
 use Rattle.wjs_store.proofs.States.{find_each, has_each, count_each, length_each, content_each}
 use Rattle.wjs_store.proofs.Marks.{Local, local_of, MarksOf, marks_same, marks_then, marks_cond, marks_first, marks_closed, contains_insert, key_is, none_some, any_filter, or_case, closed_only}
 use Rattle.wjs_store.proofs.Writes.{reached_write, world_is, same_self, not_older, found_id, has_head, has_tail, by_bool, by_one, or_false, get_put, write_id, entries_id, objects_id}
 
-pub reached_fresh : IsReached fresh
-reached_fresh = (
+pub reached_begun : (id : WorldId) → id.serial ≡ 0 → IsReached (begun id)
+reached_begun id first = (
   record {
-    serial = refl;
+    serial = first;
     parent_older = λ p e. cc;
     alone = λ e. refl;
     inherits = λ p s e u. cc;
@@ -35,6 +35,9 @@ reached_fresh = (
   },
   tt,
 )
+
+pub reached_fresh : IsReached fresh
+reached_fresh = reached_begun (record { owner = 0; serial = 0 }) refl
 
 -- ---- the check
 

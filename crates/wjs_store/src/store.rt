@@ -1,5 +1,5 @@
 //! The trait of every store of worlds.
-ghost use Rattle.std.specs.Prelude.{◌≡◌, not, IsTrue, Some};
+ghost use Rattle.std.specs.Prelude.{◌≡◌, not, IsTrue, IfSome, Some, Ok};
 ghost use Rattle.wjs_store.specs.State.{has_world, parent_of, found, wrote, listed, sprouted, committed, read, write, list, sprout, commit};
 ghost use Rattle.wjs_store.specs.Meaning.{Meaning, IsSound, Answers, worlds};
 ghost use Rattle.wjs_store.specs.Shown.{content_of, slots_of, verdict_of, first_of, Counts as Counted};
@@ -61,6 +61,15 @@ pub trait WorldStore {
     fn read(&mut self, world: WorldId, slot: Slot) -> Result<Content, OutOfMemory>
         requires { IsTrue (has_world (worlds (meaning self.old)) world) }
         ensures { Answers (meaning self.old) (read world slot) (λ content. found (content_of content)) result (meaning self.new) };
+
+    /// What the slot holds, where a `read` of it would leave the store as it is and tell nothing; else None, which any
+    /// store may answer.
+    fn peek(&self, world: WorldId, slot: Slot) -> Option<Content>
+        requires { IsTrue (has_world (worlds (meaning self.now)) world) }
+        ensures { IfSome result (λ content. Answers (meaning self.now) (read world slot) (λ c. found (content_of c)) (Ok content) (meaning self.now)) }
+    {
+        None
+    }
 
     /// Sets the slot in the world, and in each descendant that is reached through worlds in which it is untouched. In a
     /// world with a parent the slot is marked written; where it was neither read nor written there, and its object is

@@ -2,4 +2,7 @@
 #![tactic(auto)]
 
 #[cfg(test)]
+mod looks;
+
+#[cfg(test)]
 mod stores;

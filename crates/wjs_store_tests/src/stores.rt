@@ -126,7 +126,7 @@ fn same_names(a: &Names, b: &Names) -> bool {
     (0..a.len()).all(|place| place < b.len() && a.at(place) == b.at(place))
 }
 
-fn same_content(a: Content, b: Content) -> bool {
+pub(crate) fn same_content(a: Content, b: Content) -> bool {
     match (a, b) {
         (Content::Absent, Content::Absent) => true,
         (Content::Present(a), Content::Present(b)) => same_value(a, b),

@@ -22,103 +22,179 @@ abbrev pub AreSome : Variables → Type 0
 AreSome NoVariable = ⊥
 AreSome (Variable x e rest) = Unit {0}
 
+-- Each part binds as tightly as its place wants, and the body of each function is as asked.
 -- Where the Bool is true, no operator `in` stands outside parentheses, brackets, braces, functions and the operand between
 -- `?` and `:` (the grammar's suffix NoIn).
-abbrev mutual
-  pub WellFormed : Bool → Expr → Type 0
-  WellFormed no_in (Paren e) = WellFormed false e
-  WellFormed no_in (ArrayLit xs) = ItemsFormed xs
-  WellFormed no_in (ObjectLit ps) = PropertiesFormed ps
-  WellFormed no_in (Function name formals body) = ElementsFormed body × ElementsJumpRight (outermost true) body
-  WellFormed no_in (Dot e x) = (16 ≤ level e) × WellFormed no_in e
-  WellFormed no_in (At e i) = (16 ≤ level e) × WellFormed no_in e × WellFormed false i
-  WellFormed no_in (Call f xs) = (16 ≤ level f) × WellFormed no_in f × ArgumentsFormed xs
-  WellFormed no_in (NewWith f xs) = (17 ≤ level f) × WellFormed no_in f × ArgumentsFormed xs
-  WellFormed no_in (NewBare f) = ((17 ≤ level f) ⊎ (is_bare f ≡ true)) × WellFormed no_in f
-  WellFormed no_in (Postfix t op) = (is_target t ≡ true) × (15 ≤ level t) × WellFormed no_in t
-  WellFormed no_in (Prefix op e) = (13 ≤ level e) × (is_update op ≡ true → is_target e ≡ true) × WellFormed no_in e
-  WellFormed no_in (Binary a op b) = IsAllowed no_in op × (binary_level op ≤ level a) × (binary_level op + 1 ≤ level b) × WellFormed no_in a × WellFormed no_in b
-  WellFormed no_in (Cond c a b) = (3 ≤ level c) × (1 ≤ level a) × (1 ≤ level b) × WellFormed no_in c × WellFormed false a × WellFormed no_in b
-  WellFormed no_in (Assign t op e) = (is_target t ≡ true) × (15 ≤ level t) × (1 ≤ level e) × WellFormed no_in t × WellFormed no_in e
-  WellFormed no_in (Comma a b) = (1 ≤ level b) × WellFormed no_in a × WellFormed no_in b
-  WellFormed no_in (Name x) = Unit {0}
-  WellFormed no_in (Number n) = Unit {0}
-  WellFormed no_in (Text x) = Unit {0}
-  WellFormed no_in This = Unit {0}
-  WellFormed no_in ThisWorld = Unit {0}
-  WellFormed no_in Null = Unit {0}
-  WellFormed no_in (Boolean b) = Unit {0}
+module _ (Asked : Elements → Type 0) where
+  abbrev mutual
+    pub FormedBy : Bool → Expr → Type 0
+    FormedBy no_in (Paren e) = FormedBy false e
+    FormedBy no_in (ArrayLit xs) = ItemsBy xs
+    FormedBy no_in (ObjectLit ps) = PropertiesBy ps
+    FormedBy no_in (Function name formals body) = ElementsBy body × Asked body
+    FormedBy no_in (Dot e x) = (16 ≤ level e) × FormedBy no_in e
+    FormedBy no_in (At e i) = (16 ≤ level e) × FormedBy no_in e × FormedBy false i
+    FormedBy no_in (Call f xs) = (16 ≤ level f) × FormedBy no_in f × ArgumentsBy xs
+    FormedBy no_in (NewWith f xs) = (17 ≤ level f) × FormedBy no_in f × ArgumentsBy xs
+    FormedBy no_in (NewBare f) = ((17 ≤ level f) ⊎ (is_bare f ≡ true)) × FormedBy no_in f
+    FormedBy no_in (Postfix t op) = (is_target t ≡ true) × (15 ≤ level t) × FormedBy no_in t
+    FormedBy no_in (Prefix op e) = (13 ≤ level e) × (is_update op ≡ true → is_target e ≡ true) × FormedBy no_in e
+    FormedBy no_in (Binary a op b) = IsAllowed no_in op × (binary_level op ≤ level a) × (binary_level op + 1 ≤ level b) × FormedBy no_in a × FormedBy no_in b
+    FormedBy no_in (Cond c a b) = (3 ≤ level c) × (1 ≤ level a) × (1 ≤ level b) × FormedBy no_in c × FormedBy false a × FormedBy no_in b
+    FormedBy no_in (Assign t op e) = (is_target t ≡ true) × (15 ≤ level t) × (1 ≤ level e) × FormedBy no_in t × FormedBy no_in e
+    FormedBy no_in (Comma a b) = (1 ≤ level b) × FormedBy no_in a × FormedBy no_in b
+    FormedBy no_in (Name x) = Unit {0}
+    FormedBy no_in (Number n) = Unit {0}
+    FormedBy no_in (Text x) = Unit {0}
+    FormedBy no_in This = Unit {0}
+    FormedBy no_in ThisWorld = Unit {0}
+    FormedBy no_in Null = Unit {0}
+    FormedBy no_in (Boolean b) = Unit {0}
 
-  pub OptionalFormed : Optional → Type 0
-  OptionalFormed Absent = Unit {0}
-  OptionalFormed (Present e) = WellFormed false e
+    pub OptionalBy : Optional → Type 0
+    OptionalBy Absent = Unit {0}
+    OptionalBy (Present e) = FormedBy false e
 
-  -- an initialiser is an assignment expression
-  pub InitialiserFormed : Bool → Optional → Type 0
-  InitialiserFormed no_in Absent = Unit {0}
-  InitialiserFormed no_in (Present e) = (1 ≤ level e) × WellFormed no_in e
+    -- an initialiser is an assignment expression
+    pub InitialiserBy : Bool → Optional → Type 0
+    InitialiserBy no_in Absent = Unit {0}
+    InitialiserBy no_in (Present e) = (1 ≤ level e) × FormedBy no_in e
 
-  -- arguments, items and values are assignment expressions
-  pub ArgumentsFormed : Arguments → Type 0
-  ArgumentsFormed NoArgument = Unit {0}
-  ArgumentsFormed (Argument e rest) = (1 ≤ level e) × WellFormed false e × ArgumentsFormed rest
+    -- arguments, items and values are assignment expressions
+    pub ArgumentsBy : Arguments → Type 0
+    ArgumentsBy NoArgument = Unit {0}
+    ArgumentsBy (Argument e rest) = (1 ≤ level e) × FormedBy false e × ArgumentsBy rest
 
-  pub ItemsFormed : Items → Type 0
-  ItemsFormed NoItem = Unit {0}
-  ItemsFormed (Hole rest) = ItemsFormed rest
-  ItemsFormed (Item e rest) = (1 ≤ level e) × WellFormed false e × ItemsFormed rest
-  ItemsFormed (LastItem e) = (1 ≤ level e) × WellFormed false e
+    pub ItemsBy : Items → Type 0
+    ItemsBy NoItem = Unit {0}
+    ItemsBy (Hole rest) = ItemsBy rest
+    ItemsBy (Item e rest) = (1 ≤ level e) × FormedBy false e × ItemsBy rest
+    ItemsBy (LastItem e) = (1 ≤ level e) × FormedBy false e
 
-  pub PropertiesFormed : Properties → Type 0
-  PropertiesFormed NoProperty = Unit {0}
-  PropertiesFormed (Property key e rest) = (1 ≤ level e) × WellFormed false e × PropertiesFormed rest
-  PropertiesFormed (LastProperty key e) = (1 ≤ level e) × WellFormed false e
+    pub PropertiesBy : Properties → Type 0
+    PropertiesBy NoProperty = Unit {0}
+    PropertiesBy (Property key e rest) = (1 ≤ level e) × FormedBy false e × PropertiesBy rest
+    PropertiesBy (LastProperty key e) = (1 ≤ level e) × FormedBy false e
 
-  pub VariablesFormed : Bool → Variables → Type 0
-  VariablesFormed no_in NoVariable = Unit {0}
-  VariablesFormed no_in (Variable x e rest) = InitialiserFormed no_in e × VariablesFormed no_in rest
+    pub VariablesBy : Bool → Variables → Type 0
+    VariablesBy no_in NoVariable = Unit {0}
+    VariablesBy no_in (Variable x e rest) = InitialiserBy no_in e × VariablesBy no_in rest
 
-  pub InitFormed : Init → Type 0
-  InitFormed NoInit = Unit {0}
-  InitFormed (InitExpr e) = WellFormed true e
-  InitFormed (InitVar vs) = AreSome vs × VariablesFormed true vs
+    pub InitBy : Init → Type 0
+    InitBy NoInit = Unit {0}
+    InitBy (InitExpr e) = FormedBy true e
+    InitBy (InitVar vs) = AreSome vs × VariablesBy true vs
 
-  pub StmtFormed : Stmt → Type 0
-  StmtFormed (Block body) = StmtsFormed body
-  StmtFormed (Var vs end) = AreSome vs × VariablesFormed false vs
-  StmtFormed Empty = Unit {0}
-  StmtFormed (ExprStmt e end) = (starts_with_brace e ≡ false) × WellFormed false e
-  StmtFormed (If e s) = WellFormed false e × StmtFormed s
-  StmtFormed (IfElse e s u) = WellFormed false e × (is_open_if s ≡ false) × StmtFormed s × StmtFormed u
-  StmtFormed (DoWhile s e end) = StmtFormed s × WellFormed false e
-  StmtFormed (While e s) = WellFormed false e × StmtFormed s
-  StmtFormed (For init test update s) = InitFormed init × OptionalFormed test × OptionalFormed update × StmtFormed s
-  StmtFormed (ForIn t e s) = (is_target t ≡ true) × (15 ≤ level t) × WellFormed false t × WellFormed false e × StmtFormed s
-  StmtFormed (ForVarIn x e s) = WellFormed false e × StmtFormed s
-  StmtFormed (Continue label end) = Unit {0}
-  StmtFormed (Break label end) = Unit {0}
-  StmtFormed (Return e end) = OptionalFormed e
-  StmtFormed (Throw e end) = WellFormed false e
-  StmtFormed (Label x s) = StmtFormed s
-  StmtFormed (Switch e clauses) = WellFormed false e × ClausesFormed clauses
-  StmtFormed (TryCatch b x c) = StmtsFormed b × StmtsFormed c
-  StmtFormed (TryFinally b f) = StmtsFormed b × StmtsFormed f
-  StmtFormed (TryBoth b x c f) = StmtsFormed b × StmtsFormed c × StmtsFormed f
-  StmtFormed (Within e b) = WellFormed false e × StmtsFormed b
+    pub StmtBy : Stmt → Type 0
+    StmtBy (Block body) = StmtsBy body
+    StmtBy (Var vs end) = AreSome vs × VariablesBy false vs
+    StmtBy Empty = Unit {0}
+    StmtBy (ExprStmt e end) = (starts_with_brace e ≡ false) × FormedBy false e
+    StmtBy (If e s) = FormedBy false e × StmtBy s
+    StmtBy (IfElse e s u) = FormedBy false e × (is_open_if s ≡ false) × StmtBy s × StmtBy u
+    StmtBy (DoWhile s e end) = StmtBy s × FormedBy false e
+    StmtBy (While e s) = FormedBy false e × StmtBy s
+    StmtBy (For init test update s) = InitBy init × OptionalBy test × OptionalBy update × StmtBy s
+    StmtBy (ForIn t e s) = (is_target t ≡ true) × (15 ≤ level t) × FormedBy false t × FormedBy false e × StmtBy s
+    StmtBy (ForVarIn x e s) = FormedBy false e × StmtBy s
+    StmtBy (Continue label end) = Unit {0}
+    StmtBy (Break label end) = Unit {0}
+    StmtBy (Return e end) = OptionalBy e
+    StmtBy (Throw e end) = FormedBy false e
+    StmtBy (Label x s) = StmtBy s
+    StmtBy (Switch e clauses) = FormedBy false e × ClausesBy clauses
+    StmtBy (TryCatch b x c) = StmtsBy b × StmtsBy c
+    StmtBy (TryFinally b f) = StmtsBy b × StmtsBy f
+    StmtBy (TryBoth b x c f) = StmtsBy b × StmtsBy c × StmtsBy f
+    StmtBy (Within e b) = FormedBy false e × StmtsBy b
 
-  pub StmtsFormed : Stmts → Type 0
-  StmtsFormed NoStmt = Unit {0}
-  StmtsFormed (MoreStmts s rest) = StmtFormed s × StmtsFormed rest
+    pub StmtsBy : Stmts → Type 0
+    StmtsBy NoStmt = Unit {0}
+    StmtsBy (MoreStmts s rest) = StmtBy s × StmtsBy rest
 
-  pub ClausesFormed : Clauses → Type 0
-  ClausesFormed NoClause = Unit {0}
-  ClausesFormed (Case e body rest) = WellFormed false e × StmtsFormed body × ClausesFormed rest
-  ClausesFormed (Default body rest) = StmtsFormed body × ClausesFormed rest
+    pub ClausesBy : Clauses → Type 0
+    ClausesBy NoClause = Unit {0}
+    ClausesBy (Case e body rest) = FormedBy false e × StmtsBy body × ClausesBy rest
+    ClausesBy (Default body rest) = StmtsBy body × ClausesBy rest
 
-  pub ElementsFormed : Elements → Type 0
-  ElementsFormed NoElement = Unit {0}
-  ElementsFormed (Statement s rest) = StmtFormed s × ElementsFormed rest
-  ElementsFormed (FunctionDecl x formals body rest) = ElementsFormed body × ElementsJumpRight (outermost true) body × ElementsFormed rest
+    pub ElementsBy : Elements → Type 0
+    ElementsBy NoElement = Unit {0}
+    ElementsBy (Statement s rest) = StmtBy s × ElementsBy rest
+    ElementsBy (FunctionDecl x formals body rest) = ElementsBy body × Asked body × ElementsBy rest
+
+-- well-formed: the jumps of a function's body go where they may
+abbrev pub WellFormed : Bool → Expr → Type 0
+WellFormed = FormedBy (ElementsJumpRight (outermost true))
+
+abbrev pub OptionalFormed : Optional → Type 0
+OptionalFormed = OptionalBy (ElementsJumpRight (outermost true))
+
+abbrev pub InitialiserFormed : Bool → Optional → Type 0
+InitialiserFormed = InitialiserBy (ElementsJumpRight (outermost true))
+
+abbrev pub ArgumentsFormed : Arguments → Type 0
+ArgumentsFormed = ArgumentsBy (ElementsJumpRight (outermost true))
+
+abbrev pub ItemsFormed : Items → Type 0
+ItemsFormed = ItemsBy (ElementsJumpRight (outermost true))
+
+abbrev pub PropertiesFormed : Properties → Type 0
+PropertiesFormed = PropertiesBy (ElementsJumpRight (outermost true))
+
+abbrev pub VariablesFormed : Bool → Variables → Type 0
+VariablesFormed = VariablesBy (ElementsJumpRight (outermost true))
+
+abbrev pub InitFormed : Init → Type 0
+InitFormed = InitBy (ElementsJumpRight (outermost true))
+
+abbrev pub StmtFormed : Stmt → Type 0
+StmtFormed = StmtBy (ElementsJumpRight (outermost true))
+
+abbrev pub StmtsFormed : Stmts → Type 0
+StmtsFormed = StmtsBy (ElementsJumpRight (outermost true))
+
+abbrev pub ClausesFormed : Clauses → Type 0
+ClausesFormed = ClausesBy (ElementsJumpRight (outermost true))
+
+abbrev pub ElementsFormed : Elements → Type 0
+ElementsFormed = ElementsBy (ElementsJumpRight (outermost true))
+
+-- shaped: nothing is asked of where jumps go
+abbrev pub Shaped : Bool → Expr → Type 0
+Shaped = FormedBy (λ body. Unit {0})
+
+abbrev pub OptionalShaped : Optional → Type 0
+OptionalShaped = OptionalBy (λ body. Unit {0})
+
+abbrev pub InitialiserShaped : Bool → Optional → Type 0
+InitialiserShaped = InitialiserBy (λ body. Unit {0})
+
+abbrev pub ArgumentsShaped : Arguments → Type 0
+ArgumentsShaped = ArgumentsBy (λ body. Unit {0})
+
+abbrev pub ItemsShaped : Items → Type 0
+ItemsShaped = ItemsBy (λ body. Unit {0})
+
+abbrev pub PropertiesShaped : Properties → Type 0
+PropertiesShaped = PropertiesBy (λ body. Unit {0})
+
+abbrev pub VariablesShaped : Bool → Variables → Type 0
+VariablesShaped = VariablesBy (λ body. Unit {0})
+
+abbrev pub InitShaped : Init → Type 0
+InitShaped = InitBy (λ body. Unit {0})
+
+abbrev pub StmtShaped : Stmt → Type 0
+StmtShaped = StmtBy (λ body. Unit {0})
+
+abbrev pub StmtsShaped : Stmts → Type 0
+StmtsShaped = StmtsBy (λ body. Unit {0})
+
+abbrev pub ClausesShaped : Clauses → Type 0
+ClausesShaped = ClausesBy (λ body. Unit {0})
+
+abbrev pub ElementsShaped : Elements → Type 0
+ElementsShaped = ElementsBy (λ body. Unit {0})
 
 -- the elements of a well-formed program
 pub record ProgramFormed (body : Elements) : Type 0 where

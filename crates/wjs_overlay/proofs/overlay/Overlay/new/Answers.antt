@@ -1,25 +1,6 @@
-use Rattle.std.proofs.Common.{◌≡◌, sym, ap, ◌∙◌, subst, false}
-use Rattle.std.specs.FinMap as map
-use Rattle.wjs_overlay.specs.Sparse.{full_of}
-use Rattle.wjs_overlay.specs.Store.{IsStore, first_id}
-use Rattle.wjs_overlay.proofs.StoreLaws.{first_stand, first_store, first_layer}
-use Rattle.std.proofs.Common.{[], ◌∷◌, ◌++◌, cond}
-use Rattle.wjs_store.specs.Fixed.{fixed}
-use Rattle.wjs_store.proofs.Trees.{ok_of}
+use Rattle.std.proofs.Common.{ap, ◌∙◌, false}
+use Rattle.wjs_store.specs.Fixed.{fixed, begun}
 use Rattle.wjs_overlay.proofs.overlay.Overlay.new.Goals as goal
 
-pub invariant_of-result : goal.invariant_of-result
-invariant_of-result c =
-    let child = c.first.result in
-    let is : child ≡ first_layer = c.first.ensures ∙ ap (λ j. record first_layer { id = j }) c.first_world-2.ensures in
-    let la : c.push.new.self.items ≡ first_layer ∷ [] = c.push.ensures.items ∙ ap (λ b. cond b (c.new-layers.result.items ++ child ∷ []) c.new-layers.result.items) (ok_of c.push.result (sym c.if-is_err.ensures.value)) ∙ ap (λ xs. xs ++ child ∷ []) c.new-layers.ensures.items ∙ ap (λ l. l ∷ []) is in
-    let pl : c.insert.new.self ≡ map.insert map.empty first_id 0 = c.in_ok-insert.ensures.ok ∙ ap (λ m. map.insert m c.first_world.result 0) c.new-places.ensures ∙ ap (λ j. map.insert map.empty j 0) c.first_world.ensures in
-    let ow : c.insert-2.new.self ≡ map.insert map.empty 0 1 = c.in_ok-insert-2.ensures.ok ∙ ap (λ m. map.insert m 0 1) c.new-owners.ensures in
-    record { kept = λ e. subst (λ ls. IsStore ls c.insert.new.self c.insert-2.new.self) (sym la) (subst (λ m. IsStore (first_layer ∷ []) m c.insert-2.new.self) (sym pl) (subst (IsStore (first_layer ∷ []) (map.insert map.empty first_id 0)) (sym ow) first_store)) }
-
 pub returns : goal.returns
-returns c =
-    let child = c.first.result in
-    let is : child ≡ first_layer = c.first.ensures ∙ ap (λ j. record first_layer { id = j }) c.first_world-2.ensures in
-    let la : c.push.new.self.items ≡ first_layer ∷ [] = c.push.ensures.items ∙ ap (λ b. cond b (c.new-layers.result.items ++ child ∷ []) c.new-layers.result.items) (ok_of c.push.result (sym c.if-is_err.ensures.value)) ∙ ap (λ xs. xs ++ child ∷ []) c.new-layers.ensures.items ∙ ap (λ l. l ∷ []) is in
-    ap (λ ls. fixed (full_of ls) false) la ∙ ap (λ G. fixed G false) first_stand.full
+returns c = c.in_ok-starting.ensures ∙ ap (λ w. fixed (begun w) false) c.first_world.ensures

@@ -1,0 +1,10 @@
+use Rattle.wjs_arena.specs.Entries.{depth_at}
+use Rattle.wjs_props.specs.Means.{parts}
+use Rattle.wjs_props.proofs.Getting.{IsGetting}
+use Rattle.wjs_props.proofs.reads.peek.Given as goal
+
+abbrev pub invariant-up : goal.invariant-up
+invariant-up g l = IsGetting l.world l.name l.object (parts g.S.WorldStore.meaning l.heap.now) (parts g.S.WorldStore.meaning l.heap.now) l.at
+
+abbrev pub decreases-up : goal.decreases-up
+decreases-up g l = depth_at l.heap.now.arena l.at
