@@ -13,7 +13,7 @@ use Rattle.wjs_model.specs.Soundness.{Sound}
 use Rattle.wjs_moves.specs.Taking.{Turns}
 use Rattle.wjs_moves.specs.Reaching.{own_view, AdmitsOwn, Reaches, Falls, turns_now}
 use Rattle.wjs_moves.proofs.Reaching.{turn_reaches}
-use Rattle.wjs_moves.proofs.Growing.{left_alike, left_later}
+use Rattle.wjs_moves.proofs.Growing.{left_alike, later_alike}
 use Rattle.wjs_machine.specs.Flushing.{after_output, GoesOut, Flushes}
 use Rattle.wjs_machine.specs.Runs.{run_of, output_of, Advances}
 use Rattle.wjs_machine.proofs.Flushes.{output_lem, turns_lem, output_first}
@@ -67,7 +67,7 @@ module _ {S : Type 0} (meaning : S → Meaning) where
   later_run c t own n sound g same =
       (left_alike meaning t (alone own t) c sound g).rest n
       ∙ ap (λ v. rest meaning c.heap.texts (alone v t) c n) same
-      ∙ (left_later meaning c.heap.texts t (own_view meaning c) c sound (Grows-refl c.heap.texts) g sound.base.marks).rest n
+      ∙ (later_alike meaning c.heap.texts t (own_view meaning c) c sound (Grows-refl c.heap.texts) g sound.base.marks).rest n
 
 -- over a store that admits its own view while it works
 module _ {S : Type 0} (meaning : S → Meaning) (works : (s : S) → IsTrue (not (meaning s).spent) → IsSound (meaning s)) where
