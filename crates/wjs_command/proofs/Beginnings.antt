@@ -1,26 +1,31 @@
 -- A run before its first step.
-use Rattle.std.proofs.Common.{ℕ, [], ◌∷◌, Option, None, Some, ◌∙◌, sym, subst, IfSome, false, Result, Ok, Err, IfOk}
+use Rattle.std.proofs.Common.{◌≡◌, ℕ, List, [], ◌∷◌, ◌++◌, Option, None, Some, refl, ◌∙◌, sym, ap, subst, not, IsTrue, IfSome, Result, Ok, Err, IfOk}
+use Rattle.std.specs.Prelude.{map as each, is_some}
 use Rattle.std.specs.Option.{option_map}
 use Rattle.std.proofs.lemmas.List.Elements.{All-nil, All-cons, All-head}
 use Rattle.wjs_base.specs.declared.ids.OutOfMemory.{OutOfMemory}
 use Rattle.wjs_base.specs.Text.{Table, Grows}
-use Rattle.wjs_base.proofs.TextLaws.{Grows-trans}
-use Rattle.wjs_store.specs.Meaning.{Meaning}
+use Rattle.wjs_base.proofs.TextLaws.{Grows-refl, Grows-trans}
+use Rattle.wjs_store.specs.Meaning.{Meaning, PlainAct, PlainReply, IsSound}
+use Rattle.wjs_content.specs.Carried.{tell}
+use Rattle.wjs_content.specs.Plans.{Told}
+use Rattle.wjs_content.specs.Worlds.{told_in, told_by}
 use Rattle.wjs_meaning.specs.Trees.{Tree}
 use Rattle.wjs_meaning.specs.Programs.{machine}
+use Rattle.wjs_meaning.specs.Start.{properties}
 use Rattle.wjs_meaning.specs.declared.library.TheConstants.{LIBRARY}
 use Rattle.wjs_model.specs.declared.config.Config.{Config}
 use Rattle.wjs_model.specs.declared.unit.Unit.{Unit as Program}
-use Rattle.wjs_model.specs.Configurations.{seen}
+use Rattle.wjs_model.specs.Configurations.{seen, after_done, tells}
 use Rattle.wjs_model.specs.Soundness.{Sound}
 use Rattle.wjs_model.specs.Texts.{KnowsUnit, PlacesUnit}
 use Rattle.wjs_model.specs.Units.{unit_in}
 use Rattle.wjs_model.proofs.Placed.{placed_stay}
 use Rattle.wjs_moves.proofs.NodesGrow.{unit_grows}
 use Rattle.wjs_deeds.proofs.Staying.{units_stay}
+use Rattle.wjs_start.specs.First.{writes_told}
 use Rattle.wjs_start.specs.Starting.{Starts}
 use Rattle.wjs_load.specs.Loading.{IsProgramOrNot}
-use Rattle.wjs_machine.specs.Runs.{IsPlain}
 use Rattle.wjs_command.specs.Scripts.{IsLibrary}
 use Rattle.wjs_command.specs.Attempt.{Begins}
 
@@ -37,17 +42,33 @@ pub library_is : (texts t : Table) (library : Option Program) → Grows texts t 
 library_is texts t None g loads known = loads
 library_is texts t (Some u) g loads known = subst (λ (tree : Tree). IsLibrary (Some tree)) (sym (unit_grows texts t g u known)) loads
 
-module _ {S : Type 0} (meaning : S → Meaning) (plain : IsPlain meaning) where
+-- what comes behind leaves whether actions are told
+some_map : {A B : Type 0} (f : A → B) (o : Option A) → is_some (option_map f o) ≡ is_some o
+some_map f None = refl
+some_map f (Some a) = refl
+
+tells_alike : (t : Table) (before after : Option (List (PlainAct × PlainReply))) (more : List Told) → told_by t after ≡ tell more (told_by t before) → is_some before ≡ is_some after
+tells_alike t before after more e =
+    sym (some_map (each (told_in t)) before)
+    ∙ sym (some_map (λ (done : List Told). done ++ more) (told_by t before))
+    ∙ sym (ap is_some e)
+    ∙ some_map (each (told_in t)) after
+
+-- over a store that admits its own view while it works
+module _ {S : Type 0} (meaning : S → Meaning) (works : (s : S) → IsTrue (not (meaning s).spent) → IsSound (meaning s)) where
   pub begins : (texts grown : Table) (store : S) (library : Option Program) (script : Program) (steps : ℕ) (c : Config S) → Grows texts grown → IsProgramOrNot LIBRARY.now (option_map (unit_in grown) library) → IfSome library (KnowsUnit grown) → KnowsUnit texts script → Starts meaning grown (meaning store) library script steps c → Sound meaning c → Begins meaning texts script steps c
   begins texts grown store library script steps c g loads known script_known starts sound =
       let t = c.heap.texts in
       let lib = option_map (unit_in t) library in
       let later = unit_grows texts t (Grows-trans texts grown t g starts.grows) script script_known in
+      let own = (meaning c.heap.store).own in
+      let admitted = (works c.heap.store sound.base.works).admits_own in
+      let told = tells_alike t (meaning store).told (meaning c.heap.store).told (writes_told properties) (starts.told t (Grows-refl t) own admitted) in
       record {
         library = lib;
         first = library_is grown t library starts.grows loads known;
-        run = starts.machine_run (plain.silent store) (meaning c.heap.store).own (plain.admits_own c.heap.store) c.left
-            ∙ (λ i. seen false (machine lib (later i) (starts.left i)));
+        run = starts.run_is t (Grows-refl t) own admitted c.left
+            ∙ (λ i. seen (told i) (after_done (writes_told properties) (machine lib (later i) (starts.left i))));
         sound = sound;
         world = starts.world;
       }

@@ -1,14 +1,20 @@
 -- The end of a run, and what is told of it.
-use Rattle.std.proofs.Common.{◌≡◌, ℕ, ◌≤◌, List, [], ◌++◌, Option, None, Some, Result, Err, sym, ◌∙◌, ap, subst, codes}
+use Rattle.std.proofs.Common.{◌≡◌, ℕ, ◌≤◌, Bool, true, false, List, [], ◌++◌, Option, None, Some, Result, Err, refl, sym, ◌∙◌, ap, subst, codes}
 use Rattle.wjs_base.specs.declared.values.Value.{Value as NumberedValue}
 use Rattle.wjs_store.specs.Meaning.{Meaning}
 use Rattle.wjs_io.specs.Streams.{Stream, stream, Got}
+use Rattle.wjs_content.specs.Plans.{Told as Deed}
 use Rattle.wjs_content.specs.Tables.{value_in}
 use Rattle.wjs_meaning.specs.Deeds.{St}
 use Rattle.wjs_meaning.specs.Programs.{Ending, Done, Threw, StepsSpent}
+use Rattle.wjs_meaning.specs.Builtins.{first_world}
+use Rattle.wjs_meaning.specs.Start.{properties}
 use Rattle.wjs_model.specs.declared.config.Config.{Config}
+use Rattle.wjs_model.specs.Configurations.{seen, after_done, tells}
 use Rattle.wjs_model.specs.Soundness.{Sound}
-use Rattle.wjs_reports.specs.Thrown.{Shows}
+use Rattle.wjs_start.specs.First.{writes_told}
+use Rattle.wjs_reports.specs.Thrown.{ShowsIn}
+use Rattle.wjs_reports.proofs.Carried.{shows_first}
 use Rattle.wjs_machine.specs.declared.halt.Ending.{Ending as Outcome}
 use Rattle.wjs_machine.specs.declared.halt.Ending.TheVariants as outcomes
 use Rattle.wjs_machine.specs.Runs.{output_of, EndsAs, RunsTo}
@@ -23,6 +29,23 @@ use Rattle.wjs_command.specs.Runs.{told_by_run, line_of_end, status_of_end, behi
 use Rattle.wjs_command.specs.Attempt.{IsReport, Delivers, IsEndOf, MeansEnd, RunIs, HasThrown, stop_in}
 use Rattle.wjs_command.proofs.Deliveries.{prefix_longer, deliver_on}
 
+-- what is told of actions changes nothing else of a run
+seen_ending : (b : Bool) (done : List Deed) (r : Ending × St) → (seen b (after_done done r)).0 ≡ r.0
+seen_ending true done r = refl
+seen_ending false done r = refl
+
+seen_full : (b : Bool) (done : List Deed) (r : Ending × St) → ((seen b (after_done done r)).1).full ≡ (r.1).full
+seen_full true done r = refl
+seen_full false done r = refl
+
+seen_arena : (b : Bool) (done : List Deed) (r : Ending × St) → ((seen b (after_done done r)).1).arena ≡ (r.1).arena
+seen_arena true done r = refl
+seen_arena false done r = refl
+
+seen_out : (b : Bool) (done : List Deed) (r : Ending × St) → ((seen b (after_done done r)).1).out ≡ (r.1).out
+seen_out true done r = refl
+seen_out false done r = refl
+
 module _ {S : Type 0} (meaning : S → Meaning) where
   -- a run that has come to its end
   pub record HasEnded (s : Stream) (old new : Config S) (ending : Outcome) : Type 0 where
@@ -33,11 +56,14 @@ module _ {S : Type 0} (meaning : S → Meaning) where
     pub is_end : (r : Ending × St) → RunIs meaning old r → IsEndOf meaning new ending r
 
   is_end_by : (s : Stream) (old new : Config S) (ending : Outcome) (meant : Ending) → ((e : Ending) → e ≡ meant → MeansEnd new.heap.texts ending e) → EndsAs meaning s old new meant → (r : Ending × St) → RunIs meaning old r → IsEndOf meaning new ending r
-  is_end_by s old new ending meant means h r is = record {
-    ends = means r.0 (sym (ap (λ q. q.0) is) ∙ h.ends);
-    worlds_are = sym (ap (λ q. (q.1).full) is) ∙ h.worlds;
-    arena_is = sym (ap (λ q. (q.1).arena) is) ∙ h.arena;
-  }
+  is_end_by s old new ending meant means h r is =
+      let told = tells meaning old in
+      let done = writes_told properties in
+      record {
+        ends = means r.0 (sym (ap (λ q. q.0) is ∙ seen_ending told done r) ∙ h.ends);
+        worlds_are = sym (ap (λ q. (q.1).full) is ∙ seen_full told done r) ∙ h.worlds;
+        arena_is = sym (ap (λ q. (q.1).arena) is ∙ seen_arena told done r) ∙ h.arena;
+      }
 
   ended_as : (s : Stream) (old new : Config S) (ending : Outcome) (meant : Ending) → ((e : Ending) → e ≡ meant → MeansEnd new.heap.texts ending e) → HasThrown new ending → EndsAs meaning s old new meant → HasEnded s old new ending
   ended_as s old new ending meant means thrown h = record { got = h.got; sound = h.sound; world = h.world; thrown = thrown; is_end = is_end_by s old new ending meant means h }
@@ -51,7 +77,7 @@ module _ {S : Type 0} (meaning : S → Meaning) where
 
   -- the output of the run that is left
   output_is : (c : Config S) (r : Ending × St) → RunIs meaning c r → output_of meaning c ≡ (r.1).out
-  output_is c r is = ap (λ q. (q.1).out) is
+  output_is c r is = ap (λ q. (q.1).out) is ∙ seen_out (tells meaning c) (writes_told properties) r
 
   -- a run that was stopped
   pub stopped : (s : Stream) (old new : Config S) (ending : Outcome) (stop : Stop) (mode : Mode) → stop_in ending ≡ Some stop → RunsTo meaning s old new ending → (r : Ending × St) → RunIs meaning old r → Delivers (told_by_run mode r) s (Err stop)
@@ -86,8 +112,8 @@ module _ {S : Type 0} (meaning : S → Meaning) where
   pub told_spent : (c : Config S) (report : Report) → IsReport statuses.StepsSpent (line (codes "step budget spent")) report → (r : Ending × St) → IsEndOf meaning c outcomes.StepsSpent r → IsReport (status_of_end r.0) (line_of_end r.0 r.1) report
   told_spent c report h r is = by_end report StepsSpent r.0 r.1 is.ends h
 
-  pub told_thrown : (c : Config S) (v : NumberedValue) (text : List ℕ) (report : Report) → Shows meaning c v text → IsReport statuses.Threw (line (codes "uncaught " ++ text)) report → (r : Ending × St) → IsEndOf meaning c (outcomes.Threw v) r → IsReport (status_of_end r.0) (line_of_end r.0 r.1) report
-  told_thrown c v text report shows h r is =
+  pub told_thrown : (c : Config S) (v : NumberedValue) (text : List ℕ) (report : Report) → c.world ≡ first_world → ShowsIn meaning c v text → IsReport statuses.Threw (line (codes "uncaught " ++ text)) report → (r : Ending × St) → IsEndOf meaning c (outcomes.Threw v) r → IsReport (status_of_end r.0) (line_of_end r.0 r.1) report
+  told_thrown c v text report first shows h r is =
       let t = c.heap.texts in
-      let same = shows r.1 is.worlds_are is.arena_is in
+      let same = shows_first meaning c v text first shows r.1 is.worlds_are is.arena_is in
       by_end report (Threw (value_in t v)) r.0 r.1 is.ends (subst (λ x. IsReport statuses.Threw (line (codes "uncaught " ++ x)) report) same h)

@@ -1,5 +1,5 @@
 -- The parts of a run of the program: what it comes to before its line is written on err, and that line.
-use Rattle.std.specs.Prelude.{◌≡◌, ◌≢◌, ℕ, false, List, [], codes, Option, None, Some, Result, Ok, Err, ◌⊎◌}
+use Rattle.std.specs.Prelude.{◌≡◌, ◌≢◌, ℕ, List, [], codes, Option, None, Some, Result, Ok, Err, ◌⊎◌}
 use Rattle.clap.specs.Words.{fault_of}
 use Rattle.wjs_base.specs.Text.{Table}
 use Rattle.wjs_store.specs.Meaning.{Meaning, worlds}
@@ -10,13 +10,15 @@ use Rattle.wjs_meaning.specs.Builtins.{first_world}
 use Rattle.wjs_meaning.specs.Deeds.{St}
 use Rattle.wjs_meaning.specs.Trees.{Tree}
 use Rattle.wjs_meaning.specs.Programs.{Ending, Done, Threw, StepsSpent, machine}
+use Rattle.wjs_meaning.specs.Start.{properties}
 use Rattle.wjs_model.specs.declared.config.Config.{Config}
 use Rattle.wjs_model.specs.declared.unit.Unit.{Unit as Program}
-use Rattle.wjs_model.specs.Configurations.{seen}
+use Rattle.wjs_model.specs.Configurations.{seen, after_done, tells}
 use Rattle.wjs_model.specs.Soundness.{Sound, HasValue}
 use Rattle.wjs_model.specs.Units.{unit_in}
 use Rattle.wjs_load.specs.declared.tokens.LoadFault.{LoadFault}
 use Rattle.wjs_load.specs.declared.tokens.LoadFault.TheVariants as faults
+use Rattle.wjs_start.specs.First.{writes_told}
 use Rattle.wjs_machine.specs.declared.halt.Ending.{Ending as Outcome}
 use Rattle.wjs_machine.specs.declared.halt.Ending.TheVariants as outcomes
 use Rattle.wjs_machine.specs.Runs.{run_of}
@@ -93,9 +95,9 @@ module _ {S : Type 0} (meaning : S → Meaning) where
     pub worlds_are : (r.1).full ≡ worlds_in c.heap.texts (worlds (meaning c.heap.store))
     pub arena_is : (r.1).arena ≡ arena_in c.heap.texts c.heap.arena
 
-  -- what is left to do of the configuration is this run, whatever actions it tells
+  -- what is left to do of the configuration is this run; its actions, where the store tells them, come behind the writes of the first slots
   abbrev pub RunIs : Config S → Ending × St → Type 0
-  RunIs c r = run_of meaning c ≡ seen false r
+  RunIs c r = run_of meaning c ≡ seen (tells meaning c) (after_done (writes_told properties) r)
 
   -- the run of the script, behind the library, before its first step
   pub record Begins (texts : Table) (script : Program) (steps : ℕ) (c : Config S) : Type 0 where

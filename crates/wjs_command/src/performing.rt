@@ -2,7 +2,6 @@
 ghost use Rattle.std.specs.Prelude.{◌≡◌, ◌≤◌, [], codes, length};
 ghost use Rattle.wjs_io.specs.Streams.{stream};
 ghost use Rattle.wjs_start.specs.First.{IsNew};
-ghost use Rattle.wjs_machine.specs.Runs.{IsPlain};
 ghost use Rattle.wjs_command.specs.declared.status.Status.TheVariants as statuses;
 ghost use Rattle.wjs_command.specs.Table.{line};
 ghost use Rattle.wjs_command.specs.Due.{most_bytes, IsTold};
@@ -34,7 +33,7 @@ pub fn perform<O: Sink>(
     }
 }
 
-/// Does what the options ask with a script's bytes, over a new store of worlds.
+/// Does what the options ask with a script's bytes, over a new store of worlds, which may tell its actions.
 pub fn perform_in<S: WorldStore + Drop, O: Sink>(
     alloc: Global,
     store: S,
@@ -42,7 +41,6 @@ pub fn perform_in<S: WorldStore + Drop, O: Sink>(
     bytes: &[u8],
     out: &mut O,
 ) -> Result<Report, Stop>
-    requires plain { IsPlain S.meaning }
     requires new { IsNew (S.meaning store) }
     requires within { length bytes.now ≤ most_bytes }
     ensures { Comes (IsTold options bytes.now) (stream (O.held out.old) (O.held out.new) (O.faults out.old) (O.faults out.new)) result }

@@ -11,7 +11,6 @@ ghost use Rattle.wjs_model.specs.Soundness.{Sound};
 ghost use Rattle.wjs_model.specs.Texts.{KnowsUnit, PlacesUnit};
 ghost use Rattle.wjs_start.specs.First.{IsNew};
 ghost use Rattle.wjs_reports.specs.Lines.{lines_of};
-ghost use Rattle.wjs_machine.specs.Runs.{IsPlain};
 ghost use Rattle.wjs_command.specs.Runs.{told_by_run, line_of_end, status_of_end, behind_output};
 ghost use Rattle.wjs_command.specs.Attempt.{IsReport, Delivers, Comes, Writes, IsEndOf, RunIs, Begins, HasThrown, IsRunOf, stop_in};
 
@@ -39,7 +38,6 @@ pub fn run_script<S: WorldStore + Drop, O: Sink>(
     mode: Mode,
     out: &mut O,
 ) -> Result<Report, Stop>
-    requires plain { IsPlain S.meaning }
     requires new { IsNew (S.meaning store) }
     requires table { IsTable texts }
     requires script { KnowsUnit texts script }
@@ -60,7 +58,6 @@ fn begin<S: WorldStore + Drop>(
     script: Unit,
     steps: u64,
 ) -> Result<Config<S>, OutOfMemory>
-    requires plain { IsPlain S.meaning }
     requires new { IsNew (S.meaning store) }
     requires table { IsTable texts }
     requires script { KnowsUnit texts script }
@@ -79,7 +76,6 @@ fn run_whole<S: WorldStore + Drop, O: Sink>(
     mode: Mode,
     out: &mut O,
 ) -> Result<Report, Stop>
-    requires plain { IsPlain S.meaning }
     requires sound { Sound S.meaning config }
     requires first { config.world ≡ first_world }
     ensures { (r : Meant × St) → RunIs S.meaning config r → Delivers (told_by_run mode r) (stream (O.held out.old) (O.held out.new) (O.faults out.old) (O.faults out.new)) result }

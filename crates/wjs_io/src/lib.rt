@@ -4,12 +4,14 @@
 
 mod loops;
 mod memory;
+mod silent;
 mod standard;
 mod traits;
 mod writing;
 
 pub use loops::{ReadFault, Stopped, read_all, write_all_of};
 pub use memory::{MemSink, MemSource};
+pub use silent::Unheard;
 pub use standard::{StdSink, StdSource};
 pub use traits::{Failed, Sink, Source};
 pub use writing::{PIECE, write_pieces};

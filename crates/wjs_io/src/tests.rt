@@ -119,6 +119,15 @@ fn no_bytes_are_written_by_no_call(rt: HostRuntime) -> Result<(), Fail> {
     Ok(())
 }
 
+#[test]
+fn what_nobody_hears_is_taken(rt: HostRuntime) {
+    let mut sink = Unheard;
+    assert_eq!(rt; sink.write(TEXT), Ok(21));
+    assert_eq!(rt; sink.write(b""), Ok(0));
+    assert_eq!(rt; write_all_of(&mut sink, TEXT), Ok(()));
+    assert_eq!(rt; write_pieces(&mut sink, TEXT), Ok(()));
+}
+
 // A stream whose first call a signal interrupts, and whose third fails.
 #[derive(Drop)]
 struct Flaky {

@@ -1,10 +1,13 @@
 -- The end of a run.
-use Rattle.std.proofs.Common.{◌≡◌, ℕ, ◌≤◌, List, ◌++◌, Bool, true, false, Option, refl, sym, ap, ◌∙◌, subst}
+use Rattle.std.proofs.Common.{◌≡◌, ℕ, ◌≤◌, List, [], ◌++◌, Bool, true, false, Option, None, Some, refl, sym, ap, ◌∙◌, subst}
+use Rattle.std.specs.Prelude.{is_some, unwrap_or}
 use Rattle.std.proofs.lemmas.List.{append-nil}
-use Rattle.wjs_store.specs.Meaning.{Meaning}
+use Rattle.wjs_base.specs.Text.{Table}
+use Rattle.wjs_store.specs.Meaning.{Meaning, PlainAct, PlainReply}
 use Rattle.wjs_io.specs.Streams.{Stream, stream, Got, Stops}
 use Rattle.wjs_io.proofs.Written.{Appends-then}
 use Rattle.wjs_content.specs.Tables.{value_in, arena_in}
+use Rattle.wjs_content.specs.Worlds.{told_by}
 use Rattle.wjs_meaning.specs.Deeds.{St}
 use Rattle.wjs_meaning.specs.Programs.{Ending, Done, Threw, StepsSpent}
 use Rattle.wjs_model.specs.declared.config.Config.{Config}
@@ -15,7 +18,7 @@ use Rattle.wjs_model.specs.Configurations.{rest_by, seen, tells, run_in, frames_
 use Rattle.wjs_model.specs.Soundness.{HasThrown, Sound}
 use Rattle.wjs_moves.specs.Reaching.{own_view}
 use Rattle.wjs_machine.specs.Flushing.{FlushesAll}
-use Rattle.wjs_machine.specs.Runs.{IsPlain, run_of, output_of, Reaches, EndsAs, RunsTo, ending_of}
+use Rattle.wjs_machine.specs.Runs.{run_of, output_of, Reaches, EndsAs, RunsTo, ending_of}
 use Rattle.wjs_machine.specs.declared.halt.Ending.{Ending as Outcome}
 use Rattle.wjs_machine.specs.declared.halt.Ending.TheVariants as outcomes
 use Rattle.wjs_machine.proofs.Running.{out_run, pending_first, stops_longer}
@@ -38,7 +41,12 @@ seen_out : (b : Bool) (r : Ending × St) → ((seen b r).1).out ≡ (r.1).out
 seen_out true r = refl
 seen_out false r = refl
 
-module _ {S : Type 0} (meaning : S → Meaning) (plain : IsPlain meaning) where
+-- the actions of a state are those that are told
+seen_done : (t : Table) (told : Option (List (PlainAct × PlainReply))) (ending : Ending) (st : St) → st.done ≡ unwrap_or (told_by t told) [] → ((seen (is_some told) (ending, st)).1).done ≡ unwrap_or (told_by t told) []
+seen_done t None ending st h = refl
+seen_done t (Some done) ending st h = h
+
+module _ {S : Type 0} (meaning : S → Meaning) where
   -- the run of a configuration that has ended so
   ended_run : (c : Config S) (state : State) (ending : Ending) → c.state ≡ state → rest_by c.heap.texts state (run_in meaning c.heap.texts c) (frames_in meaning c.heap.texts c) (state_in meaning c.heap.texts (own_view meaning c) c) c.left ≡ (ending, state_in meaning c.heap.texts (own_view meaning c) c) → run_of meaning c ≡ seen (tells meaning c) (ending, state_in meaning c.heap.texts (own_view meaning c) c)
   ended_run c state ending e r = ap (seen (tells meaning c)) (ap (λ s. rest_by c.heap.texts s (run_in meaning c.heap.texts c) (frames_in meaning c.heap.texts c) (state_in meaning c.heap.texts (own_view meaning c) c) c.left) e ∙ r)
@@ -48,7 +56,7 @@ module _ {S : Type 0} (meaning : S → Meaning) (plain : IsPlain meaning) where
   ends s old new ending sound f r =
       let b = tells meaning new in
       let last : Ending × St = (ending, state_in meaning new.heap.texts (own_view meaning new) new) in
-      let run = out_run meaning plain old.pending.items old new f.out in
+      let run = out_run meaning old.pending.items old new f.out in
       let all : output_of meaning old ≡ old.pending.items =
       ap (λ q. (q.1).out) run
       ∙ ap (λ l. old.pending.items ++ l) (ap (λ q. (q.1).out) r ∙ seen_out b last ∙ f.none)
@@ -58,6 +66,7 @@ module _ {S : Type 0} (meaning : S → Meaning) (plain : IsPlain meaning) where
         ends = ap (λ q. q.0) run ∙ ap (λ q. q.0) r ∙ seen_ending b last;
         worlds = ap (λ q. (q.1).full) run ∙ ap (λ q. (q.1).full) r ∙ seen_full b last;
         arena = ap (λ q. (q.1).arena) run ∙ ap (λ q. (q.1).arena) r ∙ seen_arena b last ∙ beside_nothing (arena_in new.heap.texts new.heap.arena);
+        done = ap (λ q. (q.1).done) run ∙ ap (λ q. (q.1).done) r ∙ seen_done new.heap.texts (meaning new.heap.store).told ending (state_in meaning new.heap.texts (own_view meaning new) new) refl;
         world = ap (λ (c : Config S). c.world) f.out.same;
         sound = sound_out meaning old new f.out.same sound;
       }
@@ -75,7 +84,7 @@ module _ {S : Type 0} (meaning : S → Meaning) (plain : IsPlain meaning) where
   finishes s old new ended sound f = by_state s old new new.state refl (λ e. ended (sym (ap (λ (c : Config S). c.state) f.out.same) ∙ e)) sound f
 
   pub finish_stops : (s : Stream) (old : Config S) → Stops s old.pending.items → Stops s (output_of meaning old)
-  finish_stops s old h = let first = pending_first meaning plain old in stops_longer s old.pending.items (output_of meaning old) first.0 first.1 h
+  finish_stops s old h = let first = pending_first meaning old in stops_longer s old.pending.items (output_of meaning old) first.0 first.1 h
 
   -- ---- the whole run
 
@@ -85,6 +94,7 @@ module _ {S : Type 0} (meaning : S → Meaning) (plain : IsPlain meaning) where
     ends = ap (λ q. q.0) a.run ∙ e.ends;
     worlds = ap (λ q. (q.1).full) a.run ∙ e.worlds;
     arena = ap (λ q. (q.1).arena) a.run ∙ e.arena;
+    done = ap (λ q. (q.1).done) a.run ∙ e.done;
     world = e.world ∙ a.world;
     sound = e.sound;
   }

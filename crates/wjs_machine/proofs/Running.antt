@@ -1,20 +1,21 @@
 -- Turns and output one after another.
-use Rattle.std.proofs.Common.{◌≡◌, ℕ, ◌<◌, List, ◌++◌, inl, inr, sym, ap, ◌∙◌, subst, arith, append_assoc, length, length-append}
-use Rattle.wjs_store.specs.Meaning.{Meaning}
+use Rattle.std.proofs.Common.{◌≡◌, ℕ, ◌<◌, not, IsTrue, List, ◌++◌, inl, inr, sym, ap, ◌∙◌, subst, arith, append_assoc, length, length-append}
+use Rattle.wjs_base.specs.Text.{Table, Grows}
+use Rattle.wjs_base.proofs.TextLaws.{Grows-refl}
+use Rattle.wjs_store.specs.Meaning.{Meaning, View, IsSound}
 use Rattle.wjs_io.specs.Streams.{Stream, Stops}
-use Rattle.wjs_content.specs.Worlds.{KnowsWorlds}
 use Rattle.wjs_meaning.specs.Deeds.{St}
 use Rattle.wjs_meaning.specs.Programs.{Ending}
 use Rattle.wjs_model.specs.declared.config.Config.{Config}
-use Rattle.wjs_model.specs.Outside.{Outside, alone}
-use Rattle.wjs_model.specs.Configurations.{rest, turns, Turned}
+use Rattle.wjs_model.specs.Outside.{alone}
+use Rattle.wjs_model.specs.Configurations.{rest, turns}
 use Rattle.wjs_model.specs.Soundness.{Sound}
 use Rattle.wjs_moves.specs.Taking.{Turns}
-use Rattle.wjs_moves.specs.Reaching.{own_view, Falls, turns_now}
+use Rattle.wjs_moves.specs.Reaching.{own_view, AdmitsOwn, Reaches, Falls, turns_now}
 use Rattle.wjs_moves.proofs.Reaching.{turn_reaches}
-use Rattle.wjs_moves.proofs.Growing.{left_alike}
+use Rattle.wjs_moves.proofs.Growing.{left_alike, later_alike}
 use Rattle.wjs_machine.specs.Flushing.{after_output, GoesOut, Flushes}
-use Rattle.wjs_machine.specs.Runs.{IsPlain, run_of, output_of, Advances}
+use Rattle.wjs_machine.specs.Runs.{run_of, output_of, Advances}
 use Rattle.wjs_machine.proofs.Flushes.{output_lem, turns_lem, output_first}
 use Rattle.wjs_machine.proofs.Pending.{sound_out}
 
@@ -40,23 +41,8 @@ stops_longer s bytes all later e h = record {
     longer : (xs ys : List ℕ) → 0 < length xs → 0 < length (xs ++ ys)
     longer xs ys h = omega (arith, h, length-append xs ys)
 
-module _ {S : Type 0} (meaning : S → Meaning) (plain : IsPlain meaning) where
-  -- a turn leaves what was left to do
-  pub turn_run : (old new : Config S) → Sound meaning old → Turned meaning old new → (run_of meaning old ≡ run_of meaning new) × Falls meaning old new
-  turn_run old new sound turned =
-      let r = turn_reaches meaning old new sound (plain.admits_own new.heap.store) turned in
-      let t = new.heap.texts in
-      let known : (v : Outside) → v ≡ own_view meaning old → KnowsWorlds old.heap.texts ((meaning old.heap.store).full v.view) = λ v e. subst (λ (w : Outside). KnowsWorlds old.heap.texts ((meaning old.heap.store).full w.view)) (sym e) sound.base.marks in
-      let alike = left_alike meaning t (own_view meaning new) old sound r.0.stays.texts (known (own_view meaning new) (ap alone r.0.stays.own)) in (
-        ap (λ v. rest meaning old.heap.texts v old old.left) (sym (ap alone r.0.stays.own)) ∙ sym (alike.rest old.left) ∙ r.0.kept,
-        r.1,
-      )
-
-  -- and the first world
-  turn_world : (old new : Config S) → Sound meaning old → Turned meaning old new → new.world ≡ old.world
-  turn_world old new sound turned = (turn_reaches meaning old new sound (plain.admits_own new.heap.store) turned).0.stays.world
-
-  -- output that goes out leaves it too
+module _ {S : Type 0} (meaning : S → Meaning) where
+  -- output that goes out leaves what was left to do
   pub out_run : (gone : List ℕ) (old new : Config S) → GoesOut gone old new → run_of meaning old ≡ after_output gone (run_of meaning new)
   out_run gone old new h =
       output_lem meaning gone old new h old.heap.texts (own_view meaning old) old.left
@@ -72,26 +58,48 @@ module _ {S : Type 0} (meaning : S → Meaning) (plain : IsPlain meaning) where
   out_falls gone old mid new h (inr (inl less)) = inr (inl (ap (λ (c : Config S). c.left) h.same ∙ less.0, subst (λ n. n < turns_now meaning old) (sym (out_turns gone mid new h)) less.1))
   out_falls gone old mid new h (inr (inr ended)) = inr (inr (λ e. ended (sym (ap (λ (c : Config S). c.state) h.same) ∙ e)))
 
-  -- a turn, and what goes out
-  pub advanced : (s : Stream) (old mid new : Config S) → Sound meaning old → Turns meaning old mid → Flushes s mid new → Advances meaning s old new
-  advanced s old mid new sound turns f =
-      let r = turn_run old mid sound turns.turned in
-      record {
-        gone = f.gone;
-        got = f.got;
-        run = r.0 ∙ out_run f.gone mid new f.out;
-        falls = out_falls f.gone old mid new f.out r.1;
-        world = ap (λ (c : Config S). c.world) f.out.same ∙ turn_world old mid sound turns.turned;
-        sound = sound_out meaning mid new f.out.same turns.sound;
-        few = f.few;
-      }
-
   -- what is pending is a front of all the output
   pub pending_first : (c : Config S) → (later : List ℕ) × (output_of meaning c ≡ c.pending.items ++ later)
   pending_first c = output_first meaning c c.heap.texts (own_view meaning c) c.left
 
+  -- what is left to do is the same in later texts
+  later_run : (c : Config S) (t : Table) (own : View) (n : ℕ) → Sound meaning c → Grows c.heap.texts t → own ≡ (meaning c.heap.store).own → rest meaning t (alone own t) c n ≡ rest meaning c.heap.texts (own_view meaning c) c n
+  later_run c t own n sound g same =
+      (left_alike meaning t (alone own t) c sound g).rest n
+      ∙ ap (λ v. rest meaning c.heap.texts (alone v t) c n) same
+      ∙ (later_alike meaning c.heap.texts t (own_view meaning c) c sound (Grows-refl c.heap.texts) g sound.base.marks).rest n
+
+-- over a store that admits its own view while it works
+module _ {S : Type 0} (meaning : S → Meaning) (works : (s : S) → IsTrue (not (meaning s).spent) → IsSound (meaning s)) where
+  pub own_admitted : (c : Config S) → Sound meaning c → AdmitsOwn meaning c
+  own_admitted c sound = (works c.heap.store sound.base.works).admits_own
+
+  -- a turn reaches what it leaves
+  reached : (old new : Config S) → Sound meaning old → Turns meaning old new → Reaches meaning old new × Falls meaning old new
+  reached old new sound turns = turn_reaches meaning old new sound (own_admitted new turns.sound) turns.turned
+
+  -- and so leaves what was left to do
+  pub turn_run : (old new : Config S) → Sound meaning old → Turns meaning old new → run_of meaning old ≡ run_of meaning new
+  turn_run old new sound turns =
+      let r = (reached old new sound turns).0 in
+      sym (later_run meaning old new.heap.texts (meaning new.heap.store).own old.left sound r.stays.texts r.stays.own) ∙ r.kept
+
+  -- a turn, and what goes out
+  pub advanced : (s : Stream) (old mid new : Config S) → Sound meaning old → Turns meaning old mid → Flushes s mid new → Advances meaning s old new
+  advanced s old mid new sound turns f =
+      let r = reached old mid sound turns in
+      record {
+        gone = f.gone;
+        got = f.got;
+        run = turn_run old mid sound turns ∙ out_run meaning f.gone mid new f.out;
+        falls = out_falls meaning f.gone old mid new f.out r.1;
+        world = ap (λ (c : Config S). c.world) f.out.same ∙ r.0.stays.world;
+        sound = sound_out meaning mid new f.out.same turns.sound;
+        few = f.few;
+      }
+
   -- the sink failed at the output of a turn
   pub turn_stops : (s : Stream) (old mid : Config S) → Sound meaning old → Turns meaning old mid → Stops s mid.pending.items → Stops s (output_of meaning old)
   turn_stops s old mid sound turns h =
-      let first = pending_first mid in
-      stops_longer s mid.pending.items (output_of meaning old) first.0 (ap (λ r. (r.1).out) (turn_run old mid sound turns.turned).0 ∙ first.1) h
+      let first = pending_first meaning mid in
+      stops_longer s mid.pending.items (output_of meaning old) first.0 (ap (λ r. (r.1).out) (turn_run old mid sound turns) ∙ first.1) h

@@ -1,9 +1,9 @@
 -- What turns one after another come to, under the store's own view.
-use Rattle.std.specs.Prelude.{◌≡◌, ℕ, suc, ◌<◌, List, [], length, None, IsTrue}
+use Rattle.std.specs.Prelude.{◌≡◌, ℕ, suc, ◌<◌, List, [], length, unwrap_or}
 use Rattle.wjs_store.specs.Meaning.{Meaning, worlds}
 use Rattle.wjs_io.specs.Streams.{Stream, Got, GotPrefix, Stops}
 use Rattle.wjs_content.specs.Tables.{value_in, arena_in}
-use Rattle.wjs_content.specs.Worlds.{worlds_in}
+use Rattle.wjs_content.specs.Worlds.{worlds_in, told_by}
 use Rattle.wjs_meaning.specs.Deeds.{St}
 use Rattle.wjs_meaning.specs.Programs.{Ending, Done, Threw, StepsSpent}
 use Rattle.wjs_model.specs.declared.config.Config.{Config}
@@ -17,11 +17,6 @@ use Rattle.wjs_machine.specs.declared.halt.Halt.TheVariants as halts
 use Rattle.wjs_machine.specs.declared.halt.Ending.{Ending as Outcome}
 use Rattle.wjs_machine.specs.declared.halt.Ending.TheVariants as outcomes
 use Rattle.wjs_machine.specs.Flushing.{after_output}
-
--- a store of a kind that tells no actions and admits its own view
-pub record IsPlain {S : Type 0} (meaning : S → Meaning) : Type 0 where
-  pub silent : (s : S) → (meaning s).told ≡ None
-  pub admits_own : (s : S) → IsTrue ((meaning s).admits (meaning s).own)
 
 -- how a run ended that goes on no more
 abbrev pub ending_of : State → Outcome
@@ -38,7 +33,7 @@ abbrev pub weight : {S : Type 0} → Config S → ℕ
 weight c = weight_by c.state c.left
 
 module _ {S : Type 0} (meaning : S → Meaning) where
-  -- what is left to do of a configuration, with the steps that are left: its output, its ending and the final state
+  -- what is left to do of a configuration, with the steps that are left: its output, its ending and the final state, in which the actions done are those that the store tells
   abbrev pub run_of : Config S → Ending × St
   run_of c = rest meaning c.heap.texts (own_view meaning c) c c.left
 
@@ -79,12 +74,13 @@ module _ {S : Type 0} (meaning : S → Meaning) where
   HaltsAfter s old halts.SinkFailed = Stops s (output_of old)
   HaltsAfter s old halts.OutOfMemory = GotPrefix s (output_of old)
 
-  -- the run ended so, in the configuration's state, and all its output was written; its first world is the one that it had
+  -- the run ended so, in the configuration's state, and all its output was written; the actions that the store tells now, where it tells any, are those of the run; its first world is the one that it had
   pub record EndsAs (s : Stream) (old new : Config S) (ending : Ending) : Type 0 where
     pub got : Got s (output_of old)
     pub ends : (run_of old).0 ≡ ending
     pub worlds : ((run_of old).1).full ≡ worlds_in new.heap.texts (worlds (meaning new.heap.store))
     pub arena : ((run_of old).1).arena ≡ arena_in new.heap.texts new.heap.arena
+    pub done : ((run_of old).1).done ≡ unwrap_or (told_by new.heap.texts (meaning new.heap.store).told) []
     pub world : new.world ≡ old.world
     pub sound : Sound meaning new
 

@@ -9,5 +9,5 @@ mod whole;
 
 pub use halt::{Ending, Halt};
 pub use laws::{output_goes_out, output_takes_no_turn};
-pub use turn::advance;
+pub use turn::{advance, step};
 pub use whole::run;

@@ -3,7 +3,7 @@ ghost use Rattle.std.specs.Prelude.{◌≡◌, ◌≤◌, OnOk, IfErr};
 ghost use Rattle.wjs_io.specs.Streams.{stream};
 ghost use Rattle.wjs_model.specs.Soundness.{Sound};
 ghost use Rattle.wjs_moves.specs.Taking.{Turns};
-ghost use Rattle.wjs_machine.specs.Runs.{IsPlain, Advances, Halts};
+ghost use Rattle.wjs_machine.specs.Runs.{Advances, Halts};
 
 use crate::flush::flush;
 use crate::halt::Halt;
@@ -22,7 +22,6 @@ use wjs_store::WorldStore;
 /// SinkFailed comes only where the sink's count of faults rose in this call. After a halt the configuration isn't used again.
 #[inline(always)]
 pub fn advance<S: WorldStore, O: Sink>(config: &mut Config<S>, out: &mut O) -> Result<(), Halt>
-    requires plain { IsPlain S.meaning }
     requires running { config.old.state ≡ State.Running }
     requires sound { Sound S.meaning config.old }
     ensures ok { OnOk result (Advances S.meaning (stream (O.held out.old) (O.held out.new) (O.faults out.old) (O.faults out.new)) config.old config.new) }
@@ -39,9 +38,10 @@ pub fn advance<S: WorldStore, O: Sink>(config: &mut Config<S>, out: &mut O) -> R
     }
 }
 
-/// The turn of the frame that runs.
+/// Takes the turn of the frame that runs, and writes nothing: output stays pending. After want of memory the configuration isn't
+/// used again.
 #[inline(always)]
-fn step<S: WorldStore>(config: &mut Config<S>) -> Result<(), OutOfMemory>
+pub fn step<S: WorldStore>(config: &mut Config<S>) -> Result<(), OutOfMemory>
     requires running { config.old.state ≡ State.Running }
     requires sound { Sound S.meaning config.old }
     ensures { OnOk result (Turns S.meaning config.old config.new) }

@@ -2,7 +2,7 @@
 ghost use Rattle.std.specs.Prelude.{◌≡◌, ◌≤◌, true, false, OnOk, IfErr};
 ghost use Rattle.wjs_io.specs.Streams.{stream};
 ghost use Rattle.wjs_model.specs.Soundness.{Sound};
-ghost use Rattle.wjs_machine.specs.Runs.{IsPlain, RunsTo, Reaches, ReachesStep, HaltsAfter, ending_of};
+ghost use Rattle.wjs_machine.specs.Runs.{RunsTo, Reaches, ReachesStep, HaltsAfter, ending_of};
 
 use crate::flush::flush_all;
 use crate::halt::{Ending, Halt};
@@ -13,10 +13,10 @@ use wjs_store::WorldStore;
 
 /// Runs a configuration to its end, and writes its output as it comes, in pieces of at most 4,096 bytes.
 ///
-/// Done, Threw and StepsSpent come exactly where the meaning of the configuration ends so; SinkFailed only where the sink's
-/// count of faults rose in this call, with a front of the output written; OutOfMemory where memory ran out.
+/// Done, Threw and StepsSpent come exactly where the meaning of the configuration ends so, and the actions that the store then
+/// tells are those of the meaning; SinkFailed comes only where the sink's count of faults rose in this call, with a front of the
+/// output written; OutOfMemory where memory ran out.
 pub fn run<S: WorldStore, O: Sink>(config: &mut Config<S>, out: &mut O) -> Ending
-    requires plain { IsPlain S.meaning }
     requires sound { Sound S.meaning config.old }
     ensures ends { RunsTo S.meaning (stream (O.held out.old) (O.held out.new) (O.faults out.old) (O.faults out.new)) config.old config.new result }
     ensures never_falls { O.faults out.old ≤ O.faults out.new }
@@ -30,7 +30,6 @@ pub fn run<S: WorldStore, O: Sink>(config: &mut Config<S>, out: &mut O) -> Endin
 
 /// Takes turns to the end.
 fn run_turns<S: WorldStore, O: Sink>(config: &mut Config<S>, out: &mut O) -> Result<(), Halt>
-    requires plain { IsPlain S.meaning }
     requires sound { Sound S.meaning config.old }
     ensures ok { OnOk result (Reaches S.meaning (stream (O.held out.old) (O.held out.new) (O.faults out.old) (O.faults out.new)) config.old config.new) }
     ensures ended { OnOk result (¬ (config.new.state ≡ State.Running)) }
@@ -49,7 +48,6 @@ fn run_turns<S: WorldStore, O: Sink>(config: &mut Config<S>, out: &mut O) -> Res
 /// Takes turns until a step is taken, or the run has ended.
 #[inline(always)]
 fn run_to_step<S: WorldStore, O: Sink>(config: &mut Config<S>, out: &mut O) -> Result<(), Halt>
-    requires plain { IsPlain S.meaning }
     requires running { config.old.state ≡ State.Running }
     requires sound { Sound S.meaning config.old }
     ensures ok { OnOk result (ReachesStep S.meaning (stream (O.held out.old) (O.held out.new) (O.faults out.old) (O.faults out.new)) config.old config.new) }
@@ -68,7 +66,6 @@ fn run_to_step<S: WorldStore, O: Sink>(config: &mut Config<S>, out: &mut O) -> R
 
 /// Writes what is pending still, and tells how the run ended.
 fn finish<S: WorldStore, O: Sink>(config: &mut Config<S>, out: &mut O) -> Ending
-    requires plain { IsPlain S.meaning }
     requires sound { Sound S.meaning config.old }
     requires ended { ¬ (config.old.state ≡ State.Running) }
     ensures ends { RunsTo S.meaning (stream (O.held out.old) (O.held out.new) (O.faults out.old) (O.faults out.new)) config.old config.new result }

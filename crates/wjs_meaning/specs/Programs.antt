@@ -1,5 +1,7 @@
 -- What goals do, and the run of programs.
 use Rattle.std.specs.Prelude.{ℕ, zero, suc, ◌+◌, List, [], ◌∷◌, ◌++◌, Option, None, Some}
+use Rattle.wjs_base.specs.declared.ids.ObjId.{ObjId}
+use Rattle.wjs_base.specs.declared.ids.WorldId.{WorldId}
 use Rattle.wjs_content.specs.Values.{Text, Value, Object, String}
 use Rattle.wjs_meaning.specs.Trees.{Tree, tree_at}
 use Rattle.wjs_meaning.specs.Declarations.{declared_by}
@@ -41,9 +43,13 @@ pub data Ending : Type 0 where
   Threw : Value → Ending
   StepsSpent : Ending
 
--- where a program's body is run (10.2.1)
+-- where the body of program k is run: in a world and on a global object, by an owner (10.2.1)
+abbrev pub env_of_program : List Tree → ℕ → WorldId → ObjId → ℕ → Env
+env_of_program trees k world global owner = record { trees = trees; tree = k; scope = global; this = Object global; world = world; global = global; owner = owner }
+
+-- in a run from the start: in the first world and on its global object, by owner 0
 abbrev pub program_env : List Tree → ℕ → Env
-program_env trees k = record { trees = trees; tree = k; scope = global_object; this = Object global_object; world = first_world; global = global_object; owner = 0 }
+program_env trees k = env_of_program trees k first_world global_object 0
 
 -- goes on after a program that did not throw
 abbrev pub run_next : Outcome → (St → ℕ → Ending × St) → Ending × St
@@ -67,7 +73,7 @@ abbrev pub machine : Option Tree → Tree → ℕ → Ending × St
 machine None script budget = run_from 1 0 (script ∷ []) (start (declared_names (script ∷ []) 0)) budget
 machine (Some library) script budget = run_from 2 0 (library ∷ script ∷ []) (start (declared_names (library ∷ script ∷ []) 1)) budget
 
--- ---- the text of a thrown value, taken in the first world
+-- ---- the text of a thrown value
 
 -- the text that a run ends with
 abbrev pub given_text : Outcome → Text
@@ -78,6 +84,10 @@ given_text outcome = []
 abbrev pub no_goals : Next
 no_goals goal env st n = Spent st
 
--- by [[Get]] in the first world; no script code runs for it
+-- by [[Get]] in a world; no script code runs for it
+abbrev pub shown_in : WorldId → ObjId → ℕ → Value → St → Text
+shown_in world global owner v st = given_text (interp no_goals (thrown_text v (env_of_program [] 0 world global owner) (λ t. give (String t))) st 0)
+
+-- in a run from the start: by [[Get]] in the first world
 abbrev pub shown_text : Value → St → Text
-shown_text v st = given_text (interp no_goals (thrown_text v (program_env [] 0) (λ t. give (String t))) st 0)
+shown_text v st = shown_in first_world global_object 0 v st

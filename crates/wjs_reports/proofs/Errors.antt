@@ -29,8 +29,9 @@ fault_read w o name message old mid new heap marks admits first second =
     let grown : Grows old.texts t = Grows-trans old.texts mid.texts t first.texts second.texts in
     let admitted : IsTrue (new.store.admits v) = subst (λ (x : View). IsTrue (new.store.admits x)) (second.own ∙ first.own) admits in
     let before : IsTrue (mid.store.admits v) = second.narrows v admitted in
-    let one = first.carries t second.texts v before marks in
-    let two = second.carries t (Grows-refl t) v admitted (first.carries mid.texts (Grows-refl mid.texts) v before marks).knows in
+    let later = worlds_grow old.texts t grown (worlds old.store) marks in
+    let one = first.carries t t second.texts (Grows-refl t) v before later.0 in
+    let two = second.carries t t (Grows-refl t) (Grows-refl t) v admitted one.knows in
     let found : content_in t message ≡ answer_of (plan.get (arena_in t old.arena) o message_name) w (worlds_after (plan.get (arena_in t old.arena) o name_name) w (worlds_in t (worlds old.store))) = two.answers ∙ (λ i. answer_of (plan.get (arena_in t (first.arena i)) o message_name) w (one.worlds i)) in
     (λ i. fault_text (one.answers i) (found i))
-    ∙ (λ i. shown_fault ((arena_grows old.texts t grown old.arena (arena_known old heap)).1 i) ((worlds_grow old.texts t grown (worlds old.store) marks).1 i) w o)
+    ∙ (λ i. shown_fault ((arena_grows old.texts t grown old.arena (arena_known old heap)).1 i) (later.1 i) w o)

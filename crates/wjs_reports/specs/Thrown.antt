@@ -19,10 +19,14 @@ use Rattle.wjs_props.specs.Properties as plan
 use Rattle.wjs_meaning.specs.Builtins.{shown_class}
 use Rattle.wjs_meaning.specs.Deeds.{St}
 use Rattle.wjs_meaning.specs.NativesOfObjects.{fault_text}
-use Rattle.wjs_meaning.specs.Programs.{shown_text}
+use Rattle.wjs_meaning.specs.Programs.{shown_in, shown_text}
 use Rattle.wjs_model.specs.declared.config.Config.{Config}
 
--- the bytes are the text of the value by content, in each state with the configuration's worlds and objects
+-- the bytes are the text of the value by content, in the configuration's own first world and for its owner, in each state with its worlds and objects
+abbrev pub ShowsIn : {S : Type 0} → (S → Meaning) → Config S → NumberedValue → List ℕ → Type 0
+ShowsIn meaning c value bytes = let t = c.heap.texts in (st : St) → st.full ≡ worlds_in t (worlds (meaning c.heap.store)) → st.arena ≡ arena_in t c.heap.arena → bytes ≡ utf8_of (shown_in c.world c.global c.owner (value_in t value) st)
+
+-- the same in a run from the start
 abbrev pub Shows : {S : Type 0} → (S → Meaning) → Config S → NumberedValue → List ℕ → Type 0
 Shows meaning c value bytes = let t = c.heap.texts in (st : St) → st.full ≡ worlds_in t (worlds (meaning c.heap.store)) → st.arena ≡ arena_in t c.heap.arena → bytes ≡ utf8_of (shown_text (value_in t value) st)
 

@@ -14,10 +14,10 @@ ghost use Rattle.wjs_convert.specs.Conversions.{primitive_text};
 ghost use Rattle.wjs_props.specs.Heap.{IsHeap, HasContent, Performs};
 ghost use Rattle.wjs_props.specs.Means.{parts};
 ghost use Rattle.wjs_props.specs.Properties as plan;
-ghost use Rattle.wjs_meaning.specs.Builtins.{first_world, shown_class};
+ghost use Rattle.wjs_meaning.specs.Builtins.{shown_class};
 ghost use Rattle.wjs_meaning.specs.NativesOfObjects as line;
 ghost use Rattle.wjs_model.specs.Soundness.{Base, HasValue};
-ghost use Rattle.wjs_reports.specs.Thrown.{Shows, shown_fault, shown_object, text_if};
+ghost use Rattle.wjs_reports.specs.Thrown.{ShowsIn, shown_fault, shown_object, text_if};
 
 use std::alloc::Global;
 use wjs_arena::Class;
@@ -184,18 +184,17 @@ fn show_primitive(alloc: Global, texts: &mut Texts, value: Value) -> Result<Vec<
 
 /// The text of a value that a run threw, in UTF-8, where a half of a surrogate pair is U+FFFD.
 ///
-/// Of a primitive it is what `String` makes of it. Of an error whose `name` and `message` are texts in the first world it is
-/// the name, and the message behind it where that isn't empty, as `Error.prototype.toString` puts them (ECMA-262, 3rd
-/// edition, section 15.11.4.4). Of another object it is the name of its class. No code of the script runs for it. A store
-/// that is spent has no text to give, and want of memory is answered.
+/// Of a primitive it is what `String` makes of it. Of an error whose `name` and `message` are texts in the configuration's
+/// first world it is the name, and the message behind it where that isn't empty, as `Error.prototype.toString` puts them
+/// (ECMA-262, 3rd edition, section 15.11.4.4). Of another object it is the name of its class. No code of the script runs for
+/// it. A store that is spent has no text to give, and want of memory is answered.
 pub fn show_thrown<S: WorldStore>(
     config: &mut Config<S>,
     value: Value,
 ) -> Result<Vec<u8>, OutOfMemory>
     requires base { Base S.meaning config.old }
-    requires first { config.old.world ≡ first_world }
     requires value { HasValue config.old value }
-    ensures { IfOk result (λ bytes. Shows S.meaning config.old value bytes.items) }
+    ensures { IfOk result (λ bytes. ShowsIn S.meaning config.old value bytes.items) }
 {
     if config.heap.store.is_spent() {
         return Err(OutOfMemory);

@@ -1,17 +1,19 @@
 -- The first heap is what the meaning has before the first step.
-use Rattle.std.proofs.Common.{◌≡◌, ℕ, zero, suc, ◌<◌, true, false, List, [], ◌∷◌, ◌++◌, Option, None, Some, refl, sym, ap, ◌∙◌, subst, arith, IsTrue}
+use Rattle.std.proofs.Common.{◌≡◌, ℕ, zero, suc, ◌<◌, Bool, true, false, not, cond, List, [], ◌∷◌, ◌++◌, Option, None, Some, refl, sym, ap, ◌∙◌, subst, arith, IsTrue}
 use Rattle.std.specs.Prelude.{map, is_some, IfSome}
 use Rattle.std.specs.Option.{option_and_then, option_map}
 use Rattle.std.specs.FinMap as finite
 use Rattle.wjs_base.specs.declared.ids.TextId.{TextId}
+use Rattle.wjs_base.specs.declared.ids.WorldId.{WorldId}
 use Rattle.wjs_base.specs.declared.values.Slot.{Slot as NumberedSlot}
 use Rattle.wjs_base.specs.Order.{obj_cmp}
 use Rattle.wjs_base.specs.Text.{Table, Grows}
 use Rattle.wjs_base.proofs.TextLaws.{Grows-refl, Grows-trans}
-use Rattle.wjs_store.specs.State.{State, write, after, after_write, find_world, has_world}
-use Rattle.wjs_store.specs.Meaning.{Meaning, View, PlainAct, PlainReply, worlds}
+use Rattle.wjs_store.specs.State.{World, State, write, after, after_write, same_world, find_world, has_world}
+use Rattle.wjs_store.specs.Meaning.{Meaning, View, PlainAct, PlainReply, IsSound, worlds}
 use Rattle.wjs_store.specs.Fixed.{fixed, fresh}
 use Rattle.wjs_store.specs.Naming.{plain}
+use Rattle.wjs_store.proofs.Writes.{world_is}
 use Rattle.wjs_arena.specs.Entries.{Objects, Entry, has, next_number, world_of}
 use Rattle.wjs_rename.specs.Rename.{renamed}
 use Rattle.wjs_rename.proofs.Keys.{empty_entries}
@@ -30,6 +32,7 @@ use Rattle.wjs_props.specs.Means.{nothing}
 use Rattle.wjs_meaning.specs.Builtins.{builtin, first_world}
 use Rattle.wjs_meaning.specs.Start.{Property, properties, first_copy, first_objects, native_objects}
 use Rattle.wjs_meaning.specs.Table.{natives, first_native}
+use Rattle.wjs_deeds.proofs.Nearing.{has_named}
 use Rattle.wjs_start.specs.declared.blueprints.Blueprint.{Blueprint}
 use Rattle.wjs_start.specs.declared.known.Known.{Known}
 use Rattle.wjs_start.specs.declared.known.Place.{Place}
@@ -62,9 +65,12 @@ nothing_built h heap none = record {
 
 -- ---- the first world
 
--- the first world alone, with these slots
+-- the first world with these slots, alone
+abbrev first_with : finite.FinMap slot_cmp Value → World content
+first_with copy = record { id = first_world; parent = None; strict = false; copy = copy; first = finite.empty; written = finite.empty; closed = finite.empty }
+
 abbrev one : finite.FinMap slot_cmp Value → State content
-one copy = record { id = first_world; parent = None; strict = false; copy = copy; first = finite.empty; written = finite.empty; closed = finite.empty } ∷ []
+one copy = first_with copy ∷ []
 
 wrote_one : (copy : finite.FinMap slot_cmp Value) (s : Slot) (v : Value) → after (one copy) (write first_world s (Some v)) ≡ one (finite.insert copy s v)
 unfolding after_write
@@ -115,37 +121,43 @@ fixed_new m e = subst IsNew (sym e) (record { own = refl; each_view = λ v ok. r
 
 -- what has told nothing names no text
 silent_known : (texts : Table) (told : Option (List (PlainAct × PlainReply))) → IfSome told (λ done. done ≡ []) → KnowsTold texts told
-silent_known texts None h t g = refl
-silent_known texts (Some done) h t g = ap (λ (l : List (PlainAct × PlainReply)). told_by t (Some l)) h ∙ sym (ap (λ (l : List (PlainAct × PlainReply)). told_by texts (Some l)) h)
+silent_known texts None h = tt
+silent_known texts (Some done) h = subst (λ (l : List (PlainAct × PlainReply)). KnowsTold texts (Some l)) (sym h) tt
 
-pub begun : (texts : Table) (before : Meaning) (ids : List TextId) (k : Known) (bs : List Blueprint) (places : List Place) (mid new : Parts) → IsNew before → Grows texts mid.texts → mid.store ≡ before
+-- the first world alone is there
+found_one : (x : World content) (w : WorldId) (b : Bool) → same_world x.id w ≡ b → is_some (cond b (Some x) None) ≡ true → w ≡ x.id
+found_one x w true e h = sym (world_is x.id w e)
+found_one x w false e h = absurd (cc)
+
+one_there : (x : World content) (w : WorldId) → has_world (x ∷ []) w ≡ true → w ≡ x.id
+unfolding find_world
+one_there x w h = found_one x w (same_world x.id w) refl h
+
+pub begun : (texts : Table) (before : Meaning) (ids : List TextId) (k : Known) (bs : List Blueprint) (places : List Place) (mid new : Parts) → (IsTrue (not new.store.spent) → IsSound new.store) → IsNew before → Grows texts mid.texts → mid.store ≡ before
     → ((t : Table) → Grows mid.texts t → Knows t k) → ((t : Table) → Grows mid.texts t → declared_in t k ≡ map (text_in t) ids)
     → ((declared : List Text) → built_from declared 0 bs ≡ first_objects declared ++ native_objects first_native natives)
     → Building mid 64 → ((t : Table) → Knows t k → arena_in t mid.arena ≡ with_objects finite.empty (built_from (declared_in t k) 0 bs))
     → places ≡ k.places.items → Performs first_world (λ t. writes_of (map (place_in t) places)) (λ t. nothing) mid new → IsFirst texts before ids new
-begun texts before ids k bs places mid new is_new grows same knows names built building made place done = record {
+begun texts before ids k bs places mid new sound is_new grows same knows names built building made place done = record {
   heap = done.heap;
   grows = Grows-trans texts mid.texts new.texts grows done.texts;
   arena = λ t g.
       ap (arena_in t) done.arena
       ∙ made t (knows t (later t g))
       ∙ ap (with_objects finite.empty) (built (declared_in t k) ∙ ap (λ (l : List Text). first_objects l ++ native_objects first_native natives) (names t (later t g)));
-  slots = λ t g v ok.
-      (done.carries t g v ok (known v ok)).worlds
-      ∙ ap (worlds_after (writes_of (map (place_in t) places)) first_world) (begins t v ok)
-      ∙ ap (λ (ps : List Property). worlds_after (writes_of ps) first_world (one finite.empty)) (written t g)
-      ∙ slots_after properties;
+  slots = slots_so;
   told = λ t g v ok.
-      (done.carries t g v ok (known v ok)).told
+      (done.carries t t g (Grows-refl t) v ok (known t v ok)).told
       ∙ ap (λ (F : State content). tell (actions_of (writes_of (map (place_in t) places)) first_world F) (told_by t mid.store.told)) (begins t v ok)
       ∙ ap (λ (ps : List Property). tell (actions_of (writes_of ps) first_world (one finite.empty)) (told_by t mid.store.told)) (written t g)
       ∙ ap (λ (l : List Told). tell l (told_by t mid.store.told)) (told_after properties)
       ∙ ap (λ (m : Meaning). tell (writes_told properties) (told_by t m.told)) same;
-  knows = λ v ok. (done.carries new.texts (Grows-refl new.texts) v ok (known v ok)).knows;
+  knows = λ v ok. (done.carries new.texts new.texts (Grows-refl new.texts) (Grows-refl new.texts) v ok (known new.texts v ok)).knows;
   marks = done.marks (subst (KnowsWorlds mid.texts) (sym own) (fresh_known mid.texts));
   tells = done.told (subst (KnowsWorlds mid.texts) (sym own) (fresh_known mid.texts)) (subst (λ (m : Meaning). KnowsTold mid.texts m.told) (sym same) (silent_known mid.texts before.told is_new.silent));
   builtins = λ n lt. subst (λ (m : Objects). IsTrue (has m (builtin n))) (sym done.arena) (below_there mid 64 building (builtin n) refl lt);
   first = done.still_there first_world (subst (λ F. IsTrue (has_world F first_world)) (sym own) fresh_first);
+  no_other = λ w h. one_there (first_with (first_copy properties)) w (ap (λ F. has_world F w) (sym (slots_so new.texts (Grows-refl new.texts) new.store.own (sound works).admits_own)) ∙ has_named new.texts (worlds new.store) w ∙ h);
   own_worlds = λ o w e. (building.worlds o w (ap (λ (m : Objects). world_of m o) (sym done.arena) ∙ e)).1;
   shown = ap (λ (m : Objects). world_of m (builtin 13)) done.arena ∙ building.shown (omega arith);
   codes = λ o x e. building.codes o x (ap (λ (m : Objects). finite.get m o) (sym done.arena) ∙ e);
@@ -164,8 +176,8 @@ begun texts before ids k bs places mid new is_new grows same knows names built b
     full : (v : View) → IsTrue (new.store.admits v) → mid.store.full v ≡ fresh
     full v ok = ap (λ (m : Meaning). m.full v) same ∙ is_new.each_view v (admitted v ok)
 
-    known : (v : View) → IsTrue (new.store.admits v) → KnowsWorlds mid.texts (mid.store.full v)
-    known v ok = subst (KnowsWorlds mid.texts) (sym (full v ok)) (fresh_known mid.texts)
+    known : (t : Table) (v : View) → IsTrue (new.store.admits v) → KnowsWorlds t (mid.store.full v)
+    known t v ok = subst (KnowsWorlds t) (sym (full v ok)) (fresh_known t)
 
     begins : (t : Table) (v : View) → IsTrue (new.store.admits v) → worlds_in t (mid.store.full v) ≡ one finite.empty
     begins t v ok = ap (worlds_in t) (full v ok) ∙ fresh_in t
@@ -175,6 +187,16 @@ begun texts before ids k bs places mid new is_new grows same knows names built b
 
     own : worlds mid.store ≡ fresh
     own = ap worlds same ∙ is_new.own
+
+    slots_so : (t : Table) → Grows new.texts t → (v : View) → IsTrue (new.store.admits v) → worlds_in t (new.store.full v) ≡ first_full
+    slots_so t g v ok =
+        (done.carries t t g (Grows-refl t) v ok (known t v ok)).worlds
+        ∙ ap (worlds_after (writes_of (map (place_in t) places)) first_world) (begins t v ok)
+        ∙ ap (λ (ps : List Property). worlds_after (writes_of ps) first_world (one finite.empty)) (written t g)
+        ∙ slots_after properties
+
+    works : IsTrue (not new.store.spent)
+    works = ap not (done.spent ∙ ap (λ (m : Meaning). m.spent) same) ∙ is_new.works
 
 -- ---- on the way
 

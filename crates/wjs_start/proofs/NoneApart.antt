@@ -29,9 +29,6 @@ module _ (apart : List ℕ) (none : apart ≡ []) where
   pub all_near : (o : ObjId) → IsNear apart o
   all_near o = subst (λ l. IsNear l o) (sym none) refl
 
-  pub none_apart : (owner : ℕ) → IsTrue (is_apart apart owner) → ⊥
-  none_apart owner a = let h : IsTrue (is_apart [] owner) = subst (λ l. IsTrue (is_apart l owner)) none a in absurd (cc)
-
   pub objects_near : (x : Object) → NamesNear apart x
   objects_near x = subst (λ l. NamesNear l x) (sym none) (record { prototype = near_if x.prototype; scope = near_if x.scope; primitive = value_near x.primitive; fixed = fixed_near x.fixed })
 

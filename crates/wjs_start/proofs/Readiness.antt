@@ -1,20 +1,24 @@
 -- A run before its first step is sound, and is the machine's.
-use Rattle.std.proofs.Common.{◌≡◌, ℕ, ◌<◌, false, not, List, [], ◌∷◌, Option, None, Some, Vec, Global, refl, sym, ap, ◌∙◌, subst, arith, IsTrue}
+use Rattle.std.proofs.Common.{◌≡◌, ℕ, ◌<◌, Bool, not, List, [], ◌∷◌, ◌++◌, Option, None, Some, Vec, Global, refl, sym, ap, ◌∙◌, subst, arith, IsTrue}
 use Rattle.std.specs.Prelude.{All, IfSome, map, is_some, slice_get, unwrap_or}
 use Rattle.std.specs.Option.{option_map, option_and_then}
+use Rattle.std.specs.FinMap as finite
+use Rattle.std.proofs.lemmas.List.{append-nil}
 use Rattle.std.proofs.lemmas.List.Elements.{All-nil, All-cons, All-head}
 use Rattle.wjs_base.specs.declared.ids.ObjId.{ObjId}
 use Rattle.wjs_base.specs.declared.ids.TextId.{TextId}
-use Rattle.wjs_base.specs.Text.{Table, IsTable}
+use Rattle.wjs_base.specs.declared.ids.WorldId.{WorldId}
+use Rattle.wjs_base.specs.Text.{Table, IsTable, Grows}
 use Rattle.wjs_base.proofs.TextLaws.{Grows-refl}
-use Rattle.wjs_store.specs.Meaning.{Meaning, View, worlds}
+use Rattle.wjs_store.specs.Meaning.{Meaning, View, PlainAct, PlainReply, worlds}
 use Rattle.wjs_tree.specs.declared.node.NodeId.{NodeId}
 use Rattle.wjs_arena.specs.declared.object.Code.{Code}
 use Rattle.wjs_arena.specs.declared.object.Code.TheVariants as code
-use Rattle.wjs_arena.specs.Entries.{Entry, Objects}
+use Rattle.wjs_arena.specs.Entries.{Entry, Objects, world_of}
 use Rattle.wjs_content.specs.Carried.{tell}
+use Rattle.wjs_content.specs.Plans.{Told}
 use Rattle.wjs_content.specs.Tables.{text_in, arena_in}
-use Rattle.wjs_content.specs.Worlds.{told_by}
+use Rattle.wjs_content.specs.Worlds.{told_in, told_by}
 use Rattle.wjs_props.specs.declared.heap.Heap.{Heap}
 use Rattle.wjs_props.specs.Means.{parts}
 use Rattle.wjs_meaning.specs.Trees.{Tree}
@@ -29,8 +33,8 @@ use Rattle.wjs_model.specs.declared.frame.Phase.TheVariants as phases
 use Rattle.wjs_model.specs.declared.unit.Unit.{Unit as Program}
 use Rattle.wjs_model.specs.Outside.{alone}
 use Rattle.wjs_model.proofs.Beside.{beside_nothing}
-use Rattle.wjs_model.specs.Configurations.{run_in, frames_in, state_in, rest, seen}
-use Rattle.wjs_model.specs.Contents.{frame_in}
+use Rattle.wjs_model.specs.Configurations.{run_in, frames_in, state_in, rest, seen, after_done}
+use Rattle.wjs_model.specs.Contents.{Frame as Framed, Run, frame_in}
 use Rattle.wjs_model.specs.Laws.{run_of, trees_of, script_names, first_frames}
 use Rattle.wjs_model.specs.Rest.{rest_of}
 use Rattle.wjs_model.specs.Soundness.{HasObject, HasWorld, IsThere, Base, Sound}
@@ -39,10 +43,11 @@ use Rattle.wjs_model.specs.Texts.{KnowsUnit, PlacesUnit}
 use Rattle.wjs_model.specs.Units.{unit_in}
 use Rattle.wjs_model.proofs.Placed.{placed_stay}
 use Rattle.wjs_model.proofs.Starts.{start_lem}
+use Rattle.wjs_deeds.proofs.Earlier.{rest_earlier}
 use Rattle.wjs_deeds.proofs.Staying.{units_stay}
-use Rattle.wjs_start.proofs.NoneApart.{all_near, none_apart, objects_near, slots_near}
+use Rattle.wjs_start.proofs.NoneApart.{all_near, objects_near, slots_near}
 use Rattle.wjs_start.specs.Declaring.{declared_by_tree}
-use Rattle.wjs_start.specs.First.{IsFirst, is_script, writes_told}
+use Rattle.wjs_start.specs.First.{IsNew, IsFirst, is_script, writes_told}
 use Rattle.wjs_start.specs.Starting.{Starts, body_of, frame_at, frames_of, units_of}
 
 -- ---- programs and frames
@@ -76,15 +81,30 @@ some_frame : (library : Option NodeId) (script : NodeId) → frames_of library s
 some_frame None script e = cc
 some_frame (Some library) script e = cc
 
-map_none : {A B : Type 0} (f : A → B) (o : Option A) → option_map f o ≡ None → o ≡ None
-map_none f None e = refl
-map_none f (Some a) e = absurd (cc)
+some_map : {A B : Type 0} (f : A → B) (o : Option A) → is_some (option_map f o) ≡ is_some o
+some_map f None = refl
+some_map f (Some a) = refl
+
+-- ---- the actions
+
+-- what a store tells that told nothing before
+silent_told : (t : Table) (writes : List Told) (done : List (PlainAct × PlainReply)) → done ≡ [] → tell writes (told_by t (Some done)) ≡ Some writes
+silent_told t writes done e = ap (λ (l : List (PlainAct × PlainReply)). tell writes (told_by t (Some l))) e
+
+-- behind the writes of a new store stand the actions of what is left, where it tells them
+told_behind : (t : Table) (run : Run) (fs : List Framed) (writes : List Told) (st : St) (n : ℕ) (before : Option (List (PlainAct × PlainReply))) → IfSome before (λ done. done ≡ []) → (told : Option (List Told)) → told ≡ tell writes (told_by t before) → (tells : Bool) → tells ≡ is_some before
+    → seen tells (rest_of run fs (record st { done = unwrap_or told [] }) n) ≡ seen (is_some before) (after_done writes (rest_of run fs (record st { done = [] }) n))
+told_behind t run fs writes st n None silent told e tells f = λ i. seen (f i) (rest_of run fs (record st { done = unwrap_or (e i) [] }) n)
+told_behind t run fs writes st n (Some done) silent told e tells f =
+    (λ i. seen (f i) (rest_of run fs (record st { done = unwrap_or ((e ∙ silent_told t writes done silent) i) [] }) n))
+    ∙ ap (λ (l : List Told). rest_of run fs (record st { done = l }) n) (sym (append-nil writes))
+    ∙ rest_earlier writes run fs (record st { done = [] }) n
 
 -- ---- the configuration
 
 module _ {S : Type 0} (meaning : S → Meaning) (texts : Table) (before : Meaning) (library : Option Program) (script : Program) (ids : List TextId)
     (h : Heap S) (units : Vec Program Global) (frames : List Frame) (apart pending : Vec ℕ Global) (budget : ℕ)
-    (is : IsFirst texts before ids (parts meaning h)) (units_are : units.items ≡ units_of library script) (frames_there : frames ≡ frames_of (option_map body_of library) (body_of script)) (none_kept : apart.items ≡ []) (none_pending : pending.items ≡ []) (works : IsTrue (not before.spent))
+    (is : IsFirst texts before ids (parts meaning h)) (units_are : units.items ≡ units_of library script) (frames_there : frames ≡ frames_of (option_map body_of library) (body_of script)) (none_kept : apart.items ≡ []) (none_pending : pending.items ≡ []) (new : IsNew before)
     (names : (t : Table) → IsTable t → KnowsUnit t script → map (text_in t) ids ≡ declared_by_tree (unit_in t script)) (library_known : IfSome library (KnowsUnit texts)) (script_known : KnowsUnit texts script) (library_placed : IfSome library (PlacesUnit texts)) (script_placed : PlacesUnit texts script) where
   abbrev c : Config S
   c = record { heap = h; units = units; frames = frames; global = global_object; world = first_world; owner = 0; apart = apart; pending = pending; left = budget; state = states.Running }
@@ -116,24 +136,28 @@ module _ {S : Type 0} (meaning : S → Meaning) (texts : Table) (before : Meanin
   frames_so : frames_in meaning t c ≡ first_frames lib one
   frames_so = ap (map (frame_in t)) frames_there ∙ frames_are t library script
 
-  state_so : (v : View) → IsTrue ((meaning h.store).admits v) → state_in meaning t (alone v) c ≡ record (start (script_names lib one)) { done = unwrap_or (told_by t (meaning h.store).told) [] }
-  state_so v ok =
-      let full = is.slots t (Grows-refl t) v ok in
+  state_so : (u : Table) → Grows t u → (v : View) → IsTrue ((meaning h.store).admits v) → state_in meaning t (alone v u) c ≡ record (start (script_names lib one)) { done = unwrap_or (told_by u (meaning h.store).told) [] }
+  state_so u g v ok =
+      let full = is.slots u g v ok in
       let arena = beside_nothing (arena_in t h.arena) ∙ is.arena t (Grows-refl t) ∙ ap first_arena names_so in
-      λ i. record { full = full i; arena = arena i; out = none_pending i; done = unwrap_or (told_by t (meaning h.store).told) [] }
+      λ i. record { full = full i; arena = arena i; out = none_pending i; done = unwrap_or (told_by u (meaning h.store).told) [] }
 
-  module _ (quiet : before.told ≡ None) (v : View) (ok : IsTrue ((meaning h.store).admits v)) where
-    tells_nothing : (meaning h.store).told ≡ None
-    tells_nothing = map_none _ (meaning h.store).told (is.told t (Grows-refl t) v ok ∙ ap (λ o. tell (writes_told properties) (told_by t o)) quiet)
+  module _ (u : Table) (g : Grows t u) (v : View) (ok : IsTrue ((meaning h.store).admits v)) where
+    told_so : told_by u (meaning h.store).told ≡ tell (writes_told properties) (told_by u before.told)
+    told_so = is.told u g v ok
 
-    begins : state_in meaning t (alone v) c ≡ start (script_names lib one)
-    begins = state_so v ok ∙ ap (λ o. let st : St = record (start (script_names lib one)) { done = unwrap_or (told_by t o) [] } in st) tells_nothing
+    tells_so : is_some (meaning h.store).told ≡ is_some before.told
+    tells_so =
+        sym (some_map (map (told_in u)) (meaning h.store).told)
+        ∙ ap is_some told_so
+        ∙ some_map (λ (done : List Told). done ++ writes_told properties) (told_by u before.told)
+        ∙ some_map (map (told_in u)) before.told
 
-    machine_so : (n : ℕ) → rest meaning t (alone v) c n ≡ seen false (machine lib one n)
+    machine_so : (n : ℕ) → rest meaning t (alone v u) c n ≡ seen (is_some before.told) (after_done (writes_told properties) (machine lib one n))
     machine_so n =
-        ap (λ o. seen (is_some o) (rest_of (run_in meaning t c) (frames_in meaning t c) (state_in meaning t (alone v) c) n)) tells_nothing
-        ∙ (λ i. seen false (rest_of (run_so i) (frames_so i) (begins i) n))
-        ∙ ap (seen false) (start_lem lib one n)
+        (λ i. seen (is_some (meaning h.store).told) (rest_of (run_so i) (frames_so i) (state_so u g v ok i) n))
+        ∙ told_behind u (run_of (trees_of lib one)) (first_frames lib one) (writes_told properties) (start (script_names lib one)) n before.told new.silent (told_by u (meaning h.store).told) told_so (is_some (meaning h.store).told) tells_so
+        ∙ ap (λ r. seen (is_some before.told) (after_done (writes_told properties) r)) (start_lem lib one n)
 
   pub starts_so : Starts meaning texts before library script budget c
   starts_so = record {
@@ -145,8 +169,8 @@ module _ {S : Type 0} (meaning : S → Meaning) (texts : Table) (before : Meanin
     run = run_so;
     frames = frames_so;
     state = state_so;
-    told = is.told t (Grows-refl t);
-    machine_run = λ quiet v ok n. machine_so quiet v ok n;
+    told = is.told;
+    run_is = machine_so;
     grows = is.grows;
     narrows = is.narrows;
     own = is.own;
@@ -176,10 +200,20 @@ module _ {S : Type 0} (meaning : S → Meaning) (texts : Table) (before : Meanin
       All-cons (IsThere meaning c) (frame_at 1 (body_of script) phases.Waiting) (frame_at 0 (body_of first) phases.Due ∷ []) (waiting_there 1 script (program_at (Some first) 1 e))
       (All-cons (IsThere meaning c) (frame_at 0 (body_of first) phases.Due) [] (due_there 0 first (program_at (Some first) 0 e)) (All-nil (IsThere meaning c)))
 
+  stands : (o : ObjId) (e : Entry) (w : WorldId) → finite.get h.arena o ≡ Some e → e.object.world ≡ Some w → world_of h.arena o ≡ Some w
+  stands o e w q r = ap (option_and_then (λ (x : Entry). (x.object).world)) q ∙ r
+
+  -- the one object that stands for a world is object 13
+  worlds_by_owner : (o : ObjId) (w : WorldId) → world_of h.arena o ≡ Some w → w.owner ≡ o.owner
+  worlds_by_owner o w at =
+      let first = is.own_worlds o w at in
+      let same = is.heap.arena.one_object o (builtin 13) first_world (at ∙ ap Some first) is.shown in
+      ap (λ (x : WorldId). x.owner) first ∙ sym (ap (λ (x : ObjId). x.owner) same)
+
   base_so : Base meaning c
   base_so = record {
     heap = is.heap;
-    works = ap not is.spent ∙ works;
+    works = ap not is.spent ∙ new.works;
     global = builtin_there 2 (omega arith);
     world = is.first;
     builtins = λ n lt. builtin_there n (omega (arith, lt));

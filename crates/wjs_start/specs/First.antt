@@ -50,9 +50,10 @@ pub record IsFirst (texts : Table) (before : Meaning) (declared : List TextId) (
   pub knows : (v : View) → IsTrue (h.store.admits v) → KnowsWorlds h.texts (h.store.full v)
   pub marks : KnowsWorlds h.texts (worlds h.store)
   pub tells : KnowsTold h.texts h.store.told
-  -- the first objects are there, and the first world, for which alone an object stands
+  -- the first objects are there, and the first world alone, for which an object stands
   pub builtins : (n : ℕ) → n < 64 → IsTrue (has h.arena (builtin n))
   pub first : IsTrue (has_world (worlds h.store) first_world)
+  pub no_other : (w : WorldId) → IsTrue (has_world (worlds h.store) w) → w ≡ first_world
   pub own_worlds : (o : ObjId) (w : WorldId) → world_of h.arena o ≡ Some w → w ≡ first_world
   pub shown : world_of h.arena (builtin 13) ≡ Some first_world
   -- none is a script's function

@@ -1,5 +1,5 @@
 -- A run before its first step.
-use Rattle.std.specs.Prelude.{◌≡◌, ℕ, false, List, [], ◌∷◌, Option, None, Some, IsTrue, unwrap_or}
+use Rattle.std.specs.Prelude.{◌≡◌, ℕ, List, [], ◌∷◌, Option, None, Some, IsTrue, is_some, unwrap_or}
 use Rattle.std.specs.Option.{option_map}
 use Rattle.wjs_base.specs.declared.values.Value.TheVariants as values
 use Rattle.wjs_base.specs.Text.{Table, Grows}
@@ -18,7 +18,7 @@ use Rattle.wjs_model.specs.declared.frame.Phase.{Phase}
 use Rattle.wjs_model.specs.declared.frame.Phase.TheVariants as phases
 use Rattle.wjs_model.specs.declared.unit.Unit.{Unit as Program}
 use Rattle.wjs_model.specs.Outside.{alone}
-use Rattle.wjs_model.specs.Configurations.{run_in, frames_in, state_in, rest, seen}
+use Rattle.wjs_model.specs.Configurations.{run_in, frames_in, state_in, rest, seen, after_done}
 use Rattle.wjs_model.specs.Laws.{run_of, trees_of, script_names, first_frames}
 use Rattle.wjs_model.specs.Units.{unit_in}
 use Rattle.wjs_start.specs.First.{writes_told}
@@ -39,7 +39,7 @@ abbrev pub units_of : Option Program → Program → List Program
 units_of None script = script ∷ []
 units_of (Some library) script = library ∷ script ∷ []
 
--- in the configuration's own texts, and under each view that is admitted, it is the start of the machine's run of these programs
+-- in the configuration's own texts, and under each view that is admitted with any later table, it is the start of the machine's run of these programs
 pub record Starts {S : Type 0} (meaning : S → Meaning) (texts : Table) (before : Meaning) (library : Option Program) (script : Program) (budget : ℕ) (c : Config S) : Type 0 where
   pub left : c.left ≡ budget
   pub running : c.state ≡ states.Running
@@ -50,10 +50,10 @@ pub record Starts {S : Type 0} (meaning : S → Meaning) (texts : Table) (before
   pub run : let t = c.heap.texts in run_in meaning t c ≡ run_of (trees_of (option_map (unit_in t) library) (unit_in t script))
   pub frames : let t = c.heap.texts in frames_in meaning t c ≡ first_frames (option_map (unit_in t) library) (unit_in t script)
   -- the state is the meaning's; done are the writes of the first slots, where the store tells its actions
-  pub state : let t = c.heap.texts in (v : View) → IsTrue ((meaning c.heap.store).admits v) → state_in meaning t (alone v) c ≡ record (start (script_names (option_map (unit_in t) library) (unit_in t script))) { done = unwrap_or (told_by t (meaning c.heap.store).told) [] }
-  pub told : let t = c.heap.texts in (v : View) → IsTrue ((meaning c.heap.store).admits v) → told_by t (meaning c.heap.store).told ≡ tell (writes_told properties) (told_by t before.told)
-  -- over a store that tells nothing, what is left is the machine's run
-  pub machine_run : before.told ≡ None → let t = c.heap.texts in (v : View) → IsTrue ((meaning c.heap.store).admits v) → (n : ℕ) → rest meaning t (alone v) c n ≡ seen false (machine (option_map (unit_in t) library) (unit_in t script) n)
+  pub state : let t = c.heap.texts in (u : Table) → Grows t u → (v : View) → IsTrue ((meaning c.heap.store).admits v) → state_in meaning t (alone v u) c ≡ record (start (script_names (option_map (unit_in t) library) (unit_in t script))) { done = unwrap_or (told_by u (meaning c.heap.store).told) [] }
+  pub told : (u : Table) → Grows c.heap.texts u → (v : View) → IsTrue ((meaning c.heap.store).admits v) → told_by u (meaning c.heap.store).told ≡ tell (writes_told properties) (told_by u before.told)
+  -- what is left is the machine's run; its actions, where the store tells them, come behind those writes
+  pub run_is : let t = c.heap.texts in (u : Table) → Grows t u → (v : View) → IsTrue ((meaning c.heap.store).admits v) → (n : ℕ) → rest meaning t (alone v u) c n ≡ seen (is_some before.told) (after_done (writes_told properties) (machine (option_map (unit_in t) library) (unit_in t script) n))
   -- texts keep their numbers, and the store is as it was beside
   pub grows : Grows texts c.heap.texts
   pub narrows : (v : View) → IsTrue ((meaning c.heap.store).admits v) → IsTrue (before.admits v)

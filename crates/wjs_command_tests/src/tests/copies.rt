@@ -1,6 +1,5 @@
 //! The scripts over a store that keeps every copy, in place of the program's own.
 ghost use Rattle.wjs_start.specs.First.{IsNew};
-ghost use Rattle.wjs_machine.specs.Runs.{IsPlain};
 
 use super::*;
 use crate::tests::scripts::{SCRIPTS, TREES};
@@ -16,8 +15,7 @@ fn printed_over<S: WorldStore + Drop>(
     mode: Mode,
     script: &str,
 ) -> Result<Vec<u8>, Fail>
-    requires new { IsNew (S.meaning store) }
-    requires plain { IsPlain S.meaning }
+    requires { IsNew (S.meaning store) }
 {
     assert!(rt; script.len() <= 16_777_216);
     let mut out = MemSink::new(alloc, Vec::new(alloc), 4096);

@@ -9,5 +9,5 @@ start-requires-clause-script_places g c = places_later c.args.texts c.library.ne
 
 pub returns : goal.returns
 returns g c =
-    begins_if g.S.WorldStore.meaning c.requires.plain c.args.texts c.library.new.texts c.args.store c.in_ok-library.library c.args.script c.args.steps c.start.result
+    begins_if g.S.WorldStore.meaning g.met.S.WorldStore.sound c.args.texts c.library.new.texts c.args.store c.in_ok-library.library c.args.script c.args.steps c.start.result
     c.in_ok-library.ensures.grows c.in_ok-library.ensures.ok c.in_ok-library.ensures.known c.requires.script c.start.ensures.starts c.start.ensures.sound

@@ -10,7 +10,7 @@ returns-in-Ok-clause-ends g c =
     let held = g.O.Sink.held in
     let faults = g.O.Sink.faults in
     let s = stream (held c.args.out.now) (held c.flush_all.new.out) (faults c.args.out.now) (faults c.flush_all.new.out) in
-    subst (RunsTo m s c.args.config.now c.flush_all.new.config) (sym c.ending.ensures) (finishes m c.requires.plain s c.args.config.now c.flush_all.new.config c.requires.ended c.requires.sound c.in-Ok.ensures.ok)
+    subst (RunsTo m s c.args.config.now c.flush_all.new.config) (sym c.ending.ensures) (finishes m s c.args.config.now c.flush_all.new.config c.requires.ended c.requires.sound c.in-Ok.ensures.ok)
 
 pub returns-in-Err-clause-ends : goal.returns-in-Err-clause-ends
-returns-in-Err-clause-ends g c = finish_stops g.S.WorldStore.meaning c.requires.plain _ c.args.config.now c.in-Err.ensures.err
+returns-in-Err-clause-ends g c = finish_stops g.S.WorldStore.meaning _ c.args.config.now c.in-Err.ensures.err

@@ -8,4 +8,4 @@ returns-in-Ok-clause-ends g c =
     let first = c.args.out.now in
     let middle = c.run_turns.new.out in
     let after = c.finish.new.out in
-    runs g.S.WorldStore.meaning c.requires.plain (held first) (held middle) (held after) (faults first) (faults middle) (faults after) c.args.config.now c.run_turns.new.config c.finish.new.config c.finish.result c.run_turns.ensures.never_falls c.in-Ok.ensures.ok c.finish.ensures.ends
+    runs g.S.WorldStore.meaning (held first) (held middle) (held after) (faults first) (faults middle) (faults after) c.args.config.now c.run_turns.new.config c.finish.new.config c.finish.result c.run_turns.ensures.never_falls c.in-Ok.ensures.ok c.finish.ensures.ends

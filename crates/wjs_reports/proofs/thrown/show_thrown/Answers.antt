@@ -7,7 +7,7 @@ use Rattle.wjs_store.specs.Meaning.{worlds}
 use Rattle.wjs_props.proofs.Actions.{value_knows}
 use Rattle.wjs_props.proofs.Putting.{if_ok}
 use Rattle.wjs_deeds.proofs.Having.{value_here}
-use Rattle.wjs_reports.specs.Thrown.{Shows, shown_object, shown_value}
+use Rattle.wjs_reports.specs.Thrown.{ShowsIn, shown_object, shown_value}
 use Rattle.wjs_reports.proofs.Carried.{shows_value}
 use Rattle.wjs_reports.proofs.thrown.show_thrown.Goals as goal
 
@@ -23,6 +23,6 @@ returns-in-Object g c =
     let full = worlds_in t (worlds (m config.heap.store)) in
     if_ok c.show_object.result
     (λ bytes. bytes.items ≡ utf8_of (shown_object arena full config.world c.in-Object.object))
-    (λ bytes. Shows m config c.args.value bytes.items)
-    (λ bytes is. shows_value m config c.args.value bytes.items c.requires.first (is ∙ ap (λ (v : Value). utf8_of (shown_value (value_in t v) arena full config.world)) (sym c.in-Object.is)))
+    (λ bytes. ShowsIn m config c.args.value bytes.items)
+    (λ bytes is. shows_value m config c.args.value bytes.items (is ∙ ap (λ (v : Value). utf8_of (shown_value (value_in t v) arena full config.world)) (sym c.in-Object.is)))
     c.show_object.ensures

@@ -38,7 +38,7 @@ returns g c =
     let none = parts m c.new-heap.result in
     let mid = parts m c.create_all.new.heap in
     let same = made.texts ∙ c.new-heap.ensures.texts in
-    begun c.args.texts (m c.args.store) c.args.declared.now k c.in_ok-list.list.items c.as_slice-2.result.now mid (parts m c.write_all.new.heap) c.requires.new
+    begun c.args.texts (m c.args.store) c.args.declared.now k c.in_ok-list.list.items c.as_slice-2.result.now mid (parts m c.write_all.new.heap) (g.met.S.WorldStore.sound c.write_all.new.heap.store) c.requires.new
     (subst (λ (x : Table). Grows c.args.texts x) (sym same) c.in_ok-known.ensures.grows)
     (made.store ∙ ap m c.new-heap.ensures.store)
     (knows_here c.make_known.new.texts mid.texts k same c.in_ok-known.ensures.knows)

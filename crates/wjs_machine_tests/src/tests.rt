@@ -1,0 +1,41 @@
+//! A program over full copies.
+
+use super::*;
+use std::test::Fail;
+use wjs_base::Texts;
+use wjs_load::load;
+use wjs_model::State;
+use wjs_start::start;
+use wjs_store::FullStore;
+
+const SCRIPT: &[u8] = b"var x = 1, w = thisWorld.sprout(); in w { x = 2; } w.commit(); print(x);";
+
+#[test]
+fn a_program_runs_unheard(rt: HostRuntime) -> Result<(), Fail> {
+    let alloc = rt.alloc();
+    let mut texts = Texts::new(alloc)?;
+    let Ok(script) = load(alloc, SCRIPT, &mut texts) else {
+        return Err("refused")?;
+    };
+    let store = FullStore::new(alloc)?;
+    let config = run_program(alloc, texts, store, None, script, 1000)?;
+    assert!(rt; matches!(config.state, State::Done));
+    assert_eq!(rt; config.pending.len(), 0);
+    Ok(())
+}
+
+#[test]
+fn a_run_rests_between_turns(rt: HostRuntime) -> Result<(), Fail> {
+    let alloc = rt.alloc();
+    let mut texts = Texts::new(alloc)?;
+    let Ok(script) = load(alloc, SCRIPT, &mut texts) else {
+        return Err("refused")?;
+    };
+    let store = FullStore::new(alloc)?;
+    let mut config = start(alloc, texts, store, None, script, 1000)?;
+    assert!(rt; is_of_owner(&config, config.world));
+    assert!(rt; world_of_object(&config, config.global).is_none());
+    two_turns(&mut config)?;
+    assert!(rt; matches!(config.state, State::Running));
+    Ok(())
+}
