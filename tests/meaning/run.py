@@ -30,13 +30,10 @@ TOO_LONG = {'case-16a', 'case-18', 'case-19', 'case-28', 'chain-of-200-worlds', 
 COPIED = {
     'wjs_num': ['Digits'],
     'wjs_store': ['Naming', 'State'],
-    'wjs_rename': ['Rename'],
-    'wjs_content': ['Values', 'Names', 'Objects', 'Plans'],
-    'wjs_convert': ['Conversions'],
-    'wjs_props': ['Properties'],
+    'wjs_content': ['Rename', 'Values', 'Names', 'Objects', 'Plans', 'Conversions', 'Properties'],
     'wjs_meaning': None,
 }
-LIBRARIES = ['wjs_base', 'wjs_num', 'wjs_arena', 'wjs_tree', 'wjs_store', 'wjs_rename', 'wjs_content', 'wjs_convert', 'wjs_props', 'wjs_meaning']
+LIBRARIES = ['wjs_base', 'wjs_num', 'wjs_arena', 'wjs_tree', 'wjs_store', 'wjs_content', 'wjs_meaning']
 LEFT_OUT = {'Lib', 'Laws', 'Reading'}
 
 MAPS = open(os.path.join(HERE, 'Maps.antt.txt')).read()
@@ -103,7 +100,7 @@ def make_repository():
     write(os.path.join(rows, 'specs', 'Maps.antt'), MAPS)
     for crate, module, path in modules:
         text = open(path).read()
-        if (crate, module) == ('wjs_rename', 'Rename'):
+        if (crate, module) == ('wjs_content', 'Rename'):
             text = re.sub(r'-- each entry.*?\n\n', '', text, flags=re.S)
         write(os.path.join(rows, 'specs', name_of(crate, module) + '.antt'), copy_of(text, modules))
     return rows

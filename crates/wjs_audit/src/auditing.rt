@@ -12,7 +12,8 @@ use crate::log::Log;
 use crate::same::is_same;
 use std::alloc::Global;
 use wjs_base::OutOfMemory;
-use wjs_store::{FullStore, WorldStore, act};
+use wjs_full::{FullStore, act};
+use wjs_store::WorldStore;
 
 /// Does the action of an entry, and compares the answer.
 fn judge<S: WorldStore>(store: &mut S, entry: &Entry) -> Result<(), AuditFault>

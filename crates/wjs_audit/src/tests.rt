@@ -8,7 +8,8 @@ use super::*;
 use std::alloc::Global;
 use std::test::Fail;
 use wjs_base::{Content, Name, ObjId, OutOfMemory, Slot, TextId, Texts, Value, Whole, WorldId};
-use wjs_store::{Action, FullStore, Verdict, run_actions};
+use wjs_full::{FullStore, run_actions};
+use wjs_store::{Action, Verdict};
 
 const FIRST: WorldId = WorldId {
     owner: 0,

@@ -14,7 +14,7 @@ use Rattle.wjs_store.specs.Meaning.{Meaning}
 use Rattle.wjs_content.specs.Values.{Text}
 use Rattle.wjs_content.specs.Names.{slot}
 use Rattle.wjs_content.specs.Tables.{text_in, name_in, value_in}
-use Rattle.wjs_props.specs.Means.{nothing}
+use Rattle.wjs_heap.specs.Means.{nothing}
 use Rattle.wjs_meaning.specs.Reading.{node_in, number}
 use Rattle.wjs_meaning.specs.Deeds.{Env, Act, Completion, Eval, Do, Create, Write, AtStmt}
 use Rattle.wjs_meaning.specs.NewObjects.{scope_object}

@@ -10,7 +10,7 @@ use Rattle.wjs_content.specs.Values.{Value}
 use Rattle.wjs_meaning.specs.Deeds.{Env, Completion, Act, Ret, Eval, AtStmt, AtExpr, Normal, then_value}
 use Rattle.wjs_meaning.specs.Reading.{node_in, clause_in, numbers}
 use Rattle.wjs_meaning.specs.Statements.{statements_of, switch_from, switch_next, switch_cases, from_default}
-use Rattle.wjs_convert.specs.Conversions.{strictly_equal}
+use Rattle.wjs_content.specs.Conversions.{strictly_equal}
 use Rattle.std.proofs.lemmas.Option.{slice_get-get_or}
 use Rattle.wjs_model.specs.Frames.{earliest_first}
 use Rattle.wjs_model.specs.declared.frame.Form.{Form}

@@ -15,7 +15,7 @@ use Rattle.wjs_content.specs.Values.{Text, whole}
 use Rattle.wjs_content.specs.Names.{length_name, prototype_name, constructor_name}
 use Rattle.wjs_content.specs.Objects.{object_of, hidden_flags, kept_flags}
 use Rattle.wjs_content.specs.Tables.{name_in, value_in, object_in}
-use Rattle.wjs_props.specs.Heap.{HasNamed}
+use Rattle.wjs_heap.specs.Heap.{HasNamed}
 use Rattle.wjs_meaning.specs.Builtins.{object_prototype, function_prototype}
 use Rattle.wjs_meaning.specs.Functions.{prototype_object, function_object}
 use Rattle.wjs_model.specs.Apart.{IsNear, NamesNear}

@@ -8,7 +8,7 @@ use Rattle.wjs_arena.specs.declared.object.Object.{Object}
 use Rattle.wjs_arena.specs.Entries.{Objects, has}
 use Rattle.wjs_content.specs.Tables.{name_in, object_in}
 use Rattle.wjs_content.specs.Values.{Text, Object as ObjectValue}
-use Rattle.wjs_props.specs.Heap.{HasNamed}
+use Rattle.wjs_heap.specs.Heap.{HasNamed}
 use Rattle.wjs_meaning.specs.Functions.{name_scope}
 use Rattle.wjs_meaning.specs.NewObjects.{scope_object}
 use Rattle.wjs_model.specs.Apart.{IsNear, NamesNear}

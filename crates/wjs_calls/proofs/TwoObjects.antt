@@ -15,7 +15,7 @@ use Rattle.wjs_base.specs.Spelling.{IsName}
 use Rattle.wjs_base.specs.Text.{Table, Grows}
 use Rattle.wjs_base.proofs.TextLaws.{Grows-refl}
 use Rattle.wjs_store.specs.Meaning.{Meaning}
-use Rattle.wjs_rename.specs.Names.{Holds}
+use Rattle.wjs_content.specs.Renamed.{Holds}
 use Rattle.wjs_arena.specs.declared.object.Code.TheVariants as code
 use Rattle.wjs_arena.specs.declared.object.Object.{Object}
 use Rattle.wjs_arena.specs.Entries.{Objects, Entry, IsArena, IsThere, Keeps, has, created as numbered_created, next_number as number_of_next, entry_over, scope_of}
@@ -23,8 +23,8 @@ use Rattle.wjs_arena.proofs.Owners.{key_itself}
 use Rattle.wjs_content.specs.Objects.{Internals, created, next_number}
 use Rattle.wjs_content.specs.Tables.{arena_in, object_in}
 use Rattle.wjs_content.proofs.ArenaMaps.{number_same, created_same}
-use Rattle.wjs_props.specs.Heap.{HasNamed, HasValue, IsHeap}
-use Rattle.wjs_props.specs.Means.{parts}
+use Rattle.wjs_heap.specs.Heap.{HasNamed, HasValue, IsHeap}
+use Rattle.wjs_heap.specs.Means.{parts}
 use Rattle.wjs_meaning.specs.Deeds.{St, Do, Create, interp}
 use Rattle.wjs_meaning.specs.Programs.{eval}
 use Rattle.wjs_model.specs.declared.config.Config.{Config}

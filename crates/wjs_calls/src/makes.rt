@@ -3,8 +3,8 @@ ghost use Rattle.std.specs.Prelude.{◌≡◌, ◌∷◌, [], IfOk, OnOk, None, 
 ghost use Rattle.wjs_base.specs.Text.{Table, Grows};
 ghost use Rattle.wjs_content.specs.Names.{length_name, prototype_name};
 ghost use Rattle.wjs_content.specs.Tables.{name_in, object_in};
-ghost use Rattle.wjs_props.specs.Heap.{HasNamed};
-ghost use Rattle.wjs_props.specs.Means.{nothing};
+ghost use Rattle.wjs_heap.specs.Heap.{HasNamed};
+ghost use Rattle.wjs_heap.specs.Means.{nothing};
 ghost use Rattle.wjs_meaning.specs.Builtins.{function_prototype};
 ghost use Rattle.wjs_meaning.specs.Deeds.{Do, Create, node_here};
 ghost use Rattle.wjs_meaning.specs.Trees.{formals_of};

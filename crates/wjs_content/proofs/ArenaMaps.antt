@@ -10,8 +10,8 @@ use Rattle.std.proofs.lemmas.List.{length-map}
 use Rattle.wjs_base.specs.declared.ids.ObjId.{ObjId}
 use Rattle.wjs_base.specs.Order.{obj_cmp, obj_total, obj_exact}
 use Rattle.wjs_base.specs.Text.{Table}
-use Rattle.wjs_rename.specs.Rename.{renamed}
-use Rattle.wjs_rename.proofs.Maps.{get_renamed, renamed_insert}
+use Rattle.wjs_content.specs.Rename.{renamed}
+use Rattle.wjs_content.proofs.Maps.{get_renamed, renamed_insert}
 use Rattle.wjs_arena.specs.declared.object.Object.{Object as NumberedObject}
 use Rattle.wjs_arena.specs.Entries as numbered
 use Rattle.wjs_arena.specs.Entries.{Entry as NumberedEntry, Objects}

@@ -11,8 +11,8 @@ use Rattle.wjs_base.specs.Text.{Table}
 use Rattle.wjs_store.specs.Meaning.{Meaning, View, PlainAct, PlainReply, Does}
 use Rattle.wjs_store.specs.Shown.{content_of, slots_of}
 use Rattle.wjs_store.specs.State.{read, write, list, found, wrote, listed, answer_to, after}
-use Rattle.wjs_rename.specs.Names.{KnowsContent}
-use Rattle.wjs_rename.proofs.Store.{does_named}
+use Rattle.wjs_content.specs.Renamed.{KnowsContent}
+use Rattle.wjs_content.proofs.Store.{does_named}
 use Rattle.wjs_content.specs.Values.{Text, Value}
 use Rattle.wjs_content.specs.Plans.{Plan, Gives, Reads, Writes, Lists, Told, Heard, Found, Listed, heard, told_of, answer_of, worlds_after, actions_of, then_plan}
 use Rattle.wjs_content.specs.Tables.{slot_in, content_in, knows_slot}

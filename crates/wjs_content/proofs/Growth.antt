@@ -13,8 +13,8 @@ use Rattle.wjs_base.specs.declared.values.Slot.{Slot as NumberedSlot}
 use Rattle.wjs_base.specs.Text.{Table, Has, Grows, Units}
 use Rattle.wjs_base.proofs.TextLaws.{Has-Denotes, Grows-Has, Grows-Denotes}
 use Rattle.wjs_store.specs.Meaning.{Worlds}
-use Rattle.wjs_rename.specs.Names as rename
-use Rattle.wjs_rename.proofs.Grow.{known_grows, named_grows}
+use Rattle.wjs_content.specs.Renamed as rename
+use Rattle.wjs_content.proofs.Grow.{known_grows, named_grows}
 use Rattle.wjs_content.specs.Values.{Text, String, same_text}
 use Rattle.wjs_content.specs.Names.{slot, index_of}
 use Rattle.wjs_content.specs.Tables.{text_in, name_in, value_in, slot_in, knows_text, knows_name, knows_value, knows_slot}

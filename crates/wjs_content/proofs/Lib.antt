@@ -1,3 +1,17 @@
+pub mod Renaming
+pub mod Maps
+pub mod Keys
+pub mod Steps
+pub mod Swaps
+pub mod Actions
+pub mod Whole
+pub mod Padded
+pub mod RenamedKnown
+pub mod Grow
+pub mod Reach
+pub mod Sorted
+pub mod Found
+pub mod Store
 pub mod Known
 pub mod Growth
 pub mod Listings

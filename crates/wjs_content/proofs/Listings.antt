@@ -7,9 +7,9 @@ use Rattle.wjs_base.specs.Text.{Table}
 use Rattle.wjs_store.specs.Meaning.{Worlds, PlainAct}
 use Rattle.wjs_store.specs.State.{read, write, list, sprout, commit, slots_at, answer_to}
 use Rattle.wjs_store.proofs.Ascending.{firsts, untagged, find_tag}
-use Rattle.wjs_rename.specs.Ascends.{tagged, Ascends}
-use Rattle.wjs_rename.proofs.Known.{named_answer}
-use Rattle.wjs_rename.proofs.Sorted.{slots_ascend}
+use Rattle.wjs_content.specs.Ascends.{tagged, Ascends}
+use Rattle.wjs_content.proofs.RenamedKnown.{named_answer}
+use Rattle.wjs_content.proofs.Sorted.{slots_ascend}
 use Rattle.wjs_content.specs.Names.{Slot, slot_cmp, slot_total, slot_exact}
 use Rattle.wjs_content.specs.Plans.{Found, Listed, Sprouted, Committed, heard}
 use Rattle.wjs_content.specs.Tables.{slot_in}

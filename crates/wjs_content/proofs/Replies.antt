@@ -5,9 +5,9 @@ use Rattle.wjs_base.specs.declared.values.Slot.{Slot as NumberedSlot}
 use Rattle.wjs_base.specs.Text.{Table, Grows}
 use Rattle.wjs_store.specs.Meaning.{Worlds, PlainAct, PlainReply}
 use Rattle.wjs_store.specs.State.{Verdict, moved, differs, no_parent, read, write, list, sprout, commit, found, wrote, listed, sprouted, committed, verdict_at, answer_to}
-use Rattle.wjs_rename.specs.Names.{Holds}
-use Rattle.wjs_rename.proofs.Found.{known_content, known_slots, known_verdict}
-use Rattle.wjs_rename.proofs.Grow.{content_grows}
+use Rattle.wjs_content.specs.Renamed.{Holds}
+use Rattle.wjs_content.proofs.Found.{known_content, known_slots, known_verdict}
+use Rattle.wjs_content.proofs.Grow.{content_grows}
 use Rattle.wjs_content.specs.Names.{Slot}
 use Rattle.wjs_content.specs.Plans.{Found, Listed}
 use Rattle.wjs_content.specs.Tables.{slot_in, knows_slot}

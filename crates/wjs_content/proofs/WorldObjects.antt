@@ -11,8 +11,8 @@ use Rattle.wjs_base.specs.declared.ids.WorldId.{WorldId}
 use Rattle.wjs_base.specs.Order.{obj_cmp, obj_total, obj_exact}
 use Rattle.wjs_base.specs.Text.{Table}
 use Rattle.wjs_store.specs.State.{same_world}
-use Rattle.wjs_rename.specs.Names.{Holds}
-use Rattle.wjs_rename.proofs.Known.{entries_hold}
+use Rattle.wjs_content.specs.Renamed.{Holds}
+use Rattle.wjs_content.proofs.RenamedKnown.{entries_hold}
 use Rattle.wjs_arena.specs.Entries as numbered
 use Rattle.wjs_arena.specs.Entries.{Entry as NumberedEntry, Objects}
 use Rattle.wjs_content.specs.Objects.{Entry, Arena, has_that_world, world_object_in, world_object}

@@ -12,7 +12,7 @@ use Rattle.wjs_base.specs.Text.{Table, Grows, Has, IsTable}
 use Rattle.wjs_store.specs.Meaning.{Meaning, View, Worlds, Does}
 use Rattle.wjs_store.specs.Shown.{content_of, slots_of}
 use Rattle.wjs_store.specs.State.{State, read, write, list, found, wrote, listed}
-use Rattle.wjs_rename.specs.Names.{KnowsContent}
+use Rattle.wjs_content.specs.Renamed.{KnowsContent}
 use Rattle.wjs_content.specs.Values.{Text}
 use Rattle.wjs_content.specs.Names.{content, index_of, index_name}
 use Rattle.wjs_content.specs.Plans.{Plan, Gives, Reads, Writes, Lists, answer_of, worlds_after, actions_of, then_plan}

@@ -1,3 +1,8 @@
+pub mod Rename
+pub mod Renamed
+pub mod Does
+pub mod Ascends
+pub mod RenameLaws
 pub mod Values
 pub mod Names
 pub mod Plans
@@ -9,3 +14,5 @@ pub mod Worlds
 pub mod Carried
 pub mod Laws
 pub mod ArenaLaws
+pub mod Properties
+pub mod Conversions

@@ -3,7 +3,7 @@ use Rattle.std.specs.Prelude.{List, [], ◌∷◌, map as each, Option}
 use Rattle.wjs_base.specs.declared.ids.ObjId.{ObjId}
 use Rattle.wjs_base.specs.declared.ids.WorldId.{WorldId}
 use Rattle.wjs_store.specs.State.{State, Act, Reply, Verdict, read, write, list, found, wrote, listed, sprouted, committed, content_at, slots_at, answer_to, after}
-use Rattle.wjs_rename.specs.Rename.{shape}
+use Rattle.wjs_content.specs.Rename.{shape}
 use Rattle.wjs_content.specs.Values.{Text, Value}
 use Rattle.wjs_content.specs.Names.{Slot, content}
 

@@ -15,8 +15,8 @@ use Rattle.wjs_base.specs.declared.values.Content.TheVariants.{Absent, Present}
 use Rattle.wjs_base.specs.Spelling.{greatest_index, units_of}
 use Rattle.wjs_base.specs.Text.{Table}
 use Rattle.wjs_store.specs.Shown.{content_of}
-use Rattle.wjs_rename.specs.Names.{Holds}
-use Rattle.wjs_rename.specs.Rename.{renamed}
+use Rattle.wjs_content.specs.Renamed.{Holds}
+use Rattle.wjs_content.specs.Rename.{renamed}
 use Rattle.wjs_arena.specs.declared.object.Object.{Object as NumberedObject}
 use Rattle.wjs_arena.specs.Entries.{Entry as NumberedEntry, Objects}
 use Rattle.wjs_content.specs.Values.{Text, Value, Undefined, Null, Boolean, Number, String, Object, same_text}

@@ -18,7 +18,7 @@ use Rattle.wjs_base.specs.Same.{whole_same}
 use Rattle.wjs_base.specs.Spelling.{greatest_index}
 use Rattle.wjs_base.specs.Text.{Table}
 use Rattle.wjs_store.specs.Naming.{plain}
-use Rattle.wjs_rename.specs.Names.{Names}
+use Rattle.wjs_content.specs.Renamed.{Names}
 use Rattle.wjs_content.specs.Values.{same_text, text_Decides}
 use Rattle.wjs_content.specs.Names.{content, index_of, index_name}
 use Rattle.wjs_content.specs.Indices.{index_again}

@@ -9,9 +9,9 @@ use Rattle.wjs_base.specs.Text.{Table}
 use Rattle.wjs_store.specs.Meaning.{Worlds, PlainAct, PlainReply}
 use Rattle.wjs_store.specs.Shown.{slots_of}
 use Rattle.wjs_store.specs.State.{State, Act, Verdict, moved, differs, no_parent, found, wrote, listed, sprouted, committed}
-use Rattle.wjs_rename.specs.Ascends.{tagged}
-use Rattle.wjs_rename.specs.Names.{Holds, Known, KnownAct, KnowsContent, named_state, named_act}
-use Rattle.wjs_rename.specs.Rename.{shape}
+use Rattle.wjs_content.specs.Ascends.{tagged}
+use Rattle.wjs_content.specs.Renamed.{Holds, Known, KnownAct, KnowsContent, named_state, named_act}
+use Rattle.wjs_content.specs.Rename.{shape}
 use Rattle.wjs_content.specs.Values.{Text, Value}
 use Rattle.wjs_content.specs.Names.{Slot, slot_cmp, content}
 use Rattle.wjs_content.specs.Plans.{Heard, Found, Wrote, Listed, Sprouted, Committed, Told}

@@ -9,7 +9,7 @@ use Rattle.wjs_content.specs.Values.{Value, Number, same_value}
 use Rattle.wjs_store.specs.State.{same_content}
 use Rattle.wjs_content.specs.Tables.{value_in, content_in, knows_value, knows_content}
 use Rattle.wjs_content.proofs.Same.{same_values}
-use Rattle.wjs_convert.specs.Conversions.{is_nan, strictly_equal}
+use Rattle.wjs_content.specs.Conversions.{is_nan, strictly_equal}
 
 strict_is : (x y : Value) → (not (is_nan x) && same_value x y) ≡ strictly_equal x y
 strict_is (Number None) (Number None) = refl

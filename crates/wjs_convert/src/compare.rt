@@ -4,7 +4,7 @@ ghost use Rattle.wjs_base.specs.Text.{Table};
 ghost use Rattle.wjs_store.specs.State.{same_content};
 ghost use Rattle.wjs_content.specs.Values.{same_value};
 ghost use Rattle.wjs_content.specs.Tables.{content_in, value_in, knows_content, knows_value};
-ghost use Rattle.wjs_convert.specs.Conversions.{alike, equal, is_nan, is_nullish, less_than, loosely_equal, strictly_equal};
+ghost use Rattle.wjs_content.specs.Conversions.{alike, equal, is_nan, is_nullish, less_than, loosely_equal, strictly_equal};
 
 use crate::convert::to_number;
 use std::cmp::Ordering;

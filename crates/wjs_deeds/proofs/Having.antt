@@ -11,11 +11,11 @@ use Rattle.wjs_base.specs.Spelling.{IsName}
 use Rattle.wjs_base.specs.Text.{Table}
 use Rattle.wjs_store.specs.Shown.{content_of}
 use Rattle.wjs_arena.specs.Entries.{IsThere, has}
-use Rattle.wjs_rename.specs.Names.{Holds}
+use Rattle.wjs_content.specs.Renamed.{Holds}
 use Rattle.wjs_content.specs.Tables.{content_in}
 use Rattle.wjs_content.specs.Names.{Slot as Said}
 use Rattle.wjs_props.specs.declared.visits.Visit.{Visit}
-use Rattle.wjs_props.specs.Heap.{HasValue as HasValueIn, HasContent as HasContentIn}
+use Rattle.wjs_heap.specs.Heap.{HasValue as HasValueIn, HasContent as HasContentIn}
 use Rattle.wjs_props.specs.Visits.{visits_in, HasVisit as HasVisitIn}
 use Rattle.wjs_model.specs.declared.config.Config.{Config}
 use Rattle.wjs_model.specs.Apart.{is_apart, IsNear, NearValue, NearIf}

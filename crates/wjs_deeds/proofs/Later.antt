@@ -21,12 +21,12 @@ use Rattle.wjs_content.specs.Values.{Value}
 use Rattle.wjs_content.specs.Plans.{Plan, Heard}
 use Rattle.wjs_content.specs.Worlds.{KnowsWorlds}
 use Rattle.wjs_content.proofs.Growth.{worlds_grow}
-use Rattle.wjs_props.specs.declared.heap.Heap.{Heap}
-use Rattle.wjs_props.specs.Acts.{Acts, Creates}
-use Rattle.wjs_props.specs.Heap.{Performs, KnowsTold}
-use Rattle.wjs_props.specs.Means.{parts}
-use Rattle.wjs_props.proofs.Growing.{heap_grows}
-use Rattle.wjs_props.proofs.Told.{told_stays}
+use Rattle.wjs_heap.specs.declared.heap.Heap.{Heap}
+use Rattle.wjs_heap.specs.Acts.{Acts, Creates}
+use Rattle.wjs_heap.specs.Heap.{Performs, KnowsTold}
+use Rattle.wjs_heap.specs.Means.{parts}
+use Rattle.wjs_heap.proofs.Growing.{heap_grows}
+use Rattle.wjs_heap.proofs.Told.{told_stays}
 use Rattle.wjs_model.specs.declared.config.Config.{Config}
 use Rattle.wjs_model.specs.Soundness.{HasObject, HasWorld, IsThere, Base}
 use Rattle.wjs_model.specs.Apart.{is_apart, IsNear, NearSlots, NamesNear}

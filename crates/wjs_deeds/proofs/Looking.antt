@@ -16,7 +16,7 @@ use Rattle.wjs_arena.specs.AtName.{same_name, at_name}
 use Rattle.wjs_arena.specs.Chains.{chain_from, fixed}
 use Rattle.wjs_arena.proofs.Walks.{there_next, less_deep, enough, chain_step, chain_none}
 use Rattle.wjs_store.specs.Meaning.{Meaning}
-use Rattle.wjs_rename.specs.Names.{Holds}
+use Rattle.wjs_content.specs.Renamed.{Holds}
 use Rattle.wjs_content.specs.Objects.{Arena, Entry as Placed, object_of, object_at, scope_up, function_of, world_object, is_past, is_among, chain_of}
 use Rattle.wjs_content.specs.Values.{same_object}
 use Rattle.wjs_content.specs.Tables.{value_in, object_in, entry_in, arena_in}
@@ -25,7 +25,7 @@ use Rattle.wjs_content.proofs.WorldObjects.{world_object_there, world_object_non
 use Rattle.wjs_store.specs.Meaning.{Meaning}
 use Rattle.wjs_model.specs.Outside.{Finds}
 use Rattle.wjs_deeds.proofs.Seeing.{object_found_as}
-use Rattle.wjs_props.specs.Heap.{Parts, HasNamed, IsHeap}
+use Rattle.wjs_heap.specs.Heap.{Parts, HasNamed, IsHeap}
 use Rattle.wjs_model.specs.declared.config.Config.{Config}
 use Rattle.wjs_model.specs.Apart.{is_apart, NearValue, NamesNear}
 use Rattle.wjs_model.specs.Soundness.{HasObject, HasWorld, Base}

@@ -14,7 +14,7 @@ use Rattle.wjs_store.specs.Meaning.{Meaning}
 use Rattle.wjs_arena.specs.declared.class.Class.{Class}
 use Rattle.wjs_arena.specs.declared.class.Class.TheVariants as class
 use Rattle.wjs_arena.specs.declared.object.Flags.{Flags}
-use Rattle.wjs_rename.specs.Names.{Holds}
+use Rattle.wjs_content.specs.Renamed.{Holds}
 use Rattle.wjs_arena.specs.declared.object.Code.{Code}
 use Rattle.wjs_arena.specs.declared.object.Code.TheVariants as code
 use Rattle.wjs_arena.specs.declared.object.Object.{Object}
@@ -23,7 +23,7 @@ use Rattle.wjs_content.specs.Objects.{Internals, object_of, hidden_kept_flags}
 use Rattle.wjs_content.specs.Names.{length_name, message_name}
 use Rattle.wjs_content.specs.Tables.{text_in, name_in, value_in, under_in, object_in}
 use Rattle.wjs_content.specs.Values.{Text, Value, String, whole}
-use Rattle.wjs_props.specs.Heap.{HasNamed, HasValue}
+use Rattle.wjs_heap.specs.Heap.{HasNamed, HasValue}
 use Rattle.wjs_meaning.specs.declared.trouble.Trouble.{Trouble}
 use Rattle.wjs_meaning.specs.declared.trouble.Trouble.TheVariants as troubles
 use Rattle.wjs_meaning.specs.Builtins.{array_prototype, string_prototype, world_prototype, wrapper_of}

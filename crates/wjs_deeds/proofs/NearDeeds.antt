@@ -7,16 +7,16 @@ use Rattle.wjs_base.specs.declared.values.Name.{Name}
 use Rattle.wjs_base.specs.declared.values.Value.{Value as NumberedValue}
 use Rattle.wjs_base.specs.Text.{Table}
 use Rattle.wjs_store.specs.Meaning.{Meaning, IsSound}
-use Rattle.wjs_rename.specs.Names.{Holds}
+use Rattle.wjs_content.specs.Renamed.{Holds}
 use Rattle.wjs_content.specs.Values.{Value}
 use Rattle.wjs_content.specs.Names.{Slot}
 use Rattle.wjs_content.specs.Tables.{name_in, value_in, slot_in, arena_in}
 use Rattle.wjs_content.specs.Plans.{Gives, Reads, Writes}
-use Rattle.wjs_props.specs.declared.answers.PutAnswer.{PutAnswer}
-use Rattle.wjs_props.specs.declared.heap.Heap.{Heap}
-use Rattle.wjs_props.specs.Heap.{Performs}
-use Rattle.wjs_props.specs.Means.{parts, nothing}
-use Rattle.wjs_props.specs.Properties as plan
+use Rattle.wjs_content.specs.declared.answers.PutAnswer.{PutAnswer}
+use Rattle.wjs_heap.specs.declared.heap.Heap.{Heap}
+use Rattle.wjs_heap.specs.Heap.{Performs}
+use Rattle.wjs_heap.specs.Means.{parts, nothing}
+use Rattle.wjs_content.specs.Properties as plan
 use Rattle.wjs_model.specs.declared.config.Config.{Config}
 use Rattle.wjs_model.specs.Apart.{IsNear, NearValue}
 use Rattle.wjs_model.specs.Soundness.{Base}

@@ -5,13 +5,13 @@ use Rattle.std.specs.List.{list_any}
 use Rattle.wjs_base.specs.declared.ids.ObjId.{ObjId}
 use Rattle.wjs_base.specs.declared.ids.WorldId.{WorldId}
 use Rattle.wjs_store.specs.State.{State, after_read, after_write, after_list, content_at}
-use Rattle.wjs_rename.specs.Names.{Holds}
+use Rattle.wjs_content.specs.Renamed.{Holds}
 use Rattle.wjs_content.specs.Values.{Text, Value, Object, whole, same_text}
 use Rattle.wjs_content.specs.Names.{Slot, slot, content, length_name, index_of, index_name}
 use Rattle.wjs_content.specs.Objects.{Arena, object_at, depth_at, chain_of, chain, fixed, is_hidden, is_kept, is_puttable, is_array}
 use Rattle.wjs_content.specs.Plans.{Plan, Gives, Reads, Writes, Lists, answer_of, worlds_after, names_at, then_plan}
-use Rattle.wjs_props.specs.declared.answers.PutAnswer.{PutAnswer}
-use Rattle.wjs_props.specs.Properties.{get_along, get, has, length_of, length_of_value, put_index, cut_each, is_index_within, cut_listed, cut, put_length, put_slot, put_in_array, put, delete, visits_along, visits}
+use Rattle.wjs_content.specs.declared.answers.PutAnswer.{PutAnswer}
+use Rattle.wjs_content.specs.Properties.{get_along, get, has, length_of, length_of_value, put_index, cut_each, is_index_within, cut_listed, cut, put_length, put_slot, put_in_array, put, delete, visits_along, visits}
 use Rattle.wjs_props.proofs.Kept.{Within, within_read, within_write, within_list}
 
 module _ (near : ObjId → Type 0) where

@@ -13,8 +13,8 @@ use Rattle.wjs_base.specs.Text.{Table}
 use Rattle.wjs_store.specs.Naming.{plain}
 use Rattle.wjs_store.specs.State.{World, same_world, find_world, content_at}
 use Rattle.wjs_store.specs.Meaning.{Worlds}
-use Rattle.wjs_rename.specs.Names.{Holds, named_world}
-use Rattle.wjs_rename.proofs.Known.{entries_hold, named_content}
+use Rattle.wjs_content.specs.Renamed.{Holds, named_world}
+use Rattle.wjs_content.proofs.RenamedKnown.{entries_hold, named_content}
 use Rattle.wjs_content.specs.Names.{content}
 use Rattle.wjs_content.specs.Tables.{slot_in, value_in, knows_slot}
 use Rattle.wjs_content.specs.Telling.{names_of}

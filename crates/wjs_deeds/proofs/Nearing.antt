@@ -13,7 +13,7 @@ use Rattle.wjs_store.specs.State.{State, World, Act as Action, commit, read_in, 
 use Rattle.wjs_store.specs.Meaning.{Meaning, Worlds, IsSound, worlds}
 use Rattle.wjs_store.proofs.Writes.{has_at, has_after_write, has_settle}
 use Rattle.wjs_store.proofs.Marks.{marks_read, marks_list}
-use Rattle.wjs_rename.specs.Names.{Holds, named_world}
+use Rattle.wjs_content.specs.Renamed.{Holds, named_world}
 use Rattle.wjs_arena.specs.declared.class.Class.TheVariants as class
 use Rattle.wjs_arena.specs.Entries.{Entry}
 use Rattle.wjs_content.specs.Values.{Text, Value, same_text}
@@ -25,10 +25,10 @@ use Rattle.wjs_content.specs.Plans.{Plan, Gives, Reads, Writes, Lists, Heard, wo
 use Rattle.wjs_content.specs.Worlds.{worlds_in, KnowsWorlds}
 use Rattle.wjs_content.proofs.ArenaMaps.{object_found, prototype_same}
 use Rattle.wjs_content.proofs.Growth.{worlds_grow}
-use Rattle.wjs_props.specs.declared.heap.Heap.{Heap}
-use Rattle.wjs_props.specs.Acts.{Acts}
-use Rattle.wjs_props.specs.Heap.{IsHeap, Performs}
-use Rattle.wjs_props.specs.Means.{parts}
+use Rattle.wjs_heap.specs.declared.heap.Heap.{Heap}
+use Rattle.wjs_heap.specs.Acts.{Acts}
+use Rattle.wjs_heap.specs.Heap.{IsHeap, Performs}
+use Rattle.wjs_heap.specs.Means.{parts}
 use Rattle.wjs_props.proofs.Actions.{slot_knows}
 use Rattle.wjs_props.proofs.Kept.{Within, within_commit}
 use Rattle.wjs_model.specs.declared.config.Config.{Config}

@@ -19,8 +19,8 @@ use Rattle.wjs_content.specs.Plans.{Plan, Gives, Reads, Writes, Lists, then_plan
 use Rattle.wjs_content.specs.Tables.{arena_in, entry_in}
 use Rattle.wjs_content.proofs.WorldObjects.{world_at}
 use Rattle.wjs_content.proofs.ArenaMaps.{object_found}
-use Rattle.wjs_props.specs.Properties as plan
-use Rattle.wjs_props.specs.declared.answers.PutAnswer.TheVariants.{Ignored}
+use Rattle.wjs_content.specs.Properties as plan
+use Rattle.wjs_content.specs.declared.answers.PutAnswer.TheVariants.{Ignored}
 use Rattle.wjs_model.specs.Outside.{beside, Finds}
 use Rattle.wjs_model.proofs.Beside.{beside_nothing, object_beside, IsClosed, AreIn, chain_beside, chain_of_there, prototypes_beside, number_beside, world_object_beside, there_in, closed_in}
 

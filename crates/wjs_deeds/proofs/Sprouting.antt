@@ -15,9 +15,9 @@ use Rattle.wjs_content.specs.Names.{Slot, content}
 use Rattle.wjs_content.specs.Values.{Value, Undefined, Null, Boolean, Number, String, Object}
 use Rattle.wjs_content.specs.Plans.{Sprouted}
 use Rattle.wjs_content.specs.Worlds.{worlds_in, KnowsWorlds}
-use Rattle.wjs_props.specs.declared.heap.Heap.{Heap}
-use Rattle.wjs_props.specs.Acts.{Acts}
-use Rattle.wjs_props.specs.Means.{parts}
+use Rattle.wjs_heap.specs.declared.heap.Heap.{Heap}
+use Rattle.wjs_heap.specs.Acts.{Acts}
+use Rattle.wjs_heap.specs.Means.{parts}
 use Rattle.wjs_props.proofs.Kept.{within_sprout}
 use Rattle.wjs_meaning.specs.declared.trouble.Trouble.TheVariants.{NotAWorld}
 use Rattle.wjs_meaning.specs.Deeds.{Env, Act, Do, Look, HasWorld}

@@ -27,9 +27,9 @@ use Rattle.wjs_tree.specs.declared.node.Handler.{Handler}
 use Rattle.wjs_tree.specs.declared.node.Node.{Node}
 use Rattle.wjs_tree.specs.declared.node.Node.TheVariants as form
 use Rattle.wjs_content.specs.Worlds.{KnowsWorlds}
-use Rattle.wjs_props.specs.declared.heap.Heap.{Heap}
-use Rattle.wjs_props.specs.Heap.{IsHeap, KnowsTold}
-use Rattle.wjs_props.specs.Means.{parts}
+use Rattle.wjs_heap.specs.declared.heap.Heap.{Heap}
+use Rattle.wjs_heap.specs.Heap.{IsHeap, KnowsTold}
+use Rattle.wjs_heap.specs.Means.{parts}
 use Rattle.wjs_model.specs.declared.unit.Unit.{Unit as Program}
 use Rattle.wjs_model.specs.declared.frame.Reference.{Reference}
 use Rattle.wjs_model.specs.declared.frame.Reference.TheVariants as references

@@ -12,8 +12,8 @@ use Rattle.wjs_base.proofs.TextLaws.{Grows-refl, Grows-trans}
 use Rattle.wjs_store.specs.State.{Verdict, Act as Action, read, write, list, sprout, commit, content_at, same_world, find_world, has_world, after, next_id, verdict_at}
 use Rattle.wjs_store.specs.Meaning.{Meaning, View, Worlds, IsSound, worlds}
 use Rattle.wjs_store.proofs.RunLaws.{has_same}
-use Rattle.wjs_rename.specs.Rename.{shape}
-use Rattle.wjs_rename.specs.Names.{named_world}
+use Rattle.wjs_content.specs.Rename.{shape}
+use Rattle.wjs_content.specs.Renamed.{named_world}
 use Rattle.wjs_arena.specs.declared.object.Object.{Object}
 use Rattle.wjs_arena.specs.Entries.{Entry, Objects, IsThere, next_number as next_by, entry_over}
 use Rattle.wjs_content.specs.Values.{Value}
@@ -23,10 +23,10 @@ use Rattle.wjs_content.specs.Tables.{arena_in, object_in}
 use Rattle.wjs_content.specs.Plans.{Plan, Gives, Reads, Writes, Lists, Heard, Sprouted, Committed, told_of, names_at, answer_of, worlds_after, actions_of}
 use Rattle.wjs_content.specs.Telling.{names_of}
 use Rattle.wjs_content.specs.Worlds.{worlds_in, told_by, KnowsWorlds}
-use Rattle.wjs_props.specs.declared.heap.Heap.{Heap}
-use Rattle.wjs_props.specs.Acts.{Acts, Creates}
-use Rattle.wjs_props.specs.Heap.{Performs}
-use Rattle.wjs_props.specs.Means.{parts}
+use Rattle.wjs_heap.specs.declared.heap.Heap.{Heap}
+use Rattle.wjs_heap.specs.Acts.{Acts, Creates}
+use Rattle.wjs_heap.specs.Heap.{Performs}
+use Rattle.wjs_heap.specs.Means.{parts}
 use Rattle.wjs_meaning.specs.Deeds.{St, Act, Do, Look, Create, Sprout, Commit, HasWorld, Emit, interp, carry_out}
 use Rattle.wjs_meaning.specs.Programs.{eval}
 use Rattle.wjs_model.specs.declared.config.Config.{Config}

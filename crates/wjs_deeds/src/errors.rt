@@ -1,7 +1,7 @@
 //! The errors that the machine makes (ECMA-262, 3rd edition, section 15.11).
 ghost use Rattle.std.specs.Prelude.{◌≡◌, ◌≤◌, ◌<◌, ◌∷◌, [], length, IfOk, OnOk};
 ghost use Rattle.wjs_base.specs.Text.{Table, Grows, Units, longest};
-ghost use Rattle.wjs_rename.specs.Names.{Holds};
+ghost use Rattle.wjs_content.specs.Renamed.{Holds};
 ghost use Rattle.wjs_content.specs.Names.{message_name};
 ghost use Rattle.wjs_content.specs.Tables.{name_in, value_in, under_in};
 ghost use Rattle.wjs_content.specs.Values.{String};

@@ -3,7 +3,7 @@ ghost use Rattle.std.specs.Prelude.{◌≡◌, ◌≤◌, length, IfOk, OnOk};
 ghost use Rattle.wjs_base.specs.Text.{Table, Finds, Grows, Has, longest};
 ghost use Rattle.wjs_content.specs.Names.{slot};
 ghost use Rattle.wjs_content.specs.Tables.{text_in, name_in, value_in};
-ghost use Rattle.wjs_props.specs.Means.{nothing};
+ghost use Rattle.wjs_heap.specs.Means.{nothing};
 ghost use Rattle.wjs_meaning.specs.Deeds.{Do, Write};
 ghost use Rattle.wjs_meaning.specs.Properties as line;
 ghost use Rattle.wjs_model.specs.Soundness.{Base, IsThere, HasObject, HasName, HasValue};

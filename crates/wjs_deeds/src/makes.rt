@@ -2,12 +2,12 @@
 ghost use Rattle.std.specs.Prelude.{◌≡◌, ◌<◌, ◌∷◌, [], None, Some, IfOk, OnOk, true, false};
 ghost use Rattle.wjs_base.specs.Text.{Table, Grows, Has};
 ghost use Rattle.wjs_arena.specs.Entries.{IsThere, scope_of};
-ghost use Rattle.wjs_convert.specs.Conversions.{is_primitive};
+ghost use Rattle.wjs_content.specs.Conversions.{is_primitive};
 ghost use Rattle.wjs_content.specs.Objects as content;
 ghost use Rattle.wjs_content.specs.Objects.{Internals};
 ghost use Rattle.wjs_content.specs.Values.{String};
 ghost use Rattle.wjs_content.specs.Tables.{text_in, value_in, object_in};
-ghost use Rattle.wjs_props.specs.Heap.{HasNamed};
+ghost use Rattle.wjs_heap.specs.Heap.{HasNamed};
 ghost use Rattle.wjs_meaning.specs.Builtins as first;
 ghost use Rattle.wjs_meaning.specs.Deeds.{Do, Create};
 ghost use Rattle.wjs_meaning.specs.NewObjects.{plain_object, array_object, scope_object};

@@ -1,6 +1,6 @@
 //! Output.
 ghost use Rattle.std.specs.Prelude.{IfOk, OnOk};
-ghost use Rattle.wjs_props.specs.Means.{nothing};
+ghost use Rattle.wjs_heap.specs.Means.{nothing};
 ghost use Rattle.wjs_meaning.specs.Deeds.{Do, Emit};
 ghost use Rattle.wjs_model.specs.Soundness.{Base};
 ghost use Rattle.wjs_moves.specs.Doing.{Does};

@@ -1,7 +1,7 @@
 //! The operations on properties (ECMA-262, 3rd edition, section 8.6.2), in a frame's world.
 ghost use Rattle.std.specs.Prelude.{IfOk, OnOk};
 ghost use Rattle.wjs_content.specs.Tables.{name_in, value_in, content_in};
-ghost use Rattle.wjs_rename.specs.Names.{Holds};
+ghost use Rattle.wjs_content.specs.Renamed.{Holds};
 ghost use Rattle.wjs_props.specs.Visits.{visits_in};
 ghost use Rattle.wjs_meaning.specs.Properties as line;
 ghost use Rattle.wjs_model.specs.Soundness.{Base, IsThere, HasObject, HasName, HasValue, HasContent};
@@ -11,8 +11,9 @@ ghost use Rattle.wjs_moves.specs.Parts.{env_in};
 ghost use Rattle.wjs_deeds.specs.Visits.{HasVisit};
 
 use wjs_base::{Content, Name, ObjId, OutOfMemory, Value};
+use wjs_content::PutAnswer;
 use wjs_model::{Config, Frame};
-use wjs_props::{PutAnswer, Visits};
+use wjs_props::Visits;
 use wjs_store::WorldStore;
 
 /// What the object or its nearest prototype that has the name holds there: its [[Get]] (section 8.6.2.1).

@@ -19,9 +19,9 @@ use crate::slots::{read, write};
 use crate::texts::name_of;
 use crate::values::member_value;
 use wjs_base::{Content, Name, ObjId, OutOfMemory, TextId, Value};
+use wjs_content::PutAnswer;
 use wjs_meaning::Trouble;
 use wjs_model::{Config, Frame, Reference};
-use wjs_props::PutAnswer;
 use wjs_scope::Place;
 use wjs_store::WorldStore;
 

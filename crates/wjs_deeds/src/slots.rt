@@ -3,7 +3,7 @@ ghost use Rattle.std.specs.Prelude.{IfOk, OnOk};
 ghost use Rattle.wjs_content.specs.Names.{slot};
 ghost use Rattle.wjs_content.specs.Tables.{name_in, value_in, content_in};
 ghost use Rattle.wjs_content.specs.Values.{value_or_undefined};
-ghost use Rattle.wjs_props.specs.Means.{nothing};
+ghost use Rattle.wjs_heap.specs.Means.{nothing};
 ghost use Rattle.wjs_meaning.specs.Deeds.{Do, Read, Write};
 ghost use Rattle.wjs_model.specs.Soundness.{Base, IsThere, HasObject, HasName, HasValue, HasContent};
 ghost use Rattle.wjs_moves.specs.Doing.{Does};

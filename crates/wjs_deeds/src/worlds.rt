@@ -2,7 +2,7 @@
 ghost use Rattle.std.specs.Prelude.{◌≡◌, IfOk, IfSome, OnOk, MatchResult, Some, true};
 ghost use Rattle.wjs_base.specs.declared.ids.ObjId.{ObjId};
 ghost use Rattle.wjs_store.specs.Shown.{verdict_of};
-ghost use Rattle.wjs_rename.specs.Rename.{shape};
+ghost use Rattle.wjs_content.specs.Rename.{shape};
 ghost use Rattle.wjs_arena.specs.Entries as numbered;
 ghost use Rattle.wjs_content.specs.Tables.{value_in};
 ghost use Rattle.wjs_content.specs.Values.{Object};

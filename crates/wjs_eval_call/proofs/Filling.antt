@@ -11,7 +11,7 @@ use Rattle.wjs_base.specs.declared.values.Value.{Value as NumberedValue}
 use Rattle.wjs_base.specs.declared.values.Value.TheVariants as values
 use Rattle.wjs_base.specs.Spelling.{IsName}
 use Rattle.wjs_base.specs.Text.{Table}
-use Rattle.wjs_rename.specs.Names.{Holds}
+use Rattle.wjs_content.specs.Renamed.{Holds}
 use Rattle.wjs_arena.specs.declared.class.Class.TheVariants as class
 use Rattle.wjs_arena.specs.declared.object.Flags.{Flags}
 use Rattle.wjs_arena.specs.declared.object.Object.{Object}
@@ -19,7 +19,7 @@ use Rattle.wjs_arena.specs.Entries.{Objects}
 use Rattle.wjs_content.specs.Names.{slot, index_name, callee_name, length_name}
 use Rattle.wjs_content.specs.Objects.{object_of, hidden_flags}
 use Rattle.wjs_content.specs.Tables.{text_in, name_in, value_in, under_in, object_in}
-use Rattle.wjs_props.specs.Heap.{HasNamed}
+use Rattle.wjs_heap.specs.Heap.{HasNamed}
 use Rattle.wjs_meaning.specs.Builtins.{object_prototype}
 use Rattle.wjs_meaning.specs.Deeds.{Env, Act, Do, Write, write_all}
 use Rattle.wjs_meaning.specs.Functions.{arguments_object, hidden_indices, formal_slots, declare_variables}

@@ -15,7 +15,7 @@ use Rattle.wjs_store.specs.Meaning.{Meaning}
 use Rattle.wjs_content.specs.Names.{slot}
 use Rattle.wjs_content.specs.Tables.{text_in, name_in, value_in, content_in}
 use Rattle.wjs_content.specs.Values.{Text, Value, Undefined}
-use Rattle.wjs_props.specs.Means.{nothing}
+use Rattle.wjs_heap.specs.Means.{nothing}
 use Rattle.wjs_meaning.specs.Deeds.{Act, Do, Read, Write}
 use Rattle.wjs_model.specs.declared.config.Config.{Config}
 use Rattle.wjs_model.specs.declared.frame.Activation.{Activation as Frame}

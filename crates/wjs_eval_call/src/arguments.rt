@@ -5,7 +5,7 @@ ghost use Rattle.wjs_content.specs.Names.{slot, callee_name, length_name};
 ghost use Rattle.wjs_content.specs.Objects.{hidden_flags};
 ghost use Rattle.wjs_content.specs.Tables.{value_in, text_in, name_in};
 ghost use Rattle.wjs_content.specs.Values.{Object};
-ghost use Rattle.wjs_props.specs.Means.{nothing};
+ghost use Rattle.wjs_heap.specs.Means.{nothing};
 ghost use Rattle.wjs_meaning.specs.Deeds.{Do, Create, Write, write_all};
 ghost use Rattle.wjs_meaning.specs.Functions as line;
 ghost use Rattle.wjs_meaning.specs.Reading.{numbers};

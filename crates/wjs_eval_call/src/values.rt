@@ -2,9 +2,9 @@
 ghost use Rattle.std.specs.Prelude.{◌≡◌, Some, pos, unwrap_or, IfOk, OnOk};
 ghost use Rattle.wjs_base.specs.Text.{Table, Grows, Has};
 ghost use Rattle.wjs_content.specs.Tables.{text_in, value_in};
-ghost use Rattle.wjs_convert.specs.Conversions as conversions;
+ghost use Rattle.wjs_content.specs.Conversions as conversions;
 ghost use Rattle.wjs_model.specs.Soundness.{Base, HasValue};
-ghost use Rattle.wjs_props.specs.Means.{nothing};
+ghost use Rattle.wjs_heap.specs.Means.{nothing};
 ghost use Rattle.wjs_moves.specs.Doing.{Does};
 ghost use Rattle.wjs_moves.specs.Following.{Later};
 

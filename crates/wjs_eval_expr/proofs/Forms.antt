@@ -15,8 +15,8 @@ use Rattle.wjs_model.specs.Contents.{Holding}
 use Rattle.wjs_model.specs.Waiting.{array_item, object_item, after_new}
 use Rattle.wjs_calls.specs.Callees.{is_new}
 use Rattle.wjs_members.specs.Taking.{taken}
-use Rattle.wjs_eval_expr.specs.Arguments.{arguments_of, callee_in, is_call}
-use Rattle.wjs_eval_expr.specs.Parts.{items_of, is_array, properties_of, is_object}
+use Rattle.wjs_literals.specs.Arguments.{arguments_of, callee_in, is_call}
+use Rattle.wjs_literals.specs.Parts.{items_of, is_array, properties_of, is_object}
 use Rattle.wjs_eval_expr.specs.Links.{member_of, after_part}
 
 -- a member by value, and a call

@@ -1,15 +1,16 @@
 -- The lines of expressions in links: each link has the lines of some forms, and its last leads on to the next (ECMA-262, 3rd edition, section 11).
-use Rattle.std.specs.Prelude.{ℕ, zero, suc, ◌-◌, List, []}
+use Rattle.std.specs.Prelude.{ℕ, ◌-◌, []}
 use Rattle.wjs_content.specs.Values.{Undefined, Null, Boolean, Number, String, Object}
 use Rattle.wjs_content.specs.Objects.{world_object}
 use Rattle.wjs_meaning.specs.Trees.{Node, Name, NumberLit, TextLit, This, ThisWorld, NullLit, BoolLit, Paren, ArrayLit, ObjectLit, Function, Dot, At, Call, NewWith, NewBare}
-use Rattle.wjs_meaning.specs.Deeds.{Env, Act, Ret, Eval, Do, Look, Create, AtExpr, Completion, give, then_value, then_reference}
+use Rattle.wjs_meaning.specs.Deeds.{Env, Act, Ret, Eval, Do, Look, Create, AtExpr, Completion, give, then_value}
 use Rattle.wjs_meaning.specs.NewObjects.{plain_object, array_object}
 use Rattle.wjs_meaning.specs.Functions.{make_function}
 use Rattle.wjs_meaning.specs.Expressions.{reference_of, give_value_of, give_world, array_from, object_from, operand, dot_base, call_reference, call_callee, new_callee}
 use Rattle.wjs_model.specs.Contents.{Holding}
-use Rattle.wjs_model.specs.Waiting.{Taking, after_at, array_item, object_item, call_argument, after_new}
+use Rattle.wjs_model.specs.Waiting.{Taking, after_at, array_item, object_item, after_new}
 use Rattle.wjs_assigns.specs.Links.{operator_of, after_operator}
+use Rattle.wjs_literals.specs.After.{after_call}
 
 -- members, calls, `new`, functions, arrays and objects (11.1.4, 11.1.5, 11.2, 13)
 abbrev pub member_of : ℕ → Node → Env → Act
@@ -36,13 +37,6 @@ primary_of here (Paren e) env = Eval (AtExpr e) env Ret
 primary_of here node env = member_of here node env
 
 -- ---- after a part
-
--- a call: after its callee as a target, after its callee's value, and after each argument
-abbrev pub after_call : List ℕ → ℕ → Holding → Env → Completion → Act
-after_call args (suc zero) held env = then_reference (call_reference args env)
-after_call args (suc (suc zero)) held env = then_value (call_callee args Undefined env)
-after_call args place held env = then_value (call_argument args (place - 3) held env)
-
 -- arrays, objects, calls and `new`; and operators
 abbrev pub after_part : Node → ℕ → Holding → Env → Completion → Act
 after_part (ArrayLit items) place held env = then_value (array_item items (place - 1) held env)

@@ -4,13 +4,6 @@
 //! goes on with.
 #![tactic(auto)]
 
-mod arguments;
-mod arrays;
-mod calls;
-mod functions;
-mod literals;
-mod news;
-mod objects;
 mod operations;
 mod resumes;
 mod starts;

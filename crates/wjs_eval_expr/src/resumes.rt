@@ -10,12 +10,9 @@ ghost use Rattle.wjs_moves.specs.Parts.{env_in, node_now};
 ghost use Rattle.wjs_members.specs.Taking.{taken, takes_from};
 ghost use Rattle.wjs_eval_expr.specs.Links.{after_member, after_part};
 
-use crate::arrays::array_given;
-use crate::calls::call_given;
-use crate::news::new_given;
-use crate::objects::object_given;
 use wjs_assigns::{operator_given, operator_value};
 use wjs_base::{OutOfMemory, Value};
+use wjs_literals::{array_given, call_given, new_given, object_given};
 use wjs_members::{at_given, dot_given};
 use wjs_model::{Completion, Config, Form, Frame, State};
 use wjs_moves::node_of;

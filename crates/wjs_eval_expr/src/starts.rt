@@ -9,15 +9,12 @@ ghost use Rattle.wjs_moves.specs.Following.{Follows};
 ghost use Rattle.wjs_moves.specs.Parts.{env_in, node_now};
 ghost use Rattle.wjs_eval_expr.specs.Links.{primary_of, member_of};
 
-use crate::arrays::array_start;
-use crate::calls::call_start;
-use crate::functions::function_start;
-use crate::literals::{text, this, this_world};
-use crate::news::new_start;
-use crate::objects::object_start;
 use crate::operations::operation_start;
 use wjs_assigns::operator_start;
 use wjs_base::{OutOfMemory, Value};
+use wjs_literals::{
+    array_start, call_start, function_start, new_start, object_start, text, this, this_world,
+};
 use wjs_members::{at_start, dot_start, name_value};
 use wjs_model::{Completion, Config, Form, Frame, State};
 use wjs_moves::{Part, enter_last, finish, node_of};

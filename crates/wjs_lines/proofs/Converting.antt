@@ -1,7 +1,7 @@
 -- Conversions of primitives end at once (ECMA-262, 3rd edition, section 9).
 use Rattle.std.proofs.Common.{◌≡◌, false, refl}
 use Rattle.wjs_content.specs.Values.{Value, Whole, Text, Undefined, Null, Boolean, Number, String, Object}
-use Rattle.wjs_convert.specs.Conversions.{is_object, primitive_number, primitive_text}
+use Rattle.wjs_content.specs.Conversions.{is_object, primitive_number, primitive_text}
 use Rattle.wjs_meaning.specs.Deeds.{Env, Act, Sub, Gives, give, then_value, then_number, then_text}
 use Rattle.wjs_meaning.specs.Conversions.{Hint, HintString, HintNumber, to_primitive, to_number, to_text, number_of_primitive, text_of_primitive}
 use Rattle.wjs_moves.specs.Shortening.{Shortens}

@@ -4,7 +4,7 @@ ghost use Rattle.wjs_base.specs.Text.{Table, Grows};
 ghost use Rattle.wjs_content.specs.Tables.{value_in, name_in};
 ghost use Rattle.wjs_base.specs.Spelling.{greatest_index};
 ghost use Rattle.wjs_content.specs.Names.{index_name};
-ghost use Rattle.wjs_convert.specs.Conversions.{primitive_text};
+ghost use Rattle.wjs_content.specs.Conversions.{primitive_text};
 ghost use Rattle.wjs_meaning.specs.Errors as errors;
 ghost use Rattle.wjs_model.specs.Soundness.{Base, IsThere, HasValue, HasName};
 ghost use Rattle.wjs_moves.specs.Doing.{Does};

@@ -2,7 +2,7 @@
 ghost use Rattle.std.specs.Prelude.{◌≡◌, true, false};
 ghost use Rattle.wjs_base.specs.Text.{Table, Grows};
 ghost use Rattle.wjs_content.specs.Tables.{value_in};
-ghost use Rattle.wjs_convert.specs.Conversions as conversions;
+ghost use Rattle.wjs_content.specs.Conversions as conversions;
 ghost use Rattle.wjs_model.specs.Soundness.{Base, HasValue};
 
 use wjs_base::{Value, Whole};

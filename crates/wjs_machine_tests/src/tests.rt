@@ -3,10 +3,10 @@
 use super::*;
 use std::test::Fail;
 use wjs_base::Texts;
+use wjs_full::FullStore;
 use wjs_load::load;
 use wjs_model::State;
 use wjs_start::start;
-use wjs_store::FullStore;
 
 const SCRIPT: &[u8] = b"var x = 1, w = thisWorld.sprout(); in w { x = 2; } w.commit(); print(x);";
 

@@ -6,7 +6,7 @@ use Rattle.wjs_arena.specs.declared.object.Code.TheVariants as code
 use Rattle.wjs_content.specs.Values.{Value, Object}
 use Rattle.wjs_content.specs.Objects.{object_at}
 use Rattle.wjs_meaning.specs.declared.trouble.Trouble.TheVariants.{NotAFunction}
-use Rattle.wjs_convert.specs.Conversions.{is_nullish}
+use Rattle.wjs_content.specs.Conversions.{is_nullish}
 use Rattle.wjs_meaning.specs.Deeds.{Env, Act, Ret, Eval, Do, Look, AtBody, AtNative}
 use Rattle.wjs_meaning.specs.Errors.{throw}
 use Rattle.wjs_meaning.specs.NewObjects.{to_object}

@@ -5,7 +5,7 @@ use Rattle.wjs_content.specs.Values.{Text, Value, Number, String, Object}
 use Rattle.wjs_content.specs.Names.{to_string_name, value_of_name}
 use Rattle.wjs_content.specs.Objects.{function_of}
 use Rattle.wjs_meaning.specs.declared.trouble.Trouble.TheVariants.{NoPrimitiveValue}
-use Rattle.wjs_convert.specs.Conversions.{primitive_number, primitive_text}
+use Rattle.wjs_content.specs.Conversions.{primitive_number, primitive_text}
 use Rattle.wjs_meaning.specs.Deeds.{Env, Act, Sub, Do, Look, give, then_value}
 use Rattle.wjs_meaning.specs.Properties.{get_value}
 use Rattle.wjs_meaning.specs.Errors.{throw}

@@ -16,7 +16,7 @@ use Rattle.wjs_content.specs.Values.{Text, Whole, Value, Undefined, Null, Boolea
 use Rattle.wjs_content.specs.Names.{slot, length_name, index_name}
 use Rattle.wjs_content.specs.Objects.{Arena, function_of, is_callable, world_object}
 use Rattle.wjs_meaning.specs.declared.trouble.Trouble.TheVariants.{NotAnObject}
-use Rattle.wjs_convert.specs.Conversions.{to_boolean, is_nullish}
+use Rattle.wjs_content.specs.Conversions.{to_boolean, is_nullish}
 use Rattle.wjs_meaning.specs.Trees.{Node, Key, Spelled, Numeral, Name, NumberLit, TextLit, This, ThisWorld, NullLit, BoolLit, Paren, ArrayLit, ObjectLit, Function, Dot, At, Call, NewWith, NewBare, Postfix, Prefix, Binary, Cond, Assign, Comma, is_target, name_place}
 use Rattle.wjs_meaning.specs.Deeds.{Env, Act, Ret, Eval, Sub, Do, Write, Look, Create, AtExpr, AtTarget, Reference, Local, Global, Member, Refers, Normal, give, then_value, then_number, then_text, then_reference, tree_here, node_here}
 use Rattle.wjs_meaning.specs.Properties.{get_value, delete}

@@ -5,7 +5,7 @@ use Rattle.wjs_content.specs.Values.{Text, Value, Undefined, Null, Object, Strin
 use Rattle.wjs_content.specs.Names.{Slot}
 use Rattle.wjs_meaning.specs.declared.trouble.Trouble.TheVariants.{NotAnObject}
 use Rattle.wjs_meaning.specs.Builtins.{class_prototype}
-use Rattle.wjs_convert.specs.Conversions.{to_boolean}
+use Rattle.wjs_content.specs.Conversions.{to_boolean}
 use Rattle.wjs_meaning.specs.Trees.{labels, has_text, name_place}
 use Rattle.wjs_meaning.specs.Deeds.{Env, Act, Ret, Eval, Do, Read, AtExpr, AtTarget, AtStmt, Again, Reference, Completion, Normal, Breaks, Continues, then_value, then_reference, tree_here}
 use Rattle.wjs_meaning.specs.Properties.{visits}

@@ -8,7 +8,7 @@ use Rattle.wjs_arena.specs.declared.native.Native.TheVariants.{Print, ParseInt, 
 use Rattle.wjs_content.specs.Values.{Value, Undefined, Boolean, Number, String}
 use Rattle.wjs_meaning.specs.declared.trouble.Trouble.TheVariants.{NotAConstructor, NoCodeFromText}
 use Rattle.wjs_meaning.specs.Builtins.{error_prototype, type_error_prototype, range_error_prototype, reference_error_prototype}
-use Rattle.wjs_convert.specs.Conversions.{to_boolean, is_text}
+use Rattle.wjs_content.specs.Conversions.{to_boolean, is_text}
 use Rattle.wjs_meaning.specs.Deeds.{Env, Act, Ret, Sub, Normal, give, then_value}
 use Rattle.wjs_meaning.specs.Errors.{throw, give_result, give_text}
 use Rattle.wjs_meaning.specs.NewObjects.{to_object}

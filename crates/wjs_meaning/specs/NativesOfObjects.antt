@@ -13,9 +13,9 @@ use Rattle.wjs_content.specs.Names.{slot, length_name, name_name, message_name, 
 use Rattle.wjs_content.specs.Objects.{Arena, object_of, object_at, fixed, is_hidden, is_past, is_array, function_of}
 use Rattle.wjs_meaning.specs.declared.trouble.Trouble.TheVariants.{NotAnObject, NotAFunction, NoParentWorld, WrongReceiver, InvalidArrayLength, CommitFailed}
 use Rattle.wjs_meaning.specs.Builtins.{shown_class}
-use Rattle.wjs_convert.specs.Conversions.{primitive_number, primitive_text}
+use Rattle.wjs_content.specs.Conversions.{primitive_number, primitive_text}
 use Rattle.wjs_meaning.specs.Trees.{tree_at, node_at, name_of}
-use Rattle.wjs_props.specs.Properties.{length_of_value}
+use Rattle.wjs_content.specs.Properties.{length_of_value}
 use Rattle.wjs_meaning.specs.Deeds.{Env, Act, Tick, Do, Read, Write, Look, Create, Sprout, Commit, give}
 use Rattle.wjs_meaning.specs.Properties.{get, get_value}
 use Rattle.wjs_meaning.specs.Errors.{throw, give_text}

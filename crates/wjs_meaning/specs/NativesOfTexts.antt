@@ -10,7 +10,7 @@ use Rattle.wjs_content.specs.Names.{slot, index_name}
 use Rattle.wjs_content.specs.Objects.{object_at}
 use Rattle.wjs_meaning.specs.declared.trouble.Trouble.TheVariants.{NotAnObject, WrongReceiver, OutOfRange, InvalidRadix}
 use Rattle.wjs_meaning.specs.Builtins.{wrapper_of}
-use Rattle.wjs_convert.specs.Conversions.{primitive_text}
+use Rattle.wjs_content.specs.Conversions.{primitive_text}
 use Rattle.wjs_meaning.specs.Deeds.{Env, Act, Tick, Do, Read, Look, Create, Emit, give}
 use Rattle.wjs_meaning.specs.Errors.{throw, give_text}
 use Rattle.wjs_meaning.specs.NewObjects.{make_array}

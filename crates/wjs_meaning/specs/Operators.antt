@@ -10,7 +10,7 @@ use Rattle.wjs_content.specs.Values.{Text, Whole, Value, Boolean, Object}
 use Rattle.wjs_content.specs.Names.{prototype_name}
 use Rattle.wjs_content.specs.Objects.{function_of, is_past}
 use Rattle.wjs_meaning.specs.declared.trouble.Trouble.TheVariants.{BadRightOperand}
-use Rattle.wjs_convert.specs.Conversions.{to_boolean, primitive_number, primitive_text, strictly_equal, loosely_equal, less_than, is_nullish, is_text}
+use Rattle.wjs_content.specs.Conversions.{to_boolean, primitive_number, primitive_text, strictly_equal, loosely_equal, less_than, is_nullish, is_text}
 use Rattle.wjs_meaning.specs.Deeds.{Env, Act, Sub, Do, Look, give, then_value, then_number, then_text}
 use Rattle.wjs_meaning.specs.Properties.{get_value, has}
 use Rattle.wjs_meaning.specs.Errors.{throw, give_result, give_text}

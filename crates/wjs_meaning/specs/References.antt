@@ -7,8 +7,8 @@ use Rattle.wjs_meaning.specs.declared.trouble.Trouble.TheVariants.{NotDefined, I
 use Rattle.wjs_meaning.specs.Builtins.{class_prototype}
 use Rattle.wjs_meaning.specs.Trees.{Place}
 use Rattle.wjs_meaning.specs.Deeds.{Env, Act, Do, Read, Write, Look, Reference, Local, Global, Member}
-use Rattle.wjs_props.specs.declared.answers.PutAnswer.{PutAnswer}
-use Rattle.wjs_props.specs.declared.answers.PutAnswer.TheVariants.{Done, Ignored, BadLength}
+use Rattle.wjs_content.specs.declared.answers.PutAnswer.{PutAnswer}
+use Rattle.wjs_content.specs.declared.answers.PutAnswer.TheVariants.{Done, Ignored, BadLength}
 use Rattle.wjs_meaning.specs.Properties.{get, get_value, put}
 use Rattle.wjs_meaning.specs.Errors.{throw, throw_named}
 

@@ -3,7 +3,7 @@ use Rattle.std.specs.Prelude.{ℕ, ◌+◌, true, false, List, [], ◌∷◌, �
 use Rattle.wjs_base.specs.declared.ids.WorldId.{WorldId}
 use Rattle.wjs_content.specs.Values.{Text, Value, Undefined, same_text}
 use Rattle.wjs_content.specs.Names.{slot}
-use Rattle.wjs_convert.specs.Conversions.{to_boolean, strictly_equal}
+use Rattle.wjs_content.specs.Conversions.{to_boolean, strictly_equal}
 use Rattle.wjs_meaning.specs.Trees.{Node, Init, NoInit, InitExpr, InitVar, Block, Var, Expr, If, DoWhile, While, For, ForIn, ForVarIn, Continue, Break, Return, Throw, Label, Switch, Try, Within, name_place}
 use Rattle.wjs_meaning.specs.Deeds.{Env, Act, Ret, Eval, Sub, Do, Write, Create, AtExpr, AtStmt, Completion, Normal, Breaks, Continues, Returns, Throws, then_value, then_normal, tree_here, node_here}
 use Rattle.wjs_meaning.specs.NewObjects.{scope_object}

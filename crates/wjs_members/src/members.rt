@@ -2,7 +2,7 @@
 ghost use Rattle.std.specs.Prelude.{◌≡◌, true, OnOk};
 ghost use Rattle.wjs_base.specs.Text.{Has};
 ghost use Rattle.wjs_content.specs.Tables.{value_in, text_in, name_in};
-ghost use Rattle.wjs_convert.specs.Conversions.{primitive_text};
+ghost use Rattle.wjs_content.specs.Conversions.{primitive_text};
 ghost use Rattle.wjs_meaning.specs.Conversions.{to_text};
 ghost use Rattle.wjs_meaning.specs.Deeds as deed;
 ghost use Rattle.wjs_meaning.specs.Deeds.{Eval, AtExpr, Sub, Gives, then_value, then_text};

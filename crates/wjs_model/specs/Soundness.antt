@@ -17,8 +17,8 @@ use Rattle.wjs_store.specs.State.{has_world}
 use Rattle.wjs_store.specs.Meaning.{Meaning, worlds}
 use Rattle.wjs_arena.specs.Entries.{Entry, has}
 use Rattle.wjs_content.specs.Worlds.{KnowsWorlds}
-use Rattle.wjs_props.specs.Heap.{IsHeap, KnowsTold}
-use Rattle.wjs_props.specs.Means.{parts}
+use Rattle.wjs_heap.specs.Heap.{IsHeap, KnowsTold}
+use Rattle.wjs_heap.specs.Means.{parts}
 use Rattle.wjs_meaning.specs.Builtins.{builtin}
 use Rattle.wjs_model.specs.declared.frame.Reference.{Reference}
 use Rattle.wjs_model.specs.declared.frame.Reference.TheVariants as references

@@ -22,7 +22,7 @@ use Rattle.wjs_meaning.specs.Operators.{give_truth, give_opposite, not_value, ar
 use Rattle.wjs_meaning.specs.Constructions.{new_result, construct}
 use Rattle.wjs_meaning.specs.Expressions.{Fix, Post, Pre, dot_base, at_base, at_index, at_name, give_value_of, array_from, key_name, object_from, values_from, call_values, call_callee, call_reference, new_callee, update_reference, update_number, delete_reference, delete_value, typeof_reference, typeof_value, void_value, plus_value, minus_value, minus_number, complement_value, complement_number, binary_left, binary_right, cond_test, assign_reference, assign_value, compound_value, comma_left}
 use Rattle.wjs_meaning.specs.Loops.{Taker, TargetNode, VarName, after_body, loop_body, loop_test, loop_from, loop_updated, for_started, do_body, do_test, for_in_value, visit_body, visits_from}
-use Rattle.wjs_convert.specs.Conversions.{strictly_equal}
+use Rattle.wjs_content.specs.Conversions.{strictly_equal}
 use Rattle.wjs_meaning.specs.Statements.{block_from, vars_from, expr_done, if_test, return_value, throw_value, label_done, statements_of, switch_next, switch_from, switch_cases, switch_value, finally_done, try_finally, try_block, within_value}
 use Rattle.wjs_meaning.specs.Natives.{kinds, kind_of_this, with_kinds, convert_from}
 use Rattle.wjs_model.specs.declared.frame.Conversion.{Conversion}

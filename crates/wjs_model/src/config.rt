@@ -3,7 +3,7 @@
 use crate::frame::Frames;
 use crate::unit::Unit;
 use wjs_base::{ObjId, Value, WorldId};
-use wjs_props::Heap;
+use wjs_heap::Heap;
 use wjs_store::WorldStore;
 
 /// Whether a configuration goes on.

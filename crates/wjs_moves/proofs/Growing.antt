@@ -10,13 +10,13 @@ use Rattle.wjs_base.proofs.TextLaws.{Grows-trans}
 use Rattle.wjs_store.specs.Meaning.{Meaning}
 use Rattle.wjs_arena.specs.declared.object.Object.{Object}
 use Rattle.wjs_arena.specs.Entries.{Objects}
-use Rattle.wjs_rename.specs.Names.{Holds}
+use Rattle.wjs_content.specs.Renamed.{Holds}
 use Rattle.wjs_content.specs.Tables.{knows_value, KnowsUnder, KnowsObject, KnowsArena}
 use Rattle.wjs_content.proofs.Known.{text_known, name_known}
 use Rattle.wjs_content.proofs.Growth.{worlds_grow}
 use Rattle.wjs_content.proofs.ArenaGrowth.{arena_grows}
-use Rattle.wjs_props.specs.Heap.{HasValue, HasNamed, IsHeap, Parts}
-use Rattle.wjs_props.proofs.Told.{told_grows}
+use Rattle.wjs_heap.specs.Heap.{HasValue, HasNamed, IsHeap, Parts}
+use Rattle.wjs_heap.proofs.Told.{told_grows}
 use Rattle.wjs_meaning.specs.Deeds.{St}
 use Rattle.wjs_meaning.specs.Programs.{Threw}
 use Rattle.wjs_model.specs.declared.config.Config.{Config}

@@ -6,7 +6,7 @@ ghost use Rattle.wjs_base.specs.Text.{Table, Grows, Has};
 ghost use Rattle.wjs_content.specs.Objects as content;
 ghost use Rattle.wjs_content.specs.Tables.{text_in, value_in, content_in};
 ghost use Rattle.wjs_content.specs.Values.{String};
-ghost use Rattle.wjs_convert.specs.Conversions.{primitive_text};
+ghost use Rattle.wjs_content.specs.Conversions.{primitive_text};
 ghost use Rattle.wjs_deeds.specs.Known.{text_of};
 ghost use Rattle.wjs_meaning.specs.Builtins as first;
 ghost use Rattle.wjs_meaning.specs.Deeds.{Do, Create};

@@ -12,7 +12,7 @@ use Rattle.wjs_base.proofs.TextLaws.{Grows-trans}
 use Rattle.wjs_store.specs.Meaning.{Meaning}
 use Rattle.wjs_content.specs.Tables.{value_in, text_in}
 use Rattle.wjs_content.specs.Values.{String}
-use Rattle.wjs_props.specs.Means.{nothing}
+use Rattle.wjs_heap.specs.Means.{nothing}
 use Rattle.wjs_meaning.specs.NativesOfObjects.{text_of}
 use Rattle.wjs_meaning.specs.NativesOfTexts.{part_of}
 use Rattle.wjs_model.specs.declared.config.Config.{Config}

@@ -7,7 +7,7 @@ use Rattle.wjs_base.specs.declared.values.Value.TheVariants as values
 use Rattle.wjs_base.specs.Text.{Table}
 use Rattle.wjs_content.specs.Tables.{value_in}
 use Rattle.wjs_content.specs.Values.{Value, Undefined, Null, Boolean, Number, String, Object}
-use Rattle.wjs_convert.specs.Conversions.{is_text}
+use Rattle.wjs_content.specs.Conversions.{is_text}
 use Rattle.wjs_meaning.specs.declared.trouble.Trouble.TheVariants.{WrongReceiver}
 use Rattle.wjs_meaning.specs.Deeds.{Env, Act}
 use Rattle.wjs_meaning.specs.Errors.{throw}

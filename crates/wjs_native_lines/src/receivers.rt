@@ -3,7 +3,7 @@ ghost use Rattle.std.specs.Prelude.{◌≡◌, OnOk, IfOk, All, map, [], false, 
 ghost use Rattle.wjs_content.specs.Tables.{value_in};
 ghost use Rattle.wjs_content.specs.Values.{Undefined, Boolean, String};
 ghost use Rattle.wjs_base.specs.Text.{Table};
-ghost use Rattle.wjs_convert.specs.Conversions.{is_primitive, primitive_text};
+ghost use Rattle.wjs_content.specs.Conversions.{is_primitive, primitive_text};
 ghost use Rattle.wjs_meaning.specs.Deeds.{Do, Create, give};
 ghost use Rattle.wjs_meaning.specs.Builtins as first;
 ghost use Rattle.wjs_content.specs.Objects as content;

@@ -10,7 +10,7 @@ ghost use Rattle.wjs_model.specs.Soundness.{Base, IsThere, HasValue};
 ghost use Rattle.wjs_moves.specs.Doing.{Does};
 ghost use Rattle.wjs_moves.specs.Following.{Follows, Later};
 ghost use Rattle.wjs_moves.specs.Parts.{env_in};
-ghost use Rattle.wjs_props.specs.Means.{nothing};
+ghost use Rattle.wjs_heap.specs.Means.{nothing};
 ghost use Rattle.wjs_strings.specs.Pieces.{texts_of, up_to, has_room};
 ghost use Rattle.wjs_native_lines.specs.Limits.{limit_in};
 

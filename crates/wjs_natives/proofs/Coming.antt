@@ -12,8 +12,8 @@ use Rattle.wjs_store.specs.Meaning.{Meaning}
 use Rattle.wjs_arena.specs.declared.native.Native.{Native}
 use Rattle.wjs_content.specs.Values.{Value, Undefined}
 use Rattle.wjs_content.specs.Tables.{value_in}
-use Rattle.wjs_convert.specs.Conversions.{is_object}
-use Rattle.wjs_props.specs.Means.{nothing}
+use Rattle.wjs_content.specs.Conversions.{is_object}
+use Rattle.wjs_heap.specs.Means.{nothing}
 use Rattle.wjs_meaning.specs.Deeds.{Env, Act, Sub, Gives, give, then_value}
 use Rattle.wjs_meaning.specs.Natives.{Kind, convert, native_run}
 use Rattle.wjs_model.specs.declared.config.Config.{Config}

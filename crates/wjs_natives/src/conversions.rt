@@ -2,13 +2,13 @@
 ghost use Rattle.std.specs.Prelude.{◌≡◌, ◌+◌, ◌-◌, ◌^◌, ◌<◌, IfOk, OnOk, MatchResult, All, map, length, slice_index_or, true};
 ghost use Rattle.wjs_base.specs.Text.{Table, Grows};
 ghost use Rattle.wjs_content.specs.Tables.{value_in};
-ghost use Rattle.wjs_convert.specs.Conversions.{is_object};
+ghost use Rattle.wjs_content.specs.Conversions.{is_object};
 ghost use Rattle.wjs_meaning.specs.Deeds.{Env, Sub, give, then_value};
 ghost use Rattle.wjs_meaning.specs.Natives.{convert};
 ghost use Rattle.wjs_model.specs.Rest.{begin_conversion};
 ghost use Rattle.wjs_moves.specs.Doing.{Does};
 ghost use Rattle.wjs_moves.specs.Shortening.{Shortens};
-ghost use Rattle.wjs_props.specs.Means.{nothing};
+ghost use Rattle.wjs_heap.specs.Means.{nothing};
 ghost use Rattle.wjs_model.specs.Contents.{new_held};
 ghost use Rattle.wjs_model.specs.Soundness.{Base, IsThere, HasValue};
 ghost use Rattle.wjs_moves.specs.Parts.{env_in};

@@ -3,14 +3,14 @@ ghost use Rattle.std.specs.Prelude.{◌≡◌, IfOk, OnOk, false, Some, pos, unw
 ghost use Rattle.wjs_base.specs.Text.{Table, Grows};
 ghost use Rattle.wjs_content.specs.Tables.{value_in};
 ghost use Rattle.wjs_content.specs.Values.{Number, String};
-ghost use Rattle.wjs_convert.specs.Conversions.{is_object, primitive_number, primitive_text};
+ghost use Rattle.wjs_content.specs.Conversions.{is_object, primitive_number, primitive_text};
 ghost use Rattle.wjs_meaning.specs.Deeds.{Env, give};
 ghost use Rattle.wjs_model.specs.Rest.{begin_conversion};
 ghost use Rattle.wjs_model.specs.Soundness.{Base, HasValue};
 ghost use Rattle.wjs_moves.specs.Doing.{Does};
 ghost use Rattle.wjs_moves.specs.Following.{Later};
 ghost use Rattle.wjs_moves.specs.Shortening.{Shortens};
-ghost use Rattle.wjs_props.specs.Means.{nothing};
+ghost use Rattle.wjs_heap.specs.Means.{nothing};
 
 use wjs_base::{OutOfMemory, Value, Whole};
 use wjs_lines::to_number;

@@ -11,7 +11,7 @@ use Rattle.wjs_meaning.specs.Errors.{give_result}
 use Rattle.wjs_tree.specs.declared.operators.BinaryOperator.{BinaryOperator}
 use Rattle.wjs_tree.specs.declared.operators.BinaryOperator.TheVariants as binary
 use Rattle.wjs_content.specs.Values.{Value, Whole, Undefined, Null, Boolean, Number, String, Object}
-use Rattle.wjs_convert.specs.Conversions.{is_object, primitive_number, strictly_equal, loosely_equal}
+use Rattle.wjs_content.specs.Conversions.{is_object, primitive_number, strictly_equal, loosely_equal}
 use Rattle.wjs_meaning.specs.Deeds.{Env, Act, Ret, Eval, AtExpr, Completion, Gives, give, then_value, then_number}
 use Rattle.wjs_meaning.specs.Conversions.{HintNumber}
 use Rattle.wjs_meaning.specs.NativesOfObjects.{whole_of}

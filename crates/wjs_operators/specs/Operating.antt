@@ -5,7 +5,7 @@ use Rattle.wjs_tree.specs.declared.operators.BinaryOperator.{BinaryOperator}
 use Rattle.wjs_tree.specs.declared.operators.BinaryOperator.TheVariants as binary
 use Rattle.wjs_store.specs.Meaning.{Meaning}
 use Rattle.wjs_content.specs.Values.{Value}
-use Rattle.wjs_convert.specs.Conversions.{is_nullish}
+use Rattle.wjs_content.specs.Conversions.{is_nullish}
 use Rattle.wjs_meaning.specs.Deeds.{Env, Act, Sub, then_value}
 use Rattle.wjs_meaning.specs.Conversions.{HintNumber, to_primitive}
 use Rattle.wjs_meaning.specs.Operators.{give_truth, give_opposite, equal_primitive}

@@ -2,7 +2,7 @@
 ghost use Rattle.std.specs.Prelude.{◌≡◌, true, false, OnOk};
 ghost use Rattle.wjs_content.specs.Tables.{value_in};
 ghost use Rattle.wjs_base.specs.Text.{Table};
-ghost use Rattle.wjs_convert.specs.Conversions as conversions;
+ghost use Rattle.wjs_content.specs.Conversions as conversions;
 ghost use Rattle.wjs_meaning.specs.Conversions.{HintNumber, to_primitive};
 ghost use Rattle.wjs_meaning.specs.Deeds.{Sub, then_value};
 ghost use Rattle.wjs_meaning.specs.Operators as line;

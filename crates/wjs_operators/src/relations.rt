@@ -9,7 +9,7 @@ ghost use Rattle.wjs_model.specs.Waiting.{in_right};
 ghost use Rattle.wjs_model.specs.Contents.{value_held};
 ghost use Rattle.wjs_model.specs.Soundness.{Base, IsThere, HasObject, HasName, HasValue};
 ghost use Rattle.wjs_base.specs.Text.{Table, Has};
-ghost use Rattle.wjs_convert.specs.Conversions.{is_object, primitive_text};
+ghost use Rattle.wjs_content.specs.Conversions.{is_object, primitive_text};
 ghost use Rattle.wjs_meaning.specs.Conversions.{to_text};
 ghost use Rattle.wjs_meaning.specs.Deeds.{Do, Look, Sub, then_text};
 ghost use Rattle.wjs_moves.specs.Parts.{env_in};

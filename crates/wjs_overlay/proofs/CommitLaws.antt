@@ -10,7 +10,7 @@ use Rattle.wjs_overlay.proofs.Full.{by_option}
 use Rattle.wjs_base.specs.declared.values.Slot.{Slot}
 use Rattle.wjs_store.specs.Naming.{plain}
 use Rattle.wjs_store.specs.State.{World, State, find_world, with_parent, fault_in, verdict_at, after_commit, no_parent, moved, differs, slots_at, slots_in}
-use Rattle.wjs_store.proofs.Tables.{pair_root, pair_found, commit_alone, commit_fault, commit_moves}
+use Rattle.wjs_store.proofs.Parents.{pair_root, pair_found, commit_alone, commit_fault, commit_moves}
 use Rattle.wjs_overlay.specs.declared.layer.Spot.{Spot}
 use Rattle.wjs_overlay.specs.declared.layer.Layer.{Layer}
 use Rattle.wjs_overlay.specs.Sparse.{full_of, IsSparse, IsAt, StandFor}

@@ -6,7 +6,7 @@ use Rattle.wjs_store.specs.State.{World, State, find_world, has_world, same_worl
 use Rattle.wjs_store.specs.Reached.{IsReached}
 use Rattle.wjs_store.proofs.States.{length_each}
 use Rattle.wjs_store.proofs.Writes.{by_bool, world_is, not_older}
-use Rattle.wjs_store.proofs.Tables.{slice_get_at}
+use Rattle.wjs_store.proofs.Parents.{slice_get_at}
 use Rattle.wjs_overlay.specs.Sparse.{place_of}
 
 pub some_is : {A : Type 0} (a b : A) → Some a ≡ Some b → a ≡ b

@@ -20,7 +20,7 @@ use Rattle.wjs_store.proofs.Ascending.{same_listed}
 use Rattle.wjs_store.proofs.Marks.{key_is}
 use Rattle.wjs_store.proofs.Writes.{by_bool, found_id, write_id}
 use Rattle.wjs_store.proofs.Commits.{agree_read, no_fault, reached1, reached_settle, fx3}
-use Rattle.wjs_store.proofs.Tables.{pair_found, commit_moves}
+use Rattle.wjs_store.proofs.Parents.{pair_found, commit_moves}
 use Rattle.wjs_overlay.specs.declared.maps.Row.{Row}
 use Rattle.wjs_overlay.specs.declared.layer.Spot.{Spot}
 use Rattle.wjs_overlay.specs.declared.layer.Layer.{Layer}

@@ -17,10 +17,10 @@ use Rattle.wjs_store.specs.Meaning.{Meaning, View, Worlds, PlainAct, PlainReply,
 use Rattle.wjs_store.specs.Shown.{content_of, slots_of, verdict_of}
 use Rattle.wjs_store.specs.declared.store.Verdict.{Verdict}
 use Rattle.wjs_store.proofs.Contents.{own_view}
-use Rattle.wjs_rename.specs.Ascends.{Ascends}
-use Rattle.wjs_rename.specs.Names.{Holds, KnowsContent}
-use Rattle.wjs_rename.specs.Rename.{shape}
-use Rattle.wjs_rename.proofs.Sorted.{slots_ascend}
+use Rattle.wjs_content.specs.Ascends.{Ascends}
+use Rattle.wjs_content.specs.Renamed.{Holds, KnowsContent}
+use Rattle.wjs_content.specs.Rename.{shape}
+use Rattle.wjs_content.proofs.Sorted.{slots_ascend}
 use Rattle.wjs_arena.specs.Entries.{Objects}
 use Rattle.wjs_content.specs.Names as content
 use Rattle.wjs_content.specs.Values as values
@@ -33,13 +33,13 @@ use Rattle.wjs_content.proofs.Carrying.{carries_read, carries_write, carries_lis
 use Rattle.wjs_content.proofs.Growth.{slot_grows, value_grows}
 use Rattle.wjs_content.proofs.Known.{text_known, name_known}
 use Rattle.wjs_content.proofs.Replies.{slots_grow}
-use Rattle.wjs_props.specs.Heap.{Parts, HasValue, HasContent, HasSlot, IsHeap, Performs}
-use Rattle.wjs_props.specs.Acts.{Acts, ActsBy}
-use Rattle.wjs_props.specs.Means.{nothing}
+use Rattle.wjs_heap.specs.Heap.{Parts, HasValue, HasContent, HasSlot, IsHeap, Performs}
+use Rattle.wjs_heap.specs.Acts.{Acts, ActsBy}
+use Rattle.wjs_heap.specs.Means.{nothing}
 use Rattle.wjs_props.proofs.Kept.{Within, has_child, within_read, within_write, within_list, within_sprout, within_commit}
 use Rattle.wjs_props.proofs.Listed.{listed_hold, names_hold}
-use Rattle.wjs_props.proofs.Told.{told_after}
-use Rattle.wjs_props.proofs.Turns.{grows_itself, grows_twice}
+use Rattle.wjs_heap.proofs.Told.{told_after}
+use Rattle.wjs_heap.proofs.Turns.{grows_itself, grows_twice}
 
 -- ---- what is there is known
 

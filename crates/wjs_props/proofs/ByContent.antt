@@ -7,7 +7,7 @@ use Rattle.wjs_base.specs.declared.values.Name.TheVariants as name
 use Rattle.wjs_base.specs.declared.values.Value.{Value}
 use Rattle.wjs_base.specs.Spelling.{IsName}
 use Rattle.wjs_base.specs.Text.{Table, Grows}
-use Rattle.wjs_rename.specs.Names.{Holds}
+use Rattle.wjs_content.specs.Renamed.{Holds}
 use Rattle.wjs_arena.specs.declared.object.Flags.{Flags}
 use Rattle.wjs_arena.specs.declared.object.Object.{Object}
 use Rattle.wjs_arena.specs.AtName.{same_name}
@@ -17,7 +17,7 @@ use Rattle.wjs_content.specs.Tables.{name_in, value_in, arena_in, knows_name, kn
 use Rattle.wjs_content.proofs.Fixed as content
 use Rattle.wjs_content.proofs.Growth.{name_grows, value_grows}
 use Rattle.wjs_content.proofs.Known.{name_known}
-use Rattle.wjs_props.specs.Heap.{Parts, HasValue, HasNamed, IsHeap}
+use Rattle.wjs_heap.specs.Heap.{Parts, HasValue, HasNamed, IsHeap}
 use Rattle.wjs_props.proofs.Actions.{value_knows}
 
 -- ---- names by number

@@ -20,8 +20,8 @@ use Rattle.wjs_store.specs.State.{has_world}
 use Rattle.wjs_store.specs.Meaning.{worlds}
 use Rattle.wjs_store.specs.Shown.{content_of, slots_of}
 use Rattle.wjs_arena.specs.Entries as entries
-use Rattle.wjs_rename.specs.Ascends.{Ascends}
-use Rattle.wjs_rename.specs.Names.{Holds}
+use Rattle.wjs_content.specs.Ascends.{Ascends}
+use Rattle.wjs_content.specs.Renamed.{Holds}
 use Rattle.wjs_content.specs.Values.{Text, Value}
 use Rattle.wjs_content.specs.Names.{Slot, slot, index_of, index_name}
 use Rattle.wjs_content.specs.Indices.{index_again}
@@ -30,11 +30,11 @@ use Rattle.wjs_content.specs.Tables.{name_in, text_in, value_in, slot_in, conten
 use Rattle.wjs_content.specs.Worlds.{in_order, listing}
 use Rattle.wjs_content.proofs.Growth.{name_grows}
 use Rattle.wjs_content.proofs.Known.{name_known}
-use Rattle.wjs_props.specs.Heap.{Parts, IsHeap, Performs}
-use Rattle.wjs_props.specs.Means.{nothing}
-use Rattle.wjs_props.specs.Properties as plan
-use Rattle.wjs_props.specs.Properties.{is_index_within}
-use Rattle.wjs_props.proofs.Turns.{performs_nothing, performs_then, performs_same, grows_twice}
+use Rattle.wjs_heap.specs.Heap.{Parts, IsHeap, Performs}
+use Rattle.wjs_heap.specs.Means.{nothing}
+use Rattle.wjs_content.specs.Properties as plan
+use Rattle.wjs_content.specs.Properties.{is_index_within}
+use Rattle.wjs_heap.proofs.Turns.{performs_nothing, performs_then, performs_same, grows_twice}
 use Rattle.wjs_props.proofs.Listed.{passing_same}
 
 -- ---- one by one

@@ -16,10 +16,10 @@ use Rattle.wjs_content.specs.Names.{slot}
 use Rattle.wjs_content.specs.Objects.{fixed, is_kept}
 use Rattle.wjs_content.specs.Plans.{Plan, Gives, Reads, Writes}
 use Rattle.wjs_content.specs.Tables.{name_in, value_in, slot_in, content_in, arena_in}
-use Rattle.wjs_props.specs.Heap.{Parts, IsHeap, Performs}
-use Rattle.wjs_props.specs.Means.{nothing}
-use Rattle.wjs_props.specs.Properties as plan
-use Rattle.wjs_props.proofs.Turns.{performs_nothing, performs_then, performs_same, grows_twice}
+use Rattle.wjs_heap.specs.Heap.{Parts, IsHeap, Performs}
+use Rattle.wjs_heap.specs.Means.{nothing}
+use Rattle.wjs_content.specs.Properties as plan
+use Rattle.wjs_heap.proofs.Turns.{performs_nothing, performs_then, performs_same, grows_twice}
 use Rattle.wjs_props.proofs.ByContent.{fixed_in, flags_same}
 
 is_some_in : (t : Table) (r : Option NumberedValue) → is_some (option_map (value_in t) r) ≡ is_some r

@@ -14,7 +14,7 @@ use Rattle.wjs_content.proofs.Known.{name_known, name_known_is_name}
 use Rattle.wjs_store.specs.State.{has_world}
 use Rattle.wjs_store.specs.Meaning.{worlds}
 use Rattle.wjs_store.specs.Shown.{content_of}
-use Rattle.wjs_rename.specs.Names.{Holds}
+use Rattle.wjs_content.specs.Renamed.{Holds}
 use Rattle.wjs_arena.specs.AtName as numbered_at
 use Rattle.wjs_arena.specs.AtName.{same_name}
 use Rattle.wjs_arena.specs.Chains as numbered
@@ -29,10 +29,10 @@ use Rattle.wjs_content.specs.Names.{slot}
 use Rattle.wjs_content.specs.Objects.{fixed}
 use Rattle.wjs_content.specs.Plans.{Plan, Gives, Reads}
 use Rattle.wjs_content.specs.Tables.{name_in, value_in, slot_in, content_in, arena_in}
-use Rattle.wjs_props.specs.Heap.{Parts, HasValue, IsHeap, Performs}
-use Rattle.wjs_props.specs.Properties as plan
+use Rattle.wjs_heap.specs.Heap.{Parts, HasValue, IsHeap, Performs}
+use Rattle.wjs_content.specs.Properties as plan
 use Rattle.wjs_content.proofs.ArenaMaps.{chain_same}
-use Rattle.wjs_props.proofs.Turns.{performs_nothing, performs_then, performs_same, grows_twice}
+use Rattle.wjs_heap.proofs.Turns.{performs_nothing, performs_then, performs_same, grows_twice}
 use Rattle.wjs_props.proofs.ByContent.{fixed_in}
 
 -- a walk has come to an object: what does the rest does the whole

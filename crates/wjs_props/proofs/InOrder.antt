@@ -22,8 +22,8 @@ use Rattle.wjs_base.specs.Spelling.{IsName, greatest_index, spelling_cmp, units_
 use Rattle.wjs_base.specs.Spelling as spelling
 use Rattle.wjs_base.specs.Text.{Table, Grows, IsTable}
 use Rattle.wjs_store.specs.Shown.{slots_of}
-use Rattle.wjs_rename.specs.Ascends.{tagged, Ascends}
-use Rattle.wjs_rename.specs.Names.{Holds}
+use Rattle.wjs_content.specs.Ascends.{tagged, Ascends}
+use Rattle.wjs_content.specs.Renamed.{Holds}
 use Rattle.wjs_content.specs.Values.{Text}
 use Rattle.wjs_content.specs.Names.{Slot, slot, slot_cmp, slot_total, slot_exact, name_cmp, text_cmp, index_of, index_name}
 use Rattle.wjs_content.specs.Indices.{index_again}

@@ -1,12 +1,9 @@
 pub mod Sorting
-pub mod Turns
 pub mod Kept
-pub mod Told
 pub mod Actions
 pub mod ByContent
 pub mod Getting
 pub mod Deleting
-pub mod Growing
 pub mod Listed
 pub mod Cutting
 pub mod Putting

@@ -24,9 +24,9 @@ use Rattle.wjs_store.specs.State.{World, find_world, content_at, same_object, sl
 use Rattle.wjs_store.specs.Meaning.{Worlds}
 use Rattle.wjs_store.specs.Shown.{slots_of}
 use Rattle.wjs_store.proofs.Ascending.{firsts, untagged, find_tag, ascends_filter, any_passing}
-use Rattle.wjs_rename.specs.Ascends.{tagged, Ascends}
-use Rattle.wjs_rename.specs.Names.{Holds}
-use Rattle.wjs_rename.proofs.Known.{entries_hold}
+use Rattle.wjs_content.specs.Ascends.{tagged, Ascends}
+use Rattle.wjs_content.specs.Renamed.{Holds}
+use Rattle.wjs_content.proofs.RenamedKnown.{entries_hold}
 use Rattle.wjs_content.specs.Values.{Text}
 use Rattle.wjs_content.specs.Names.{Slot, slot, slot_cmp, slot_total, slot_exact, text_cmp, index_of, index_name}
 use Rattle.wjs_content.specs.Indices.{index_again}

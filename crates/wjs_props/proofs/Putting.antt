@@ -34,12 +34,12 @@ use Rattle.wjs_content.specs.Tables.{name_in, text_in, value_in, slot_in, conten
 use Rattle.wjs_content.proofs.ArenaMaps.{object_found}
 use Rattle.wjs_content.proofs.Growth.{name_grows}
 use Rattle.wjs_content.proofs.Known.{name_known, text_is}
-use Rattle.wjs_props.specs.declared.answers.PutAnswer.{PutAnswer}
-use Rattle.wjs_props.specs.declared.answers.PutAnswer.TheVariants.{Done, Ignored, BadLength}
-use Rattle.wjs_props.specs.Heap.{Parts, HasValue, HasSlot, IsHeap, Performs}
-use Rattle.wjs_props.specs.Means.{nothing}
-use Rattle.wjs_props.specs.Properties as plan
-use Rattle.wjs_props.proofs.Turns.{performs_nothing, performs_then, performs_same, grows_twice}
+use Rattle.wjs_content.specs.declared.answers.PutAnswer.{PutAnswer}
+use Rattle.wjs_content.specs.declared.answers.PutAnswer.TheVariants.{Done, Ignored, BadLength}
+use Rattle.wjs_heap.specs.Heap.{Parts, HasValue, HasSlot, IsHeap, Performs}
+use Rattle.wjs_heap.specs.Means.{nothing}
+use Rattle.wjs_content.specs.Properties as plan
+use Rattle.wjs_heap.proofs.Turns.{performs_nothing, performs_then, performs_same, grows_twice}
 use Rattle.wjs_props.proofs.ByContent.{puttable_in}
 use Rattle.wjs_props.proofs.Cutting.{index_small}
 

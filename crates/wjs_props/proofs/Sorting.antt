@@ -9,8 +9,8 @@ use Rattle.std.specs.FinMap.Entries.{below_all}
 use Rattle.std.proofs.lemmas.List.{get_or-map, length-map}
 use Rattle.std.proofs.lemmas.List.Sums.{sum_by-cons}
 use Rattle.std.proofs.lemmas.List.Sorted.{ranks_by, sorted_far}
-use Rattle.wjs_rename.specs.Ascends.{tagged, Ascends}
-use Rattle.wjs_rename.specs.Names.{Holds}
+use Rattle.wjs_content.specs.Ascends.{tagged, Ascends}
+use Rattle.wjs_content.specs.Renamed.{Holds}
 
 -- ---- of what each element becomes
 

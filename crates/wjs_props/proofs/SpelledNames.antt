@@ -12,7 +12,7 @@ use Rattle.wjs_base.specs.declared.values.Name.TheVariants.{Index, Text}
 use Rattle.wjs_base.specs.Order.{kind_of}
 use Rattle.wjs_base.specs.Spelling.{index_of, units_of, spelling_cmp}
 use Rattle.wjs_base.specs.Text.{Table, Units}
-use Rattle.wjs_rename.specs.Names.{Holds}
+use Rattle.wjs_content.specs.Renamed.{Holds}
 use Rattle.wjs_props.specs.declared.order.Spelled.{Spelled}
 use Rattle.wjs_props.specs.Spelled.{spelled_cmp, units_if_text, IsSpelled}
 use Rattle.wjs_props.proofs.Cutting.{drop_next}

@@ -13,7 +13,7 @@ use Rattle.wjs_base.specs.declared.values.Value.{Value as NumberedValue}
 use Rattle.wjs_base.specs.Order.{name_cmp, name_exact, name_total}
 use Rattle.wjs_base.specs.Spelling.{IsName}
 use Rattle.wjs_base.specs.Text.{Table, Grows}
-use Rattle.wjs_rename.specs.Names.{Holds}
+use Rattle.wjs_content.specs.Renamed.{Holds}
 use Rattle.wjs_arena.specs.declared.class.Class.TheVariants as class
 use Rattle.wjs_arena.specs.declared.object.Flags.{Flags}
 use Rattle.wjs_arena.specs.declared.object.Object.{Object}
@@ -29,7 +29,7 @@ use Rattle.wjs_content.specs.Tables.{name_in, value_in, under_in, entry_in, aren
 use Rattle.wjs_content.proofs.ArenaMaps.{object_found}
 use Rattle.wjs_content.proofs.Fixed.{same_names}
 use Rattle.wjs_props.specs.declared.visits.Visit.{Visit}
-use Rattle.wjs_props.specs.Heap.{Parts, HasValue, IsHeap}
+use Rattle.wjs_heap.specs.Heap.{Parts, HasValue, IsHeap}
 use Rattle.wjs_props.specs.Listing.{is_in, is_among, names_under, visit_of, visits_of}
 use Rattle.wjs_props.specs.Visits.{visits_in}
 use Rattle.wjs_props.proofs.ByContent.{name_itself, name_tied, one_answer, name_knows, flags_same}

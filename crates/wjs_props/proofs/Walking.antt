@@ -19,9 +19,9 @@ use Rattle.wjs_base.proofs.TextLaws.{Grows-IsName}
 use Rattle.wjs_store.specs.State.{has_world}
 use Rattle.wjs_store.specs.Meaning.{worlds}
 use Rattle.wjs_store.specs.Shown.{slots_of}
-use Rattle.wjs_rename.specs.Ascends.{Ascends}
-use Rattle.wjs_rename.specs.Names.{Holds}
-use Rattle.wjs_rename.proofs.Found.{holds_append}
+use Rattle.wjs_content.specs.Ascends.{Ascends}
+use Rattle.wjs_content.specs.Renamed.{Holds}
+use Rattle.wjs_content.proofs.Found.{holds_append}
 use Rattle.wjs_arena.specs.declared.object.Object.{Object}
 use Rattle.wjs_arena.specs.Chains as numbered
 use Rattle.wjs_arena.specs.Chains.{chain_from, flags_in}
@@ -36,16 +36,16 @@ use Rattle.wjs_content.specs.Plans.{Plan, Gives, Lists, then_plan}
 use Rattle.wjs_content.specs.Tables.{name_in, arena_in}
 use Rattle.wjs_content.specs.Worlds.{listing}
 use Rattle.wjs_props.specs.declared.visits.Visit.{Visit}
-use Rattle.wjs_props.specs.Heap.{Parts, IsHeap, Performs}
+use Rattle.wjs_heap.specs.Heap.{Parts, IsHeap, Performs}
 use Rattle.wjs_props.specs.Listing.{is_in, is_among, names_under, visit_of, visits_of, Adds}
-use Rattle.wjs_props.specs.Properties as plan
+use Rattle.wjs_content.specs.Properties as plan
 use Rattle.wjs_props.specs.Visits.{visits_in, HasVisit}
 use Rattle.wjs_props.proofs.Cutting.{names_stay}
 use Rattle.wjs_props.proofs.Getting.{next_of}
 use Rattle.wjs_props.proofs.InOrder.{listing_is}
 use Rattle.wjs_props.proofs.NameSets.{empty_in}
 use Rattle.wjs_props.proofs.SpelledNames.{holds_moved}
-use Rattle.wjs_props.proofs.Turns.{performs_nothing, performs_then, performs_same, grows_twice}
+use Rattle.wjs_heap.proofs.Turns.{performs_nothing, performs_then, performs_same, grows_twice}
 use Rattle.wjs_props.proofs.Visiting.{visited_are, fixed_names, fixed_are_names}
 
 -- ---- what was seen

@@ -5,7 +5,7 @@ use Rattle.wjs_arena.specs.Entries.{Objects}
 use Rattle.wjs_content.specs.Names.{Slot, slot}
 use Rattle.wjs_content.specs.Tables.{name_in}
 use Rattle.wjs_props.specs.declared.visits.Visit.{Visit}
-use Rattle.wjs_props.specs.Heap.{HasSlot}
+use Rattle.wjs_heap.specs.Heap.{HasSlot}
 
 abbrev pub visit_in : Table → Visit → Slot
 visit_in texts v = slot v.object (name_in texts v.name)

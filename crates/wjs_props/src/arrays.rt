@@ -6,16 +6,16 @@ ghost use Rattle.wjs_store.specs.Meaning.{worlds};
 ghost use Rattle.wjs_arena.specs.Entries.{has};
 ghost use Rattle.wjs_content.specs.Names as names;
 ghost use Rattle.wjs_content.specs.Tables.{name_in, value_in};
-ghost use Rattle.wjs_props.specs.Heap.{IsHeap, HasValue, Performs};
-ghost use Rattle.wjs_props.specs.Means.{parts};
-ghost use Rattle.wjs_props.specs.Properties as plan;
+ghost use Rattle.wjs_heap.specs.Heap.{IsHeap, HasValue, Performs};
+ghost use Rattle.wjs_heap.specs.Means.{parts};
+ghost use Rattle.wjs_content.specs.Properties as plan;
 
-use crate::answers::PutAnswer;
 use crate::cuts::cut;
 use crate::deeds::{read, write};
-use crate::heap::Heap;
 use crate::lengths::{is_length, length_name, length_of, length_of_value, value_of_length};
 use wjs_base::{Content, Name, ObjId, OutOfMemory, Slot, Value, WorldId};
+use wjs_content::PutAnswer;
+use wjs_heap::Heap;
 use wjs_store::WorldStore;
 
 /// Puts an index, `length`, or another name.

@@ -4,16 +4,16 @@ ghost use Rattle.wjs_base.specs.Spelling.{IsName, greatest_index};
 ghost use Rattle.wjs_store.specs.State.{has_world};
 ghost use Rattle.wjs_store.specs.Meaning.{worlds};
 ghost use Rattle.wjs_arena.specs.Entries.{has};
-ghost use Rattle.wjs_rename.specs.Names.{Holds};
+ghost use Rattle.wjs_content.specs.Renamed.{Holds};
 ghost use Rattle.wjs_content.specs.Plans.{Lists};
 ghost use Rattle.wjs_content.specs.Tables.{name_in};
-ghost use Rattle.wjs_props.specs.Heap.{IsHeap, Performs};
-ghost use Rattle.wjs_props.specs.Means.{parts, nothing};
-ghost use Rattle.wjs_props.specs.Properties as plan;
+ghost use Rattle.wjs_heap.specs.Heap.{IsHeap, Performs};
+ghost use Rattle.wjs_heap.specs.Means.{parts, nothing};
+ghost use Rattle.wjs_content.specs.Properties as plan;
 
 use crate::deeds::{list, read, write};
-use crate::heap::Heap;
 use wjs_base::{Content, Name, Names, ObjId, OutOfMemory, Slot, WorldId};
+use wjs_heap::Heap;
 use wjs_store::WorldStore;
 
 /// The most elements that are looked at one by one.

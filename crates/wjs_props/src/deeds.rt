@@ -9,20 +9,20 @@ ghost use Rattle.wjs_store.specs.State.{has_world};
 ghost use Rattle.wjs_store.specs.Meaning.{worlds};
 ghost use Rattle.wjs_store.specs.Shown.{content_of, slots_of, verdict_of};
 ghost use Rattle.wjs_store.specs.State as action;
-ghost use Rattle.wjs_rename.specs.Ascends.{Ascends};
-ghost use Rattle.wjs_rename.specs.Names.{Holds};
-ghost use Rattle.wjs_rename.specs.Rename.{shape};
+ghost use Rattle.wjs_content.specs.Ascends.{Ascends};
+ghost use Rattle.wjs_content.specs.Renamed.{Holds};
+ghost use Rattle.wjs_content.specs.Rename.{shape};
 ghost use Rattle.wjs_arena.specs.Entries.{IsThere, world_of};
 ghost use Rattle.wjs_content.specs.Plans.{Gives, Reads, Writes, Lists, Sprouted, Committed};
 ghost use Rattle.wjs_content.specs.Tables.{slot_in, content_in};
 ghost use Rattle.wjs_content.specs.Worlds.{listing};
-ghost use Rattle.wjs_props.specs.Acts.{Acts, Creates};
-ghost use Rattle.wjs_props.specs.Heap.{IsHeap, HasNamed, HasSlot, HasContent, Performs};
-ghost use Rattle.wjs_props.specs.Means.{parts, nothing};
+ghost use Rattle.wjs_heap.specs.Acts.{Acts, Creates};
+ghost use Rattle.wjs_heap.specs.Heap.{IsHeap, HasNamed, HasSlot, HasContent, Performs};
+ghost use Rattle.wjs_heap.specs.Means.{parts, nothing};
 
-use crate::heap::Heap;
 use wjs_arena::Object;
 use wjs_base::{Content, Names, ObjId, OutOfMemory, Slot, WorldId};
+use wjs_heap::Heap;
 use wjs_store::{Verdict, WorldStore};
 
 /// Reads a slot.

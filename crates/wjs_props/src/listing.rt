@@ -6,15 +6,14 @@ ghost use Rattle.wjs_store.specs.Meaning.{worlds};
 ghost use Rattle.wjs_arena.specs.Chains.{flags_in};
 ghost use Rattle.wjs_arena.specs.Entries.{has};
 ghost use Rattle.wjs_content.specs.Tables.{arena_in};
-ghost use Rattle.wjs_rename.specs.Names.{Holds};
-ghost use Rattle.wjs_props.specs.Heap.{IsHeap, Performs};
+ghost use Rattle.wjs_content.specs.Renamed.{Holds};
+ghost use Rattle.wjs_heap.specs.Heap.{IsHeap, Performs};
 ghost use Rattle.wjs_props.specs.Listing.{is_in, is_among, names_under, visits_of};
-ghost use Rattle.wjs_props.specs.Means.{parts};
-ghost use Rattle.wjs_props.specs.Properties as plan;
+ghost use Rattle.wjs_heap.specs.Means.{parts};
+ghost use Rattle.wjs_content.specs.Properties as plan;
 ghost use Rattle.wjs_props.specs.Visits.{visits_in, HasVisit};
 
 use crate::deeds::list;
-use crate::heap::Heap;
 use crate::order::in_order;
 use crate::seen::{add_fixed, add_names, hidden_names};
 use crate::visits::{Visit, Visits};
@@ -22,6 +21,7 @@ use std::alloc::Global;
 use std::collections::BTreeSet;
 use wjs_arena::Object;
 use wjs_base::{Name, Names, ObjId, OutOfMemory, WorldId};
+use wjs_heap::Heap;
 use wjs_store::WorldStore;
 
 /// What a `for`-`in` over the object visits in the world (ECMA-262, 3rd edition, section 12.6.4), in order.

@@ -1,7 +1,7 @@
 //! The names of a listing in the order of their contents.
 ghost use Rattle.std.specs.Prelude.{◌≡◌, map, IfOk, IsPermutation, IsSorted};
 ghost use Rattle.wjs_base.specs.Spelling.{IsName, spelling_cmp};
-ghost use Rattle.wjs_rename.specs.Names.{Holds};
+ghost use Rattle.wjs_content.specs.Renamed.{Holds};
 ghost use Rattle.wjs_props.specs.Spelled.{spelled_cmp, IsSpelled};
 
 use std::alloc::Global;

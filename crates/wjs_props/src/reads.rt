@@ -6,13 +6,13 @@ ghost use Rattle.wjs_store.specs.Meaning.{worlds};
 ghost use Rattle.wjs_store.specs.Shown.{content_of};
 ghost use Rattle.wjs_arena.specs.Entries.{has};
 ghost use Rattle.wjs_content.specs.Tables.{name_in, content_in, arena_in};
-ghost use Rattle.wjs_props.specs.Heap.{IsHeap, HasContent, Performs};
-ghost use Rattle.wjs_props.specs.Means.{parts};
-ghost use Rattle.wjs_props.specs.Properties as plan;
+ghost use Rattle.wjs_heap.specs.Heap.{IsHeap, HasContent, Performs};
+ghost use Rattle.wjs_heap.specs.Means.{parts};
+ghost use Rattle.wjs_content.specs.Properties as plan;
 
 use crate::deeds::{look, read};
-use crate::heap::Heap;
 use wjs_base::{Content, Name, ObjId, OutOfMemory, Slot, WorldId};
+use wjs_heap::Heap;
 use wjs_store::WorldStore;
 
 /// What the object or its nearest prototype that has the name holds there in the world (ECMA-262, 3rd edition, section

@@ -7,16 +7,16 @@ ghost use Rattle.wjs_store.specs.Meaning.{worlds};
 ghost use Rattle.wjs_arena.specs.Entries.{has};
 ghost use Rattle.wjs_content.specs.Objects.{is_array};
 ghost use Rattle.wjs_content.specs.Tables.{name_in, value_in, arena_in};
-ghost use Rattle.wjs_props.specs.Heap.{IsHeap, HasValue, Performs};
-ghost use Rattle.wjs_props.specs.Means.{parts};
-ghost use Rattle.wjs_props.specs.Properties as plan;
+ghost use Rattle.wjs_heap.specs.Heap.{IsHeap, HasValue, Performs};
+ghost use Rattle.wjs_heap.specs.Means.{parts};
+ghost use Rattle.wjs_content.specs.Properties as plan;
 
-use crate::answers::PutAnswer;
 use crate::arrays::{put_in_array, put_slot};
 use crate::deeds::{read, write};
-use crate::heap::Heap;
 use wjs_arena::{Arena, Class};
 use wjs_base::{Content, Name, ObjId, OutOfMemory, Slot, Value, WorldId};
+use wjs_content::PutAnswer;
+use wjs_heap::Heap;
 use wjs_store::WorldStore;
 
 /// Sets a property of the object (ECMA-262, 3rd edition, section 8.6.2.2), of an Array by section 15.4.5.1.

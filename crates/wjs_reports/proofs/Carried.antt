@@ -14,7 +14,7 @@ use Rattle.wjs_content.specs.Objects.{Arena, object_at}
 use Rattle.wjs_content.specs.Plans.{Plan, Gives, Reads, Writes, Lists, Told, told_of, names_at, answer_of, worlds_after}
 use Rattle.wjs_content.specs.Tables.{value_in, arena_in}
 use Rattle.wjs_content.specs.Worlds.{worlds_in}
-use Rattle.wjs_props.specs.Properties as plan
+use Rattle.wjs_content.specs.Properties as plan
 use Rattle.wjs_meaning.specs.Builtins.{first_world, global_object, shown_class}
 use Rattle.wjs_meaning.specs.Deeds.{St, Act, Env, Next, interp, carry_out, give}
 use Rattle.wjs_meaning.specs.NativesOfObjects.{fault_text, object_text}

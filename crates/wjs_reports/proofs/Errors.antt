@@ -12,8 +12,8 @@ use Rattle.wjs_content.specs.Tables.{content_in, arena_in}
 use Rattle.wjs_content.specs.Worlds.{worlds_in, KnowsWorlds}
 use Rattle.wjs_content.proofs.ArenaGrowth.{arena_grows}
 use Rattle.wjs_content.proofs.Growth.{worlds_grow}
-use Rattle.wjs_props.specs.Heap.{Parts, IsHeap, Performs}
-use Rattle.wjs_props.specs.Properties as plan
+use Rattle.wjs_heap.specs.Heap.{Parts, IsHeap, Performs}
+use Rattle.wjs_content.specs.Properties as plan
 use Rattle.wjs_meaning.specs.NativesOfObjects.{fault_text}
 use Rattle.wjs_moves.proofs.Growing.{arena_known}
 use Rattle.wjs_reports.specs.Thrown.{shown_fault}

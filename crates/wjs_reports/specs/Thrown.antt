@@ -14,8 +14,8 @@ use Rattle.wjs_content.specs.Objects.{Arena, object_at}
 use Rattle.wjs_content.specs.Plans.{answer_of, worlds_after}
 use Rattle.wjs_content.specs.Tables.{value_in, arena_in}
 use Rattle.wjs_content.specs.Worlds.{worlds_in}
-use Rattle.wjs_convert.specs.Conversions.{primitive_text}
-use Rattle.wjs_props.specs.Properties as plan
+use Rattle.wjs_content.specs.Conversions.{primitive_text}
+use Rattle.wjs_content.specs.Properties as plan
 use Rattle.wjs_meaning.specs.Builtins.{shown_class}
 use Rattle.wjs_meaning.specs.Deeds.{St}
 use Rattle.wjs_meaning.specs.NativesOfObjects.{fault_text}

@@ -15,20 +15,20 @@ use Rattle.wjs_store.specs.Fixed.{fixed, fresh}
 use Rattle.wjs_store.specs.Naming.{plain}
 use Rattle.wjs_store.proofs.Writes.{world_is}
 use Rattle.wjs_arena.specs.Entries.{Objects, Entry, has, next_number, world_of}
-use Rattle.wjs_rename.specs.Rename.{renamed}
-use Rattle.wjs_rename.proofs.Keys.{empty_entries}
+use Rattle.wjs_content.specs.Rename.{renamed}
+use Rattle.wjs_content.proofs.Keys.{empty_entries}
 use Rattle.wjs_content.specs.Values.{Text, Value}
 use Rattle.wjs_content.specs.Names.{Slot, slot_cmp, content}
 use Rattle.wjs_content.specs.Objects.{Arena}
 use Rattle.wjs_content.specs.Plans.{Told, Wrote, Writes, Gives, worlds_after, actions_of}
 use Rattle.wjs_content.proofs.PlanLaws.{worlds_then, actions_then}
 use Rattle.wjs_content.specs.Carried.{tell}
-use Rattle.wjs_rename.specs.Names.{Holds}
+use Rattle.wjs_content.specs.Renamed.{Holds}
 use Rattle.wjs_content.specs.Tables.{text_in, arena_in, entry_in}
 use Rattle.wjs_content.specs.Telling.{names_of}
 use Rattle.wjs_content.specs.Worlds.{worlds_in, told_by, KnowsWorlds}
-use Rattle.wjs_props.specs.Heap.{Parts, IsHeap, Performs, KnowsTold}
-use Rattle.wjs_props.specs.Means.{nothing}
+use Rattle.wjs_heap.specs.Heap.{Parts, IsHeap, Performs, KnowsTold}
+use Rattle.wjs_heap.specs.Means.{nothing}
 use Rattle.wjs_meaning.specs.Builtins.{builtin, first_world}
 use Rattle.wjs_meaning.specs.Start.{Property, properties, first_copy, first_objects, native_objects}
 use Rattle.wjs_meaning.specs.Table.{natives, first_native}

@@ -19,8 +19,8 @@ use Rattle.wjs_arena.specs.Entries.{Objects, Entry, has, next_number, world_of, 
 use Rattle.wjs_arena.proofs.Owners.{by_bool, key_is}
 use Rattle.wjs_content.specs.Objects.{Arena, created}
 use Rattle.wjs_content.specs.Tables.{arena_in}
-use Rattle.wjs_props.specs.Heap.{Parts}
-use Rattle.wjs_props.specs.Acts.{Creates}
+use Rattle.wjs_heap.specs.Heap.{Parts}
+use Rattle.wjs_heap.specs.Acts.{Creates}
 use Rattle.wjs_meaning.specs.Builtins.{builtin, first_world}
 use Rattle.wjs_deeds.proofs.Making.{none_some}
 use Rattle.wjs_start.specs.declared.blueprints.Blueprint.{Blueprint}

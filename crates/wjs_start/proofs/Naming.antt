@@ -7,7 +7,7 @@ use Rattle.wjs_base.specs.declared.values.Name.{Name}
 use Rattle.wjs_base.specs.Spelling.{IsNameOf as NameOfText, IsName}
 use Rattle.wjs_base.specs.Text.{Table, Grows, Has}
 use Rattle.wjs_base.proofs.TextLaws.{Grows-IsName, IsNameOf-IsName}
-use Rattle.wjs_rename.specs.Names.{Holds}
+use Rattle.wjs_content.specs.Renamed.{Holds}
 use Rattle.wjs_content.specs.Values.{Text}
 use Rattle.wjs_content.specs.Tables.{name_in, text_in}
 use Rattle.wjs_props.proofs.SpelledNames.{holds_more}

@@ -3,7 +3,7 @@ use Rattle.std.proofs.Common.{◌≡◌, ℕ, ◌+◌, ◌<◌, ◌≤◌, List,
 use Rattle.std.specs.Prelude.{map}
 use Rattle.std.proofs.lemmas.List.{map-append, map_more, take_all}
 use Rattle.wjs_base.specs.Text.{Table, Grows, IsTable}
-use Rattle.wjs_rename.specs.Names.{Holds}
+use Rattle.wjs_content.specs.Renamed.{Holds}
 use Rattle.wjs_content.proofs.Growth.{name_grows}
 use Rattle.wjs_content.proofs.Known.{name_known}
 use Rattle.wjs_meaning.specs.Start.{Property}

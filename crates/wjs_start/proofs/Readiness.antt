@@ -19,8 +19,8 @@ use Rattle.wjs_content.specs.Carried.{tell}
 use Rattle.wjs_content.specs.Plans.{Told}
 use Rattle.wjs_content.specs.Tables.{text_in, arena_in}
 use Rattle.wjs_content.specs.Worlds.{told_in, told_by}
-use Rattle.wjs_props.specs.declared.heap.Heap.{Heap}
-use Rattle.wjs_props.specs.Means.{parts}
+use Rattle.wjs_heap.specs.declared.heap.Heap.{Heap}
+use Rattle.wjs_heap.specs.Means.{parts}
 use Rattle.wjs_meaning.specs.Trees.{Tree}
 use Rattle.wjs_meaning.specs.Deeds.{St}
 use Rattle.wjs_meaning.specs.Builtins.{builtin, global_object, first_world}

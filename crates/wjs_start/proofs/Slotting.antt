@@ -9,10 +9,10 @@ use Rattle.wjs_base.specs.Text.{Table, Grows}
 use Rattle.wjs_base.proofs.TextLaws.{Grows-Has, Grows-IsName}
 use Rattle.wjs_content.specs.Plans.{Writes, Gives}
 use Rattle.wjs_content.specs.Tables.{value_in}
-use Rattle.wjs_rename.specs.Names.{Holds}
-use Rattle.wjs_props.specs.Heap.{Parts, IsHeap, Performs}
-use Rattle.wjs_props.specs.Means.{nothing}
-use Rattle.wjs_props.proofs.Turns.{performs_nothing, performs_then}
+use Rattle.wjs_content.specs.Renamed.{Holds}
+use Rattle.wjs_heap.specs.Heap.{Parts, IsHeap, Performs}
+use Rattle.wjs_heap.specs.Means.{nothing}
+use Rattle.wjs_heap.proofs.Turns.{performs_nothing, performs_then}
 use Rattle.wjs_meaning.specs.Builtins.{first_world}
 use Rattle.wjs_meaning.specs.Start.{Property}
 use Rattle.wjs_start.specs.declared.known.Place.{Place}

@@ -8,7 +8,7 @@ use Rattle.wjs_arena.specs.Entries.{Entry, next_number, world_of}
 use Rattle.wjs_content.specs.Values.{Text}
 use Rattle.wjs_content.specs.Objects.{Arena, Internals, created}
 use Rattle.wjs_content.specs.Tables.{arena_in}
-use Rattle.wjs_props.specs.Heap.{Parts, IsHeap}
+use Rattle.wjs_heap.specs.Heap.{Parts, IsHeap}
 use Rattle.wjs_meaning.specs.Builtins.{builtin, first_world}
 use Rattle.wjs_start.specs.declared.known.Known.{Known}
 use Rattle.wjs_start.specs.First.{is_script}

@@ -15,7 +15,7 @@ use Rattle.wjs_content.specs.Carried.{tell}
 use Rattle.wjs_content.specs.Plans.{Told, Wrote}
 use Rattle.wjs_content.specs.Tables.{text_in, arena_in}
 use Rattle.wjs_content.specs.Worlds.{worlds_in, told_by, KnowsWorlds}
-use Rattle.wjs_props.specs.Heap.{Parts, IsHeap, KnowsTold}
+use Rattle.wjs_heap.specs.Heap.{Parts, IsHeap, KnowsTold}
 use Rattle.wjs_meaning.specs.Builtins.{builtin, first_world}
 use Rattle.wjs_meaning.specs.Start.{Property, properties, first_arena, first_full}
 

@@ -3,7 +3,7 @@ use Rattle.std.specs.Prelude.{ℕ, Bool, true, ◌&&◌, ◌==◌, nat_lt, List,
 use Rattle.wjs_base.specs.declared.ids.ObjId.{ObjId}
 use Rattle.wjs_content.specs.Values.{Value, Object}
 use Rattle.wjs_content.specs.Plans.{Plan, Gives, Writes, then_plan}
-use Rattle.wjs_props.specs.Means.{nothing}
+use Rattle.wjs_heap.specs.Means.{nothing}
 use Rattle.wjs_meaning.specs.Start.{Property}
 
 -- each slot gets its value, the last one first

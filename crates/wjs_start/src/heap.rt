@@ -1,7 +1,7 @@
 //! The first heap.
 ghost use Rattle.std.specs.Prelude.{All, IfOk};
 ghost use Rattle.wjs_base.specs.Text.{Has, IsTable};
-ghost use Rattle.wjs_props.specs.Means.{parts};
+ghost use Rattle.wjs_heap.specs.Means.{parts};
 ghost use Rattle.wjs_start.specs.First.{IsNew, IsFirst};
 
 use crate::blueprints::blueprints;
@@ -10,7 +10,7 @@ use crate::making::create_all;
 use crate::slots::write_all;
 use std::alloc::Global;
 use wjs_base::{OutOfMemory, TextId, Texts};
-use wjs_props::Heap;
+use wjs_heap::Heap;
 use wjs_store::WorldStore;
 
 /// What there is before the first step, over a new store, where a script declares these names: the first objects, and the slots

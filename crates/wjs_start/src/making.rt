@@ -2,7 +2,7 @@
 ghost use Rattle.std.specs.Prelude.{◌≡◌, ◌+◌, ◌<◌, ◌^◌, ◌∷◌, [], length, true, OnOk};
 ghost use Rattle.wjs_base.specs.Text.{Table, Grows};
 ghost use Rattle.wjs_meaning.specs.Builtins.{builtin};
-ghost use Rattle.wjs_props.specs.Means.{parts};
+ghost use Rattle.wjs_heap.specs.Means.{parts};
 ghost use Rattle.wjs_start.specs.Blueprints.{built, built_from, is_buildable, are_buildable};
 ghost use Rattle.wjs_start.specs.Building.{Building, Makes};
 ghost use Rattle.wjs_start.specs.Known.{Knows};
@@ -12,7 +12,8 @@ use crate::known::Known;
 use crate::objects::build;
 use std::alloc::Global;
 use wjs_base::{ObjId, OutOfMemory};
-use wjs_props::{Heap, create};
+use wjs_heap::Heap;
+use wjs_props::create;
 use wjs_store::WorldStore;
 
 /// Makes the first objects, from number 0 on.

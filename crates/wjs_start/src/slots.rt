@@ -5,9 +5,9 @@ ghost use Rattle.wjs_store.specs.State.{has_world};
 ghost use Rattle.wjs_store.specs.Meaning.{worlds};
 ghost use Rattle.wjs_content.specs.Plans.{Writes, Gives};
 ghost use Rattle.wjs_meaning.specs.Builtins.{first_world};
-ghost use Rattle.wjs_props.specs.Heap.{Performs};
-ghost use Rattle.wjs_props.specs.Means.{parts, nothing};
-ghost use Rattle.wjs_rename.specs.Names.{Holds};
+ghost use Rattle.wjs_heap.specs.Heap.{Performs};
+ghost use Rattle.wjs_heap.specs.Means.{parts, nothing};
+ghost use Rattle.wjs_content.specs.Renamed.{Holds};
 ghost use Rattle.wjs_start.specs.Building.{Building};
 ghost use Rattle.wjs_start.specs.Known.{IsThere, place_in};
 ghost use Rattle.wjs_start.specs.Writing.{writes_of, is_within, are_within};
@@ -15,7 +15,8 @@ ghost use Rattle.wjs_start.specs.Writing.{writes_of, is_within, are_within};
 use crate::blueprints::FIRST_WORLD;
 use crate::known::Place;
 use wjs_base::{Content, OutOfMemory};
-use wjs_props::{Heap, write};
+use wjs_heap::Heap;
+use wjs_props::write;
 use wjs_store::WorldStore;
 
 /// Writes slots in the first world, the last one first, so that the first of a slot stands.

@@ -1,6 +1,5 @@
 pub mod Trees
 pub mod Named
-pub mod Tables
 pub mod Keeps
 pub mod FixedStore
 pub mod States
@@ -13,10 +12,9 @@ pub mod Ascending
 pub mod Replays
 pub mod CommitReplays
 pub mod Invariant
-pub mod HistoryLaws
-pub mod HistoryLists
 pub mod Refused
 pub mod Contents
 pub mod Moved
 pub mod MovedMarks
 pub mod MarksLaw
+pub mod Parents

@@ -5,15 +5,10 @@ pub mod Reached
 pub mod Meaning
 pub mod Shown
 pub mod Fixed
-pub mod FixedLaws
 pub mod Kept
-pub mod Maps
 pub mod Marked
 pub mod MarksMoved
 pub mod Path
-pub mod Rows
 pub mod Run
 pub mod Laws
 pub mod Replay
-pub mod History
-pub mod HistoryCode

@@ -6,8 +6,9 @@ use std::test::Fail;
 use wjs_base::{
     Content, Name, Names, ObjId, OutOfMemory, Slot, TextId, Value, WorldId, same_value,
 };
+use wjs_full::{FullStore, run_actions, serial_history};
 use wjs_overlay::Overlay;
-use wjs_store::{Action, Answer, FullStore, Verdict, run_actions, serial_history};
+use wjs_store::{Action, Answer, Verdict};
 
 const FIRST: WorldId = WorldId {
     owner: 0,

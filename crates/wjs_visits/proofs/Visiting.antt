@@ -33,7 +33,7 @@ use Rattle.wjs_moves.specs.Doing.{Does}
 use Rattle.wjs_deeds.specs.Visits.{HasVisit}
 use Rattle.wjs_deeds.proofs.Composing.{throwing}
 use Rattle.wjs_lines.specs.Lists.{visits_as_items}
-use Rattle.wjs_rename.specs.Names.{Holds}
+use Rattle.wjs_content.specs.Renamed.{Holds}
 use Rattle.wjs_visits.specs.ForIns.{Passes, Reaches, Lists, Refuses, listed}
 
 -- by whether the slot is present

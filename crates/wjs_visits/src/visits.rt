@@ -3,7 +3,7 @@ ghost use Rattle.std.specs.Prelude.{◌≡◌, ◌<◌, ◌++◌, [], length, If
 ghost use Rattle.std.specs.Option.{option_map};
 ghost use Rattle.wjs_base.specs.Text.{Table};
 ghost use Rattle.wjs_content.specs.Tables.{name_in, value_in, slot_in};
-ghost use Rattle.wjs_rename.specs.Names.{Holds};
+ghost use Rattle.wjs_content.specs.Renamed.{Holds};
 ghost use Rattle.wjs_deeds.specs.Visits.{HasVisit};
 ghost use Rattle.wjs_meaning.specs.Deeds.{Do, Read};
 ghost use Rattle.wjs_model.specs.Contents.{holding_in, visits_held};

@@ -4,7 +4,8 @@ ghost use Rattle.wjs_start.specs.First.{IsNew};
 use super::*;
 use crate::tests::scripts::{SCRIPTS, TREES};
 use wjs_command::perform_in;
-use wjs_store::{FullStore, WorldStore};
+use wjs_full::FullStore;
+use wjs_store::WorldStore;
 use wjs_words::{Mode, Options};
 
 /// What the script prints over a new store.

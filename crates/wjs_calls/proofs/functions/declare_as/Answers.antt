@@ -8,7 +8,7 @@ use Rattle.wjs_content.specs.Tables.{text_in, name_in}
 use Rattle.wjs_content.specs.Values.{Text, Object}
 use Rattle.wjs_meaning.specs.Deeds.{Act, Do, Write}
 use Rattle.wjs_moves.specs.Parts.{env_in}
-use Rattle.wjs_props.specs.Means.{nothing}
+use Rattle.wjs_heap.specs.Means.{nothing}
 use Rattle.wjs_deeds.proofs.Later.{later_same}
 use Rattle.wjs_deeds.proofs.Composing.{first_at_once, first_by}
 use Rattle.wjs_calls.specs.Making.{declared_as}

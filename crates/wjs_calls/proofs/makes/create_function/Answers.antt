@@ -1,6 +1,6 @@
 use Rattle.std.proofs.Common.{length, ap, ◌∙◌}
 use Rattle.wjs_base.specs.Text.{Table}
-use Rattle.wjs_props.specs.Means.{nothing}
+use Rattle.wjs_heap.specs.Means.{nothing}
 use Rattle.wjs_meaning.specs.Deeds.{Env, node_here}
 use Rattle.wjs_meaning.specs.Trees.{formals_of}
 use Rattle.wjs_meaning.specs.Functions.{function_object}

@@ -2,7 +2,7 @@ use Rattle.std.proofs.Common.{List, [], ◌∷◌, sym, ap, ◌∙◌, subst}
 use Rattle.wjs_base.specs.declared.values.Name.{Name}
 use Rattle.wjs_base.specs.declared.values.Value.{Value}
 use Rattle.wjs_base.proofs.TextLaws.{Grows-trans}
-use Rattle.wjs_rename.specs.Names.{Holds}
+use Rattle.wjs_content.specs.Renamed.{Holds}
 use Rattle.wjs_content.specs.Names.{message_name}
 use Rattle.wjs_content.specs.Tables.{name_in, value_in, under_in}
 use Rattle.wjs_content.specs.Values.{Text, Value as Said, String}

@@ -1,7 +1,7 @@
 use Rattle.std.proofs.Common.{Some}
 use Rattle.wjs_content.specs.Names.{slot}
 use Rattle.wjs_content.specs.Tables.{name_in, value_in}
-use Rattle.wjs_props.specs.Means.{nothing}
+use Rattle.wjs_heap.specs.Means.{nothing}
 use Rattle.wjs_meaning.specs.Deeds.{Do, Write}
 use Rattle.wjs_deeds.specs.Known.{text_of}
 use Rattle.wjs_deeds.proofs.Composing.{does_with, if_ok}

@@ -2,7 +2,7 @@ use Rattle.std.proofs.Common.{ap, ◌∙◌, sym}
 use Rattle.std.specs.Option.{option_map}
 use Rattle.wjs_content.specs.Objects.{fixed}
 use Rattle.wjs_content.specs.Tables.{value_in, name_in}
-use Rattle.wjs_props.specs.Means.{parts}
+use Rattle.wjs_heap.specs.Means.{parts}
 use Rattle.wjs_deeds.proofs.Having.{value_both}
 use Rattle.wjs_deeds.proofs.Running.{does_ran}
 use Rattle.wjs_deeds.proofs.Steps.{ran_look}

@@ -1,7 +1,7 @@
 use Rattle.std.proofs.Common.{ap, ◌∙◌, sym}
 use Rattle.wjs_content.specs.Objects.{is_hidden}
 use Rattle.wjs_content.specs.Tables.{name_in}
-use Rattle.wjs_props.specs.Means.{parts}
+use Rattle.wjs_heap.specs.Means.{parts}
 use Rattle.wjs_deeds.proofs.Running.{does_ran}
 use Rattle.wjs_deeds.proofs.Seeing.{hidden_found}
 use Rattle.wjs_deeds.proofs.Steps.{ran_look}

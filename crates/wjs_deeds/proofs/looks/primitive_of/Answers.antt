@@ -1,7 +1,7 @@
 use Rattle.std.proofs.Common.{ap}
 use Rattle.wjs_content.specs.Objects.{Internals, object_at}
 use Rattle.wjs_content.specs.Tables.{value_in}
-use Rattle.wjs_props.specs.Means.{parts}
+use Rattle.wjs_heap.specs.Means.{parts}
 use Rattle.wjs_deeds.proofs.Having.{value_both}
 use Rattle.wjs_deeds.proofs.Running.{does_ran}
 use Rattle.wjs_deeds.proofs.Steps.{ran_look}

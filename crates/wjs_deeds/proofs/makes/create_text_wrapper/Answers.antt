@@ -6,11 +6,11 @@ use Rattle.wjs_base.specs.declared.values.Value.TheVariants as values
 use Rattle.wjs_base.specs.Spelling.{IsName}
 use Rattle.wjs_base.specs.Text.{Units}
 use Rattle.wjs_arena.specs.declared.class.Class.TheVariants as class
-use Rattle.wjs_rename.specs.Names.{Holds}
+use Rattle.wjs_content.specs.Renamed.{Holds}
 use Rattle.wjs_content.specs.Names.{length_name}
 use Rattle.wjs_content.specs.Tables.{text_in, name_in}
 use Rattle.wjs_content.specs.Values.{String, whole}
-use Rattle.wjs_props.specs.Heap.{HasValue}
+use Rattle.wjs_heap.specs.Heap.{HasValue}
 use Rattle.wjs_meaning.specs.Builtins.{wrapper_of}
 use Rattle.wjs_deeds.proofs.Composing.{if_ok}
 use Rattle.wjs_deeds.proofs.Later.{later_twice}

@@ -1,5 +1,5 @@
 use Rattle.std.proofs.Common.{sym}
-use Rattle.wjs_props.specs.Properties as plan
+use Rattle.wjs_content.specs.Properties as plan
 use Rattle.wjs_content.specs.Tables.{name_in}
 use Rattle.wjs_deeds.proofs.Running.{does_ran}
 use Rattle.wjs_deeds.proofs.Seeing.{has_found}

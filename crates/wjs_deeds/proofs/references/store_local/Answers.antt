@@ -2,7 +2,7 @@ use Rattle.std.proofs.Common.{Some, None, refl}
 use Rattle.wjs_content.specs.Tables.{name_in, value_in}
 use Rattle.wjs_content.specs.Objects.{fixed}
 use Rattle.wjs_content.specs.Names.{slot}
-use Rattle.wjs_props.specs.Means.{nothing}
+use Rattle.wjs_heap.specs.Means.{nothing}
 use Rattle.wjs_meaning.specs.Deeds.{Do, Look, Write}
 use Rattle.wjs_deeds.proofs.Composing.{does_first, first_at_once, first_by, if_ok}
 use Rattle.wjs_deeds.proofs.references.store_local.Goals as goal

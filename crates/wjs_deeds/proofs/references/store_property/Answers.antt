@@ -1,6 +1,6 @@
 use Rattle.std.proofs.Common.{ap, []}
 use Rattle.wjs_content.specs.Tables.{name_in, value_in}
-use Rattle.wjs_props.specs.declared.answers.PutAnswer.{PutAnswer}
+use Rattle.wjs_content.specs.declared.answers.PutAnswer.{PutAnswer}
 use Rattle.wjs_meaning.specs.declared.trouble.Trouble.TheVariants as troubles
 use Rattle.wjs_meaning.specs.Errors.{error_of}
 use Rattle.wjs_meaning.specs.Properties as line

@@ -1,7 +1,7 @@
 use Rattle.std.proofs.Common.{sym, Some}
 use Rattle.wjs_content.specs.Plans.{Gives, Writes}
 use Rattle.wjs_content.specs.Tables.{slot_in, value_in}
-use Rattle.wjs_props.specs.Means.{nothing}
+use Rattle.wjs_heap.specs.Means.{nothing}
 use Rattle.wjs_deeds.proofs.Running.{does_ran}
 use Rattle.wjs_deeds.proofs.Steps.{ran_actions}
 use Rattle.wjs_deeds.proofs.Later.{later_plan}

@@ -1,5 +1,5 @@
 use Rattle.wjs_store.specs.Shown.{verdict_of}
-use Rattle.wjs_rename.specs.Rename.{shape}
+use Rattle.wjs_content.specs.Rename.{shape}
 use Rattle.wjs_deeds.proofs.Running.{does_ran}
 use Rattle.wjs_deeds.proofs.Steps.{ran_commit}
 use Rattle.wjs_deeds.proofs.Nearing.{commit_left}

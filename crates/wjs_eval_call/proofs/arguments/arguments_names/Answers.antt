@@ -1,4 +1,4 @@
-use Rattle.wjs_props.specs.Means.{nothing}
+use Rattle.wjs_heap.specs.Means.{nothing}
 use Rattle.wjs_deeds.proofs.Later.{later_twice}
 use Rattle.wjs_eval_call.proofs.arguments.arguments_names.Goals as goal
 

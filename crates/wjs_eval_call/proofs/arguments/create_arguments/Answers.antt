@@ -3,7 +3,7 @@ use Rattle.wjs_arena.specs.declared.class.Class.TheVariants as class
 use Rattle.wjs_base.specs.Text.{Table}
 use Rattle.wjs_content.specs.Tables.{value_in}
 use Rattle.std.specs.Prelude.{map}
-use Rattle.wjs_props.specs.Means.{nothing}
+use Rattle.wjs_heap.specs.Means.{nothing}
 use Rattle.wjs_meaning.specs.Functions.{arguments_object}
 use Rattle.wjs_base.proofs.TextLaws.{Grows-trans}
 use Rattle.wjs_deeds.proofs.Later.{later_twice}

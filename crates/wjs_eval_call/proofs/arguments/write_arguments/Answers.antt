@@ -5,7 +5,7 @@ use Rattle.std.proofs.lemmas.List.Elements.{All-weaker}
 use Rattle.wjs_content.specs.Names.{slot, callee_name, length_name}
 use Rattle.wjs_content.specs.Tables.{name_in, value_in}
 use Rattle.wjs_content.specs.Values.{Text, Value, Object, whole}
-use Rattle.wjs_props.specs.Means.{nothing}
+use Rattle.wjs_heap.specs.Means.{nothing}
 use Rattle.wjs_store.specs.Meaning.{Meaning}
 use Rattle.wjs_base.specs.Text.{Table, Grows}
 use Rattle.wjs_base.specs.declared.ids.ObjId.{ObjId}

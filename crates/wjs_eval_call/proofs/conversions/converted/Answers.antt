@@ -2,7 +2,7 @@ use Rattle.std.proofs.Common.{sym, ap, subst}
 use Rattle.std.specs.Prelude.{OnOk}
 use Rattle.wjs_content.specs.Values.{Text, String}
 use Rattle.wjs_content.specs.Tables.{text_in, value_in}
-use Rattle.wjs_convert.specs.Conversions.{primitive_text}
+use Rattle.wjs_content.specs.Conversions.{primitive_text}
 use Rattle.wjs_meaning.specs.Deeds.{Ret, Gives}
 use Rattle.wjs_model.specs.declared.frame.Conversion.{Conversion}
 use Rattle.wjs_model.specs.Contents.{holding_in}

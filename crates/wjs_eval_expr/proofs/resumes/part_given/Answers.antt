@@ -3,7 +3,7 @@ use Rattle.wjs_model.specs.Contents.{completion_in, holding_in}
 use Rattle.wjs_moves.specs.Parts.{node_now}
 use Rattle.wjs_calls.specs.Callees.{is_new}
 use Rattle.wjs_lines.proofs.Following.{follows_as}
-use Rattle.wjs_eval_expr.specs.Parts.{is_array, is_object}
+use Rattle.wjs_literals.specs.Parts.{is_array, is_object}
 use Rattle.wjs_eval_expr.proofs.Forms.{array_goes, object_goes, new_goes}
 use Rattle.wjs_eval_expr.proofs.resumes.part_given.Goals as goal
 

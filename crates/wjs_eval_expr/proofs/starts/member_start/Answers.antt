@@ -1,9 +1,9 @@
 use Rattle.std.proofs.Common.{ap, ◌∙◌}
 use Rattle.wjs_moves.specs.Parts.{node_now}
 use Rattle.wjs_lines.proofs.Following.{follows_as}
-use Rattle.wjs_eval_expr.specs.Arguments.{callee_in, is_call}
+use Rattle.wjs_literals.specs.Arguments.{callee_in, is_call}
 use Rattle.wjs_eval_expr.proofs.Forms.{at_begins, call_begins}
-use Rattle.wjs_eval_expr.proofs.Standing.{function_stands}
+use Rattle.wjs_literals.proofs.Standing.{function_stands}
 use Rattle.wjs_eval_expr.proofs.starts.member_start.Goals as goal
 
 pub function_start-requires-clause-stands : goal.function_start-requires-clause-stands

@@ -1,7 +1,7 @@
 use Rattle.std.proofs.Common.{sym, ap, ◌∙◌}
 use Rattle.wjs_base.specs.declared.values.Value.{Value}
 use Rattle.wjs_content.specs.Tables.{value_in}
-use Rattle.wjs_convert.specs.Conversions.{primitive_text}
+use Rattle.wjs_content.specs.Conversions.{primitive_text}
 use Rattle.wjs_lines.proofs.Indices.{index_text}
 use Rattle.wjs_lines.proofs.texts.index_of.Goals as goal
 

@@ -3,7 +3,7 @@ use Rattle.std.specs.Prelude.{ℕ}
 use Rattle.wjs_base.specs.Text.{Table}
 use Rattle.wjs_base.specs.declared.values.Value.{Value}
 use Rattle.wjs_content.specs.Tables.{name_in, text_in, value_in}
-use Rattle.wjs_convert.specs.Conversions.{primitive_text}
+use Rattle.wjs_content.specs.Conversions.{primitive_text}
 use Rattle.wjs_lines.proofs.Following.{does_same, does_told, does_as, later_same}
 use Rattle.wjs_lines.proofs.texts.name_by_text.Goals as goal
 

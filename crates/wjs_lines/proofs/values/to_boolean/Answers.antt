@@ -1,5 +1,5 @@
 use Rattle.std.proofs.Common.{ap, sym, ◌∙◌}
-use Rattle.wjs_convert.specs.Conversions.{to_boolean}
+use Rattle.wjs_content.specs.Conversions.{to_boolean}
 use Rattle.wjs_lines.proofs.Knowing.{knows, value_stays}
 use Rattle.wjs_lines.proofs.values.to_boolean.Goals as goal
 

@@ -1,7 +1,7 @@
 use Rattle.std.proofs.Common.{◌++◌, ap, subst, append-nil}
 use Rattle.std.specs.Prelude.{OnOk}
 use Rattle.wjs_content.specs.Tables.{text_in, value_in}
-use Rattle.wjs_convert.specs.Conversions.{primitive_text}
+use Rattle.wjs_content.specs.Conversions.{primitive_text}
 use Rattle.wjs_meaning.specs.Deeds.{Env}
 use Rattle.wjs_meaning.specs.Errors.{give_text}
 use Rattle.wjs_moves.specs.Following.{Follows}

@@ -1,6 +1,6 @@
 use Rattle.std.proofs.Common.{true, false, sym, ap}
 use Rattle.wjs_content.specs.Tables.{value_in}
-use Rattle.wjs_convert.specs.Conversions.{is_text}
+use Rattle.wjs_content.specs.Conversions.{is_text}
 use Rattle.wjs_meaning.specs.Deeds.{Act, give}
 use Rattle.wjs_moves.specs.Parts.{env_in}
 use Rattle.wjs_meaning.specs.Errors.{throw}

@@ -3,7 +3,7 @@ use Rattle.wjs_content.specs.Tables.{value_in}
 use Rattle.wjs_content.specs.Values.{Value, String}
 use Rattle.wjs_meaning.specs.NativesOfTexts.{is_truth}
 use Rattle.wjs_meaning.specs.Deeds.{Act, give}
-use Rattle.wjs_convert.specs.Conversions.{primitive_text}
+use Rattle.wjs_content.specs.Conversions.{primitive_text}
 use Rattle.wjs_moves.specs.Parts.{env_in}
 use Rattle.wjs_meaning.specs.Errors.{throw}
 use Rattle.wjs_meaning.specs.declared.trouble.Trouble.TheVariants.{WrongReceiver}

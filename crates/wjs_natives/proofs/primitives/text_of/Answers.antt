@@ -2,8 +2,8 @@ use Rattle.std.proofs.Common.{refl, sym, ap, ◌∙◌}
 use Rattle.wjs_base.proofs.TextLaws.{Denotes-Has, Grows-trans}
 use Rattle.wjs_content.specs.Tables.{value_in}
 use Rattle.wjs_content.specs.Values.{String}
-use Rattle.wjs_convert.specs.Conversions.{primitive_text}
-use Rattle.wjs_props.specs.Means.{nothing}
+use Rattle.wjs_content.specs.Conversions.{primitive_text}
+use Rattle.wjs_heap.specs.Means.{nothing}
 use Rattle.wjs_deeds.proofs.Running.{does_ran}
 use Rattle.wjs_deeds.proofs.Steps.{ran_nothing}
 use Rattle.wjs_deeds.proofs.Later.{later_texts}

@@ -1,5 +1,5 @@
 use Rattle.std.proofs.Common.{rules, ◌<◌, length, get_or, sym}
-use Rattle.wjs_store.proofs.Tables.{slice_get_at}
+use Rattle.wjs_store.proofs.Parents.{slice_get_at}
 use Rattle.wjs_overlay.proofs.Looks.{below_at, above_at}
 use Rattle.wjs_overlay.proofs.CommitLaws.{no_above, parent_there, faulty, passes}
 use Rattle.wjs_overlay.proofs.Depths.{checked_within, moved_within}

@@ -1,6 +1,6 @@
 use Rattle.std.proofs.Common.{refl, sym, subst, set, get_or}
 use Rattle.wjs_store.specs.State.{at_world, clear_marks}
-use Rattle.wjs_store.proofs.Tables.{slice_get_at}
+use Rattle.wjs_store.proofs.Parents.{slice_get_at}
 use Rattle.wjs_overlay.specs.Moves.{cleared}
 use Rattle.wjs_overlay.specs.Sparse.{AreKept}
 use Rattle.wjs_overlay.proofs.ListLaws.{kept_at}

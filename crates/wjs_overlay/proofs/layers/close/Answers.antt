@@ -2,7 +2,7 @@ use Rattle.std.proofs.Common.{rules, ◌<◌, length, sym, subst, set, get_or}
 use Rattle.std.proofs.lemmas.Result.{on_ok_weaker}
 use Rattle.wjs_store.specs.State.{at_world, close_in}
 use Rattle.wjs_overlay.specs.Sparse.{AreKept, full_of}
-use Rattle.wjs_store.proofs.Tables.{slice_get_at}
+use Rattle.wjs_store.proofs.Parents.{slice_get_at}
 use Rattle.wjs_overlay.proofs.Looks.{below_at}
 use Rattle.wjs_overlay.proofs.ListLaws.{close_by}
 use Rattle.wjs_overlay.proofs.layers.close.Goals as goal

@@ -1,6 +1,6 @@
 use Rattle.std.proofs.Common.{get_or}
 use Rattle.std.proofs.lemmas.Result.{on_ok_weaker}
-use Rattle.wjs_store.proofs.Tables.{slice_get_at}
+use Rattle.wjs_store.proofs.Parents.{slice_get_at}
 use Rattle.wjs_overlay.specs.Moves.{closed_all}
 use Rattle.wjs_overlay.proofs.ListLaws.{kept_at}
 use Rattle.wjs_overlay.proofs.HandLaws.{closes_id}

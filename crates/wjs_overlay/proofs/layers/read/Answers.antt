@@ -2,7 +2,7 @@ use Rattle.std.proofs.Common.{rules, ◌<◌, length, sym, ◌∙◌, subst, IfS
 use Rattle.wjs_overlay.specs.declared.layer.Layer.{Layer}
 use Rattle.wjs_overlay.specs.declared.layer.Look.TheVariants.{Untouched}
 use Rattle.wjs_overlay.specs.Look.{Looked}
-use Rattle.wjs_store.proofs.Tables.{slice_get_at}
+use Rattle.wjs_store.proofs.Parents.{slice_get_at}
 use Rattle.wjs_overlay.proofs.Looks.{content_now, content_closed, content_first, now_none, below_at}
 use Rattle.wjs_overlay.proofs.ReadLaws.{read_now, read_closed, read_first}
 use Rattle.wjs_overlay.proofs.layers.read.Goals as goal

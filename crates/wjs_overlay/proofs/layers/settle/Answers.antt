@@ -4,7 +4,7 @@ use Rattle.wjs_base.specs.declared.values.Slot.{Slot}
 use Rattle.wjs_overlay.specs.declared.maps.Row.{Row}
 use Rattle.wjs_overlay.specs.declared.layer.Layer.{Layer}
 use Rattle.wjs_overlay.specs.Sparse.{full_of, depth_of}
-use Rattle.wjs_store.proofs.Tables.{slice_get_at}
+use Rattle.wjs_store.proofs.Parents.{slice_get_at}
 use Rattle.wjs_overlay.proofs.Looks.{below_at}
 use Rattle.wjs_overlay.proofs.Works.{times_le}
 use Rattle.wjs_overlay.proofs.Moving.{parent_at, rows_fit, closed_fit, handed_sparse, handed_there, handed_depth, settled}

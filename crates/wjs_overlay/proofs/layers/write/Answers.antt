@@ -2,7 +2,7 @@ use Rattle.std.proofs.Common.{◌≡◌, rules, ◌<◌, length, sym, ap, subst,
 use Rattle.std.proofs.lemmas.Result.{on_ok_weaker}
 use Rattle.wjs_store.specs.State.{put, after_write}
 use Rattle.wjs_store.specs.Shown.{content_of}
-use Rattle.wjs_store.proofs.Tables.{slice_get_at}
+use Rattle.wjs_store.proofs.Parents.{slice_get_at}
 use Rattle.wjs_overlay.specs.declared.layer.Layer.{Layer}
 use Rattle.wjs_overlay.specs.Look.{first_row_of}
 use Rattle.wjs_overlay.specs.Sparse.{StandFor, full_of}

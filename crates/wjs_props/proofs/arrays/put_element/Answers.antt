@@ -1,7 +1,7 @@
 use Rattle.std.proofs.Common.{◌∙◌, ◌+◌}
-use Rattle.wjs_props.specs.Means.{parts}
+use Rattle.wjs_heap.specs.Means.{parts}
 use Rattle.wjs_props.proofs.Putting.{put_below, put_past, slot_after, number_there}
-use Rattle.wjs_props.proofs.Turns.{grows_twice}
+use Rattle.wjs_heap.proofs.Turns.{grows_twice}
 use Rattle.wjs_props.proofs.arrays.put_element.Goals as goal
 
 pub returns-then-index-length : goal.returns-then-index-length

@@ -1,5 +1,5 @@
 use Rattle.std.proofs.Common.{sym, ◌∙◌, Some, None}
-use Rattle.wjs_props.specs.Means.{parts}
+use Rattle.wjs_heap.specs.Means.{parts}
 use Rattle.wjs_props.proofs.Cutting.{index_small}
 use Rattle.wjs_props.proofs.Putting.{if_ok, index_handed, other_handed, length_handed, text_handed, spells_length, bad_length}
 use Rattle.wjs_props.proofs.arrays.put_in_array.Goals as goal

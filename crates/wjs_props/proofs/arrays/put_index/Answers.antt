@@ -1,7 +1,7 @@
 use Rattle.wjs_content.specs.Tables.{value_in}
-use Rattle.wjs_props.specs.Means.{parts}
-use Rattle.wjs_props.specs.Properties as plan
-use Rattle.wjs_props.proofs.Growing.{heap_grows, value_stays, performs_grown}
+use Rattle.wjs_heap.specs.Means.{parts}
+use Rattle.wjs_content.specs.Properties as plan
+use Rattle.wjs_heap.proofs.Growing.{heap_grows, value_stays, performs_grown}
 use Rattle.wjs_props.proofs.arrays.put_index.Goals as goal
 
 pub put_element-requires-clause-heap : goal.put_element-requires-clause-heap

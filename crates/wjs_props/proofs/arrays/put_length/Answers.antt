@@ -1,7 +1,7 @@
 use Rattle.std.proofs.Common.{◌∙◌}
-use Rattle.wjs_props.specs.Means.{parts}
+use Rattle.wjs_heap.specs.Means.{parts}
 use Rattle.wjs_props.proofs.Putting.{length_put, slot_after, number_there}
-use Rattle.wjs_props.proofs.Turns.{grows_twice}
+use Rattle.wjs_heap.proofs.Turns.{grows_twice}
 use Rattle.wjs_props.proofs.arrays.put_length.Goals as goal
 
 pub write-requires-clause-slot : goal.write-requires-clause-slot

@@ -1,4 +1,4 @@
-use Rattle.wjs_props.specs.Means.{parts}
+use Rattle.wjs_heap.specs.Means.{parts}
 use Rattle.std.proofs.Common.{◌≤◌, ◌<◌, ◌-◌, arith}
 use Rattle.wjs_props.proofs.Cutting.{cut_few, cut_many}
 use Rattle.wjs_props.proofs.Putting.{if_ok}

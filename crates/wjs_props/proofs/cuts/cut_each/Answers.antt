@@ -1,4 +1,4 @@
-use Rattle.wjs_props.specs.Means.{parts}
+use Rattle.wjs_heap.specs.Means.{parts}
 use Rattle.wjs_props.proofs.Cutting.{cut_begins, cut_goes_on, cut_ends}
 use Rattle.wjs_props.proofs.cuts.cut_each.Goals as goal
 

@@ -1,4 +1,4 @@
-use Rattle.wjs_props.specs.Means.{parts}
+use Rattle.wjs_heap.specs.Means.{parts}
 use Rattle.wjs_props.proofs.Cutting.{listed_cut}
 use Rattle.wjs_props.proofs.cuts.cut_listed.Goals as goal
 

@@ -1,6 +1,6 @@
 use Rattle.std.proofs.Common.{sym, ◌∙◌}
 use Rattle.wjs_base.specs.declared.values.Name.TheVariants as name
-use Rattle.wjs_props.specs.Means.{parts}
+use Rattle.wjs_heap.specs.Means.{parts}
 use Rattle.wjs_props.proofs.Cutting.{name_stays_put, name_goes_as, index_is_within, other_not_within, index_small}
 use Rattle.wjs_props.proofs.cuts.cut_name.Goals as goal
 

@@ -1,5 +1,5 @@
 use Rattle.std.proofs.Common.{arith}
-use Rattle.wjs_props.specs.Means.{parts}
+use Rattle.wjs_heap.specs.Means.{parts}
 use Rattle.wjs_props.proofs.Cutting.{naming_begins, naming_goes_on, naming_ends, name_there}
 use Rattle.wjs_props.proofs.cuts.cut_names.Goals as goal
 

@@ -1,6 +1,6 @@
 use Rattle.std.proofs.Common.{ap}
 use Rattle.wjs_store.specs.Shown.{content_of}
-use Rattle.wjs_props.specs.Means.{parts}
+use Rattle.wjs_heap.specs.Means.{parts}
 use Rattle.wjs_props.proofs.Cutting.{one_absent, one_present}
 use Rattle.wjs_props.proofs.cuts.cut_one.Goals as goal
 

@@ -1,5 +1,5 @@
-use Rattle.wjs_props.specs.Means.{parts}
-use Rattle.wjs_props.proofs.Growing.{created_so}
+use Rattle.wjs_heap.specs.Means.{parts}
+use Rattle.wjs_heap.proofs.Growing.{created_so}
 use Rattle.wjs_props.proofs.deeds.create.Goals as goal
 
 pub returns-clause-creates : goal.returns-clause-creates

@@ -1,4 +1,4 @@
-use Rattle.wjs_props.specs.Means.{parts}
+use Rattle.wjs_heap.specs.Means.{parts}
 use Rattle.wjs_props.proofs.Actions.{did_read, found_there}
 use Rattle.wjs_props.proofs.deeds.look.Goals as goal
 

@@ -1,4 +1,4 @@
-use Rattle.wjs_props.specs.Means.{parts}
+use Rattle.wjs_heap.specs.Means.{parts}
 use Rattle.wjs_props.proofs.Walking.{IsListed, begins, lists_all, all_there, lists_on}
 use Rattle.wjs_props.proofs.listing.list_names.Goals as goal
 

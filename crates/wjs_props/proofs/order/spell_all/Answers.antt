@@ -1,5 +1,5 @@
 use Rattle.std.proofs.Common.{◌∙◌, ap, ◌++◌, ◌+◌, map, subst, sym, drop}
-use Rattle.wjs_rename.specs.Names.{Holds}
+use Rattle.wjs_content.specs.Renamed.{Holds}
 use Rattle.wjs_props.specs.declared.order.Spelled.{Spelled}
 use Rattle.wjs_props.specs.Spelled.{IsSpelled}
 use Rattle.wjs_props.proofs.SpelledNames.{pushed, holds_more, names_further}

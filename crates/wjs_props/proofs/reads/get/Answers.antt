@@ -1,6 +1,6 @@
 use Rattle.std.proofs.Common.{sym, ap, ◌∙◌}
 use Rattle.wjs_store.specs.Shown.{content_of}
-use Rattle.wjs_props.specs.Means.{parts}
+use Rattle.wjs_heap.specs.Means.{parts}
 use Rattle.wjs_props.proofs.Getting.{begins, ends_fixed, ends_found, ends_absent, goes_on, fixed_there, none_of, absent_of, next_of}
 use Rattle.wjs_props.proofs.reads.get.Goals as goal
 

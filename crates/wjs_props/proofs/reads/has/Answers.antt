@@ -2,8 +2,8 @@ use Rattle.std.proofs.Common.{ap, true, false}
 use Rattle.std.specs.Prelude.{is_some}
 use Rattle.wjs_store.specs.Shown.{content_of}
 use Rattle.wjs_content.specs.Tables.{name_in, arena_in}
-use Rattle.wjs_props.specs.Means.{parts}
-use Rattle.wjs_props.specs.Properties as plan
+use Rattle.wjs_heap.specs.Means.{parts}
+use Rattle.wjs_content.specs.Properties as plan
 use Rattle.wjs_props.proofs.Deleting.{has_performs}
 use Rattle.wjs_props.proofs.reads.has.Goals as goal
 

@@ -1,5 +1,5 @@
 use Rattle.wjs_arena.specs.Entries.{depth_at}
-use Rattle.wjs_props.specs.Means.{parts}
+use Rattle.wjs_heap.specs.Means.{parts}
 use Rattle.wjs_props.proofs.Getting.{IsGetting}
 use Rattle.wjs_props.proofs.reads.peek.Given as goal
 

@@ -1,7 +1,7 @@
 use Rattle.std.proofs.Common.{sym, ap, ◌∙◌, true, false}
 use Rattle.std.specs.Prelude.{is_some, is_none}
 use Rattle.wjs_store.specs.Shown.{content_of}
-use Rattle.wjs_props.specs.Means.{parts}
+use Rattle.wjs_heap.specs.Means.{parts}
 use Rattle.wjs_props.proofs.Deleting.{delete_fixed, delete_kept, delete_other}
 use Rattle.wjs_props.proofs.writes.delete.Goals as goal
 

@@ -1,5 +1,5 @@
 use Rattle.std.proofs.Common.{sym, ◌∙◌}
-use Rattle.wjs_props.specs.Means.{parts}
+use Rattle.wjs_heap.specs.Means.{parts}
 use Rattle.wjs_props.proofs.Putting.{if_ok, put_ignored, put_array, put_other}
 use Rattle.wjs_props.proofs.writes.put.Goals as goal
 

@@ -1,10 +1,10 @@
 use Rattle.std.proofs.Common.{refl, ap, ◌∙◌}
 use Rattle.wjs_base.proofs.TextLaws.{Denotes-Has, Grows-trans, IsNameOf-IsName}
 use Rattle.wjs_content.specs.Tables.{name_in, content_in, arena_in}
-use Rattle.wjs_props.specs.Means.{parts}
-use Rattle.wjs_props.specs.Properties as plan
-use Rattle.wjs_props.proofs.Growing.{heap_grows, performs_grown}
-use Rattle.wjs_props.proofs.Turns.{performs_same}
+use Rattle.wjs_heap.specs.Means.{parts}
+use Rattle.wjs_content.specs.Properties as plan
+use Rattle.wjs_heap.proofs.Growing.{heap_grows, performs_grown}
+use Rattle.wjs_heap.proofs.Turns.{performs_same}
 use Rattle.wjs_deeds.proofs.Spelling.{denotes_in, named_in}
 use Rattle.wjs_reports.proofs.thrown.property.Goals as goal
 

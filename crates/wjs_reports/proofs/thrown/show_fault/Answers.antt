@@ -2,7 +2,7 @@ use Rattle.std.proofs.Common.{◌≡◌, IsTrue, ap, ◌∙◌, subst}
 use Rattle.std.specs.Prelude.{not, IfOk}
 use Rattle.wjs_base.specs.Unicode.{utf8_of}
 use Rattle.wjs_content.specs.Values.{Text}
-use Rattle.wjs_props.specs.Means.{parts}
+use Rattle.wjs_heap.specs.Means.{parts}
 use Rattle.wjs_reports.proofs.Errors.{fault_read}
 use Rattle.wjs_reports.proofs.thrown.show_fault.Goals as goal
 

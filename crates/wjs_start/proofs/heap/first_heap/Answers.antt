@@ -1,7 +1,7 @@
 use Rattle.std.proofs.Common.{length, sym, ap, ◌∙◌, subst}
 use Rattle.wjs_base.specs.Text.{Table, Grows}
 use Rattle.wjs_base.proofs.TextLaws.{Grows-refl}
-use Rattle.wjs_props.specs.Means.{parts}
+use Rattle.wjs_heap.specs.Means.{parts}
 use Rattle.wjs_start.specs.Building.{Building}
 use Rattle.wjs_start.specs.Known.{declared_in}
 use Rattle.wjs_start.proofs.Beginning.{nothing_built, knows_here, names_here, places_here, places_within, first_there, made_from_nothing, begun}

@@ -1,6 +1,6 @@
 use Rattle.std.proofs.Common.{subst}
 use Rattle.wjs_base.specs.Text.{Table, Grows}
-use Rattle.wjs_props.specs.Means.{parts}
+use Rattle.wjs_heap.specs.Means.{parts}
 use Rattle.wjs_start.proofs.Creation.{makes_on, buildable_first}
 use Rattle.wjs_start.proofs.making.create_all.Goals as goal
 

@@ -1,5 +1,5 @@
 use Rattle.std.proofs.Common.{take}
-use Rattle.wjs_props.specs.Means.{parts}
+use Rattle.wjs_heap.specs.Means.{parts}
 use Rattle.wjs_start.specs.Blueprints.{built_from}
 use Rattle.wjs_start.specs.Building.{Makes}
 use Rattle.wjs_start.proofs.making.create_all.Given as goal

@@ -1,5 +1,5 @@
 use Rattle.wjs_base.proofs.TextLaws.{Grows-refl}
-use Rattle.wjs_props.specs.Means.{parts}
+use Rattle.wjs_heap.specs.Means.{parts}
 use Rattle.wjs_start.proofs.Creation.{before_there, constructs_before, made_one}
 use Rattle.wjs_start.proofs.making.create_one.Goals as goal
 

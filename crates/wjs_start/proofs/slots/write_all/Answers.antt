@@ -1,5 +1,5 @@
 use Rattle.std.proofs.Common.{◌-◌, ◌<◌, length, arith}
-use Rattle.wjs_props.specs.Means.{parts}
+use Rattle.wjs_heap.specs.Means.{parts}
 use Rattle.wjs_start.proofs.Slotting.{none_written, written_on, all_written, within_still, there_still}
 use Rattle.wjs_start.proofs.slots.write_all.Goals as goal
 

@@ -1,4 +1,4 @@
-use Rattle.wjs_props.specs.Means.{parts}
+use Rattle.wjs_heap.specs.Means.{parts}
 use Rattle.wjs_start.proofs.Slotting.{Written}
 use Rattle.wjs_start.proofs.slots.write_all.Given as goal
 

@@ -1,6 +1,0 @@
-use Rattle.std.proofs.Common.{refl}
-use Rattle.wjs_lines.proofs.Following.{follows_as}
-use Rattle.wjs_eval_expr.proofs.news.new_held.Goals as goal
-
-pub returns : goal.returns
-returns g c = follows_as _ _ _ _ _ _ (λ grows. rw c.held_callee-callee.ensures.is refl) c.construct.ensures

@@ -1,0 +1,3 @@
+pub mod Tables
+pub mod HistoryLaws
+pub mod HistoryLists

@@ -1,0 +1,12 @@
+use Rattle.std.proofs.Common.{arith, cond}
+use Rattle.wjs_store.specs.Naming.{plain}
+use Rattle.wjs_store.specs.State.{World, same_world, read_in, after_read}
+use Rattle.wjs_full.specs.Rows.{world_in}
+use Rattle.wjs_full.proofs.Tables.{worlds_each, rows_done}
+use Rattle.wjs_full.proofs.table.read_rows.Goals as goal
+
+pub returns : goal.returns
+unfolding after_read
+returns c =
+    let g = λ (x : World plain). cond (same_world x.id c.args.world) (read_in c.args.slot x) x in
+    worlds_each g c.args.table.now c.loop-row.table (rows_done world_in g c.loop-row.table c.loop-row.row-index _ (omega arith) c.loop-row.invariant)

@@ -1,0 +1,4 @@
+pub mod Heap
+pub mod Acts
+pub mod Means
+pub mod HeapLaws

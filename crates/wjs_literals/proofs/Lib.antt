@@ -1,0 +1,4 @@
+pub mod CallLines
+pub mod Items
+pub mod Lines
+pub mod Standing

@@ -1,0 +1,6 @@
+use Rattle.std.proofs.Common.{refl}
+use Rattle.wjs_lines.proofs.Following.{follows_as}
+use Rattle.wjs_literals.proofs.calls.call_held.Goals as goal
+
+pub returns : goal.returns
+returns g c = follows_as _ _ _ _ _ _ (λ grows. rw c.held_callee-callee.ensures.is refl) c.call_value.ensures

@@ -1,7 +1,0 @@
-use Rattle.std.proofs.Common.{◌∙◌, ◌∷◌, []}
-use Rattle.std.proofs.lemmas.Result.{on_ok_weaker}
-use Rattle.wjs_store.proofs.HistoryLists.{put_again}
-use Rattle.wjs_store.proofs.history.Histories.put_place.Goals as goal
-
-pub returns : goal.returns
-returns c = record { ok = on_ok_weaker c.set.result (λ h. h ∙ put_again c.args.self.now c.take-places.new.self c.args.world c.take-places.result c.push.new.self (c.args.place ∷ []) c.take-places.ensures.emptied c.take-places.ensures.places c.in_ok-push.ensures.ok) c.set.ensures.ok }
