@@ -62,18 +62,18 @@ pub fn peek<S: WorldStore>(
     ensures gets { IfSome result (λ found. Performs world (λ t. plan.get (arena_in t heap.now.arena) object (name_in t name)) (λ t. content_in t found) (parts S.meaning heap.now) (parts S.meaning heap.now)) }
     ensures found { IfSome result (λ found. HasContent heap.now.texts heap.now.arena (content_of found)) }
 {
-    let mut at = object;
+    let mut here = object;
     'up: loop {
-        if let Some(value) = heap.arena.fixed(at, name) {
+        if let Some(value) = heap.arena.fixed(here, name) {
             return Some(Content::Present(value));
         }
-        let found = look(heap, world, Slot { object: at, name })?;
+        let found = look(heap, world, Slot { object: here, name })?;
         if let Content::Present(_) = found {
             return Some(found);
         }
-        match heap.arena.object(at).prototype {
+        match heap.arena.object(here).prototype {
             None => return Some(Content::Absent),
-            Some(prototype) => at = prototype,
+            Some(prototype) => here = prototype,
         }
     }
 }

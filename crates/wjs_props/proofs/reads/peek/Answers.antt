@@ -10,24 +10,24 @@ up-init g c = begins c.args.world c.args.name c.args.object (parts g.S.WorldStor
 pub returns-in-Some-clause-gets : goal.returns-in-Some-clause-gets
 returns-in-Some-clause-gets g c =
     let p = parts g.S.WorldStore.meaning c.args.heap.now in
-    ends_fixed c.args.world c.args.name c.args.object p p c.up.at c.up.invariant c.in-Some.value (sym c.fixed.ensures.fixed ∙ c.in-Some.is)
+    ends_fixed c.args.world c.args.name c.args.object p p c.up.here c.up.invariant c.in-Some.value (sym c.fixed.ensures.fixed ∙ c.in-Some.is)
 
 pub returns-in-Some-clause-found : goal.returns-in-Some-clause-found
-returns-in-Some-clause-found g c = fixed_there (parts g.S.WorldStore.meaning c.args.heap.now) c.up.invariant.heap c.up.at c.args.name c.in-Some.value (sym c.fixed.ensures.fixed ∙ c.in-Some.is)
+returns-in-Some-clause-found g c = fixed_there (parts g.S.WorldStore.meaning c.args.heap.now) c.up.invariant.heap c.up.here c.args.name c.in-Some.value (sym c.fixed.ensures.fixed ∙ c.in-Some.is)
 
 pub returns-in-Present-clause-gets : goal.returns-in-Present-clause-gets
 returns-in-Present-clause-gets g c =
     let p = parts g.S.WorldStore.meaning c.args.heap.now in
-    ends_found c.args.world c.args.name c.args.object p p c.up.at c.up.invariant p c.in_ok-found.found (sym c.fixed.ensures.fixed ∙ none_of _ c.in_default.not-Some) c.in_ok-found.ensures.reads c.in-Present.field-0 (ap content_of c.in-Present.is)
+    ends_found c.args.world c.args.name c.args.object p p c.up.here c.up.invariant p c.in_ok-found.found (sym c.fixed.ensures.fixed ∙ none_of _ c.in_default.not-Some) c.in_ok-found.ensures.reads c.in-Present.field-0 (ap content_of c.in-Present.is)
 
 pub returns-in-None-clause-gets : goal.returns-in-None-clause-gets
 returns-in-None-clause-gets g c =
     let p = parts g.S.WorldStore.meaning c.args.heap.now in
-    ends_absent c.args.world c.args.name c.args.object p p c.up.at c.up.invariant p c.in_ok-found.found (sym c.fixed.ensures.fixed ∙ none_of _ c.in_default.not-Some) c.in_ok-found.ensures.reads (absent_of _ c.in_default-found.not-Present)
-    (next_of p p c.up.at c.object.result.now refl c.up.invariant.there c.object.ensures.object ∙ c.in-None.is)
+    ends_absent c.args.world c.args.name c.args.object p p c.up.here c.up.invariant p c.in_ok-found.found (sym c.fixed.ensures.fixed ∙ none_of _ c.in_default.not-Some) c.in_ok-found.ensures.reads (absent_of _ c.in_default-found.not-Present)
+    (next_of p p c.up.here c.object.result.now refl c.up.invariant.there c.object.ensures.object ∙ c.in-None.is)
 
 pub up-preserved : goal.up-preserved
 up-preserved g c =
     let p = parts g.S.WorldStore.meaning c.args.heap.now in
-    goes_on c.args.world c.args.name c.args.object p p c.up.at c.up.invariant p c.in_ok-found.found (sym c.fixed.ensures.fixed ∙ none_of _ c.in_default.not-Some) c.in_ok-found.ensures.reads c.in-Some-prototype.prototype (absent_of _ c.in_default-found.not-Present)
-    (next_of p p c.up.at c.object.result.now refl c.up.invariant.there c.object.ensures.object ∙ c.in-Some-prototype.is)
+    goes_on c.args.world c.args.name c.args.object p p c.up.here c.up.invariant p c.in_ok-found.found (sym c.fixed.ensures.fixed ∙ none_of _ c.in_default.not-Some) c.in_ok-found.ensures.reads c.in-Some-prototype.prototype (absent_of _ c.in_default-found.not-Present)
+    (next_of p p c.up.here c.object.result.now refl c.up.invariant.there c.object.ensures.object ∙ c.in-Some-prototype.is)
