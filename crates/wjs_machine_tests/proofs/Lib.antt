@@ -1,3 +1,3 @@
 pub mod Telling
 pub mod Later
-pub mod Owners
+pub mod Belonging

@@ -1,4 +1,4 @@
-use Rattle.wjs_machine_tests.proofs.Owners.{world_by}
+use Rattle.wjs_machine_tests.proofs.Belonging.{world_by}
 use Rattle.wjs_machine_tests.proofs.owners.world_of_object.Goals as goal
 
 pub returns : goal.returns
