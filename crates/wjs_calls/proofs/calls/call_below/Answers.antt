@@ -1,7 +1,16 @@
-use Rattle.std.proofs.Common.{sym, subst}
+use Rattle.std.proofs.Common.{sym, ap, ◌∙◌, subst}
+use Rattle.std.specs.Prelude.{OnOk}
+use Rattle.wjs_content.specs.Tables.{value_in}
+use Rattle.wjs_meaning.specs.Calls as line
+use Rattle.wjs_meaning.specs.Deeds.{Act}
+use Rattle.wjs_model.specs.declared.config.Config.{Config}
+use Rattle.wjs_model.specs.declared.frame.Activation.{Activation as Frame}
 use Rattle.wjs_model.specs.declared.frame.Form.TheVariants as form
 use Rattle.wjs_model.specs.declared.frame.Phase.TheVariants as phases
+use Rattle.wjs_model.specs.Contents.{holding_in}
 use Rattle.wjs_model.specs.Soundness.{IsThere}
+use Rattle.wjs_moves.specs.Following.{Follows}
+use Rattle.wjs_moves.specs.Parts.{env_in}
 use Rattle.wjs_calls.proofs.Frames.{there_with}
 use Rattle.wjs_calls.proofs.calls.call_below.Goals as goal
 
@@ -13,3 +22,15 @@ call-requires-clause-there g c =
     let f = c.args.frame in
     let h = later.frames f c.requires.there in
     subst (IsThere m new) (sym c.in_ok-above.ensures) (there_with m new f form.Call 0 phases.Ready f.this c.args.items h tt h.this (later.items c.args.items c.requires.items) tt)
+
+-- the call is run where the frame is
+pub returns : goal.returns
+returns g c =
+    let m = g.S.WorldStore.meaning in
+    let old = c.args.config.now in
+    let mid = c.wait.new.config in
+    let new = c.call.new.config in
+    let t = new.heap.texts in
+    let calls = λ (k : Config g.row.S.Denot) (f : Frame). line.call c.args.function (value_in t c.args.this) (holding_in t f.held).values (env_in m k t f) in
+    let is = ap (λ (k : Config g.row.S.Denot). calls k c.in_ok-above.above) c.in_ok-wait.ensures.same ∙ ap (calls old) c.in_ok-above.ensures in
+    c.in_ok-wait.ensures.nests.by _ new c.call.result (subst (λ (a : Act). OnOk c.call.result (Follows m a mid new)) is c.call.ensures)
