@@ -34,7 +34,7 @@ module _ {S : Type 0} (meaning : S → Meaning) where
     cost = outer.cost;
     left = outer.left;
     alive = outer.alive;
-    kept = λ v a h n. ap (seen (tells meaning old)) (sym (inner_same (run_in meaning t old) goal env go (frames_in meaning t old) (state_in meaning t v old) n)) ∙ outer.kept v a h n;
+    kept = λ v a h n. ap (seen (tells meaning old)) (sym (inner_same (run_in meaning t old) goal env go (frames_in meaning t old) (state_in meaning t v old) (outer.cost + n))) ∙ outer.kept v a h n;
     knows = outer.knows;
     falls = λ free v a h.
         let one : old.left ≡ outer.cost + new.left = outer.left in
