@@ -4,7 +4,7 @@ use Rattle.wjs_props.proofs.Getting.{IsGetting}
 use Rattle.wjs_props.proofs.reads.peek.Given as goal
 
 abbrev pub invariant-up : goal.invariant-up
-invariant-up g l = IsGetting l.world l.name l.object (parts g.S.WorldStore.meaning l.heap.now) (parts g.S.WorldStore.meaning l.heap.now) l.here
+invariant-up g l = IsGetting l.world l.name l.fn.object (parts g.S.WorldStore.meaning l.heap) (parts g.S.WorldStore.meaning l.heap) l.here
 
 abbrev pub decreases-up : goal.decreases-up
-decreases-up g l = depth_at l.heap.now.arena l.here
+decreases-up g l = depth_at l.heap.arena l.here
