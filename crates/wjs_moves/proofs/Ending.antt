@@ -18,7 +18,7 @@ use Rattle.wjs_model.specs.Configurations.{seen, tells, run_in, state_in, frames
 use Rattle.wjs_moves.specs.Parts.{ended}
 use Rattle.wjs_moves.specs.Keeping.{rest_with, Keeps}
 use Rattle.wjs_moves.proofs.Frames.{each_snoc, under_snoc, turns_under_snoc}
-use Rattle.wjs_moves.proofs.Keeping.{keeps_framed, stays_framed}
+use Rattle.wjs_moves.proofs.Keeping.{none_taken, keeps_framed, stays_framed}
 
 alive_ended : (c : Completion) → ended c ≡ states.StepsSpent → ⊥
 alive_ended (completions.Gives v) e = cc
@@ -75,12 +75,13 @@ module _ {S : Type 0} (meaning : S → Meaning) where
       record {
         stays = stays_framed meaning old frames state;
         cost = 0;
-        left = refl;
+        left = sym (none_taken old.left);
         alive = λ e. alive_ended c (sym es ∙ e);
         kept = λ v a k n.
             let st = state_in meaning t v old in
             ap (seen (tells meaning old)) (
-            ap (λ l. rest_with run (Ret (completion_in t c)) (each (frame_in t) l) st n) eo
+            ap (rest_with run (Ret (completion_in t c)) (frames_in meaning t old) st) (none_taken n)
+            ∙ ap (λ l. rest_with run (Ret (completion_in t c)) (each (frame_in t) l) st n) eo
             ∙ rest_ended t c run gs st n
             ∙ ap (λ s. rest_by t s run gs st n) (sym es));
         knows = λ v a k. k;

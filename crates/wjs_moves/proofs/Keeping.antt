@@ -1,5 +1,5 @@
 -- Moves that change the frames alone.
-use Rattle.std.proofs.Common.{◌≡◌, ℕ, suc, ◌+◌, ◌≤◌, List, [], ◌∷◌, ◌++◌, None, Some, refl, sym, ap, ◌∙◌, subst}
+use Rattle.std.proofs.Common.{◌≡◌, ℕ, suc, ◌+◌, ◌≤◌, List, [], ◌∷◌, ◌++◌, None, Some, refl, sym, ap, ◌∙◌, subst, arith}
 use Rattle.std.specs.Prelude.{map as each}
 use Rattle.std.specs.FinMap as map
 use Rattle.wjs_base.specs.declared.ids.ObjId.{ObjId}
@@ -23,6 +23,10 @@ append_nil (x ∷ xs) = ap (λ l. x ∷ l) (append_nil xs)
 
 pub grows_same : (t : Table) → Grows t t
 grows_same t = ([], append_nil t)
+
+-- no step is taken
+pub none_taken : (n : ℕ) → 0 + n ≡ n
+none_taken n = omega arith
 
 not_spent : (s : State) → s ≡ states.Running → s ≡ states.StepsSpent → ⊥
 not_spent s r e = cc
@@ -60,12 +64,13 @@ module _ {S : Type 0} (meaning : S → Meaning) where
       record {
         stays = stays_framed old frames old.state;
         cost = 0;
-        left = refl;
+        left = sym (none_taken old.left);
         alive = not_spent old.state er;
         kept = λ v a k n.
             let st = state_in meaning t v old in
             ap (seen (tells meaning old)) (
-            same st n
+            ap (rest_with run act (frames_in meaning t old) st) (none_taken n)
+            ∙ same st n
             ∙ sym (ap (λ act'. rest_with run act' gs st n) ea)
             ∙ sym (rest_of_snoc run gs g st n)
             ∙ sym (ap (λ l. rest_of run l st n) eg)

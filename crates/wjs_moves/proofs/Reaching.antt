@@ -1,5 +1,5 @@
 -- Turns one after another.
-use Rattle.std.proofs.Common.{◌≡◌, ℕ, suc, ◌<◌, Option, None, Some, inl, inr, refl, sym, ap, ◌∙◌, subst, arith}
+use Rattle.std.proofs.Common.{◌≡◌, ℕ, ◌+◌, ◌<◌, Option, None, Some, inl, inr, refl, sym, ap, ◌∙◌, subst, arith}
 use Rattle.std.specs.FinMap as map
 use Rattle.wjs_base.specs.declared.ids.ObjId.{ObjId}
 use Rattle.wjs_base.specs.Order.{obj_cmp}
@@ -50,7 +50,7 @@ module _ {S : Type 0} (meaning : S → Meaning) where
       by o e h k (Some x) q = f.made o x h q
 
   -- the own view under a table
-  own_under : Config S → Table → Outside
+  abbrev own_under : Config S → Table → Outside
   own_under c u = alone (meaning c.heap.store).own u
 
   -- a table that has grown from the texts knows what the worlds hold under the own view

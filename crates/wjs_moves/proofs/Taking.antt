@@ -33,13 +33,16 @@ use Rattle.wjs_moves.proofs.Frames.{each_snoc, rest_of_snoc, turns_of_snoc}
 use Rattle.wjs_model.specs.Soundness.{HasPhase, HasCompletion, HasOperand, IsThere, Base}
 use Rattle.wjs_moves.proofs.Sounding.{there_framed, base_framed, there_pop}
 use Rattle.wjs_moves.proofs.Entering.{given_then, begin_then}
-use Rattle.wjs_moves.proofs.Keeping.{stays_framed}
+use Rattle.wjs_moves.proofs.Keeping.{none_taken, stays_framed}
 
 falls_below : (x y k : ℕ) → k ≡ y → x + 1 ≤ y → x < k
 falls_below x y k e h = omega (arith, e, h)
 
 some_steps : (k m : ℕ) → k ≡ suc m → 0 < k
 some_steps k m e = omega (arith, e)
+
+one_more : (k n : ℕ) → suc k + n ≡ suc (k + n)
+one_more k n = omega arith
 
 -- what the last frame's phase says
 pub due_last : (fs : List NumberedFrame) (f : NumberedFrame) → is_due (option_map (λ (q : NumberedFrame). q.phase) (last (fs ++ f ∷ []))) ≡ is_due (Some f.phase)
@@ -136,13 +139,12 @@ module _ {S : Type 0} (meaning : S → Meaning) where
       → (later : Config S) → Follows meaning (act later.heap.texts) (record old { frames = fs }) later → Turns meaning old later
   quiet_turn old fs f act p er eo ep hp ea later k = record { turned = by_cost k.keeps.cost refl; sound = k.sound }
     where
-      t = later.heap.texts
-
       stays : Stays meaning old later
       stays = stays_after old later fs old.left k.keeps.stays
 
       kept : RestIs meaning old later (λ n. k.keeps.cost + n)
       kept v a h n =
+          let t = later.heap.texts in
           let m = k.keeps.cost + n in
           ap (seen (tells meaning old)) (rest_taken t old fs f (moment_in t p) (state_in meaning t v old) m er eo (ap (moment_in t) ep) ∙ ap (λ d. rest_with (run_in meaning t old) d (each (frame_in t) fs) (state_in meaning t v old) m) (ea t))
           ∙ k.keeps.kept v a h n
@@ -150,10 +152,11 @@ module _ {S : Type 0} (meaning : S → Meaning) where
       by_cost : (cost : ℕ) → k.keeps.cost ≡ cost → Turned meaning old later
       by_cost zero e = quietly (record {
         stays = stays;
-        left = sym (k.keeps.left ∙ ap (λ m. m + later.left) e);
-        kept = λ v a h n. ap (λ m. rest meaning t v old (m + n)) (sym e) ∙ kept v a h n;
+        left = sym (k.keeps.left ∙ ap (λ m. m + later.left) e ∙ none_taken later.left);
+        kept = λ v a h n. ap (rest meaning later.heap.texts v old) (sym (ap (λ m. m + n) e ∙ none_taken n)) ∙ kept v a h n;
         knows = k.keeps.knows;
         falls = λ v a h.
+            let t = later.heap.texts in
             let run = run_in meaning t old in
             let st = state_in meaning t v old in
             falls_below _ _ _ (turns_taken t old fs f (moment_in t p) st er eo (ap (moment_in t) ep) ∙ turns_not_due t run (each (frame_in t) fs) (frame_in t f) p st hp ∙ ap (λ d. suc (turns_over run d (each (frame_in t) fs) st)) (ea t)) (k.keeps.falls e v a h);
@@ -200,12 +203,13 @@ module _ {S : Type 0} (meaning : S → Meaning) where
       stays = stays_after old later fs left k.keeps.stays;
       steps = suc k.keeps.cost;
       some = omega arith;
-      left = el ∙ ap suc k.keeps.left;
+      left = el ∙ ap suc k.keeps.left ∙ sym (one_more k.keeps.cost later.left);
       kept = λ v a h n.
           let t = later.heap.texts in
           let st = state_in meaning t v old in
           let m = k.keeps.cost + n in
-          ap (seen (tells meaning old)) (rest_taken t old fs f (moment_in t p) st (suc m) er eo (ap (moment_in t) ep) ∙ ap (λ d. rest_with (run_in meaning t old) d (each (frame_in t) fs) st (suc m)) (ea t))
+          ap (rest meaning t v old) (one_more k.keeps.cost n)
+          ∙ ap (seen (tells meaning old)) (rest_taken t old fs f (moment_in t p) st (suc m) er eo (ap (moment_in t) ep) ∙ ap (λ d. rest_with (run_in meaning t old) d (each (frame_in t) fs) st (suc m)) (ea t))
           ∙ k.keeps.kept v a h n;
       knows = k.keeps.knows;
       alive = k.keeps.alive;
@@ -247,7 +251,7 @@ module _ {S : Type 0} (meaning : S → Meaning) where
         ap (λ s. rest_by t s run (frames_in meaning t old) st 0) er
         ∙ ap (λ o. run_next (rest_top run (front (frames_in meaning t old)) o st 0) (λ st' n'. (Done, st'))) (last_each (frame_in t) old.frames)
         ∙ rest_due t run (front (frames_in meaning t old)) (last old.frames) st h)
-        ∙ seen_spent t (meaning old.heap.store).told StepsSpent st.full st.arena st.out;
+        ∙ seen_spent v.texts (meaning old.heap.store).told StepsSpent st.full st.arena st.out;
   })
 
   pub stops : (old : Config S) → old.state ≡ states.Running → Base meaning old → old.left ≡ 0 → is_due (option_map (λ (q : NumberedFrame). q.phase) (last old.frames)) ≡ true → Turns meaning old (record old { state = states.StepsSpent })

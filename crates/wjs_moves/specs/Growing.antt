@@ -7,15 +7,15 @@ use Rattle.wjs_model.specs.Soundness.{Sound}
 use Rattle.wjs_model.specs.Outside.{Outside, Admits, Knows}
 use Rattle.wjs_model.specs.Configurations.{rest, turns}
 
+-- with a later table outside
+abbrev pub later : Outside → Table → Outside
+later v u = record v { texts = u }
+
 module _ {S : Type 0} (meaning : S → Meaning) where
   -- what is left to do is the same under a table and what stands outside as under another table and what stands outside there, and so are the turns before the next step that is due
   pub record LeftAlike (t : Table) (v : Outside) (s : Table) (w : Outside) (c : Config S) : Type 0 where
     pub rest : (n : ℕ) → rest meaning t v c n ≡ rest meaning s w c n
     pub turns : turns meaning t v c ≡ turns meaning s w c
-
-  -- with a later table outside
-  abbrev pub later : Outside → Table → Outside
-  later v u = record v { texts = u }
 
   -- a sound configuration, under a table that has grown from its texts, and with whatever outside
   abbrev pub MoreTextsChangeNothing : Type 0
