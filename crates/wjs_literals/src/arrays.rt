@@ -31,10 +31,7 @@ pub(crate) enum Next {
 }
 
 /// An array literal: the array is made and held, and the first item is entered.
-pub fn array_start<S: WorldStore>(
-    config: &mut Config<S>,
-    frame: Frame,
-) -> Result<(), OutOfMemory>
+pub fn array_start<S: WorldStore>(config: &mut Config<S>, frame: Frame) -> Result<(), OutOfMemory>
     requires running { config.old.state ≡ State.Running }
     requires base { Base S.meaning config.old }
     requires there { IsThere S.meaning config.old frame }

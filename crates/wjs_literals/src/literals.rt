@@ -43,10 +43,7 @@ pub fn this<S: WorldStore>(config: &mut Config<S>, frame: Frame) -> Result<(), O
 }
 
 /// `thisWorld`: the object of the frame's world.
-pub fn this_world<S: WorldStore>(
-    config: &mut Config<S>,
-    frame: Frame,
-) -> Result<(), OutOfMemory>
+pub fn this_world<S: WorldStore>(config: &mut Config<S>, frame: Frame) -> Result<(), OutOfMemory>
     requires running { config.old.state ≡ State.Running }
     requires base { Base S.meaning config.old }
     requires there { IsThere S.meaning config.old frame }

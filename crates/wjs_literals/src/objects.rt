@@ -24,10 +24,7 @@ use wjs_store::WorldStore;
 use wjs_tree::{Node, Property, PropertyKey};
 
 /// An object literal: the object is made and held, and the first value is entered.
-pub fn object_start<S: WorldStore>(
-    config: &mut Config<S>,
-    frame: Frame,
-) -> Result<(), OutOfMemory>
+pub fn object_start<S: WorldStore>(config: &mut Config<S>, frame: Frame) -> Result<(), OutOfMemory>
     requires running { config.old.state ≡ State.Running }
     requires base { Base S.meaning config.old }
     requires there { IsThere S.meaning config.old frame }

@@ -20,8 +20,8 @@ pub use ends::finish;
 pub use enters::{enter, enter_last};
 pub use holds::hold;
 pub use laws::{
-    looks_follow, more_texts_change_nothing, more_texts_outside_change_nothing, nested_ends_shorten, reached_is_reached,
-    shorter_follow, turns_reach,
+    looks_follow, more_texts_change_nothing, more_texts_outside_change_nothing,
+    nested_ends_shorten, reached_is_reached, shorter_follow, turns_reach,
 };
 pub use node::{node_of, place_at};
 pub use place::Part;

@@ -8,7 +8,7 @@ use Rattle.wjs_store.specs.Meaning.{Meaning, worlds}
 use Rattle.wjs_store.specs.State.{State, read, write, list, content_at, after}
 use Rattle.wjs_arena.specs.declared.class.Class.{Class}
 use Rattle.wjs_arena.specs.declared.class.Class.TheVariants as class
-use Rattle.wjs_content.specs.Values.{Text, Value, Undefined, Null, Boolean, Number, String, Object}
+use Rattle.wjs_content.specs.Values.{Value, Undefined, Null, Boolean, Number, String, Object}
 use Rattle.wjs_content.specs.Names.{content, name_name, message_name}
 use Rattle.wjs_content.specs.Objects.{Arena, object_at}
 use Rattle.wjs_content.specs.Plans.{Plan, Gives, Reads, Writes, Lists, Told, told_of, names_at, answer_of, worlds_after}

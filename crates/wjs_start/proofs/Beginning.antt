@@ -30,7 +30,7 @@ use Rattle.wjs_content.specs.Worlds.{worlds_in, told_by, KnowsWorlds}
 use Rattle.wjs_heap.specs.Heap.{Parts, IsHeap, Performs, KnowsTold}
 use Rattle.wjs_heap.specs.Means.{nothing}
 use Rattle.wjs_meaning.specs.Builtins.{builtin, first_world}
-use Rattle.wjs_meaning.specs.Start.{Property, properties, first_copy, first_objects, native_objects}
+use Rattle.wjs_meaning.specs.Start.{Property, properties, first_copy, first_full, first_objects, native_objects}
 use Rattle.wjs_meaning.specs.Table.{natives, first_native}
 use Rattle.wjs_deeds.proofs.Nearing.{has_named}
 use Rattle.wjs_start.specs.declared.blueprints.Blueprint.{Blueprint}

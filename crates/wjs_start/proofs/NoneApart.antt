@@ -1,5 +1,5 @@
 -- Where no owner is kept apart everything is near.
-use Rattle.std.proofs.Common.{◌≡◌, ℕ, List, [], ◌∷◌, Option, None, Some, refl, sym, subst, IsTrue}
+use Rattle.std.proofs.Common.{◌≡◌, ℕ, List, [], ◌∷◌, Option, None, Some, refl, sym, subst}
 use Rattle.wjs_base.specs.declared.ids.ObjId.{ObjId}
 use Rattle.wjs_base.specs.declared.values.Name.{Name}
 use Rattle.wjs_base.specs.declared.values.Value.{Value}
@@ -7,7 +7,7 @@ use Rattle.wjs_base.specs.declared.values.Value.TheVariants as values
 use Rattle.wjs_arena.specs.declared.object.Object.{Object}
 use Rattle.wjs_store.specs.Meaning.{Worlds}
 use Rattle.wjs_content.specs.Renamed.{Holds}
-use Rattle.wjs_model.specs.Apart.{is_apart, IsNear, NearValue, NearIf, NamesNear, NearSlots}
+use Rattle.wjs_model.specs.Apart.{IsNear, NearValue, NearIf, NamesNear, NearSlots}
 
 value_near : (v : Value) → NearValue [] v
 value_near values.Undefined = tt

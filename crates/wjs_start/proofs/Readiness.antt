@@ -220,9 +220,10 @@ module _ {S : Type 0} (meaning : S → Meaning) (texts : Table) (before : Meanin
     units = subst (All (KnowsUnit t)) (sym units_are) all_known;
     places = subst (All (PlacesUnit t)) (sym units_are) all_placed;
     functions = λ o e q. code_stands units.items h.arena (e.object).code (e.object).scope (is.codes o e q);
-    own_worlds = λ o e w q r s. subst (HasWorld meaning c) (sym (is.own_worlds o w (ap (option_and_then (λ (x : Entry). (x.object).world)) q ∙ r))) is.first;
+    worlds_own = λ w there. ap (λ (x : WorldId). x.owner) (is.no_other w there);
+    worlds_by = λ o e w q r. worlds_by_owner o w (stands o e w q r);
+    own_worlds = λ o e w q r s. subst (HasWorld meaning c) (sym (is.own_worlds o w (stands o e w q r))) is.first;
     own = all_near apart.items none_kept (builtin 0);
-    no_worlds = λ o e w q a. absurd (none_apart apart.items none_kept o.owner a);
     near_objects = λ o e q h. objects_near apart.items none_kept e.object;
     near_slots = slots_near apart.items none_kept (worlds (meaning h.store));
     frames = subst (All (IsThere meaning c)) (sym frames_there) (all_there library refl);

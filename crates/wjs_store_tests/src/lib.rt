@@ -3,6 +3,5 @@
 
 #[cfg(test)]
 mod looks;
-
 #[cfg(test)]
 mod stores;

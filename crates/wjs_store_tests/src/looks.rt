@@ -139,13 +139,28 @@ fn told(
     round: u32,
 ) -> u32 {
     let (Some(copied), Some(kept)) = (copied, kept) else {
-        assert!(rt; copied.is_none() && kept.is_none(), "there in one alone, round {round}");
+        assert!(rt;
+            copied.is_none() && kept.is_none(),
+            "there in one alone, round {round}"
+        );
         return 0;
     };
-    assert!(rt; copied.seen.is_none(), "full copies say nothing, round {round}");
-    assert!(rt; same_content(copied.found, kept.found), "found otherwise, round {round}");
-    assert!(rt; copied.recorded == kept.recorded, "recorded otherwise, round {round}");
+    assert!(rt;
+        copied.seen.is_none(),
+        "full copies say nothing, round {round}"
+    );
+    assert!(rt;
+        same_content(copied.found, kept.found),
+        "found otherwise, round {round}"
+    );
+    assert!(rt;
+        copied.recorded == kept.recorded,
+        "recorded otherwise, round {round}"
+    );
     assert!(rt; is_right(kept), "a wrong look, round {round}");
-    assert!(rt; world.serial != 0 || kept.seen.is_some(), "the first world says all, round {round}");
+    assert!(rt;
+        world.serial != 0 || kept.seen.is_some(),
+        "the first world says all, round {round}"
+    );
     if kept.seen.is_some() { 1 } else { 0 }
 }
