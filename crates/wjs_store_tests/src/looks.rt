@@ -81,7 +81,7 @@ struct Look {
 }
 
 /// Looks at a slot and then reads it, in a world that is there.
-fn look<S: WorldStore>(
+fn looked<S: WorldStore>(
     store: &mut S,
     world: WorldId,
     slot: Slot,
@@ -121,8 +121,8 @@ fn a_look_sees_what_a_read_would_find(rt: HostRuntime) -> Result<(), Fail> {
         let _ = run_actions(rt.alloc(), &mut full, &action)?;
         let _ = run_actions(rt.alloc(), &mut sparse, &action)?;
         drawn = next(drawn);
-        let copied = look(&mut full, world_of(drawn), slot_of(drawn))?;
-        let kept = look(&mut sparse, world_of(drawn), slot_of(drawn))?;
+        let copied = looked(&mut full, world_of(drawn), slot_of(drawn))?;
+        let kept = looked(&mut sparse, world_of(drawn), slot_of(drawn))?;
         answered = answered.saturating_add(told(&rt, copied, kept, world_of(drawn), round));
     }
     // of some two hundred looks at a world that is there, more than half are at what it touched before
