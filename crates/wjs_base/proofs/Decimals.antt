@@ -35,8 +35,8 @@ module _ (units : List ℕ) (i number : ℕ) (within : i < length units) (low : 
   more_value = let e = digits_value_more 10 units i within in omega (arith, e, unit_value, value)
 
   -- a number that is too great stays so
-  pub too_great : 2 ^ 32 ≤ number * 10 + (get_or units i 0 - 48) → 2 ^ 32 ≤ digits_value 10 units
-  too_great much = let e = value_of_front units (i + 1) in omega (arith, e, more_value)
+  pub too_great : (most : ℕ) → most ≤ number * 10 + (get_or units i 0 - 48) → most ≤ digits_value 10 units
+  too_great most much = let e = value_of_front units (i + 1) in omega (arith, e, more_value, much)
 
 -- a list with a first unit, and one without
 pub first_is : (units : List ℕ) (x : ℕ) → Some x ≡ slice_get units 0 → (0 < length units) × (get_or units 0 0 ≡ x)
@@ -50,23 +50,20 @@ no_first (u ∷ us) e some = cc
 pub no_digit : (units : List ℕ) (i : ℕ) → i < length units → AllDigits 10 units → (get_or units i 0 < 48 → ⊥) × (57 < get_or units i 0 → ⊥)
 no_digit units i within all = let d = digit_at units i all within in (λ h. omega (arith, d.0), λ h. omega (arith, d.1))
 
--- what digits write is below 2^64, where an index is written
-module _ (units : List ℕ) (index : ℕ) (small : index ≤ 4294967294) (e : units ≡ decimal index) where
-  fits : index < 2 ^ 64
-  fits = omega arith
-
+-- what the digits of a number below 2^64 are
+module _ (units : List ℕ) (number : ℕ) (fits : number < 2 ^ 64) (e : units ≡ decimal number) where
   pub are_digits : AllDigits 10 units
-  are_digits = subst (AllDigits 10) (sym e) (decimal_is_IsNumeral index fits).0.1
+  are_digits = subst (AllDigits 10) (sym e) (decimal_is_IsNumeral number fits).0.1
 
-  pub value_is : digits_value 10 units ≡ index
-  value_is = ap (digits_value 10) e ∙ (decimal_is_IsNumeral index fits).1
+  pub value_is : digits_value 10 units ≡ number
+  value_is = ap (digits_value 10) e ∙ (decimal_is_IsNumeral number fits).1
 
   pub some_digit : 0 < length units
-  some_digit = subst (λ (us : List ℕ). 0 < length us) (sym e) (decimal_nonempty index fits)
+  some_digit = subst (λ (us : List ℕ). 0 < length us) (sym e) (decimal_nonempty number fits)
 
   -- no zero stands before other digits
   pub no_leading_zero : get_or units 0 0 ≡ 48 → 1 < length units → ⊥
-  no_leading_zero first long = by index fits e
+  no_leading_zero first long = by number fits e
     where
       by : (n : ℕ) → n < 2 ^ 64 → units ≡ decimal n → ⊥
       by zero f d = let one = ap (λ (us : List ℕ). length us) (d ∙ decimal_digit 0 (omega arith)) in omega (arith, one)
@@ -76,8 +73,8 @@ module _ (units : List ℕ) (index : ℕ) (small : index ≤ 4294967294) (e : un
           omega (arith, above, at)
 
 -- digits with no zero in front of others are those of the number that they write
-pub spelled : (units : List ℕ) (number : ℕ) → AllDigits 10 units → number ≡ digits_value 10 units → 0 < length units → (get_or units 0 0 ≡ 48 → length units ≡ 1) → number ≤ 4294967294 → units ≡ decimal number
-spelled units number digits value some canonical small =
+pub spelled : (units : List ℕ) (number : ℕ) → AllDigits 10 units → number ≡ digits_value 10 units → 0 < length units → (get_or units 0 0 ≡ 48 → length units ≡ 1) → number < 2 ^ 64 → units ≡ decimal number
+spelled units number digits value some canonical fits =
     sym (decimal-digits_value (numerals_by_value (AllDigits 10) tells_digits) units digits some canonical (omega arith)) ∙ ap decimal (sym value)
 
 module _ (number rest place : ℕ) (digits : List ℕ) (small : number < 2 ^ 32) (least : rest < 2 ^ 32) (ten : length digits ≡ 10) (within : place < 10)

@@ -1,4 +1,4 @@
-mod Decimals
+pub mod Decimals
 mod Tables
 pub mod TextLaws
 mod Transcoding
