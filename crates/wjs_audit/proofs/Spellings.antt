@@ -21,6 +21,7 @@ use Rattle.wjs_base.specs.Same.{whole_same}
 use Rattle.wjs_base.specs.Text.{Units}
 use Rattle.wjs_store.specs.declared.store.Verdict.{Verdict}
 use Rattle.wjs_store.specs.declared.store.Verdict.TheVariants.{Moved, Disagrees, NoParent}
+use Rattle.wjs_audit.specs.Parts.{AreUnits}
 use Rattle.wjs_audit.specs.Spelling.{pair_text, world_text, object_text, name_text, number_text, value_text, content_text, kind_text, verdict_parts, unit_text, hex, hex_parts}
 use Rattle.wjs_audit.specs.Logs.{FitsPair, FitsWorld, FitsObject, FitsName, FitsValue, FitsContent, FitsVerdict, KnowsName, KnowsVerdict}
 use Rattle.wjs_audit.proofs.Words.{IsWord, AreWords, word_by, decimal_word, decimal_lacks, decimal_digits, cut_one, digit_word}
@@ -271,9 +272,6 @@ unit_one u v f g e =
     let c = glyph_one (u / 16 % 16) (v / 16 % 16) (omega arith) (omega arith) (ap (λ bs. get_or bs 2 0) e) in
     let d = glyph_one (u % 16) (v % 16) (omega arith) (omega arith) (ap (λ bs. get_or bs 3 0) e) in
     unit_parts u f ∙ (λ i. 4096 * a i + 256 * b i + 16 * c i + d i) ∙ sym (unit_parts v g)
-
-abbrev pub AreUnits : Units → Type 0
-AreUnits units = All (λ u. u < 2 ^ 16) units
 
 pub hex_word : (units : Units) → AreUnits units → IsWord (hex units)
 hex_word [] h = All-nil (λ b. 32 < b)

@@ -1,12 +1,19 @@
-//! Logs of actions on worlds with their answers: how they are spelled, and whether they are the full-copy machine's.
+//! Logs of actions on worlds with their answers: how they are spelled and read, and whether they are the full-copy machine's.
 #![tactic(auto)]
 
 mod auditing;
+mod cuts;
 mod deed;
 mod fault;
+mod hex;
+mod known;
 mod laws;
+mod line;
 mod log;
 mod logged;
+mod numbers;
+mod parts;
+mod reading;
 mod same;
 mod spelling;
 
@@ -16,6 +23,7 @@ pub use fault::AuditFault;
 pub use laws::{one_judgement, one_reading};
 pub use log::Log;
 pub use logged::Logged;
+pub use reading::read_log;
 pub use spelling::spell_log;
 
 #[cfg(test)]
