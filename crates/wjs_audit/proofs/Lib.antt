@@ -9,3 +9,9 @@ pub mod Readings
 pub mod Judgements
 pub mod Pushes
 pub mod Contents
+pub mod Cuts
+pub mod Integers
+pub mod Known
+pub mod Hexes
+pub mod Listings
+pub mod Said

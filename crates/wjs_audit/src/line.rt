@@ -12,6 +12,7 @@ use crate::known::KnownTexts;
 use crate::numbers::owner_of;
 use crate::parts::{content_of, kind_of, name_of, object_of, slot_of, world_of};
 use std::alloc::Global;
+use std::cmp::Ordering;
 use wjs_base::{Content, Name, Names, OutOfMemory, Slot, WorldId};
 use wjs_store::Verdict;
 
@@ -58,7 +59,10 @@ fn may_follow(names: &Names, name: Name) -> bool
     ensures { IsTrue result ↔ Ascends name_cmp (names.now ++ name ∷ []) }
 {
     let count = names.len();
-    count == 0 || names.at(count - 1) < name
+    if count == 0 {
+        return true;
+    }
+    names.at(count - 1).cmp(&name) == Ordering::Less
 }
 
 /// Names that ascend.

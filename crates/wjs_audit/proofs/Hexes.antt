@@ -1,0 +1,126 @@
+-- Hexadecimal digits that are read.
+use Rattle.std.proofs.Common.{◌≡◌, ℕ, suc, ◌+◌, ◌-◌, ◌*◌, ◌/◌, ◌%◌, ◌^◌, ◌<◌, ◌≤◌, false, cond, ◌⊎◌, inl, inr, ⊎_elim, ◌≢◌, List, [], ◌∷◌, ◌++◌, length, get_or, take, drop, refl, ap, sym, ◌∙◌, append_assoc, append-nil, arith, All}
+use Rattle.std.specs.Fmt.{digit_glyph}
+use Rattle.std.proofs.lemmas.Bool.{cases_lt, lt-ltb, le-ltb}
+use Rattle.std.proofs.lemmas.List.{take-append-drop, drop_more, take_all, flat_map_more, length-append, take_more}
+use Rattle.std.proofs.lemmas.List.Elements.{All-head, All-tail}
+use Rattle.wjs_base.specs.Text.{Units}
+use Rattle.wjs_audit.specs.Parts.{AreUnits}
+use Rattle.wjs_audit.specs.Spelling.{unit_text, hex}
+use Rattle.wjs_audit.proofs.Spellings.{glyphs, unit_glyphs, hex_one}
+
+-- ---- one digit
+
+pub decimal_glyph : (glyph d : ℕ) → 48 ≤ glyph → glyph ≤ 57 → d ≡ glyph - 48 → (d < 16) × (glyph ≡ digit_glyph false d)
+decimal_glyph glyph d low high e = (omega arith, (let sum : glyph ≡ 48 + d = omega arith in sum) ∙ sym (ap (λ t. cond t (48 + d) (87 + d)) (lt-ltb d 10 (omega arith))))
+
+pub letter_glyph : (glyph d : ℕ) → 97 ≤ glyph → glyph ≤ 102 → d ≡ glyph - 87 → (d < 16) × (glyph ≡ digit_glyph false d)
+letter_glyph glyph d low high e = (omega arith, (let sum : glyph ≡ 87 + d = omega arith in sum) ∙ sym (ap (λ t. cond t (48 + d) (87 + d)) (le-ltb d 10 (omega arith))))
+
+-- a glyph is a digit, or a small letter
+pub glyph_is : (glyph d : ℕ) → d < 16 → glyph ≡ digit_glyph false d → ((48 ≤ glyph) × (glyph ≤ 57)) ⊎ ((97 ≤ glyph) × (glyph ≤ 102))
+glyph_is glyph d low e = ⊎_elim decimal letter (cases_lt d 10)
+  where
+    decimal : d < 10 → ((48 ≤ glyph) × (glyph ≤ 57)) ⊎ ((97 ≤ glyph) × (glyph ≤ 102))
+    decimal l = let f = e ∙ ap (λ t. cond t (48 + d) (87 + d)) (lt-ltb d 10 l) in inl (omega (arith, f), omega (arith, f))
+
+    letter : 10 ≤ d → ((48 ≤ glyph) × (glyph ≤ 57)) ⊎ ((97 ≤ glyph) × (glyph ≤ 102))
+    letter l = let f = e ∙ ap (λ t. cond t (48 + d) (87 + d)) (le-ltb d 10 l) in inr (omega (arith, f), omega (arith, f))
+
+-- ---- one unit
+
+pub unit_spelled : (a b c d : ℕ) (unit : ℕ) → a < 16 → b < 16 → c < 16 → d < 16 → unit ≡ a * 4096 + b * 256 + c * 16 + d → (unit < 2 ^ 16) × (digit_glyph false a ∷ digit_glyph false b ∷ digit_glyph false c ∷ digit_glyph false d ∷ [] ≡ unit_text unit)
+unit_spelled a b c d unit la lb lc ld e =
+    let small : unit < 2 ^ 16 = omega arith in
+    let p : a ≡ unit / 4096 = omega arith in
+    let q : b ≡ unit / 256 % 16 = omega arith in
+    let r : c ≡ unit / 16 % 16 = omega arith in
+    let s : d ≡ unit % 16 = omega arith in
+    (small, (λ i. digit_glyph false (p i) ∷ digit_glyph false (q i) ∷ digit_glyph false (r i) ∷ digit_glyph false (s i) ∷ []) ∙ sym (unit_glyphs unit small))
+
+-- the digits of a unit are its glyphs
+pub unit_digits : (a b c d unit : ℕ) → unit < 2 ^ 16 → a ∷ b ∷ c ∷ d ∷ [] ≡ unit_text unit
+    → (a ≡ digit_glyph false (unit / 4096)) × (b ≡ digit_glyph false (unit / 256 % 16)) × (c ≡ digit_glyph false (unit / 16 % 16)) × (d ≡ digit_glyph false (unit % 16))
+unit_digits a b c d unit fits e =
+    let f : a ∷ b ∷ c ∷ d ∷ [] ≡ glyphs unit = e ∙ unit_glyphs unit fits in
+    (ap (λ bs. get_or bs 0 0) f, ap (λ bs. get_or bs 1 0) f, ap (λ bs. get_or bs 2 0) f, ap (λ bs. get_or bs 3 0) f)
+
+-- ---- units one after another
+
+-- the four bytes at a place
+module _ (part : List ℕ) (at : ℕ) where
+  abbrev pub four_at : List ℕ
+  four_at = get_or part at 0 ∷ get_or part (at + 1) 0 ∷ get_or part (at + 2) 0 ∷ get_or part (at + 3) 0 ∷ []
+
+  pub take_four : at + 3 < length part → take (at + 4) part ≡ take at part ++ four_at
+  take_four within =
+      let a = take_more part at 0 (omega arith) in
+      let b = take_more part (at + 1) 0 (omega arith) in
+      let c = take_more part (at + 2) 0 (omega arith) in
+      let d = take_more part (at + 3) 0 within in
+      let t = take at part in
+      let w = get_or part at 0 in
+      let x = get_or part (at + 1) 0 in
+      let y = get_or part (at + 2) 0 in
+      let z = get_or part (at + 3) 0 in
+      d ∙ ap (λ bs. bs ++ z ∷ []) (c ∙ ap (λ bs. bs ++ y ∷ []) (b ∙ ap (λ bs. bs ++ x ∷ []) a))
+      ∙ ap (λ bs. (bs ++ y ∷ []) ++ z ∷ []) (append_assoc t (w ∷ []) (x ∷ []))
+      ∙ ap (λ bs. bs ++ z ∷ []) (append_assoc t (w ∷ x ∷ []) (y ∷ []))
+      ∙ append_assoc t (w ∷ x ∷ y ∷ []) (z ∷ [])
+
+-- units that are spelled in front are the front ones
+rest_of : (done all : Units) (rest : List ℕ) → AreUnits done → AreUnits all → hex done ++ rest ≡ hex all → (more : Units) × AreUnits more × (rest ≡ hex more)
+rest_of [] all rest f g e = (all, g, e)
+rest_of (u ∷ done) [] rest f g e =
+    let p = unit_glyphs u (All-head (λ x. x < 2 ^ 16) u done f) in
+    let q : (glyphs u ++ hex done) ++ rest ≡ [] = ap (λ bs. (bs ++ hex done) ++ rest) (sym p) ∙ e in
+    absurd (let none = ap (λ (bs : List ℕ). length bs) q in omega (arith, none))
+rest_of (u ∷ done) (v ∷ all) rest f g e =
+    let fu = unit_glyphs u (All-head (λ x. x < 2 ^ 16) u done f) in
+    let gv = unit_glyphs v (All-head (λ x. x < 2 ^ 16) v all g) in
+    let both : (glyphs u ++ hex done) ++ rest ≡ glyphs v ++ hex all = ap (λ bs. (bs ++ hex done) ++ rest) (sym fu) ∙ e ∙ ap (λ bs. bs ++ hex all) gv in
+    rest_of done all rest (All-tail (λ x. x < 2 ^ 16) u done f) (All-tail (λ x. x < 2 ^ 16) v all g) (ap (drop 4) both)
+
+-- four bytes that are no unit's
+pub no_unit : (part : List ℕ) (at : ℕ) (done all : Units) → at + 3 < length part → take at part ≡ hex done → AreUnits done → ((unit : ℕ) → unit < 2 ^ 16 → four_at part at ≡ unit_text unit → ⊥) → AreUnits all → part ≡ hex all → ⊥
+no_unit part at done all within so_far f none g e =
+    let rest = drop at part in
+    let r = rest_of done all rest f g (ap (λ bs. bs ++ rest) (sym so_far) ∙ take-append-drop at part ∙ e) in
+    let four : rest ≡ four_at part at ++ drop (at + 4) part =
+    drop_more part at 0 (omega arith)
+    ∙ ap (λ bs. get_or part at 0 ∷ bs) (drop_more part (at + 1) 0 (omega arith)
+    ∙ ap (λ bs. get_or part (at + 1) 0 ∷ bs) (drop_more part (at + 2) 0 (omega arith)
+    ∙ ap (λ bs. get_or part (at + 2) 0 ∷ bs) (drop_more part (at + 3) 0 within))) in
+    by r.0 r.1 (sym four ∙ r.2)
+  where
+    by : (more : Units) → AreUnits more → four_at part at ++ drop (at + 4) part ≡ hex more → ⊥
+    by [] h s = absurd (let long = ap (λ (bs : List ℕ). length bs) s in omega (arith, long))
+    by (u ∷ more) h s =
+        let small = All-head (λ x. x < 2 ^ 16) u more h in
+        let same : four_at part at ++ drop (at + 4) part ≡ glyphs u ++ hex more = s ∙ ap (λ bs. bs ++ hex more) (unit_glyphs u small) in
+        none u small (ap (take 4) same ∙ sym (unit_glyphs u small))
+
+-- one unit more
+pub unit_more : (part : List ℕ) (at : ℕ) (done : Units) (unit : ℕ) → at + 3 < length part → take at part ≡ hex done → four_at part at ≡ unit_text unit → take (at + 4) part ≡ hex (done ++ unit ∷ [])
+unit_more part at done unit within so_far e =
+    take_four part at within
+    ∙ (λ i. so_far i ++ e i)
+    ∙ flat_map_more unit_text [] done unit
+
+-- units have four bytes each
+hex_length : (all : Units) → AreUnits all → length (hex all) ≡ 4 * length all
+hex_length [] h = refl
+hex_length (u ∷ all) h =
+    let p = ap (λ (bs : List ℕ). length bs) (unit_glyphs u (All-head (λ x. x < 2 ^ 16) u all h)) in
+    let q = length-append (unit_text u) (hex all) in
+    let r = hex_length all (All-tail (λ x. x < 2 ^ 16) u all h) in
+    omega (arith, p, q, r)
+
+pub no_fourth : (part : List ℕ) (all : Units) → length part % 4 ≢ 0 → AreUnits all → part ≡ hex all → ⊥
+no_fourth part all odd h e =
+    let long = ap (λ (bs : List ℕ). length bs) e ∙ hex_length all h in
+    odd (omega (arith, long))
+
+pub some_units : (part : List ℕ) (all : Units) → 0 < length part → part ≡ hex all → 0 < length all
+some_units part [] some e = absurd (let none = ap (λ (bs : List ℕ). length bs) e in omega (arith, none))
+some_units part (u ∷ all) some e = omega arith
