@@ -15,3 +15,4 @@ pub mod Known
 pub mod Hexes
 pub mod Listings
 pub mod Said
+pub mod Reads

@@ -3,7 +3,6 @@ use Rattle.std.specs.Prelude.{◌≡◌, ℕ, ◌+◌, ◌<◌, ◌^◌, ◌==�
 use Rattle.std.specs.BTreeSet.{contains}
 use Rattle.std.specs.Ordering.{nat_cmp}
 use Rattle.wjs_base.specs.declared.ids.TextId.{TextId}
-use Rattle.wjs_base.specs.declared.ids.WorldId.{WorldId}
 use Rattle.wjs_base.specs.declared.values.Name.{Name}
 use Rattle.wjs_base.specs.declared.values.Slot.{Slot}
 use Rattle.wjs_base.specs.declared.values.Value.{Value}
@@ -16,6 +15,7 @@ use Rattle.wjs_store.specs.Ascends.{Ascends}
 use Rattle.wjs_audit.specs.declared.deed.Deed.{Deed}
 use Rattle.wjs_audit.specs.declared.deed.Entry.{Entry}
 use Rattle.wjs_audit.specs.declared.known.KnownTexts.{KnownTexts}
+use Rattle.wjs_audit.specs.declared.line.Row.{Row}
 use Rattle.wjs_audit.specs.declared.reading.Reading.{Reading}
 use Rattle.wjs_audit.specs.Deeds.{InOrder}
 use Rattle.wjs_audit.specs.Parts.{AreParts}
@@ -79,14 +79,11 @@ IsConstant (Object o) = ⊥
 abbrev pub slot_parts : Slot → List (List ℕ)
 slot_parts s = object_text s.object ∷ name_text s.name ∷ []
 
-abbrev pub Row : Type 0
-Row = WorldId × (Slot × Content)
-
 abbrev pub row_parts : Row → List (List ℕ)
-row_parts r = world_text r.0 ∷ object_text r.1.object ∷ name_text r.1.name ∷ content_text r.2 ∷ []
+row_parts r = world_text r.world ∷ object_text r.slot.object ∷ name_text r.slot.name ∷ content_text r.content ∷ []
 
 abbrev pub RowMay : KnownTexts → Row → Type 0
-RowMay known r = FitsWorld r.0 × SlotMay known r.1 × ContentMay known r.2
+RowMay known r = FitsWorld r.world × SlotMay known r.slot × ContentMay known r.content
 
 abbrev pub names_parts : List Name → List (List ℕ)
 names_parts = each name_text

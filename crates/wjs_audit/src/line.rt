@@ -16,8 +16,15 @@ use std::cmp::Ordering;
 use wjs_base::{Content, Name, Names, OutOfMemory, Slot, WorldId};
 use wjs_store::Verdict;
 
-/// A world, a slot and a content.
-fn row_of(tail: &[u8], known: &KnownTexts) -> Option<(WorldId, Slot, Content)>
+/// What stands behind `read` and `write`.
+#[derive(Clone, Copy)]
+struct Row {
+    world: WorldId,
+    slot: Slot,
+    content: Content,
+}
+
+fn row_of(tail: &[u8], known: &KnownTexts) -> Option<Row>
     ensures { FollowsAs row_parts (RowMay known.now) tail.now result }
 {
     let (world, object, rest) = next_two(tail)?;
@@ -28,28 +35,32 @@ fn row_of(tail: &[u8], known: &KnownTexts) -> Option<(WorldId, Slot, Content)>
     let world = world_of(world)?;
     let slot = slot_of(object, name, known)?;
     let content = content_of(content, known)?;
-    Some((world, slot, content))
-}
-
-fn read_of(tail: &[u8], known: &KnownTexts) -> Option<Deed>
-    ensures { IsDeedOf known.now (codes "read") tail.now result }
-{
-    let (world, slot, content) = row_of(tail, known)?;
-    Some(Deed::Read {
+    Some(Row {
         world,
         slot,
         content,
     })
 }
 
+fn read_of(tail: &[u8], known: &KnownTexts) -> Option<Deed>
+    ensures { IsDeedOf known.now (codes "read") tail.now result }
+{
+    let row = row_of(tail, known)?;
+    Some(Deed::Read {
+        world: row.world,
+        slot: row.slot,
+        content: row.content,
+    })
+}
+
 fn write_of(tail: &[u8], known: &KnownTexts) -> Option<Deed>
     ensures { IsDeedOf known.now (codes "write") tail.now result }
 {
-    let (world, slot, content) = row_of(tail, known)?;
+    let row = row_of(tail, known)?;
     Some(Deed::Write {
-        world,
-        slot,
-        content,
+        world: row.world,
+        slot: row.slot,
+        content: row.content,
     })
 }
 
