@@ -15,4 +15,5 @@ pub mod Known
 pub mod Hexes
 pub mod Listings
 pub mod Said
+pub mod Readers
 pub mod Reads
