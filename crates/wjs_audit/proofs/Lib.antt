@@ -9,11 +9,12 @@ pub mod Readings
 pub mod Judgements
 pub mod Pushes
 pub mod Contents
-pub mod Cuts
+pub mod Pieces
 pub mod Integers
-pub mod Known
+pub mod Namings
 pub mod Hexes
 pub mod Listings
 pub mod Said
+pub mod Letters
 pub mod Readers
-pub mod Reads
+pub mod Taking

@@ -4,7 +4,7 @@ use Rattle.std.specs.declared.cmp.Ordering.TheVariants.{Less, Equal, Greater}
 use Rattle.std.specs.Ordering.{is_lt}
 use Rattle.std.specs.FinMap as map
 use Rattle.std.specs.FinMap.Entries.{below_all}
-use Rattle.std.proofs.lemmas.List.{map_push}
+use Rattle.std.proofs.lemmas.List.{map_push, length-append, get_or_at}
 use Rattle.std.proofs.lemmas.List.Elements.{All-head, All-tail}
 use Rattle.wjs_base.specs.declared.ids.TextId.{TextId}
 use Rattle.wjs_base.specs.declared.values.Name.{Name}
@@ -89,6 +89,11 @@ ascends_front (x ∷ xs) more h =
 
 -- ---- names and their parts
 
+at_seam : (P : Name → Type 0) (xs : List Name) (y : Name) (ys : List Name) → All P (xs ++ y ∷ ys) → P y
+at_seam P xs y ys h =
+    let long = length-append xs (y ∷ ys) in
+    subst P (get_or_at xs y ys y (length xs) refl) (h (length xs) y (omega (arith, long)))
+
 module _ (knows : TextId → Type 0) where
   -- names whose parts begin with those of others begin with them
   pub names_front : (xs all : List Name) (rest : List (List ℕ)) → All FitsName xs → All (KnowsName knows) xs → All FitsName all → All (KnowsName knows) all → each name_text xs ++ rest ≡ each name_text all
@@ -107,3 +112,29 @@ names_on parts names part more n e f =
     e ∙ ap (λ (p : List ℕ). each name_text names ++ p ∷ more) f
     ∙ sym (append_assoc (each name_text names) (name_text n ∷ []) more)
     ∙ ap (λ (ps : List (List ℕ)). ps ++ more) (sym (map_push name_text names n))
+
+module _ (knows : TextId → Type 0) where
+  -- the name of the part behind those of other names
+  pub name_next : (names all : List Name) (part : List ℕ) (more : List (List ℕ)) → All FitsName names → All (KnowsName knows) names → All FitsName all → All (KnowsName knows) all → each name_text names ++ part ∷ more ≡ each name_text all
+      → (n : Name) × (later : List Name) × (all ≡ names ++ n ∷ later) × (part ≡ name_text n) × FitsName n × KnowsName knows n
+  name_next names all part more f h g k e =
+      let t = names_front knows names all (part ∷ more) f h g k e in
+      by t.0 t.1 t.2
+    where
+      by : (later : List Name) → all ≡ names ++ later → part ∷ more ≡ each name_text later → (n : Name) × (rest : List Name) × (all ≡ names ++ n ∷ rest) × (part ≡ name_text n) × FitsName n × KnowsName knows n
+      by [] same parts = cc
+      by (n ∷ rest) same parts = (
+        n,
+        rest,
+        same,
+        head_is part (name_text n) more (each name_text rest) parts,
+        at_seam FitsName names n rest (subst (All FitsName) same g),
+        at_seam (KnowsName knows) names n rest (subst (All (KnowsName knows)) same k),
+      )
+
+  -- a name that may not follow is none of a listing's
+  pub no_follower : (names all : List Name) (n m : Name) (later : List Name) → name_text n ≡ name_text m → FitsName n → KnowsName knows n → FitsName m → KnowsName knows m → all ≡ names ++ m ∷ later → Ascends name_cmp all → Ascends name_cmp (names ++ n ∷ [])
+  no_follower names all n m later e f h g k same order =
+      let one = name_one knows n m f h g k e in
+      let whole : all ≡ (names ++ n ∷ []) ++ later = same ∙ ap (λ (x : Name). names ++ x ∷ later) (sym one) ∙ sym (append_assoc names (n ∷ []) later) in
+      ascends_front (names ++ n ∷ []) later (subst (Ascends name_cmp) whole order)

@@ -113,9 +113,9 @@ IsDeedOf known word tail found = (parts : List (List ℕ)) → AreParts parts �
 
 -- whether what follows `text` names a text that may be named, and how it is named then
 abbrev pub AddsText : KnownTexts → List ℕ → KnownTexts → Bool → Type 0
-AddsText old tail new yes =
+AddsText old tail new adds =
     (parts : List (List ℕ)) → AreParts parts → tail ≡ spaced parts
-    → MatchBool yes
+    → MatchBool adds
     ((number : ℕ) × (units : Units) × (parts ≡ decimal number ∷ hex_parts units) × TextMay old number units × Named old number units new)
     ((number : ℕ) (units : Units) → TextMay old number units → ¬ (parts ≡ decimal number ∷ hex_parts units))
 

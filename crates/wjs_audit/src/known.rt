@@ -55,7 +55,7 @@ impl KnownTexts {
     /// Names a text by a number, where both are new and the text is none that is too long. Whether that is so: after false the
     /// texts are of no more use.
     pub(crate) fn add(&mut self, number: u64, units: &[u16]) -> Result<bool, OutOfMemory>
-        ensures { IfOk result (λ yes. MatchBool yes (TextMay self.old number units.now × Named self.old number units.now self.new) (¬ (TextMay self.old number units.now))) }
+        ensures { IfOk result (λ adds. MatchBool adds (TextMay self.old number units.now × Named self.old number units.now self.new) (¬ (TextMay self.old number units.now))) }
     {
         if self.has(number) {
             return Ok(false);

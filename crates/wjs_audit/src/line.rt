@@ -4,7 +4,7 @@ ghost use Rattle.wjs_base.specs.Order.{name_cmp};
 ghost use Rattle.wjs_store.specs.Ascends.{Ascends};
 ghost use Rattle.wjs_audit.specs.Parts.{AreParts};
 ghost use Rattle.wjs_audit.specs.Spelling.{spaced, verdict_parts};
-ghost use Rattle.wjs_audit.specs.Reading.{FollowsAs, IsDeedOf, RowMay, NamesMay, VerdictMay, row_parts, names_parts};
+ghost use Rattle.wjs_audit.specs.Reading.{IsReadAs, FollowsAs, IsDeedOf, RowMay, NamesMay, VerdictMay, row_parts, names_parts};
 
 use crate::cuts::{is_word, next_part, next_two};
 use crate::deed::Deed;
@@ -73,7 +73,10 @@ fn may_follow(names: &Names, name: Name) -> bool
     if count == 0 {
         return true;
     }
-    names.at(count - 1).cmp(&name) == Ordering::Less
+    match names.at(count - 1).cmp(&name) {
+        Ordering::Less => true,
+        _ => false,
+    }
 }
 
 /// Names that ascend.

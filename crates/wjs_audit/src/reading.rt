@@ -42,7 +42,7 @@ impl Reading {
 
     /// Takes in a line, without what ends it. Whether it may stand there.
     fn add_line(&mut self, alloc: Global, line: &[u8], number: u64) -> Result<bool, OutOfMemory>
-        ensures { IfOk result (λ yes. MatchBool yes ((l : Line) × (line.now ≡ joined (line_parts l)) × Takes self.old number l self.new) ((l : Line) → LineMay self.old.known l → ¬ (line.now ≡ joined (line_parts l)))) }
+        ensures { IfOk result (λ adds. MatchBool adds ((l : Line) × (line.now ≡ joined (line_parts l)) × Takes self.old number l self.new) ((l : Line) → LineMay self.old.known l → ¬ (line.now ≡ joined (line_parts l)))) }
     {
         let (word, tail) = first_part(line);
         if is_word(word, b"text") {

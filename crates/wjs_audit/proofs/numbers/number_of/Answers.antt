@@ -16,8 +16,8 @@ returns-in_err-number c = rw c.from_residual-in_err-number.ensures (λ n small e
     let value = value_is c.args.part.now n fits e in
     absurd (omega (arith, much, value, fits)))
 
-pub returns-then-number-gt-most : goal.returns-then-number-gt-most
-returns-then-number-gt-most c = λ n small e.
+pub returns-then-number-most : goal.returns-then-number-most
+returns-then-number-most c = λ n small e.
     let value = value_is c.args.part.now n (omega (arith, small, c.ranges.most)) e in
     omega (arith, value, small, c.in_ok-number.ensures.value)
 
@@ -28,4 +28,4 @@ returns c =
       | else-first-eq-ZERO-via-then-first-eq-ZERO+else-part-gt1 w ↦ omega (arith, first.0)
       | else-first-eq-ZERO-via-else-first-eq-ZERO w ↦ absurd (w.if-first-eq-ZERO.false (sym first.1 ∙ zero))
     ] in
-    (c.if-number-gt-most.false, spelled c.args.part.now c.in_ok-number.number c.in_ok-number.ensures.digits c.in_ok-number.ensures.value first.0 canonical (omega (arith, c.if-number-gt-most.false, c.ranges.most)))
+    (c.if-number-most.false, spelled c.args.part.now c.in_ok-number.number c.in_ok-number.ensures.digits c.in_ok-number.ensures.value first.0 canonical (omega (arith, c.if-number-most.false, c.ranges.most)))

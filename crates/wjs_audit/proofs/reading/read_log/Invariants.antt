@@ -1,5 +1,5 @@
 use Rattle.std.proofs.Common.{length}
-use Rattle.wjs_audit.proofs.Reads.{IsRead}
+use Rattle.wjs_audit.proofs.Taking.{IsRead}
 use Rattle.wjs_audit.proofs.reading.read_log.Given as goal
 
 abbrev pub invariant-loop-rest : goal.invariant-loop-rest

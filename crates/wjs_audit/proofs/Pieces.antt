@@ -1,7 +1,7 @@
 -- How lines are cut into parts.
-use Rattle.std.proofs.Common.{◌≡◌, ◌≢◌, ℕ, ◌+◌, ◌<◌, ◌≤◌, ◌⊎◌, ⊎_elim, List, [], ◌∷◌, ◌++◌, length, get_or, take, drop, refl, ap, sym, subst, ◌∙◌, append-nil, arith, All}
-use Rattle.std.proofs.lemmas.Bool.{cases_lt, cases_eq}
-use Rattle.std.proofs.lemmas.List.{take-append-drop, drop_more, take_all, drop_all}
+use Rattle.std.proofs.Common.{◌≡◌, ◌≢◌, ◌==◌, Bool, true, ℕ, ◌+◌, ◌<◌, ◌≤◌, ◌⊎◌, ⊎_elim, List, [], ◌∷◌, ◌++◌, length, get_or, take, drop, refl, ap, sym, subst, ◌∙◌, append-nil, arith, All}
+use Rattle.std.proofs.lemmas.Bool.{cases_lt, cases_eq, eqb-true}
+use Rattle.std.proofs.lemmas.List.{take-append-drop, drop_more, take_all, drop_all, nil_from_length}
 use Rattle.std.proofs.lemmas.List.Elements.{All-nil, All-cons, All-head, All-tail}
 use Rattle.wjs_audit.specs.Parts.{Lacks, AreParts}
 use Rattle.wjs_audit.specs.Spelling.{spaced}
@@ -72,3 +72,7 @@ next_cut tail (p ∷ ps) first rest are e some cut =
 pub no_next : (tail : List ℕ) (parts : List (List ℕ)) → tail ≡ spaced parts → length tail ≡ 0 → length parts ≡ 0
 no_next tail [] e none = refl
 no_next tail (p ∷ ps) e none = absurd (let some = ap (λ (bs : List ℕ). length bs) e in omega (arith, some))
+
+-- where nothing is left there is no further part
+pub at_end : (rest : List ℕ) (more : List (List ℕ)) (empty : Bool) → empty ≡ (length rest == 0) → empty ≡ true → rest ≡ spaced more → more ≡ []
+at_end rest more empty e is same = nil_from_length more (no_next rest more same (eqb-true (length rest) 0 (sym e ∙ is)))

@@ -1,23 +1,26 @@
 -- What is read of a log's bytes, line by line.
-use Rattle.std.proofs.Common.{◌≡◌, ℕ, ◌+◌, ◌<◌, ◌≤◌, true, false, List, [], ◌∷◌, ◌++◌, length, Option, None, Some, refl, ap, sym, subst, ◌∙◌, append_assoc, append-nil, arith, All}
-use Rattle.std.specs.Prelude.{codes, decimal, MatchBool}
+use Rattle.std.proofs.Common.{◌≡◌, ℕ, ◌+◌, ◌^◌, ◌<◌, ◌≤◌, Bool, true, false, List, [], ◌∷◌, ◌++◌, length, Option, None, Some, refl, ap, sym, subst, ◌∙◌, Result, append_assoc, append-nil, arith, All}
+use Rattle.std.specs.Prelude.{codes, decimal, MatchBool, IfOk}
+use Rattle.std.proofs.lemmas.Fmt.{decimal_injective}
+use Rattle.std.proofs.lemmas.Result.{IfOk-weaker}
 use Rattle.std.proofs.lemmas.List.{length-append, length_push, flat_map_more}
 use Rattle.std.proofs.lemmas.List.Elements.{All-head, All-tail}
+use Rattle.wjs_base.specs.declared.ids.OutOfMemory.{OutOfMemory}
 use Rattle.wjs_base.specs.Text.{Units}
 use Rattle.wjs_audit.specs.declared.deed.Deed.{Deed}
 use Rattle.wjs_audit.specs.declared.deed.Entry.{Entry}
 use Rattle.wjs_audit.specs.declared.known.KnownTexts.{KnownTexts}
 use Rattle.wjs_audit.specs.declared.reading.Reading.{Reading}
-use Rattle.wjs_audit.specs.Parts.{Lacks, AreParts}
+use Rattle.wjs_audit.specs.Parts.{Lacks, AreParts, AreUnits}
 use Rattle.wjs_audit.specs.Spelling.{Line, text, done, hex_parts, deed_parts, line_parts, spaced, joined, line_text, log_text}
 use Rattle.wjs_audit.specs.Logs.{Known, with_line, known_after, IsLogFrom, entries_from, Reads, BreaksAt}
 use Rattle.wjs_audit.specs.Reading.{Numbered, Holds, Named, TextMay, DeedMay, LineMay, IsReadAs, AddsText, Takes}
 use Rattle.wjs_audit.proofs.Words.{AreWords, lacks_not, cut_one, joined_lacks, parts_one, are_parts}
 use Rattle.wjs_audit.proofs.Lines.{text_words, deed_words, some_parts}
-use Rattle.wjs_audit.proofs.Spellings.{head_is}
+use Rattle.wjs_audit.proofs.Spellings.{head_is, tail_is, hex_parts_one}
 use Rattle.wjs_audit.proofs.Tabled.{log_more}
-use Rattle.wjs_audit.proofs.Cuts.{Cut, cut_of}
-use Rattle.wjs_audit.proofs.Known.{may_follow, may_stand, holds_below}
+use Rattle.wjs_audit.proofs.Pieces.{Cut, cut_of}
+use Rattle.wjs_audit.proofs.Namings.{may_follow, may_stand, holds_below}
 use Rattle.wjs_audit.proofs.Said.{no_text}
 
 -- ---- one line
@@ -82,6 +85,20 @@ module _ (line word tail : List ℕ) (first : (part : List ℕ) (parts : List (L
     no_deed_line none said (done d) m e =
         let c = is_cut in
         said c.0 c.2 c.3 d m (same_parts s line word c.0 (done d) c.1 c.2 c.4 m e)
+
+-- ---- the line of a text, by what follows its word
+
+module _ (old new : KnownTexts) (tail : List ℕ) (number : ℕ) (units : Units) (fits : number < 2 ^ 64) (are : AreUnits units) (said : (parts : List (List ℕ)) → AreParts parts → tail ≡ spaced parts → parts ≡ decimal number ∷ hex_parts units) where
+  adds : (is_new : Bool) → MatchBool is_new (TextMay old number units × Named old number units new) (¬ (TextMay old number units)) → AddsText old tail new is_new
+  adds true h = λ parts is e. (number, units, said parts is e, h.0, h.1)
+  adds false h = λ parts is e n us may same.
+      let both = sym (said parts is e) ∙ same in
+      let first = decimal_injective number n fits may.0 (head_is (decimal number) (decimal n) (hex_parts units) (hex_parts us) both) in
+      let later = hex_parts_one units us are may.1.sixteen_bits (tail_is (decimal number) (decimal n) (hex_parts units) (hex_parts us) both) in
+      h (subst (λ (m : ℕ). TextMay old m units) (sym first) (subst (TextMay old n) (sym later) may))
+
+  pub text_added : (found : Result Bool OutOfMemory) → IfOk found (λ is_new. MatchBool yes (TextMay old number units × Named old number units new) (¬ (TextMay old number units))) → IfOk found (AddsText old tail new)
+  text_added found h = IfOk-weaker found (λ is_new. MatchBool yes (TextMay old number units × Named old number units new) (¬ (TextMay old number units))) (AddsText old tail new) adds h
 
 -- ---- the first line of what is left
 
