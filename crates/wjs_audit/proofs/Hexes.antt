@@ -6,8 +6,8 @@ use Rattle.std.proofs.lemmas.List.{take-append-drop, drop_more, take_all, flat_m
 use Rattle.std.proofs.lemmas.List.Elements.{All-head, All-tail}
 use Rattle.wjs_base.specs.Text.{Units}
 use Rattle.wjs_audit.specs.Parts.{AreUnits}
-use Rattle.wjs_audit.specs.Spelling.{unit_text, hex}
-use Rattle.wjs_audit.proofs.Spellings.{glyphs, unit_glyphs, hex_one}
+use Rattle.wjs_audit.specs.Spelling.{unit_text, hex, hex_parts}
+use Rattle.wjs_audit.proofs.Spellings.{glyphs, unit_glyphs, head_is, tail_is}
 
 -- ---- one digit
 
@@ -52,12 +52,18 @@ module _ (part : List ℕ) (at : ℕ) where
   abbrev pub four_at : List ℕ
   four_at = get_or part at 0 ∷ get_or part (at + 1) 0 ∷ get_or part (at + 2) 0 ∷ get_or part (at + 3) 0 ∷ []
 
+  take_next : (i j : ℕ) → j ≡ i + 1 → i < length part → take j part ≡ take i part ++ get_or part i 0 ∷ []
+  take_next i j e within = ap (λ k. take k part) e ∙ take_more part i 0 within
+
+  drop_next : (i j : ℕ) → j ≡ i + 1 → i < length part → drop i part ≡ get_or part i 0 ∷ drop j part
+  drop_next i j e within = drop_more part i 0 within ∙ ap (λ k. get_or part i 0 ∷ drop k part) (sym e)
+
   pub take_four : at + 3 < length part → take (at + 4) part ≡ take at part ++ four_at
   take_four within =
-      let a = take_more part at 0 (omega arith) in
-      let b = take_more part (at + 1) 0 (omega arith) in
-      let c = take_more part (at + 2) 0 (omega arith) in
-      let d = take_more part (at + 3) 0 within in
+      let a = take_next at (at + 1) refl (omega arith) in
+      let b = take_next (at + 1) (at + 2) (omega arith) (omega arith) in
+      let c = take_next (at + 2) (at + 3) (omega arith) (omega arith) in
+      let d = take_next (at + 3) (at + 4) (omega arith) within in
       let t = take at part in
       let w = get_or part at 0 in
       let x = get_or part (at + 1) 0 in
@@ -67,6 +73,13 @@ module _ (part : List ℕ) (at : ℕ) where
       ∙ ap (λ bs. (bs ++ y ∷ []) ++ z ∷ []) (append_assoc t (w ∷ []) (x ∷ []))
       ∙ ap (λ bs. bs ++ z ∷ []) (append_assoc t (w ∷ x ∷ []) (y ∷ []))
       ∙ append_assoc t (w ∷ x ∷ y ∷ []) (z ∷ [])
+
+  pub drop_four : at + 3 < length part → drop at part ≡ four_at ++ drop (at + 4) part
+  drop_four within =
+      drop_next at (at + 1) refl (omega arith)
+      ∙ ap (λ bs. get_or part at 0 ∷ bs) (drop_next (at + 1) (at + 2) (omega arith) (omega arith)
+      ∙ ap (λ bs. get_or part (at + 1) 0 ∷ bs) (drop_next (at + 2) (at + 3) (omega arith) (omega arith)
+      ∙ ap (λ bs. get_or part (at + 2) 0 ∷ bs) (drop_next (at + 3) (at + 4) (omega arith) within)))
 
 -- units that are spelled in front are the front ones
 rest_of : (done all : Units) (rest : List ℕ) → AreUnits done → AreUnits all → hex done ++ rest ≡ hex all → (more : Units) × AreUnits more × (rest ≡ hex more)
@@ -86,12 +99,7 @@ pub no_unit : (part : List ℕ) (at : ℕ) (done all : Units) → at + 3 < lengt
 no_unit part at done all within so_far f none g e =
     let rest = drop at part in
     let r = rest_of done all rest f g (ap (λ bs. bs ++ rest) (sym so_far) ∙ take-append-drop at part ∙ e) in
-    let four : rest ≡ four_at part at ++ drop (at + 4) part =
-    drop_more part at 0 (omega arith)
-    ∙ ap (λ bs. get_or part at 0 ∷ bs) (drop_more part (at + 1) 0 (omega arith)
-    ∙ ap (λ bs. get_or part (at + 1) 0 ∷ bs) (drop_more part (at + 2) 0 (omega arith)
-    ∙ ap (λ bs. get_or part (at + 2) 0 ∷ bs) (drop_more part (at + 3) 0 within))) in
-    by r.0 r.1 (sym four ∙ r.2)
+    by r.0 r.1 (sym (drop_four part at within) ∙ r.2)
   where
     by : (more : Units) → AreUnits more → four_at part at ++ drop (at + 4) part ≡ hex more → ⊥
     by [] h s = absurd (let long = ap (λ (bs : List ℕ). length bs) s in omega (arith, long))
@@ -124,3 +132,18 @@ no_fourth part all odd h e =
 pub some_units : (part : List ℕ) (all : Units) → 0 < length part → part ≡ hex all → 0 < length all
 some_units part [] some e = absurd (let none = ap (λ (bs : List ℕ). length bs) e in omega (arith, none))
 some_units part (u ∷ all) some e = omega arith
+
+-- ---- the part of units, where there are some
+
+pub hex_parts_is : (units : Units) → 0 < length units → hex_parts units ≡ hex units ∷ []
+hex_parts_is [] some = absurd (omega arith)
+hex_parts_is (u ∷ units) some = refl
+
+pub one_part : (units : Units) (part : List ℕ) (more : List (List ℕ)) → hex_parts units ≡ part ∷ more → (part ≡ hex units) × (more ≡ []) × (0 < length units)
+one_part [] part more e = cc
+one_part (u ∷ units) part more e = (sym (head_is (hex (u ∷ units)) part [] more e), sym (tail_is (hex (u ∷ units)) part [] more e), omega arith)
+
+pub some_hex : (part : List ℕ) (units : Units) → AreUnits units → 0 < length units → part ≡ hex units → 0 < length part
+some_hex part units are some e =
+    let long = ap (λ (bs : List ℕ). length bs) e ∙ hex_length units are in
+    omega (arith, long, some)

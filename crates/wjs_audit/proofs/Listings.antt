@@ -1,5 +1,5 @@
 -- Names that ascend, and the parts that spell them.
-use Rattle.std.proofs.Common.{◌≡◌, ℕ, suc, ◌+◌, ◌-◌, ◌<◌, Bool, true, false, ◌&&◌, T, List, [], ◌∷◌, ◌++◌, map as each, length, slice_get, Some, refl, ap, sym, subst, ◌∙◌, append_assoc, arith, All, Ordering}
+use Rattle.std.proofs.Common.{◌≡◌, ℕ, zero, suc, ◌+◌, ◌-◌, ◌<◌, Bool, true, false, ◌&&◌, T, List, [], ◌∷◌, ◌++◌, map as each, length, slice_get, Some, refl, ap, sym, subst, ◌∙◌, append_assoc, arith, All, Ordering}
 use Rattle.std.specs.declared.cmp.Ordering.TheVariants.{Less, Equal, Greater}
 use Rattle.std.specs.Ordering.{is_lt}
 use Rattle.std.specs.FinMap as map
@@ -71,7 +71,7 @@ ascends_more (x ∷ xs) i last y h e at l =
 
 ascends_at : (xs : List Name) (i : ℕ) (z y : Name) (more : List Name) → Ascends name_cmp (xs ++ y ∷ more) → slice_get xs i ≡ Some z → name_cmp z y ≡ Less
 ascends_at [] i z y more h at = cc
-ascends_at (x ∷ xs) 0 z y more h at =
+ascends_at (x ∷ xs) zero z y more h at =
     let same : x ≡ z = cc in
     ap (λ (w : Name). name_cmp w y) (sym same) ∙ less_is (name_cmp x y) (below_last x xs y more (left (below_all name_cmp x (tagged (xs ++ y ∷ more))) (map.is_sorted name_cmp (tagged (xs ++ y ∷ more))) h))
 ascends_at (x ∷ xs) (suc i) z y more h at = ascends_at xs i z y more (right (below_all name_cmp x (tagged (xs ++ y ∷ more))) (map.is_sorted name_cmp (tagged (xs ++ y ∷ more))) h) at

@@ -76,3 +76,6 @@ no_next tail (p ∷ ps) e none = absurd (let some = ap (λ (bs : List ℕ). leng
 -- where nothing is left there is no further part
 pub at_end : (rest : List ℕ) (more : List (List ℕ)) (empty : Bool) → empty ≡ (length rest == 0) → empty ≡ true → rest ≡ spaced more → more ≡ []
 at_end rest more empty e is same = nil_from_length more (no_next rest more same (eqb-true (length rest) 0 (sym e ∙ is)))
+
+pub no_rest : (rest : List ℕ) (more : List (List ℕ)) → rest ≡ spaced more → more ≡ [] → length rest ≡ 0
+no_rest rest more e none = ap (λ (bs : List ℕ). length bs) e ∙ ap (λ (ps : List (List ℕ)). length (spaced ps)) none

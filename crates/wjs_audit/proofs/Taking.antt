@@ -48,17 +48,7 @@ module _ (line word tail : List ℕ) (first : (part : List ℕ) (parts : List (L
       (c.parts, subst (Lacks 32) (sym both.0) c.lacks, c.are_parts, both.1, c.whole ∙ ap (λ (p : List ℕ). p ++ spaced c.parts) (sym both.0))
 
   module _ (old new : Reading) (number : ℕ) where
-    -- the line of a text
-    pub text_taken : word ≡ codes "text" → new.log ≡ old.log → AddsText old.known tail new.known true → (l : Line) × (line ≡ joined (line_parts l)) × Takes old number l new
-    text_taken is same adds =
-        let c = is_cut in
-        let t = adds c.0 c.2 c.3 in (
-          text t.0 t.1,
-          c.4 ∙ (λ i. is i ++ spaced (t.2 i)),
-          (t.3, t.4, same ∙ sym (append-nil old.log)),
-        )
-
-    -- the line of a deed
+    -- a deed
     pub deed_taken : (d : Deed) → new.known ≡ old.known → new.log ≡ old.log ++ record { deed = d; line = number } ∷ [] → ((parts : List (List ℕ)) → AreParts parts → tail ≡ spaced parts → IsReadAs deed_parts (DeedMay old.known) (word ∷ parts) (Some d)) → (l : Line) × (line ≡ joined (line_parts l)) × Takes old number l new
     deed_taken d same log said =
         let c = is_cut in
@@ -66,17 +56,6 @@ module _ (line word tail : List ℕ) (first : (part : List ℕ) (parts : List (L
         (done d, c.4 ∙ ap joined t.1, (t.0, same, log))
 
   module _ (s : KnownTexts) where
-    pub no_text_line : (new : KnownTexts) → word ≡ codes "text" → AddsText s tail new false → (l : Line) → LineMay s l → line ≡ joined (line_parts l) → ⊥
-    no_text_line new is adds (text n units) m e =
-        let c = is_cut in
-        let same = same_parts s line word c.0 (text n units) c.1 c.2 c.4 m e in
-        let later : c.0 ≡ decimal n ∷ hex_parts units = cc in
-        adds c.0 c.2 c.3 n units m later
-    no_text_line new is adds (done d) m e =
-        let c = is_cut in
-        let same = same_parts s line word c.0 (done d) c.1 c.2 c.4 m e in
-        no_text c.0 d (ap (λ (w : List ℕ). w ∷ c.0) (sym is) ∙ same)
-
     pub no_deed_line : (word ≡ codes "text" → ⊥) → ((parts : List (List ℕ)) → AreParts parts → tail ≡ spaced parts → IsReadAs deed_parts (DeedMay s) (word ∷ parts) None) → (l : Line) → LineMay s l → line ≡ joined (line_parts l) → ⊥
     no_deed_line none said (text n units) m e =
         let c = is_cut in
@@ -85,6 +64,33 @@ module _ (line word tail : List ℕ) (first : (part : List ℕ) (parts : List (L
     no_deed_line none said (done d) m e =
         let c = is_cut in
         said c.0 c.2 c.3 d m (same_parts s line word c.0 (done d) c.1 c.2 c.4 m e)
+
+  -- a text
+  module _ (old new : Reading) (number : ℕ) (is : word ≡ codes "text") (same : new.log ≡ old.log) where
+    abbrev taken : Bool → Type 0
+    taken adds = MatchBool adds ((l : Line) × (line ≡ joined (line_parts l)) × Takes old number l new) ((l : Line) → LineMay old.known l → ¬ (line ≡ joined (line_parts l)))
+
+    takes : (adds : Bool) → AddsText old.known tail new.known adds → taken adds
+    takes true h =
+        let c = is_cut in
+        let t = h c.0 c.2 c.3 in (
+          text t.0 t.1,
+          c.4 ∙ (λ i. is i ++ spaced (t.2 i)),
+          (t.3, t.4, same ∙ sym (append-nil old.log)),
+        )
+    takes false h = by
+      where
+        by : (l : Line) → LineMay old.known l → ¬ (line ≡ joined (line_parts l))
+        by (text n units) m e =
+            let c = is_cut in
+            let parts = same_parts old.known line word c.0 (text n units) c.1 c.2 c.4 m e in
+            h c.0 c.2 c.3 n units m (tail_is word (codes "text") c.0 (decimal n ∷ hex_parts units) parts)
+        by (done d) m e =
+            let c = is_cut in
+            no_text c.0 d (ap (λ (w : List ℕ). w ∷ c.0) (sym is) ∙ same_parts old.known line word c.0 (done d) c.1 c.2 c.4 m e)
+
+    pub text_line : (found : Result Bool OutOfMemory) → IfOk found (AddsText old.known tail new.known) → IfOk found taken
+    text_line found h = IfOk-weaker found (AddsText old.known tail new.known) taken takes h
 
 -- ---- the line of a text, by what follows its word
 
@@ -97,8 +103,8 @@ module _ (old new : KnownTexts) (tail : List ℕ) (number : ℕ) (units : Units)
       let later = hex_parts_one units us are may.1.sixteen_bits (tail_is (decimal number) (decimal n) (hex_parts units) (hex_parts us) both) in
       h (subst (λ (m : ℕ). TextMay old m units) (sym first) (subst (TextMay old n) (sym later) may))
 
-  pub text_added : (found : Result Bool OutOfMemory) → IfOk found (λ is_new. MatchBool yes (TextMay old number units × Named old number units new) (¬ (TextMay old number units))) → IfOk found (AddsText old tail new)
-  text_added found h = IfOk-weaker found (λ is_new. MatchBool yes (TextMay old number units × Named old number units new) (¬ (TextMay old number units))) (AddsText old tail new) adds h
+  pub text_added : (found : Result Bool OutOfMemory) → IfOk found (λ is_new. MatchBool is_new (TextMay old number units × Named old number units new) (¬ (TextMay old number units))) → IfOk found (AddsText old tail new)
+  text_added found h = IfOk-weaker found (λ is_new. MatchBool is_new (TextMay old number units × Named old number units new) (¬ (TextMay old number units))) (AddsText old tail new) adds h
 
 -- ---- the first line of what is left
 

@@ -91,7 +91,10 @@ fn add_text(
     let Some((part, rest)) = next_part(rest) else {
         return known.add(number, &[]);
     };
-    if !rest.is_empty() || part.is_empty() || !units_of(part, units)? {
+    if !rest.is_empty() || part.is_empty() {
+        return Ok(false);
+    }
+    if !units_of(part, units)? {
         return Ok(false);
     }
     known.add(number, units.as_slice())
