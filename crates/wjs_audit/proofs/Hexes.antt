@@ -9,24 +9,6 @@ use Rattle.wjs_audit.specs.Parts.{AreUnits}
 use Rattle.wjs_audit.specs.Spelling.{unit_text, hex, hex_parts}
 use Rattle.wjs_audit.proofs.Spellings.{glyphs, unit_glyphs, head_is, tail_is}
 
--- ---- one digit
-
-pub decimal_glyph : (glyph d : ℕ) → 48 ≤ glyph → glyph ≤ 57 → d ≡ glyph - 48 → (d < 16) × (glyph ≡ digit_glyph false d)
-decimal_glyph glyph d low high e = (omega arith, (let sum : glyph ≡ 48 + d = omega arith in sum) ∙ sym (ap (λ t. cond t (48 + d) (87 + d)) (lt-ltb d 10 (omega arith))))
-
-pub letter_glyph : (glyph d : ℕ) → 97 ≤ glyph → glyph ≤ 102 → d ≡ glyph - 87 → (d < 16) × (glyph ≡ digit_glyph false d)
-letter_glyph glyph d low high e = (omega arith, (let sum : glyph ≡ 87 + d = omega arith in sum) ∙ sym (ap (λ t. cond t (48 + d) (87 + d)) (le-ltb d 10 (omega arith))))
-
--- a glyph is a digit, or a small letter
-pub glyph_is : (glyph d : ℕ) → d < 16 → glyph ≡ digit_glyph false d → ((48 ≤ glyph) × (glyph ≤ 57)) ⊎ ((97 ≤ glyph) × (glyph ≤ 102))
-glyph_is glyph d low e = ⊎_elim decimal letter (cases_lt d 10)
-  where
-    decimal : d < 10 → ((48 ≤ glyph) × (glyph ≤ 57)) ⊎ ((97 ≤ glyph) × (glyph ≤ 102))
-    decimal l = let f = e ∙ ap (λ t. cond t (48 + d) (87 + d)) (lt-ltb d 10 l) in inl (omega (arith, f), omega (arith, f))
-
-    letter : 10 ≤ d → ((48 ≤ glyph) × (glyph ≤ 57)) ⊎ ((97 ≤ glyph) × (glyph ≤ 102))
-    letter l = let f = e ∙ ap (λ t. cond t (48 + d) (87 + d)) (le-ltb d 10 l) in inr (omega (arith, f), omega (arith, f))
-
 -- ---- one unit
 
 pub unit_spelled : (a b c d : ℕ) (unit : ℕ) → a < 16 → b < 16 → c < 16 → d < 16 → unit ≡ a * 4096 + b * 256 + c * 16 + d → (unit < 2 ^ 16) × (digit_glyph false a ∷ digit_glyph false b ∷ digit_glyph false c ∷ digit_glyph false d ∷ [] ≡ unit_text unit)

@@ -15,6 +15,4 @@ pub mod Namings
 pub mod Hexes
 pub mod Listings
 pub mod Said
-pub mod Letters
-pub mod Readers
 pub mod Taking

@@ -106,13 +106,6 @@ module _ (knows : TextId → Type 0) where
       let back = sym first in
       (later.0, (λ i. back i ∷ later.1 i), later.2)
 
--- one part more
-pub names_on : (parts : List (List ℕ)) (names : List Name) (part : List ℕ) (more : List (List ℕ)) (n : Name) → parts ≡ each name_text names ++ part ∷ more → part ≡ name_text n → parts ≡ each name_text (names ++ n ∷ []) ++ more
-names_on parts names part more n e f =
-    e ∙ ap (λ (p : List ℕ). each name_text names ++ p ∷ more) f
-    ∙ sym (append_assoc (each name_text names) (name_text n ∷ []) more)
-    ∙ ap (λ (ps : List (List ℕ)). ps ++ more) (sym (map_push name_text names n))
-
 module _ (knows : TextId → Type 0) where
   -- the name of the part behind those of other names
   pub name_next : (names all : List Name) (part : List ℕ) (more : List (List ℕ)) → All FitsName names → All (KnowsName knows) names → All FitsName all → All (KnowsName knows) all → each name_text names ++ part ∷ more ≡ each name_text all

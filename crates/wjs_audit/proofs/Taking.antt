@@ -111,9 +111,6 @@ module _ (old new : KnownTexts) (tail : List ℕ) (number : ℕ) (units : Units)
 pub line_end : (l : Line) (behind : List ℕ) → line_text l ++ behind ≡ joined (line_parts l) ++ 10 ∷ behind
 line_end l behind = append_assoc (joined (line_parts l)) (10 ∷ []) behind
 
-pub no_end : (rest : List ℕ) → Lacks 10 rest → (l : Line) (behind : List ℕ) → rest ≡ line_text l ++ behind → ⊥
-no_end rest lacks l behind e = lacks_not 10 (joined (line_parts l)) behind (subst (Lacks 10) (e ∙ line_end l behind) lacks)
-
 pub no_first : (s : KnownTexts) (rest line after : List ℕ) → rest ≡ line ++ 10 ∷ after → Lacks 10 line → ((l : Line) → LineMay s l → line ≡ joined (line_parts l) → ⊥) → (l : Line) (behind : List ℕ) → LineMay s l → rest ≡ line_text l ++ behind → ⊥
 no_first s rest line after cut lacks none l behind m e =
     none l m (cut_one 10 line after (joined (line_parts l)) behind lacks (joined_lacks (line_parts l) (may_words s l m)) (sym cut ∙ e ∙ line_end l behind)).0
@@ -129,9 +126,6 @@ pub record IsRead (bytes rest : List ℕ) (line : ℕ) (r : Reading) : Type 0 wh
   pub entries : r.log ≡ entries_from 1 lines
   pub holds : Holds r.known (known_after [] lines)
   pub short : line + length rest ≤ length bytes
-
-pub read_none : (bytes : List ℕ) (r : Reading) → r.log ≡ [] → Holds r.known [] → IsRead bytes bytes 0 r
-read_none bytes r log holds = record { lines = []; is_log = tt; whole = refl; number = refl; entries = log; holds = holds; short = omega arith }
 
 entries_push : (n : ℕ) (ls : List Line) (l : Line) (m : ℕ) → m ≡ n + length ls → entries_from n (ls ++ l ∷ []) ≡ entries_from n ls ++ entries_from m (l ∷ [])
 entries_push n [] l m e = ap (λ k. entries_from k (l ∷ [])) (omega arith)
@@ -167,10 +161,6 @@ read_more bytes rest behind line next old new l h n e t =
       holds = subst (λ (known : Known). Holds new.known known) (sym (known_push [] h.lines l)) (holds_below old.known (known_after [] h.lines) l new.known h.holds t.1);
       short = omega (arith, long, same, fewer, n);
     }
-
-pub read_all : (bytes rest : List ℕ) (line : ℕ) (r : Reading) → IsRead bytes rest line r → length rest ≡ 0 → Reads bytes r.log
-read_all bytes [] line r h none = record { lines = h.lines; is_log = h.is_log; text = h.whole ∙ append-nil (log_text h.lines); entries = h.entries }
-read_all bytes (b ∷ rest) line r h none = absurd (omega arith)
 
 pub breaks : (bytes rest : List ℕ) (line n : ℕ) (r : Reading) → IsRead bytes rest line r → 0 < length rest → n ≡ line + 1 → ((l : Line) (behind : List ℕ) → LineMay r.known l → rest ≡ line_text l ++ behind → ⊥) → BreaksAt bytes n
 breaks bytes rest line n r h some e none =
