@@ -9,3 +9,10 @@ pub mod Readings
 pub mod Judgements
 pub mod Pushes
 pub mod Contents
+pub mod Pieces
+pub mod Integers
+pub mod Namings
+pub mod Hexes
+pub mod Listings
+pub mod Said
+pub mod Taking

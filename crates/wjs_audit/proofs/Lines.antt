@@ -1,5 +1,5 @@
 -- A line has one meaning, and its bytes end at their LF.
-use Rattle.std.proofs.Common.{◌≡◌, ℕ, ◌<◌, List, [], ◌∷◌, ◌++◌, map as each, length, get_or, drop, refl, ap, sym, ◌∙◌, append_assoc, arith, IsTrue}
+use Rattle.std.proofs.Common.{◌≡◌, ℕ, ◌^◌, ◌<◌, List, [], ◌∷◌, ◌++◌, map as each, length, get_or, drop, refl, ap, sym, ◌∙◌, append_assoc, arith, IsTrue}
 use Rattle.std.specs.Prelude.{codes, decimal}
 use Rattle.std.proofs.lemmas.Fmt.{decimal_injective}
 use Rattle.std.proofs.lemmas.List.Elements.{All-nil, All-cons}
@@ -7,6 +7,7 @@ use Rattle.wjs_base.specs.declared.ids.TextId.{TextId}
 use Rattle.wjs_base.specs.declared.values.Content.{Content}
 use Rattle.wjs_base.specs.declared.values.Slot.{Slot}
 use Rattle.wjs_base.specs.declared.ids.WorldId.{WorldId}
+use Rattle.wjs_base.specs.Text.{Units, IsText}
 use Rattle.wjs_audit.specs.declared.deed.Deed.{Deed}
 use Rattle.wjs_audit.specs.declared.deed.Deed.TheVariants.{Read, Write, List as ListOf, Sprout, Commit}
 use Rattle.wjs_audit.specs.Spelling.{Line, text, done, world_text, object_text, name_text, content_text, kind_text, verdict_parts, deed_parts, hex_parts, line_parts, joined, line_text}
@@ -83,10 +84,14 @@ module _ (knows : TextId → Type 0) where
 abbrev knows_in : Known → TextId → Type 0
 knows_in known id = IsTrue (is_named known id.0)
 
-pub line_words : (known : Known) (l : Line) → MayFollow known l → AreWords (line_parts l)
-line_words known (text n units) h =
+-- the parts of a text's line
+pub text_words : (n : ℕ) (units : Units) → n < 2 ^ 64 → IsText units → AreWords (line_parts (text n units))
+text_words n units fits is =
     All-cons IsWord (codes "text") (decimal n ∷ hex_parts units) (word_by (codes "text") refl)
-    (All-cons IsWord (decimal n) (hex_parts units) (decimal_word n h.fits) (hex_words units h.is_text.sixteen_bits))
+    (All-cons IsWord (decimal n) (hex_parts units) (decimal_word n fits) (hex_words units is.sixteen_bits))
+
+pub line_words : (known : Known) (l : Line) → MayFollow known l → AreWords (line_parts l)
+line_words known (text n units) h = text_words n units h.fits h.is_text
 line_words known (done d) h = deed_words (knows_in known) d h.fits h.knows
 
 line_by : (known : Known) (l m : Line) → MayFollow known l → MayFollow known m → line_parts l ≡ line_parts m → lead (line_parts l) ≡ lead (line_parts m) → l ≡ m

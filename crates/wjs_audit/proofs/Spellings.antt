@@ -21,6 +21,7 @@ use Rattle.wjs_base.specs.Same.{whole_same}
 use Rattle.wjs_base.specs.Text.{Units}
 use Rattle.wjs_store.specs.declared.store.Verdict.{Verdict}
 use Rattle.wjs_store.specs.declared.store.Verdict.TheVariants.{Moved, Disagrees, NoParent}
+use Rattle.wjs_audit.specs.Parts.{AreUnits}
 use Rattle.wjs_audit.specs.Spelling.{pair_text, world_text, object_text, name_text, number_text, value_text, content_text, kind_text, verdict_parts, unit_text, hex, hex_parts}
 use Rattle.wjs_audit.specs.Logs.{FitsPair, FitsWorld, FitsObject, FitsName, FitsValue, FitsContent, FitsVerdict, KnowsName, KnowsVerdict}
 use Rattle.wjs_audit.proofs.Words.{IsWord, AreWords, word_by, decimal_word, decimal_lacks, decimal_digits, cut_one, digit_word}
@@ -97,7 +98,7 @@ number_word (Some (pos n)) h = decimal_word n (let s = small_pos n h in omega (a
 number_word (Some (negsuc n)) h = All-cons (λ b. 32 < b) 45 (decimal (suc n)) (omega arith) (decimal_word (suc n) (let s = small_neg n h in omega (arith, s)))
 
 -- decimal digits begin with one
-digit_first : (n : ℕ) → n < 2 ^ 64 → (48 ≤ initial (decimal n)) × (initial (decimal n) ≤ 57)
+pub digit_first : (n : ℕ) → n < 2 ^ 64 → (48 ≤ initial (decimal n)) × (initial (decimal n) ≤ 57)
 digit_first n fits = All-get_or (λ b. (48 ≤ b) × (b ≤ 57)) (decimal n) 0 0 (decimal_nonempty n fits) (decimal_digits n fits)
 
 number_one : (x y : Option ℤ) → IsInRange x → IsInRange y → number_text x ≡ number_text y → x ≡ y
@@ -247,11 +248,11 @@ glyph_one a b f g e = by (cases_lt a 10) (cases_lt b 10)
     by (inr p) (inr q) = let x = large a p in let y = large b q in omega (arith, x, y, e)
 
 -- the four digits of a unit, each one byte
-abbrev glyphs : ℕ → List ℕ
+abbrev pub glyphs : ℕ → List ℕ
 glyphs u = digit_glyph false (u / 4096) ∷ digit_glyph false (u / 256 % 16) ∷ digit_glyph false (u / 16 % 16) ∷ digit_glyph false (u % 16) ∷ []
 
 module _ (u : ℕ) (fits : u < 2 ^ 16) where
-  unit_glyphs : unit_text u ≡ glyphs u
+  pub unit_glyphs : unit_text u ≡ glyphs u
   unit_glyphs = λ i.
       hex_one_digit false (u / 4096) (omega arith) i ++ (hex_one_digit false (u / 256 % 16) (omega arith) i ++ (hex_one_digit false (u / 16 % 16) (omega arith) i ++ hex_one_digit false (u % 16) (omega arith) i))
 
@@ -272,15 +273,12 @@ unit_one u v f g e =
     let d = glyph_one (u % 16) (v % 16) (omega arith) (omega arith) (ap (λ bs. get_or bs 3 0) e) in
     unit_parts u f ∙ (λ i. 4096 * a i + 256 * b i + 16 * c i + d i) ∙ sym (unit_parts v g)
 
-abbrev pub AreUnits : Units → Type 0
-AreUnits units = All (λ u. u < 2 ^ 16) units
-
 pub hex_word : (units : Units) → AreUnits units → IsWord (hex units)
 hex_word [] h = All-nil (λ b. 32 < b)
 hex_word (u ∷ units) h =
     All-append (λ b. 32 < b) (unit_text u) (hex units) (unit_word u (All-head (λ v. v < 2 ^ 16) u units h)) (hex_word units (All-tail (λ v. v < 2 ^ 16) u units h))
 
-hex_one : (us vs : Units) → AreUnits us → AreUnits vs → hex us ≡ hex vs → us ≡ vs
+pub hex_one : (us vs : Units) → AreUnits us → AreUnits vs → hex us ≡ hex vs → us ≡ vs
 hex_one [] [] f g e = refl
 hex_one [] (v ∷ vs) f g e =
     let p = unit_glyphs v (All-head (λ x. x < 2 ^ 16) v vs g) in

@@ -145,7 +145,7 @@ module _ (P Q : TextId → Type 0) (f : (id : TextId) → P id → Q id) where
   verdict_more (Disagrees s) h = name_more s.name h
   verdict_more NoParent h = tt
 
-  deed_more : (d : Deed) → KnowsDeed P d → KnowsDeed Q d
+  pub deed_more : (d : Deed) → KnowsDeed P d → KnowsDeed Q d
   deed_more (Read w s c) h = (name_more s.name h.0, content_more c h.1)
   deed_more (Write w s c) h = (name_more s.name h.0, content_more c h.1)
   deed_more (ListOf w o names) h = λ k d l. name_more (get_or names k d) (h k d l)

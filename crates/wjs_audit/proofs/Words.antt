@@ -8,7 +8,7 @@ use Rattle.std.proofs.lemmas.Fmt.{decimal_is_IsNumeral, hex_one_digit}
 use Rattle.std.proofs.lemmas.List.{get_or_at, length-append}
 use Rattle.std.proofs.lemmas.List.Elements.{All-nil, All-cons, All-head, All-tail, All-append, All-weaker, All-from_get_or}
 use Rattle.std.proofs.lemmas.Str.Parse.{digit_at}
-use Rattle.wjs_audit.specs.Parts.{Lacks}
+use Rattle.wjs_audit.specs.Parts.{Lacks, AreParts}
 use Rattle.wjs_audit.specs.Spelling.{spaced, joined}
 
 -- no byte is a space, or below it
@@ -65,16 +65,25 @@ joined_lacks [] h = All-nil (λ b. b ≢ 10)
 joined_lacks (part ∷ parts) h =
     All-append (λ b. b ≢ 10) part (spaced parts) (word_lacks 10 part (omega arith) (All-head IsWord part parts h)) (spaced_lacks parts (All-tail IsWord part parts h))
 
-pub joined_one : (p : List ℕ) (ps : List (List ℕ)) (q : List ℕ) (qs : List (List ℕ)) → AreWords (p ∷ ps) → AreWords (q ∷ qs) → p ++ spaced ps ≡ q ++ spaced qs → (p ≡ q) × (ps ≡ qs)
-joined_one p [] q [] h k e = (sym (append-nil p) ∙ e ∙ append-nil q, refl)
-joined_one p [] q (r ∷ qs) h k e =
-    absurd (lacks_not 32 q (r ++ spaced qs) (subst (Lacks 32) (sym (append-nil p) ∙ e) (word_lacks 32 p (omega arith) (All-head IsWord p [] h))))
-joined_one p (r ∷ ps) q [] h k e =
-    absurd (lacks_not 32 p (r ++ spaced ps) (subst (Lacks 32) (sym (append-nil q) ∙ sym e) (word_lacks 32 q (omega arith) (All-head IsWord q [] k))))
-joined_one p (r ∷ ps) q (t ∷ qs) h k e =
-    let c = cut_one 32 p (r ++ spaced ps) q (t ++ spaced qs) (word_lacks 32 p (omega arith) (All-head IsWord p (r ∷ ps) h)) (word_lacks 32 q (omega arith) (All-head IsWord q (t ∷ qs) k)) e in
-    let m = joined_one r ps t qs (All-tail IsWord p (r ∷ ps) h) (All-tail IsWord q (t ∷ qs) k) c.1 in
+-- bytes are parts with spaces between them in one way
+pub parts_one : (p : List ℕ) (ps : List (List ℕ)) (q : List ℕ) (qs : List (List ℕ)) → Lacks 32 p → AreParts ps → Lacks 32 q → AreParts qs → p ++ spaced ps ≡ q ++ spaced qs → (p ≡ q) × (ps ≡ qs)
+parts_one p [] q [] f h g k e = (sym (append-nil p) ∙ e ∙ append-nil q, refl)
+parts_one p [] q (r ∷ qs) f h g k e = absurd (lacks_not 32 q (r ++ spaced qs) (subst (Lacks 32) (sym (append-nil p) ∙ e) f))
+parts_one p (r ∷ ps) q [] f h g k e = absurd (lacks_not 32 p (r ++ spaced ps) (subst (Lacks 32) (sym (append-nil q) ∙ sym e) g))
+parts_one p (r ∷ ps) q (t ∷ qs) f h g k e =
+    let c = cut_one 32 p (r ++ spaced ps) q (t ++ spaced qs) f g e in
+    let m = parts_one r ps t qs (All-head (Lacks 32) r ps h) (All-tail (Lacks 32) r ps h) (All-head (Lacks 32) t qs k) (All-tail (Lacks 32) t qs k) c.1 in
     (c.0, λ i. m.0 i ∷ m.1 i)
+
+-- words are parts
+pub are_parts : (parts : List (List ℕ)) → AreWords parts → AreParts parts
+are_parts parts h = All-weaker IsWord (Lacks 32) (λ part. word_lacks 32 part (omega arith)) parts h
+
+pub joined_one : (p : List ℕ) (ps : List (List ℕ)) (q : List ℕ) (qs : List (List ℕ)) → AreWords (p ∷ ps) → AreWords (q ∷ qs) → p ++ spaced ps ≡ q ++ spaced qs → (p ≡ q) × (ps ≡ qs)
+joined_one p ps q qs h k e =
+    let f = are_parts (p ∷ ps) h in
+    let g = are_parts (q ∷ qs) k in
+    parts_one p ps q qs (All-head (Lacks 32) p ps f) (All-tail (Lacks 32) p ps f) (All-head (Lacks 32) q qs g) (All-tail (Lacks 32) q qs g) e
 
 -- ---- hexadecimal digits
 

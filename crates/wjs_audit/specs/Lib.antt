@@ -7,5 +7,6 @@ pub mod Recorded
 pub mod Telling
 pub mod Tables
 pub mod Parts
+pub mod Reading
 pub mod Laws
 pub mod Codes

@@ -1,10 +1,13 @@
-//! A commit that is refused: its log is spelled and judged, and told by a store.
+//! Logs that are read and judged. A commit that is refused: its log is spelled, read and judged, and told by a store.
 ghost use Rattle.std.specs.Prelude.{◌≡◌, OnOk, IfOk};
 ghost use Rattle.wjs_base.specs.Text.{Table, Has};
 ghost use Rattle.wjs_audit.specs.Deeds.{InOrder};
 ghost use Rattle.wjs_audit.specs.Logs.{KnowsContent, KnowsVerdict, KnowsDeed, KnowsLog};
 
+mod rows;
+
 use super::*;
+use rows::ROWS;
 use std::alloc::Global;
 use std::test::Fail;
 use wjs_base::{Content, Name, ObjId, OutOfMemory, Slot, TextId, Texts, Value, Whole, WorldId};
@@ -180,5 +183,36 @@ fn a_logged_store_tells_its_run(rt: HostRuntime) -> Result<(), Fail> {
         assert_eq!(rt; entry.line, 0);
     }
     assert_eq!(rt; audit(rt.alloc(), log), Ok(()));
+    Ok(())
+}
+
+/// What the reader says of bytes, and then the machine of their entries.
+fn judged(alloc: Global, bytes: &[u8]) -> Result<(), AuditFault> {
+    match read_log(alloc, bytes) {
+        Ok(log) => audit(alloc, &log),
+        Err(fault) => Err(fault),
+    }
+}
+
+#[test]
+fn logs_are_judged(rt: HostRuntime) {
+    for (bytes, expected) in ROWS {
+        assert_eq!(rt; judged(rt.alloc(), bytes), expected);
+    }
+}
+
+#[test]
+fn what_is_spelled_is_read(rt: HostRuntime) -> Result<(), Fail> {
+    let log = read_log(rt.alloc(), SPELLED)?;
+    let lines = [2, 3, 4, 5, 6];
+    assert_eq!(rt; log.entries().len(), lines.len());
+    for (entry, line) in log.entries().iter().zip(lines) {
+        assert_eq!(rt; entry.line, line);
+    }
+    assert_eq!(rt; audit(rt.alloc(), &log), Ok(()));
+    for end in 0..SPELLED.len() {
+        let line_ends = end == 0 || SPELLED[end - 1] == b'\n';
+        assert_eq!(rt; read_log(rt.alloc(), &SPELLED[..end]).is_ok(), line_ends);
+    }
     Ok(())
 }
