@@ -80,11 +80,7 @@ fn may_follow(names: &Names, name: Name) -> bool
 }
 
 /// Names that ascend.
-fn names_of(
-    alloc: Global,
-    tail: &[u8],
-    known: &KnownTexts,
-) -> Result<Option<Names>, OutOfMemory>
+fn names_of(alloc: Global, tail: &[u8], known: &KnownTexts) -> Result<Option<Names>, OutOfMemory>
     ensures { IfOk result (FollowsAs names_parts (NamesMay known.now) tail.now) }
 {
     let mut names = Names::new(alloc);

@@ -13,7 +13,9 @@ use crate::cuts::{cut_at, is_word};
 use wjs_base::Whole;
 
 const ZERO: u8 = 48;
+
 const NINE: u8 = 57;
+
 const MINUS: u8 = 45;
 
 /// What stands between an owner and a serial.

@@ -75,11 +75,7 @@ impl Reading {
 }
 
 /// Takes in the line of a text, by what follows its word. Whether it may stand there.
-fn add_text(
-    known: &mut KnownTexts,
-    units: &mut Vec<u16>,
-    tail: &[u8],
-) -> Result<bool, OutOfMemory>
+fn add_text(known: &mut KnownTexts, units: &mut Vec<u16>, tail: &[u8]) -> Result<bool, OutOfMemory>
     ensures { IfOk result (AddsText known.old tail.now known.new) }
 {
     let Some((number, rest)) = next_part(tail) else {

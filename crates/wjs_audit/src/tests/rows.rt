@@ -28,7 +28,10 @@ pub(crate) const ROWS: [(&[u8], Result<(), AuditFault>); 98] = [
     // no bytes
     (b"", Ok(())),
     // texts alone, of no use
-    (b"text 5 0061\ntext 3\ntext 18446744073709551615 d8000061\n", Ok(())),
+    (
+        b"text 5 0061\ntext 3\ntext 18446744073709551615 d8000061\n",
+        Ok(()),
+    ),
     // every kind of content
     (
         b"text 0 0061\nwrite 0.0 0.0 #0 u\nwrite 0.0 0.0 #1 l\nwrite 0.0 0.0 #2 t\nwrite 0.0 0.0 #3 f\nwrite 0.0 0.0 #4 d0\nwrite 0.0 0.0 #5 d-5\nwrite 0.0 0.0 #6 dn\nwrite 0.0 0.0 #7 $0\nwrite 0.0 0.0 #8 @0.0\nwrite 0.0 0.0 #9 -\nread 0.0 0.0 #0 u\nread 0.0 0.0 #1 l\nread 0.0 0.0 #2 t\nread 0.0 0.0 #3 f\nread 0.0 0.0 #4 d0\nread 0.0 0.0 #5 d-5\nread 0.0 0.0 #6 dn\nread 0.0 0.0 #7 $0\nread 0.0 0.0 #8 @0.0\nread 0.0 0.0 #9 -\nlist 0.0 0.0 #0 #1 #2 #3 #4 #5 #6 #7 #8\n",
@@ -45,7 +48,10 @@ pub(crate) const ROWS: [(&[u8], Result<(), AuditFault>); 98] = [
         Ok(()),
     ),
     // a text that spells an index is not its slot
-    (b"text 2 0035\nwrite 0.0 0.0 $2 t\nread 0.0 0.0 #5 t\n", Err(NotTheAnswer { line: 3 })),
+    (
+        b"text 2 0035\nwrite 0.0 0.0 $2 t\nread 0.0 0.0 #5 t\n",
+        Err(NotTheAnswer { line: 3 }),
+    ),
     // texts are ordered by number, not by content
     (
         b"text 1 0062\ntext 2 0061\nwrite 0.0 0.0 $2 t\nwrite 0.0 0.0 $1 t\nwrite 0.0 0.0 #10 t\nwrite 0.0 0.0 #9 t\nlist 0.0 0.0 #9 #10 $1 $2\n",
@@ -54,7 +60,10 @@ pub(crate) const ROWS: [(&[u8], Result<(), AuditFault>); 98] = [
     // a listing of nothing
     (b"list 0.0 0.0\nlist 0.0 9.9\n", Ok(())),
     // a text line between its first use and the entries before
-    (b"read 0.0 0.0 #0 -\ntext 9 0078\nread 0.0 0.0 $9 -\n", Ok(())),
+    (
+        b"read 0.0 0.0 #0 -\ntext 9 0078\nread 0.0 0.0 $9 -\n",
+        Ok(()),
+    ),
     // the empty text is a name and a value
     (b"text 4\nwrite 0.0 0.0 $4 $4\nread 0.0 0.0 $4 $4\n", Ok(())),
     // NaN agrees with NaN
@@ -148,13 +157,19 @@ pub(crate) const ROWS: [(&[u8], Result<(), AuditFault>); 98] = [
         Ok(()),
     ),
     // a child has a number that is not its owner's next
-    (b"sprout 0.0 7 p 7.0\nsprout 0.0 7 p 7.2\n", Err(NotTheAnswer { line: 2 })),
+    (
+        b"sprout 0.0 7 p 7.0\nsprout 0.0 7 p 7.2\n",
+        Err(NotTheAnswer { line: 2 }),
+    ),
     // a child of another owner's number
     (b"sprout 0.0 7 p 0.1\n", Err(NotTheAnswer { line: 1 })),
     // a read in a world that is not there
     (b"read 0.1 0.0 #0 -\n", Err(NotTheAnswer { line: 1 })),
     // a write in a world that is not there
-    (b"write 0.0 0.0 #0 t\nwrite 1.0 0.0 #0 t\n", Err(NotTheAnswer { line: 2 })),
+    (
+        b"write 0.0 0.0 #0 t\nwrite 1.0 0.0 #0 t\n",
+        Err(NotTheAnswer { line: 2 }),
+    ),
     // a listing in a world that is not there
     (b"list 0.1 0.0\n", Err(NotTheAnswer { line: 1 })),
     // a sprout of a world that is not there
@@ -162,7 +177,10 @@ pub(crate) const ROWS: [(&[u8], Result<(), AuditFault>); 98] = [
     // a commit of a world that is not there
     (b"commit 0.1 none\n", Err(NotTheAnswer { line: 1 })),
     // a listing lacks a name
-    (b"write 0.0 0.0 #0 t\nwrite 0.0 0.0 #1 t\nlist 0.0 0.0 #1\n", Err(NotTheAnswer { line: 3 })),
+    (
+        b"write 0.0 0.0 #0 t\nwrite 0.0 0.0 #1 t\nlist 0.0 0.0 #1\n",
+        Err(NotTheAnswer { line: 3 }),
+    ),
     // a listing has an absent name
     (
         b"write 0.0 0.0 #0 t\nwrite 0.0 0.0 #1 -\nlist 0.0 0.0 #0 #1\n",
@@ -174,7 +192,10 @@ pub(crate) const ROWS: [(&[u8], Result<(), AuditFault>); 98] = [
         Err(NotTheAnswer { line: 6 }),
     ),
     // no parent, said of a child
-    (b"sprout 0.0 0 p 0.1\ncommit 0.1 none\n", Err(NotTheAnswer { line: 2 })),
+    (
+        b"sprout 0.0 0 p 0.1\ncommit 0.1 none\n",
+        Err(NotTheAnswer { line: 2 }),
+    ),
     // a commit of the first world said to move
     (b"commit 0.0 moved\n", Err(NotTheAnswer { line: 1 })),
     // a commit that passes said to differ
@@ -183,27 +204,42 @@ pub(crate) const ROWS: [(&[u8], Result<(), AuditFault>); 98] = [
         Err(NotTheAnswer { line: 3 }),
     ),
     // NaN is not 0
-    (b"write 0.0 0.0 #0 dn\nread 0.0 0.0 #0 d0\n", Err(NotTheAnswer { line: 2 })),
+    (
+        b"write 0.0 0.0 #0 dn\nread 0.0 0.0 #0 d0\n",
+        Err(NotTheAnswer { line: 2 }),
+    ),
     // a text is its number
     (
         b"text 0 0061\ntext 1 0062\nwrite 0.0 0.0 #0 $0\nread 0.0 0.0 #0 $1\n",
         Err(NotTheAnswer { line: 4 }),
     ),
     // an object is not another of its serial
-    (b"write 0.0 0.0 #0 @0.1\nread 0.0 0.0 #0 @1.1\n", Err(NotTheAnswer { line: 2 })),
+    (
+        b"write 0.0 0.0 #0 @0.1\nread 0.0 0.0 #0 @1.1\n",
+        Err(NotTheAnswer { line: 2 }),
+    ),
     // a plain world records no first write
     (
         b"write 0.0 0.0 #0 d1\nsprout 0.0 0 p 0.1\nwrite 0.1 0.0 #0 d7\nwrite 0.0 0.0 #0 d3\nread 0.0 0.0 #0 d3\ncommit 0.1 differs 0.0 #0\n",
         Err(NotTheAnswer { line: 6 }),
     ),
     // a line out of form behind a wrong answer
-    (b"read 0.0 0.0 #0 t\nread 0.0 0.0 #0 -\nread 0.0 0.0 #0\n", Err(NotALog { line: 3 })),
+    (
+        b"read 0.0 0.0 #0 t\nread 0.0 0.0 #0 -\nread 0.0 0.0 #0\n",
+        Err(NotALog { line: 3 }),
+    ),
     // the last line has no line feed
-    (b"read 0.0 0.0 #0 -\nread 0.0 0.0 #0 -", Err(NotALog { line: 2 })),
+    (
+        b"read 0.0 0.0 #0 -\nread 0.0 0.0 #0 -",
+        Err(NotALog { line: 2 }),
+    ),
     // a line feed alone
     (b"\n", Err(NotALog { line: 1 })),
     // an empty line between
-    (b"text 0 0061\n\nread 0.0 0.0 $0 -\n", Err(NotALog { line: 2 })),
+    (
+        b"text 0 0061\n\nread 0.0 0.0 $0 -\n",
+        Err(NotALog { line: 2 }),
+    ),
     // carriage return and line feed
     (b"commit 0.0 none\r\n", Err(NotALog { line: 1 })),
     // a space at the end
@@ -225,29 +261,50 @@ pub(crate) const ROWS: [(&[u8], Result<(), AuditFault>); 98] = [
     // a number with two text lines
     (b"text 0 0061\ntext 0 0062\n", Err(NotALog { line: 2 })),
     // one text with two numbers
-    (b"text 0 0061\ntext 1 0062\ntext 2 0061\n", Err(NotALog { line: 3 })),
+    (
+        b"text 0 0061\ntext 1 0062\ntext 2 0061\n",
+        Err(NotALog { line: 3 }),
+    ),
     // the empty text with two numbers
     (b"text 0\ntext 1\n", Err(NotALog { line: 2 })),
     // a text's number without a text line
-    (b"text 1 0061\nwrite 0.0 0.0 #0 $0\n", Err(NotALog { line: 2 })),
+    (
+        b"text 1 0061\nwrite 0.0 0.0 #0 $0\n",
+        Err(NotALog { line: 2 }),
+    ),
     // a text line below its use
-    (b"write 0.0 0.0 $0 t\ntext 0 0061\n", Err(NotALog { line: 1 })),
+    (
+        b"write 0.0 0.0 $0 t\ntext 0 0061\n",
+        Err(NotALog { line: 1 }),
+    ),
     // a text's number in the slot of a refused commit without a text line
-    (b"sprout 0.0 0 p 0.1\ncommit 0.1 differs 0.0 $0\n", Err(NotALog { line: 2 })),
+    (
+        b"sprout 0.0 0 p 0.1\ncommit 0.1 differs 0.0 $0\n",
+        Err(NotALog { line: 2 }),
+    ),
     // a listing out of order
     (b"list 0.0 0.0 #1 #0\n", Err(NotALog { line: 1 })),
     // a listing with a name twice
     (b"list 0.0 0.0 #1 #1\n", Err(NotALog { line: 1 })),
     // a listing with a text before an index
-    (b"text 0 0061\nlist 0.0 0.0 $0 #1\n", Err(NotALog { line: 2 })),
+    (
+        b"text 0 0061\nlist 0.0 0.0 $0 #1\n",
+        Err(NotALog { line: 2 }),
+    ),
     // an index past the greatest
     (b"read 0.0 0.0 #4294967295 -\n", Err(NotALog { line: 1 })),
     // an owner past the greatest
     (b"read 4294967296.0 0.0 #0 -\n", Err(NotALog { line: 1 })),
     // a serial past the greatest
-    (b"read 0.18446744073709551616 0.0 #0 -\n", Err(NotALog { line: 1 })),
+    (
+        b"read 0.18446744073709551616 0.0 #0 -\n",
+        Err(NotALog { line: 1 }),
+    ),
     // a text's number past the greatest
-    (b"text 18446744073709551616 0061\n", Err(NotALog { line: 1 })),
+    (
+        b"text 18446744073709551616 0061\n",
+        Err(NotALog { line: 1 }),
+    ),
     // a sprout for an owner past the greatest
     (b"sprout 0.0 4294967296 p 0.1\n", Err(NotALog { line: 1 })),
     // a whole number past the greatest
@@ -256,7 +313,10 @@ pub(crate) const ROWS: [(&[u8], Result<(), AuditFault>); 98] = [
         Err(NotALog { line: 2 }),
     ),
     // a whole number past the least
-    (b"write 0.0 0.0 #0 d-9007199254740992\n", Err(NotALog { line: 1 })),
+    (
+        b"write 0.0 0.0 #0 d-9007199254740992\n",
+        Err(NotALog { line: 1 }),
+    ),
     // minus nothing
     (b"write 0.0 0.0 #0 d-0\n", Err(NotALog { line: 1 })),
     // a number without digits

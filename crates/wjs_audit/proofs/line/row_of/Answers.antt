@@ -18,5 +18,5 @@ returns c = λ parts are e.
     let n = ap (λ (ps : List (List ℕ)). get_or ps 1 []) s.1 in (
       (w.0, s.0, x.0),
       t.2 ∙ ap (λ (ps : List (List ℕ)). world ∷ object ∷ ps) (u.2 ∙ ap (λ (ps : List (List ℕ)). name ∷ content ∷ ps) none)
-      ∙ (λ i. w.1 i ∷ o i ∷ n i ∷ x.1 i ∷ []),
+          ∙ (λ i. w.1 i ∷ o i ∷ n i ∷ x.1 i ∷ []),
     )

@@ -18,6 +18,6 @@ returns c = λ parts are e.
     let x = c.in_ok-child.ensures in (
       ((v.0, o.0, x.0), tt, tt),
       ap (λ (ps : List (List ℕ)). codes "sprout" ∷ ps)
-      (t.2 ∙ ap (λ (ps : List (List ℕ)). world ∷ owner ∷ ps) (u.2 ∙ ap (λ (ps : List (List ℕ)). kind ∷ child ∷ ps) none)
-      ∙ (λ i. v.1 i ∷ o.1 i ∷ k.1 i ∷ x.1 i ∷ [])),
+          (t.2 ∙ ap (λ (ps : List (List ℕ)). world ∷ owner ∷ ps) (u.2 ∙ ap (λ (ps : List (List ℕ)). kind ∷ child ∷ ps) none)
+          ∙ (λ i. v.1 i ∷ o.1 i ∷ k.1 i ∷ x.1 i ∷ [])),
     )
