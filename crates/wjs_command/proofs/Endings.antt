@@ -1,5 +1,6 @@
 -- The end of a run, and what is told of it.
-use Rattle.std.proofs.Common.{◌≡◌, ℕ, ◌≤◌, Bool, true, false, List, [], ◌++◌, Option, None, Some, Result, Err, refl, sym, ◌∙◌, ap, subst, codes}
+use Rattle.std.proofs.Common.{◌≡◌, ℕ, ◌≤◌, Bool, true, false, List, [], ◌++◌, Option, None, Some, Result, Ok, Err, IfOk, refl, sym, ◌∙◌, ap, subst, codes}
+use Rattle.wjs_base.specs.declared.ids.OutOfMemory.{OutOfMemory as NoMemory}
 use Rattle.wjs_base.specs.declared.values.Value.{Value as NumberedValue}
 use Rattle.wjs_store.specs.Meaning.{Meaning}
 use Rattle.wjs_io.specs.Streams.{Stream, stream, Got}
@@ -117,3 +118,7 @@ module _ {S : Type 0} (meaning : S → Meaning) where
       let t = c.heap.texts in
       let same = shows_first meaning c v text first shows r.1 is.worlds_are is.arena_is in
       by_end report (Threw (value_in t v)) r.0 r.1 is.ends (subst (λ x. IsReport statuses.Threw (line (codes "uncaught " ++ x)) report) same h)
+
+  pub told_thrown_if : (c : Config S) (v : NumberedValue) (text shown : List ℕ) (result : Result Report NoMemory) → c.world ≡ first_world → ShowsIn meaning c v text → shown ≡ text → IfOk result (IsReport statuses.Threw (line (codes "uncaught " ++ shown))) → IfOk result (λ report. (r : Ending × St) → IsEndOf meaning c (outcomes.Threw v) r → IsReport (status_of_end r.0) (line_of_end r.0 r.1) report)
+  told_thrown_if c v text shown (Ok report) first shows same h = told_thrown c v text report first shows (subst (λ l. IsReport statuses.Threw (line (codes "uncaught " ++ l)) report) same h)
+  told_thrown_if c v text shown (Err e) first shows same h = tt

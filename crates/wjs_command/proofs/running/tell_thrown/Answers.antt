@@ -1,6 +1,5 @@
-use Rattle.std.proofs.Common.{rules}
-use Rattle.wjs_reports.proofs.Carried.{shows_first}
+use Rattle.wjs_command.proofs.Endings.{told_thrown_if}
 use Rattle.wjs_command.proofs.running.tell_thrown.Goals as goal
 
 pub returns : goal.returns
-returns g c = let shows = shows_first g.S.WorldStore.meaning c.args.config c.args.value c.in_ok-text.text.items c.requires.first c.in_ok-text.ensures in search rules
+returns g c = told_thrown_if g.S.WorldStore.meaning c.args.config c.args.value c.in_ok-text.text.items c.as_slice.result.now c.report_line.result c.requires.first c.in_ok-text.ensures c.as_slice.ensures.value c.report_line.ensures
