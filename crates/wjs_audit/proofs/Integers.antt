@@ -1,17 +1,15 @@
 -- Pairs, and whole numbers with their sign.
-use Rattle.std.proofs.Common.{◌≡◌, ◌≢◌, ℕ, zero, suc, ◌+◌, ◌^◌, ◌<◌, ◌≤◌, List, [], ◌∷◌, ◌++◌, length, get_or, drop, Option, Some, None, refl, ap, sym, subst, ◌∙◌, arith, MatchOption}
-use Rattle.std.specs.Prelude.{codes, decimal, ℤ, pos, negsuc, neg_ℤ, ⊤}
+use Rattle.std.proofs.Common.{◌≡◌, ℕ, suc, ◌<◌, ◌≤◌, List, ◌∷◌, ◌++◌, get_or, drop, ap, sym, subst, ◌∙◌, arith}
+use Rattle.std.specs.Prelude.{decimal, ℤ, pos, negsuc}
 use Rattle.std.specs.Fmt.{signed_decimal}
 use Rattle.std.proofs.lemmas.Int.{ints}
 use Rattle.std.proofs.lemmas.Fmt.{decimal_injective}
-use Rattle.wjs_base.specs.declared.number.Whole.{Whole}
-use Rattle.wjs_base.specs.Range.{InRange, IsInRange}
-use Rattle.wjs_audit.specs.Spelling.{number_text, pair_text}
+use Rattle.wjs_base.specs.Range.{InRange}
+use Rattle.wjs_audit.specs.Spelling.{pair_text}
 use Rattle.wjs_audit.specs.Logs.{FitsPair}
-use Rattle.wjs_audit.specs.Reading.{IsReadAs}
 use Rattle.wjs_audit.specs.Parts.{Lacks}
 use Rattle.wjs_audit.proofs.Words.{decimal_lacks, cut_one, lacks_not}
-use Rattle.wjs_audit.proofs.Spellings.{initial, tail_is, digit_first}
+use Rattle.wjs_audit.proofs.Spellings.{initial, digit_first}
 
 -- ---- pairs
 

@@ -1,5 +1,5 @@
 -- What the texts so far know, and what the lines of a log name.
-use Rattle.std.proofs.Common.{◌≡◌, ℕ, Bool, true, false, ◌||◌, ◌==◌, List, [], ◌∷◌, ◌++◌, refl, ap, sym, subst, ◌∙◌, IsTrue}
+use Rattle.std.proofs.Common.{◌≡◌, ℕ, Bool, true, false, ◌||◌, ◌==◌, [], ◌∷◌, ◌++◌, refl, ap, sym, subst, ◌∙◌, IsTrue}
 use Rattle.std.proofs.lemmas.List.{map-append}
 use Rattle.wjs_base.specs.declared.ids.TextId.{TextId}
 use Rattle.wjs_base.specs.Text.{Units, Table, Denotes}

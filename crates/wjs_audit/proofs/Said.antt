@@ -1,22 +1,13 @@
 -- What parts spell no deed, by the first of them.
-use Rattle.std.proofs.Common.{◌≡◌, ◌≢◌, ℕ, ◌^◌, ◌<◌, Bool, true, false, List, [], ◌∷◌, length, get_or, refl, ap, sym, ◌∙◌, arith}
-use Rattle.std.specs.Prelude.{codes, decimal}
-use Rattle.wjs_base.specs.declared.ids.ObjId.{ObjId}
-use Rattle.wjs_base.specs.declared.ids.WorldId.{WorldId}
-use Rattle.wjs_base.specs.declared.values.Name.{Name}
-use Rattle.wjs_base.specs.declared.values.Value.{Value}
-use Rattle.wjs_base.specs.declared.values.Value.TheVariants.{Undefined, Null, Bool as Truth, Number, Text, Object}
-use Rattle.wjs_store.specs.declared.store.Verdict.{Verdict}
-use Rattle.wjs_store.specs.declared.store.Verdict.TheVariants.{Moved, Disagrees, NoParent}
+use Rattle.std.proofs.Common.{◌≡◌, ◌≢◌, ℕ, List, ◌∷◌, refl, ap, sym, ◌∙◌, arith}
+use Rattle.std.specs.Prelude.{codes}
 use Rattle.wjs_audit.specs.declared.deed.Deed.{Deed}
 use Rattle.wjs_audit.specs.declared.deed.Deed.TheVariants.{Read, Write, List as ListOf, Sprout, Commit}
 use Rattle.wjs_audit.specs.declared.known.KnownTexts.{KnownTexts}
 use Rattle.wjs_audit.specs.declared.line.Row.{Row}
-use Rattle.wjs_audit.specs.Spelling.{world_text, object_text, kind_text, value_text, verdict_parts, deed_parts}
-use Rattle.wjs_audit.specs.Logs.{FitsWorld, FitsObject}
-use Rattle.wjs_audit.specs.Reading.{row_parts, RowMay, names_parts, NamesMay, slot_parts, SlotMay, VerdictMay, DeedMay, IsConstant}
-use Rattle.wjs_base.specs.declared.values.Slot.{Slot}
-use Rattle.wjs_audit.proofs.Spellings.{lead, head_is, tail_is}
+use Rattle.wjs_audit.specs.Spelling.{deed_parts}
+use Rattle.wjs_audit.specs.Reading.{row_parts, RowMay, DeedMay}
+use Rattle.wjs_audit.proofs.Spellings.{lead, tail_is}
 
 -- parts that begin with different bytes
 differ : (m n : ℕ) → m ≢ n → (ps qs : List (List ℕ)) → ps ≡ qs → lead ps ≡ m → lead qs ≡ n → ⊥

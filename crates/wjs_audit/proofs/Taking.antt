@@ -1,5 +1,5 @@
 -- What is read of a log's bytes, line by line.
-use Rattle.std.proofs.Common.{◌≡◌, ℕ, ◌+◌, ◌^◌, ◌<◌, ◌≤◌, Bool, true, false, List, [], ◌∷◌, ◌++◌, length, Option, None, Some, refl, ap, sym, subst, ◌∙◌, Result, append_assoc, append-nil, arith, All}
+use Rattle.std.proofs.Common.{◌≡◌, ℕ, ◌+◌, ◌^◌, ◌<◌, ◌≤◌, Bool, true, false, List, [], ◌∷◌, ◌++◌, length, None, Some, refl, ap, sym, subst, ◌∙◌, Result, append_assoc, append-nil, arith}
 use Rattle.std.specs.Prelude.{codes, decimal, MatchBool, IfOk}
 use Rattle.std.proofs.lemmas.Fmt.{decimal_injective}
 use Rattle.std.proofs.lemmas.Result.{IfOk-weaker}
@@ -13,13 +13,13 @@ use Rattle.wjs_audit.specs.declared.known.KnownTexts.{KnownTexts}
 use Rattle.wjs_audit.specs.declared.reading.Reading.{Reading}
 use Rattle.wjs_audit.specs.Parts.{Lacks, AreParts, AreUnits}
 use Rattle.wjs_audit.specs.Spelling.{Line, text, done, hex_parts, deed_parts, line_parts, spaced, joined, line_text, log_text}
-use Rattle.wjs_audit.specs.Logs.{Known, with_line, known_after, IsLogFrom, entries_from, Reads, BreaksAt}
+use Rattle.wjs_audit.specs.Logs.{Known, with_line, known_after, IsLogFrom, entries_from, BreaksAt}
 use Rattle.wjs_audit.specs.Reading.{Numbered, Holds, Named, TextMay, DeedMay, LineMay, IsReadAs, AddsText, Takes}
-use Rattle.wjs_audit.proofs.Words.{AreWords, lacks_not, cut_one, joined_lacks, parts_one, are_parts}
+use Rattle.wjs_audit.proofs.Words.{AreWords, cut_one, joined_lacks, parts_one, are_parts}
 use Rattle.wjs_audit.proofs.Lines.{text_words, deed_words, some_parts}
 use Rattle.wjs_audit.proofs.Spellings.{head_is, tail_is, hex_parts_one}
 use Rattle.wjs_audit.proofs.Tabled.{log_more}
-use Rattle.wjs_audit.proofs.Pieces.{Cut, cut_of}
+use Rattle.wjs_audit.proofs.Pieces.{cut_of}
 use Rattle.wjs_audit.proofs.Namings.{may_follow, may_stand, holds_below}
 use Rattle.wjs_audit.proofs.Said.{no_text}
 

@@ -1,5 +1,5 @@
 -- What the readers of a log's parts and lines give.
-use Rattle.std.specs.Prelude.{◌≡◌, ℕ, ◌+◌, ◌<◌, ◌^◌, ◌==◌, Bool, false, ◌||◌, nat_lt, List, [], ◌∷◌, ◌++◌, map as each, Option, None, Some, decimal, IsTrue, MatchBool, ⊤, All}
+use Rattle.std.specs.Prelude.{◌≡◌, ℕ, ◌<◌, ◌^◌, ◌==◌, Bool, false, ◌||◌, nat_lt, List, [], ◌∷◌, ◌++◌, map as each, Option, None, Some, decimal, IsTrue, MatchBool, ⊤, All}
 use Rattle.std.specs.BTreeSet.{contains}
 use Rattle.std.specs.Ordering.{nat_cmp}
 use Rattle.wjs_base.specs.declared.ids.TextId.{TextId}
@@ -13,7 +13,6 @@ use Rattle.wjs_base.specs.Text.{Units, IsText, Denotes}
 use Rattle.wjs_store.specs.declared.store.Verdict.{Verdict}
 use Rattle.wjs_store.specs.Ascends.{Ascends}
 use Rattle.wjs_audit.specs.declared.deed.Deed.{Deed}
-use Rattle.wjs_audit.specs.declared.deed.Entry.{Entry}
 use Rattle.wjs_audit.specs.declared.known.KnownTexts.{KnownTexts}
 use Rattle.wjs_audit.specs.declared.line.Row.{Row}
 use Rattle.wjs_audit.specs.declared.reading.Reading.{Reading}

@@ -1,4 +1,4 @@
-use Rattle.std.proofs.Common.{◌≡◌, ap, sym, ◌∙◌}
+use Rattle.std.proofs.Common.{◌∙◌}
 use Rattle.wjs_audit.proofs.Pieces.{first_cut}
 use Rattle.wjs_audit.proofs.cuts.first_part.Goals as goal
 
