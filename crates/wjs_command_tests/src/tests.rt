@@ -99,6 +99,26 @@ fn outcome(alloc: Global, run: Run, script: &[u8]) -> Result<Ended, AllocError>
     })
 }
 
+/// The run with these bytes in place of its script writes this, and ends so.
+fn check_bytes(
+    rt: &impl Abort,
+    alloc: Global,
+    run: Run,
+    script: &[u8],
+    out: &[u8],
+    err: &[u8],
+    status: Status,
+) -> Result<(), Fail> {
+    assert!(rt; run.source.piece > 0);
+    assert!(rt; run.out.piece > 0);
+    assert!(rt; run.err.piece > 0);
+    let ended = outcome(alloc, run, script)?;
+    assert_eq!(rt; ended.out.as_slice(), out, "{}", run.script);
+    assert_eq!(rt; ended.err.as_slice(), err, "{}", run.script);
+    assert_eq!(rt; ended.status, status, "{}", run.script);
+    Ok(())
+}
+
 fn check(
     rt: &impl Abort,
     alloc: Global,
@@ -107,12 +127,5 @@ fn check(
     err: &[u8],
     status: Status,
 ) -> Result<(), Fail> {
-    assert!(rt; run.source.piece > 0);
-    assert!(rt; run.out.piece > 0);
-    assert!(rt; run.err.piece > 0);
-    let ended = outcome(alloc, run, run.script.as_bytes())?;
-    assert_eq!(rt; ended.out.as_slice(), out, "{}", run.script);
-    assert_eq!(rt; ended.err.as_slice(), err, "{}", run.script);
-    assert_eq!(rt; ended.status, status, "{}", run.script);
-    Ok(())
+    check_bytes(rt, alloc, run, run.script.as_bytes(), out, err, status)
 }
