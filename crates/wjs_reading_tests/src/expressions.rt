@@ -13,7 +13,7 @@ use wjs_tree::{Key, Node, NodeId, Nodes, Tok};
 
 /// Whether no token is `function`, so that nothing has to be read before.
 fn has_no_function(toks: &[Tok]) -> bool
-    ensures { IsTrue result → (place : ℕ) → HasKey toks.now place keys.Function → ⊥ }
+    ensures none { IsTrue result → (place : ℕ) → HasKey toks.now place keys.Function → ⊥ }
 {
     let mut place = 0;
     while place < toks.len() {
@@ -51,6 +51,22 @@ fn forms(nodes: &Nodes, id: NodeId) -> (&'static str, &'static str)
 /// The forms of the longest expression, and the place behind it; None where no expression begins.
 type Longest = Option<(&'static str, &'static str, usize)>;
 
+fn longest(alloc: Global, toks: &[Tok], no_in: bool) -> Result<Longest, Fail> {
+    if !has_no_function(toks) {
+        return Err("a function")?;
+    }
+    let functions = Functions::new(alloc);
+    let mut nodes = Nodes::new(alloc);
+    match expression(alloc, toks, 0, no_in, &functions, &mut nodes) {
+        Ok(found) => {
+            let (whole, base) = forms(&nodes, found.node);
+            Ok(Some((whole, base, found.next)))
+        }
+        Err(ParseFault::NotAScript) => Ok(None),
+        Err(ParseFault::OutOfMemory) => return Err("out of memory")?,
+    }
+}
+
 fn check(
     rt: &impl Abort,
     alloc: Global,
@@ -61,18 +77,8 @@ fn check(
     assert!(rt; script.len() <= 16_777_216);
     let mut texts = Texts::new(alloc)?;
     let toks = lex(alloc, script.as_bytes(), &mut texts)?;
-    assert!(rt; has_no_function(&toks));
-    let functions = Functions::new(alloc);
-    let mut nodes = Nodes::new(alloc);
-    let longest = match expression(alloc, &toks, 0, no_in, &functions, &mut nodes) {
-        Ok(found) => {
-            let (whole, base) = forms(&nodes, found.node);
-            Some((whole, base, found.next))
-        }
-        Err(ParseFault::NotAScript) => None,
-        Err(ParseFault::OutOfMemory) => return Err("out of memory")?,
-    };
-    assert!(rt; longest == due, "{script}");
+    let found = longest(alloc, &toks, no_in)?;
+    assert!(rt; found == due, "{script}");
     Ok(())
 }
 
