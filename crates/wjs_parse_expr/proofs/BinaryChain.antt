@@ -1,5 +1,5 @@
 -- Left operands that grow by operators of one level.
-use Rattle.std.proofs.Common.{◌≡◌, ℕ, ◌+◌, ◌≤◌, Bool, List, inl, inr, refl, arith}
+use Rattle.std.proofs.Common.{◌≡◌, ℕ, zero, suc, ◌+◌, ◌≤◌, Bool, List, inl, inr, refl, subst, arith}
 use Rattle.std.proofs.lemmas.Bool.{cases_lt}
 use Rattle.wjs_tree.specs.declared.tokens.Tok.{Tok}
 use Rattle.wjs_tree.specs.Trees.{Expr, Dot, At, Binary}
@@ -45,3 +45,10 @@ parts toks least no_in room i lo hi (Binary a op b) n r =
 parts toks least no_in room i lo hi (Dot e x) n r = whole toks least no_in room i _ n (let h = r.level in let f = r.formed.0 in omega arith) r
 parts toks least no_in room i lo hi (At e x) n r = whole toks least no_in room i _ n (let h = r.level in let f = r.formed.0 in omega arith) r
 parts toks least no_in room i lo hi t n r = whole toks least no_in room i t n (let h = r.level in omega arith) r
+
+-- where no operand is read, nothing is read that begins with one
+pub no_operand : (toks : List Tok) (no_in : Bool) (room i k least : ℕ) → 3 ≤ least → least + k ≡ 13 → ((u : Expr) (m : ℕ) → Reading toks 13 no_in room i u m → ⊥) → (u : Expr) (m : ℕ) → Reading toks least no_in room i u m → ⊥
+no_operand toks no_in room i zero least lo e none u m r = none u m (subst (λ (n : ℕ). Reading toks n no_in room i u m) (omega (arith, e)) r)
+no_operand toks no_in room i (suc k) least lo e none u m r =
+    let p = parts toks least no_in room i lo (omega (arith, e)) u m r in
+    no_operand toks no_in room i k (least + 1) (omega arith) (omega (arith, e)) none p.0 p.1 p.2

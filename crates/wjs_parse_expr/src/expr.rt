@@ -1,6 +1,7 @@
 //! Expressions down to unary operators (ECMA-262, 3rd edition, sections 11.4 to 11.14).
 ghost use Rattle.std.specs.Prelude.{◌≡◌, ◌≤◌, ◌<◌, ◌+◌, ◌-◌, Bool, false, length, IfOk};
-ghost use Rattle.wjs_tree.specs.Ends.{HasSign};
+ghost use Rattle.wjs_tree.specs.Ends.{HasSign, HasToken};
+ghost use Rattle.wjs_tree.specs.Operators.{prefix_token};
 ghost use Rattle.wjs_tree.specs.Shows.{Keeps};
 ghost use Rattle.wjs_tree.specs.declared.signs.Sign.TheVariants as signs;
 ghost use Rattle.wjs_parse_expr.specs.Readings.{Continues};
@@ -75,6 +76,7 @@ pub fn comma(
 
 /// The left operand with a comma and its right operand, where these follow.
 #[cycle(expression)]
+#[inline(never)]
 fn after_comma(
     alloc: Global,
     toks: &[Tok],
@@ -147,6 +149,7 @@ pub fn assignment(
 
 /// The left operand with `?` and both choices, where these follow.
 #[cycle(expression)]
+#[inline(never)]
 fn choice(
     alloc: Global,
     toks: &[Tok],
@@ -194,6 +197,7 @@ fn choice(
 
 /// The target with an assignment sign and the value, where these follow.
 #[cycle(expression)]
+#[inline(never)]
 fn assigned(
     alloc: Global,
     toks: &[Tok],
@@ -235,7 +239,8 @@ fn assigned(
     }))
 }
 
-/// Left operands and operators of the level, from the left to the right.
+/// Left operands and operators of the level and of those that bind tighter, from the left to the right. The tightest are taken
+/// first, then the others level by level in one loop: a level that has no operator takes no stack.
 #[cycle(expression)]
 fn binary(
     alloc: Global,
@@ -258,17 +263,24 @@ fn binary(
     if level > 12 {
         return unary(alloc, toks, at, no_in, room, functions, nodes);
     }
-    let Some(mut left) = binary(alloc, toks, at, level + 1, no_in, room, functions, nodes)? else {
+    let Some(mut left) = unary(alloc, toks, at, no_in, room, functions, nodes)? else {
         return Ok(None);
     };
-    while let Some(longer) = operation(alloc, toks, left, level, no_in, room, functions, nodes)? {
-        left = longer;
+    let mut reached = 12;
+    'levels: loop {
+        if let Some(longer) = operation(alloc, toks, left, reached, no_in, room, functions, nodes)? {
+            left = longer;
+        } else if reached == level {
+            return Ok(Some(left));
+        } else {
+            reached -= 1;
+        }
     }
-    Ok(Some(left))
 }
 
 /// The left operand with an operator of the level and its right operand, where these follow.
 #[cycle(expression)]
+#[inline(never)]
 fn operation(
     alloc: Global,
     toks: &[Tok],
@@ -331,9 +343,31 @@ fn unary(
     ensures ends { PartEnds toks.now at nodes.new result }
     ensures answer { Answers (from toks.now functions.now nodes.old at) toks.now 13 no_in room at nodes.new result }
 {
-    let Some(op) = prefix_at(toks, at) else {
-        return postfix(alloc, toks, at, no_in, room, functions, nodes);
-    };
+    match prefix_at(toks, at) {
+        Some(op) => prefixed(alloc, toks, at, op, no_in, room, functions, nodes),
+        None => postfix(alloc, toks, at, no_in, room, functions, nodes),
+    }
+}
+
+/// An operator that stands there, with its operand.
+#[cycle(expression)]
+#[inline(never)]
+fn prefixed(
+    alloc: Global,
+    toks: &[Tok],
+    at: usize,
+    op: PrefixOperator,
+    no_in: bool,
+    room: u64,
+    functions: &Functions,
+    nodes: &mut Nodes,
+) -> Result<Option<Part>, OutOfMemory>
+    requires held { Holds toks.now functions.now at room nodes.old }
+    requires operator { HasToken toks.now at (prefix_token op) }
+    ensures keeps { Keeps nodes.old nodes.new }
+    ensures ends { PartEnds toks.now at nodes.new result }
+    ensures answer { Answers (from toks.now functions.now nodes.old at) toks.now 13 no_in room at nodes.new result }
+{
     if room == 0 {
         return Ok(None);
     }

@@ -20,6 +20,7 @@ use wjs_tree::{Key, Node, NodeId, Nodes, Sequence, Sign, Tok, Token};
 
 /// The longest target.
 #[cycle(expression)]
+#[inline(never)]
 pub fn target(
     alloc: Global,
     toks: &[Tok],
@@ -121,6 +122,7 @@ fn beginning(
 
 /// `new` with what it makes, and with arguments where they follow.
 #[cycle(expression)]
+#[inline(never)]
 fn created(
     alloc: Global,
     toks: &[Tok],

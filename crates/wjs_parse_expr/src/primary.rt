@@ -73,6 +73,29 @@ pub fn primary(
     if has_sign(toks, at, Sign::OpenBrace) {
         return object(alloc, toks, at, no_in, room, functions, nodes);
     }
+    atom(toks, at, no_in, room, functions, nodes)
+}
+
+/// A name, a literal or a function: what is no bracket.
+#[inline(never)]
+fn atom(
+    toks: &[Tok],
+    at: usize,
+    no_in: bool,
+    room: u64,
+    functions: &Functions,
+    nodes: &mut Nodes,
+) -> Result<Option<Part>, OutOfMemory>
+    requires held { Holds toks.now functions.now at room nodes.old }
+    requires may_begin { MayBegin toks.now at }
+    requires below { 0 < room }
+    requires no_paren { HasSign toks.now at signs.OpenParen → ⊥ }
+    requires no_bracket { HasSign toks.now at signs.OpenBracket → ⊥ }
+    requires no_brace { HasSign toks.now at signs.OpenBrace → ⊥ }
+    ensures keeps { Keeps nodes.old nodes.new }
+    ensures ends { PartEnds toks.now at nodes.new result }
+    ensures answer { Answers (from toks.now functions.now nodes.old at) toks.now 18 no_in room at nodes.new result }
+{
     match token_at(toks, at) {
         Some(Token::Word(text)) => leaf(nodes, Node::Name(text), at + 1, true),
         Some(Token::Number(value)) => leaf(nodes, Node::Number(value), at + 1, false),
@@ -191,6 +214,7 @@ fn parens(
 
 /// An array literal.
 #[cycle(expression)]
+#[inline(never)]
 fn array(
     alloc: Global,
     toks: &[Tok],
@@ -273,6 +297,7 @@ fn items(
 
 /// An object literal.
 #[cycle(expression)]
+#[inline(never)]
 fn object(
     alloc: Global,
     toks: &[Tok],

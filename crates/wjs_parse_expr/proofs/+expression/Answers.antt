@@ -1,4 +1,4 @@
-use Rattle.std.proofs.Common.{◌≡◌, ◌+◌, ◌-◌, ◌<◌, ◌≤◌, false, Some, None, length, rules, refl, sym, ◌∙◌, subst, arith}
+use Rattle.std.proofs.Common.{◌≡◌, ℕ, ◌+◌, ◌-◌, ◌<◌, ◌≤◌, false, Some, None, length, rules, refl, sym, ◌∙◌, subst, arith}
 use Rattle.wjs_tree.specs.declared.tokens.Token.TheVariants as tokens
 use Rattle.wjs_tree.specs.declared.signs.Sign.TheVariants as signs
 use Rattle.wjs_tree.specs.declared.keys.Key.TheVariants as keys
@@ -7,13 +7,14 @@ use Rattle.wjs_tree.specs.Operators.{prefix_token, update_token}
 use Rattle.wjs_tree.specs.Ends.{HasSign}
 use Rattle.wjs_tree.proofs.Kept.{keeps_both, keeps_self}
 use Rattle.wjs_parse_expr.specs.Steps.{BinaryStep, CommaStep}
-use Rattle.wjs_parse_expr.specs.Answers.{from, Answers}
+use Rattle.wjs_parse_expr.specs.Answers.{from, Answers, Finds}
 use Rattle.wjs_parse_expr.proofs.Readings.{token_within, not_false, not_true}
 use Rattle.wjs_parse_expr.proofs.Owning.{begun, own_both}
 use Rattle.wjs_parse_expr.proofs.Growth.{at_begin, at_step, at_end, nothing}
 use Rattle.wjs_parse_expr.proofs.Loops.{binary_loop, comma_loop}
 use Rattle.wjs_parse_expr.proofs.Operations.{operation_grows, after_comma_grows, assigned_grows, choice_grows}
 use Rattle.wjs_parse_expr.proofs.Suffixes.{at_grows, call_grows, no_index}
+use Rattle.wjs_parse_expr.proofs.BinaryChain.{no_operand}
 use Rattle.wjs_parse_expr.proofs.OneStep.{no_reading}
 use Rattle.wjs_parse_expr.proofs.Assignments.{RightStep, right_step, with_choice, with_assignment, no_target}
 use Rattle.wjs_parse_expr.proofs.Unaries.{either_postfix, PostfixStep, postfix_step, no_postfix, with_postfix, prefix_no_room, prefix_none, prefix_found, plain_operand, target_operand}
@@ -26,38 +27,50 @@ use Rattle.wjs_parse_expr.proofs.Places.{behind, behind_sign, behind_key, behind
 use Rattle.wjs_parse_expr.proofs.Entries.{held, leaf_ends, below_last, items_last_below, properties_last_below}
 use Rattle.wjs_parse_expr.proofs.+expression.Goals as goal
 
-pub expr::binary-loop-longer-init : goal.expr::binary-loop-longer-init
-expr::binary-loop-longer-init t c =
+pub expr::binary-levels-init : goal.expr::binary-levels-init
+expr::binary-levels-init t c =
     let f = rw c.in-Some.is at c.in_ok-left.ensures.answer in
-    let lo : 3 ≤ c.args.level = c.requires.low in
-    let hi : c.args.level ≤ 12 = omega arith in
-    (at_begin (from c.args.toks.now c.args.functions.now c.args.nodes.now c.args.at) c.args.toks.now c.args.no_in c.args.room c.args.at (c.args.level + 1) c.args.level (BinaryStep c.args.toks.now c.args.level c.args.no_in c.args.room) (binary_loop c.args.toks.now c.args.no_in c.args.room c.args.at c.args.level lo hi) c.binary.new.nodes c.in-Some.left f, c.in_ok-left.ensures.keeps, rw c.in-Some.is at c.in_ok-left.ensures.ends)
+    let lo : 3 ≤ 12 = omega arith in
+    let hi : 12 ≤ 12 = omega arith in
+    (at_begin (from c.args.toks.now c.args.functions.now c.args.nodes.now c.args.at) c.args.toks.now c.args.no_in c.args.room c.args.at 13 12 (BinaryStep c.args.toks.now 12 c.args.no_in c.args.room) (binary_loop c.args.toks.now c.args.no_in c.args.room c.args.at 12 lo hi) c.unary-2.new.nodes c.in-Some.left f, c.in_ok-left.ensures.keeps, rw c.in-Some.is at c.in_ok-left.ensures.ends, omega arith, omega arith)
 
-pub expr::binary-loop-longer-preserved : goal.expr::binary-loop-longer-preserved
-expr::binary-loop-longer-preserved t c =
+pub expr::binary-levels-preserved-in-Some-2 : goal.expr::binary-levels-preserved-in-Some-2
+expr::binary-levels-preserved-in-Some-2 t c =
     let f = rw c.in-Some-2.is at c.in_ok-longer.ensures.answer in
     let e = rw c.in-Some-2.is at c.in_ok-longer.ensures.ends in
-    let b = c.loop-longer.invariant.2 in
-    let lo : 3 ≤ c.args.level = c.requires.low in
-    let hi : c.args.level ≤ 12 = omega arith in
-    (at_step (from c.args.toks.now c.args.functions.now c.args.nodes.now c.args.at) c.args.toks.now c.args.no_in c.args.room c.args.at (c.args.level + 1) c.args.level (BinaryStep c.args.toks.now c.args.level c.args.no_in c.args.room) (binary_loop c.args.toks.now c.args.no_in c.args.room c.args.at c.args.level lo hi) c.loop-longer.nodes c.operation.new.nodes c.loop-longer.left c.in-Some-2.longer (begun c.args.toks.now c.args.functions.now c.args.nodes.now c.loop-longer.nodes c.args.at c.loop-longer.left.next c.args.at c.args.room c.requires.held c.loop-longer.invariant.1 (let x = b.0 in omega arith)) c.loop-longer.invariant.0 f, keeps_both _ _ _ c.loop-longer.invariant.1 c.in_ok-longer.ensures.keeps, ((let x = e.0 in let y = b.0 in omega arith), e.1, e.2))
-
-pub expr::binary-loop-longer-smaller : goal.expr::binary-loop-longer-smaller
-expr::binary-loop-longer-smaller t c = let e = rw c.in-Some-2.is at c.in_ok-longer.ensures.ends in let x = e.0 in let y = e.1 in omega arith
-
-pub expr::binary-returns-clause-answer : goal.expr::binary-returns-clause-answer
-expr::binary-returns-clause-answer t c =
-    let f = rw c.in_default-2.is at c.in_ok-longer.ensures.answer in
-    let lo : 3 ≤ c.args.level = c.requires.low in
-    let hi : c.args.level ≤ 12 = omega arith in
-    at_end (from c.args.toks.now c.args.functions.now c.args.nodes.now c.args.at) c.args.toks.now c.args.no_in c.args.room c.args.at (c.args.level + 1) c.args.level (BinaryStep c.args.toks.now c.args.level c.args.no_in c.args.room) (binary_loop c.args.toks.now c.args.no_in c.args.room c.args.at c.args.level lo hi) c.loop-longer.nodes c.operation.new.nodes c.loop-longer.left c.in_ok-longer.ensures.keeps c.loop-longer.invariant.0 f
+    let b = c.levels.invariant.2 in
+    let low = c.levels.invariant.3 in
+    let lo : 3 ≤ c.levels.reached = omega arith in
+    let hi : c.levels.reached ≤ 12 = c.levels.invariant.4 in
+    (at_step (from c.args.toks.now c.args.functions.now c.args.nodes.now c.args.at) c.args.toks.now c.args.no_in c.args.room c.args.at (c.levels.reached + 1) c.levels.reached (BinaryStep c.args.toks.now c.levels.reached c.args.no_in c.args.room) (binary_loop c.args.toks.now c.args.no_in c.args.room c.args.at c.levels.reached lo hi) c.levels.nodes c.operation.new.nodes c.levels.left c.in-Some-2.longer (begun c.args.toks.now c.args.functions.now c.args.nodes.now c.levels.nodes c.args.at c.levels.left.next c.args.at c.args.room c.requires.held c.levels.invariant.1 (let x = b.0 in omega arith)) c.levels.invariant.0 f, keeps_both _ _ _ c.levels.invariant.1 c.in_ok-longer.ensures.keeps, ((let x = e.0 in let y = b.0 in omega arith), e.1, e.2), low, hi)
 
 pub expr::binary-returns-in_default-clause-answer : goal.expr::binary-returns-in_default-clause-answer
 expr::binary-returns-in_default-clause-answer t c =
     let f = rw c.in_default.is at c.in_ok-left.ensures.answer in
-    let lo : 3 ≤ c.args.level = c.requires.low in
-    let hi : c.args.level ≤ 12 = omega arith in
-    record { none = nothing (from c.args.toks.now c.args.functions.now c.args.nodes.now c.args.at) c.args.toks.now c.args.no_in c.args.room c.args.at (c.args.level + 1) c.args.level (BinaryStep c.args.toks.now c.args.level c.args.no_in c.args.room) (binary_loop c.args.toks.now c.args.no_in c.args.room c.args.at c.args.level lo hi) f.none }
+    record { none = no_operand c.args.toks.now c.args.no_in c.args.room c.args.at (13 - c.args.level) c.args.level c.requires.low (let hi = c.requires.high in omega arith) f.none }
+
+pub expr::binary-returns-then-reached-level-clause-answer : goal.expr::binary-returns-then-reached-level-clause-answer
+expr::binary-returns-then-reached-level-clause-answer t c =
+    let f = rw c.in_default-2.is at c.in_ok-longer.ensures.answer in
+    let low = c.levels.invariant.3 in
+    let lo : 3 ≤ c.levels.reached = (let l = c.requires.low in omega arith) in
+    let hi : c.levels.reached ≤ 12 = c.levels.invariant.4 in
+    subst (λ (n : ℕ). Finds (from c.args.toks.now c.args.functions.now c.args.nodes.now c.args.at) c.args.toks.now n c.args.no_in c.args.room c.args.at c.operation.new.nodes c.levels.left) c.if-reached-level.true
+    (at_end (from c.args.toks.now c.args.functions.now c.args.nodes.now c.args.at) c.args.toks.now c.args.no_in c.args.room c.args.at (c.levels.reached + 1) c.levels.reached (BinaryStep c.args.toks.now c.levels.reached c.args.no_in c.args.room) (binary_loop c.args.toks.now c.args.no_in c.args.room c.args.at c.levels.reached lo hi) c.levels.nodes c.operation.new.nodes c.levels.left c.in_ok-longer.ensures.keeps c.levels.invariant.0 f)
+
+pub expr::binary-levels-preserved : goal.expr::binary-levels-preserved
+expr::binary-levels-preserved t c =
+    let f = rw c.in_default-2.is at c.in_ok-longer.ensures.answer in
+    let b = c.levels.invariant.2 in
+    let low = c.levels.invariant.3 in
+    let above = c.if-reached-level.false in
+    let lo : 3 ≤ c.levels.reached = (let l = c.requires.low in omega arith) in
+    let hi : c.levels.reached ≤ 12 = c.levels.invariant.4 in
+    let less : 3 ≤ c.levels.reached - 1 = (let l = c.requires.low in omega arith) in
+    let most : c.levels.reached - 1 ≤ 12 = omega arith in
+    let same : c.levels.reached ≡ c.levels.reached - 1 + 1 = omega arith in
+    let found = at_end (from c.args.toks.now c.args.functions.now c.args.nodes.now c.args.at) c.args.toks.now c.args.no_in c.args.room c.args.at (c.levels.reached + 1) c.levels.reached (BinaryStep c.args.toks.now c.levels.reached c.args.no_in c.args.room) (binary_loop c.args.toks.now c.args.no_in c.args.room c.args.at c.levels.reached lo hi) c.levels.nodes c.operation.new.nodes c.levels.left c.in_ok-longer.ensures.keeps c.levels.invariant.0 f in
+    (at_begin (from c.args.toks.now c.args.functions.now c.args.nodes.now c.args.at) c.args.toks.now c.args.no_in c.args.room c.args.at (c.levels.reached - 1 + 1) (c.levels.reached - 1) (BinaryStep c.args.toks.now (c.levels.reached - 1) c.args.no_in c.args.room) (binary_loop c.args.toks.now c.args.no_in c.args.room c.args.at (c.levels.reached - 1) less most) c.operation.new.nodes c.levels.left (subst (λ (n : ℕ). Finds (from c.args.toks.now c.args.functions.now c.args.nodes.now c.args.at) c.args.toks.now n c.args.no_in c.args.room c.args.at c.operation.new.nodes c.levels.left) same found), keeps_both _ _ _ c.levels.invariant.1 c.in_ok-longer.ensures.keeps, (b.0, b.1, (let n = b.2 in let k = c.in_ok-longer.ensures.keeps.longer in omega arith)), omega arith, most)
 
 pub expr::operation-returns-clause-answer : goal.expr::operation-returns-clause-answer
 expr::operation-returns-clause-answer t c =
@@ -141,25 +154,25 @@ expr::assignment-returns-then-not-left-clause-answer t c =
     let f = rw c.in-Some.is at c.in_ok-left.ensures.answer in
     no_target (from c.args.toks.now c.args.functions.now c.args.nodes.now c.args.at) c.args.toks.now c.args.no_in c.args.room c.args.at c.binary.new.nodes c.binary.new.nodes c.in-Some.left f (keeps_self _) (λ h. absurd (let a = c.has_sign.ensures.1 h in let b = c.if-has_sign.false in cc)) (not_true _ c.if-not-left.true)
 
-pub expr::unary-returns-in_default-clause-answer : goal.expr::unary-returns-in_default-clause-answer
-expr::unary-returns-in_default-clause-answer t c = either_postfix (from c.args.toks.now c.args.functions.now c.args.nodes.now c.args.at) c.args.toks.now c.args.no_in c.args.room c.args.at c.postfix.new.nodes c.in_default.ensures c.postfix.result c.postfix.ensures.answer
+pub expr::unary-returns-in-None-clause-answer : goal.expr::unary-returns-in-None-clause-answer
+expr::unary-returns-in-None-clause-answer t c = either_postfix (from c.args.toks.now c.args.functions.now c.args.nodes.now c.args.at) c.args.toks.now c.args.no_in c.args.room c.args.at c.postfix.new.nodes c.in-None.ensures c.postfix.result c.postfix.ensures.answer
 
-pub expr::unary-returns-then-room-eq0-clause-answer : goal.expr::unary-returns-then-room-eq0-clause-answer
-expr::unary-returns-then-room-eq0-clause-answer t c = prefix_no_room c.args.toks.now c.args.no_in c.args.room c.args.at c.in-Some.op c.in-Some.ensures c.if-room-eq0.true
+pub expr::prefixed-returns-then-room-eq0-clause-answer : goal.expr::prefixed-returns-then-room-eq0-clause-answer
+expr::prefixed-returns-then-room-eq0-clause-answer t c = prefix_no_room c.args.toks.now c.args.no_in c.args.room c.args.at c.args.op c.requires.operator c.if-room-eq0.true
 
-pub expr::unary-overflow_add-at : goal.expr::unary-overflow_add-at
-expr::unary-overflow_add-at t c =
-    let h : c.args.at < length c.args.toks.now = token_within c.args.toks.now c.args.at (prefix_token c.in-Some.op) c.in-Some.ensures in search rules
+pub expr::prefixed-overflow_add-at : goal.expr::prefixed-overflow_add-at
+expr::prefixed-overflow_add-at t c =
+    let h : c.args.at < length c.args.toks.now = token_within c.args.toks.now c.args.at (prefix_token c.args.op) c.requires.operator in search rules
 
-pub expr::unary-returns-in_default-2-clause-answer : goal.expr::unary-returns-in_default-2-clause-answer
-expr::unary-returns-in_default-2-clause-answer t c =
-    let f = rw c.in_default-2.is at c.in_ok-inner.ensures.answer in
-    prefix_none c.args.toks.now c.args.no_in c.args.room c.args.at c.in-Some.op c.in-Some.ensures f
+pub expr::prefixed-returns-in_default-clause-answer : goal.expr::prefixed-returns-in_default-clause-answer
+expr::prefixed-returns-in_default-clause-answer t c =
+    let f = rw c.in_default.is at c.in_ok-inner.ensures.answer in
+    prefix_none c.args.toks.now c.args.no_in c.args.room c.args.at c.args.op c.requires.operator f
 
-pub expr::unary-returns-clause-answer : goal.expr::unary-returns-clause-answer
-expr::unary-returns-clause-answer t c =
-    let f = rw c.in-Some-2.is at c.in_ok-inner.ensures.answer in
-    prefix_found c.args.functions.now c.args.nodes.now c.args.at c.args.room c.args.toks.now c.args.no_in c.args.room c.args.at c.in-Some.op c.operand.new.nodes c.add.new.self c.in-Some-2.inner c.in_ok-node.node c.requires.held c.in-Some.ensures (omega arith) f c.in_ok-inner.ensures.keeps c.in_ok-node.ensures.keeps c.in_ok-node.ensures.has c.in_ok-node.ensures.ok
+pub expr::prefixed-returns-clause-answer : goal.expr::prefixed-returns-clause-answer
+expr::prefixed-returns-clause-answer t c =
+    let f = rw c.in-Some.is at c.in_ok-inner.ensures.answer in
+    prefix_found c.args.functions.now c.args.nodes.now c.args.at c.args.room c.args.toks.now c.args.no_in c.args.room c.args.at c.args.op c.operand.new.nodes c.add.new.self c.in-Some.inner c.in_ok-node.node c.requires.held c.requires.operator (omega arith) f c.in_ok-inner.ensures.keeps c.in_ok-node.ensures.keeps c.in_ok-node.ensures.has c.in_ok-node.ensures.ok
 
 pub expr::operand-returns-then-is_update-clause-answer : goal.expr::operand-returns-then-is_update-clause-answer
 expr::operand-returns-then-is_update-clause-answer t c = target_operand (from c.args.toks.now c.args.functions.now c.args.nodes.now c.args.at) c.args.toks.now c.args.no_in c.args.room c.args.at c.args.op c.target.new.nodes (sym c.is_update.ensures ∙ c.if-is_update.true) c.target.result c.target.ensures.answer
@@ -318,8 +331,10 @@ expr::assignment-choice-requires t c =
 
 pub expr::binary-operation-requires : goal.expr::binary-operation-requires
 expr::binary-operation-requires t c =
-    let e = c.loop-longer.invariant.2 in
-    (search rules, (c.requires.low, ((omega arith), (held c.args.toks.now c.args.functions.now c.args.at (c.loop-longer.left.next) c.args.room (c.args.room) c.args.nodes.now c.loop-longer.nodes c.requires.held c.loop-longer.invariant.1 (let x = e.0 in omega arith) (omega arith), e.2))))
+    let e = c.levels.invariant.2 in
+    let low = c.levels.invariant.3 in
+    let l = c.requires.low in
+    (search rules, ((omega arith), (c.levels.invariant.4, (held c.args.toks.now c.args.functions.now c.args.at (c.levels.left.next) c.args.room (c.args.room) c.args.nodes.now c.levels.nodes c.requires.held c.levels.invariant.1 (let x = e.0 in omega arith) (omega arith), e.2))))
 
 pub expr::binary-returns-then-level-gt12-clause-answer : goal.expr::binary-returns-then-level-gt12-clause-answer
 expr::binary-returns-then-level-gt12-clause-answer t c =
@@ -348,8 +363,8 @@ expr::operation-binary-requires t c =
     let b = c.requires.high in
     (search rules, ((omega arith), ((omega arith), (held c.args.toks.now c.args.functions.now c.args.left.next (c.args.left.next + 1) c.args.room (c.args.room - 1) c.args.nodes.now c.args.nodes.now c.requires.held (keeps_self c.args.nodes.now) (omega arith) (omega arith), behind_binary c.args.toks.now c.args.left.next c.in-Some.op c.in-Some.ensures.0))))
 
-pub expr::unary-operand-requires : goal.expr::unary-operand-requires
-expr::unary-operand-requires t c = (search rules, (held c.args.toks.now c.args.functions.now c.args.at (c.args.at + 1) c.args.room (c.args.room - 1) c.args.nodes.now c.args.nodes.now c.requires.held (keeps_self c.args.nodes.now) (omega arith) (omega arith), behind_prefix c.args.toks.now c.args.at c.in-Some.op c.in-Some.ensures))
+pub expr::prefixed-operand-requires : goal.expr::prefixed-operand-requires
+expr::prefixed-operand-requires t c = (search rules, (held c.args.toks.now c.args.functions.now c.args.at (c.args.at + 1) c.args.room (c.args.room - 1) c.args.nodes.now c.args.nodes.now c.requires.held (keeps_self c.args.nodes.now) (omega arith) (omega arith), behind_prefix c.args.toks.now c.args.at c.args.op c.requires.operator))
 
 pub member::created-chain-requires : goal.member::created-chain-requires
 member::created-chain-requires t c = (search rules, (held c.args.toks.now c.args.functions.now c.args.at (c.args.at + 1) c.args.room (c.args.room - 1) c.args.nodes.now c.args.nodes.now c.requires.held (keeps_self c.args.nodes.now) (omega arith) (omega arith), behind_key c.args.toks.now c.args.at keys.New c.requires.key))
@@ -469,21 +484,6 @@ pub member::arguments-returns-then-not-has_sign-clause-answer : goal.member::arg
 member::arguments-returns-then-not-has_sign-clause-answer t c =
     let f = rw c.in-Some.is at c.in_ok-item.ensures.answer in
     no_sign (from c.args.toks.now c.args.functions.now c.args.nodes.now c.args.at) (from c.args.toks.now c.args.functions.now c.loop-list.nodes c.loop-list.place) c.args.toks.now c.args.room c.args.at c.loop-list.nodes c.loop-list.list.items c.loop-list.place c.assignment.new.nodes c.in-Some.item c.loop-list.invariant.0 f (λ h. absurd (let a = c.has_sign-in-loop-list.ensures.1 h in let b = c.if-has_sign-2.false in cc)) (λ h. absurd (let a = c.has_sign-in-loop-list-2.ensures.1 h in let b = c.if-not-has_sign.true in cc))
-
-pub primary::primary-returns-in-Some-Word-clause-answer : goal.primary::primary-returns-in-Some-Word-clause-answer
-primary::primary-returns-in-Some-Word-clause-answer t c = name_found c.args.functions.now c.args.nodes.now c.args.toks.now c.args.no_in c.args.room c.args.at c.leaf.new.nodes (omega arith) c.in-Some-Word.text (let e = c.in-Some-Word.field-0-is in let g = c.in-Some-Word.is in let z = c.token_at.ensures in cc) c.leaf.result c.leaf.ensures.adds
-
-pub primary::primary-returns-in-Some-Number-clause-answer : goal.primary::primary-returns-in-Some-Number-clause-answer
-primary::primary-returns-in-Some-Number-clause-answer t c = number_found c.args.functions.now c.args.nodes.now c.args.toks.now c.args.no_in c.args.room c.args.at c.leaf-in-Some-Number.new.nodes (omega arith) c.in-Some-Number.value (let e = c.in-Some-Number.field-0-is in let g = c.in-Some-Number.is in let z = c.token_at.ensures in cc) c.leaf-in-Some-Number.result c.leaf-in-Some-Number.ensures.adds
-
-pub primary::primary-returns-in-Some-Number-clause-ends : goal.primary::primary-returns-in-Some-Number-clause-ends
-primary::primary-returns-in-Some-Number-clause-ends t c = leaf_ends c.args.toks.now c.args.at c.args.nodes.now c.leaf-in-Some-Number.new.nodes (nodes.Number c.in-Some-Number.value) false (token_within c.args.toks.now c.args.at (tokens.Number c.in-Some-Number.value) (let e = c.in-Some-Number.field-0-is in let g = c.in-Some-Number.is in let z = c.token_at.ensures in cc)) c.leaf-in-Some-Number.result c.leaf-in-Some-Number.ensures.adds
-
-pub primary::primary-returns-in-Some-Text-clause-answer : goal.primary::primary-returns-in-Some-Text-clause-answer
-primary::primary-returns-in-Some-Text-clause-answer t c = text_found c.args.functions.now c.args.nodes.now c.args.toks.now c.args.no_in c.args.room c.args.at c.leaf-in-Some-Text.new.nodes (omega arith) c.in-Some-Text.text (let e = c.in-Some-Text.field-0-is in let g = c.in-Some-Text.is in let z = c.token_at.ensures in cc) c.leaf-in-Some-Text.result c.leaf-in-Some-Text.ensures.adds
-
-pub primary::primary-returns-in-Some-Text-clause-ends : goal.primary::primary-returns-in-Some-Text-clause-ends
-primary::primary-returns-in-Some-Text-clause-ends t c = leaf_ends c.args.toks.now c.args.at c.args.nodes.now c.leaf-in-Some-Text.new.nodes (nodes.Text c.in-Some-Text.text) false (token_within c.args.toks.now c.args.at (tokens.Text c.in-Some-Text.text) (let e = c.in-Some-Text.field-0-is in let g = c.in-Some-Text.is in let z = c.token_at.ensures in cc)) c.leaf-in-Some-Text.result c.leaf-in-Some-Text.ensures.adds
 
 pub primary::array-returns-clause-answer : goal.primary::array-returns-clause-answer
 primary::array-returns-clause-answer t c =

@@ -32,6 +32,9 @@ decreases-expr::operation l = l.room * 40 + 16
 abbrev pub decreases-expr::unary : goal.decreases-expr::unary
 decreases-expr::unary l = l.room * 40 + 16
 
+abbrev pub decreases-expr::prefixed : goal.decreases-expr::prefixed
+decreases-expr::prefixed l = l.room * 40 + 15
+
 abbrev pub decreases-expr::operand : goal.decreases-expr::operand
 decreases-expr::operand l = l.room * 40 + 17
 
@@ -96,12 +99,12 @@ invariant-expr::comma-loop-longer l =
 abbrev pub decreases-expr::comma-loop-longer : goal.decreases-expr::comma-loop-longer
 decreases-expr::comma-loop-longer l = length l.toks - l.left.next
 
-abbrev pub invariant-expr::binary-loop-longer : goal.invariant-expr::binary-loop-longer
-invariant-expr::binary-loop-longer l =
-    Growing (from l.toks l.functions l.fn.nodes l.at) l.toks l.no_in l.room l.at (l.level + 1) l.level (BinaryStep l.toks l.level l.no_in l.room) l.nodes l.left × Keeps l.fn.nodes l.nodes × (EndsAt l.toks l.at l.nodes l.left)
+abbrev pub invariant-expr::binary-levels : goal.invariant-expr::binary-levels
+invariant-expr::binary-levels l =
+    Growing (from l.toks l.functions l.fn.nodes l.at) l.toks l.no_in l.room l.at (l.reached + 1) l.reached (BinaryStep l.toks l.reached l.no_in l.room) l.nodes l.left × Keeps l.fn.nodes l.nodes × (EndsAt l.toks l.at l.nodes l.left) × (l.level ≤ l.reached) × (l.reached ≤ 12)
 
-abbrev pub decreases-expr::binary-loop-longer : goal.decreases-expr::binary-loop-longer
-decreases-expr::binary-loop-longer l = length l.toks - l.left.next
+abbrev pub decreases-expr::binary-levels : goal.decreases-expr::binary-levels
+decreases-expr::binary-levels l = (length l.toks - l.left.next) + l.reached
 
 abbrev pub invariant-member::chain-loop-longer : goal.invariant-member::chain-loop-longer
 invariant-member::chain-loop-longer l =
