@@ -22,9 +22,9 @@ use Rattle.wjs_parse_expr.proofs.Heads.{chain_begin, chain_step, chain_end, chai
 use Rattle.wjs_parse_expr.proofs.Targets.{target_begin, target_step, target_end, no_target_bare, no_target_none, last_ends}
 use Rattle.wjs_parse_expr.proofs.Gathering.{start, ends, no_item, no_sign, one_more_item, empty, items_start, items_close, items_hole, items_last, items_neither, items_more}
 use Rattle.wjs_parse_expr.proofs.Properties.{properties_start, properties_close, properties_last, properties_neither, properties_more}
-use Rattle.wjs_parse_expr.proofs.Primaries.{name_found, number_found, text_found, parens_found, parens_nothing, parens_bare, array_found, object_found}
+use Rattle.wjs_parse_expr.proofs.Primaries.{parens_found, parens_nothing, parens_bare, array_found, object_found}
 use Rattle.wjs_parse_expr.proofs.Places.{behind, behind_sign, behind_key, behind_binary, behind_assign, behind_prefix}
-use Rattle.wjs_parse_expr.proofs.Entries.{held, leaf_ends, below_last, items_last_below, properties_last_below}
+use Rattle.wjs_parse_expr.proofs.Entries.{held, below_last, items_last_below, properties_last_below}
 use Rattle.wjs_parse_expr.proofs.+expression.Goals as goal
 
 pub expr::binary-levels-init : goal.expr::binary-levels-init
