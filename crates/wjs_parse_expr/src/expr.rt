@@ -268,7 +268,9 @@ fn binary(
     };
     let mut reached = 12;
     'levels: loop {
-        if let Some(longer) = operation(alloc, toks, left, reached, no_in, room, functions, nodes)? {
+        if let Some(longer) = operation(
+            alloc, toks, left, reached, no_in, room, functions, nodes,
+        )? {
             left = longer;
         } else if reached == level {
             return Ok(Some(left));

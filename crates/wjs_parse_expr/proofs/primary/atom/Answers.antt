@@ -20,4 +20,3 @@ returns-in-Some-Text-clause-answer c = text_found c.args.functions.now c.args.no
 
 pub returns-in-Some-Text-clause-ends : goal.returns-in-Some-Text-clause-ends
 returns-in-Some-Text-clause-ends c = leaf_ends c.args.toks.now c.args.at c.args.nodes.now c.leaf-in-Some-Text.new.nodes (nodes.Text c.in-Some-Text.text) false (token_within c.args.toks.now c.args.at (tokens.Text c.in-Some-Text.text) (let e = c.in-Some-Text.field-0-is in let g = c.in-Some-Text.is in let z = c.token_at.ensures in cc)) c.leaf-in-Some-Text.result c.leaf-in-Some-Text.ensures.adds
-
