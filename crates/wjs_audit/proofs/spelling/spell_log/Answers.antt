@@ -1,4 +1,4 @@
-use Rattle.std.proofs.Common.{◌≡◌, List, take, length, refl, ap, subst, ◌∙◌, All, Vec, Global, ℕ}
+use Rattle.std.proofs.Common.{◌≡◌, take, length, refl, ap, subst, ◌∙◌, All, Vec, Global, ℕ}
 use Rattle.std.proofs.lemmas.List.{take_all}
 use Rattle.std.proofs.lemmas.Option.{slice_get_read}
 use Rattle.std.specs.String.{string_bytes}
