@@ -1,5 +1,5 @@
 -- Entries are judged in one way.
-use Rattle.std.proofs.Common.{◌≡◌, ℕ, ◌⊎◌, inl, inr, ⊎_elim, List, [], ◌∷◌, ◌++◌, ap, sym, subst, ◌∙◌}
+use Rattle.std.proofs.Common.{◌≡◌, ℕ, ◌⊎◌, inl, inr, ⊎_elim, List, [], ◌∷◌, ◌++◌, refl, ap, sym, subst, ◌∙◌, append_assoc, append-nil}
 use Rattle.wjs_store.specs.Meaning.{Worlds}
 use Rattle.wjs_store.specs.Run.{answer_in, after_in, after_all, answers_in}
 use Rattle.wjs_store.specs.Fixed.{fresh}
@@ -7,6 +7,7 @@ use Rattle.wjs_audit.specs.declared.deed.Entry.{Entry}
 use Rattle.wjs_audit.specs.Deeds.{action_of, answer_of_deed, actions_of, answers_of}
 use Rattle.wjs_audit.specs.Right.{AreRight, WrongAt}
 use Rattle.wjs_audit.proofs.Spellings.{head_is, tail_is}
+use Rattle.wjs_audit.proofs.Machine.{right_more}
 
 -- where all answers are right, each is
 right_at : (F : Worlds) (front : List Entry) (e : Entry) (back : List Entry) → answers_in F (actions_of (front ++ e ∷ back)) ≡ answers_of (front ++ e ∷ back) → answer_in (after_all F (actions_of front)) (action_of e.deed) ≡ answer_of_deed e.deed
@@ -39,3 +40,20 @@ wrong_one entries m n v w =
     (λ t. absurd (v.wrong (right_at fresh v.front v.entry t.0 (subst AreRight t.1 w.right))))
     (λ t. absurd (w.wrong (right_at fresh w.front w.entry t.0 (subst AreRight t.1 v.right)))))
     (places v.front v.entry v.back w.front w.entry w.back (sym v.whole ∙ w.whole))
+
+-- answers are all right, or one of them is the first that is wrong: behind right ones the next is right too, as long as neither stands
+module _ (entries : List Entry) (unright : ¬ (AreRight entries)) (unwrong : (n : ℕ) → ¬ (WrongAt entries n)) where
+  goes_on : (front back : List Entry) → entries ≡ front ++ back → AreRight front → ⊥
+  goes_on front [] e right = unright (subst AreRight (sym (e ∙ append-nil front)) right)
+  goes_on front (x ∷ back) e right = unwrong x.line (record {
+    front = front;
+    entry = x;
+    back = back;
+    whole = e;
+    right = right;
+    line = refl;
+    wrong = λ same. goes_on (front ++ x ∷ []) back (e ∙ sym (append_assoc front (x ∷ []) back)) (right_more front x right same);
+  })
+
+pub right_or_wrong_some : (entries : List Entry) → ¬ (AreRight entries) → ((n : ℕ) → ¬ (WrongAt entries n)) → ⊥
+right_or_wrong_some entries unright unwrong = goes_on entries unright unwrong [] entries refl refl

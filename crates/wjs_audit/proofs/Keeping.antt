@@ -19,7 +19,7 @@ use Rattle.wjs_store.specs.Shown.{slots_of}
 use Rattle.wjs_store.specs.Meaning as store
 use Rattle.wjs_store.specs.Meaning.{Meaning, Worlds, View, Does, IsSound}
 use Rattle.wjs_store.specs.Run.{act_of, answer_of, is_done, answer_in, after_all}
-use Rattle.wjs_store.specs.Fixed.{fixed, fresh}
+use Rattle.wjs_store.specs.Fixed.{fresh}
 use Rattle.wjs_store.proofs.Ascending.{slots_ascend}
 use Rattle.wjs_audit.specs.declared.deed.Entry.{Entry}
 use Rattle.wjs_audit.specs.Deeds.{action_of, answer_of_deed, reply_of_deed, actions_of, told_of_deed}
@@ -28,8 +28,8 @@ use Rattle.wjs_audit.specs.Recorded.{Recorded, telling}
 use Rattle.wjs_audit.proofs.Deeds.{shown_deed}
 use Rattle.wjs_audit.proofs.Machine.{after_entry, right_more}
 
-pub kept_fresh : (m : Meaning) → m ≡ fixed fresh false → IsKept m []
-kept_fresh m e = subst (λ (n : Meaning). IsKept n []) (sym e) (record { right = refl; worlds = λ v h. refl; unnumbered = All-nil (λ (x : Entry). x.line ≡ 0) })
+pub kept_fresh : (m : Meaning) → ((v : View) → IsTrue (m.admits v) → m.full v ≡ fresh) → IsKept m []
+kept_fresh m same = record { right = refl; worlds = same; unnumbered = All-nil (λ (x : Entry). x.line ≡ 0) }
 
 -- one deed more
 pub kept_more : (old new : Meaning) (log : List Entry) (e : Entry) → IsKept old log → IsTrue (not old.spent) → Does old (act_of (action_of e.deed)) (reply_of_deed e.deed) new → (IsTrue (not new.spent) → IsSound new) → IsTrue (has_world (store.worlds old) (world_of (act_of (action_of e.deed)))) → e.line ≡ 0 → IsKept new (log ++ e ∷ [])

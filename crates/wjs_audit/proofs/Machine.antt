@@ -1,6 +1,5 @@
 -- Entries one after another, and the machine's answers to them.
 use Rattle.std.proofs.Common.{◌≡◌, ℕ, ◌+◌, take, drop, slice_get, not, List, [], ◌∷◌, ◌++◌, refl, ap, sym, ◌∙◌, IsTrue, Some}
-use Rattle.std.specs.Prelude.{false}
 use Rattle.std.proofs.lemmas.List.{map_push, take-append-drop, drop_more}
 use Rattle.std.proofs.lemmas.Option.{slice_get_within, get_or_from_slice_get}
 use Rattle.wjs_store.specs.declared.action.Action.{Action}
@@ -8,7 +7,7 @@ use Rattle.wjs_store.specs.declared.action.Answer.{Answer}
 use Rattle.wjs_store.specs.Meaning as store
 use Rattle.wjs_store.specs.Meaning.{Meaning, Worlds}
 use Rattle.wjs_store.specs.Run.{answer_in, after_in, after_all, answers_in, Runs}
-use Rattle.wjs_store.specs.Fixed.{fixed, fresh}
+use Rattle.wjs_store.specs.Fixed.{fresh}
 use Rattle.wjs_store.proofs.RunLaws.{after_more, answers_more}
 use Rattle.wjs_audit.specs.declared.deed.Entry.{Entry}
 use Rattle.wjs_audit.specs.Deeds.{action_of, answer_of_deed, actions_of}
@@ -38,8 +37,8 @@ pub record Audited (m : Meaning) (front : List Entry) : Type 0 where
   pub works : IsTrue (not m.spent)
   pub right : AreRight front
 
-pub audited_fresh : (m : Meaning) → m ≡ fixed fresh false → Audited m []
-audited_fresh m e = record { worlds = ap store.worlds e; works = ap (λ (n : Meaning). not n.spent) e; right = refl }
+pub audited_fresh : (m : Meaning) → store.worlds m ≡ fresh → IsTrue (not m.spent) → Audited m []
+audited_fresh m e works = record { worlds = e; works = works; right = refl }
 
 head_of : (r s : Answer) → ◌≡◌ {A = List Answer} (r ∷ []) (s ∷ []) → r ≡ s
 head_of r s e = cc

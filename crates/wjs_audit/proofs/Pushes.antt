@@ -9,8 +9,8 @@ use Rattle.wjs_base.specs.declared.values.Name.{Name}
 use Rattle.wjs_base.specs.Text.{Units, Table}
 use Rattle.wjs_audit.specs.declared.deed.Entry.{Entry}
 use Rattle.wjs_audit.specs.Spelling.{text, done, name_text, unit_text, hex, spaced, line_text, log_text}
-use Rattle.wjs_audit.specs.Tables.{text_lines}
-use Rattle.wjs_audit.proofs.Tabled.{text_lines-push, done_lines}
+use Rattle.wjs_audit.specs.Tables.{text_lines, done_lines}
+use Rattle.wjs_audit.proofs.Tabled.{text_lines-push}
 
 -- one piece and then another
 pub two : (before mid after a b : List ℕ) → mid ≡ before ++ a → after ≡ mid ++ b → after ≡ before ++ (a ++ b)

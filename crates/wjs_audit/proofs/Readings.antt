@@ -1,15 +1,18 @@
 -- Bytes have one reading.
-use Rattle.std.proofs.Common.{◌≡◌, ℕ, ◌<◌, ◌⊎◌, inl, inr, ⊎_elim, List, [], ◌∷◌, ◌++◌, length, refl, ap, sym, subst, ◌∙◌, append_assoc, append-nil, arith}
-use Rattle.std.proofs.lemmas.List.{length-append}
+use Rattle.std.proofs.Common.{◌≡◌, ℕ, zero, suc, ◌+◌, ◌<◌, ◌⊎◌, inl, inr, ⊎_elim, List, [], ◌∷◌, ◌++◌, length, refl, ap, sym, subst, ◌∙◌, append_assoc, append-nil, arith}
+use Rattle.std.proofs.lemmas.List.{length-append, flat_map_more}
+use Rattle.wjs_base.specs.Text.{Table}
 use Rattle.wjs_audit.specs.declared.deed.Entry.{Entry}
+use Rattle.wjs_audit.specs.Deeds.{deeds_of}
 use Rattle.wjs_audit.specs.Spelling.{Line, line_parts, joined, line_text, log_text}
-use Rattle.wjs_audit.specs.Logs.{Known, MayFollow, with_line, known_after, IsLogFrom, entries_from, Reads, BreaksAt}
+use Rattle.wjs_audit.specs.Logs.{Known, MayFollow, with_line, known_after, IsLogFrom, entries_from, Reads, BreaksAt, Spells}
 use Rattle.wjs_audit.proofs.Lines.{line_one}
+use Rattle.wjs_audit.proofs.Tabled.{log_more}
 
 -- a line has bytes
-line_some : (l : Line) (r : List ℕ) → 0 < length (line_text l ++ r)
-line_some l r =
-    let a = length-append (line_text l) r in
+pub line_long : (l : Line) (behind : List ℕ) → length behind < length (line_text l ++ behind)
+line_long l behind =
+    let a = length-append (line_text l) behind in
     let b = length-append (joined (line_parts l)) (10 ∷ []) in
     omega (arith, a, b)
 
@@ -17,9 +20,9 @@ log_none : (ls : List Line) (r : List ℕ) → length (log_text ls ++ r) ≡ 0 �
 log_none [] [] e = (refl, refl)
 log_none [] (x ∷ r) e = absurd (omega arith)
 log_none (l ∷ ls) r e =
-    let some = line_some l (log_text ls ++ r) in
+    let long = line_long l (log_text ls ++ r) in
     let same = ap (λ (bs : List ℕ). length bs) (append_assoc (line_text l) (log_text ls) r) in
-    absurd (omega (arith, some, same, e))
+    absurd (omega (arith, long, same, e))
 
 -- of two logs with the same bytes and what follows them, one is the front of the other
 pub log_two : (known : Known) (ls ks : List Line) (r s : List ℕ) → IsLogFrom known ls → IsLogFrom known ks → log_text ls ++ r ≡ log_text ks ++ s
@@ -87,3 +90,32 @@ breaks_one bytes m n a b =
     (λ t. as_many bytes m n a b t.0 t.1 t.2)
     (λ t. sym (as_many bytes n m b a t.0 t.1 t.2))
     (log_two [] a.lines b.lines a.rest b.rest a.is_log b.is_log (sym a.whole ∙ b.whole))
+
+-- bytes are a log, or have a line that breaks the form: what follows a log's lines begins with one more that may follow them, as long as neither stands
+module _ (bytes : List ℕ) (unread : (es : List Entry) → ¬ (Reads bytes es)) (unbroken : (n : ℕ) → ¬ (BreaksAt bytes n)) where
+  goes_on : (fuel : ℕ) (lines : List Line) (rest : List ℕ) → length rest < fuel → bytes ≡ log_text lines ++ rest → IsLogFrom [] lines → ⊥
+  goes_on zero lines rest few e h = absurd (omega arith)
+  goes_on (suc fuel) lines [] few e h = unread (entries_from 1 lines) (record { lines = lines; is_log = h; text = e ∙ append-nil (log_text lines); entries = refl })
+  goes_on (suc fuel) lines (b ∷ rest) few e h = unbroken (length lines + 1) (record {
+    lines = lines;
+    rest = b ∷ rest;
+    whole = e;
+    is_log = h;
+    number = refl;
+    some = omega arith;
+    none = λ l behind is may.
+        let long = line_long l behind in
+        let same = ap (λ (bs : List ℕ). length bs) is in
+        let whole : bytes ≡ log_text (lines ++ l ∷ []) ++ behind =
+        e ∙ ap (λ (bs : List ℕ). log_text lines ++ bs) is
+        ∙ sym (append_assoc (log_text lines) (line_text l) behind)
+        ∙ ap (λ (bs : List ℕ). bs ++ behind) (flat_map_more line_text [] lines l) in
+        goes_on fuel (lines ++ l ∷ []) behind (omega (arith, few, long, same)) whole (log_more [] lines (l ∷ []) h (may, tt));
+  })
+
+pub reads_or_breaks_some : (bytes : List ℕ) → ((es : List Entry) → ¬ (Reads bytes es)) → ((n : ℕ) → ¬ (BreaksAt bytes n)) → ⊥
+reads_or_breaks_some bytes unread unbroken = goes_on bytes unread unbroken (length bytes + 1) [] bytes (omega arith) refl tt
+
+-- what is read from bytes that spell a log
+pub spelled_is_read : (bytes : List ℕ) (entries : List Entry) (texts : Table) → Spells bytes entries texts → (es : List Entry) × Reads bytes es × (deeds_of es ≡ deeds_of entries)
+spelled_is_read bytes entries texts s = (entries_from 1 s.lines, record { lines = s.lines; is_log = s.is_log; text = s.text; entries = refl }, s.deeds)

@@ -22,15 +22,12 @@ use Rattle.wjs_audit.specs.declared.deed.Entry.{Entry}
 use Rattle.wjs_audit.specs.Deeds.{AreInOrder, deeds_of}
 use Rattle.wjs_audit.specs.Spelling.{Line, text, done, line_text, log_text}
 use Rattle.wjs_audit.specs.Logs.{FitsDeed, KnowsName, KnowsValue, KnowsContent, KnowsVerdict, KnowsDeed, KnowsLog, Known, is_named, texts_of, TextMayFollow, DeedMayFollow, with_line, known_after, IsLogFrom, entries_from, IsNamedBy, Spells}
-use Rattle.wjs_audit.specs.Tables.{text_lines}
+use Rattle.wjs_audit.specs.Tables.{text_lines, done_lines}
 
 -- the texts with their numbers, of which the first is this one
 abbrev pub pairs : ℕ → Table → Known
 pairs n [] = []
 pairs n (units ∷ texts) = (n, units) ∷ pairs (n + 1) texts
-
-abbrev pub done_lines : List Entry → List Line
-done_lines entries = each (λ (e : Entry). done e.deed) entries
 
 -- ---- the lines of a table
 
@@ -152,9 +149,16 @@ module _ (P Q : TextId → Type 0) (f : (id : TextId) → P id → Q id) where
   deed_more (Sprout w owner strict child) h = tt
   deed_more (Commit w v) h = verdict_more v h
 
+-- what was written, once all entries are
+pub written : (texts : Table) (log front : List Entry) (bytes out : List ℕ) → front ≡ log → bytes ≡ out → out ≡ log_text (text_lines 0 texts) ++ log_text (done_lines front) → bytes ≡ log_text (text_lines 0 texts ++ done_lines log)
+written texts log front bytes out all same e =
+    same ∙ e
+    ∙ ap (λ (es : List Entry). log_text (text_lines 0 texts) ++ log_text (done_lines es)) all
+    ∙ sym (flat_map-append line_text (text_lines 0 texts) (done_lines log))
+
 -- a table's lines and then the deeds' are a log of the entries
 pub spells : (texts : Table) (entries : List Entry) (bytes : List ℕ) → IsTable texts → length texts < 2 ^ 64 → KnowsLog texts entries → AreInOrder entries → All (λ (e : Entry). FitsDeed e.deed) entries
-    → bytes ≡ log_text (text_lines 0 texts) ++ log_text (done_lines entries) → Spells bytes entries texts
+    → bytes ≡ log_text (text_lines 0 texts ++ done_lines entries) → Spells bytes entries texts
 spells texts entries bytes table few knows order fits e =
     let known : Known = pairs 0 texts in
     let follow : All (λ (x : Entry). DeedMayFollow known x.deed) entries = λ k d l. record {
@@ -165,7 +169,7 @@ spells texts entries bytes table few knows order fits e =
     record {
       lines = text_lines 0 texts ++ done_lines entries;
       is_log = log_more [] (text_lines 0 texts) (done_lines entries) (table_log texts [] texts table few refl) (subst (λ (k : Known). IsLogFrom k (done_lines entries)) (sym (known_table [] 0 texts)) (deeds_log known entries follow));
-      text = e ∙ sym (flat_map-append line_text (text_lines 0 texts) (done_lines entries));
-      deeds = all_deeds 0 0 texts entries;
+      text = e;
+      deeds = all_deeds 1 0 texts entries;
       named = All-append (IsNamedBy texts) (text_lines 0 texts) (done_lines entries) (table_named texts [] texts refl) (deeds_named texts entries);
     }

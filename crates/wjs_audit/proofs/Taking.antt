@@ -3,7 +3,7 @@ use Rattle.std.proofs.Common.{◌≡◌, ℕ, ◌+◌, ◌^◌, ◌<◌, ◌≤�
 use Rattle.std.specs.Prelude.{codes, decimal, MatchBool, IfOk}
 use Rattle.std.proofs.lemmas.Fmt.{decimal_injective}
 use Rattle.std.proofs.lemmas.Result.{IfOk-weaker}
-use Rattle.std.proofs.lemmas.List.{length-append, length_push, flat_map_more}
+use Rattle.std.proofs.lemmas.List.{length_push, flat_map_more}
 use Rattle.std.proofs.lemmas.List.Elements.{All-head, All-tail}
 use Rattle.wjs_base.specs.declared.ids.OutOfMemory.{OutOfMemory}
 use Rattle.wjs_base.specs.Text.{Units}
@@ -22,6 +22,7 @@ use Rattle.wjs_audit.proofs.Tabled.{log_more}
 use Rattle.wjs_audit.proofs.Pieces.{cut_of}
 use Rattle.wjs_audit.proofs.Namings.{may_follow, may_stand, holds_below}
 use Rattle.wjs_audit.proofs.Said.{no_text}
+use Rattle.wjs_audit.proofs.Readings.{line_long}
 
 -- ---- one line
 
@@ -135,12 +136,6 @@ entries_push n (done d ∷ ls) l m e = ap (λ (es : List Entry). record { deed =
 known_push : (known : Known) (ls : List Line) (l : Line) → known_after known (ls ++ l ∷ []) ≡ with_line (known_after known ls) l
 known_push known [] l = refl
 known_push known (k ∷ ls) l = known_push (with_line known k) ls l
-
-line_long : (l : Line) (behind : List ℕ) → length behind < length (line_text l ++ behind)
-line_long l behind =
-    let a = length-append (line_text l) behind in
-    let b = length-append (joined (line_parts l)) (10 ∷ []) in
-    omega (arith, a, b)
 
 pub read_more : (bytes rest behind : List ℕ) (line next : ℕ) (old new : Reading) (l : Line) → IsRead bytes rest line old → next ≡ line + 1 → rest ≡ line_text l ++ behind → Takes old next l new → IsRead bytes behind next new
 read_more bytes rest behind line next old new l h n e t =

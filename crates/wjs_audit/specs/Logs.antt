@@ -165,7 +165,7 @@ pub record BreaksAt (bytes : List ℕ) (n : ℕ) : Type 0 where
 
 -- what the lines say was done
 abbrev pub deeds_in : List Line → List Deed
-deeds_in lines = deeds_of (entries_from 0 lines)
+deeds_in lines = deeds_of (entries_from 1 lines)
 
 -- a text that a line names is the table's
 abbrev pub IsNamedBy : Table → Line → Type 0

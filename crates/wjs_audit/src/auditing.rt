@@ -1,6 +1,6 @@
 //! Whether the answers of a log are the full-copy machine's.
-ghost use Rattle.std.specs.Prelude.{◌≡◌, ℕ, ◌∷◌, [], false, not, IsTrue, OnOk, IsErrOf};
-ghost use Rattle.wjs_store.specs.Fixed.{fixed, fresh};
+ghost use Rattle.std.specs.Prelude.{◌≡◌, ℕ, ◌∷◌, [], not, IsTrue, OnOk, IsErrOf};
+ghost use Rattle.wjs_store.specs.Fixed.{fresh};
 ghost use Rattle.wjs_store.specs.Meaning.{worlds};
 ghost use Rattle.wjs_store.specs.Run.{answer_in, Runs};
 ghost use Rattle.wjs_audit.specs.Deeds.{action_of, answer_of_deed};
@@ -37,9 +37,11 @@ fn judge<S: WorldStore>(store: &mut S, entry: &Entry) -> Result<(), AuditFault>
 /// The first entry whose answer isn't the full-copy machine's, from the fresh state on: NotTheAnswer comes exactly where
 /// there is one, and has its line. An action on a world that isn't there has no right answer.
 ///
-/// The store is any fresh one: the sparse store serves for long logs.
+/// The store is any one whose worlds are the fresh ones and that isn't spent, also one that tells its actions: the sparse store
+/// serves for long logs.
 pub fn audit_in<S: WorldStore + Drop>(mut store: S, log: &Log) -> Result<(), AuditFault>
-    requires fresh { S.meaning store ≡ fixed fresh false }
+    requires fresh { worlds (S.meaning store) ≡ fresh }
+    requires works { IsTrue (not (S.meaning store).spent) }
     ensures right { OnOk result (AreRight log.now) }
     ensures wrong { (n : ℕ) → IsErrOf result (AuditFault.NotTheAnswer n) → WrongAt log.now n }
     ensures never { (n : ℕ) → ¬ (IsErrOf result (AuditFault.NotALog n)) }

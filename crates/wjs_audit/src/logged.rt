@@ -1,9 +1,12 @@
 //! A store that tells its actions.
-ghost use Rattle.std.specs.Prelude.{◌≡◌, [], false, IfOk, All};
+ghost use Rattle.std.specs.Prelude.{◌≡◌, [], false, IfOk, IsTrue, All};
 ghost use Rattle.wjs_base.specs.Order.{name_cmp};
 ghost use Rattle.wjs_store.specs.Ascends.{Ascends};
-ghost use Rattle.wjs_store.specs.Fixed.{fixed, fresh};
+ghost use Rattle.wjs_store.specs.Fixed.{fresh};
+ghost use Rattle.wjs_store.specs.Meaning.{View};
+ghost use Rattle.wjs_store.specs.Run.{after_all};
 ghost use Rattle.wjs_audit.specs.Codes.{coded_recorded};
+ghost use Rattle.wjs_audit.specs.Deeds.{actions_of};
 ghost use Rattle.wjs_audit.specs.Recorded.{Recorded};
 ghost use Rattle.wjs_audit.specs.Right.{AreRight};
 ghost use Rattle.wjs_audit.specs.Kept.{IsKept, AreUnnumbered};
@@ -49,9 +52,10 @@ fn copied(alloc: Global, names: &Names) -> Result<Names, OutOfMemory>
 }
 
 impl<S: WorldStore + Drop> Logged<S> {
-    /// A fresh store with an empty log. It takes no memory.
+    /// A fresh store with an empty log: one whose worlds are the fresh ones under each admitted view, whatever else it means.
+    /// It takes no memory.
     pub fn new(alloc: Global, inner: S) -> Logged<S>
-        requires { S.meaning inner ≡ fixed fresh false }
+        requires { (v : View) → IsTrue ((S.meaning inner).admits v) → (S.meaning inner).full v ≡ fresh }
         ensures { result ≡ record { inner = inner; log = []; spent = false } }
     {
         Logged {
@@ -62,10 +66,12 @@ impl<S: WorldStore + Drop> Logged<S> {
         }
     }
 
-    /// The answered actions in their order, each with line 0. They are the full-copy machine's, from the fresh state on.
+    /// The answered actions in their order, each with line 0. Until a call has answered OutOfMemory they are the full-copy
+    /// machine's, from the fresh state on, and the store's worlds are those that they leave.
     pub fn entries(&self) -> &Log
         ensures log { result.now ≡ self.now.log }
         ensures right { self.now.spent ≡ false → AreRight result.now }
+        ensures worlds { self.now.spent ≡ false → (v : View) → IsTrue ((S.meaning self.now.inner).admits v) → (S.meaning self.now.inner).full v ≡ after_all fresh (actions_of result.now) }
         ensures unnumbered { self.now.spent ≡ false → AreUnnumbered result.now }
     {
         &self.log

@@ -4,7 +4,7 @@ ghost use Rattle.std.specs.String.{string_bytes};
 ghost use Rattle.wjs_base.specs.Text.{IsTable};
 ghost use Rattle.wjs_audit.specs.Spelling.{pair_text, world_text, object_text, name_text, number_text, value_text, content_text, kind_text, verdict_parts, unit_text, hex, hex_parts, spaced, joined, deed_parts, line_text, log_text, text, done};
 ghost use Rattle.wjs_audit.specs.Logs.{FitsPair, FitsWorld, FitsObject, FitsName, FitsValue, FitsContent, FitsVerdict, FitsDeed, KnowsLog, Spells};
-ghost use Rattle.wjs_audit.specs.Tables.{text_lines};
+ghost use Rattle.wjs_audit.specs.Tables.{text_lines, done_lines};
 
 use crate::deed::Deed;
 use crate::log::Log;
@@ -339,7 +339,8 @@ fn push_texts(out: &mut String, texts: &Texts) -> Result<(), OutOfMemory>
 /// them are these entries, apart from their lines' numbers.
 pub fn spell_log(alloc: Global, log: &Log, texts: &Texts) -> Result<Vec<u8>, OutOfMemory>
     requires { KnowsLog texts.now log.now }
-    ensures { IfOk result (λ bytes. Spells bytes.items log.now texts.now) }
+    ensures text { IfOk result (λ bytes. bytes.items ≡ log_text (text_lines 0 texts.now ++ done_lines log.now)) }
+    ensures spells { IfOk result (λ bytes. Spells bytes.items log.now texts.now) }
 {
     let mut out = String::new(alloc);
     push_texts(&mut out, texts)?;

@@ -123,10 +123,8 @@ fn a_refused_commit_is_spelled_and_judged(rt: HostRuntime) -> Result<(), Fail> {
     assert_eq!(rt; bytes.as_slice(), SPELLED);
     assert_eq!(rt; audit(rt.alloc(), &right), Ok(()));
     let moved = log_of(rt.alloc(), x, one, Verdict::Moved)?;
-    assert_eq!(rt;
-        audit_in(FullStore::new(rt.alloc())?, &moved),
-        Err(AuditFault::NotTheAnswer { line: 6 })
-    );
+    let store = Logged::new(rt.alloc(), FullStore::new(rt.alloc())?);
+    assert_eq!(rt; audit_in(store, &moved), Err(AuditFault::NotTheAnswer { line: 6 }));
     let absent = log_of(rt.alloc(), x, Content::Absent, Verdict::Moved)?;
     assert_eq!(rt;
         audit(rt.alloc(), &absent),

@@ -7,7 +7,7 @@ use Rattle.wjs_audit.proofs.Machine.{Audited, audited_fresh, audited_more, wrong
 use Rattle.wjs_audit.proofs.auditing.audit_in.Goals as goal
 
 pub loop-entry-init : goal.loop-entry-init
-loop-entry-init g c = audited_fresh (g.S.WorldStore.meaning c.args.store) c.requires.fresh
+loop-entry-init g c = audited_fresh (g.S.WorldStore.meaning c.args.store) c.requires.fresh c.requires.works
 
 pub loop-entry-preserved : goal.loop-entry-preserved
 loop-entry-preserved g c =

@@ -3,8 +3,7 @@ use Rattle.std.specs.String.{string_bytes}
 use Rattle.wjs_audit.specs.declared.deed.Entry.{Entry}
 use Rattle.wjs_audit.specs.Spelling.{log_text}
 use Rattle.wjs_audit.specs.Logs.{FitsDeed}
-use Rattle.wjs_audit.specs.Tables.{text_lines}
-use Rattle.wjs_audit.proofs.Tabled.{done_lines}
+use Rattle.wjs_audit.specs.Tables.{text_lines, done_lines}
 use Rattle.wjs_audit.proofs.spelling.spell_log.Given as goal
 
 abbrev pub invariant-loop-entry : goal.invariant-loop-entry
