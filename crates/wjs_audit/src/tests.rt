@@ -124,7 +124,10 @@ fn a_refused_commit_is_spelled_and_judged(rt: HostRuntime) -> Result<(), Fail> {
     assert_eq!(rt; audit(rt.alloc(), &right), Ok(()));
     let moved = log_of(rt.alloc(), x, one, Verdict::Moved)?;
     let store = Logged::new(rt.alloc(), FullStore::new(rt.alloc())?);
-    assert_eq!(rt; audit_in(store, &moved), Err(AuditFault::NotTheAnswer { line: 6 }));
+    assert_eq!(rt;
+        audit_in(store, &moved),
+        Err(AuditFault::NotTheAnswer { line: 6 })
+    );
     let absent = log_of(rt.alloc(), x, Content::Absent, Verdict::Moved)?;
     assert_eq!(rt;
         audit(rt.alloc(), &absent),
