@@ -1,5 +1,0 @@
-pub mod Classes
-pub mod Table
-pub mod Moves
-pub mod States
-pub mod Spells

@@ -1,4 +1,0 @@
-pub mod Defaults
-pub mod Machines
-pub mod Offending
-pub mod OneOffence
