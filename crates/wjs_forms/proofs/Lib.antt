@@ -1,0 +1,17 @@
+pub mod Runs
+pub mod Tops
+pub mod Follows
+pub mod Operands
+pub mod Endings
+pub mod Beginnings
+pub mod Statements
+pub mod Declared
+pub mod Heads
+pub mod Taken
+pub mod Folding
+pub mod Rests
+pub mod Standing
+pub mod Fitting
+pub mod Completing
+pub mod Preserving
+pub mod Grown

@@ -1,0 +1,5 @@
+pub mod Classes
+pub mod Table
+pub mod Moves
+pub mod States
+pub mod Spells

@@ -1,0 +1,12 @@
+//! The laws of the table.
+ghost use Rattle.wjs_forms.specs.Spells.{SpelledIsTaken, GoesOn};
+
+/// The machine takes the tokens of every program that is shaped: the table refuses none too early.
+pub fn spelled_is_taken()
+    ensures { SpelledIsTaken }
+{}
+
+/// From each state that is reached some tokens lead to an end of a program.
+pub fn goes_on()
+    ensures { GoesOn }
+{}
