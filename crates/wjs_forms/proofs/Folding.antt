@@ -39,6 +39,13 @@ a_token : (o : Option Tok) (token : Token) → option_map (λ (t : Tok). t.token
 a_token None token h = cc
 a_token (Some t) token h = (t, refl)
 
+-- where no token stands, and where one does
+pub past_end : (toks : List Tok) (i : ℕ) → token_at toks i ≡ None → length toks ≤ i
+past_end toks i h = past toks i (no_token (slice_get toks i) h)
+
+pub within : (toks : List Tok) (i : ℕ) (token : Token) → HasToken toks i token → i < length toks
+within toks i token h = let w = a_token (slice_get toks i) token h in slice_get_within toks i w.0 w.1
+
 step_along : (toks : List Tok) (i : ℕ) (o : Option Tok) (s r : State) → slice_get toks i ≡ o → step_at toks i s ≡ Some r → step_of o s ≡ Some r
 step_along toks i o s r h e = subst (λ (z : Option Tok). step_of z s ≡ Some r) h e
 

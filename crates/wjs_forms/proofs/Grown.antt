@@ -131,6 +131,11 @@ module _ (toks : List Tok) (r : Rests) where
     then = y.then;
   }
 
+  -- an assignment is no target
+  pub assigned : (t : Expr) (op : AssignOperator) (j i : ℕ) (g : is_target t ≡ true) (l : 15 ≤ level t) (f : Shaped r.bars t) (s : Stands toks t j i) (h : HasToken toks i (assign_token op)) (y : First toks r (i + 1)) → is_target (assign_over t op j i g l f s h y).tree ≡ false
+  unfolding assign_over
+  assigned t op j i g l f s h y = refl
+
   -- the token behind the operand belongs to what comes behind the expression
   pub part_over : (i : ℕ) → AssignFed toks r i → UnaryFed toks r i
   part_over i f e j q ns = (record { tree = e; end = i; reading = weaken toks r.bars 3 1 j e i (omega arith) q; plain = ns; then = f }, λ s. s)

@@ -15,3 +15,9 @@ pub mod Fitting
 pub mod Completing
 pub mod Preserving
 pub mod Grown
+pub mod SpelledStmt
+pub mod SpelledEnds
+pub mod SpelledExpr
+pub mod SpelledLists
+pub mod SpelledBehind
+pub mod Spelled

@@ -24,20 +24,21 @@ use Rattle.wjs_forms.proofs.Runs.{class_here}
 use Rattle.wjs_forms.proofs.Endings.{is_suffix_class}
 use Rattle.wjs_forms.proofs.Declared.{part_ending, final}
 
--- What the open forms want: whether `in` is no operator in what the innermost holds, whether that is an assignment expression,
--- whether it holds a list, what comes behind an expression that it holds, and behind a statement.
+-- What the innermost form wants behind an expression that it holds: whether `in` is no operator there, whether that is an assignment
+-- expression, and what comes behind it.
 pub record Rests : Type 1 where
   pub bars : Bool
   pub single : Bool
   -- it is a parenthesis, which around a target is one
   pub paren : Bool
-  pub listed : Bool
   pub fed : Expr → ℕ → Type 0
-  pub done : ℕ → Type 0
 
--- the same below the `new`s that wait for arguments, and how many wait
+-- the same below the `new`s that wait for arguments, and how many wait; whether the innermost form holds a list, and what comes behind
+-- a statement in it
 pub record Nested : Type 1 where
   pub news : ℕ
+  pub listed : Bool
+  pub done : ℕ → Type 0
   pub core : Rests
 
 abbrev pub least : Bool → ℕ
@@ -232,7 +233,7 @@ module _ (toks : List Tok) where
 
   -- behind a statement of a list
   abbrev pub ListRest : Nested → ℕ → Type 0
-  ListRest r i = r.core.listed ≡ true → r.core.done i
+  ListRest r i = r.listed ≡ true → r.done i
 
   -- behind an expression that the form holds
   abbrev pub fed_by : Form → Nested → Expr → ℕ → Type 0
@@ -242,29 +243,29 @@ module _ (toks : List Tok) where
   fed_by (forms.Array p) r e i = ItemRest (HaveRest r p false) i
   fed_by (forms.Object p) r e i = PropertyRest (HaveRest r p false) i
   fed_by forms.Cond r e i = HasSign toks i signs.Colon × WantRest r places.First (i + 1)
-  fed_by forms.Value r e i = ValueEnd r.core.done e i
-  fed_by forms.Var r e i = MoreRest false (VarEnd r.core.done) (InExpr (ends_in_update e)) i
-  fed_by forms.ForVar r e i = MoreRest true (HeaderEnd r.core.done) (InExpr (ends_in_update e)) i
-  fed_by forms.ForInit r e i = (HasSign toks i signs.Semicolon × TestRest r.core.done (i + 1)) ⊎ ((is_target e ≡ true) × HasKey toks i keys.In × EachRest r.core.done (i + 1))
-  fed_by forms.ForTest r e i = HasSign toks i signs.Semicolon × UpdateRest r.core.done (i + 1)
-  fed_by forms.ForUpdate r e i = HasSign toks i signs.CloseParen × BodyRest r.core.done (i + 1)
-  fed_by forms.Each r e i = HasSign toks i signs.CloseParen × BodyRest r.core.done (i + 1)
-  fed_by forms.If r e i = HasSign toks i signs.CloseParen × BodyRest (ThenRest r.core.done) (i + 1)
-  fed_by forms.While r e i = HasSign toks i signs.CloseParen × BodyRest r.core.done (i + 1)
-  fed_by forms.Switch r e i = HasSign toks i signs.CloseParen × HasSign toks (i + 1) signs.OpenBrace × ClausesRest r.core.done (i + 2)
-  fed_by forms.DoWhile r e i = HasSign toks i signs.CloseParen × CompleteRest r.core.done (i + 1)
-  fed_by forms.Within r e i = HasSign toks i signs.OpenBrace × BlockRest r.core.done (i + 1)
+  fed_by forms.Value r e i = ValueEnd r.done e i
+  fed_by forms.Var r e i = MoreRest false (VarEnd r.done) (InExpr (ends_in_update e)) i
+  fed_by forms.ForVar r e i = MoreRest true (HeaderEnd r.done) (InExpr (ends_in_update e)) i
+  fed_by forms.ForInit r e i = (HasSign toks i signs.Semicolon × TestRest r.done (i + 1)) ⊎ ((is_target e ≡ true) × HasKey toks i keys.In × EachRest r.done (i + 1))
+  fed_by forms.ForTest r e i = HasSign toks i signs.Semicolon × UpdateRest r.done (i + 1)
+  fed_by forms.ForUpdate r e i = HasSign toks i signs.CloseParen × BodyRest r.done (i + 1)
+  fed_by forms.Each r e i = HasSign toks i signs.CloseParen × BodyRest r.done (i + 1)
+  fed_by forms.If r e i = HasSign toks i signs.CloseParen × BodyRest (ThenRest r.done) (i + 1)
+  fed_by forms.While r e i = HasSign toks i signs.CloseParen × BodyRest r.done (i + 1)
+  fed_by forms.Switch r e i = HasSign toks i signs.CloseParen × HasSign toks (i + 1) signs.OpenBrace × ClausesRest r.done (i + 2)
+  fed_by forms.DoWhile r e i = HasSign toks i signs.CloseParen × CompleteRest r.done (i + 1)
+  fed_by forms.Within r e i = HasSign toks i signs.OpenBrace × BlockRest r.done (i + 1)
   fed_by forms.CaseHead r e i = HasSign toks i signs.Colon × ListRest r (i + 1)
   fed_by f r e i = Unit {0}
 
   -- behind a statement in the form
   abbrev pub done_by : Form → Nested → ℕ → Type 0
-  done_by forms.Then r i = ThenRest r.core.done i
-  done_by forms.Do r i = HasKey toks i keys.While × HasSign toks (i + 1) signs.OpenParen × DoWhileRest r.core.done (i + 2)
-  done_by forms.Block r i = BlockRest r.core.done i
-  done_by forms.TryBlock r i = BlockRest (TriedRest r.core.done) i
-  done_by forms.CatchBlock r i = BlockRest (CaughtRest r.core.done) i
-  done_by forms.Clauses r i = ClauseRest r.core.done i
+  done_by forms.Then r i = ThenRest r.done i
+  done_by forms.Do r i = HasKey toks i keys.While × HasSign toks (i + 1) signs.OpenParen × DoWhileRest r.done (i + 2)
+  done_by forms.Block r i = BlockRest r.done i
+  done_by forms.TryBlock r i = BlockRest (TriedRest r.done) i
+  done_by forms.CatchBlock r i = BlockRest (CaughtRest r.done) i
+  done_by forms.Clauses r i = ClauseRest r.done i
   done_by forms.Declaration r i = ElementsRest (ListRest r) i
   done_by (forms.Function p) r i = ElementsRest (HaveRest r p false) i
   done_by f r i = Unit {0}
@@ -298,15 +299,15 @@ module _ (toks : List Tok) where
   is_paren f = false
 
   abbrev pub rests_by : Form → Nested → Nested
-  rests_by forms.New r = record { news = suc r.news; core = r.core }
-  rests_by f r = record { news = 0; core = record { bars = is_header f; single = is_single f; paren = is_paren f; listed = is_list f; fed = fed_by f r; done = done_by f r } }
+  rests_by forms.New r = record { news = suc r.news; listed = false; done = λ i. Unit {0}; core = r.core }
+  rests_by f r = record { news = 0; listed = is_list f; done = done_by f r; core = record { bars = is_header f; single = is_single f; paren = is_paren f; fed = fed_by f r } }
 
   -- behind the elements of a program the tokens end
   abbrev pub ProgramRest : ℕ → Type 0
   ProgramRest i = (es : Elements) × ElementsShaped es × ElementsStand toks es i (length toks)
 
   abbrev pub rests : List Form → Nested
-  rests [] = record { news = 0; core = record { bars = false; single = false; paren = false; listed = true; fed = λ e i. Unit {0}; done = ProgramRest } }
+  rests [] = record { news = 0; listed = true; done = ProgramRest; core = record { bars = false; single = false; paren = false; fed = λ e i. Unit {0} } }
   rests (f ∷ s) = rests_by f (rests s)
 
   -- The same by what is to come next. Where the control doesn't fit the forms nothing is said.
@@ -347,31 +348,31 @@ module _ (toks : List Tok) where
 
   -- the name that begins the statement stands just before
   abbrev pub label_rest : List Form → ℕ → Type 0
-  label_rest (forms.Value ∷ s) i = (x : TextId) (j : ℕ) → i ≡ j + 1 → HasToken toks j (tokens.Word x) → BodyRest (rests s).core.done j
+  label_rest (forms.Value ∷ s) i = (x : TextId) (j : ℕ) → i ≡ j + 1 → HasToken toks j (tokens.Word x) → BodyRest (rests s).done j
   label_rest s i = Unit {0}
 
   abbrev pub named_rest : List Form → ℕ → Type 0
-  named_rest (forms.Var ∷ s) i = NamedRest false (VarEnd (rests s).core.done) i
-  named_rest (forms.ForVar ∷ s) i = NamedRest true (HeaderEnd (rests s).core.done) i
+  named_rest (forms.Var ∷ s) i = NamedRest false (VarEnd (rests s).done) i
+  named_rest (forms.ForVar ∷ s) i = NamedRest true (HeaderEnd (rests s).done) i
   named_rest s i = Unit {0}
 
   abbrev pub NameRest : List Form → ℕ → Type 0
   NameRest s i = (x : TextId) × HasToken toks i (tokens.Word x) × named_rest s (i + 1)
 
   abbrev pub for_named_rest : List Form → ℕ → Type 0
-  for_named_rest (forms.ForVar ∷ s) i = (HasKey toks i keys.In × EachRest (rests s).core.done (i + 1)) ⊎ NamedRest true (HeaderEnd (rests s).core.done) i
+  for_named_rest (forms.ForVar ∷ s) i = (HasKey toks i keys.In × EachRest (rests s).done (i + 1)) ⊎ NamedRest true (HeaderEnd (rests s).done) i
   for_named_rest s i = Unit {0}
 
   abbrev pub test_rest : List Form → ℕ → Type 0
-  test_rest (forms.ForTest ∷ s) i = TestRest (rests s).core.done i
+  test_rest (forms.ForTest ∷ s) i = TestRest (rests s).done i
   test_rest s i = Unit {0}
 
   abbrev pub update_rest : List Form → ℕ → Type 0
-  update_rest (forms.ForUpdate ∷ s) i = UpdateRest (rests s).core.done i
+  update_rest (forms.ForUpdate ∷ s) i = UpdateRest (rests s).done i
   update_rest s i = Unit {0}
 
   abbrev pub clauses_rest : List Form → ℕ → Type 0
-  clauses_rest (forms.Clauses ∷ s) i = ClausesRest (rests s).core.done i
+  clauses_rest (forms.Clauses ∷ s) i = ClausesRest (rests s).done i
   clauses_rest s i = Unit {0}
 
   abbrev pub value_rest : List Form → ℕ → Type 0
@@ -394,27 +395,27 @@ module _ (toks : List Tok) where
   RestOf controls.Formal s i = (x : TextId) × HasToken toks i (tokens.Word x) × FormalBehindRest s (i + 1)
   RestOf controls.Brace s i = BraceRest s i
   RestOf controls.List s i = ListRest (rests s) i
-  RestOf controls.Body s i = BodyRest (rests s).core.done i
-  RestOf controls.Done s i = (rests s).core.done i
-  RestOf controls.Complete s i = CompleteRest (rests s).core.done i
+  RestOf controls.Body s i = BodyRest (rests s).done i
+  RestOf controls.Done s i = (rests s).done i
+  RestOf controls.Complete s i = CompleteRest (rests s).done i
   RestOf controls.NameOrLabel s i = label_rest s i
   RestOf controls.Open s i = HasSign toks i signs.OpenParen × WantRest (rests s) places.Whole (i + 1)
   RestOf controls.Name s i = NameRest s i
   RestOf controls.Named s i = named_rest s i
-  RestOf controls.ForOpen s i = HasSign toks i signs.OpenParen × InitRest (rests s).core.done (i + 1)
-  RestOf controls.Init s i = InitRest (rests s).core.done i
+  RestOf controls.ForOpen s i = HasSign toks i signs.OpenParen × InitRest (rests s).done (i + 1)
+  RestOf controls.Init s i = InitRest (rests s).done i
   RestOf controls.ForName s i = (x : TextId) × HasToken toks i (tokens.Word x) × for_named_rest s (i + 1)
   RestOf controls.ForNamed s i = for_named_rest s i
   RestOf controls.Test s i = test_rest s i
   RestOf controls.Update s i = update_rest s i
-  RestOf controls.LabelOrEnd s i = (x : Option TextId) × (m : ℕ) × LabelStands toks x i m × CompleteRest (rests s).core.done m
-  RestOf controls.ValueOrEnd s i = CompleteRest (rests s).core.done i ⊎ (IsJoined toks i × value_rest s i)
+  RestOf controls.LabelOrEnd s i = (x : Option TextId) × (m : ℕ) × LabelStands toks x i m × CompleteRest (rests s).done m
+  RestOf controls.ValueOrEnd s i = CompleteRest (rests s).done i ⊎ (IsJoined toks i × value_rest s i)
   RestOf controls.JoinedValue s i = IsJoined toks i × value_rest s i
-  RestOf controls.CatchOrFinally s i = TriedRest (rests s).core.done i
-  RestOf controls.CatchOpen s i = CatchOpenRest (rests s).core.done i
-  RestOf controls.CatchName s i = CatchNameRest (rests s).core.done i
-  RestOf controls.CatchClose s i = CatchCloseRest (rests s).core.done i
-  RestOf controls.FinallyOrDone s i = CaughtRest (rests s).core.done i
+  RestOf controls.CatchOrFinally s i = TriedRest (rests s).done i
+  RestOf controls.CatchOpen s i = CatchOpenRest (rests s).done i
+  RestOf controls.CatchName s i = CatchNameRest (rests s).done i
+  RestOf controls.CatchClose s i = CatchCloseRest (rests s).done i
+  RestOf controls.FinallyOrDone s i = CaughtRest (rests s).done i
   RestOf controls.SwitchBrace s i = HasSign toks i signs.OpenBrace × clauses_rest s (i + 1)
   RestOf controls.ClauseOrEnd s i = clauses_rest s i
   RestOf controls.DefaultColon s i = HasSign toks i signs.Colon × ListRest (rests s) (i + 1)

@@ -74,7 +74,7 @@ binds_prefix prefixes.Decrement b e l g f = target_high b e (g refl) f
 binds_prefix _ b e l g f = omega arith
 
 -- where a target stands an operator `in` may or may not be barred
-free_in : (b c : Bool) (e : Expr) → 15 ≤ level e → Shaped b e → Shaped c e
+pub free_in : (b c : Bool) (e : Expr) → 15 ≤ level e → Shaped b e → Shaped c e
 free_in b c (Paren e) l f = f
 free_in b c (ArrayLit xs) l f = f
 free_in b c (ObjectLit ps) l f = f

@@ -7,4 +7,4 @@ mod laws;
 
 pub use class::Class;
 pub use forms::{Control, Form, Move, Place};
-pub use laws::{goes_on, spelled_is_taken};
+pub use laws::{goes_on, spelled_is_taken, taken_is_spelled};

@@ -1,0 +1,11 @@
+use Rattle.std.proofs.Common.{◌≡◌, sym, ap, ◌∙◌}
+use Rattle.wjs_session.specs.Stores.{worlds_in}
+use Rattle.wjs_session.specs.Session.{world_at, first_copy, owned}
+use Rattle.wjs_session.proofs.StoreLaws.{has_full, parent_full}
+use Rattle.wjs_session.proofs.session.SessionWorldStore.parent.Goals as goal
+
+pub parent-requires : goal.parent-requires
+parent-requires c = sym (has_full (world_at (worlds_in c.args.self.now.shared) c.args.self.now.world) (worlds_in c.args.self.now.inner) (owned (world_at (worlds_in c.args.self.now.shared) c.args.self.now.world) (first_copy (worlds_in c.args.self.now.shared))) c.args.world) ∙ c.requires
+
+pub returns : goal.returns
+returns c = c.parent.ensures ∙ sym (parent_full (world_at (worlds_in c.args.self.now.shared) c.args.self.now.world) (worlds_in c.args.self.now.inner) (owned (world_at (worlds_in c.args.self.now.shared) c.args.self.now.world) (first_copy (worlds_in c.args.self.now.shared))) c.args.world)

@@ -1,0 +1,8 @@
+use Rattle.std.proofs.Common.{◌≡◌, sym, ap, ◌∙◌}
+use Rattle.wjs_session.specs.Stores.{worlds_in}
+use Rattle.wjs_session.specs.Session.{world_at, first_copy, owned}
+use Rattle.wjs_session.proofs.StoreLaws.{has_full}
+use Rattle.wjs_session.proofs.session.SessionWorldStore.read.Goals as goal
+
+pub read-requires-clause-there : goal.read-requires-clause-there
+read-requires-clause-there c = sym (has_full (world_at (worlds_in c.args.self.now.shared) c.args.self.now.world) (worlds_in c.args.self.now.inner) (owned (world_at (worlds_in c.args.self.now.shared) c.args.self.now.world) (first_copy (worlds_in c.args.self.now.shared))) c.args.world) ∙ c.requires

@@ -1,0 +1,15 @@
+pub mod Filled
+pub mod Session
+pub mod Kept
+pub mod Stores
+pub mod Grown
+pub mod Calls
+pub mod Carried
+pub mod Told
+pub mod Begun
+pub mod Settled
+pub mod Returns
+pub mod Maps
+pub mod Fills
+pub mod Owned
+pub mod Sound

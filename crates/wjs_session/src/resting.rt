@@ -1,0 +1,91 @@
+//! A session between its turns, while others use the shared store.
+ghost use Rattle.std.specs.Prelude.{◌≡◌, false};
+ghost use Rattle.wjs_session.specs.Stores.{worlds_in};
+ghost use Rattle.wjs_session.specs.Kept.{IsAlone, alone_prop};
+ghost use Rattle.wjs_session.specs.Returns.{RestChangesNothing};
+
+use crate::session::Session;
+use crate::told::Told;
+use wjs_base::WorldId;
+use wjs_overlay::Overlay;
+use wjs_store::WorldStore;
+
+/// What is left of a session that has given back the shared store.
+#[derive(Drop)]
+pub struct Resting {
+    inner: Overlay,
+    world: WorldId,
+    nested: bool,
+    told: Told,
+    ghost works: { inner.spent ≡ false },
+    ghost alone: { false ≡ false → nested ≡ false → IsAlone (worlds_in inner) } by { alone_prop false nested (worlds_in inner) },
+}
+
+impl Session {
+    ghost use Rattle.std.specs.Prelude.{◌≡◌, false};
+    ghost use Rattle.wjs_session.specs.Session.{session};
+    ghost use Rattle.wjs_session.specs.Told.{told_of};
+    ghost use Rattle.wjs_session.specs.Kept.{IsSession};
+
+    /// Gives the shared store back until the session is resumed.
+    pub fn rest(self) -> (Overlay, Resting)
+        requires { self.spent ≡ false }
+        ensures shared { worlds_in result.0 ≡ worlds_in self.shared }
+        ensures works { result.0.spent ≡ false }
+        ensures stands { IsSession (worlds_in result.0) result.1.world (worlds_in result.1.inner) }
+        ensures same { ⟦<Session as WorldStore>⟧.meaning self ≡ session (worlds_in result.0) result.1.world (worlds_in result.1.inner) (told_of result.1.told.chain.value) false }
+    {
+        let Session {
+            shared,
+            inner,
+            world,
+            nested,
+            told,
+            spent: _,
+        } = self;
+        (
+            shared,
+            Resting {
+                inner,
+                world,
+                nested,
+                told,
+            },
+        )
+    }
+}
+
+impl Resting {
+    ghost use Rattle.std.specs.Prelude.{◌≡◌, false};
+    ghost use Rattle.wjs_session.specs.Session.{session};
+    ghost use Rattle.wjs_session.specs.Told.{told_of};
+    ghost use Rattle.wjs_session.specs.Returns.{WasAt, IsTheSame};
+
+    /// Goes on with the shared store. Whatever others did there meanwhile, the session means the same under each view as
+    /// before it rested, and admits the same views.
+    pub fn resume(self, shared: Overlay) -> Session
+        requires live { shared.spent ≡ false }
+        requires returns { WasAt (worlds_in shared) self.world (worlds_in self.inner) }
+        ensures same { IsTheSame (worlds_in shared) self.world (worlds_in self.inner) (told_of self.told.chain.value) (⟦<Session as WorldStore>⟧.meaning result) }
+    {
+        let Resting {
+            inner,
+            world,
+            nested,
+            told,
+        } = self;
+        Session {
+            shared,
+            inner,
+            world,
+            nested,
+            told,
+            spent: false,
+        }
+    }
+}
+
+/// A session means the same, and admits the same views, over all shared worlds that have its world as it was.
+pub fn rest_changes_nothing()
+    ensures { RestChangesNothing }
+{}

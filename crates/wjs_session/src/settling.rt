@@ -1,0 +1,39 @@
+//! The end of a session: whether its check passes, and its commit into the first world.
+ghost use Rattle.std.specs.Prelude.{◌≡◌, false, true, IfOk};
+ghost use Rattle.wjs_session.specs.Stores.{worlds_in};
+ghost use Rattle.wjs_session.specs.Settled.{Agrees, Settles};
+
+use crate::session::Session;
+use wjs_base::OutOfMemory;
+use wjs_overlay::Overlay;
+use wjs_store::{Verdict, WorldStore};
+
+impl Session {
+    /// Whether a commit into the shared store's first world would move now: what the session has read still stands there.
+    ///
+    /// Where it would, the session's own view is what the first world holds.
+    pub fn agrees(&self) -> bool
+        requires { self.now.spent ≡ false }
+        ensures { Agrees (worlds_in self.now.shared) self.now.world result }
+    {
+        self.shared.commit_check(self.world).is_none()
+    }
+
+    /// Commits the session's world, and gives the shared store back with the verdict: Moved exactly where the session agrees.
+    pub fn settle(self) -> Result<(Overlay, Verdict), OutOfMemory>
+        requires { self.spent ≡ false }
+        ensures settles { IfOk result (λ r. Settles (worlds_in self.shared) self.world (worlds_in self.inner) (worlds_in r.0) r.1) }
+        ensures works { IfOk result (λ r. r.0.spent ≡ false) }
+    {
+        let Session {
+            mut shared,
+            inner: _,
+            world,
+            nested: _,
+            told: _,
+            spent: _,
+        } = self;
+        let verdict = shared.commit(world)?;
+        Ok((shared, verdict))
+    }
+}
