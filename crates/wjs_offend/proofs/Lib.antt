@@ -1,0 +1,4 @@
+pub mod Defaults
+pub mod Machines
+pub mod Offending
+pub mod OneOffence

@@ -1,0 +1,151 @@
+//! What a token does in literals, arguments, formals, variables and headers (ECMA-262, 3rd edition, sections 11.1, 11.2, 12.2,
+//! 12.6 and 13).
+ghost use Rattle.std.specs.Prelude.{◌≡◌};
+ghost use Rattle.wjs_forms.specs.Moves.{ends_operand, argument_or_end, item, named_key, key_or_end, dotted, name_or_formals, formal_or_end, formal_behind, named, init, for_named, test, update};
+
+use crate::class::is_name;
+use crate::expressions::{ends, operand};
+use crate::statements::value;
+use wjs_forms::{Class, Control, Form, Move, Place};
+
+/// The sign that ends the literal or the arguments on top.
+fn ends_operand(top: Option<Form>) -> Move
+    ensures { result ≡ ends_operand top }
+{
+    match top {
+        Some(Form::Arguments(place)) => Move::Pop(Control::Have(place, false)),
+        Some(Form::Array(place)) => Move::Pop(Control::Have(place, false)),
+        Some(Form::Object(place)) => Move::Pop(Control::Have(place, false)),
+        _ => Move::Refuse,
+    }
+}
+
+pub(crate) fn argument_or_end(class: Class, top: Option<Form>) -> Move
+    ensures { result ≡ argument_or_end class top }
+{
+    match class {
+        Class::CloseParen => ends_operand(top),
+        _ => operand(class, Place::First, top),
+    }
+}
+
+pub(crate) fn item(class: Class, top: Option<Form>) -> Move
+    ensures { result ≡ item class top }
+{
+    match class {
+        Class::CloseBracket => ends_operand(top),
+        Class::Comma => Move::Stay(Control::Item),
+        _ => operand(class, Place::First, top),
+    }
+}
+
+fn named_key(is_name: bool) -> Move
+    ensures { result ≡ named_key is_name }
+{
+    if is_name {
+        Move::Stay(Control::KeyColon)
+    } else {
+        Move::Refuse
+    }
+}
+
+pub(crate) fn key_or_end(class: Class, top: Option<Form>) -> Move
+    ensures { result ≡ key_or_end class top }
+{
+    match class {
+        Class::CloseBrace => ends_operand(top),
+        Class::Literal => Move::Stay(Control::KeyColon),
+        _ => named_key(is_name(class)),
+    }
+}
+
+/// The name behind a dot.
+pub(crate) fn dotted(is_name: bool, place: Place) -> Move
+    ensures { result ≡ dotted is_name place }
+{
+    if is_name {
+        Move::Stay(Control::Have(place, true))
+    } else {
+        Move::Refuse
+    }
+}
+
+pub(crate) fn name_or_formals(class: Class) -> Move
+    ensures { result ≡ name_or_formals class }
+{
+    match class {
+        Class::Word => Move::Stay(Control::Formals),
+        Class::OpenParen => Move::Stay(Control::FormalOrEnd),
+        _ => Move::Refuse,
+    }
+}
+
+pub(crate) fn formal_or_end(class: Class) -> Move
+    ensures { result ≡ formal_or_end class }
+{
+    match class {
+        Class::Word => Move::Stay(Control::FormalBehind),
+        Class::CloseParen => Move::Stay(Control::Brace),
+        _ => Move::Refuse,
+    }
+}
+
+pub(crate) fn formal_behind(class: Class) -> Move
+    ensures { result ≡ formal_behind class }
+{
+    match class {
+        Class::Comma => Move::Stay(Control::Formal),
+        Class::CloseParen => Move::Stay(Control::Brace),
+        _ => Move::Refuse,
+    }
+}
+
+/// Behind the name of a variable.
+pub(crate) fn named(class: Class, top: Option<Form>) -> Move
+    ensures { result ≡ named class top }
+{
+    match class {
+        Class::Assign => Move::Stay(Control::Want(Place::First)),
+        Class::Comma => Move::Stay(Control::Name),
+        _ => ends(top, class),
+    }
+}
+
+/// First in the header of a `for`.
+pub(crate) fn init(class: Class) -> Move
+    ensures { result ≡ init class }
+{
+    match class {
+        Class::Semicolon => Move::Push(Form::ForTest, Control::Test),
+        Class::Var => Move::Push(Form::ForVar, Control::ForName),
+        _ => value(Form::ForInit, class),
+    }
+}
+
+/// Behind the first name that a header declares.
+pub(crate) fn for_named(class: Class, top: Option<Form>) -> Move
+    ensures { result ≡ for_named class top }
+{
+    match class {
+        Class::In => Move::Swap(Form::Each, Control::Want(Place::Whole)),
+        _ => named(class, top),
+    }
+}
+
+pub(crate) fn test(class: Class, top: Option<Form>) -> Move
+    ensures { result ≡ test class top }
+{
+    match class {
+        Class::Semicolon => Move::Swap(Form::ForUpdate, Control::Update),
+        _ => operand(class, Place::Whole, top),
+    }
+}
+
+pub(crate) fn update(class: Class, top: Option<Form>) -> Move
+    ensures { result ≡ update class top }
+{
+    match class {
+        Class::CloseParen => Move::Pop(Control::Body),
+        _ => operand(class, Place::Whole, top),
+    }
+}

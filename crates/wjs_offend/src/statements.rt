@@ -1,0 +1,257 @@
+//! What a token does at statements and their ends (ECMA-262, 3rd edition, sections 7.9, 12 and 14).
+ghost use Rattle.std.specs.Prelude.{◌≡◌};
+ghost use Rattle.wjs_forms.specs.Moves.{opened, value, statement, at_end, closes, declares, in_clauses, listed, else_or_done, on_while, done, inserted, complete, label, label_or_end, joined_value, joined_value_or_end, value_or_end, catch_or_finally, finally_or_done, clause_or_end, name_or_label};
+
+use crate::expressions::{have, operand};
+use wjs_forms::{Class, Control, Form, Move, Place};
+
+/// The token that begins what a form holds also opens the form.
+fn opened(form: Form, then: Move) -> Move
+    ensures { result ≡ opened form then }
+{
+    match then {
+        Move::Stay(control) => Move::Push(form, control),
+        Move::Push(inner, control) => Move::PushTwo(form, inner, control),
+        _ => Move::Refuse,
+    }
+}
+
+/// The first token of an expression that the form holds.
+pub(crate) fn value(form: Form, class: Class) -> Move
+    ensures { result ≡ value form class }
+{
+    opened(form, operand(class, Place::Whole, Some(form)))
+}
+
+/// The first token of a statement.
+pub(crate) fn statement(class: Class) -> Move
+    ensures { result ≡ statement class }
+{
+    match class {
+        Class::OpenBrace => Move::Push(Form::Block, Control::List),
+        Class::Semicolon => Move::Stay(Control::Done),
+        Class::Word => Move::Push(Form::Value, Control::NameOrLabel),
+        Class::Var => Move::Push(Form::Var, Control::Name),
+        Class::If => Move::Push(Form::If, Control::Open),
+        Class::Do => Move::Push(Form::Do, Control::Body),
+        Class::While => Move::Push(Form::While, Control::Open),
+        Class::For => Move::Stay(Control::ForOpen),
+        Class::Continue | Class::Break => Move::Stay(Control::LabelOrEnd),
+        Class::Return => Move::Stay(Control::ValueOrEnd),
+        Class::Throw => Move::Stay(Control::JoinedValue),
+        Class::Switch => Move::Push(Form::Switch, Control::Open),
+        Class::Try => Move::Push(Form::TryBlock, Control::Brace),
+        Class::In => Move::Push(Form::Within, Control::Want(Place::Whole)),
+        Class::Function => Move::Refuse,
+        _ => value(Form::Value, class),
+    }
+}
+
+/// The end of the tokens, in a list.
+fn at_end(top: Option<Form>) -> Move
+    ensures { result ≡ at_end top }
+{
+    match top {
+        None => Move::Stay(Control::Accepted),
+        Some(_) => Move::Refuse,
+    }
+}
+
+/// `}` in a list.
+fn closes(top: Option<Form>) -> Move
+    ensures { result ≡ closes top }
+{
+    match top {
+        Some(Form::Block) | Some(Form::Clauses) => Move::Pop(Control::Done),
+        Some(Form::Declaration) => Move::Pop(Control::List),
+        Some(Form::TryBlock) => Move::Pop(Control::CatchOrFinally),
+        Some(Form::CatchBlock) => Move::Pop(Control::FinallyOrDone),
+        Some(Form::Function(place)) => Move::Pop(Control::Have(place, false)),
+        _ => Move::Refuse,
+    }
+}
+
+/// `function` in a list.
+fn declares(top: Option<Form>) -> Move
+    ensures { result ≡ declares top }
+{
+    match top {
+        None | Some(Form::Declaration) | Some(Form::Function(_)) => {
+            Move::Push(Form::Declaration, Control::DeclaredName)
+        }
+        _ => Move::Refuse,
+    }
+}
+
+/// The move, among the clauses of a `switch`.
+fn in_clauses(top: Option<Form>, then: Move) -> Move
+    ensures { result ≡ in_clauses top then }
+{
+    match top {
+        Some(Form::Clauses) => then,
+        _ => Move::Refuse,
+    }
+}
+
+/// In a list of statements or elements.
+pub(crate) fn listed(class: Class, top: Option<Form>) -> Move
+    ensures { result ≡ listed class top }
+{
+    match class {
+        Class::End => at_end(top),
+        Class::CloseBrace => closes(top),
+        Class::Case => in_clauses(top, Move::Push(Form::CaseHead, Control::Want(Place::Whole))),
+        Class::Default => in_clauses(top, Move::Stay(Control::DefaultColon)),
+        Class::Function => declares(top),
+        _ => statement(class),
+    }
+}
+
+/// Behind the statement of an `if`.
+fn else_or_done(class: Class) -> Move
+    ensures { result ≡ else_or_done class }
+{
+    match class {
+        Class::Else => Move::Pop(Control::Body),
+        _ => Move::Again(Control::Done),
+    }
+}
+
+/// Behind the statement of a `do`.
+fn on_while(class: Class) -> Move
+    ensures { result ≡ on_while class }
+{
+    match class {
+        Class::While => Move::Swap(Form::DoWhile, Control::Open),
+        _ => Move::Refuse,
+    }
+}
+
+/// Behind a statement.
+pub(crate) fn done(top: Option<Form>, class: Class) -> Move
+    ensures { result ≡ done top class }
+{
+    match top {
+        Some(Form::Then) => else_or_done(class),
+        Some(Form::Do) => on_while(class),
+        _ => listed(class, top),
+    }
+}
+
+/// The end of a statement, where a token that continues it was taken before.
+fn inserted(joined: bool, top: Option<Form>, class: Class) -> Move
+    ensures { result ≡ inserted joined top class }
+{
+    if joined {
+        Move::Refuse
+    } else {
+        done(top, class)
+    }
+}
+
+/// The end of a statement (section 7.9).
+pub(crate) fn complete(class: Class, joined: bool, top: Option<Form>) -> Move
+    ensures { result ≡ complete class joined top }
+{
+    match class {
+        Class::Semicolon => Move::Stay(Control::Done),
+        Class::CloseBrace | Class::End => done(top, class),
+        _ => inserted(joined, top, class),
+    }
+}
+
+/// Behind a name that begins a statement.
+pub(crate) fn name_or_label(class: Class, joined: bool, top: Option<Form>) -> Move
+    ensures { result ≡ name_or_label class joined top }
+{
+    match class {
+        Class::Colon => Move::Pop(Control::Body),
+        _ => have(class, joined, Place::Whole, true, top),
+    }
+}
+
+/// A name behind `break` or `continue`.
+fn label(joined: bool, top: Option<Form>) -> Move
+    ensures { result ≡ label joined top }
+{
+    if joined {
+        Move::Stay(Control::Complete)
+    } else {
+        done(top, Class::Word)
+    }
+}
+
+/// Behind `break` or `continue`.
+pub(crate) fn label_or_end(class: Class, joined: bool, top: Option<Form>) -> Move
+    ensures { result ≡ label_or_end class joined top }
+{
+    match class {
+        Class::Word => label(joined, top),
+        _ => complete(class, joined, top),
+    }
+}
+
+/// Behind `throw`.
+pub(crate) fn joined_value(joined: bool, class: Class) -> Move
+    ensures { result ≡ joined_value joined class }
+{
+    if joined {
+        value(Form::Value, class)
+    } else {
+        Move::Refuse
+    }
+}
+
+fn joined_value_or_end(joined: bool, top: Option<Form>, class: Class) -> Move
+    ensures { result ≡ joined_value_or_end joined top class }
+{
+    if joined {
+        value(Form::Value, class)
+    } else {
+        done(top, class)
+    }
+}
+
+/// Behind `return`.
+pub(crate) fn value_or_end(class: Class, joined: bool, top: Option<Form>) -> Move
+    ensures { result ≡ value_or_end class joined top }
+{
+    match class {
+        Class::Semicolon => Move::Stay(Control::Done),
+        Class::CloseBrace | Class::End => done(top, class),
+        _ => joined_value_or_end(joined, top, class),
+    }
+}
+
+/// Behind the block of a `try`.
+pub(crate) fn catch_or_finally(class: Class) -> Move
+    ensures { result ≡ catch_or_finally class }
+{
+    match class {
+        Class::Catch => Move::Stay(Control::CatchOpen),
+        Class::Finally => Move::Push(Form::Block, Control::Brace),
+        _ => Move::Refuse,
+    }
+}
+
+/// Behind the block of a `catch`.
+pub(crate) fn finally_or_done(class: Class, top: Option<Form>) -> Move
+    ensures { result ≡ finally_or_done class top }
+{
+    match class {
+        Class::Finally => Move::Push(Form::Block, Control::Brace),
+        _ => done(top, class),
+    }
+}
+
+/// Behind the brace that opens the clauses of a `switch`.
+pub(crate) fn clause_or_end(class: Class) -> Move
+    ensures { result ≡ clause_or_end class }
+{
+    match class {
+        Class::CloseBrace => Move::Pop(Control::Done),
+        Class::Case => Move::Push(Form::CaseHead, Control::Want(Place::Whole)),
+        Class::Default => Move::Stay(Control::DefaultColon),
+        _ => Move::Refuse,
+    }
+}
