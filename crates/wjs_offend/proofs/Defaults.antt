@@ -1,5 +1,5 @@
 -- The moves that a table's last line gives.
-use Rattle.std.proofs.Common.{◌≡◌, Bool, true, false, Option, Some, None, refl}
+use Rattle.std.proofs.Common.{◌≡◌, Bool, true, Option, Some, refl}
 use Rattle.wjs_forms.specs.declared.class.Class.{Class}
 use Rattle.wjs_forms.specs.declared.class.Class.TheVariants as classes
 use Rattle.wjs_forms.specs.declared.forms.Place.TheVariants as places

@@ -1,12 +1,12 @@
 -- The steps of the machine's loop.
-use Rattle.std.proofs.Common.{◌≡◌, ℕ, suc, ◌+◌, ◌<◌, Bool, true, false, List, [], ◌∷◌, length, Option, Some, None, Result, Ok, Err, IfOk, refl, sym, ap, ◌∙◌, subst, arith}
+use Rattle.std.proofs.Common.{◌≡◌, ◌<◌, Bool, List, [], ◌∷◌, length, Option, None, Result, Ok, Err, IfOk, refl, sym, ap, ◌∙◌, subst, arith}
 use Rattle.wjs_forms.specs.declared.class.Class.{Class}
 use Rattle.wjs_forms.specs.declared.forms.Form.{Form}
 use Rattle.wjs_forms.specs.declared.forms.Control.{Control}
 use Rattle.wjs_forms.specs.declared.forms.Move.{Move}
 use Rattle.wjs_forms.specs.declared.forms.Move.TheVariants as moves
 use Rattle.wjs_forms.specs.Moves.{move}
-use Rattle.wjs_forms.specs.States.{State, state, top, act, below, step}
+use Rattle.wjs_forms.specs.States.{State, top, act, below, step}
 use Rattle.wjs_offend.specs.Taking.{Answers}
 
 -- what the move makes of the forms

@@ -1,13 +1,16 @@
 -- Where the machine stops the offence is.
-use Rattle.std.proofs.Common.{◌≡◌, ℕ, ◌+◌, ◌<◌, ◌≤◌, ◌⊎◌, inl, inr, Bool, true, false, not, List, [], ◌∷◌, ◌++◌, length, take, Option, Some, None, slice_get, refl, sym, ap, ◌∙◌, subst, arith}
+use Rattle.std.proofs.Common.{◌≡◌, ℕ, zero, suc, ◌+◌, ◌<◌, ◌≤◌, inl, inr, Bool, true, not, List, [], ◌∷◌, ◌++◌, length, take, Option, Some, None, slice_get, refl, sym, ap, ◌∙◌, subst, arith}
 use Rattle.std.proofs.lemmas.List.{take_more, take_all}
-use Rattle.std.proofs.lemmas.Option.{slice_get_within, get_or_from_slice_get}
+use Rattle.std.proofs.lemmas.Option.{slice_get_within, slice_get_cases, get_or_from_slice_get}
 use Rattle.wjs_tree.specs.declared.tokens.Tok.{Tok}
 use Rattle.wjs_forms.specs.declared.class.Class.{Class}
 use Rattle.wjs_forms.specs.declared.class.Class.TheVariants as classes
 use Rattle.wjs_forms.specs.Classes.{class_of}
+use Rattle.wjs_offend.specs.declared.answer.Offence.{Offence}
+use Rattle.wjs_offend.specs.declared.answer.Offence.TheVariants as offences
+use Rattle.wjs_offend.specs.Offences.{IsOffence}
 use Rattle.wjs_offend.specs.Taking.{Answers}
-use Rattle.wjs_forms.specs.States.{State, start, step, step_tok, and_then, reach, MayEnd, Accepts}
+use Rattle.wjs_forms.specs.States.{State, start, step, step_tok, and_then, reach, MayEnd}
 use Rattle.wjs_forms.specs.Spells.{Spells, Begins, SpelledIsTaken, TakenIsSpelled, GoesOn}
 
 then_append : (o : Option State) (f g h : State → Option State) → ((r : State) → f r ≡ and_then (g r) h) → and_then o f ≡ and_then (and_then o g) h
@@ -71,3 +74,27 @@ module _ (taken : SpelledIsTaken) (spelled : TakenIsSpelled) (on : GoesOn) where
 
   pub no_token : (toks : List Tok) (s r : State) → reach (take (length toks) toks) start ≡ Some s → step classes.End true s.forms s.control ≡ Some r → Spells toks
   no_token toks s r e f = spelled toks (s, all toks s e, (r, f))
+
+  -- ---- each list of tokens has an offence: the machine stops somewhere
+
+  stops_at : (toks : List Tok) (k : ℕ) (t : Tok) (s : State) → slice_get toks k ≡ Some t → reach (take k toks) start ≡ Some s → step_tok t s ≡ None → (o : Offence) × IsOffence toks o
+  stops_at toks k t s h e f = (offences.At k, at_token toks k t s h e f)
+
+  at_last : (toks : List Tok) (s : State) (o : Option State) → reach (take (length toks) toks) start ≡ Some s → step classes.End true s.forms s.control ≡ o → (p : Offence) × IsOffence toks p
+  at_last toks s None e f = (offences.End, at_end toks s e f)
+  at_last toks s (Some r) e f = (offences.NoToken, no_token toks s r e f)
+
+  next_at : (toks : List Tok) (k : ℕ) (s : State) (t : Tok) (o : Option State) → slice_get toks k ≡ Some t → reach (take k toks) start ≡ Some s → step_tok t s ≡ o → ((r : State) → reach (take (k + 1) toks) start ≡ Some r → (p : Offence) × IsOffence toks p) → (p : Offence) × IsOffence toks p
+  next_at toks k s t None h e f again = stops_at toks k t s h e f
+  next_at toks k s t (Some r) h e f again = again r (reach_more toks k t s (Some r) h e f)
+
+  -- from the state behind k tokens, with so many behind them
+  found_from : (toks : List Tok) (left k : ℕ) (s : State) → k + left ≡ length toks → reach (take k toks) start ≡ Some s → (o : Offence) × IsOffence toks o
+  found_from toks zero k s n e = at_last toks s (step classes.End true s.forms s.control) (ended_at toks k s (omega arith) (omega arith) e) refl
+  found_from toks (suc left) k s n e = elim ((slice_get_cases toks k).1) [
+    | inl here ↦ next_at toks k s here.0 (step_tok here.0 s) here.2 e refl (λ r g. found_from toks left (k + 1) r (omega arith) g)
+    | inr past ↦ (let m = past.0 in absurd (omega arith))
+  ]
+
+  pub some_offence : (toks : List Tok) → (o : Offence) × IsOffence toks o
+  some_offence toks = found_from toks (length toks) 0 start (omega arith) refl

@@ -12,6 +12,10 @@ IsOffence toks (offences.At k) = (k < length toks) × Begins toks k × (Begins t
 IsOffence toks offences.End = Begins toks (length toks) × (Spells toks → ⊥)
 IsOffence toks offences.NoToken = Spells toks
 
--- tokens have one offence
+-- tokens have one offence at most
 abbrev pub OneOffence : Type 0
 OneOffence = (toks : List Tok) (a b : Offence) → IsOffence toks a → IsOffence toks b → a ≡ b
+
+-- and at least one
+abbrev pub SomeOffence : Type 0
+SomeOffence = (toks : List Tok) → (o : Offence) × IsOffence toks o

@@ -1,6 +1,6 @@
 //! The token at which a list of tokens stops being the front of a program.
 ghost use Rattle.std.specs.Prelude.{IfOk};
-ghost use Rattle.wjs_offend.specs.Offences.{IsOffence, OneOffence};
+ghost use Rattle.wjs_offend.specs.Offences.{IsOffence, OneOffence, SomeOffence};
 
 use crate::answer::Offence;
 use crate::class::class_of;
@@ -32,7 +32,12 @@ pub fn offence(alloc: Global, toks: &[Tok]) -> Result<Offence, OutOfMemory>
     }
 }
 
-/// Tokens have one offence.
+/// Tokens have one offence, and always one.
 pub fn one_offence()
-    ensures { OneOffence }
-{}
+    ensures most { OneOffence }
+    ensures some { SomeOffence }
+{
+    spelled_is_taken();
+    taken_is_spelled();
+    goes_on();
+}

@@ -1,8 +1,7 @@
-use Rattle.std.proofs.Common.{◌≡◌, ◌+◌, ◌<◌, ◌≤◌, length, take, Bool, true, false, not, Option, Some, None, slice_get, refl, sym, ap, ◌∙◌, subst, arith}
+use Rattle.std.proofs.Common.{◌≡◌, length, Bool, true, false, Some, slice_get, refl, sym, ap, subst, arith}
 use Rattle.std.proofs.lemmas.Option.{slice_get_read}
-use Rattle.wjs_forms.specs.declared.class.Class.{Class}
 use Rattle.wjs_forms.specs.declared.class.Class.TheVariants as classes
-use Rattle.wjs_forms.specs.States.{State, state, start, step, step_tok, reach}
+use Rattle.wjs_forms.specs.States.{state, step}
 use Rattle.wjs_offend.specs.Taking.{Answers}
 use Rattle.wjs_offend.proofs.Offending.{at_token, at_end, no_token, reach_more, answered, ended_at}
 use Rattle.wjs_offend.proofs.finding.offence.Goals as goal
