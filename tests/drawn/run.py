@@ -9,6 +9,8 @@ grammar:
   peers    a plain script, with semicolons left out at random, prints and ends as in node, or else as in mujs, each where it is on PATH
   syntax   a few statements with tokens put in, left out or swapped are refused only where one of these refuses them, and read only
            where node reads them
+  lines    where such a text has a token that is unexpected here and in node, or ends too early in both, node tells the same line or,
+           since it reads more forms, a later one; those with the same are counted
   commits  with statements at random run in worlds that are committed right after it prints what the plain script prints
   drops    run in a world that is dropped, and then once more, it prints twice what it prints
 
@@ -19,6 +21,7 @@ differ first where a number is out of range, which throws here and is rounded th
 import json
 import os
 import random
+import re
 import shutil
 import subprocess
 import sys
@@ -47,6 +50,15 @@ console.log(JSON.stringify(texts.map(text => {
 })));
 '''
 
+# The line on which node finds each text at fault for an unexpected token or end, None where it doesn't.
+LINES = '''
+const vm = require("vm"), texts = JSON.parse(require("fs").readFileSync(0));
+console.log(JSON.stringify(texts.map(text => {
+  try { new vm.Script(text); } catch (e) { if (/^Unexpected /.test(e.message)) return Number(/:(\\d+)/.exec(e.stack)[1]); }
+  return null;
+})));
+'''
+
 
 def run(words, text=''):
     """The status and what was printed; no status where it took too long."""
@@ -63,6 +75,11 @@ def in_node(texts, mode):
     ended = subprocess.run(['node', '--stack-size=4000', '-e', NODE, mode], input=json.dumps(texts).encode(), stdout=subprocess.PIPE, check=True)
     # a lone surrogate is printed as U+FFFD
     return [(status, out.encode('utf-16', 'surrogatepass').decode('utf-16', 'replace')) for status, out in json.loads(ended.stdout)]
+
+
+def lines_in_node(texts):
+    ended = subprocess.run(['node', '--stack-size=4000', '-e', LINES], input=json.dumps(texts).encode(), stdout=subprocess.PIPE, check=True)
+    return json.loads(ended.stdout)
 
 
 def in_mujs(text, mode):
@@ -85,8 +102,8 @@ class Checks:
     def __init__(self, program):
         self.program = program
         self.folder = tempfile.mkdtemp(prefix='worlds-drawn-')
-        self.passed = dict.fromkeys(['peers', 'syntax', 'commits', 'drops'], 0)
-        self.failed = 0
+        self.passed = dict.fromkeys(['peers', 'syntax', 'lines', 'commits', 'drops'], 0)
+        self.failed = self.same_lines = 0
 
     def ours(self, text, *words):
         return run([*self.program, *STEPS, *words], text)
@@ -114,6 +131,21 @@ class Checks:
             peers = [it for it in (node, ours != node and not decides and in_mujs(text, mode)) if it]
             if ours in peers or not (mode == 'run' and any(is_rounded(ours[1], theirs) for _, theirs in peers)):
                 self.check(kind, f'{grammar}-{seed}', text, ours in peers)
+
+    def line(self, text):
+        """The line on which a text has an unexpected token, or ends too early; None where it doesn't."""
+        ended = subprocess.run([*self.program, '--mode', 'check'], input=text.encode(), capture_output=True, timeout=60)
+        told = re.fullmatch(rb'line (\d+): syntax error\n', ended.stderr)
+        return told and int(told[1])
+
+    def lines(self, grammar, seeds):
+        # node tells the line of the end itself, here it is the last token's
+        texts = [mutated(grammar, seed).rstrip() for seed in seeds]
+        for seed, text, theirs in zip(seeds, texts, lines_in_node(texts)):
+            ours = self.line(text)
+            if ours and theirs:
+                self.check('lines', f'{grammar}-{seed}', text, ours <= theirs)
+                self.same_lines += ours == theirs
 
     def worlds(self, grammar, seed):
         plain = self.ours(script(grammar, seed))
@@ -148,9 +180,11 @@ def main(words):
             if any(map(shutil.which, ('node', 'mujs'))):
                 checks.peers('peers', 'run', grammar, seeds, spaced_script)
                 checks.peers('syntax', 'read', grammar, seeds, mutated, '--mode', 'check')
+            if shutil.which('node'):
+                checks.lines(grammar, seeds)
             for seed in seeds:
                 checks.worlds(grammar, seed)
-    print(', '.join(f'{number} {kind}' for kind, number in checks.passed.items()) + f' hold, {checks.failed} failed')
+    print(', '.join(f'{number} {kind}' for kind, number in checks.passed.items()) + f' hold, {checks.failed} failed; {checks.same_lines} lines are the same')
     if checks.failed:
         sys.exit(f'the scripts are in {checks.folder}')
     os.rmdir(checks.folder)

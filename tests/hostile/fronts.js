@@ -5,7 +5,7 @@
 // Node has no worlds. There `in w {` is `with (w) {`, and a world is an object with a `doc` of its own, a copy of its parent's; that is
 // enough for this script, in which only the elements of `doc` change in worlds. A front that ends within a string is refused by a rule
 // of ours: no token begins at that string. What node refuses otherwise is refused here, since the script has no other form of this
-// language alone.
+// language alone. A front is at fault at its end, and node tells the line of that: the last token's, once no line end stands behind it.
 const fs = require('fs'), path = require('path'), vm = require('vm');
 const rows = fs.readFileSync(path.join(__dirname, '..', 'rows.jsonl'), 'utf8').trim().split('\n').map(line => JSON.parse(line));
 const script = rows.find(row => row.id === 'case-19').stdin;
@@ -17,7 +17,9 @@ function due(front) {
     return ['', `line ${line}: not a token\n`, 4];
   }
   let plain;
-  try { plain = new vm.Script(front.replace(/\bin w \{/g, 'with (w) {')); } catch (e) { return ['', 'syntax error\n', 4]; }
+  try { plain = new vm.Script(front.trimEnd().replace(/\bin w \{/g, 'with (w) {')); } catch (e) {
+    return ['', `line ${/:(\d+)/.exec(e.stack)[1]}: syntax error\n`, 4];
+  }
   const world = doc => ({doc, sprout: () => world(doc.slice())});
   let out = '';
   try {

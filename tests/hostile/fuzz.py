@@ -27,7 +27,7 @@ KINDS = re.compile(r'(?P<word>\b(?!(?:var|in|if|else|for|while|do|try|catch|fina
                    r'|(?P<sign> (?:[-+*/%&|^<>]|===?|!==?|<<|>>>?|&&|\|\|) )')
 MEMORY, SECONDS = 2 << 30, 120
 LINES = {0: rb'', 1: rb'uncaught .*\n', 2: rb'step budget spent\n', 3: rb'out of memory\n',
-         4: rb'(too long|not UTF-8|line [1-9][0-9]*: not a token|syntax error)\n'}
+         4: rb'(too long|not UTF-8|line [1-9][0-9]*: not a token|(line [1-9][0-9]*: )?syntax error)\n'}
 TOKENS = ('{ } ( ) [ ] . ; , < > <= >= == != === !== + - * / % ++ -- << >> >>> & | ^ ! ~ && || ? : = += -= *= /= %= <<= >>= >>>= &= |= ^= '
           'break case catch continue default delete do else finally for function if in instanceof new return switch this throw try typeof '
           'var void while with null true false thisWorld class enum a b c f x print 0 1 7 0x1F 9007199254740991 9007199254740992 1.5 01 '

@@ -41,7 +41,7 @@ def runs():
     yield 'checked', ['--mode', 'check'], 'while (true) {}', 'ok\n', '', 0
     yield 'thrown', [], 'print(1); throw new TypeError("bad");', '1\n', 'uncaught TypeError: bad\n', 1
     yield 'refused-place', [], 'x = 1;\n#', '', 'line 2: not a token\n', 4
-    yield 'refused-tokens', [], 'x = {;', '', 'syntax error\n', 4
+    yield 'refused-tokens', [], 'x = {;', '', 'line 1: syntax error\n', 4
     yield 'refused-words', ['--mode', 'nothing'], '', '', "usage: error: invalid value 'nothing' for '--mode <mode>'\n", 5
     # two pieces of output go out, and the rest waits
     yield 'printing', [], 'for (var i = 0; i < 1100; i++) print("abcdefg");', 'abcdefg\n' * 1100, '', 0

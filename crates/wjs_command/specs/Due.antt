@@ -33,6 +33,7 @@ refused text = record { out = []; err = line text; status = Refused }
 abbrev pub text_of_refusal : Refusal → List ℕ
 text_of_refusal refusals.NotUtf8 = codes "not UTF-8"
 text_of_refusal (refusals.NotAToken n) = codes "line " ++ decimal n ++ codes ": not a token"
+text_of_refusal (refusals.Unexpected n) = codes "line " ++ decimal n ++ codes ": syntax error"
 text_of_refusal refusals.NotAScript = codes "syntax error"
 
 -- there are too many bytes

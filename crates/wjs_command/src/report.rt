@@ -1,5 +1,6 @@
 //! What a run comes to: its status, and the line that tells of it.
 ghost use Rattle.std.specs.Prelude.{◌≡◌, ◌++◌, [], IfOk, codes};
+ghost use Rattle.std.specs.Fmt.{decimal};
 ghost use Rattle.wjs_command.specs.declared.status.Status.TheVariants as statuses;
 ghost use Rattle.wjs_command.specs.Table.{line as as_line};
 ghost use Rattle.wjs_command.specs.Due.{text_of_refusal};
@@ -62,20 +63,18 @@ pub fn refuse(alloc: Global, refusal: Refusal) -> Result<Report, OutOfMemory>
 {
     match refusal {
         Refusal::NotUtf8 => report_line(alloc, Status::Refused, b"not UTF-8", b""),
-        Refusal::NotAToken { line } => refuse_token(alloc, line),
+        Refusal::NotAToken { line } => refuse_at(alloc, line, b": not a token"),
+        Refusal::Unexpected { line } => refuse_at(alloc, line, b": syntax error"),
         Refusal::NotAScript => report_line(alloc, Status::Refused, b"syntax error", b""),
     }
 }
 
-/// The report of bytes where no piece begins at a place on this line.
-fn refuse_token(alloc: Global, line: u64) -> Result<Report, OutOfMemory>
-    ensures { IfOk result (IsReport statuses.Refused (as_line (text_of_refusal (Refusal.NotAToken line)))) }
+/// The report of bytes that are no script, for a reason that stands on this line.
+fn refuse_at(alloc: Global, line: u64, reason: &[u8]) -> Result<Report, OutOfMemory>
+    ensures { IfOk result (IsReport statuses.Refused (as_line (codes "line " ++ decimal line ++ reason.now))) }
 {
-    match format!(in alloc; "line {line}: not a token\n") {
-        Ok(text) => Ok(Report {
-            status: Status::Refused,
-            line: text.into_bytes(),
-        }),
+    match format!(in alloc; "line {line}") {
+        Ok(text) => report_line(alloc, Status::Refused, text.as_bytes(), reason),
         Err(_) => Err(OutOfMemory),
     }
 }

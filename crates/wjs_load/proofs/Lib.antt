@@ -1,2 +1,5 @@
+pub mod Alike
+mod AlikeOffences
+pub mod Faults
 pub mod Loaded
 mod OneAnswer

@@ -3,6 +3,7 @@
 
 mod laws;
 mod script;
+mod stopping;
 mod tokens;
 mod units;
 

@@ -2,12 +2,13 @@
 ghost use Rattle.std.specs.Prelude.{◌≡◌, ◌+◌, length, IfOk};
 ghost use Rattle.wjs_tree.specs.Trees.{Elements};
 ghost use Rattle.wjs_tree.specs.Shows.{IsBody};
-ghost use Rattle.wjs_parse.specs.Answers.{ProgramAnswers};
 ghost use Rattle.wjs_scope.specs.Places.{IsScript};
 ghost use Rattle.wjs_order.specs.Order.{IsNumbered};
 ghost use Rattle.wjs_model.specs.Texts.{PlacesUnit};
-ghost use Rattle.wjs_load.specs.Reading.{ReadAnswers};
+ghost use Rattle.wjs_load.specs.Reading.{ParsedAnswers, ReadAnswers};
 
+use crate::stopping::fault_of;
+use crate::tokens::LoadFault;
 use std::alloc::Global;
 use wjs_base::{OutOfMemory, Texts};
 use wjs_model::Unit;
@@ -17,24 +18,30 @@ use wjs_parse_expr::ParseFault;
 use wjs_scope::places;
 use wjs_tree::{Program, Tok};
 
-/// The unit of the program that the tokens spell, whose names are those of the table of texts. NotAScript comes exactly where
-/// no well-formed program spells them (ECMA-262, 3rd edition, section 14).
-pub(crate) fn read(alloc: Global, texts: &Texts, toks: Vec<Tok>) -> Result<Unit, ParseFault>
+/// The unit of the program that the tokens spell, whose names are those of the table of texts. They are refused exactly where no
+/// well-formed program spells them (ECMA-262, 3rd edition, section 14): as unexpected on a line where they can't go on, and as no
+/// script where no token is at fault.
+pub(crate) fn read(alloc: Global, texts: &Texts, toks: Vec<Tok>) -> Result<Unit, LoadFault>
     ensures { ReadAnswers texts.now toks.items result }
 {
     let program = parsed(alloc, toks)?;
     match unit_of(alloc, texts, program) {
         Ok(unit) => Ok(unit),
-        Err(_) => Err(ParseFault::OutOfMemory),
+        Err(_) => Err(LoadFault::OutOfMemory),
     }
 }
 
-/// The program of the tokens, which are given back before its nodes are copied.
-fn parsed(alloc: Global, toks: Vec<Tok>) -> Result<Program, ParseFault>
-    ensures answer { ProgramAnswers toks.items result }
+/// The program of the tokens, which are given back before its nodes are copied. Where there is none, the nodes have been given
+/// back before the tokens are gone through once more.
+fn parsed(alloc: Global, toks: Vec<Tok>) -> Result<Program, LoadFault>
+    ensures answer { ParsedAnswers toks.items result }
     ensures last { IfOk result (λ p. length p.nodes ≡ p.body.0 + 1) }
 {
-    program(alloc, toks.as_slice())
+    match program(alloc, toks.as_slice()) {
+        Ok(program) => Ok(program),
+        Err(ParseFault::NotAScript) => Err(fault_of(alloc, toks.as_slice())),
+        Err(ParseFault::OutOfMemory) => Err(LoadFault::OutOfMemory),
+    }
 }
 
 /// The program with its nodes in the order of its tree, and the places of its names.

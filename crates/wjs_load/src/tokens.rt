@@ -16,7 +16,11 @@ pub enum Refusal {
     NotUtf8,
     /// No piece begins at a place on this line, counted from 1.
     NotAToken { line: u64 },
-    /// No well-formed program spells the tokens.
+    /// On this line, counted from 1, begins the first token with which the tokens begin no program, whatever may follow; or the last
+    /// token of all, where they begin a program and are none. Jumps, labels, a second `default` and height aren't asked.
+    Unexpected { line: u64 },
+    /// No well-formed program spells the tokens, and yet no token is at fault: one stands for them whose jumps, labels, clauses or
+    /// height aren't those of a program.
     NotAScript,
 }
 

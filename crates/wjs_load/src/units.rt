@@ -8,11 +8,10 @@ ghost use Rattle.wjs_programs.specs.Programs.{IsProgram};
 ghost use Rattle.wjs_load.specs.Loading.{IsProgramOrNot, IsRefused};
 
 use crate::script::read;
-use crate::tokens::{LoadFault, Refusal, tokens};
+use crate::tokens::{LoadFault, tokens};
 use std::alloc::Global;
 use wjs_base::{OutOfMemory, Texts};
 use wjs_model::{LIBRARY, Unit};
-use wjs_parse_expr::ParseFault;
 
 /// The unit whose tree is that of the program that at most 16,777,216 bytes spell; its texts are put into the table, in which
 /// what was there keeps its number, also after a fault. Each refusal comes exactly where it holds of the bytes (ECMA-262, 3rd
@@ -27,11 +26,7 @@ pub fn load(alloc: Global, bytes: &[u8], texts: &mut Texts) -> Result<Unit, Load
     ensures table { IsTable texts.new }
 {
     let toks = tokens(alloc, bytes, texts)?;
-    match read(alloc, texts, toks) {
-        Ok(unit) => Ok(unit),
-        Err(ParseFault::NotAScript) => Err(LoadFault::Refused(Refusal::NotAScript)),
-        Err(ParseFault::OutOfMemory) => Err(LoadFault::OutOfMemory),
-    }
+    read(alloc, texts, toks)
 }
 
 /// The unit of the library's text, which runs before a script. None exactly where the text is no script.

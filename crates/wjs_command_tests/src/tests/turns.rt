@@ -115,7 +115,7 @@ fn each_write_of_an_error_fails_in_turn(rt: HostRuntime) -> Result<(), Fail> {
         (
             plain("print(1); x = {;"),
             "",
-            "syntax error\n",
+            "line 1: syntax error\n",
             Status::Refused,
         ),
         (

@@ -1,10 +1,15 @@
-use Rattle.wjs_load.proofs.Loaded.{knows_texts, spelled}
+use Rattle.wjs_load.proofs.Faults.{refused_so}
+use Rattle.wjs_load.proofs.Loaded.{read_known, read_spelled, read_placed}
 use Rattle.wjs_load.proofs.units.load.Goals as goal
 
-pub returns-in-Ok-clause-ok : goal.returns-in-Ok-clause-ok
-returns-in-Ok-clause-ok c =
-    spelled c.args.bytes.now c.tokens.new.texts c.in_ok-toks.toks.items c.in-Ok.unit c.in_ok-toks.ensures.ok c.in-Ok.ensures c.tokens.ensures.table
+pub returns-clause-ok : goal.returns-clause-ok
+returns-clause-ok c = read_spelled c.args.bytes.now c.tokens.new.texts c.in_ok-toks.toks.items c.in_ok-toks.ensures.ok c.tokens.ensures.table c.read.result c.read.ensures
 
-pub returns-in-Ok-clause-known : goal.returns-in-Ok-clause-known
-returns-in-Ok-clause-known c =
-    knows_texts c.args.bytes.now c.tokens.new.texts c.in_ok-toks.toks.items c.in-Ok.unit c.in_ok-toks.ensures.ok c.in-Ok.ensures
+pub returns-clause-known : goal.returns-clause-known
+returns-clause-known c = read_known c.args.bytes.now c.tokens.new.texts c.in_ok-toks.toks.items c.in_ok-toks.ensures.ok c.read.result c.read.ensures
+
+pub returns-clause-places : goal.returns-clause-places
+returns-clause-places c = read_placed c.args.bytes.now c.tokens.new.texts c.in_ok-toks.toks.items c.in_ok-toks.ensures.ok c.read.result c.read.ensures
+
+pub returns-clause-err : goal.returns-clause-err
+returns-clause-err c = refused_so c.args.bytes.now c.tokens.new.texts c.in_ok-toks.toks.items c.tokens.ensures.table c.in_ok-toks.ensures.ok c.read.result c.read.ensures
