@@ -67,7 +67,7 @@ module _ {S : Type 0} (meaning : S → Meaning) where
       }
 
   ended_as : (s : Stream) (old new : Config S) (ending : Outcome) (meant : Ending) → ((e : Ending) → e ≡ meant → MeansEnd new.heap.texts ending e) → HasThrown new ending → EndsAs meaning s old new meant → HasEnded s old new ending
-  ended_as s old new ending meant means thrown h = record { got = h.got; sound = h.sound; world = h.world; thrown = thrown; is_end = is_end_by s old new ending meant means h }
+  ended_as s old new ending meant means thrown h = record { got = h.got; sound = h.sound; world = h.stays.world; thrown = thrown; is_end = is_end_by s old new ending meant means h }
 
   pub ended : (s : Stream) (old new : Config S) (ending : Outcome) → stop_in ending ≡ None → RunsTo meaning s old new ending → HasEnded s old new ending
   ended s old new outcomes.Done e h = ended_as s old new outcomes.Done Done (λ x q. q) tt h

@@ -17,12 +17,13 @@ use Rattle.wjs_model.proofs.Beside.{beside_nothing}
 use Rattle.wjs_model.specs.Configurations.{rest_by, seen, tells, run_in, frames_in, state_in}
 use Rattle.wjs_model.specs.Soundness.{HasThrown, Sound}
 use Rattle.wjs_moves.specs.Reaching.{own_view}
+use Rattle.wjs_moves.proofs.Reaching.{stays_on}
 use Rattle.wjs_machine.specs.Flushing.{FlushesAll}
 use Rattle.wjs_machine.specs.Runs.{run_of, output_of, Reaches, EndsAs, RunsTo, ending_of}
 use Rattle.wjs_machine.specs.declared.halt.Ending.{Ending as Outcome}
 use Rattle.wjs_machine.specs.declared.halt.Ending.TheVariants as outcomes
 use Rattle.wjs_machine.proofs.Running.{out_run, pending_first, stops_longer}
-use Rattle.wjs_machine.proofs.Pending.{sound_out}
+use Rattle.wjs_machine.proofs.Pending.{sound_out, stays_out}
 use Rattle.wjs_machine.proofs.Stepping.{stops_on, prefix_on}
 
 seen_ending : (b : Bool) (r : Ending × St) → (seen b r).0 ≡ r.0
@@ -67,7 +68,7 @@ module _ {S : Type 0} (meaning : S → Meaning) where
         worlds = ap (λ q. (q.1).full) run ∙ ap (λ q. (q.1).full) r ∙ seen_full b last;
         arena = ap (λ q. (q.1).arena) run ∙ ap (λ q. (q.1).arena) r ∙ seen_arena b last ∙ beside_nothing (arena_in new.heap.texts new.heap.arena);
         done = ap (λ q. (q.1).done) run ∙ ap (λ q. (q.1).done) r ∙ seen_done new.heap.texts (meaning new.heap.store).told ending (state_in meaning new.heap.texts (own_view meaning new) new) refl;
-        world = ap (λ (c : Config S). c.world) f.out.same;
+        stays = stays_out meaning old new f.out.same;
         sound = sound_out meaning old new f.out.same sound;
       }
 
@@ -95,7 +96,7 @@ module _ {S : Type 0} (meaning : S → Meaning) where
     worlds = ap (λ q. (q.1).full) a.run ∙ e.worlds;
     arena = ap (λ q. (q.1).arena) a.run ∙ e.arena;
     done = ap (λ q. (q.1).done) a.run ∙ e.done;
-    world = e.world ∙ a.world;
+    stays = stays_on meaning old mid new a.stays e.stays;
     sound = e.sound;
   }
 

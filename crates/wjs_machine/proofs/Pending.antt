@@ -1,9 +1,14 @@
--- A configuration stays sound as output goes out.
-use Rattle.std.proofs.Common.{◌≡◌, sym, subst}
+-- A configuration stays sound as output goes out, and keeps all else.
+use Rattle.std.proofs.Common.{◌≡◌, None, Some, refl, sym, subst}
+use Rattle.std.specs.FinMap as map
+use Rattle.wjs_base.specs.declared.ids.ObjId.{ObjId}
+use Rattle.wjs_base.proofs.TextLaws.{Grows-refl}
 use Rattle.wjs_store.specs.Meaning.{Meaning}
+use Rattle.wjs_arena.specs.Entries.{Entry}
 use Rattle.wjs_model.specs.declared.config.Config.{Config}
 use Rattle.wjs_model.specs.declared.config.State.{State}
 use Rattle.wjs_model.specs.declared.config.State.TheVariants as states
+use Rattle.wjs_model.specs.Configurations.{Stays}
 use Rattle.wjs_model.specs.Soundness.{Sound, HasThrown}
 use Rattle.wjs_deeds.proofs.Later.{base_out}
 
@@ -19,3 +24,24 @@ module _ {S : Type 0} (meaning : S → Meaning) (old new : Config S) where
 
   pub sound_out : new ≡ record old { pending = new.pending } → Sound meaning old → Sound meaning new
   sound_out same s = subst (Sound meaning) (sym same) (sound_same s)
+
+  not_both : (o : ObjId) (e : Entry) → map.get old.heap.arena o ≡ None → map.get old.heap.arena o ≡ Some e → ⊥
+  not_both o e h k = cc
+
+  stays_same : Stays meaning old (record old { pending = new.pending })
+  stays_same = record {
+    units = refl;
+    global = refl;
+    world = refl;
+    owner = refl;
+    apart = refl;
+    texts = Grows-refl old.heap.texts;
+    objects = λ o e h. h;
+    made = λ o e h k. absurd (not_both o e h k);
+    own = refl;
+    around = refl;
+    narrows = λ v a. a;
+  }
+
+  pub stays_out : new ≡ record old { pending = new.pending } → Stays meaning old new
+  stays_out same = subst (Stays meaning old) (sym same) stays_same

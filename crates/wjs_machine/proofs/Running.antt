@@ -12,12 +12,12 @@ use Rattle.wjs_model.specs.Configurations.{rest, turns}
 use Rattle.wjs_model.specs.Soundness.{Sound}
 use Rattle.wjs_moves.specs.Taking.{Turns}
 use Rattle.wjs_moves.specs.Reaching.{own_view, AdmitsOwn, Reaches, Falls, turns_now}
-use Rattle.wjs_moves.proofs.Reaching.{turn_reaches}
+use Rattle.wjs_moves.proofs.Reaching.{turn_reaches, stays_on}
 use Rattle.wjs_moves.proofs.Growing.{left_alike, later_alike}
 use Rattle.wjs_machine.specs.Flushing.{after_output, GoesOut, Flushes}
 use Rattle.wjs_machine.specs.Runs.{run_of, output_of, Advances}
 use Rattle.wjs_machine.proofs.Flushes.{output_lem, turns_lem, output_first}
-use Rattle.wjs_machine.proofs.Pending.{sound_out}
+use Rattle.wjs_machine.proofs.Pending.{sound_out, stays_out}
 
 -- output after output
 pub after_both : (one two : List ℕ) (r : Ending × St) → after_output one (after_output two r) ≡ after_output (one ++ two) r
@@ -89,11 +89,14 @@ module _ {S : Type 0} (meaning : S → Meaning) (works : (s : S) → IsTrue (not
   advanced s old mid new sound turns f =
       let r = reached old mid sound turns in
       record {
+        between = mid;
+        turned = turns.turned;
         gone = f.gone;
         got = f.got;
+        out = f.out;
         run = turn_run old mid sound turns ∙ out_run meaning f.gone mid new f.out;
         falls = out_falls meaning f.gone old mid new f.out r.1;
-        world = ap (λ (c : Config S). c.world) f.out.same ∙ r.0.stays.world;
+        stays = stays_on meaning old mid new r.0.stays (stays_out meaning mid new f.out.same);
         sound = sound_out meaning mid new f.out.same turns.sound;
         few = f.few;
       }

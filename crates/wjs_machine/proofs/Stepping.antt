@@ -9,10 +9,12 @@ use Rattle.wjs_model.specs.declared.config.State.{State}
 use Rattle.wjs_model.specs.declared.config.State.TheVariants as states
 use Rattle.wjs_model.specs.Soundness.{Sound}
 use Rattle.wjs_moves.specs.Reaching.{Falls, turns_now}
+use Rattle.wjs_moves.proofs.Reaching.{stays_on}
 use Rattle.wjs_machine.specs.Flushing.{after_output}
 use Rattle.wjs_machine.specs.Runs.{run_of, output_of, Advances, Halts, HaltsAfter, Reaches, ReachesStep, weight, weight_by}
 use Rattle.wjs_machine.specs.declared.halt.Halt.{Halt}
 use Rattle.wjs_machine.specs.declared.halt.Halt.TheVariants as halts
+use Rattle.wjs_machine.proofs.Pending.{stays_out}
 use Rattle.wjs_machine.proofs.Running.{after_both}
 
 -- the turns that are left before a step is taken or the run has ended, where the steps were so many at first
@@ -44,7 +46,7 @@ module _ {S : Type 0} (meaning : S → Meaning) where
   turns_to_step first c = turns_if c.state (same_number c.left first.left) (turns_now meaning c)
 
   -- a step was taken, or the run has ended, or the steps are as many as at first
-  abbrev Left : Config S → Config S → Type 0
+  abbrev pub Left : Config S → Config S → Type 0
   Left first c = (weight c < weight first) ⊎ (c.left ≡ first.left)
 
   pub record Under (s : Stream) (first c : Config S) : Type 0 where
@@ -53,7 +55,7 @@ module _ {S : Type 0} (meaning : S → Meaning) where
 
   -- at first nothing has gone out
   pub reach_none : (one : Option (List ℕ)) (faults : ℕ) (c : Config S) → Sound meaning c → Reaches meaning (stream one one faults faults) c c
-  reach_none one faults c sound = record { gone = []; got = Appends-nil one; run = refl; world = refl; sound = sound }
+  reach_none one faults c sound = record { gone = []; got = Appends-nil one; run = refl; stays = stays_out meaning c c refl; sound = sound }
 
   pub under_none : (one : Option (List ℕ)) (faults : ℕ) (c : Config S) → Sound meaning c → Under (stream one one faults faults) c c
   under_none one faults c sound = record { reaches = reach_none one faults c sound; left = inr refl }
@@ -64,7 +66,7 @@ module _ {S : Type 0} (meaning : S → Meaning) where
     gone = a.gone ++ b.gone;
     got = Appends-then before middle after a.gone b.gone a.got b.got;
     run = a.run ∙ ap (after_output a.gone) b.run ∙ after_both a.gone b.gone (run_of meaning new);
-    world = b.world ∙ a.world;
+    stays = stays_on meaning old mid new a.stays b.stays;
     sound = b.sound;
   }
 
@@ -108,7 +110,7 @@ module _ {S : Type 0} (meaning : S → Meaning) where
   turn_halts_on before middle after f0 f1 f2 old mid e le a h = halts_on before middle after f0 f1 f2 old mid e le a (turn_halts (stream middle after f1 f2) mid e h)
 
   advance_reaches : (s : Stream) (old new : Config S) → Advances meaning s old new → Reaches meaning s old new
-  advance_reaches s old new a = record { gone = a.gone; got = a.got; run = a.run; world = a.world; sound = a.sound }
+  advance_reaches s old new a = record { gone = a.gone; got = a.got; run = a.run; stays = a.stays; sound = a.sound }
 
   -- ---- how far
 
@@ -127,7 +129,7 @@ module _ {S : Type 0} (meaning : S → Meaning) where
   running_weight : (c : Config S) → c.state ≡ states.Running → weight c ≡ suc c.left
   running_weight c e = ap (λ state. weight_by state c.left) e
 
-  left_falls : (first old new : Config S) → first.state ≡ states.Running → old.left ≡ first.left → Falls meaning old new → Left first new
+  pub left_falls : (first old new : Config S) → first.state ≡ states.Running → old.left ≡ first.left → Falls meaning old new → Left first new
   left_falls first old new run same (inl less) = inl (fewer (weight new) new.left old.left first.left (weight first) (weight_most new.state new.left) less same (running_weight first run))
     where
       fewer : (w n m k v : ℕ) → w ≤ suc n → n < m → m ≡ k → v ≡ suc k → w < v
@@ -182,13 +184,13 @@ module _ {S : Type 0} (meaning : S → Meaning) where
       by (inr (inr ended)) = past _ _ _ (measure_now first old run same) (measure_ended new.state (same_number new.left first.left) (turns_now meaning new) ended)
 
   -- the turns are over: a step was taken, or the run has ended
-  pub over : (s : Stream) (first c : Config S) → first.state ≡ states.Running → Under s first c → (¬ (c.state ≡ states.Running)) ⊎ (¬ (c.left ≡ first.left)) → ReachesStep meaning s first c
-  over s first c run u (inl ended) = record { reaches = u.reaches; less = ended_less (weight c) (weight first) first.left (ended_weight c.state c.left ended) (running_weight first run) }
+  pub less_over : (first c : Config S) → first.state ≡ states.Running → Left first c → (¬ (c.state ≡ states.Running)) ⊎ (¬ (c.left ≡ first.left)) → weight c < weight first
+  less_over first c run left (inl ended) = ended_less (weight c) (weight first) first.left (ended_weight c.state c.left ended) (running_weight first run)
     where
       ended_less : (w v k : ℕ) → w ≡ 0 → v ≡ suc k → w < v
       ended_less w v k h1 h2 = omega (arith, h1, h2)
-  over s first c run u (inr other) = record { reaches = u.reaches; less = by u.left }
-    where
-      by : Left first c → weight c < weight first
-      by (inl less) = less
-      by (inr same) = absurd (other same)
+  less_over first c run (inl less) (inr other) = less
+  less_over first c run (inr same) (inr other) = absurd (other same)
+
+  pub over : (s : Stream) (first c : Config S) → first.state ≡ states.Running → Under s first c → (¬ (c.state ≡ states.Running)) ⊎ (¬ (c.left ≡ first.left)) → ReachesStep meaning s first c
+  over s first c run u done = record { reaches = u.reaches; less = less_over first c run u.left done }

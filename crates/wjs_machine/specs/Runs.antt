@@ -9,14 +9,14 @@ use Rattle.wjs_meaning.specs.Programs.{Ending, Done, Threw, StepsSpent}
 use Rattle.wjs_model.specs.declared.config.Config.{Config}
 use Rattle.wjs_model.specs.declared.config.State.{State}
 use Rattle.wjs_model.specs.declared.config.State.TheVariants as states
-use Rattle.wjs_model.specs.Configurations.{rest}
+use Rattle.wjs_model.specs.Configurations.{rest, Stays, Turned}
 use Rattle.wjs_model.specs.Soundness.{HasValue, Sound}
 use Rattle.wjs_moves.specs.Reaching.{own_view, Falls}
 use Rattle.wjs_machine.specs.declared.halt.Halt.{Halt}
 use Rattle.wjs_machine.specs.declared.halt.Halt.TheVariants as halts
 use Rattle.wjs_machine.specs.declared.halt.Ending.{Ending as Outcome}
 use Rattle.wjs_machine.specs.declared.halt.Ending.TheVariants as outcomes
-use Rattle.wjs_machine.specs.Flushing.{after_output}
+use Rattle.wjs_machine.specs.Flushing.{after_output, GoesOut}
 
 -- how a run ended that goes on no more
 abbrev pub ending_of : State → Outcome
@@ -41,13 +41,16 @@ module _ {S : Type 0} (meaning : S → Meaning) where
   abbrev pub output_of : Config S → List ℕ
   output_of c = ((run_of c).1).out
 
-  -- a turn was taken, and full pieces went out: what was left to do is what is left, after that output
+  -- a turn was taken, which holds under whatever stands outside and with each number of steps; then full pieces went out, and nothing else changed. Under the store's own view, with the steps that were left, what was left to do is what is left, after that output
   pub record Advances (s : Stream) (old new : Config S) : Type 0 where
+    pub between : Config S
+    pub turned : Turned meaning old between
     pub gone : List ℕ
     pub got : Got s gone
+    pub out : GoesOut gone between new
     pub run : run_of old ≡ after_output gone (run_of new)
     pub falls : Falls meaning old new
-    pub world : new.world ≡ old.world
+    pub stays : Stays meaning old new
     pub sound : Sound meaning new
     pub few : length new.pending.items < 4096
 
@@ -61,7 +64,7 @@ module _ {S : Type 0} (meaning : S → Meaning) where
     pub gone : List ℕ
     pub got : Got s gone
     pub run : run_of old ≡ after_output gone (run_of new)
-    pub world : new.world ≡ old.world
+    pub stays : Stays meaning old new
     pub sound : Sound meaning new
 
   -- a step was among them, or the run has ended
@@ -74,14 +77,14 @@ module _ {S : Type 0} (meaning : S → Meaning) where
   HaltsAfter s old halts.SinkFailed = Stops s (output_of old)
   HaltsAfter s old halts.OutOfMemory = GotPrefix s (output_of old)
 
-  -- the run ended so, in the configuration's state, and all its output was written; the actions that the store tells now, where it tells any, are those of the run; its first world is the one that it had
+  -- the run ended so, in the configuration's state, and all its output was written; the actions that the store tells now, where it tells any, are those of the run; what every turn keeps is kept
   pub record EndsAs (s : Stream) (old new : Config S) (ending : Ending) : Type 0 where
     pub got : Got s (output_of old)
     pub ends : (run_of old).0 ≡ ending
     pub worlds : ((run_of old).1).full ≡ worlds_in new.heap.texts (worlds (meaning new.heap.store))
     pub arena : ((run_of old).1).arena ≡ arena_in new.heap.texts new.heap.arena
     pub done : ((run_of old).1).done ≡ unwrap_or (told_by new.heap.texts (meaning new.heap.store).told) []
-    pub world : new.world ≡ old.world
+    pub stays : Stays meaning old new
     pub sound : Sound meaning new
 
   -- how a run ended, and what of its output was written

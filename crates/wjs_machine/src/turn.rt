@@ -19,6 +19,8 @@ use wjs_store::WorldStore;
 
 /// Takes one turn, and writes pieces of exactly 4,096 bytes until fewer are pending.
 ///
+/// What the turn does it does under each view that the store admits still, and whatever the number of steps that are left; the
+/// output changes nothing else. Units, owner, global object and surroundings stay, and texts and objects that were there.
 /// SinkFailed comes only where the sink's count of faults rose in this call. After a halt the configuration isn't used again.
 #[inline(always)]
 pub fn advance<S: WorldStore, O: Sink>(config: &mut Config<S>, out: &mut O) -> Result<(), Halt>

@@ -14,8 +14,8 @@ use wjs_store::WorldStore;
 /// Runs a configuration to its end, and writes its output as it comes, in pieces of at most 4,096 bytes.
 ///
 /// Done, Threw and StepsSpent come exactly where the meaning of the configuration ends so, and the actions that the store then
-/// tells are those of the meaning; SinkFailed comes only where the sink's count of faults rose in this call, with a front of the
-/// output written; OutOfMemory where memory ran out.
+/// tells are those of the meaning; what every turn keeps of the configuration is kept then. SinkFailed comes only where the sink's
+/// count of faults rose in this call, with a front of the output written; OutOfMemory where memory ran out.
 pub fn run<S: WorldStore, O: Sink>(config: &mut Config<S>, out: &mut O) -> Ending
     requires sound { Sound S.meaning config.old }
     ensures ends { RunsTo S.meaning (stream (O.held out.old) (O.held out.new) (O.faults out.old) (O.faults out.new)) config.old config.new result }

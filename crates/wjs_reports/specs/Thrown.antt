@@ -21,6 +21,8 @@ use Rattle.wjs_meaning.specs.Deeds.{St}
 use Rattle.wjs_meaning.specs.NativesOfObjects.{fault_text}
 use Rattle.wjs_meaning.specs.Programs.{shown_in, shown_text}
 use Rattle.wjs_model.specs.declared.config.Config.{Config}
+use Rattle.wjs_model.specs.Configurations.{Stays}
+use Rattle.wjs_model.specs.Soundness.{Base}
 
 -- the bytes are the text of the value by content, in the configuration's own first world and for its owner, in each state with its worlds and objects
 abbrev pub ShowsIn : {S : Type 0} → (S → Meaning) → Config S → NumberedValue → List ℕ → Type 0
@@ -29,6 +31,13 @@ ShowsIn meaning c value bytes = let t = c.heap.texts in (st : St) → st.full �
 -- the same in a run from the start
 abbrev pub Shows : {S : Type 0} → (S → Meaning) → Config S → NumberedValue → List ℕ → Type 0
 Shows meaning c value bytes = let t = c.heap.texts in (st : St) → st.full ≡ worlds_in t (worlds (meaning c.heap.store)) → st.arena ≡ arena_in t c.heap.arena → bytes ≡ utf8_of (shown_text (value_in t value) st)
+
+-- what is left of a configuration whose first world was read: all but its texts and its store is as it was, and a run may go on
+pub record Leaves {S : Type 0} (meaning : S → Meaning) (old new : Config S) : Type 0 where
+  pub same : new ≡ record old { heap = new.heap }
+  pub objects : new.heap.arena ≡ old.heap.arena
+  pub stays : Stays meaning old new
+  pub base : Base meaning new
 
 -- ---- by the worlds and the objects
 

@@ -1,27 +1,26 @@
 //! The text of a value that a run threw and nothing caught.
-ghost use Rattle.std.specs.Prelude.{◌≡◌, not, true, IfOk, IfSome, IsTrue};
+ghost use Rattle.std.specs.Prelude.{◌≡◌, true, IfOk, IfSome, OnOk};
 ghost use Rattle.std.specs.Option.{option_map};
-ghost use Rattle.wjs_base.specs.Text.{Table, Has};
+ghost use Rattle.wjs_base.specs.Text.{Table, Has, IsTable, Grows};
 ghost use Rattle.wjs_base.specs.Unicode.{utf8_of};
-ghost use Rattle.wjs_store.specs.State.{has_world};
 ghost use Rattle.wjs_store.specs.Shown.{content_of};
 ghost use Rattle.wjs_store.specs.Meaning.{worlds};
 ghost use Rattle.wjs_arena.specs.declared.class.Class.TheVariants as class;
-ghost use Rattle.wjs_arena.specs.Entries.{Objects, has};
+ghost use Rattle.wjs_arena.specs.Entries.{Objects};
 ghost use Rattle.wjs_content.specs.Tables.{text_in, value_in, content_in, arena_in, knows_value};
-ghost use Rattle.wjs_content.specs.Worlds.{worlds_in, KnowsWorlds};
+ghost use Rattle.wjs_content.specs.Worlds.{worlds_in};
 ghost use Rattle.wjs_content.specs.Conversions.{primitive_text};
-ghost use Rattle.wjs_heap.specs.Heap.{IsHeap, HasContent, Performs};
+ghost use Rattle.wjs_heap.specs.Heap.{HasContent, Performs};
 ghost use Rattle.wjs_heap.specs.Means.{parts};
 ghost use Rattle.wjs_content.specs.Properties as plan;
 ghost use Rattle.wjs_meaning.specs.Builtins.{shown_class};
 ghost use Rattle.wjs_meaning.specs.NativesOfObjects as line;
-ghost use Rattle.wjs_model.specs.Soundness.{Base, HasValue};
-ghost use Rattle.wjs_reports.specs.Thrown.{ShowsIn, shown_fault, shown_object, text_if};
+ghost use Rattle.wjs_model.specs.Soundness.{Base, HasObject, HasValue};
+ghost use Rattle.wjs_reports.specs.Thrown.{Leaves, ShowsIn, shown_fault, shown_object, text_if};
 
 use std::alloc::Global;
 use wjs_arena::Class;
-use wjs_base::{Content, ObjId, OutOfMemory, TextId, Texts, Value, WorldId, utf8_of_units};
+use wjs_base::{Content, ObjId, OutOfMemory, TextId, Texts, Value, utf8_of_units};
 use wjs_convert::to_text;
 use wjs_heap::Heap;
 use wjs_model::Config;
@@ -72,24 +71,23 @@ fn class_name(class: Class) -> &'static [u16]
     }
 }
 
-/// What [[Get]] finds under the name of these units (ECMA-262, 3rd edition, section 8.6.2.1).
+/// What [[Get]] finds in the configuration's first world under the name of these units (ECMA-262, 3rd edition, section 8.6.2.1).
 fn property<S: WorldStore>(
-    heap: &mut Heap<S>,
-    world: WorldId,
+    config: &mut Config<S>,
     object: ObjId,
     units: &[u16],
 ) -> Result<Content, OutOfMemory>
-    requires heap { IsHeap (parts S.meaning heap.old) }
-    requires world { IsTrue (has_world (worlds (S.meaning heap.old.store)) world) }
-    requires object { IsTrue (has heap.old.arena object) }
-    ensures gets { IfOk result (λ found. Performs world (λ t. plan.get (arena_in t heap.old.arena) object units.now) (λ t. content_in t found) (parts S.meaning heap.old) (parts S.meaning heap.new)) }
-    ensures found { IfOk result (λ found. HasContent heap.new.texts heap.new.arena (content_of found)) }
+    requires base { Base S.meaning config.old }
+    requires object { HasObject config.old object }
+    ensures gets { IfOk result (λ found. Performs config.old.world (λ t. plan.get (arena_in t config.old.heap.arena) object units.now) (λ t. content_in t found) (parts S.meaning config.old.heap) (parts S.meaning config.new.heap)) }
+    ensures leaves { OnOk result (Leaves S.meaning config.old config.new) }
+    ensures found { IfOk result (λ found. HasContent config.new.heap.texts config.new.heap.arena (content_of found)) }
 {
-    let Ok(id) = heap.texts.intern(units) else {
+    let Ok(id) = config.heap.texts.intern(units) else {
         return Err(OutOfMemory);
     };
-    let name = heap.texts.name_of(id);
-    let found = wjs_props::get(heap, world, object, name)?;
+    let name = config.heap.texts.name_of(id);
+    let found = wjs_props::get(&mut config.heap, config.world, object, name)?;
     Ok(found)
 }
 
@@ -134,49 +132,45 @@ fn fault_units<S: WorldStore>(
     fault_text(alloc, heap.texts.units(name), heap.texts.units(message))
 }
 
-/// The text of an error, whose name and message are found in the world.
+/// The text of an error, whose name and message are found in the configuration's first world.
 fn show_fault<S: WorldStore>(
-    heap: &mut Heap<S>,
-    world: WorldId,
+    config: &mut Config<S>,
     object: ObjId,
 ) -> Result<Vec<u8>, OutOfMemory>
-    requires heap { IsHeap (parts S.meaning heap.old) }
-    requires works { IsTrue (not (S.meaning heap.old.store).spent) }
-    requires marks { KnowsWorlds heap.old.texts (worlds (S.meaning heap.old.store)) }
-    requires world { IsTrue (has_world (worlds (S.meaning heap.old.store)) world) }
-    requires object { IsTrue (has heap.old.arena object) }
-    ensures { let t = heap.old.texts in IfOk result (λ bytes. bytes.items ≡ utf8_of (shown_fault (arena_in t heap.old.arena) (worlds_in t (worlds (S.meaning heap.old.store))) world object)) }
+    requires base { Base S.meaning config.old }
+    requires object { HasObject config.old object }
+    ensures shows { let t = config.old.heap.texts in IfOk result (λ bytes. bytes.items ≡ utf8_of (shown_fault (arena_in t config.old.heap.arena) (worlds_in t (worlds (S.meaning config.old.heap.store))) config.old.world object)) }
+    ensures leaves { OnOk result (Leaves S.meaning config.old config.new) }
 {
-    let name = property(heap, world, object, &NAME)?;
-    let message = property(heap, world, object, &MESSAGE)?;
-    let units = fault_units(heap, name, message)?;
-    utf8_of_units(heap.arena.allocator(), units.as_slice())
+    let name = property(config, object, &NAME)?;
+    let message = property(config, object, &MESSAGE)?;
+    let units = fault_units(&config.heap, name, message)?;
+    utf8_of_units(config.heap.arena.allocator(), units.as_slice())
 }
 
 /// The text of an object, by its class.
 fn show_object<S: WorldStore>(
-    heap: &mut Heap<S>,
-    world: WorldId,
+    config: &mut Config<S>,
     object: ObjId,
 ) -> Result<Vec<u8>, OutOfMemory>
-    requires heap { IsHeap (parts S.meaning heap.old) }
-    requires works { IsTrue (not (S.meaning heap.old.store).spent) }
-    requires marks { KnowsWorlds heap.old.texts (worlds (S.meaning heap.old.store)) }
-    requires world { IsTrue (has_world (worlds (S.meaning heap.old.store)) world) }
-    requires object { IsTrue (has heap.old.arena object) }
-    ensures { let t = heap.old.texts in IfOk result (λ bytes. bytes.items ≡ utf8_of (shown_object (arena_in t heap.old.arena) (worlds_in t (worlds (S.meaning heap.old.store))) world object)) }
+    requires base { Base S.meaning config.old }
+    requires object { HasObject config.old object }
+    ensures shows { let t = config.old.heap.texts in IfOk result (λ bytes. bytes.items ≡ utf8_of (shown_object (arena_in t config.old.heap.arena) (worlds_in t (worlds (S.meaning config.old.heap.store))) config.old.world object)) }
+    ensures leaves { OnOk result (Leaves S.meaning config.old config.new) }
 {
-    let class = heap.arena.object(object).class;
+    let class = config.heap.arena.object(object).class;
     match class {
-        Class::Fault => show_fault(heap, world, object),
-        _ => utf8_of_units(heap.arena.allocator(), class_name(class)),
+        Class::Fault => show_fault(config, object),
+        _ => utf8_of_units(config.heap.arena.allocator(), class_name(class)),
     }
 }
 
 /// The text of a primitive (ECMA-262, 3rd edition, section 9.8).
 fn show_primitive(alloc: Global, texts: &mut Texts, value: Value) -> Result<Vec<u8>, OutOfMemory>
     requires { knows_value texts.old value ≡ true }
-    ensures { IfOk result (λ bytes. bytes.items ≡ utf8_of (primitive_text (value_in texts.old value))) }
+    ensures shows { IfOk result (λ bytes. bytes.items ≡ utf8_of (primitive_text (value_in texts.old value))) }
+    ensures table { OnOk result (IsTable texts.new) }
+    ensures grows { Grows texts.old texts.new }
 {
     let id = to_text(alloc, texts, value)?;
     utf8_of_units(alloc, texts.units(id))
@@ -187,20 +181,22 @@ fn show_primitive(alloc: Global, texts: &mut Texts, value: Value) -> Result<Vec<
 /// Of a primitive it is what `String` makes of it. Of an error whose `name` and `message` are texts in the configuration's
 /// first world it is the name, and the message behind it where that isn't empty, as `Error.prototype.toString` puts them
 /// (ECMA-262, 3rd edition, section 15.11.4.4). Of another object it is the name of its class. No code of the script runs for
-/// it. A store that is spent has no text to give, and want of memory is answered.
+/// it. Of the configuration only the texts change, and the store, which was read: a run may go on afterwards. A store that is
+/// spent has no text to give, and want of memory is answered.
 pub fn show_thrown<S: WorldStore>(
     config: &mut Config<S>,
     value: Value,
 ) -> Result<Vec<u8>, OutOfMemory>
     requires base { Base S.meaning config.old }
     requires value { HasValue config.old value }
-    ensures { IfOk result (λ bytes. ShowsIn S.meaning config.old value bytes.items) }
+    ensures shows { IfOk result (λ bytes. ShowsIn S.meaning config.old value bytes.items) }
+    ensures leaves { OnOk result (Leaves S.meaning config.old config.new) }
 {
     if config.heap.store.is_spent() {
         return Err(OutOfMemory);
     }
     match value {
-        Value::Object(object) => show_object(&mut config.heap, config.world, object),
+        Value::Object(object) => show_object(config, object),
         _ => {
             let alloc = config.heap.arena.allocator();
             show_primitive(alloc, &mut config.heap.texts, value)

@@ -1,0 +1,3 @@
+pub mod Budget
+pub mod Objects
+pub mod Order

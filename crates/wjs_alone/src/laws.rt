@@ -1,0 +1,22 @@
+//! Laws of parts alone, of serial ends and of plays, each the contract of a function that does nothing.
+ghost use Rattle.wjs_alone.specs.Laws.{OneEnding, OwnObjectsAreLeftOut, OrderDecides, EndedTakeNoTurn};
+
+/// A part alone has one ending, one output and one final state, whatever budget it has that is enough.
+pub fn one_ending()
+    ensures { OneEnding }
+{}
+
+/// What a part does alone doesn't depend on objects of its owner that were there before.
+pub fn own_objects_are_left_out()
+    ensures { OwnObjectsAreLeftOut }
+{}
+
+/// Serial ends of the same runs, in the same order and with the same numbers of tries, are the same.
+pub fn order_decides()
+    ensures { OrderDecides }
+{}
+
+/// A turn for an activity that has ended, or for a number that no activity has, changes nothing.
+pub fn ended_take_no_turn()
+    ensures { EndedTakeNoTurn }
+{}
