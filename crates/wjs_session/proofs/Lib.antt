@@ -21,3 +21,4 @@ pub mod CallLaws
 pub mod StoreLaws
 pub mod AnswerLaws
 pub mod CommitCalls
+pub mod Leaving

@@ -12,7 +12,11 @@ use Rattle.wjs_store.specs.State.{World, is_touched, same_content, fault_in}
 use Rattle.wjs_store.proofs.Writes.{by_bool}
 use Rattle.wjs_session.specs.Session.{holding, world_at, first_copy, settled, outer, full_of, passes, session}
 use Rattle.wjs_session.specs.Kept.{IsShut, IsSession}
-use Rattle.wjs_session.specs.Returns.{Returns, WasAt, IsTheSame, RestChangesNothing}
+use Rattle.wjs_session.specs.Stores.{worlds_in}
+use Rattle.wjs_session.specs.Told.{told_of}
+use Rattle.wjs_session.specs.Returns.{Returns, IsTheSame, RestChangesNothing}
+use Rattle.wjs_session.specs.Resumed.{RestingStandsStill, RestingIsSound}
+use Rattle.wjs_session.specs.Sound.{sound_session}
 use Rattle.wjs_session.proofs.Acting.{fill_alike}
 use Rattle.wjs_session.specs.Maps.{get_outer}
 
@@ -62,5 +66,8 @@ resumed F' i G told m e = record {
   same = λ F b. (ap (λ (n : Meaning). n.full) e ∙ full_same F F' i b G, ap (λ (n : Meaning). n.admits) e ∙ passes_same F F' i b);
 }
 
-pub was_kept : (F' : Worlds) (i : WorldId) (G : Worlds) → WasAt F' i G → IsSession F' i G
-was_kept F' i G w = kept_same w.0 F' i w.2 G w.1
+pub stands_still : RestingStandsStill
+stands_still F F' r k b = (kept_same F F' r.world b (worlds_in r.inner) k, full_same F F' r.world b (worlds_in r.inner), passes_same F F' r.world b)
+
+pub is_sound : RestingIsSound
+is_sound F r k = sound_session F r.world (worlds_in r.inner) (told_of r.told.chain.value) false (λ e. k) refl

@@ -9,7 +9,9 @@ pub mod Told
 pub mod Begun
 pub mod Settled
 pub mod Returns
+pub mod Others
 pub mod Maps
 pub mod Fills
 pub mod Owned
 pub mod Sound
+pub mod Resumed

@@ -16,10 +16,6 @@ pub record Returns (F F' : Worlds) (i : WorldId) : Type 0 where
   pub marks : unseen (world_at F' i) ≡ unseen (world_at F i)
   pub holds : (s : Slot) → is_touched (world_at F i) s ≡ true → map.get (world_at F' i).copy s ≡ map.get (world_at F i).copy s
 
--- a session with these inner worlds was on the world i of some shared worlds, and it stands in F' as it stood there
-abbrev pub WasAt : Worlds → WorldId → Worlds → Type 0
-WasAt F' i G = (F : Worlds) × IsSession F i G × Returns F F' i
-
 -- the session on F' means the same under each view as over all shared worlds from which it returns, and admits the same
 pub record IsTheSame (F' : Worlds) (i : WorldId) (G : Worlds) (told : List (PlainAct × PlainReply)) (m : Meaning) : Type 0 where
   pub is : m ≡ session F' i G told false

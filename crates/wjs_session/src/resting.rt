@@ -23,17 +23,16 @@ pub struct Resting {
 
 impl Session {
     ghost use Rattle.std.specs.Prelude.{◌≡◌, false};
-    ghost use Rattle.wjs_session.specs.Session.{session};
-    ghost use Rattle.wjs_session.specs.Told.{told_of};
-    ghost use Rattle.wjs_session.specs.Kept.{IsSession};
+    ghost use Rattle.wjs_session.specs.Resumed.{Rests, resumed};
 
     /// Gives the shared store back until the session is resumed.
     pub fn rest(self) -> (Overlay, Resting)
         requires { self.spent ≡ false }
         ensures shared { worlds_in result.0 ≡ worlds_in self.shared }
         ensures works { result.0.spent ≡ false }
-        ensures stands { IsSession (worlds_in result.0) result.1.world (worlds_in result.1.inner) }
-        ensures same { ⟦<Session as WorldStore>⟧.meaning self ≡ session (worlds_in result.0) result.1.world (worlds_in result.1.inner) (told_of result.1.told.chain.value) false }
+        ensures world { result.1.world ≡ self.world }
+        ensures stands { Rests (worlds_in result.0) result.1 }
+        ensures same { ⟦<Session as WorldStore>⟧.meaning self ≡ resumed (worlds_in result.0) result.1 }
     {
         let Session {
             shared,
@@ -57,15 +56,16 @@ impl Session {
 
 impl Resting {
     ghost use Rattle.std.specs.Prelude.{◌≡◌, false};
-    ghost use Rattle.wjs_session.specs.Session.{session};
     ghost use Rattle.wjs_session.specs.Told.{told_of};
-    ghost use Rattle.wjs_session.specs.Returns.{WasAt, IsTheSame};
+    ghost use Rattle.wjs_session.specs.Returns.{IsTheSame};
+    ghost use Rattle.wjs_session.specs.Resumed.{Rests};
 
-    /// Goes on with the shared store. Whatever others did there meanwhile, the session means the same under each view as
-    /// before it rested, and admits the same views.
+    /// Goes on with the shared store, on whose worlds it must rest still: `turns_leave_others` and the laws beside it tell that
+    /// what others do leaves it so. It means the same under each view as before it rested, and admits the same views.
     pub fn resume(self, shared: Overlay) -> Session
         requires live { shared.spent ≡ false }
-        requires returns { WasAt (worlds_in shared) self.world (worlds_in self.inner) }
+        requires stands { Rests (worlds_in shared) self }
+        ensures world { result.world ≡ self.world }
         ensures same { IsTheSame (worlds_in shared) self.world (worlds_in self.inner) (told_of self.told.chain.value) (⟦<Session as WorldStore>⟧.meaning result) }
     {
         let Resting {
