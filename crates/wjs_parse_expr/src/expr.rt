@@ -9,6 +9,7 @@ ghost use Rattle.wjs_parse_expr.specs.Steps.{BinaryStep, CommaStep, CondStep, As
 ghost use Rattle.wjs_parse_expr.specs.Answers.{Answers, Steps, IsExpression, OperandAnswers, PartEnds, from};
 ghost use Rattle.wjs_parse_expr.specs.Table.{Holds, MayBegin};
 
+use crate::adds::add_postfix;
 use crate::found::{Found, ParseFault};
 use crate::functions::Functions;
 use crate::look::{assign_at, binary_at, has_sign, is_update, prefix_at, update_at};
@@ -138,13 +139,19 @@ pub fn assignment(
     };
     if has_sign(toks, left.next, Sign::Question) {
         let longer = choice(alloc, toks, left, no_in, room, functions, nodes)?;
-        return Ok(Some(longer.unwrap_or(left)));
+        return match longer {
+            Some(part) => Ok(Some(part)),
+            None => Ok(Some(left)),
+        };
     }
     if !left.is_target {
         return Ok(Some(left));
     }
     let longer = assigned(alloc, toks, left, no_in, room, functions, nodes)?;
-    Ok(Some(longer.unwrap_or(left)))
+    match longer {
+        Some(part) => Ok(Some(part)),
+        None => Ok(Some(left)),
+    }
 }
 
 /// The left operand with `?` and both choices, where these follow.
@@ -242,6 +249,7 @@ fn assigned(
 /// Left operands and operators of the level and of those that bind tighter, from the left to the right. The tightest are taken
 /// first, then the others level by level in one loop: a level that has no operator takes no stack.
 #[cycle(expression)]
+#[inline(always)]
 fn binary(
     alloc: Global,
     toks: &[Tok],
@@ -260,12 +268,12 @@ fn binary(
     ensures ends { PartEnds toks.now at nodes.new result }
     ensures answer { Answers (from toks.now functions.now nodes.old at) toks.now level no_in room at nodes.new result }
 {
-    if level > 12 {
-        return unary(alloc, toks, at, no_in, room, functions, nodes);
-    }
     let Some(mut left) = unary(alloc, toks, at, no_in, room, functions, nodes)? else {
         return Ok(None);
     };
+    if level > 12 {
+        return Ok(Some(left));
+    }
     let mut reached = 12;
     'levels: loop {
         if let Some(longer) = operation(
@@ -330,6 +338,7 @@ fn operation(
 
 /// An operand behind operators.
 #[cycle(expression)]
+#[inline(always)]
 fn unary(
     alloc: Global,
     toks: &[Tok],
@@ -386,6 +395,7 @@ fn prefixed(
 
 /// What an operator stands before: a target, where it is `++` or `--`.
 #[cycle(expression)]
+#[inline(always)]
 fn operand(
     alloc: Global,
     toks: &[Tok],
@@ -411,6 +421,7 @@ fn operand(
 
 /// A call, and a target with `++` or `--` behind it on its line.
 #[cycle(expression)]
+#[inline(always)]
 fn postfix(
     alloc: Global,
     toks: &[Tok],
@@ -436,7 +447,7 @@ fn postfix(
     let Some(op) = update_at(toks, left.next) else {
         return Ok(Some(left));
     };
-    let node = nodes.add(Node::Postfix(left.node, op))?;
+    let node = add_postfix(nodes, left.node, op)?;
     Ok(Some(Part {
         node,
         next: left.next + 1,

@@ -1,6 +1,7 @@
 //! Reads expressions from tokens.
 #![tactic(auto)]
 
+mod adds;
 mod expr;
 mod found;
 mod functions;

@@ -9,6 +9,7 @@ ghost use Rattle.wjs_parse_expr.specs.Answers.{Steps, ListAnswers, HeadAnswers, 
 ghost use Rattle.wjs_parse_expr.specs.Table.{Holds, MayBegin};
 ghost use Rattle.wjs_parse_expr.specs.declared.functions.Functions.{Functions};
 
+use crate::adds::{add_at, add_call, add_new_bare, add_new_with};
 use crate::expr::{assignment, comma};
 use crate::functions::Functions;
 use crate::look::{has_key, has_sign, spelt_at, token_at};
@@ -59,6 +60,7 @@ fn if_target(part: Part, last: Option<Part>) -> Option<Part>
 
 /// Names behind dots, indices, and arguments where calls are meant, from the left to the right.
 #[cycle(expression)]
+#[inline(always)]
 pub fn chain(
     alloc: Global,
     toks: &[Tok],
@@ -93,6 +95,7 @@ pub fn chain(
 
 /// `new` with what it makes, or a primary expression.
 #[cycle(expression)]
+#[inline(always)]
 fn beginning(
     alloc: Global,
     toks: &[Tok],
@@ -141,21 +144,11 @@ fn created(
     if room == 0 {
         return Ok(None);
     }
-    let Some(callee) = chain(
-        alloc,
-        toks,
-        at + 1,
-        false,
-        no_in,
-        room - 1,
-        functions,
-        nodes,
-    )?
-    else {
+    let Some(callee) = uncalled(alloc, toks, at + 1, no_in, room - 1, functions, nodes)? else {
         return Ok(None);
     };
     let Some(items) = given(alloc, toks, callee, room, functions, nodes)? else {
-        let node = nodes.add(Node::NewBare(callee.part.node))?;
+        let node = add_new_bare(nodes, callee.part.node)?;
         let part = Part {
             node,
             next: callee.part.next,
@@ -167,7 +160,7 @@ fn created(
         }));
     };
     let next = items.next + 1;
-    let node = nodes.add(Node::NewWith(callee.part.node, items.list))?;
+    let node = add_new_with(nodes, callee.part.node, items.list)?;
     let part = Part {
         node,
         next,
@@ -177,6 +170,27 @@ fn created(
         part,
         is_bare: false,
     }))
+}
+
+/// Names behind dots and indices, without calls, from the left to the right.
+#[cycle(expression)]
+#[inline(never)]
+fn uncalled(
+    alloc: Global,
+    toks: &[Tok],
+    at: usize,
+    no_in: bool,
+    room: u64,
+    functions: &Functions,
+    nodes: &mut Nodes,
+) -> Result<Option<Head>, OutOfMemory>
+    requires held { Holds toks.now functions.now at room nodes.old }
+    requires may_begin { MayBegin toks.now at }
+    ensures keeps { Keeps nodes.old nodes.new }
+    ensures ends { HeadEnds toks.now at nodes.new result }
+    ensures answer { ChainAnswers (from toks.now functions.now nodes.old at) toks.now false no_in room at nodes.new result }
+{
+    chain(alloc, toks, at, false, no_in, room, functions, nodes)
 }
 
 /// The arguments for what `new` makes, where they follow.
@@ -206,6 +220,7 @@ fn given(
 
 /// The base with what follows it: a name behind a dot, an index or arguments.
 #[cycle(expression)]
+#[inline(always)]
 fn suffix(
     alloc: Global,
     toks: &[Tok],
@@ -237,6 +252,7 @@ fn suffix(
 }
 
 /// The base with a dot and a name.
+#[inline(never)]
 fn named(
     toks: &[Tok],
     left: Part,
@@ -264,6 +280,7 @@ fn named(
 
 /// The base with an index in brackets.
 #[cycle(expression)]
+#[inline(never)]
 fn indexed(
     alloc: Global,
     toks: &[Tok],
@@ -296,7 +313,7 @@ fn indexed(
     if !has_sign(toks, place.next, Sign::CloseBracket) {
         return Ok(None);
     }
-    let node = nodes.add(Node::At(left.node, place.node))?;
+    let node = add_at(nodes, left.node, place.node)?;
     Ok(Some(Part {
         node,
         next: place.next + 1,
@@ -306,6 +323,7 @@ fn indexed(
 
 /// The base with arguments, where calls are meant.
 #[cycle(expression)]
+#[inline(never)]
 fn called(
     alloc: Global,
     toks: &[Tok],
@@ -330,7 +348,7 @@ fn called(
         return Ok(None);
     };
     let next = items.next + 1;
-    let node = nodes.add(Node::Call(left.node, items.list))?;
+    let node = add_call(nodes, left.node, items.list)?;
     Ok(Some(Part {
         node,
         next,
@@ -340,6 +358,7 @@ fn called(
 
 /// Arguments up to the closing parenthesis.
 #[cycle(expression)]
+#[inline(always)]
 fn arguments(
     alloc: Global,
     toks: &[Tok],

@@ -9,6 +9,7 @@ ghost use Rattle.wjs_parse_expr.specs.Answers.{Answers, Adds, FunctionAnswers, I
 ghost use Rattle.wjs_parse_expr.specs.Reserved.{kind_of};
 ghost use Rattle.wjs_parse_expr.specs.Table.{Holds, MayBegin};
 
+use crate::adds::{add_array, add_object, add_paren};
 use crate::expr::{assignment, comma};
 use crate::functions::Functions;
 use crate::look::{has_sign, property_at, token_at};
@@ -46,6 +47,7 @@ fn kind_of(key: Key) -> Reserved
 
 /// A name, a literal, a function, or what stands in brackets.
 #[cycle(expression)]
+#[inline(always)]
 pub fn primary(
     alloc: Global,
     toks: &[Tok],
@@ -182,6 +184,7 @@ fn function(
 
 /// An expression in parentheses.
 #[cycle(expression)]
+#[inline(never)]
 fn parens(
     alloc: Global,
     toks: &[Tok],
@@ -204,7 +207,7 @@ fn parens(
     if !has_sign(toks, inner.next, Sign::CloseParen) {
         return Ok(None);
     }
-    let node = nodes.add(Node::Paren(inner.node))?;
+    let node = add_paren(nodes, inner.node)?;
     Ok(Some(Part {
         node,
         next: inner.next + 1,
@@ -235,7 +238,7 @@ fn array(
         return Ok(None);
     };
     let next = found.next + 1;
-    let node = nodes.add(Node::ArrayLit(found.list, found.tail))?;
+    let node = add_array(nodes, found.list, found.tail)?;
     Ok(Some(Part {
         node,
         next,
@@ -318,7 +321,7 @@ fn object(
         return Ok(None);
     };
     let next = found.next + 1;
-    let node = nodes.add(Node::ObjectLit(found.list, found.comma))?;
+    let node = add_object(nodes, found.list, found.comma)?;
     Ok(Some(Part {
         node,
         next,

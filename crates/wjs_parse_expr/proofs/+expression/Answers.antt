@@ -7,7 +7,7 @@ use Rattle.wjs_tree.specs.Operators.{prefix_token, update_token}
 use Rattle.wjs_tree.specs.Ends.{HasSign}
 use Rattle.wjs_tree.proofs.Kept.{keeps_both, keeps_self}
 use Rattle.wjs_parse_expr.specs.Steps.{BinaryStep, CommaStep}
-use Rattle.wjs_parse_expr.specs.Answers.{from, Answers, Finds}
+use Rattle.wjs_parse_expr.specs.Answers.{from, Finds}
 use Rattle.wjs_parse_expr.proofs.Readings.{token_within, not_false, not_true}
 use Rattle.wjs_parse_expr.proofs.Owning.{begun, own_both}
 use Rattle.wjs_parse_expr.proofs.Growth.{at_begin, at_step, at_end, nothing}
@@ -32,7 +32,7 @@ expr::binary-levels-init t c =
     let f = rw c.in-Some.is at c.in_ok-left.ensures.answer in
     let lo : 3 ≤ 12 = omega arith in
     let hi : 12 ≤ 12 = omega arith in
-    (at_begin (from c.args.toks.now c.args.functions.now c.args.nodes.now c.args.at) c.args.toks.now c.args.no_in c.args.room c.args.at 13 12 (BinaryStep c.args.toks.now 12 c.args.no_in c.args.room) (binary_loop c.args.toks.now c.args.no_in c.args.room c.args.at 12 lo hi) c.unary-2.new.nodes c.in-Some.left f, c.in_ok-left.ensures.keeps, rw c.in-Some.is at c.in_ok-left.ensures.ends, omega arith, omega arith)
+    (at_begin (from c.args.toks.now c.args.functions.now c.args.nodes.now c.args.at) c.args.toks.now c.args.no_in c.args.room c.args.at 13 12 (BinaryStep c.args.toks.now 12 c.args.no_in c.args.room) (binary_loop c.args.toks.now c.args.no_in c.args.room c.args.at 12 lo hi) c.unary.new.nodes c.in-Some.left f, c.in_ok-left.ensures.keeps, rw c.in-Some.is at c.in_ok-left.ensures.ends, omega arith, omega arith)
 
 pub expr::binary-levels-preserved-in-Some-2 : goal.expr::binary-levels-preserved-in-Some-2
 expr::binary-levels-preserved-in-Some-2 t c =
@@ -125,29 +125,45 @@ pub member::indexed-returns-clause-answer : goal.member::indexed-returns-clause-
 member::indexed-returns-clause-answer t c =
     let f = rw c.in-Some.is at c.in_ok-place.ensures.answer in
     let s : HasSign c.args.toks.now c.in-Some.place.next signs.CloseBracket = c.has_sign.ensures.0 c.if-not-has_sign.false in
-    at_grows c.args.toks.now c.args.calls c.args.room c.args.functions.now c.args.left c.in-Some.place c.in_ok-node.node c.args.nodes.now c.comma.new.nodes c.add.new.self c.requires.sign s c.requires.below c.in_ok-place.ensures.keeps c.in_ok-node.ensures.keeps f c.in_ok-node.ensures.has c.in_ok-node.ensures.ok
+    at_grows c.args.toks.now c.args.calls c.args.room c.args.functions.now c.args.left c.in-Some.place c.in_ok-node.node c.args.nodes.now c.comma.new.nodes c.add_at.new.nodes c.requires.sign s c.requires.below c.in_ok-place.ensures.keeps c.in_ok-node.ensures.keeps f c.in_ok-node.ensures.has c.in_ok-node.ensures.ok
 
 pub member::called-returns-clause-answer : goal.member::called-returns-clause-answer
 member::called-returns-clause-answer t c =
     let f = rw c.in-Some.is at c.in_ok-items.ensures.answer in
-    call_grows c.args.toks.now c.args.calls c.args.room c.args.functions.now c.args.left c.in-Some.items c.in_ok-node.node c.args.nodes.now c.arguments.new.nodes c.add.new.self c.if-not-calls.false c.requires.sign c.requires.below c.in_ok-items.ensures.keeps c.in_ok-node.ensures.keeps f c.in_ok-node.ensures.has c.in_ok-node.ensures.ok
+    call_grows c.args.toks.now c.args.calls c.args.room c.args.functions.now c.args.left c.in-Some.items c.in_ok-node.node c.args.nodes.now c.arguments.new.nodes c.add_call.new.nodes c.if-not-calls.false c.requires.sign c.requires.below c.in_ok-items.ensures.keeps c.in_ok-node.ensures.keeps f c.in_ok-node.ensures.has c.in_ok-node.ensures.ok
 
 pub expr::assignment-returns-in_default-clause-answer : goal.expr::assignment-returns-in_default-clause-answer
 expr::assignment-returns-in_default-clause-answer t c =
     let f = rw c.in_default.is at c.in_ok-left.ensures.answer in
     no_reading (from c.args.toks.now c.args.functions.now c.args.nodes.now c.args.at) c.args.toks.now c.args.no_in c.args.room c.args.at 3 1 (RightStep c.args.toks.now c.args.no_in c.args.room) (right_step c.args.toks.now c.args.no_in c.args.room c.args.at) f
 
-pub expr::assignment-returns-then-has_sign-clause-answer : goal.expr::assignment-returns-then-has_sign-clause-answer
-expr::assignment-returns-then-has_sign-clause-answer t c =
+pub expr::assignment-returns-in-Some-longer-clause-answer : goal.expr::assignment-returns-in-Some-longer-clause-answer
+expr::assignment-returns-in-Some-longer-clause-answer t c =
     let f = rw c.in-Some.is at c.in_ok-left.ensures.answer in
     let e = rw c.in-Some.is at c.in_ok-left.ensures.ends in
-    with_choice (from c.args.toks.now c.args.functions.now c.args.nodes.now c.args.at) c.args.toks.now c.args.no_in c.args.room c.args.at c.binary.new.nodes c.choice.new.nodes c.in-Some.left (begun c.args.toks.now c.args.functions.now c.args.nodes.now c.binary.new.nodes c.args.at c.in-Some.left.next c.args.at c.args.room c.requires.held c.in_ok-left.ensures.keeps (let x = e.0 in omega arith)) f c.in_ok-longer.ensures.keeps (c.has_sign.ensures.0 c.if-has_sign.true) c.in_ok-longer.longer c.in_ok-longer.ensures.answer c.unwrap_or.result c.unwrap_or.ensures
+    let g = rw c.in-Some-longer.is at c.in_ok-longer.ensures.answer in
+    with_choice (from c.args.toks.now c.args.functions.now c.args.nodes.now c.args.at) c.args.toks.now c.args.no_in c.args.room c.args.at c.binary.new.nodes c.choice.new.nodes c.in-Some.left (begun c.args.toks.now c.args.functions.now c.args.nodes.now c.binary.new.nodes c.args.at c.in-Some.left.next c.args.at c.args.room c.requires.held c.in_ok-left.ensures.keeps (let x = e.0 in omega arith)) f c.in_ok-longer.ensures.keeps (c.has_sign.ensures.0 c.if-has_sign.true) (Some c.in-Some-longer.part) g c.in-Some-longer.part refl
 
-pub expr::assignment-returns-clause-answer : goal.expr::assignment-returns-clause-answer
-expr::assignment-returns-clause-answer t c =
+pub expr::assignment-returns-in-None-clause-answer : goal.expr::assignment-returns-in-None-clause-answer
+expr::assignment-returns-in-None-clause-answer t c =
     let f = rw c.in-Some.is at c.in_ok-left.ensures.answer in
     let e = rw c.in-Some.is at c.in_ok-left.ensures.ends in
-    with_assignment (from c.args.toks.now c.args.functions.now c.args.nodes.now c.args.at) c.args.toks.now c.args.no_in c.args.room c.args.at c.binary.new.nodes c.assigned.new.nodes c.in-Some.left (begun c.args.toks.now c.args.functions.now c.args.nodes.now c.binary.new.nodes c.args.at c.in-Some.left.next c.args.at c.args.room c.requires.held c.in_ok-left.ensures.keeps (let x = e.0 in omega arith)) f c.in_ok-longer-2.ensures.keeps (λ h. absurd (let a = c.has_sign.ensures.1 h in let b = c.if-has_sign.false in cc)) (not_false _ c.if-not-left.false) c.in_ok-longer-2.longer c.in_ok-longer-2.ensures.answer c.unwrap_or-2.result c.unwrap_or-2.ensures
+    let g = rw c.in-None.is at c.in_ok-longer.ensures.answer in
+    with_choice (from c.args.toks.now c.args.functions.now c.args.nodes.now c.args.at) c.args.toks.now c.args.no_in c.args.room c.args.at c.binary.new.nodes c.choice.new.nodes c.in-Some.left (begun c.args.toks.now c.args.functions.now c.args.nodes.now c.binary.new.nodes c.args.at c.in-Some.left.next c.args.at c.args.room c.requires.held c.in_ok-left.ensures.keeps (let x = e.0 in omega arith)) f c.in_ok-longer.ensures.keeps (c.has_sign.ensures.0 c.if-has_sign.true) None g c.in-Some.left refl
+
+pub expr::assignment-returns-in-Some-longer-2-clause-answer : goal.expr::assignment-returns-in-Some-longer-2-clause-answer
+expr::assignment-returns-in-Some-longer-2-clause-answer t c =
+    let f = rw c.in-Some.is at c.in_ok-left.ensures.answer in
+    let e = rw c.in-Some.is at c.in_ok-left.ensures.ends in
+    let g = rw c.in-Some-longer-2.is at c.in_ok-longer-2.ensures.answer in
+    with_assignment (from c.args.toks.now c.args.functions.now c.args.nodes.now c.args.at) c.args.toks.now c.args.no_in c.args.room c.args.at c.binary.new.nodes c.assigned.new.nodes c.in-Some.left (begun c.args.toks.now c.args.functions.now c.args.nodes.now c.binary.new.nodes c.args.at c.in-Some.left.next c.args.at c.args.room c.requires.held c.in_ok-left.ensures.keeps (let x = e.0 in omega arith)) f c.in_ok-longer-2.ensures.keeps (λ h. absurd (let a = c.has_sign.ensures.1 h in let b = c.if-has_sign.false in cc)) (not_false _ c.if-not-left.false) (Some c.in-Some-longer-2.part) g c.in-Some-longer-2.part refl
+
+pub expr::assignment-returns-in-None-longer-clause-answer : goal.expr::assignment-returns-in-None-longer-clause-answer
+expr::assignment-returns-in-None-longer-clause-answer t c =
+    let f = rw c.in-Some.is at c.in_ok-left.ensures.answer in
+    let e = rw c.in-Some.is at c.in_ok-left.ensures.ends in
+    let g = rw c.in-None-longer.is at c.in_ok-longer-2.ensures.answer in
+    with_assignment (from c.args.toks.now c.args.functions.now c.args.nodes.now c.args.at) c.args.toks.now c.args.no_in c.args.room c.args.at c.binary.new.nodes c.assigned.new.nodes c.in-Some.left (begun c.args.toks.now c.args.functions.now c.args.nodes.now c.binary.new.nodes c.args.at c.in-Some.left.next c.args.at c.args.room c.requires.held c.in_ok-left.ensures.keeps (let x = e.0 in omega arith)) f c.in_ok-longer-2.ensures.keeps (λ h. absurd (let a = c.has_sign.ensures.1 h in let b = c.if-has_sign.false in cc)) (not_false _ c.if-not-left.false) None g c.in-Some.left refl
 
 pub expr::assignment-returns-then-not-left-clause-answer : goal.expr::assignment-returns-then-not-left-clause-answer
 expr::assignment-returns-then-not-left-clause-answer t c =
@@ -200,7 +216,7 @@ expr::postfix-returns-clause-answer t c =
     let f = rw c.in-Some.is at c.in_ok-head.ensures.answer in
     let e = rw c.in-Some.is at c.in_ok-head.ensures.ends in
     let w = c.in-Some-update_at.ensures in
-    with_postfix (from c.args.toks.now c.args.functions.now c.args.nodes.now c.args.at) c.args.toks.now c.args.no_in c.args.room c.args.at c.chain.new.nodes c.add.new.self c.in-Some.head.part c.in-Some-update_at.op c.in_ok-node.node (begun c.args.toks.now c.args.functions.now c.args.nodes.now c.chain.new.nodes c.args.at c.in-Some.head.part.next c.args.at c.args.room c.requires.held c.in_ok-head.ensures.keeps (let x = e.0 in omega arith)) (chain_found (from c.args.toks.now c.args.functions.now c.args.nodes.now c.args.at) c.args.toks.now c.args.no_in c.args.room c.args.at c.chain.new.nodes c.in-Some.head f) c.in_ok-node.ensures.keeps w.0 (not_false _ c.if-not-left.false) w.1 c.in_ok-node.ensures.has c.in_ok-node.ensures.ok
+    with_postfix (from c.args.toks.now c.args.functions.now c.args.nodes.now c.args.at) c.args.toks.now c.args.no_in c.args.room c.args.at c.chain.new.nodes c.add_postfix.new.nodes c.in-Some.head.part c.in-Some-update_at.op c.in_ok-node.node (begun c.args.toks.now c.args.functions.now c.args.nodes.now c.chain.new.nodes c.args.at c.in-Some.head.part.next c.args.at c.args.room c.requires.held c.in_ok-head.ensures.keeps (let x = e.0 in omega arith)) (chain_found (from c.args.toks.now c.args.functions.now c.args.nodes.now c.args.at) c.args.toks.now c.args.no_in c.args.room c.args.at c.chain.new.nodes c.in-Some.head f) c.in_ok-node.ensures.keeps w.0 (not_false _ c.if-not-left.false) w.1 c.in_ok-node.ensures.has c.in_ok-node.ensures.ok
 
 pub expr::postfix-overflow_add-result : goal.expr::postfix-overflow_add-result
 expr::postfix-overflow_add-result t c =
@@ -286,13 +302,13 @@ pub member::created-returns-clause-answer : goal.member::created-returns-clause-
 member::created-returns-clause-answer t c =
     let f = rw c.in-Some.is at c.in_ok-callee.ensures.answer in
     let g = rw c.in-Some-2.is at c.in_ok-items.ensures.answer in
-    created_with c.args.functions.now c.args.nodes.now c.args.toks.now c.args.no_in c.args.room c.args.at c.args.at c.args.room c.requires.held c.chain.new.nodes c.given.new.nodes c.add-2.new.self c.in-Some.callee c.in-Some-2.items c.in_ok-node-2.node c.requires.key (omega arith) f c.in_ok-callee.ensures.keeps c.in_ok-items.ensures.keeps c.in_ok-node-2.ensures.keeps g c.in_ok-node-2.ensures.has c.in_ok-node-2.ensures.ok
+    created_with c.args.functions.now c.args.nodes.now c.args.toks.now c.args.no_in c.args.room c.args.at c.args.at c.args.room c.requires.held c.uncalled.new.nodes c.given.new.nodes c.add_new_with.new.nodes c.in-Some.callee c.in-Some-2.items c.in_ok-node-2.node c.requires.key (omega arith) f c.in_ok-callee.ensures.keeps c.in_ok-items.ensures.keeps c.in_ok-node-2.ensures.keeps g c.in_ok-node-2.ensures.has c.in_ok-node-2.ensures.ok
 
 pub member::created-returns-in_default-2-clause-answer : goal.member::created-returns-in_default-2-clause-answer
 member::created-returns-in_default-2-clause-answer t c =
     let f = rw c.in-Some.is at c.in_ok-callee.ensures.answer in
     let g = rw c.in_default-2.is at c.in_ok-items.ensures.answer in
-    created_bare c.args.functions.now c.args.nodes.now c.args.toks.now c.args.no_in c.args.room c.args.at c.args.at c.args.room c.requires.held c.chain.new.nodes c.given.new.nodes c.add.new.self c.in-Some.callee c.in_ok-node.node c.requires.key (omega arith) f c.in_ok-callee.ensures.keeps c.in_ok-items.ensures.keeps c.in_ok-node.ensures.keeps g c.in_ok-node.ensures.has c.in_ok-node.ensures.ok
+    created_bare c.args.functions.now c.args.nodes.now c.args.toks.now c.args.no_in c.args.room c.args.at c.args.at c.args.room c.requires.held c.uncalled.new.nodes c.given.new.nodes c.add_new_bare.new.nodes c.in-Some.callee c.in_ok-node.node c.requires.key (omega arith) f c.in_ok-callee.ensures.keeps c.in_ok-items.ensures.keeps c.in_ok-node.ensures.keeps g c.in_ok-node.ensures.has c.in_ok-node.ensures.ok
 
 pub member::created-returns-in_default-clause-answer : goal.member::created-returns-in_default-clause-answer
 member::created-returns-in_default-clause-answer t c =
@@ -338,9 +354,10 @@ expr::binary-operation-requires t c =
 
 pub expr::binary-returns-then-level-gt12-clause-answer : goal.expr::binary-returns-then-level-gt12-clause-answer
 expr::binary-returns-then-level-gt12-clause-answer t c =
+    let f = rw c.in-Some.is at c.in_ok-left.ensures.answer in
     let h = c.requires.high in
     let e : 13 ≡ c.args.level = omega arith in
-    subst (λ z. Answers (from c.args.toks.now c.args.functions.now c.args.nodes.now c.args.at) c.args.toks.now z c.args.no_in c.args.room c.args.at c.unary.new.nodes c.unary.result) e c.unary.ensures.answer
+    subst (λ z. Finds (from c.args.toks.now c.args.functions.now c.args.nodes.now c.args.at) c.args.toks.now z c.args.no_in c.args.room c.args.at c.unary.new.nodes c.in-Some.left) e f
 
 pub expr::comma-after_comma-requires : goal.expr::comma-after_comma-requires
 expr::comma-after_comma-requires t c =
@@ -366,8 +383,8 @@ expr::operation-binary-requires t c =
 pub expr::prefixed-operand-requires : goal.expr::prefixed-operand-requires
 expr::prefixed-operand-requires t c = (search rules, (held c.args.toks.now c.args.functions.now c.args.at (c.args.at + 1) c.args.room (c.args.room - 1) c.args.nodes.now c.args.nodes.now c.requires.held (keeps_self c.args.nodes.now) (omega arith) (omega arith), behind_prefix c.args.toks.now c.args.at c.args.op c.requires.operator))
 
-pub member::created-chain-requires : goal.member::created-chain-requires
-member::created-chain-requires t c = (search rules, (held c.args.toks.now c.args.functions.now c.args.at (c.args.at + 1) c.args.room (c.args.room - 1) c.args.nodes.now c.args.nodes.now c.requires.held (keeps_self c.args.nodes.now) (omega arith) (omega arith), behind_key c.args.toks.now c.args.at keys.New c.requires.key))
+pub member::created-uncalled-requires : goal.member::created-uncalled-requires
+member::created-uncalled-requires t c = (search rules, (held c.args.toks.now c.args.functions.now c.args.at (c.args.at + 1) c.args.room (c.args.room - 1) c.args.nodes.now c.args.nodes.now c.requires.held (keeps_self c.args.nodes.now) (omega arith) (omega arith), behind_key c.args.toks.now c.args.at keys.New c.requires.key))
 
 pub primary::parens-comma-requires : goal.primary::parens-comma-requires
 primary::parens-comma-requires t c = (search rules, (held c.args.toks.now c.args.functions.now c.args.at (c.args.at + 1) c.args.room (c.args.room - 1) c.args.nodes.now c.args.nodes.now c.requires.held (keeps_self c.args.nodes.now) (omega arith) (omega arith), behind_sign c.args.toks.now c.args.at signs.OpenParen c.requires.sign (λ e. cc)))
@@ -378,7 +395,7 @@ primary::property-assignment-requires t c = (search rules, (held c.args.toks.now
 pub member::created-given-requires : goal.member::created-given-requires
 member::created-given-requires t c =
     let e = rw c.in-Some.is at c.in_ok-callee.ensures.ends in
-    (search rules, ((omega arith), held c.args.toks.now c.args.functions.now c.args.at (c.in-Some.callee.part.next) c.args.room (c.args.room) c.args.nodes.now c.chain.new.nodes c.requires.held c.in_ok-callee.ensures.keeps (let x = e.0 in omega arith) (omega arith)))
+    (search rules, ((omega arith), held c.args.toks.now c.args.functions.now c.args.at (c.in-Some.callee.part.next) c.args.room (c.args.room) c.args.nodes.now c.uncalled.new.nodes c.requires.held c.in_ok-callee.ensures.keeps (let x = e.0 in omega arith) (omega arith)))
 
 pub member::given-arguments-requires : goal.member::given-arguments-requires
 member::given-arguments-requires t c = (search rules, (c.requires.below, (held c.args.toks.now c.args.functions.now c.args.callee.part.next (c.args.callee.part.next + 1) c.args.room (c.args.room) c.args.nodes.now c.args.nodes.now c.requires.held (keeps_self c.args.nodes.now) (omega arith) (omega arith), behind_sign c.args.toks.now c.args.callee.part.next signs.OpenParen (c.has_sign.ensures.0 c.if-not-has_sign.false) (λ e. cc))))
@@ -418,7 +435,7 @@ primary::parens-returns-clause-ends t c =
 pub primary::parens-returns-clause-answer : goal.primary::parens-returns-clause-answer
 primary::parens-returns-clause-answer t c =
     let f = rw c.in-Some.is at c.in_ok-inner.ensures.answer in
-    parens_found c.args.functions.now c.args.nodes.now c.args.at c.args.room c.args.toks.now c.args.no_in c.args.room c.args.at c.comma.new.nodes c.add.new.self c.in-Some.inner c.in_ok-node.node c.requires.held c.requires.sign c.requires.below f (c.has_sign.ensures.0 c.if-not-has_sign.false) c.in_ok-inner.ensures.keeps c.in_ok-node.ensures.keeps c.in_ok-node.ensures.has c.in_ok-node.ensures.ok
+    parens_found c.args.functions.now c.args.nodes.now c.args.at c.args.room c.args.toks.now c.args.no_in c.args.room c.args.at c.comma.new.nodes c.add_paren.new.nodes c.in-Some.inner c.in_ok-node.node c.requires.held c.requires.sign c.requires.below f (c.has_sign.ensures.0 c.if-not-has_sign.false) c.in_ok-inner.ensures.keeps c.in_ok-node.ensures.keeps c.in_ok-node.ensures.has c.in_ok-node.ensures.ok
 
 pub primary::parens-returns-in_default-clause-answer : goal.primary::parens-returns-in_default-clause-answer
 primary::parens-returns-in_default-clause-answer t c =
@@ -488,12 +505,12 @@ member::arguments-returns-then-not-has_sign-clause-answer t c =
 pub primary::array-returns-clause-answer : goal.primary::array-returns-clause-answer
 primary::array-returns-clause-answer t c =
     let f = rw c.in-Some.is at c.in_ok-found.ensures.answer in
-    array_found c.args.functions.now c.args.nodes.now c.args.at c.args.room c.args.toks.now c.args.no_in c.args.room c.args.at c.items.new.nodes c.add.new.self c.in-Some.found c.in_ok-node.node c.requires.held c.requires.sign f c.in_ok-found.ensures.keeps c.in_ok-node.ensures.keeps c.in_ok-node.ensures.has c.in_ok-node.ensures.ok
+    array_found c.args.functions.now c.args.nodes.now c.args.at c.args.room c.args.toks.now c.args.no_in c.args.room c.args.at c.items.new.nodes c.add_array.new.nodes c.in-Some.found c.in_ok-node.node c.requires.held c.requires.sign f c.in_ok-found.ensures.keeps c.in_ok-node.ensures.keeps c.in_ok-node.ensures.has c.in_ok-node.ensures.ok
 
 pub primary::object-returns-clause-answer : goal.primary::object-returns-clause-answer
 primary::object-returns-clause-answer t c =
     let f = rw c.in-Some.is at c.in_ok-found.ensures.answer in
-    object_found c.args.functions.now c.args.nodes.now c.args.at c.args.room c.args.toks.now c.args.no_in c.args.room c.args.at c.properties.new.nodes c.add.new.self c.in-Some.found c.in_ok-node.node c.requires.held c.requires.sign f c.in_ok-found.ensures.keeps c.in_ok-node.ensures.keeps c.in_ok-node.ensures.has c.in_ok-node.ensures.ok
+    object_found c.args.functions.now c.args.nodes.now c.args.at c.args.room c.args.toks.now c.args.no_in c.args.room c.args.at c.properties.new.nodes c.add_object.new.nodes c.in-Some.found c.in_ok-node.node c.requires.held c.requires.sign f c.in_ok-found.ensures.keeps c.in_ok-node.ensures.keeps c.in_ok-node.ensures.has c.in_ok-node.ensures.ok
 
 pub primary::items-loop-alloc-init : goal.primary::items-loop-alloc-init
 primary::items-loop-alloc-init t c = (items_start (from c.args.toks.now c.args.functions.now c.args.nodes.now c.args.at) (from c.args.toks.now c.args.functions.now c.args.nodes.now c.args.at) c.args.toks.now c.args.room c.args.at c.args.nodes.now c.new-list.result.items c.new-list.ensures.items, keeps_self _, (omega arith), rw c.new-list.ensures.items tt, c.requires.may_begin)

@@ -53,6 +53,9 @@ decreases-member::beginning l = l.room * 40 + 13
 abbrev pub decreases-member::created : goal.decreases-member::created
 decreases-member::created l = l.room * 40 + 12
 
+abbrev pub decreases-member::uncalled : goal.decreases-member::uncalled
+decreases-member::uncalled l = l.room * 40 + 15
+
 abbrev pub decreases-member::given : goal.decreases-member::given
 decreases-member::given l = l.room * 40 + 11
 
