@@ -23,6 +23,7 @@ use wjs_tree::{Clause, Handler, Key, Node, Nodes, Sequence, Sign, Tok};
 
 /// `if`, with all that stands behind its `else`s.
 #[cycle(statement)]
+#[inline(never)]
 pub fn conditional(
     alloc: Global,
     toks: &[Tok],
@@ -104,6 +105,7 @@ fn branch(
 
 /// `switch`.
 #[cycle(statement)]
+#[inline(never)]
 pub fn cases(
     alloc: Global,
     toks: &[Tok],
@@ -203,6 +205,7 @@ fn arm(
 
 /// `try`, with `catch`, `finally` or both.
 #[cycle(statement)]
+#[inline(never)]
 pub fn trial(
     alloc: Global,
     toks: &[Tok],
@@ -241,6 +244,7 @@ pub fn trial(
 
 /// `try` whose block is read, with `catch` and perhaps `finally`.
 #[cycle(statement)]
+#[inline(never)]
 fn caught(
     alloc: Global,
     toks: &[Tok],

@@ -23,6 +23,7 @@ use wjs_tree::{ForInit, Key, Node, Nodes, Sign, Tok};
 
 /// `while`.
 #[cycle(statement)]
+#[inline(never)]
 pub fn repeated(
     alloc: Global,
     toks: &[Tok],
@@ -55,6 +56,7 @@ pub fn repeated(
 
 /// `do` with its statement, `while` with its test, and the end.
 #[cycle(statement)]
+#[inline(never)]
 pub fn until(
     alloc: Global,
     toks: &[Tok],
@@ -93,6 +95,7 @@ pub fn until(
 
 /// `for`, by its header.
 #[cycle(statement)]
+#[inline(never)]
 pub fn counted(
     alloc: Global,
     toks: &[Tok],
@@ -123,6 +126,7 @@ pub fn counted(
 
 /// `for` over the names of an object, each in a variable.
 #[cycle(statement)]
+#[inline(never)]
 fn each_variable(
     alloc: Global,
     toks: &[Tok],
@@ -170,6 +174,7 @@ fn each_variable(
 
 /// `for` whose header begins with variables.
 #[cycle(statement)]
+#[inline(never)]
 fn by_variables(
     alloc: Global,
     toks: &[Tok],
@@ -205,6 +210,7 @@ fn by_variables(
 
 /// `for` whose header begins with an expression or nothing.
 #[cycle(statement)]
+#[inline(always)]
 fn by_value(
     alloc: Global,
     toks: &[Tok],
@@ -237,6 +243,7 @@ fn by_value(
 
 /// `for` whose header begins with `;`.
 #[cycle(statement)]
+#[inline(never)]
 fn unstarted(
     alloc: Global,
     toks: &[Tok],
@@ -268,6 +275,7 @@ fn unstarted(
 
 /// `for` whose header begins with the expression.
 #[cycle(statement)]
+#[inline(never)]
 fn started(
     alloc: Global,
     toks: &[Tok],
@@ -304,6 +312,7 @@ fn started(
 
 /// `for` over the names of an object, each put to the target.
 #[cycle(statement)]
+#[inline(never)]
 fn each(
     alloc: Global,
     toks: &[Tok],
@@ -354,6 +363,7 @@ fn each(
 
 /// What stands behind the first part of the header of a `for`: both other parts and the statement.
 #[cycle(statement)]
+#[inline(always)]
 fn rest(
     alloc: Global,
     toks: &[Tok],

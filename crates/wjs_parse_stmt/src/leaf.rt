@@ -16,6 +16,7 @@ use wjs_parse_expr::{Functions, token_at};
 use wjs_tree::{Node, Nodes, Tok, Token};
 
 /// `;`.
+#[inline(never)]
 pub fn empty(
     toks: &[Tok],
     at: usize,
@@ -38,6 +39,7 @@ pub fn empty(
 }
 
 /// Variables and their end.
+#[inline(never)]
 pub fn declared(
     alloc: Global,
     toks: &[Tok],
@@ -69,6 +71,7 @@ pub fn declared(
 }
 
 /// `continue`, a label on its line or none, and the end.
+#[inline(never)]
 pub fn continued(
     toks: &[Tok],
     at: usize,
@@ -96,6 +99,7 @@ pub fn continued(
 }
 
 /// `break`, a label on its line or none, and the end.
+#[inline(never)]
 pub fn broken(
     toks: &[Tok],
     at: usize,
@@ -154,6 +158,7 @@ fn behind_label(label: Option<TextId>, at: usize) -> usize
 }
 
 /// `return`, an expression on its line or none, and the end.
+#[inline(never)]
 pub fn returned(
     alloc: Global,
     toks: &[Tok],
@@ -193,6 +198,7 @@ pub fn returned(
 }
 
 /// `throw`, an expression on its line, and the end.
+#[inline(never)]
 pub fn thrown(
     alloc: Global,
     toks: &[Tok],
@@ -224,6 +230,7 @@ pub fn thrown(
 }
 
 /// An expression and its end.
+#[inline(never)]
 pub fn plain(
     alloc: Global,
     toks: &[Tok],

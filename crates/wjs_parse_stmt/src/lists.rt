@@ -15,6 +15,7 @@ use wjs_tree::{Node, NodeId, Nodes, Sequence, Sign, Tok};
 
 /// A block.
 #[cycle(statement)]
+#[inline(always)]
 pub fn block(
     alloc: Global,
     toks: &[Tok],
@@ -48,6 +49,7 @@ pub fn block(
 
 /// Statements up to a token that closes them.
 #[cycle(statement)]
+#[inline(always)]
 pub fn statements(
     alloc: Global,
     toks: &[Tok],

@@ -49,6 +49,7 @@ pub fn statement(
 
 /// The statement from the place, by its kind, where it is no `if`.
 #[cycle(statement)]
+#[inline(always)]
 pub fn other(
     alloc: Global,
     toks: &[Tok],
@@ -88,6 +89,7 @@ pub fn other(
 
 /// A statement in braces.
 #[cycle(statement)]
+#[inline(never)]
 fn braced(
     alloc: Global,
     toks: &[Tok],
@@ -116,6 +118,7 @@ fn braced(
 
 /// A statement behind a label.
 #[cycle(statement)]
+#[inline(never)]
 fn labelled(
     alloc: Global,
     toks: &[Tok],
@@ -146,6 +149,7 @@ fn labelled(
 
 /// `in`, an expression, and the block that runs in its world.
 #[cycle(statement)]
+#[inline(never)]
 fn within(
     alloc: Global,
     toks: &[Tok],

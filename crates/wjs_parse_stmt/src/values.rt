@@ -17,6 +17,7 @@ use wjs_parse_expr::{Functions, comma, has_key, has_sign};
 use wjs_tree::{Key, Nodes, Sign, Tok};
 
 /// The expression from the place up to a sign that continues none, and the place of the sign.
+#[inline(never)]
 pub fn up_to(
     alloc: Global,
     toks: &[Tok],
@@ -47,6 +48,7 @@ pub fn up_to(
 }
 
 /// An expression in parentheses.
+#[inline(never)]
 pub fn test(
     alloc: Global,
     toks: &[Tok],
@@ -83,6 +85,7 @@ pub fn test(
 }
 
 /// An expression or nothing up to a sign that neither continues an expression nor begins one, and the place of the sign.
+#[inline(never)]
 pub fn maybe(
     alloc: Global,
     toks: &[Tok],
@@ -117,6 +120,7 @@ pub fn maybe(
 }
 
 /// An expression and the end of its statement.
+#[inline(never)]
 pub fn value(
     alloc: Global,
     toks: &[Tok],
@@ -147,6 +151,7 @@ pub fn value(
 }
 
 /// `case` with its expression, or `default`, and the colon.
+#[inline(never)]
 pub fn arm_head(
     alloc: Global,
     toks: &[Tok],

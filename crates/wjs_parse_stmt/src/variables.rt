@@ -14,6 +14,7 @@ use wjs_tree::{Declarator, Nodes, Sequence, Sign, Tok, Token};
 
 /// The variables from the place, with their initialisers. Where `no_in` is true, no operator `in` stands outside brackets
 /// in them.
+#[inline(never)]
 pub fn variables(
     alloc: Global,
     toks: &[Tok],
