@@ -6,7 +6,10 @@ usage: tests/run.py [TABLE..] [-- COMMAND..]     no TABLE: all of tests/*.jsonl,
 A table has a row a line, a JSON object: `id`, `words`, `stdin` (or `stdin_hex`, or `parts`: texts, each with how many times it stands
 there, `#` in it being the number of the time), and the `out`, `err` and `status` that are due.
 An `err` of `usage: ` stands for one line that begins so. Of an example, examples/NAME.js, examples/NAME.out is due, nothing on
-standard error, and status 0. A row may have besides:
+standard error, and status 0; and its log is one that is audited. A row may have besides:
+  lines        in place of `out`: patterns, each with how many lines of `out` it fits, or null where that is one at least
+  last         the pattern of the last line of `out`
+  audited      `out` is given to the program in mode `audit`, which must say yes
   times        standard input is that many times `stdin`
   stdin_from   standard input is this file or folder
   full         of `out` and `err` the streams whose writes all fail
@@ -25,6 +28,7 @@ import contextlib
 import glob
 import json
 import os
+import re
 import resource
 import subprocess
 import sys
@@ -55,6 +59,9 @@ def rows_of_examples():
         with open(path, 'rb') as script, open(path[:-len('.js')] + '.out', encoding='utf-8', newline='') as out:
             yield {'id': 'examples/' + os.path.basename(path), 'words': [], 'stdin_hex': script.read().hex(),
                    'out': out.read(), 'err': '', 'status': 0}
+        with open(path, 'rb') as script:
+            yield {'id': 'the log of examples/' + os.path.basename(path), 'words': ['--mode', 'log'], 'stdin_hex': script.read().hex(),
+                   'lines': [], 'audited': True, 'err': '', 'status': 0}
 
 
 def built():
@@ -101,12 +108,21 @@ def preparation_of(row):
     return prepare if limits or closed else None
 
 
+def is_due_on_out(row, out):
+    if 'lines' not in row:
+        return out == row['out'].encode()
+    lines = out.decode().split('\n')
+    counts = [(sum(1 for line in lines if re.fullmatch(pattern, line)), count) for pattern, count in row['lines']]
+    return (lines[-1] == '' and all(found == count or (count is None and found) for found, count in counts)
+            and ('last' not in row or re.fullmatch(row['last'], lines[-2]) is not None))
+
+
 def is_due(row, out, err, status):
     if row['err'] == 'usage: ':
         err_is_due = err.startswith(b'usage: ') and err.endswith(b'\n') and err.count(b'\n') == 1
     else:
         err_is_due = err == row['err'].encode()
-    return out == row['out'].encode() and err_is_due and status == row['status']
+    return is_due_on_out(row, out) and err_is_due and status == row['status']
 
 
 def shown(out, err, status):
@@ -122,8 +138,16 @@ def difference(row, command):
         return f'no end in {SECONDS} seconds'
     out, err = done.stdout or b'', done.stderr or b''
     if is_due(row, out, err, done.returncode):
-        return None
+        return audit_of(out, command) if row.get('audited') else None
     return shown(out.decode('utf-8', 'replace'), err.decode('utf-8', 'replace'), done.returncode)
+
+
+def audit_of(log, command):
+    """What an audit of the log says in place of yes, None where it says that."""
+    done = subprocess.run(command + ['--mode', 'audit'], input=log, timeout=SECONDS, capture_output=True)
+    if (done.stdout, done.stderr, done.returncode) == (b'yes\n', b'', 0):
+        return None
+    return 'of the audit ' + shown(done.stdout.decode('utf-8', 'replace'), done.stderr.decode('utf-8', 'replace'), done.returncode)
 
 
 def main(words):
@@ -141,7 +165,7 @@ def main(words):
         for row, got in zip(rows, pool.map(lambda row: difference(row, command), rows)):
             if got is not None:
                 failed += 1
-                print(row['id'], 'wanted', shown(row['out'], row['err'], row['status']), 'got', got, flush=True)
+                print(row['id'], 'wanted', shown(row.get('out', row.get('lines')), row['err'], row['status']), 'got', got, flush=True)
     print(f'{len(rows) - failed} passed, {failed} failed')
     return 1 if failed else 0
 

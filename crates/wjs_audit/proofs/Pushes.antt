@@ -1,16 +1,17 @@
 -- What is written piece by piece.
-use Rattle.std.proofs.Common.{◌≡◌, ℕ, ◌+◌, ◌<◌, List, [], ◌∷◌, ◌++◌, map as each, length, get_or, take, slice_get, Some, ap, sym, subst, ◌∙◌, append_assoc, append-nil, arith, All}
+use Rattle.std.proofs.Common.{◌≡◌, ℕ, ◌+◌, ◌<◌, Bool, true, false, List, [], ◌∷◌, ◌++◌, map as each, length, get_or, set, take, slice_get, Some, refl, ap, sym, subst, ◌∙◌, append_assoc, append-nil, length-set, All}
 use Rattle.std.specs.List.{flat_map}
-use Rattle.std.proofs.lemmas.List.{take_more, flat_map_more, map_push, length-take}
+use Rattle.std.proofs.lemmas.List.{take_more, flat_map_more, map_push, length-replicate}
 use Rattle.std.proofs.lemmas.List.Concat.{flat_map-append}
 use Rattle.std.proofs.lemmas.List.Elements.{All-more}
 use Rattle.std.proofs.lemmas.Option.{slice_get_within, get_or_from_slice_get}
+use Rattle.wjs_base.specs.declared.ids.TextId.{TextId}
 use Rattle.wjs_base.specs.declared.values.Name.{Name}
 use Rattle.wjs_base.specs.Text.{Units, Table}
+use Rattle.wjs_audit.specs.declared.deed.Deed.{Deed}
 use Rattle.wjs_audit.specs.declared.deed.Entry.{Entry}
-use Rattle.wjs_audit.specs.Spelling.{text, done, name_text, unit_text, hex, spaced, line_text, log_text}
-use Rattle.wjs_audit.specs.Tables.{text_lines, done_lines}
-use Rattle.wjs_audit.proofs.Tabled.{text_lines-push}
+use Rattle.wjs_audit.specs.Spelling.{Line, done, name_text, unit_text, hex, spaced, line_text, log_text}
+use Rattle.wjs_audit.specs.Tables.{name_ids, deed_ids, text_line, lines_for, marks_after, lines_from, no_marks, needed_lines, Puts, PutsDeed}
 
 -- one piece and then another
 pub two : (before mid after a b : List ℕ) → mid ≡ before ++ a → after ≡ mid ++ b → after ≡ before ++ (a ++ b)
@@ -43,14 +44,95 @@ names_more before mid after names i n e f g =
 pub units_more : (before mid after : List ℕ) (units : Units) (i : ℕ) → mid ≡ before ++ hex (take i units) → after ≡ mid ++ unit_text (get_or units i 0) → i < length units → after ≡ before ++ hex (take (i + 1) units)
 units_more before mid after units i e f within = pieces_more unit_text before mid after (take i units) (get_or units i 0) (take (i + 1) units) e f (take_more units i 0 within)
 
-pub texts_more : (before mid after : List ℕ) (texts : Table) (i : ℕ) (units : Units) → mid ≡ before ++ log_text (text_lines 0 (take i texts)) → after ≡ mid ++ line_text (text i units) → slice_get texts i ≡ Some units → after ≡ before ++ log_text (text_lines 0 (take (i + 1) texts))
-texts_more before mid after texts i units e f g =
-    let within = slice_get_within texts i units g in
-    let long = length-take i texts in
-    pieces_more line_text before mid after (text_lines 0 (take i texts)) (text i units) (text_lines 0 (take (i + 1) texts)) e f
-    (ap (text_lines 0) (take_next texts i units g) ∙ text_lines-push 0 (take i texts) units i (omega (arith, long, within)))
+-- ---- the lines of texts that are needed
 
-pub deeds_more : (before mid after : List ℕ) (entries : List Entry) (i : ℕ) (e : Entry) → mid ≡ before ++ log_text (done_lines (take i entries)) → after ≡ mid ++ line_text (done e.deed) → slice_get entries i ≡ Some e → after ≡ before ++ log_text (done_lines (take (i + 1) entries))
-deeds_more before mid after entries i e f g h =
-    pieces_more line_text before mid after (done_lines (take i entries)) (done e.deed) (done_lines (take (i + 1) entries)) f g
-    (ap done_lines (take_next entries i e h) ∙ map_push (λ (x : Entry). done x.deed) (take i entries) e)
+lines_append : (texts : Table) (marks : List Bool) (xs ys : List TextId) → lines_for texts marks (xs ++ ys) ≡ lines_for texts marks xs ++ lines_for texts (marks_after marks xs) ys
+lines_append texts marks [] ys = refl
+lines_append texts marks (x ∷ xs) ys =
+    ap (λ (ls : List Line). text_line texts (get_or marks x.0 false) x ++ ls) (lines_append texts (set marks x.0 true) xs ys)
+    ∙ sym (append_assoc (text_line texts (get_or marks x.0 false) x) (lines_for texts (set marks x.0 true) xs) (lines_for texts (marks_after (set marks x.0 true) xs) ys))
+
+marks_append : (marks : List Bool) (xs ys : List TextId) → marks_after marks (xs ++ ys) ≡ marks_after (marks_after marks xs) ys
+marks_append marks [] ys = refl
+marks_append marks (x ∷ xs) ys = marks_append (set marks x.0 true) xs ys
+
+module _ (texts : Table) where
+  pub puts_none : (out : List ℕ) (marks : List Bool) → Puts texts [] out out marks marks
+  puts_none out marks = record { text = sym (append-nil out); marked = refl; long = refl }
+
+  pub puts_one : (id : TextId) (old new : List ℕ) (marks after : List Bool) → new ≡ old ++ log_text (text_line texts (get_or marks id.0 false) id) → after ≡ set marks id.0 true → Puts texts (id ∷ []) old new marks after
+  puts_one id old new marks after e f = record {
+    text = e ∙ ap (λ (ls : List Line). old ++ log_text ls) (sym (append-nil (text_line texts (get_or marks id.0 false) id)));
+    marked = f;
+    long = ap (λ (m : List Bool). length m) f ∙ length-set marks id.0 true;
+  }
+
+  pub puts_then : (xs ys : List TextId) (old mid new : List ℕ) (marks between after : List Bool) → Puts texts xs old mid marks between → Puts texts ys mid new between after → Puts texts (xs ++ ys) old new marks after
+  puts_then xs ys old mid new marks between after a b = record {
+    text =
+        two old mid new (log_text (lines_for texts marks xs)) (log_text (lines_for texts (marks_after marks xs) ys)) a.text (b.text ∙ ap (λ (m : List Bool). mid ++ log_text (lines_for texts m ys)) a.marked)
+        ∙ ap (λ (l : List ℕ). old ++ l) (sym (flat_map-append line_text (lines_for texts marks xs) (lines_for texts (marks_after marks xs) ys)) ∙ ap log_text (sym (lines_append texts marks xs ys)));
+    marked = b.marked ∙ ap (λ (m : List Bool). marks_after m ys) a.marked ∙ sym (marks_append marks xs ys);
+    long = b.long ∙ a.long;
+  }
+
+  -- one name more
+  pub names_put : (names : List Name) (i : ℕ) (n : Name) (old mid new : List ℕ) (marks between after : List Bool) → slice_get names i ≡ Some n → Puts texts (flat_map name_ids (take i names)) old mid marks between → Puts texts (name_ids n) mid new between after → Puts texts (flat_map name_ids (take (i + 1) names)) old new marks after
+  names_put names i n old mid new marks between after at a b =
+      let ids : flat_map name_ids (take (i + 1) names) ≡ flat_map name_ids (take i names) ++ name_ids n =
+      ap (λ (ns : List Name). flat_map name_ids ns) (take_next names i n at) ∙ flat_map-append name_ids (take i names) (n ∷ []) ∙ ap (λ (l : List TextId). flat_map name_ids (take i names) ++ l) (append-nil (name_ids n)) in
+      subst (λ (is : List TextId). Puts texts is old new marks after) (sym ids) (puts_then (flat_map name_ids (take i names)) (name_ids n) old mid new marks between after a b)
+
+  -- a deed below its texts
+  pub puts_deed : (d : Deed) (old mid new : List ℕ) (marks after : List Bool) → Puts texts (deed_ids d) old mid marks after → new ≡ mid ++ line_text (done d) → PutsDeed texts d old new marks after
+  puts_deed d old mid new marks after p e = record {
+    text =
+        two old mid new (log_text (lines_for texts marks (deed_ids d))) (line_text (done d)) p.text e
+        ∙ ap (λ (l : List ℕ). old ++ (log_text (lines_for texts marks (deed_ids d)) ++ l)) (sym (append-nil (line_text (done d))))
+        ∙ ap (λ (l : List ℕ). old ++ l) (sym (flat_map-append line_text (lines_for texts marks (deed_ids d)) (done d ∷ [])));
+    marked = p.marked;
+    long = p.long;
+  }
+
+  -- ---- entries one after another
+
+  -- the marks that entries leave
+  abbrev pub marks_of : List Bool → List Entry → List Bool
+  marks_of marks [] = marks
+  marks_of marks (e ∷ entries) = marks_of (marks_after marks (deed_ids e.deed)) entries
+
+  lines_push : (marks : List Bool) (entries : List Entry) (e : Entry) → lines_from texts marks (entries ++ e ∷ []) ≡ lines_from texts marks entries ++ (lines_for texts (marks_of marks entries) (deed_ids e.deed) ++ done e.deed ∷ [])
+  lines_push marks [] e = refl
+  lines_push marks (x ∷ entries) e =
+      let first = lines_for texts marks (deed_ids x.deed) in
+      let mid = marks_after marks (deed_ids x.deed) in
+      ap (λ (ls : List Line). first ++ done x.deed ∷ ls) (lines_push mid entries e)
+      ∙ sym (append_assoc first (done x.deed ∷ lines_from texts mid entries) (lines_for texts (marks_of mid entries) (deed_ids e.deed) ++ done e.deed ∷ []))
+
+  marks_push : (marks : List Bool) (entries : List Entry) (e : Entry) → marks_of marks (entries ++ e ∷ []) ≡ marks_after (marks_of marks entries) (deed_ids e.deed)
+  marks_push marks [] e = refl
+  marks_push marks (x ∷ entries) e = marks_push (marks_after marks (deed_ids x.deed)) entries e
+
+  -- what is written of these entries, and the marks that they leave
+  pub record Written (entries : List Entry) (out : List ℕ) (marks : List Bool) : Type 0 where
+    pub text : out ≡ log_text (needed_lines texts entries)
+    pub marked : marks ≡ marks_of (no_marks texts) entries
+    pub long : length marks ≡ length texts
+
+  pub written_none : (out : List ℕ) (marks : List Bool) → out ≡ [] → marks ≡ no_marks texts → Written [] out marks
+  written_none out marks e f = record { text = e; marked = f; long = ap (λ (m : List Bool). length m) f ∙ length-replicate (length texts) false }
+
+  pub written_more : (entries : List Entry) (i : ℕ) (e : Entry) (mid new : List ℕ) (between after : List Bool) → slice_get entries i ≡ Some e → Written (take i entries) mid between → PutsDeed texts e.deed mid new between after → Written (take (i + 1) entries) new after
+  written_more entries i e mid new between after at w p =
+      let front = take i entries in
+      let next = take_next entries i e at in
+      let lines = lines_for texts (marks_of (no_marks texts) front) (deed_ids e.deed) ++ done e.deed ∷ [] in
+      record {
+        text =
+            p.text
+            ∙ (λ i. w.text i ++ log_text (lines_for texts (w.marked i) (deed_ids e.deed) ++ done e.deed ∷ []))
+            ∙ sym (flat_map-append line_text (needed_lines texts front) lines)
+            ∙ ap log_text (sym (lines_push (no_marks texts) front e) ∙ ap (needed_lines texts) (sym next));
+        marked = p.marked ∙ ap (λ (m : List Bool). marks_after m (deed_ids e.deed)) w.marked ∙ sym (marks_push (no_marks texts) front e) ∙ ap (λ (es : List Entry). marks_of (no_marks texts) es) (sym next);
+        long = p.long ∙ w.long;
+      }

@@ -19,6 +19,7 @@ use Rattle.wjs_audit.specs.declared.deed.Deed.TheVariants.{Read, Write, List as 
 use Rattle.wjs_audit.specs.declared.deed.Entry.{Entry}
 use Rattle.wjs_audit.specs.Deeds.{InOrder, deeds_of}
 use Rattle.wjs_audit.specs.Spelling.{Line, text, done, line_text, log_text}
+use Rattle.wjs_audit.specs.Tables.{AreNeeded}
 
 -- ---- ranges of the types
 
@@ -172,10 +173,11 @@ abbrev pub IsNamedBy : Table → Line → Type 0
 IsNamedBy texts (text number units) = Denotes texts (record { 0 = number }) units
 IsNamedBy texts (done d) = ⊤
 
--- the bytes are a log of these deeds, with the table's texts under their numbers
+-- the bytes are a log of these deeds, with the table's texts under their numbers, each where it is first needed
 pub record Spells (bytes : List ℕ) (entries : List Entry) (texts : Table) : Type 0 where
   pub lines : List Line
   pub is_log : IsLogFrom [] lines
   pub text : bytes ≡ log_text lines
   pub deeds : deeds_in lines ≡ deeds_of entries
   pub named : All (IsNamedBy texts) lines
+  pub needed : AreNeeded [] lines

@@ -10,7 +10,7 @@ use wjs_base::{OutOfMemory, TextFault, Texts};
 #[derive(Drop)]
 pub(crate) struct KnownTexts {
     texts: Texts,
-    /// All numbers below this one name texts. A log that `spell_log` wrote has no others, and no tree is built for it.
+    /// All numbers below this one name texts; for a log whose texts are numbered as they come no tree is built.
     below: u64,
     /// The others that do.
     others: BTreeSet<u64>,

@@ -12,6 +12,7 @@ mod laws;
 mod line;
 mod log;
 mod logged;
+mod needed;
 mod numbers;
 mod parts;
 mod reading;

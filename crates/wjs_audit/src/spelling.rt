@@ -1,16 +1,17 @@
 //! How a log is spelled.
 ghost use Rattle.std.specs.Prelude.{◌≡◌, ◌<◌, ◌^◌, ◌++◌, ◌∷◌, [], length, OnOk, IfOk, All, map as each, decimal};
 ghost use Rattle.std.specs.String.{string_bytes};
-ghost use Rattle.wjs_base.specs.Text.{IsTable};
+ghost use Rattle.wjs_base.specs.Text.{Has};
 ghost use Rattle.wjs_audit.specs.Spelling.{pair_text, world_text, object_text, name_text, number_text, value_text, content_text, kind_text, verdict_parts, unit_text, hex, hex_parts, spaced, joined, deed_parts, line_text, log_text, text, done};
-ghost use Rattle.wjs_audit.specs.Logs.{FitsPair, FitsWorld, FitsObject, FitsName, FitsValue, FitsContent, FitsVerdict, FitsDeed, KnowsLog, Spells};
-ghost use Rattle.wjs_audit.specs.Tables.{text_lines, done_lines};
+ghost use Rattle.wjs_audit.specs.Logs.{FitsPair, FitsWorld, FitsObject, FitsName, FitsValue, FitsContent, FitsVerdict, FitsDeed, KnowsDeed, KnowsLog, Spells};
+ghost use Rattle.wjs_audit.specs.Tables.{needed_lines, PutsDeed};
 
 use crate::deed::Deed;
 use crate::log::Log;
+use crate::needed::{push_texts_of, unmarked};
 use std::alloc::Global;
 use std::fmt::Write;
-use wjs_base::{Content, Name, Names, ObjId, OutOfMemory, Slot, TextId, Texts, Value, WorldId};
+use wjs_base::{Content, Name, Names, ObjId, OutOfMemory, Slot, Texts, Value, WorldId};
 use wjs_store::Verdict;
 
 /// Puts a word behind a text.
@@ -312,7 +313,7 @@ fn push_hex(out: &mut String, units: &[u16]) -> Result<(), OutOfMemory>
 }
 
 /// Puts the line of a text and its number behind a text.
-fn push_text(out: &mut String, number: u64, units: &[u16]) -> Result<(), OutOfMemory>
+pub(crate) fn push_text(out: &mut String, number: u64, units: &[u16]) -> Result<(), OutOfMemory>
     ensures text { OnOk result (string_bytes out.new ≡ string_bytes out.old ++ line_text (text number units.now)) }
 {
     push_number(out, "text ", number)?;
@@ -321,32 +322,35 @@ fn push_text(out: &mut String, number: u64, units: &[u16]) -> Result<(), OutOfMe
     Ok(())
 }
 
-/// Puts the lines of all texts of a table behind a text.
-fn push_texts(out: &mut String, texts: &Texts) -> Result<(), OutOfMemory>
-    ensures text { OnOk result (string_bytes out.new ≡ string_bytes out.old ++ log_text (text_lines 0 texts.now)) }
-    ensures few { length texts.now < 2 ^ 64 }
-    ensures table { IsTable texts.now }
+/// Puts the line of a deed behind a text, and above it those of the texts that it names and that have none yet.
+fn push_entry(
+    out: &mut String,
+    marks: &mut Vec<bool>,
+    texts: &Texts,
+    deed: &Deed,
+) -> Result<(), OutOfMemory>
+    requires has { KnowsDeed (Has texts.now) deed.now }
+    requires long { length marks.old.items ≡ length texts.now }
+    ensures puts { OnOk result (PutsDeed texts.now deed.now (string_bytes out.old) (string_bytes out.new) marks.old.items marks.new.items) }
+    ensures fits { OnOk result (FitsDeed deed.now) }
 {
-    let count = texts.len();
-    for id in 0..count {
-        let number = id as u64;
-        push_text(out, number, texts.units(TextId(number)))?;
-    }
+    push_texts_of(out, marks, texts, deed)?;
+    push_deed(out, deed)?;
     Ok(())
 }
 
-/// The bytes of a log: first a line for each text of the table, then a line for each entry, in their order. What is read from
-/// them are these entries, apart from their lines' numbers.
+/// The bytes of a log: a line for each entry, in their order, and for each text that they name one, above the first that names it.
+/// What is read from them are these entries, apart from their lines' numbers.
 pub fn spell_log(alloc: Global, log: &Log, texts: &Texts) -> Result<Vec<u8>, OutOfMemory>
     requires { KnowsLog texts.now log.now }
-    ensures text { IfOk result (λ bytes. bytes.items ≡ log_text (text_lines 0 texts.now ++ done_lines log.now)) }
+    ensures text { IfOk result (λ bytes. bytes.items ≡ log_text (needed_lines texts.now log.now)) }
     ensures spells { IfOk result (λ bytes. Spells bytes.items log.now texts.now) }
 {
     let mut out = String::new(alloc);
-    push_texts(&mut out, texts)?;
+    let mut marks = unmarked(alloc, texts)?;
     let entries = log.entries();
     for entry in entries {
-        push_deed(&mut out, &entry.deed)?;
+        push_entry(&mut out, &mut marks, texts, &entry.deed)?;
     }
     Ok(out.into_bytes())
 }

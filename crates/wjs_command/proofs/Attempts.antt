@@ -19,7 +19,7 @@ use Rattle.wjs_command.specs.declared.report.Stop.{Stop}
 use Rattle.wjs_command.specs.declared.report.Stop.TheVariants.{ReadFault, OutFault, OutOfMemory}
 use Rattle.wjs_command.specs.Table.{Due, Told, line}
 use Rattle.wjs_command.specs.Runs.{status_of_end}
-use Rattle.wjs_command.specs.Due.{most_bytes, refused, IsTold, too_long, refuses, checks, runs, Asks, bytes_by, bytes_for, taken_by, IsDue, usage, asked}
+use Rattle.wjs_command.specs.Due.{most_of, refused, IsRun, OfScript, refuses, reads, blames, agrees, owed_in, IsTold, too_long, served, Asks, bytes_by, bytes_for, taken_by, IsDue, usage, asked}
 use Rattle.wjs_command.specs.Command.{AsDue, ErrFailed, EndsBy, Ends, Faultless, Causes, IsComplete}
 use Rattle.wjs_command.specs.Attempt.{Delivers, Comes, nothing, something, Refuses, ReachesTold, Serves, Reaches, WordsFit, HasCauses, Attempts, Finishes}
 
@@ -68,17 +68,21 @@ take_few (suc n) (x ∷ xs) h = ap (λ l. x ∷ l) (take_few n xs (omega (arith,
 
 -- ---- by the mode
 
-taken_read : (mode : Mode) (bytes : List ℕ) → mode ≢ modes.Gen → taken_by mode bytes ≡ take (most_bytes + 1) bytes
+taken_read : (mode : Mode) (bytes : List ℕ) → mode ≢ modes.Gen → taken_by mode bytes ≡ take (most_of mode + 1) bytes
 taken_read modes.Run bytes other = refl
 taken_read modes.Check bytes other = refl
 taken_read modes.Tree bytes other = refl
 taken_read modes.Gen bytes other = absurd (other refl)
+taken_read modes.Log bytes other = refl
+taken_read modes.Audit bytes other = refl
 
 bytes_read : (mode : Mode) (number : ℕ) (bytes : List ℕ) → mode ≢ modes.Gen → bytes_by mode number bytes ≡ bytes
 bytes_read modes.Run number bytes other = refl
 bytes_read modes.Check number bytes other = refl
 bytes_read modes.Tree number bytes other = refl
 bytes_read modes.Gen number bytes other = absurd (other refl)
+bytes_read modes.Log number bytes other = refl
+bytes_read modes.Audit number bytes other = refl
 
 -- ---- what the options ask for is done
 
@@ -95,9 +99,9 @@ reaches_come : (options : Options) (bytes own : List ℕ) (source out : Stream) 
 reaches_come options bytes own source out result e gave (nothing spent got) = reaches_spent options bytes source out result spent got
 reaches_come options bytes own source out result e gave (something told p d) = reaches_by options bytes source out told result (subst (λ bs. IsTold options bs told) (sym e) p) gave d
 
-pub serve_read : (options : Options) (left rest : Option (List ℕ)) (read more : ℕ) (out : Stream) (items : List ℕ) (result : Result Report Stop) → options.mode ≢ modes.Gen → IfSome left (λ known. items ≡ known) → IsAtEnd rest → length items ≤ most_bytes → Comes (IsTold options items) out result → Serves options (stream left rest read more) out result
+pub serve_read : (options : Options) (left rest : Option (List ℕ)) (read more : ℕ) (out : Stream) (items : List ℕ) (result : Result Report Stop) → options.mode ≢ modes.Gen → IfSome left (λ known. items ≡ known) → IsAtEnd rest → length items ≤ most_of options.mode → Comes (IsTold options items) out result → Serves options (stream left rest read more) out result
 serve_read options left rest read more out items result other all end within h =
-    let taken = taken_read options.mode items other ∙ take_few (most_bytes + 1) items (omega (arith, within)) in
+    let taken = taken_read options.mode items other ∙ take_few (most_of options.mode + 1) items (omega (arith, within)) in
     record {
       bytes = items;
       had = had_all left items all;
@@ -127,11 +131,11 @@ reaches_refused : (options : Options) (bytes : List ℕ) (source : Stream) (held
 reaches_refused options bytes source held wrote text (Ok report) p gave is = (refused text, p, is, gave, Appends-nil held)
 reaches_refused options bytes source held wrote text (Err e) p gave is = reaches_spent options bytes source (stream held held wrote wrote) (Err e) (ap Err is) (Appends-nil held)
 
-pub serve_long : (options : Options) (left rest held : Option (List ℕ)) (read more wrote : ℕ) (taken : List ℕ) (result : Result Report Stop) → options.mode ≢ modes.Gen → length taken ≡ most_bytes + 1 → Consumes left rest taken → Refuses (codes "too long") result → Serves options (stream left rest read more) (stream held held wrote wrote) result
+pub serve_long : (options : Options) (left rest held : Option (List ℕ)) (read more wrote : ℕ) (taken : List ℕ) (result : Result Report Stop) → options.mode ≢ modes.Gen → length taken ≡ most_of options.mode + 1 → Consumes left rest taken → Refuses (codes "too long") result → Serves options (stream left rest read more) (stream held held wrote wrote) result
 serve_long options left rest held read more wrote taken result other count h is =
     let b = began left rest taken h in
-    let front : take (most_bytes + 1) b.bytes ≡ taken = ap (λ bs. take (most_bytes + 1) bs) b.whole ∙ ap (λ n. take n (taken ++ b.behind)) (sym count) ∙ take-append_seam taken b.behind in
-    let long : most_bytes < length b.bytes = omega (arith, ap length b.whole, length-append taken b.behind) in
+    let front : take (most_of options.mode + 1) b.bytes ≡ taken = ap (λ bs. take (most_of options.mode + 1) bs) b.whole ∙ ap (λ n. take n (taken ++ b.behind)) (sym count) ∙ take-append_seam taken b.behind in
+    let long : most_of options.mode < length b.bytes = omega (arith, ap length b.whole, length-append taken b.behind) in
     let own = bytes_read options.mode options.number b.bytes other in
     let told : IsTold options (bytes_for options b.bytes) (refused (codes "too long")) = subst (λ bs. IsTold options bs (refused (codes "too long"))) (sym own) (too_long (record { more = long; is = refl })) in
     record {
@@ -164,11 +168,24 @@ ordinary_end EndsDone = tt
 ordinary_end (EndsThrown v) = tt
 ordinary_end EndsSpent = tt
 
+ordinary_run : (mode : Mode) (steps : ℕ) (bytes : List ℕ) (told : Told) → OfScript (IsRun mode steps) bytes told → IsOrdinary told.status
+ordinary_run mode steps bytes told (refuses h) = subst (λ (t : Told). IsOrdinary t.status) (sym h.is) tt
+ordinary_run mode steps bytes told (reads h) = subst (λ (t : Told). IsOrdinary t.status) (sym (h.owed).is) (ordinary_end _)
+
+ordinary_owed : (mode : Mode) (steps : ℕ) (bytes : List ℕ) (told : Told) → owed_in mode steps bytes told → IsOrdinary told.status
+ordinary_owed modes.Run steps bytes told h = ordinary_run modes.Run steps bytes told h
+ordinary_owed modes.Check steps bytes told (refuses h) = subst (λ (t : Told). IsOrdinary t.status) (sym h.is) tt
+ordinary_owed modes.Check steps bytes told (reads h) = subst (λ (t : Told). IsOrdinary t.status) (sym h.owed) tt
+ordinary_owed modes.Tree steps bytes told h = ordinary_run modes.Tree steps bytes told h
+ordinary_owed modes.Gen steps bytes told h = ordinary_run modes.Gen steps bytes told h
+ordinary_owed modes.Log steps bytes told (refuses h) = subst (λ (t : Told). IsOrdinary t.status) (sym h.is) tt
+ordinary_owed modes.Log steps bytes told (reads h) = subst IsOrdinary (sym ((h.owed).run).status) (ordinary_end _)
+ordinary_owed modes.Audit steps bytes told (blames h) = subst (λ (t : Told). IsOrdinary t.status) (sym h.is) tt
+ordinary_owed modes.Audit steps bytes told (agrees h) = subst (λ (t : Told). IsOrdinary t.status) (sym h.is) tt
+
 ordinary_told : (options : Options) (bytes : List ℕ) (told : Told) → IsTold options bytes told → IsOrdinary told.status
 ordinary_told options bytes told (too_long h) = subst (λ (t : Told). IsOrdinary t.status) (sym h.is) tt
-ordinary_told options bytes told (refuses h) = subst (λ (t : Told). IsOrdinary t.status) (sym h.is) tt
-ordinary_told options bytes told (checks h) = subst (λ (t : Told). IsOrdinary t.status) (sym h.is) tt
-ordinary_told options bytes told (runs h) = subst (λ (t : Told). IsOrdinary t.status) (sym h.is) (ordinary_end _)
+ordinary_told options bytes told (served h) = ordinary_owed options.mode options.steps bytes told h.owed
 
 reported : (s : Status) → IsOrdinary s → IsReported s
 reported statuses.Done h = tt

@@ -1,6 +1,7 @@
 mod Deliveries
 mod Beginnings
 mod Endings
-mod Scripts
+pub mod Scripts
 mod Attempts
+mod Loggings
 mod OneDue

@@ -1,11 +1,11 @@
 -- The parts of a run of the program: what it comes to before its line is written on err, and that line.
-use Rattle.std.specs.Prelude.{◌≡◌, ◌≢◌, ℕ, List, [], codes, Option, None, Some, Result, Ok, Err, ◌⊎◌}
+use Rattle.std.specs.Prelude.{◌≡◌, ◌≢◌, ℕ, List, [], ◌++◌, map as each, codes, Option, None, Some, Result, Ok, Err, ◌⊎◌}
 use Rattle.clap.specs.Words.{fault_of}
 use Rattle.wjs_base.specs.Text.{Table}
 use Rattle.wjs_store.specs.Meaning.{Meaning, worlds}
 use Rattle.wjs_io.specs.Streams.{Stream, Failed, Had, Gave, Got, GotPrefix, Stops}
 use Rattle.wjs_content.specs.Tables.{value_in, arena_in}
-use Rattle.wjs_content.specs.Worlds.{worlds_in}
+use Rattle.wjs_content.specs.Worlds.{worlds_in, told_in}
 use Rattle.wjs_meaning.specs.Builtins.{first_world}
 use Rattle.wjs_meaning.specs.Deeds.{St}
 use Rattle.wjs_meaning.specs.Trees.{Tree}
@@ -19,6 +19,10 @@ use Rattle.wjs_model.specs.Units.{unit_in}
 use Rattle.wjs_load.specs.declared.tokens.LoadFault.{LoadFault}
 use Rattle.wjs_load.specs.declared.tokens.LoadFault.TheVariants as faults
 use Rattle.wjs_start.specs.First.{writes_told}
+use Rattle.wjs_audit.specs.Deeds.{told_of}
+use Rattle.wjs_audit.specs.Recorded.{Recorded}
+use Rattle.wjs_audit.specs.declared.fault.AuditFault.{AuditFault}
+use Rattle.wjs_audit.specs.declared.fault.AuditFault.TheVariants as audits
 use Rattle.wjs_machine.specs.declared.halt.Ending.{Ending as Outcome}
 use Rattle.wjs_machine.specs.declared.halt.Ending.TheVariants as outcomes
 use Rattle.wjs_machine.specs.Runs.{run_of}
@@ -32,8 +36,8 @@ use Rattle.wjs_command.specs.declared.report.Stop.{Stop}
 use Rattle.wjs_command.specs.declared.report.Stop.TheVariants.{ReadFault, OutFault, OutOfMemory}
 use Rattle.wjs_command.specs.Table.{Due, Told, line}
 use Rattle.wjs_command.specs.Scripts.{IsLibrary}
-use Rattle.wjs_command.specs.Runs.{told_by_run}
-use Rattle.wjs_command.specs.Due.{IsDue, IsTold, text_of_refusal, bytes_for, taken_by}
+use Rattle.wjs_command.specs.Runs.{LogsRun, told_by_run}
+use Rattle.wjs_command.specs.Due.{IsDue, IsTold, text_of_refusal, text_of_fault, bytes_for, taken_by}
 use Rattle.wjs_command.specs.Command.{GotFront, Faultless}
 
 -- ---- what is owed for a script is delivered
@@ -64,6 +68,11 @@ Refuses text (Err e) = e ≡ OutOfMemory
 abbrev pub RefusesAs : LoadFault → Result Report Stop → Type 0
 RefusesAs (faults.Refused refusal) result = Refuses (text_of_refusal refusal) result
 RefusesAs faults.OutOfMemory result = result ≡ Err OutOfMemory
+
+-- a fault of a log is reported, or memory ran out
+abbrev pub RefusesLog : AuditFault → Result Report Stop → Type 0
+RefusesLog audits.OutOfMemory result = result ≡ Err OutOfMemory
+RefusesLog fault result = Refuses (text_of_fault fault) result
 
 -- bytes were written, or a fault came before; for want of memory none were
 abbrev pub Writes : List ℕ → Stream → Result (Unit {0}) Stop → Type 0
@@ -117,6 +126,16 @@ pub record IsRunOf (texts : Table) (script : Program) (steps : ℕ) (mode : Mode
   pub library : Option Tree
   pub first : IsLibrary library
   pub is : told ≡ told_by_run mode (machine library (unit_in texts script) steps)
+
+-- what a run of the script owes whose log is written
+pub record IsLogRun (texts : Table) (script : Program) (steps : ℕ) (told : Told) : Type 0 where
+  pub library : Option Tree
+  pub first : IsLibrary library
+  pub run : LogsRun (machine library (unit_in texts script) steps) told
+
+-- the store of the configuration has logged the writes of the first slots and then this run's actions
+abbrev pub HasLogged : {S : Type 0} → Config (Recorded S) → Ending × St → Type 0
+HasLogged c r = each (told_in c.heap.texts) (told_of c.heap.store.log) ≡ writes_told properties ++ (r.1).done
 
 -- ---- words, source and out
 

@@ -1,8 +1,11 @@
 -- What the machine's run of a script owes.
-use Rattle.std.specs.Prelude.{List, [], ℕ, ◌++◌, codes}
+use Rattle.std.specs.Prelude.{◌≡◌, List, [], ℕ, ◌++◌, codes}
 use Rattle.wjs_base.specs.Unicode.{utf8_of}
 use Rattle.wjs_meaning.specs.Deeds.{St}
 use Rattle.wjs_meaning.specs.Programs.{Ending, Done, Threw, StepsSpent, shown_text}
+use Rattle.wjs_meaning.specs.Start.{properties}
+use Rattle.wjs_start.specs.First.{writes_told}
+use Rattle.wjs_logs.specs.Telling.{Tells}
 use Rattle.wjs_reports.specs.Lines.{lines_of}
 use Rattle.wjs_words.specs.declared.mode.Mode.{Mode}
 use Rattle.wjs_words.specs.declared.mode.Mode.TheVariants as modes
@@ -25,6 +28,12 @@ status_of_end StepsSpent = statuses.StepsSpent
 abbrev pub behind_output : Mode → St → List ℕ
 behind_output modes.Tree st = lines_of st.full
 behind_output _ st = []
+
+-- a run's log is written in place of its output: behind the writes of the first slots it tells the run's actions
+pub record LogsRun (r : Ending × St) (told : Told) : Type 0 where
+  pub log : Tells told.out (writes_told properties ++ (r.1).done)
+  pub err : told.err ≡ line_of_end r.0 r.1
+  pub status : told.status ≡ status_of_end r.0
 
 abbrev pub told_by_run : Mode → Ending × St → Told
 told_by_run mode r = record { out = (r.1).out ++ behind_output mode r.1; err = line_of_end r.0 r.1; status = status_of_end r.0 }

@@ -1,8 +1,11 @@
 //! What the program does for its words and the bytes of its source: it reads a script, runs it in a world, and writes what it
-//! prints on one sink and a line on another where it is refused or a fault comes.
+//! prints, or the log of its actions, on one sink, and a line on another where it is refused or a fault comes; or it reads a log,
+//! and audits it.
 #![tactic(auto)]
 
+mod auditing;
 mod laws;
+mod logging;
 mod performing;
 mod report;
 mod running;

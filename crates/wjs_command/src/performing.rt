@@ -1,12 +1,14 @@
-//! A script's bytes, checked or run.
-ghost use Rattle.std.specs.Prelude.{◌≡◌, ◌≤◌, [], codes, length};
+//! The bytes of a script, checked, run or logged, or those of a log, audited.
+ghost use Rattle.std.specs.Prelude.{◌≡◌, ◌≢◌, ◌≤◌, [], codes, length};
 ghost use Rattle.wjs_io.specs.Streams.{stream};
 ghost use Rattle.wjs_start.specs.First.{IsNew};
 ghost use Rattle.wjs_command.specs.declared.status.Status.TheVariants as statuses;
 ghost use Rattle.wjs_command.specs.Table.{line};
-ghost use Rattle.wjs_command.specs.Due.{most_bytes, IsTold};
+ghost use Rattle.wjs_command.specs.Due.{most_of, IsTold, owed_in};
 ghost use Rattle.wjs_command.specs.Attempt.{Delivers, Comes, RefusesAs};
 
+use crate::auditing::audit;
+use crate::logging::log_script;
 use crate::report::{Report, Stop, done, refuse};
 use crate::running::{run_script, write_or_stop};
 use std::alloc::Global;
@@ -17,14 +19,14 @@ use wjs_overlay::Overlay;
 use wjs_store::WorldStore;
 use wjs_words::{Mode, Options};
 
-/// Does what the options ask with a script's bytes, in sparse worlds.
+/// Does what the options ask with the bytes, in sparse worlds.
 pub fn perform<O: Sink>(
     alloc: Global,
     options: Options,
     bytes: &[u8],
     out: &mut O,
 ) -> Result<Report, Stop>
-    requires { length bytes.now ≤ most_bytes }
+    requires { length bytes.now ≤ most_of options.mode }
     ensures { Comes (IsTold options bytes.now) (stream (O.held out.old) (O.held out.new) (O.faults out.old) (O.faults out.new)) result }
 {
     match Overlay::new(alloc) {
@@ -33,7 +35,7 @@ pub fn perform<O: Sink>(
     }
 }
 
-/// Does what the options ask with a script's bytes, over a new store of worlds, which may tell its actions.
+/// Does what the options ask with the bytes, over a new store of worlds, which may tell its actions.
 pub fn perform_in<S: WorldStore + Drop, O: Sink>(
     alloc: Global,
     store: S,
@@ -42,8 +44,27 @@ pub fn perform_in<S: WorldStore + Drop, O: Sink>(
     out: &mut O,
 ) -> Result<Report, Stop>
     requires new { IsNew (S.meaning store) }
-    requires within { length bytes.now ≤ most_bytes }
+    requires within { length bytes.now ≤ most_of options.mode }
     ensures { Comes (IsTold options bytes.now) (stream (O.held out.old) (O.held out.new) (O.faults out.old) (O.faults out.new)) result }
+{
+    match options.mode {
+        Mode::Audit => audit(alloc, store, bytes, out),
+        _ => perform_script(alloc, store, options, bytes, out),
+    }
+}
+
+/// Does what the options ask with a script's bytes.
+fn perform_script<S: WorldStore + Drop, O: Sink>(
+    alloc: Global,
+    store: S,
+    options: Options,
+    bytes: &[u8],
+    out: &mut O,
+) -> Result<Report, Stop>
+    requires new { IsNew (S.meaning store) }
+    requires mode { options.mode ≢ Mode.Audit }
+    requires within { length bytes.now ≤ most_of options.mode }
+    ensures { Comes (owed_in options.mode options.steps bytes.now) (stream (O.held out.old) (O.held out.new) (O.faults out.old) (O.faults out.new)) result }
 {
     let mut texts = match Texts::new(alloc) {
         Ok(texts) => texts,
@@ -55,6 +76,7 @@ pub fn perform_in<S: WorldStore + Drop, O: Sink>(
     };
     match options.mode {
         Mode::Check => accept(alloc, out),
+        Mode::Log => log_script(alloc, store, texts, script, options.steps, out),
         mode => run_script(alloc, store, texts, script, options.steps, mode, out),
     }
 }

@@ -51,7 +51,7 @@ pub fn run_script<S: WorldStore + Drop, O: Sink>(
 }
 
 /// The run before its first step.
-fn begin<S: WorldStore + Drop>(
+pub fn begin<S: WorldStore + Drop>(
     alloc: Global,
     store: S,
     texts: Texts,
@@ -89,7 +89,7 @@ fn run_whole<S: WorldStore + Drop, O: Sink>(
 }
 
 /// Why a run was stopped before its end.
-fn stop_of(ending: Ending) -> Option<Stop>
+pub fn stop_of(ending: Ending) -> Option<Stop>
     ensures { result ≡ stop_in ending }
 {
     match ending {
@@ -164,7 +164,7 @@ pub fn write_or_stop<O: Sink>(bytes: &[u8], out: &mut O) -> Result<(), Stop>
 }
 
 /// The report of a run that has ended so.
-fn tell<S: WorldStore + Drop>(
+pub fn tell<S: WorldStore + Drop>(
     alloc: Global,
     config: Config<S>,
     ending: Ending,

@@ -3,7 +3,7 @@ ghost use Rattle.std.specs.Prelude.{◌≡◌, ◌≢◌, ◌≤◌, map, codes,
 ghost use Rattle.std.specs.String.{string_bytes};
 ghost use Rattle.wjs_io.specs.Streams.{stream};
 ghost use Rattle.wjs_gen.specs.Script.{script};
-ghost use Rattle.wjs_command.specs.Due.{IsTold};
+ghost use Rattle.wjs_command.specs.Due.{most_of, IsTold};
 ghost use Rattle.wjs_command.specs.Attempt.{Attempts, Serves, Comes, Refuses, Reports, Finishes};
 ghost use Rattle.wjs_command.specs.Command.{Ends, Causes};
 
@@ -16,11 +16,19 @@ use wjs_gen::script_of;
 use wjs_io::{ReadFault, Sink, Source, read_all, write_all_of};
 use wjs_words::{Mode, Options, WordsFault, options};
 
-/// The most bytes that a script has.
-const MOST_BYTES: u64 = 16_777_216;
+/// The most bytes that are read: those of a script, or of a log that is audited.
+fn most_bytes(mode: Mode) -> u64
+    ensures { result ≡ most_of mode }
+{
+    match mode {
+        Mode::Audit => 67_108_864,
+        _ => 16_777_216,
+    }
+}
 
 /// Generates the script that the options ask for, and runs it.
 fn generate<O: Sink>(alloc: Global, options: Options, out: &mut O) -> Result<Report, Stop>
+    requires mode { options.mode ≡ Mode.Gen }
     requires least { 1 ≤ options.number }
     requires greatest { options.number ≤ 50000 }
     ensures { Comes (IsTold options (script options.number)) (stream (O.held out.old) (O.held out.new) (O.faults out.old) (O.faults out.new)) result }
@@ -31,7 +39,7 @@ fn generate<O: Sink>(alloc: Global, options: Options, out: &mut O) -> Result<Rep
     }
 }
 
-/// Reads the source to its end, and does what the options ask with the script that it gives.
+/// Reads the source to its end, and does what the options ask with the bytes that it gives.
 fn read<S: Source, O: Sink>(
     alloc: Global,
     options: Options,
@@ -43,7 +51,7 @@ fn read<S: Source, O: Sink>(
         (stream (S.left source.old) (S.left source.new) (S.faults source.old) (S.faults source.new))
         (stream (O.held out.old) (O.held out.new) (O.faults out.old) (O.faults out.new)) result }
 {
-    match read_all(alloc, source, MOST_BYTES) {
+    match read_all(alloc, source, most_bytes(options.mode)) {
         Ok(bytes) => perform(alloc, options, bytes.as_slice(), out),
         Err(ReadFault::TooLong) => refuse_length(alloc),
         Err(ReadFault::Failed) => Err(Stop::ReadFault),
@@ -61,7 +69,7 @@ fn refuse_length(alloc: Global) -> Result<Report, Stop>
     }
 }
 
-/// Does what the options ask, with the script that the source gives or that is generated.
+/// Does what the options ask, with the bytes that the source gives or a script that is generated.
 fn obey<S: Source, O: Sink>(
     alloc: Global,
     options: Options,
@@ -135,7 +143,8 @@ fn finish<E: Sink>(err: &mut E, outcome: Result<Report, Stop>) -> Status
     }
 }
 
-/// Reads a script from the source, runs it, and writes what it prints on `out` and a line on `err` where it doesn't end normally.
+/// Reads a script from the source, runs it, and writes what it prints on `out` and a line on `err` where it doesn't end normally;
+/// or does what another mode asks for.
 ///
 /// The words are those of the command line, the program's name first: `worlds [--steps N] [--mode M] [--number K]`, read by
 /// `clap`. The options, and what each mode does, are said by [`wjs_words::Options`] and [`wjs_words::Mode`]; what each status stands

@@ -106,7 +106,7 @@ named_by name text known same = subst (λ (w : Text). IsSome (mode_named w)) ((b
 mode_among : (names : Names) → IsModes names → (text : Text) → Accepts false (Among names) text → IsSome (mode_named text)
 mode_among names modes text passed =
     let some = sym (list_any-map (λ (w : Text). bytes_eq w text) (λ name. name.now) names.now) ∙ passed in
-    let one : list_any (λ (w : Text). bytes_eq w text) (codes "run" ∷ codes "check" ∷ codes "tree" ∷ codes "gen" ∷ []) ≡ true =
+    let one : list_any (λ (w : Text). bytes_eq w text) (codes "run" ∷ codes "check" ∷ codes "tree" ∷ codes "gen" ∷ codes "log" ∷ codes "audit" ∷ []) ≡ true =
     subst (λ (l : List Text). list_any (λ (w : Text). bytes_eq w text) l ≡ true) modes some in
     elim (either _ _ one) [
       | inl h ↦ named_by (codes "run") text (search rules) h
@@ -116,7 +116,13 @@ mode_among names modes text passed =
           | inl h ↦ named_by (codes "tree") text (search rules) h
           | inr h ↦ elim (either _ _ h) [
             | inl h ↦ named_by (codes "gen") text (search rules) h
-            | inr h ↦ cc
+            | inr h ↦ elim (either _ _ h) [
+              | inl h ↦ named_by (codes "log") text (search rules) h
+              | inr h ↦ elim (either _ _ h) [
+                | inl h ↦ named_by (codes "audit") text (search rules) h
+                | inr h ↦ cc
+              ]
+            ]
           ]
         ]
       ]

@@ -11,7 +11,7 @@ abbrev pub Names : Type 0
 Names = Bor (List (Bor Text))
 
 abbrev pub mode_names : List Text
-mode_names = codes "run" ∷ codes "check" ∷ codes "tree" ∷ codes "gen" ∷ []
+mode_names = codes "run" ∷ codes "check" ∷ codes "tree" ∷ codes "gen" ∷ codes "log" ∷ codes "audit" ∷ []
 
 abbrev pub IsModes : Names → Type 0
 IsModes names = map (λ name. name.now) names.now ≡ mode_names

@@ -6,7 +6,7 @@ use Rattle.std.specs.Str.Parse.{digits_value, without_leading_plus}
 use Rattle.clap.specs.Words.{App, IsUnsignedIn, Row, Text, fault_of, first_of, matches_of, one_of}
 use Rattle.wjs_words.specs.Lines.{IsUsageLine}
 use Rattle.wjs_words.specs.declared.mode.Mode.{Mode}
-use Rattle.wjs_words.specs.declared.mode.Mode.TheVariants.{Run, Check, Tree, Gen}
+use Rattle.wjs_words.specs.declared.mode.Mode.TheVariants.{Run, Check, Tree, Gen, Log, Audit}
 use Rattle.wjs_words.specs.declared.answer.Options.{Options}
 use Rattle.wjs_words.specs.declared.answer.WordsFault.{WordsFault}
 use Rattle.wjs_words.specs.declared.answer.WordsFault.TheVariants.{Usage, OutOfMemory}
@@ -16,7 +16,9 @@ abbrev pub mode_named : Text → Option Mode
 mode_named name = if bytes_eq name (codes "run") then Some Run
     else (if bytes_eq name (codes "check") then Some Check
     else (if bytes_eq name (codes "tree") then Some Tree
-    else (if bytes_eq name (codes "gen") then Some Gen else None)))
+    else (if bytes_eq name (codes "gen") then Some Gen
+    else (if bytes_eq name (codes "log") then Some Log
+    else (if bytes_eq name (codes "audit") then Some Audit else None)))))
 
 -- the number that the digits of a text write
 abbrev pub number_of : Text → ℕ

@@ -13,10 +13,14 @@ pub enum Mode {
     Tree,
     /// Run a generated script in place of one that is read.
     Gen,
+    /// Run the script, and write the log of its actions on worlds in place of what it prints.
+    Log,
+    /// Read a log of actions on worlds, and say whether its answers are the full-copy machine's.
+    Audit,
 }
 
 /// The names of the modes.
-pub(crate) static MODES: [&str; 4] = ["run", "check", "tree", "gen"];
+pub(crate) static MODES: [&str; 6] = ["run", "check", "tree", "gen", "log", "audit"];
 
 impl Mode {
     /// The mode of this name, where it is one's.
@@ -28,6 +32,8 @@ impl Mode {
             "check" => Some(Mode::Check),
             "tree" => Some(Mode::Tree),
             "gen" => Some(Mode::Gen),
+            "log" => Some(Mode::Log),
+            "audit" => Some(Mode::Audit),
             _ => None,
         }
     }

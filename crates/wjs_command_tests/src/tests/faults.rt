@@ -139,6 +139,46 @@ fn failing_streams_by_mode(rt: HostRuntime) -> Result<(), Fail> {
             "",
             Status::OutFault,
         ),
+        (
+            Run {
+                words: &["--mode", "log"],
+                out: failing(5, 2),
+                ..plain("throw 1;")
+            },
+            "text ",
+            "",
+            Status::OutFault,
+        ),
+        (
+            Run {
+                words: &["--mode", "audit"],
+                out: failing(2, 2),
+                ..plain("sprout 0.0 0 p 0.1\n")
+            },
+            "ye",
+            "",
+            Status::OutFault,
+        ),
+        (
+            Run {
+                words: &["--mode", "audit"],
+                source: failing(4, 2),
+                ..plain("sprout 0.0 0 p 0.1\n")
+            },
+            "",
+            "read failed\n",
+            Status::ReadFault,
+        ),
+        (
+            Run {
+                words: &["--mode", "audit"],
+                err: failing(6, 2),
+                ..plain("sprout 0.0 0 p 0.2\n")
+            },
+            "",
+            "line 1",
+            Status::ErrFault,
+        ),
     ];
     check_rows(&rt, rt.alloc(), &rows)
 }

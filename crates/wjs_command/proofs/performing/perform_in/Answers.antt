@@ -1,35 +1,21 @@
-use Rattle.std.proofs.Common.{[], codes, refl}
 use Rattle.wjs_io.specs.Streams.{stream}
-use Rattle.wjs_model.specs.Units.{unit_in}
-use Rattle.wjs_command.specs.declared.status.Status.TheVariants.{Done}
-use Rattle.wjs_command.specs.Table.{Told, line}
-use Rattle.wjs_command.specs.Due.{IsTold}
-use Rattle.wjs_command.specs.Attempt.{IsRunOf}
+use Rattle.wjs_command.specs.Due.{OfLog, owed_in}
 use Rattle.wjs_command.proofs.Deliveries.{comes_as}
-use Rattle.wjs_command.proofs.Scripts.{run_told, fault_comes, check_comes}
+use Rattle.wjs_command.proofs.Scripts.{served_comes, log_owed}
 use Rattle.wjs_command.proofs.performing.perform_in.Goals as goal
 
-pub returns-in-Check : goal.returns-in-Check
-returns-in-Check g c =
+pub returns-in-Audit : goal.returns-in-Audit
+returns-in-Audit g c =
     let held = g.O.Sink.held in
     let faults = g.O.Sink.faults in
-    let told : Told = record { out = line (codes "ok"); err = []; status = Done } in
-    let loaded = c.in-Ok-load in
-    check_comes c.args.options c.args.bytes.now (stream (held c.args.out.now) (held c.accept.new.out) (faults c.args.out.now) (faults c.accept.new.out)) c.accept.result told
-    (record { mode = c.in-Check.is; within = c.requires.within; tree = unit_in c.load.new.texts loaded.script; spelled = loaded.ensures.ok; is = refl }) c.accept.ensures
+    let options = c.args.options in
+    let bytes = c.args.bytes.now in
+    let out = stream (held c.args.out.now) (held c.audit.new.out) (faults c.args.out.now) (faults c.audit.new.out) in
+    served_comes options bytes out c.audit.result c.requires.within
+    (comes_as (OfLog bytes) (owed_in options.mode options.steps bytes) out c.audit.result (λ told h. log_owed options.mode options.steps bytes told c.in-Audit.is h) c.audit.ensures)
 
 pub returns-in_default : goal.returns-in_default
 returns-in_default g c =
     let held = g.O.Sink.held in
     let faults = g.O.Sink.faults in
-    let options = c.args.options in
-    let bytes = c.args.bytes.now in
-    let texts = c.load.new.texts in
-    let loaded = c.in-Ok-load in
-    let out = stream (held c.args.out.now) (held c.run_script.new.out) (faults c.args.out.now) (faults c.run_script.new.out) in
-    comes_as (IsRunOf texts loaded.script options.steps options.mode) (IsTold options bytes) out c.run_script.result
-    (run_told options bytes texts loaded.script c.in_default.not-Check c.requires.within loaded.ensures.ok)
-    c.run_script.ensures
-
-pub returns-in-Err-load : goal.returns-in-Err-load
-returns-in-Err-load g c = fault_comes c.args.options c.args.bytes.now c.in-Err-load.fault c.refuse_or_stop.result (g.O.Sink.held c.args.out.now) (g.O.Sink.faults c.args.out.now) c.requires.within c.in-Err-load.ensures.err c.refuse_or_stop.ensures
+    served_comes c.args.options c.args.bytes.now (stream (held c.args.out.now) (held c.perform_script.new.out) (faults c.args.out.now) (faults c.perform_script.new.out)) c.perform_script.result c.requires.within c.perform_script.ensures

@@ -1,0 +1,3 @@
+pub mod Knowing
+mod Tellings
+mod Verdicts
