@@ -45,7 +45,6 @@ ended_eval_to (suc depth) more goal env st (suc n) le =
 
 -- ---- programs
 
-
 ended_program : (one two : Outcome) (more : ℕ) → Ended one two more → ¬ ((run_next one (λ st' n'. (Done, st'))).0 ≡ StepsSpent) → run_next two (λ st' n'. (Done, st')) ≡ run_next one (λ st' n'. (Done, st'))
 unfolding Ended
 ended_program (Spent st) two more e enough = absurd (enough refl)

@@ -133,10 +133,7 @@ fn fault_units<S: WorldStore>(
 }
 
 /// The text of an error, whose name and message are found in the configuration's first world.
-fn show_fault<S: WorldStore>(
-    config: &mut Config<S>,
-    object: ObjId,
-) -> Result<Vec<u8>, OutOfMemory>
+fn show_fault<S: WorldStore>(config: &mut Config<S>, object: ObjId) -> Result<Vec<u8>, OutOfMemory>
     requires base { Base S.meaning config.old }
     requires object { HasObject config.old object }
     ensures shows { let t = config.old.heap.texts in IfOk result (λ bytes. bytes.items ≡ utf8_of (shown_fault (arena_in t config.old.heap.arena) (worlds_in t (worlds (S.meaning config.old.heap.store))) config.old.world object)) }
@@ -149,10 +146,7 @@ fn show_fault<S: WorldStore>(
 }
 
 /// The text of an object, by its class.
-fn show_object<S: WorldStore>(
-    config: &mut Config<S>,
-    object: ObjId,
-) -> Result<Vec<u8>, OutOfMemory>
+fn show_object<S: WorldStore>(config: &mut Config<S>, object: ObjId) -> Result<Vec<u8>, OutOfMemory>
     requires base { Base S.meaning config.old }
     requires object { HasObject config.old object }
     ensures shows { let t = config.old.heap.texts in IfOk result (λ bytes. bytes.items ≡ utf8_of (shown_object (arena_in t config.old.heap.arena) (worlds_in t (worlds (S.meaning config.old.heap.store))) config.old.world object)) }
