@@ -12,3 +12,4 @@ pub mod Between
 pub mod Halves
 pub mod Counts
 pub mod Entries
+pub mod OnObjects

@@ -5,6 +5,7 @@ ghost use Rattle.std.specs.FinMap as map;
 ghost use Rattle.std.specs.Map.{lookup_entry};
 ghost use Rattle.wjs_base.specs.Order.{name_cmp};
 ghost use Rattle.wjs_rows.specs.Order.{is_from, is_after};
+ghost use Rattle.wjs_slots.specs.Least.{comes_past};
 
 use crate::kept::Kept;
 use std::alloc::Global;
@@ -82,5 +83,15 @@ impl<V: Copy> Names<V> {
         ensures { result ≡ lookup_entry (is_after name_cmp name) (map.entries self.now) }
     {
         self.kept.next_after(name)
+    }
+
+    /// The first row after the name that was passed, or the first of all.
+    pub(crate) fn next_past(&self, passed: Option<Name>) -> Option<(Name, V)>
+        ensures { result ≡ lookup_entry (comes_past passed) (map.entries self.now) }
+    {
+        match passed {
+            None => self.next_from(Name::Index(0)),
+            Some(name) => self.next_after(name),
+        }
     }
 }

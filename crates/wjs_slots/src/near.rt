@@ -146,7 +146,7 @@ impl<V: Copy> Near<V> {
 }
 
 /// A row of an object with its slot.
-fn row_at<V: Copy>(object: ObjId, row: (Name, V)) -> (Slot, V)
+pub(crate) fn row_at<V: Copy>(object: ObjId, row: (Name, V)) -> (Slot, V)
     ensures { result ≡ (record { object = object; name = row.0 }, row.1) }
 {
     let slot = Slot {

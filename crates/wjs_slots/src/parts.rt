@@ -1,6 +1,6 @@
 //! Rows by slot, in two parts: those of the first objects of one owner, and all others.
 ghost use Rattle.std.specs.Prelude.{◌≡◌, true, false, not, OnOk, OnErr, IfOk, None};
-ghost use Rattle.std.specs.Option.{option_copied};
+ghost use Rattle.std.specs.Option.{option_copied, option_map};
 ghost use Rattle.std.specs.Ordering.{is_le};
 ghost use Rattle.std.specs.FinMap as map;
 ghost use Rattle.std.specs.FinMap.{find};
@@ -8,10 +8,10 @@ ghost use Rattle.std.specs.Map.{lookup_entry};
 ghost use Rattle.wjs_base.specs.Order.{obj_cmp, slot_cmp};
 ghost use Rattle.wjs_base.specs.declared.values.Slot.{Slot};
 ghost use Rattle.wjs_rows.specs.Order.{is_from, is_after};
-ghost use Rattle.wjs_slots.specs.Least.{lesser_entry};
+ghost use Rattle.wjs_slots.specs.Least.{lesser_entry, is_next_on, row_on, entry_on};
 ghost use Rattle.wjs_slots.specs.Lists.{IsInOrder};
 
-use crate::near::Near;
+use crate::near::{Near, row_at};
 use crate::tree;
 use std::alloc::Global;
 use std::collections::BTreeMap;
@@ -113,6 +113,17 @@ impl<V: Copy> Parts<V> {
         )
     }
 
+    /// The least row of an object after the name that was passed, or the least of all that it has. No other object near is
+    /// looked at.
+    pub(crate) fn next_on(&self, object: ObjId, passed: Option<Name>) -> Option<(Slot, V)>
+        ensures { result ≡ lookup_entry (is_next_on object passed) (map.entries self.now) }
+    {
+        match self.near.place(object) {
+            Some(place) => with_slot(object, self.near.objects[place].next_past(passed)),
+            None => next_far(&self.far, object, passed),
+        }
+    }
+
     /// Makes an object near where it can be.
     #[inline(always)]
     fn reach(&mut self, object: ObjId) -> Result<(), OutOfMemory>
@@ -152,6 +163,56 @@ fn has_between<V: Copy>(far: &BTreeMap<Slot, V>, first: ObjId, last: ObjId) -> b
     match tree::next_from(far, &start) {
         None => false,
         Some((slot, _)) => slot.object.cmp(&last).is_le(),
+    }
+}
+
+/// A row of an object, if there is one, with its slot.
+fn with_slot<V: Copy>(object: ObjId, row: Option<(Name, V)>) -> Option<(Slot, V)>
+    ensures { result ≡ option_map (row_on object) row }
+{
+    match row {
+        None => None,
+        Some(row) => Some(row_at(object, row)),
+    }
+}
+
+/// The least far row of an object after the name that was passed, or the least of all that it has.
+fn next_far<V: Copy>(
+    far: &BTreeMap<Slot, V>,
+    object: ObjId,
+    passed: Option<Name>,
+) -> Option<(Slot, V)>
+    requires { IsInOrder slot_cmp far.now.entries }
+    ensures { result ≡ lookup_entry (is_next_on object passed) far.now.entries }
+{
+    match passed {
+        None => {
+            let start = Slot {
+                object,
+                name: Name::Index(0),
+            };
+            kept_on(object, tree::next_from(far, &start))
+        }
+        Some(name) => {
+            let last = Slot { object, name };
+            kept_on(object, tree::next_after(far, &last))
+        }
+    }
+}
+
+/// The entry, where its slot is one of the object's.
+fn kept_on<V: Copy>(object: ObjId, entry: Option<(Slot, V)>) -> Option<(Slot, V)>
+    ensures { result ≡ entry_on object entry }
+{
+    match entry {
+        None => None,
+        Some((slot, value)) => {
+            if slot.object == object {
+                Some((slot, value))
+            } else {
+                None
+            }
+        }
     }
 }
 

@@ -5,7 +5,7 @@ ghost use Rattle.std.specs.FinMap as map;
 ghost use Rattle.std.specs.Map.{lookup_entry};
 ghost use Rattle.wjs_base.specs.Order.{slot_cmp};
 ghost use Rattle.wjs_rows.specs.Order.{is_from, is_after};
-ghost use Rattle.wjs_slots.specs.Least.{first_slot};
+ghost use Rattle.wjs_slots.specs.Least.{first_slot, is_next_on};
 
 use crate::parts::Parts;
 use std::alloc::Global;
@@ -143,6 +143,21 @@ impl<V: Copy> Table<V> {
     {
         steps.tick();
         self.parts.next_after(slot)
+    }
+
+    /// The least row of an object after the name that was passed, or the least of all that it has; None exactly where there
+    /// is none. Unlike `next_from` and `next_after` it passes over no objects without rows.
+    pub fn next_on<L: Ledger>(
+        &self,
+        object: ObjId,
+        passed: Option<Name>,
+        steps: &mut Steps<L>,
+    ) -> Option<(Slot, V)>
+        ensures least { result ≡ lookup_entry (is_next_on object passed) (map.entries self.now) }
+        ensures step { steps.new ≡ steps.old + 1 }
+    {
+        steps.tick();
+        self.parts.next_on(object, passed)
     }
 }
 
