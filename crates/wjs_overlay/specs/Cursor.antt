@@ -8,21 +8,11 @@ use Rattle.wjs_base.specs.declared.ids.ObjId.{ObjId}
 use Rattle.wjs_base.specs.declared.ids.WorldId.{WorldId}
 use Rattle.wjs_base.specs.declared.values.Slot.{Slot}
 use Rattle.wjs_base.specs.declared.values.Value.{Value}
-use Rattle.wjs_base.specs.declared.values.Name.TheVariants.{Index}
 use Rattle.wjs_base.specs.Order.{slot_cmp}
 use Rattle.wjs_store.specs.Naming.{plain}
 use Rattle.wjs_store.specs.State.{State, KeySet, content_at, same_object}
 use Rattle.wjs_overlay.specs.declared.maps.Row.{Row}
 use Rattle.wjs_overlay.specs.Work.{kept_from}
-
--- the least slot of an object
-abbrev pub least_slot_of : ObjId → Slot
-least_slot_of o = record { object = o; name = Index 0 }
-
--- the slot of an entry that is on the object
-abbrev pub on_object_of : ObjId → Option (Slot × Row) → Option Slot
-on_object_of o None = None
-on_object_of o (Some e) = cond (same_object e.0.object o) (Some e.0) None
 
 -- how many pass
 abbrev pub count_passing : {K : Type 0} → (K → Bool) → List K → ℕ

@@ -1,8 +1,9 @@
 //! A world, and its rows.
 ghost use Rattle.std.specs.Prelude.{◌≡◌, ◌+◌, ◌*◌, ◌≤◌, length, OnOk};
 ghost use Rattle.wjs_overlay.specs.Look.{Looked, closed_layer};
-ghost use Rattle.wjs_overlay.specs.Cursor.{IsNextRow, least_slot_of, on_object_of};
+ghost use Rattle.wjs_overlay.specs.Cursor.{IsNextRow};
 ghost use Rattle.std.specs.Prelude.{IfSome, is_some, ◌||◌, Some, None};
+ghost use Rattle.std.specs.Option.{option_map};
 ghost use Rattle.std.specs.FinMap as map;
 ghost use Rattle.wjs_base.specs.declared.values.Value.{Value};
 ghost use Rattle.std.specs.Prelude.{Option};
@@ -87,6 +88,7 @@ impl Layer {
     ghost use Rattle.std.specs.Map.{lookup_entry};
     ghost use Rattle.wjs_base.specs.Order.{slot_cmp};
     ghost use Rattle.wjs_rows.specs.Order.{is_from, is_after};
+    ghost use Rattle.wjs_slots.specs.Least.{is_next_on};
     ghost use Rattle.wjs_store.specs.State.{put};
     ghost use Rattle.wjs_store.specs.Shown.{content_of};
     ghost use Rattle.wjs_overlay.specs.Sparse.{now_of};
@@ -217,6 +219,23 @@ impl Layer {
         }
     }
 
+    /// The least row of an object after the name that was passed, or the least of all that it has; None exactly where there
+    /// is none.
+    fn next_on<L: Ledger>(
+        &self,
+        object: ObjId,
+        passed: Option<Name>,
+        steps: &mut Steps<L>,
+    ) -> Option<(Slot, Row)>
+        ensures least { result ≡ lookup_entry (is_next_on object passed) (map.entries self.now.rows) }
+        ensures step { steps.new ≡ steps.old + 1 }
+    {
+        match &self.kept {
+            Kept::First(values) => with_entry(values.next_on(object, passed, steps)),
+            Kept::Under(_, rows) => rows.next_on(object, passed, steps),
+        }
+    }
+
     /// All rows of a world with a parent, in the order of slots.
     pub fn entries<L: Ledger>(
         &self,
@@ -313,29 +332,23 @@ pub fn look_past<L: Ledger>(layer: &Layer, slot: Slot, steps: &mut Steps<L>) -> 
     }
 }
 
-/// The least slot of an object.
-fn least_slot(object: ObjId) -> Slot
-    ensures { result ≡ least_slot_of object }
+/// The name of the slot that was passed, if one was.
+fn name_of(passed: Option<Slot>) -> Option<Name>
+    ensures { result ≡ option_map (λ (s : Slot). s.name) passed }
 {
-    Slot {
-        object,
-        name: Name::Index(0),
+    match passed {
+        None => None,
+        Some(slot) => Some(slot.name),
     }
 }
 
-/// The slot of an entry that is on the object.
-fn on_object(entry: Option<(Slot, Row)>, object: ObjId) -> Option<Slot>
-    ensures { result ≡ on_object_of object entry }
+/// The slot of an entry, if there is one.
+fn slot_of(entry: Option<(Slot, Row)>) -> Option<Slot>
+    ensures { result ≡ option_map (λ (e : Slot × Row). e.0) entry }
 {
     match entry {
         None => None,
-        Some((slot, _)) => {
-            if slot.object == object {
-                Some(slot)
-            } else {
-                None
-            }
-        }
+        Some((slot, _)) => Some(slot),
     }
 }
 
@@ -350,10 +363,7 @@ pub fn next_row<L: Ledger>(
     ensures next { IsNextRow layer.now.rows object passed result }
     ensures step { steps.new ≡ steps.old + 1 }
 {
-    match passed {
-        None => on_object(layer.next_from(least_slot(object), steps), object),
-        Some(slot) => on_object(layer.next_after(slot, steps), object),
-    }
+    slot_of(layer.next_on(object, name_of(passed), steps))
 }
 
 /// Marks an object as listed, in a world with a parent.
