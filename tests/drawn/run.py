@@ -13,6 +13,7 @@ grammar:
            since it reads more forms, a later one; those with the same are counted
   commits  with statements at random run in worlds that are committed right after it prints what the plain script prints
   drops    run in a world that is dropped, and then once more, it prints twice what it prints
+  logs     the log of each of these runs, of 100,000 steps at most, is one that an audit says yes to
 
 These compare the definitions, which the program is proved to follow, with other readings of the standard and with what is promised of
 worlds. What fails is listed with its seed, and its script is kept in the folder that is named at the end. Passed over are scripts that
@@ -34,6 +35,7 @@ from scripts import GRAMMARS, mutated, respaced, script
 HERE = os.path.dirname(os.path.abspath(__file__))
 PROGRAM = os.path.join(os.path.dirname(os.path.dirname(HERE)), 'crates/worlds/out/worlds')
 STEPS = ['--steps', '5000000']
+LOGGED_STEPS = ['--steps', '100000']
 STEPS_SPENT, REFUSED = 2, 4
 AT_ONCE = 200
 # Each text of a list in a context of its own: what it prints, and 0, 1 after a throw, 4 where it is no script, None where it is cut.
@@ -102,7 +104,7 @@ class Checks:
     def __init__(self, program):
         self.program = program
         self.folder = tempfile.mkdtemp(prefix='worlds-drawn-')
-        self.passed = dict.fromkeys(['peers', 'syntax', 'lines', 'commits', 'drops'], 0)
+        self.passed = dict.fromkeys(['peers', 'syntax', 'lines', 'commits', 'drops', 'logs'], 0)
         self.failed = self.same_lines = 0
 
     def ours(self, text, *words):
@@ -147,17 +149,25 @@ class Checks:
                 self.check('lines', f'{grammar}-{seed}', text, ours <= theirs)
                 self.same_lines += ours == theirs
 
+    def log(self, name, text):
+        log = subprocess.run([*self.program, *LOGGED_STEPS, '--mode', 'log'], input=text.encode(), capture_output=True, timeout=60).stdout
+        audit = subprocess.run([*self.program, '--mode', 'audit'], input=log, capture_output=True, timeout=60)
+        self.check('logs', name, text, log and (audit.returncode, audit.stdout, audit.stderr) == (0, b'yes\n', b''))
+
     def worlds(self, grammar, seed):
         plain = self.ours(script(grammar, seed))
+        self.log(f'{grammar}-{seed}', script(grammar, seed))
         if plain[0] in (None, STEPS_SPENT):
             return
         for share in (0.05, 0.3):
             text = script(grammar, seed, share)
             ours = self.ours(text)
+            self.log(f'{grammar}-{seed}-{share}', text)
             if ours[0] not in (None, STEPS_SPENT):
                 self.check('commits', f'{grammar}-{seed}-{share}', text, ours == plain)
         text = script(grammar, seed, dropped_first=True)
         ours = self.ours(text)
+        self.log(f'{grammar}-{seed}-dropped', text)
         if ours[0] not in (None, STEPS_SPENT):
             self.check('drops', f'{grammar}-{seed}', text, ours == (plain[0], plain[1] * 2))
 
