@@ -1,7 +1,9 @@
-// steps: 1182020
+// kind: arrays by index
+// sizes: 20 220
+var size = 220;
 function sorted(n) {
   var a = [], x = 7, i, j, k;
-  for (i = 0; i < n; i++) { x = (x * 75 + 74) % 65537; a.push(x); }
+  for (i = 0; i < n; i++) { x = (x * 75 + 74) % 65537; a[i] = x; }
   for (i = 1; i < n; i++) {
     k = a[i];
     for (j = i; j > 0 && a[j - 1] > k; j--) a[j] = a[j - 1];
@@ -9,10 +11,18 @@ function sorted(n) {
   }
   return a;
 }
-var a = sorted(150);
-print(a[0] + " " + a[75] + " " + a[149]);
-var b = [];
-for (var i = 0; i < 20000; i++) b[i] = i;
-var sum = 0;
-while (b.length > 0) sum += b.pop();
+function place(a, x) {
+  var low = 0, high = a.length, middle;
+  while (low < high) {
+    middle = (low + high) >> 1;
+    if (a[middle] < x) low = middle + 1; else high = middle;
+  }
+  return low;
+}
+var a = sorted(size), i, sum = 0;
+print(a[0] + " " + a[a.length - 1]);
+for (i = 0; i < size * 12; i++) sum += place(a, i * 23);
 print(sum);
+var sums = [0];
+for (i = 0; i < size * 60; i++) sums[i + 1] = sums[i] + i % 10;
+print(sums[size] + " " + sums[sums.length - 1] + " " + sums.length);

@@ -1,4 +1,6 @@
-// steps: 612797
+// kind: calls
+// sizes: 12 23
+var size = 23;
 function fib(n) { if (n < 2) return n; return fib(n - 1) + fib(n - 2); }
 function Counter() { this.n = 0; }
 Counter.prototype.add = function (k) { this.n = this.n + k; return this; };
@@ -6,5 +8,5 @@ function total(counter, times) {
   for (var i = 0; i < times; i++) counter.add(i).add(1);
   return counter.n;
 }
-print(fib(20));
-print(total(new Counter(), 10000));
+print(fib(size));
+print(total(new Counter(), size * 100));

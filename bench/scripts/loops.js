@@ -1,6 +1,8 @@
-// steps: 1296122
+// kind: loops
+// sizes: 100 6000
+var size = 6000;
 var sum = 0;
-for (var i = 0; i < 50000; i++) sum += i % 7;
+for (var i = 0; i < size * 10; i++) sum += i % 7;
 print(sum);
 function primes(below) {
   var found = 0, n, d, prime;
@@ -13,4 +15,4 @@ function primes(below) {
   }
   return found;
 }
-print(primes(5000));
+print(primes(size));

@@ -1,4 +1,6 @@
-// steps: 1021322
+// kind: objects and properties
+// sizes: 60 5000
+var size = 5000;
 function Point(x, y) { this.x = x; this.y = y; }
 function walk(n) {
   var first = null, p, i;
@@ -7,9 +9,9 @@ function walk(n) {
   for (p = first; p != null; p = p.next) sum += p.x + p.y;
   return sum;
 }
-print(walk(10000));
+print(walk(size * 2));
 var counts = {}, i, key, kinds = 0, all = 0;
-for (i = 0; i < 20000; i++) {
+for (i = 0; i < size * 4; i++) {
   key = "k" + i % 100;
   counts[key] = (counts[key] || 0) + 1;
 }

@@ -1,0 +1,210 @@
+"""Counts what the program does, which run.py tells: numbers that don't hang on how fast a machine is.
+
+Steps, and pieces of memory that are asked for, are exact: the same on every machine. Instructions are those of the processor, counted
+by valgrind's callgrind: two runs on one machine differ by less than a thousandth; other processors have other copies in the C library.
+What a step takes is the difference of the runs of a script at its large and its small size, by the difference of their steps, so that
+what a start takes doesn't count. counts.json holds what each script took at its small size.
+"""
+import collections
+import concurrent.futures
+import json
+import os
+import re
+import shutil
+import subprocess
+import sys
+import tempfile
+
+from run import AS_STARTED, HERE, MOST_STEPS, OTHERS, STEPS_SPENT, run, scripts_of, shown, tell_means
+
+HELD = os.path.join(HERE, 'counts.json')
+COUNTER = os.path.join(os.path.dirname(HERE), 'tests', 'hostile', 'refuse.c')
+# so much more than is held is too much; in percent
+MOST_MORE = 3
+DEAREST = 10
+
+
+class Profile:
+    """What callgrind wrote of a run: the instructions, of each function its own, and how often each was called."""
+
+    def __init__(self, path):
+        self.own, self.calls = collections.Counter(), collections.Counter()
+        names, function, of_call = {}, '', False
+        with open(path, encoding='utf-8', errors='replace') as lines:
+            for line in lines:
+                named = re.match(r'(c?fn)=\((\d+)\)(?: (.*))?$', line)
+                if named:
+                    kind, number, name = named.groups()
+                    names.setdefault(number, name)
+                    if kind == 'fn':
+                        function = names[number]
+                    else:
+                        callee = names[number]
+                elif line.startswith('calls='):
+                    self.calls[callee] += int(line[6:].split()[0])
+                    of_call = True
+                elif line[:1] in set('0123456789+-*'):
+                    # the line behind `calls=` has what the callee took
+                    if not of_call:
+                        self.own[function] += int(line.split()[1])
+                    of_call = False
+        self.instructions = sum(self.own.values())
+
+
+def profile_of(words, given=''):
+    with tempfile.TemporaryDirectory() as folder:
+        path = os.path.join(folder, 'profile')
+        status, *_ = run(['valgrind', '--tool=callgrind', f'--callgrind-out-file={path}', *words], given, os.environ)
+        if status:
+            sys.exit(f'{words[0]} under valgrind ends with {status}')
+        return Profile(path)
+
+
+def ours(program, script, size):
+    return profile_of([*program, '--steps', str(MOST_STEPS)], script.of_size(size))
+
+
+def theirs(script, size):
+    with tempfile.NamedTemporaryFile('w', encoding='utf-8', suffix='.js') as it:
+        it.write(OTHERS['mujs'] + script.of_size(size))
+        it.flush()
+        return profile_of(['mujs', it.name])
+
+
+class Pieces:
+    """Counts the pieces of memory that a run asks for, by a library that is put before the C library's own calls."""
+
+    def __init__(self, folder):
+        self.library = os.path.join(folder, 'refuse.so')
+        subprocess.run(['cc', '-O1', '-shared', '-fPIC', '-o', self.library, COUNTER], check=True)
+
+    def of(self, program, script, size):
+        with tempfile.NamedTemporaryFile('r', encoding='ascii') as told:
+            around = AS_STARTED | {'LD_PRELOAD': self.library, 'REFUSE_TOLD': told.name}
+            status, *_ = run([*program, '--steps', str(MOST_STEPS)], script.of_size(size), around)
+            if status:
+                sys.exit(f'{script.name}: the program ends with {status}')
+            return int(told.read())
+
+
+def in_turn(work, items):
+    """What is made of each item, as many at once as there are processors."""
+    with concurrent.futures.ThreadPoolExecutor(os.cpu_count()) as pool:
+        yield from zip(items, pool.map(work, items))
+
+
+def all_scripts(only):
+    return scripts_of('scripts', only) + scripts_of('worlds', only)
+
+
+def spends(program, text, steps):
+    return run([*program, '--steps', str(steps)], text)[0] == STEPS_SPENT
+
+
+def takes(program, text, steps):
+    """Whether a script takes exactly so many steps."""
+    return spends(program, text, steps - 1) and not spends(program, text, steps)
+
+
+def steps_of(program, text):
+    """The least number of steps with which a script ends."""
+    least, most = 0, 1000
+    while spends(program, text, most):
+        least, most = most, most * 2
+    while most - least > 1:
+        middle = (least + most) // 2
+        least, most = (middle, most) if spends(program, text, middle) else (least, middle)
+    return most
+
+
+def steps(program, only):
+    def found(script):
+        held = script.steps or [None, None]
+        texts = [script.of_size(size) for size in script.sizes]
+        return [was if was and takes(program, text, was) else steps_of(program, text) for text, was in zip(texts, held)]
+    for script, taken in in_turn(found, all_scripts(only)):
+        if taken != script.steps:
+            print(script.name, *taken, f'in place of {script.steps}' if script.steps else '', flush=True)
+            script.write_steps(taken)
+
+
+def tell_dearest(profiles):
+    own = collections.Counter()
+    for small, large in profiles:
+        own += large.own - small.own
+    print('\nwhere the instructions go')
+    for name, cost in own.most_common(DEAREST):
+        print(f'{cost * 100 / own.total():5.1f} %  {name}')
+
+
+def counts(program, only):
+    scripts, multiples, profiles = all_scripts(only), [], []
+
+    def counted(script):
+        both = [ours(program, script, size) for size in script.sizes]
+        return both, with_mujs and 'thisWorld' not in script.text and [theirs(script, size).instructions for size in script.sizes]
+    with_mujs = shutil.which('mujs')
+    with tempfile.TemporaryDirectory() as folder:
+        pieces = Pieces(folder)
+        for script, (both, others) in in_turn(counted, scripts):
+            more = script.steps[1] - script.steps[0]
+            a_step = (both[1].instructions - both[0].instructions) / more
+            asked = pieces.of(program, script, script.sizes[1]) - pieces.of(program, script, script.sizes[0])
+            their_step = (others[1] - others[0]) / more if others else None
+            multiples.append(a_step / their_step if others else None)
+            profiles.append(both)
+            beside = f'  mujs {their_step:5.0f}' if others else ''
+            print(f'{script.name:14} {a_step:5.0f} instructions and {asked / more:6.3f} pieces a step{beside}{shown(multiples[-1])}', flush=True)
+    plain = [(script, times) for script, times in zip(scripts, multiples) if script.kind]
+    tell_means([script for script, _ in plain], [times for _, times in plain], 'instructions, as multiples')
+    tell_dearest(profiles)
+
+
+def small_counts(program, scripts):
+    """For each script its pieces of memory and its instructions at its small size; None where they can't be counted here."""
+    with tempfile.TemporaryDirectory() as folder:
+        pieces = Pieces(folder) if shutil.which('cc') else None
+        with_valgrind = shutil.which('valgrind')
+        if not pieces or not with_valgrind:
+            print('without cc no pieces of memory are counted, without valgrind no instructions')
+
+        def counted(script):
+            size = script.sizes[0]
+            return {'pieces': pieces and pieces.of(program, script, size),
+                    'instructions': with_valgrind and ours(program, script, size).instructions}
+        yield from in_turn(counted, scripts)
+
+
+def hold(program, only):
+    with open(HELD, encoding='utf-8') as it:
+        held = json.load(it)
+    held |= {script.name: found for script, found in small_counts(program, all_scripts(only))}
+    with open(HELD, 'w', encoding='utf-8') as it:
+        it.write('{\n' + ',\n'.join(f'{json.dumps(name)}: {json.dumps(held[name])}' for name in sorted(held)) + '\n}\n')
+
+
+def faults(script, found, held, exact):
+    """What is told of a script whose counts are others than those that are held."""
+    if not exact:
+        yield f'does not take {script.steps} steps'
+    if found['pieces'] and found['pieces'] != held['pieces']:
+        yield f'asks for {found["pieces"]} pieces of memory, {held["pieces"]} are held'
+    if found['instructions'] and found['instructions'] > held['instructions'] * (1 + MOST_MORE / 100):
+        yield f'takes {found["instructions"]} instructions, {held["instructions"]} are held'
+
+
+def check(program, only):
+    """Whether steps and pieces are exactly, and instructions nearly, those that are held; 1 where not."""
+    scripts, wrong = all_scripts(only), 0
+    with open(HELD, encoding='utf-8') as it:
+        held = json.load(it)
+
+    def exact(script):
+        return all(takes(program, script.of_size(size), taken) for size, taken in zip(script.sizes, script.steps))
+    exacts = {script.name: it for script, it in in_turn(exact, scripts)}
+    for script, found in small_counts(program, scripts):
+        for fault in faults(script, found, held[script.name], exacts[script.name]):
+            wrong += 1
+            print(script.name, fault, flush=True)
+    print(f'{len(scripts)} scripts, {wrong} counts differ')
+    return 1 if wrong else 0
