@@ -3,7 +3,13 @@
 Steps, and pieces of memory that are asked for, are exact: the same on every machine. Instructions are those of the processor, counted
 by valgrind's callgrind: two runs on one machine differ by less than a thousandth; other processors have other copies in the C library.
 What a step takes is the difference of the runs of a script at its large and its small size, by the difference of their steps, so that
-what a start takes doesn't count. counts.json holds what each script took at its small size.
+what a start takes doesn't count.
+
+Turns are exact too. The program can't tell them; turns.main.txt, a program that is compiled unproved (`rt try`) beside a copy of the
+crates, counts them, and the objects that are made. They show where a form falls back to more turns, which no contract can say. How
+many frames are pushed nothing here counts.
+
+counts.json holds what each script took at its small size.
 """
 import collections
 import concurrent.futures
@@ -18,7 +24,10 @@ import tempfile
 from run import AS_STARTED, HERE, MOST_STEPS, OTHERS, STEPS_SPENT, run, scripts_of, shown, tell_means
 
 HELD = os.path.join(HERE, 'counts.json')
-COUNTER = os.path.join(os.path.dirname(HERE), 'tests', 'hostile', 'refuse.c')
+TOP = os.path.dirname(HERE)
+COUNTER = os.path.join(TOP, 'tests', 'hostile', 'refuse.c')
+TURNS_NAME = 'turns_bench'
+TURNS_NAMES = 'wjs_base wjs_io wjs_load wjs_machine wjs_model wjs_overlay wjs_start'
 # so much more than is held is too much; in percent
 MOST_MORE = 3
 DEAREST = 10
@@ -154,14 +163,15 @@ def counts(program, only):
             multiples.append(a_step / their_step if others else None)
             profiles.append(both)
             beside = f'  mujs {their_step:5.0f}' if others else ''
-            print(f'{script.name:14} {a_step:5.0f} instructions and {asked / more:6.3f} pieces a step{beside}{shown(multiples[-1])}', flush=True)
+            print(f'{script.name:14} {a_step:5.0f} instructions and {asked / more:6.3f} pieces a step{beside}{shown(multiples[-1])}',
+                  flush=True)
     plain = [(script, times) for script, times in zip(scripts, multiples) if script.kind]
     tell_means([script for script, _ in plain], [times for _, times in plain], 'instructions, as multiples')
     tell_dearest(profiles)
 
 
 def small_counts(program, scripts):
-    """For each script its pieces of memory and its instructions at its small size; None where they can't be counted here."""
+    """For each script its pieces of memory and its instructions at its small size, as far as they can be counted here."""
     with tempfile.TemporaryDirectory() as folder:
         pieces = Pieces(folder) if shutil.which('cc') else None
         with_valgrind = shutil.which('valgrind')
@@ -170,34 +180,83 @@ def small_counts(program, scripts):
 
         def counted(script):
             size = script.sizes[0]
-            return {'pieces': pieces and pieces.of(program, script, size),
-                    'instructions': with_valgrind and ours(program, script, size).instructions}
+            found = {'pieces': pieces.of(program, script, size)} if pieces else {}
+            return found | ({'instructions': ours(program, script, size).instructions} if with_valgrind else {})
         yield from in_turn(counted, scripts)
 
 
-def hold(program, only):
+def held_counts():
     with open(HELD, encoding='utf-8') as it:
-        held = json.load(it)
-    held |= {script.name: found for script, found in small_counts(program, all_scripts(only))}
+        return json.load(it)
+
+
+def hold_counts(found):
+    """Holds what was found of each script by its name, beside what is held of it else."""
+    held = held_counts()
+    for name, counted in found:
+        held[name] = held.get(name, {}) | counted
     with open(HELD, 'w', encoding='utf-8') as it:
         it.write('{\n' + ',\n'.join(f'{json.dumps(name)}: {json.dumps(held[name])}' for name in sorted(held)) + '\n}\n')
+
+
+def hold(program, only):
+    hold_counts((script.name, found) for script, found in small_counts(program, all_scripts(only)))
+
+
+def turns_of(scripts):
+    """For each script the steps, turns and objects of its run at its small size."""
+    with tempfile.TemporaryDirectory() as folder:
+        bench = os.path.join(folder, 'crates', TURNS_NAME, 'src')
+        shutil.copytree(os.path.join(TOP, 'crates'), os.path.join(folder, 'crates'), ignore=shutil.ignore_patterns('out'))
+        os.makedirs(bench)
+        shutil.copy(os.path.join(HERE, 'turns.main.txt'), os.path.join(bench, 'main.rt'))
+        shutil.copy(os.path.join(TOP, 'HANDLES'), folder)
+        with open(os.path.join(TOP, 'crates.txt'), encoding='utf-8') as old, open(os.path.join(folder, 'crates.txt'), 'w') as new:
+            new.write(f'{old.read()}{TURNS_NAME}: {TURNS_NAMES}\n')
+        given = ''.join(script.of_size(script.sizes[0]) + '\0' for script in scripts)
+        # with words it is run as compiled code alone
+        done = subprocess.run(['rt', 'try', '--', 'count'], cwd=os.path.dirname(bench), input=given.encode(), capture_output=True)
+    lines = done.stdout.decode().splitlines()
+    if done.returncode or len(lines) != len(scripts) or '-' in lines:
+        sys.exit(f'rt try ends with {done.returncode}: {done.stderr.decode()[-2000:]}')
+    return {script.name: tuple(map(int, line.split())) for script, line in zip(scripts, lines)}
+
+
+def turns(program, only, holds=False):
+    """Tells the turns and objects a step; whether they are those that are held: 1 where not."""
+    scripts, wrong, held = all_scripts(only), 0, held_counts()
+    found = {name: {'turns': turns, 'objects': objects, 'steps': steps} for name, (steps, turns, objects) in turns_of(scripts).items()}
+    for script in scripts:
+        it = found[script.name]
+        differs = {key: held.get(script.name, {}).get(key) for key in ('turns', 'objects') if it[key] != held.get(script.name, {}).get(key)}
+        if it['steps'] != script.steps[0]:
+            differs['steps'] = script.steps[0]
+        wrong += bool(differs)
+        print(f'{script.name:14} {it["turns"] / it["steps"]:6.3f} turns and {it["objects"] / it["steps"]:6.3f} objects a step',
+              f'{it["turns"]} and {it["objects"]}, where are held {differs}' if differs else '', flush=True)
+    if holds:
+        hold_counts((name, {'turns': it['turns'], 'objects': it['objects']}) for name, it in found.items())
+    print(f'{len(scripts)} scripts, {wrong} differ')
+    return 1 if wrong and not holds else 0
+
+
+def hold_turns(program, only):
+    return turns(program, only, True)
 
 
 def faults(script, found, held, exact):
     """What is told of a script whose counts are others than those that are held."""
     if not exact:
         yield f'does not take {script.steps} steps'
-    if found['pieces'] and found['pieces'] != held['pieces']:
+    if found.get('pieces', held['pieces']) != held['pieces']:
         yield f'asks for {found["pieces"]} pieces of memory, {held["pieces"]} are held'
-    if found['instructions'] and found['instructions'] > held['instructions'] * (1 + MOST_MORE / 100):
+    if found.get('instructions', 0) > held['instructions'] * (1 + MOST_MORE / 100):
         yield f'takes {found["instructions"]} instructions, {held["instructions"]} are held'
 
 
 def check(program, only):
     """Whether steps and pieces are exactly, and instructions nearly, those that are held; 1 where not."""
-    scripts, wrong = all_scripts(only), 0
-    with open(HELD, encoding='utf-8') as it:
-        held = json.load(it)
+    scripts, wrong, held = all_scripts(only), 0, held_counts()
 
     def exact(script):
         return all(takes(program, script.of_size(size), taken) for size, taken in zip(script.sizes, script.steps))

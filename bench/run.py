@@ -4,8 +4,9 @@ It is run by hand, and is no part of the gate.
 
 usage: bench/run.py [--runs N] [--only NAME] [COMMAND..]      times
        bench/run.py --counts [--only NAME] [COMMAND..]        instructions a step, under valgrind
-       bench/run.py --check [--only NAME] [COMMAND..]         whether the counts are those that are held
-       bench/run.py --steps|--hold [--only NAME] [COMMAND..]  finds each script's steps; writes the counts
+       bench/run.py --check [--only NAME] [COMMAND..]         whether steps, pieces of memory and instructions are those held
+       bench/run.py --turns [--only NAME]                     whether turns and objects are those held; wants rt, and some minutes
+       bench/run.py --steps|--hold|--hold-turns [..]          writes each script's steps; the counts; the turns
 
 COMMAND runs the program, with its words; left out, it is crates/worlds/out/worlds. --only: the scripts whose name begins so.
 
@@ -215,8 +216,8 @@ def main(words):
             runs = int(words.pop(0))
         elif word == '--only':
             only = words.pop(0)
-        elif word in ('--counts', '--check', '--steps', '--hold'):
-            does = word[2:]
+        elif word in ('--counts', '--check', '--turns', '--steps', '--hold', '--hold-turns'):
+            does = word[2:].replace('-', '_')
         else:
             sys.exit(__doc__)
     program = words or [PROGRAM]
