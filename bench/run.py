@@ -164,6 +164,7 @@ def tell_means(scripts, multiples, what):
         if times:
             kinds.setdefault(script.kind, []).append(times)
     if not kinds:
+        print('\nmujs is not on PATH: nothing is told as a multiple of it')
         return
     print(f'\n{what}')
     for kind, numbers in kinds.items():

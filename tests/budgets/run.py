@@ -1,5 +1,5 @@
 #!/usr/bin/env python3
-"""Runs sixty-five scripts under every budget of steps from 1 to their end, and one more, on the built program.
+"""Runs scripts under every budget of steps from 1 to their end, and one more, on the built program.
 
 usage: tests/budgets/run.py [--gate] [--only ID] [-- COMMAND..]
 
@@ -7,15 +7,16 @@ usage: tests/budgets/run.py [--gate] [--only ID] [-- COMMAND..]
   --only ID   the scripts whose id begins so
 Without a COMMAND the program is crates/worlds/out/worlds.
 
-scripts.jsonl has a script a line: `id`, `before` and `body`. It is run in the first world, `before` and then `body`, and twice in
-one child of it, plain or strict, which is committed at the end (text_of). For each of the three the line tells `steps`, those that
-the script takes to its end; its `status`, `out` and `err`; how `out` grows: pairs, the least budget and the length that it then has;
-and the `marks` of child worlds: for each change the least budget, the world, its parent, and how many slots it has read and written
-and how many objects it has listed. So all is told of each budget: one that is less than the steps ends with status 2 and these.
+scripts.jsonl has a script a line: `id`, `before` and `body`. It is run in the first world, `before` and then `body`; and, but for the
+scripts of ../steps.jsonl, which follow at the end, with `body` twice in one child of it, plain or strict, which is committed then
+(text_of). For each of the three the line tells `steps`, those that the script takes to its end; its `status`, `out` and `err`; how
+`out` grows: pairs, the least budget and the length that it then has; and the `marks` of child worlds: for each change the least
+budget, the world, its parent, and how many slots it has read and written and how many objects it has listed. So all is told of each
+budget: one that is less than the steps ends with status 2 and these.
 A step that is omitted, or taken too early or too late, shows here where no row of a whole run could show it.
 
 What is due was told by an interpreter of docs/LANGUAGE.md and docs/WORLDS.md that was written apart from this program and keeps full
-copies, never by the program. The numbers of a `marks` line count whatever a child world touches, its own locals too.
+copies, never by the program.
 
 Each script that differs has a line here, with the least budget where it does. The last line counts, and the status is 1 where one
 differs. Last, without --gate and --only, output must come while a run goes on: a piece of 4,096 bytes, and no more of it.
@@ -114,7 +115,7 @@ def main(words):
         only = words[words.index('--only') + 1]
     with open(os.path.join(HERE, 'scripts.jsonl'), encoding='utf-8') as table:
         rows = [row for row in map(json.loads, table) if row['id'].startswith(only) and (not in_gate or row['id'] in IN_GATE)]
-    tries = [(row, where) for row in rows for where in WHERE]
+    tries = [(row, where) for row in rows for where in WHERE if where in row]
     modes = ('tree',) if in_gate else ('run', 'tree')
     made = wrong = 0
     with concurrent.futures.ProcessPoolExecutor(os.cpu_count()) as pool:
