@@ -1,5 +1,6 @@
 // kind: arrays by index
 // sizes: 20 220
+// steps: 63025 1131796
 var size = 220;
 function sorted(n) {
   var a = [], x = 7, i, j, k;

@@ -21,8 +21,10 @@ function Derived(k) { Base.call(this, k); }
 Derived.prototype = new Base(0);
 Derived.prototype.twice = function (x) { return this.whole(x) + this.whole(x + 1); };
 print(tak(size, size - 4, 1));
-print(ack(2, size * 3));
-print(even(size * 50) + " " + odd(size * 31));
+for (var n = 0, k = 0; k < size; k++) n += ack(2, size - k % 3);
+print(n);
+for (k = 0; k < size; k++) if (even(size * 3 + k) && !odd(size * 2)) n++;
+print(n);
 print(moves(size, "a", "b", "c"));
 var it = new Derived(9), sum = 0, i;
 for (i = 0; i < size * 400; i++) sum += it.twice(i);
