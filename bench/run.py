@@ -163,8 +163,9 @@ def tell_means(scripts, multiples, what):
     for script, times in zip(scripts, multiples):
         if times:
             kinds.setdefault(script.kind, []).append(times)
-    if not kinds:
+    if not kinds and scripts:
         print('\nmujs is not on PATH: nothing is told as a multiple of it')
+    if not kinds:
         return
     print(f'\n{what}')
     for kind, numbers in kinds.items():
