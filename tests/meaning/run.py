@@ -1,8 +1,9 @@
 #!/usr/bin/env python3
 """Runs the definitions of the meaning on scripts, inside the prover: each row of ../rows.jsonl and ../steps.jsonl that takes few
 enough steps becomes a theorem, that the run of its tree gives the bytes and the ending of the row, which is proved by computation alone.
+So does each play of plays.jsonl, by the definitions of wjs_alone.
 
-usage: tests/meaning/run.py [WORD..]     only the rows whose id begins with a WORD
+usage: tests/meaning/run.py [WORD..]     only the rows and plays whose id begins with a WORD
 
 std's finite maps don't compute outside their module, and its digits of a number take as many turns as the number has units, so the
 definitions are copied with plain ones in their place: sorted lists, and digits by division. The trees come
@@ -32,6 +33,7 @@ COPIED = {
     'wjs_store': ['Naming', 'State'],
     'wjs_content': ['Rename', 'Values', 'Names', 'Objects', 'Plans', 'Conversions', 'Properties'],
     'wjs_meaning': None,
+    'wjs_alone': None,
 }
 LIBRARIES = ['wjs_base', 'wjs_num', 'wjs_arena', 'wjs_tree', 'wjs_store', 'wjs_content', 'wjs_meaning']
 LEFT_OUT = {'Lib', 'Laws', 'Reading'}
@@ -41,6 +43,7 @@ HEAD = open(os.path.join(HERE, 'Head.antt.txt')).read()
 SHOWN = open(os.path.join(HERE, 'Shown.antt.txt')).read()
 USE_SHOWN = 'use Rattle.rows.proofs.Shown.{bytes_of, tree_bytes_of}\n'
 USE_LIBRARY = 'use Rattle.rows.proofs.Library.{tree_library}\n'
+USE_PLAYS = 'use Rattle.std.specs.Option.{option_map}\nuse Rattle.rows.specs.AlonePlaying.{play, bytes_of}\n'
 
 
 def copied_modules():
@@ -129,6 +132,22 @@ def theorem(row, name, planted=''):
     return f'pub test_{name} : {run} ≡ ({bytes_of(row["out"] + planted)}, {bytes_of(row["err"])})\nunfolding {OPENED}\ntest_{name} = refl\n'
 
 
+def plays_of(words):
+    plays = [json.loads(line) for line in open(os.path.join(HERE, 'plays.jsonl'))]
+    return [p for p in plays if not words or any(p['id'].startswith(w) for w in words)]
+
+
+def play_theorem(play, planted=''):
+    """A play without a library: its parts' trees, and that the play of its schedule gives its bytes."""
+    name = re.sub(r'\W', '_', play['id'])
+    parts = [f'{name}_{i}' for i in range(1, len(play['parts']) + 1)]
+    trees = '(' + ' ∷ '.join([f'tree_{part}' for part in parts] + ['[]']) + ')'
+    turns = '(' + ' ∷ '.join([f'record {{ activity = {a}; steps = {n} }}' for a, n in play['schedule']] + ['[]']) + ')'
+    said = f'option_map (bytes_of None {trees} {play["steps"]}) (play None {trees} {play["steps"]} {turns} {play["turn"]})'
+    text = ''.join('\n' + tree(part, source) for part, source in zip(parts, play['parts']))
+    return text + f'\npub test_{name} : {said} ≡ Some ({bytes_of(play["out"] + planted)})\nunfolding {OPENED}\ntest_{name} = refl\n'
+
+
 OPENED = 'digits encode_utf8 utf16_chars'
 
 
@@ -137,7 +156,7 @@ def library():
     return re.search(r'LIBRARY: &str = r#"(.*?)"#;', text, flags=re.S)[1]
 
 
-def write_tests(rows, folder):
+def write_tests(rows, plays, folder):
     write(os.path.join(folder, 'proofs', 'Shown.antt'), HEAD + '\n' + SHOWN)
     write(os.path.join(folder, 'proofs', 'Library.antt'), HEAD + USE_SHOWN + '\n' + tree('library', library()))
     names = ['Shown', 'Library']
@@ -149,6 +168,9 @@ def write_tests(rows, folder):
             ident = re.sub(r'\W', '_', row['id'])
             text += '\n' + tree(ident, row['stdin']) + '\n' + theorem(row, ident)
         write(os.path.join(folder, 'proofs', name + '.antt'), text)
+    if plays:
+        names.append('Plays')
+        write(os.path.join(folder, 'proofs', 'Plays.antt'), HEAD + USE_PLAYS + ''.join(play_theorem(play) for play in plays))
     write(os.path.join(folder, 'proofs', 'Lib.antt'), ''.join(f'pub mod {n}\n' for n in names))
 
 
@@ -157,9 +179,11 @@ def check(folder):
     return done.returncode, done.stdout + done.stderr
 
 
-def planted_is_refused(folder, row):
-    ident = 'planted'
-    text = HEAD + USE_SHOWN + USE_LIBRARY + '\n' + tree(ident, row['stdin']) + '\n' + theorem(row, ident, ' ')
+def planted_is_refused(folder, rows, plays):
+    if rows:
+        text = HEAD + USE_SHOWN + USE_LIBRARY + '\n' + tree('planted', rows[0]['stdin']) + '\n' + theorem(rows[0], 'planted', ' ')
+    else:
+        text = HEAD + USE_PLAYS + play_theorem({**plays[0], 'id': 'planted'}, ' ')
     write(os.path.join(folder, 'proofs', 'Planted.antt'), text)
     with open(os.path.join(folder, 'proofs', 'Lib.antt'), 'a') as f:
         f.write('pub mod Planted\n')
@@ -168,16 +192,16 @@ def planted_is_refused(folder, row):
 
 
 def main():
-    rows = rows_of(sys.argv[1:])
+    rows, plays = rows_of(sys.argv[1:]), plays_of(sys.argv[1:])
     folder = make_repository()
-    write_tests(rows, folder)
+    write_tests(rows, plays, folder)
     code, said = check(folder)
     if code != 0:
         print('\n'.join(line for line in said.splitlines() if 'error' in line or 'rows' in line)[:8000])
-        print(f'{len(rows)} rows: not all of them hold')
+        print(f'{len(rows)} rows and {len(plays)} plays: not all of them hold')
         return 1
-    refused = planted_is_refused(folder, rows[0])
-    print(f'{len(rows)} rows hold by computation; a planted wrong expectation is {"" if refused else "NOT "}refused')
+    refused = planted_is_refused(folder, rows, plays)
+    print(f'{len(rows)} rows and {len(plays)} plays hold by computation; a planted wrong expectation is {"" if refused else "NOT "}refused')
     return 0 if refused else 1
 
 

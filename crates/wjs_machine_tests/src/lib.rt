@@ -5,10 +5,12 @@
 mod owners;
 mod runs;
 mod turns;
+mod walks;
 
 pub use owners::{is_of_owner, world_of_object};
 pub use runs::{run_program, run_unheard};
 pub use turns::{turn, two_turns};
+pub use walks::{enter_below, walk_on};
 
 #[cfg(test)]
 mod tests;

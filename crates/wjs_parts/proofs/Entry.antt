@@ -51,7 +51,7 @@ then_ends (Ends c st n) = refl
 then_ends (Spent st) = refl
 
 -- the body of a program that is due, with nothing below it
-body_runs : (trees : List Tree) (tree : ℕ) (world : WorldId) (global : ObjId) (owner : ℕ) (st : St) (n : ℕ)
+pub body_runs : (trees : List Tree) (tree : ℕ) (world : WorldId) (global : ObjId) (owner : ℕ) (st : St) (n : ℕ)
     → run_next (then_do (interp eval (Tick (program_of (env_of_program trees tree world global owner))) st n) Ends) (λ st' n'. (Done, st')) ≡ part_run trees tree world global owner st n
 body_runs trees tree world global owner st n =
     ap (λ o. run_next o (λ st' n'. (Done, st'))) (then_ends (interp eval (Tick (program_of (env_of_program trees tree world global owner))) st n) ∙ sym (entries_lem AtProgram (env_of_program trees tree world global owner) st n))

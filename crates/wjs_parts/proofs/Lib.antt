@@ -1,3 +1,4 @@
 pub mod Going
 pub mod Pausing
 pub mod Entry
+pub mod Openings

@@ -1,3 +1,4 @@
 pub mod Going
 pub mod Walking
 pub mod Entering
+pub mod Opening

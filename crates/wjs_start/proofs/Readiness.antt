@@ -72,7 +72,7 @@ units_placed : (t : Table) (library : Option Program) (script : Program) → IfS
 units_placed t None script h k = All-cons (PlacesUnit t) script [] k (All-nil (PlacesUnit t))
 units_placed t (Some library) script h k = All-cons (PlacesUnit t) library (script ∷ []) h (All-cons (PlacesUnit t) script [] k (All-nil (PlacesUnit t)))
 
-code_stands : (units : List Program) (arena : Objects) (k : Code) (scope : Option ObjId) → IsTrue (not (is_script k)) → FunctionStands units arena k scope
+pub code_stands : (units : List Program) (arena : Objects) (k : Code) (scope : Option ObjId) → IsTrue (not (is_script k)) → FunctionStands units arena k scope
 code_stands units arena (code.Script tree node) scope h = absurd (cc)
 code_stands units arena code.None scope h = tt
 code_stands units arena (code.Native n) scope h = tt
@@ -81,18 +81,18 @@ some_frame : (library : Option NodeId) (script : NodeId) → frames_of library s
 some_frame None script e = cc
 some_frame (Some library) script e = cc
 
-some_map : {A B : Type 0} (f : A → B) (o : Option A) → is_some (option_map f o) ≡ is_some o
+pub some_map : {A B : Type 0} (f : A → B) (o : Option A) → is_some (option_map f o) ≡ is_some o
 some_map f None = refl
 some_map f (Some a) = refl
 
 -- ---- the actions
 
 -- what a store tells that told nothing before
-silent_told : (t : Table) (writes : List Told) (done : List (PlainAct × PlainReply)) → done ≡ [] → tell writes (told_by t (Some done)) ≡ Some writes
+pub silent_told : (t : Table) (writes : List Told) (done : List (PlainAct × PlainReply)) → done ≡ [] → tell writes (told_by t (Some done)) ≡ Some writes
 silent_told t writes done e = ap (λ (l : List (PlainAct × PlainReply)). tell writes (told_by t (Some l))) e
 
 -- behind the writes of a new store stand the actions of what is left, where it tells them
-told_behind : (t : Table) (run : Run) (fs : List Framed) (writes : List Told) (st : St) (n : ℕ) (before : Option (List (PlainAct × PlainReply))) → IfSome before (λ done. done ≡ []) → (told : Option (List Told)) → told ≡ tell writes (told_by t before) → (tells : Bool) → tells ≡ is_some before
+pub told_behind : (t : Table) (run : Run) (fs : List Framed) (writes : List Told) (st : St) (n : ℕ) (before : Option (List (PlainAct × PlainReply))) → IfSome before (λ done. done ≡ []) → (told : Option (List Told)) → told ≡ tell writes (told_by t before) → (tells : Bool) → tells ≡ is_some before
     → seen tells (rest_of run fs (record st { done = unwrap_or told [] }) n) ≡ seen (is_some before) (after_done writes (rest_of run fs (record st { done = [] }) n))
 told_behind t run fs writes st n None silent told e tells f = λ i. seen (f i) (rest_of run fs (record st { done = unwrap_or (e i) [] }) n)
 told_behind t run fs writes st n (Some done) silent told e tells f =

@@ -14,7 +14,7 @@ use wjs_arena::{Class, Code, Native};
 use wjs_base::{ObjId, OutOfMemory, WorldId};
 
 /// The first world.
-pub(crate) const FIRST_WORLD: WorldId = WorldId {
+pub const FIRST_WORLD: WorldId = WorldId {
     owner: 0,
     serial: 0,
 };

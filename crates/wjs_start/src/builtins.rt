@@ -12,7 +12,7 @@ pub(crate) const FUNCTION_PROTOTYPE: ObjId = ObjId {
     serial: 1,
 };
 
-pub(crate) const GLOBAL_OBJECT: ObjId = ObjId {
+pub const GLOBAL_OBJECT: ObjId = ObjId {
     owner: 0,
     serial: 2,
 };

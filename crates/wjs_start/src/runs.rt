@@ -73,7 +73,12 @@ fn first_frames(alloc: Global, library: &Option<Unit>, script: &Unit) -> Result<
 }
 
 /// The body of a program, in the first world and on the global object.
-fn program_frame(alloc: Global, tree: u32, body: NodeId, phase: Phase) -> Result<Frame, OutOfMemory>
+pub fn program_frame(
+    alloc: Global,
+    tree: u32,
+    body: NodeId,
+    phase: Phase,
+) -> Result<Frame, OutOfMemory>
     ensures { IfOk result (λ frame. frame ≡ frame_at tree body phase) }
 {
     let activation = Activation {

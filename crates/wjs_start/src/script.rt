@@ -16,7 +16,7 @@ use wjs_model::Unit;
 use wjs_tree::{Node, NodeId};
 
 /// The names of the functions that a script declares, and then those of its variables.
-pub(crate) fn script_names(alloc: Global, script: &Unit) -> Result<Vec<TextId>, OutOfMemory>
+pub fn script_names(alloc: Global, script: &Unit) -> Result<Vec<TextId>, OutOfMemory>
     ensures are { IfOk result (λ names. (t : Table) → IsTable t → KnowsUnit t script.now → map (text_in t) names.items ≡ declared_by_tree (unit_in t script.now)) }
     ensures found { IfOk result (λ names. (t : Table) → KnowsUnit t script.now → All (Has t) names.items) }
 {

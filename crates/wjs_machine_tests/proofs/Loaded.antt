@@ -1,0 +1,33 @@
+-- Programs that were loaded one after another, and put into a list.
+use Rattle.std.proofs.Common.{◌≡◌, ◌<◌, List, [], ◌∷◌, ◌++◌, length, sym, ap, ◌∙◌, subst, arith}
+use Rattle.std.specs.Prelude.{All}
+use Rattle.std.proofs.lemmas.List.Elements.{All-nil, All-cons, All-head, All-same}
+use Rattle.wjs_base.specs.Text.{Table, Grows}
+use Rattle.wjs_model.specs.declared.unit.Unit.{Unit as Program}
+use Rattle.wjs_model.specs.Texts.{KnowsUnit, PlacesUnit}
+use Rattle.wjs_model.proofs.Placed.{placed_stay}
+use Rattle.wjs_deeds.proofs.Staying.{units_stay}
+
+-- what is known of a program in a table is known in each later one
+module _ (old new : Table) (u : Program) (g : Grows old new) (known : KnowsUnit old u) where
+  one_known : All (KnowsUnit old) (u ∷ [])
+  one_known = All-cons (KnowsUnit old) u [] known (All-nil (KnowsUnit old))
+
+  pub known_later : KnowsUnit new u
+  known_later = All-head (KnowsUnit new) u [] (units_stay old new g (u ∷ []) one_known)
+
+  pub places_later : PlacesUnit old u → PlacesUnit new u
+  places_later placed = All-head (PlacesUnit new) u [] (placed_stay old new g (u ∷ []) one_known (All-cons (PlacesUnit old) u [] placed (All-nil (PlacesUnit old))))
+
+-- one program in a list
+pub pushed : (xs ps : List Program) (u : Program) → xs ≡ [] → ps ≡ xs ++ u ∷ [] → ps ≡ u ∷ []
+pushed xs ps u none e = e ∙ ap (λ (l : List Program). l ++ u ∷ []) none
+
+pub all_one : (P : Program → Type 0) (ps : List Program) (u : Program) → ps ≡ u ∷ [] → P u → All P ps
+all_one P ps u e h = All-same P ps (u ∷ []) e (All-cons P u [] h (All-nil P))
+
+pub one_unit : (us ps : List Program) (u : Program) → us ≡ ps → ps ≡ u ∷ [] → 0 < length us
+one_unit us ps u e f = subst (λ (l : List Program). 0 < length l) (sym (e ∙ f)) (omega arith)
+
+pub two_units : (us ps : List Program) (l u : Program) → us ≡ l ∷ ps → ps ≡ u ∷ [] → 1 < length us
+two_units us ps l u e f = subst (λ (x : List Program). 1 < length x) (sym (e ∙ ap (λ (x : List Program). l ∷ x) f)) (omega arith)
