@@ -3,7 +3,7 @@ use Rattle.std.proofs.Common.{◌≡◌, ℕ, zero, suc, ◌+◌, ◌≤◌, ◌
 use Rattle.wjs_meaning.specs.Trees.{Tree}
 use Rattle.wjs_meaning.specs.Deeds.{St, Env, Goal, AtProgram, Completion, Gives, Refers, Normal, Breaks, Continues, Returns, Throws, Act, Ret, Tick, Eval, Sub, Do, answer_of, state_after, Outcome, Ends, Spent, Next, interp, then_do}
 use Rattle.wjs_meaning.specs.Laws.{Within}
-use Rattle.wjs_meaning.specs.Programs.{entry, eval_to, eval, Ending, Done, StepsSpent, env_of_program, run_next}
+use Rattle.wjs_meaning.specs.Programs.{entry, eval_to, eval, Done, StepsSpent, env_of_program, run_next}
 use Rattle.wjs_meaning.proofs.Steps.{within_interp, within_eval_to, entries_lem}
 use Rattle.wjs_meaning.specs.Builtins.{global_object}
 use Rattle.wjs_content.specs.Objects.{Arena}

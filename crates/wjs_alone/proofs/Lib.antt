@@ -1,3 +1,4 @@
+pub mod Ascending
 pub mod Budget
 pub mod Objects
 pub mod Order

@@ -1,13 +1,13 @@
 -- Objects of the owner of a part are left out of its objects.
-use Rattle.std.proofs.Common.{◌≡◌, ℕ, ◌==◌, Bool, true, false, cond, not, List, Option, None, refl, sym, ap, ◌∙◌, Ordering}
+use Rattle.std.proofs.Common.{◌≡◌, ℕ, ◌==◌, Bool, true, false, cond, not, None, refl, sym, ap, ◌∙◌, Ordering}
 use Rattle.std.specs.FinMap as map
 use Rattle.std.proofs.lemmas.Bool.{eqb-false}
 use Rattle.wjs_base.specs.declared.ids.ObjId.{ObjId}
 use Rattle.wjs_base.specs.Order.{obj_cmp, obj_total, obj_exact}
-use Rattle.wjs_content.specs.Objects.{Arena, Entry, created}
+use Rattle.wjs_content.specs.Objects.{Arena, created}
 use Rattle.wjs_meaning.specs.Builtins.{global_object}
 use Rattle.wjs_meaning.specs.WorldValues.{world_object_of}
-use Rattle.wjs_alone.specs.Alone.{world_of, without, before, alone, part_run}
+use Rattle.wjs_alone.specs.Alone.{world_of, without, before, part_run}
 use Rattle.wjs_alone.specs.Laws.{OwnObjectsAreLeftOut}
 
 module _ (owner : ℕ) (one two : Arena) (same : (o : ObjId) → ¬ (o.owner ≡ owner) → map.get one o ≡ map.get two o) where

@@ -1,9 +1,8 @@
 -- Ends by their runs.
-use Rattle.std.proofs.Common.{◌≡◌, ℕ, List, [], ◌∷◌, Option, refl, sym, ap, ◌∙◌}
+use Rattle.std.proofs.Common.{◌≡◌, List, [], ◌∷◌, Option, refl, sym, ap, ◌∙◌}
 use Rattle.std.specs.Option.{option_map_or}
-use Rattle.wjs_alone.specs.Alone.{Outcome}
-use Rattle.wjs_alone.specs.Serial.{Run, End, runs_of, outcomes_of, tries_of, outcomes_by, IsSerial}
-use Rattle.wjs_alone.specs.Playing.{Play, PlayTurn, Activity, try_of, next_try, turn_of_try}
+use Rattle.wjs_alone.specs.Serial.{End, runs_of, outcomes_of, tries_of, outcomes_by}
+use Rattle.wjs_alone.specs.Playing.{Activity, try_of, next_try, turn_of_try}
 use Rattle.wjs_alone.specs.Laws.{OrderDecides, EndedTakeNoTurn}
 
 same_ends : (one two : List End) → runs_of one ≡ runs_of two → outcomes_of one ≡ outcomes_of two → tries_of one ≡ tries_of two → one ≡ two

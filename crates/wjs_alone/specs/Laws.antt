@@ -21,6 +21,10 @@ OwnObjectsAreLeftOut = (trees : List Tree) (tree owner : ℕ) (copy : Copy) (one
 abbrev pub OrderDecides : Type 0
 OrderDecides = (library : Option Tree) (parts : List Tree) (budget : ℕ) (copy : Copy) (arena : Arena) (one two : List End) → IsSerial library parts budget copy arena one → IsSerial library parts budget copy arena two → runs_of one ≡ runs_of two → tries_of one ≡ tries_of two → one ≡ two
 
+-- whatever was there, some ends are in serial order
+abbrev pub SomeAreSerial : Type 0
+SomeAreSerial = (library : Option Tree) (parts : List Tree) (budget : ℕ) (copy : Copy) (arena : Arena) → (ends : List End) × IsSerial library parts budget copy arena ends
+
 -- a turn of an activity that has ended, or of none, is left out
 abbrev pub EndedTakeNoTurn : Type 0
 EndedTakeNoTurn = (library : Option Tree) (parts : List Tree) (budget : ℕ) (s : Play) (t : PlayTurn) → activity_in s.activities t.activity ≡ None → turn library parts budget s t ≡ s

@@ -1,5 +1,5 @@
 -- Ends one after another: each part is run alone from what the ends before it left.
-use Rattle.std.specs.Prelude.{◌≡◌, ℕ, zero, suc, ◌+◌, ◌≤◌, ◌==◌, cond, List, [], ◌∷◌, ◌++◌, map as each, All, count_by, length, codes, Option, Some}
+use Rattle.std.specs.Prelude.{◌≡◌, ℕ, zero, suc, ◌+◌, ◌≤◌, ◌==◌, cond, List, [], ◌∷◌, ◌++◌, map as each, All, count_by, length, codes, Option, None, Some}
 use Rattle.std.specs.Fmt.{decimal}
 use Rattle.std.specs.FinMap as map
 use Rattle.wjs_base.specs.declared.ids.ObjId.{ObjId}
@@ -63,6 +63,10 @@ Holds old new = (o : ObjId) (e : Entry) → map.get old o ≡ Some e → map.get
 abbrev pub WorldsOwn : Arena → Type 0
 WorldsOwn arena = (o : ObjId) (e : Entry) (w : WorldId) → map.get arena o ≡ Some e → e.object.world ≡ Some w → w.owner ≡ o.owner
 
+-- so it is with the objects of the second that aren't in the first
+abbrev pub NewOwn : Arena → Arena → Type 0
+NewOwn old new = (o : ObjId) (e : Entry) (w : WorldId) → map.get old o ≡ None → map.get new o ≡ Some e → e.object.world ≡ Some w → w.owner ≡ o.owner
+
 -- by the library's tree, the parts' and the budget of each
 module _ (library : Option Tree) (parts : List Tree) (budget : ℕ) where
   -- the activity's part alone, from what the first world holds
@@ -82,17 +86,17 @@ module _ (library : Option Tree) (parts : List Tree) (budget : ℕ) where
   copy_by copy [] = copy
   copy_by copy (r ∷ rs) = copy_by (copy_after r.owner copy (run_at copy r)) rs
 
-  -- the objects of each run hold those that were there, and those that the run before it left; none of them stands for a world that another owner has
+  -- the objects of each run hold those that were there, and those that the run before it left; none that comes beside them stands for the world of another owner
   abbrev pub ObjectsGrow : Copy → Arena → List Run → Type 0
   ObjectsGrow copy arena [] = Unit {0}
-  ObjectsGrow copy arena (r ∷ rs) = Holds arena r.objects × WorldsOwn r.objects × ObjectsGrow (copy_after r.owner copy (run_at copy r)) ((run_at copy r).1).arena rs
+  ObjectsGrow copy arena (r ∷ rs) = Holds arena r.objects × NewOwn arena r.objects × ObjectsGrow (copy_after r.owner copy (run_at copy r)) ((run_at copy r).1).arena rs
 
   -- from what the first world held and the objects that were there: the ends are those of the parts, each run alone in this order
   pub record IsSerial (copy : Copy) (arena : Arena) (ends : List End) : Type 0 where
     -- each activity has one end, and there is no other
     pub each_once : (k : ℕ) → 1 ≤ k → k ≤ length parts → count_by (λ e. e.run.activity == k) ends ≡ 1
     pub no_other : All (λ e. (1 ≤ e.run.activity) × (e.run.activity ≤ length parts)) ends
-    -- their owners differ, and none is 0
+    -- their owners differ, and none is 0, the library's
     pub owners : (q : ℕ) → count_by (λ e. e.run.owner == q) ends ≤ cond (q == 0) 0 1
     pub tries : All (λ e. (1 ≤ e.tries) × (e.tries ≤ 4)) ends
     pub objects : ObjectsGrow copy arena (runs_of ends)

@@ -1,5 +1,5 @@
 //! Laws of parts alone, of serial ends and of plays, each the contract of a function that does nothing.
-ghost use Rattle.wjs_alone.specs.Laws.{OneEnding, OwnObjectsAreLeftOut, OrderDecides, EndedTakeNoTurn};
+ghost use Rattle.wjs_alone.specs.Laws.{OneEnding, OwnObjectsAreLeftOut, OrderDecides, SomeAreSerial, EndedTakeNoTurn};
 
 /// A part alone has one ending, one output and one final state, whatever budget it has that is enough.
 pub fn one_ending()
@@ -14,6 +14,11 @@ pub fn own_objects_are_left_out()
 /// Serial ends of the same runs, in the same order and with the same numbers of tries, are the same.
 pub fn order_decides()
     ensures { OrderDecides }
+{}
+
+/// Whatever was there before the first part, some ends are in serial order.
+pub fn some_are_serial()
+    ensures { SomeAreSerial }
 {}
 
 /// A turn for an activity that has ended, or for a number that no activity has, changes nothing.

@@ -6,4 +6,6 @@
 
 mod laws;
 
-pub use laws::{ended_take_no_turn, one_ending, order_decides, own_objects_are_left_out};
+pub use laws::{
+    ended_take_no_turn, one_ending, order_decides, own_objects_are_left_out, some_are_serial,
+};
