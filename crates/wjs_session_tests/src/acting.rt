@@ -1,0 +1,109 @@
+//! What the tests do with sessions, and what they compare.
+use std::alloc::Global;
+use std::process::Abort;
+use std::test::Fail;
+use wjs_base::{Content, Names, OutOfMemory, Slot, WorldId, same_value};
+use wjs_full::run_actions;
+use wjs_overlay::Overlay;
+use wjs_session::{Session, rest_changes_nothing, writes_leave_others};
+use wjs_store::{Action, Answer, Counts, Verdict, WorldStore};
+
+fn same_names(a: &Names, b: &Names) -> bool {
+    if a.len() != b.len() {
+        return false;
+    }
+    (0..a.len()).all(|place| place < b.len() && a.at(place) == b.at(place))
+}
+
+fn same_content(a: Content, b: Content) -> bool {
+    match (a, b) {
+        (Content::Absent, Content::Absent) => true,
+        (Content::Present(a), Content::Present(b)) => same_value(a, b),
+        _ => false,
+    }
+}
+
+/// Of two answers whose worlds may be of two owners.
+pub(crate) fn same_answer(a: &Answer, b: &Answer) -> bool {
+    match (a, b) {
+        (Answer::Found(a), Answer::Found(b)) => same_content(*a, *b),
+        (Answer::Wrote, Answer::Wrote) => true,
+        (Answer::Listed(a), Answer::Listed(b)) => same_names(a, b),
+        (Answer::Sprouted(a), Answer::Sprouted(b)) => a.serial == b.serial,
+        (Answer::Committed(a), Answer::Committed(b)) => a == b,
+        (Answer::NoWorld, Answer::NoWorld) => true,
+        _ => false,
+    }
+}
+
+pub(crate) fn same_answers(a: &[Answer], b: &[Answer]) -> bool {
+    a.len() == b.len() && a.iter().zip(b.iter()).all(|(a, b)| same_answer(a, b))
+}
+
+/// Does actions on a store, and compares its answers.
+pub(crate) fn does<S: WorldStore>(
+    rt: &impl Abort,
+    alloc: Global,
+    store: &mut S,
+    actions: &[Action],
+    due: &[Answer],
+) -> Result<(), Fail> {
+    let got = run_actions(alloc, store, actions)?;
+    assert!(rt; same_answers(got.as_slice(), due));
+    Ok(())
+}
+
+/// A session of an owner without worlds.
+pub(crate) fn begin(alloc: Global, shared: Overlay, owner: u32) -> Result<Session, OutOfMemory> {
+    if shared.is_spent() {
+        return Err(OutOfMemory);
+    }
+    if shared.has_world(WorldId { owner, serial: 0 }) {
+        return Err(OutOfMemory);
+    }
+    Session::begin(alloc, shared, owner)
+}
+
+/// Whether a session agrees, and its end.
+pub(crate) fn end(session: Session) -> Result<(Overlay, bool, Verdict), OutOfMemory> {
+    if session.is_spent() {
+        return Err(OutOfMemory);
+    }
+    let agrees = session.agrees();
+    let (shared, verdict) = session.settle()?;
+    Ok((shared, agrees, verdict))
+}
+
+/// The sizes of the marks of a session's world, which the shared store tells while the session rests.
+pub(crate) fn marks(session: Session) -> Result<(Session, Counts), OutOfMemory> {
+    if session.is_spent() {
+        return Err(OutOfMemory);
+    }
+    let world = session.first();
+    let (shared, resting) = session.rest();
+    if !shared.has_world(world) {
+        return Err(OutOfMemory);
+    }
+    let counts = shared.counts(world);
+    Ok((resting.resume(shared), counts))
+}
+
+/// A session rests while a slot is written in the first world.
+pub(crate) fn write_beside(
+    session: Session,
+    slot: Slot,
+    content: Content,
+) -> Result<Session, OutOfMemory> {
+    if session.is_spent() {
+        return Err(OutOfMemory);
+    }
+    rest_changes_nothing();
+    writes_leave_others();
+    let (mut shared, resting) = session.rest();
+    let first = shared.first();
+    if !shared.has_world(first) {
+        return Err(OutOfMemory);
+    }
+    shared.write(first, slot, content)?;
+    Ok(resting.resume(shared))
+}
