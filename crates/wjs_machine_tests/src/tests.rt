@@ -6,7 +6,6 @@ use wjs_base::Texts;
 use wjs_full::FullStore;
 use wjs_load::load;
 use wjs_model::State;
-use wjs_parts::start_parts;
 use wjs_start::start;
 
 const SCRIPT: &[u8] = b"var x = 1, w = thisWorld.sprout(); in w { x = 2; } w.commit(); print(x);";
@@ -57,7 +56,7 @@ fn a_walk_pauses_and_goes_on(rt: HostRuntime) -> Result<(), Fail> {
     let second = walk_on(&mut config, 5000)?;
     assert!(rt; second > 5);
     assert!(rt; matches!(config.state, State::Done));
-    assert!(rt; config.pending.as_slice() == b"2\n".as_slice());
+    assert_eq!(rt; config.pending.as_slice(), b"2\n".as_slice());
     Ok(())
 }
 
@@ -69,16 +68,9 @@ fn a_part_without_a_library_runs(rt: HostRuntime) -> Result<(), Fail> {
         return Err("refused")?;
     };
     let store = FullStore::new(alloc)?;
-    let mut parts = Vec::new(alloc);
-    parts.push(part)?;
-    let mut config = start_parts(alloc, texts, store, None, parts, 7)?;
+    let config = run_part(alloc, texts, store, None, part, 1000)?;
     assert!(rt; matches!(config.state, State::Done));
-    assert_eq!(rt; config.left, 7);
-    enter_below(&mut config, 0, 1000)?;
-    assert!(rt; matches!(config.state, State::Running));
-    walk_on(&mut config, 5000)?;
-    assert!(rt; matches!(config.state, State::Done));
-    assert!(rt; config.pending.as_slice() == b"2\n".as_slice());
+    assert_eq!(rt; config.pending.as_slice(), b"2\n".as_slice());
     Ok(())
 }
 
@@ -93,19 +85,8 @@ fn a_part_runs_behind_a_library(rt: HostRuntime) -> Result<(), Fail> {
         return Err("refused")?;
     };
     let store = FullStore::new(alloc)?;
-    let mut parts = Vec::new(alloc);
-    parts.push(part)?;
-    let mut config = start_parts(alloc, texts, store, Some(library), parts, 100)?;
-    assert!(rt; matches!(config.state, State::Running));
-    assert_eq!(rt; config.left, 100);
-    walk_on(&mut config, 100)?;
+    let config = run_part(alloc, texts, store, Some(library), part, 100)?;
     assert!(rt; matches!(config.state, State::Done));
-    enter_below(&mut config, 1, 2)?;
-    assert_eq!(rt; walk_on(&mut config, 100)?, 2);
-    assert!(rt; matches!(config.state, State::StepsSpent));
-    enter_below(&mut config, 1, 100)?;
-    walk_on(&mut config, 100)?;
-    assert!(rt; matches!(config.state, State::Done));
-    assert!(rt; config.pending.as_slice() == b"3\n".as_slice());
+    assert_eq!(rt; config.pending.as_slice(), b"3\n".as_slice());
     Ok(())
 }

@@ -1,11 +1,16 @@
 //! Parts that are entered, and walks of a run that rests between them.
-ghost use Rattle.std.specs.Prelude.{◌≡◌, ◌<◌, ◌≤◌, ◌+◌, length, IfOk, OnOk};
+ghost use Rattle.std.specs.Prelude.{◌≡◌, ◌<◌, ◌≤◌, ◌+◌, length, IfOk, IfSome, OnOk};
+ghost use Rattle.std.specs.Option.{option_map_or};
+ghost use Rattle.wjs_base.specs.Text.{IsTable};
 ghost use Rattle.wjs_model.specs.Soundness.{Base, Sound};
+ghost use Rattle.wjs_model.specs.Texts.{KnowsUnit, PlacesUnit};
+ghost use Rattle.wjs_start.specs.First.{IsNew};
 
-use wjs_base::OutOfMemory;
+use std::alloc::Global;
+use wjs_base::{OutOfMemory, Texts};
 use wjs_deeds::sprout;
-use wjs_model::{Config, Frames, State};
-use wjs_parts::{enter, walk};
+use wjs_model::{Config, Frames, State, Unit};
+use wjs_parts::{enter, start_parts, walk};
 use wjs_store::WorldStore;
 
 /// Takes so many steps at most, where the run goes on, and gives how many. It may rest then, and walk on.
@@ -40,4 +45,43 @@ pub fn enter_below<S: WorldStore>(
     config.world = child;
     config.frames = Frames::new(config.heap.arena.allocator());
     enter(config, part, budget)
+}
+
+/// Runs a library's program to its end, where there is one, and then a part in a child of the first world, each with so many steps.
+pub fn run_part<S: WorldStore + Drop>(
+    alloc: Global,
+    texts: Texts,
+    store: S,
+    library: Option<Unit>,
+    part: Unit,
+    budget: u64,
+) -> Result<Config<S>, OutOfMemory>
+    requires table { IsTable texts }
+    requires new { IsNew (S.meaning store) }
+    requires library { IfSome library (KnowsUnit texts) }
+    requires part { KnowsUnit texts part }
+    requires library_places { IfSome library (PlacesUnit texts) }
+    requires part_places { PlacesUnit texts part }
+    ensures { IfOk result (Sound S.meaning) }
+{
+    let number = number_behind(&library);
+    let mut parts = Vec::new(alloc);
+    let Ok(()) = parts.push(part) else {
+        return Err(OutOfMemory);
+    };
+    let mut config = start_parts(alloc, texts, store, library, parts, budget)?;
+    walk_on(&mut config, budget)?;
+    enter_below(&mut config, number, budget)?;
+    walk_on(&mut config, budget)?;
+    Ok(config)
+}
+
+/// The number of the first program behind a library.
+fn number_behind(library: &Option<Unit>) -> u32
+    ensures { result ≡ option_map_or (λ _. 1) library.now 0 }
+{
+    match library {
+        None => 0,
+        Some(_) => 1,
+    }
 }
