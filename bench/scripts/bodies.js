@@ -1,5 +1,6 @@
 // kind: calls
 // sizes: 20 900
+// steps: 40687 1827087
 var size = 900;
 // long bodies: many formals and locals, most of them named in statements of their own
 function mixed(a, b, c, d, e, f, g, h) {

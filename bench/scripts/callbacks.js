@@ -1,5 +1,6 @@
 // kind: closures
 // sizes: 20 700
+// steps: 78671 2579020
 var size = 700;
 function each(list, f) { for (var i = 0; i < list.length; i++) f(list[i], i); }
 function map(list, f) { var out = []; each(list, function (x, i) { out[i] = f(x); }); return out; }

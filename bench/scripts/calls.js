@@ -1,5 +1,6 @@
 // kind: calls
 // sizes: 12 23
+// steps: 47689 1193429
 var size = 23;
 function fib(n) { if (n < 2) return n; return fib(n - 1) + fib(n - 2); }
 function Counter() { this.n = 0; }

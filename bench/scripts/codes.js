@@ -1,5 +1,6 @@
 // kind: loops
 // sizes: 30 2500
+// steps: 17579 1410659
 var size = 2500;
 // a machine of its own: codes with an operand in two arrays, a stack, and a switch in a loop
 var PUSH = 0, LOAD = 1, STORE = 2, ADD = 3, SUB = 4, MUL = 5, MOD = 6, LESS = 7, JUMP = 8, UNLESS = 9, TELL = 10, END = 11;

@@ -1,5 +1,6 @@
 // kind: exceptions
 // sizes: 30 5000
+// steps: 9039 1515554
 var size = 5000;
 function Stop(at) { this.at = at; }
 function dive(n, at) {

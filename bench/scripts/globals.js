@@ -1,5 +1,6 @@
 // kind: loops
 // sizes: 60 4000
+// steps: 31626 2325336
 var size = 4000;
 // nothing is local: each name is a property of the global object
 var a, b, t, i, j, sum = 0, low = 0, high = 0, bits = 0, x = 12345;

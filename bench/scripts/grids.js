@@ -1,5 +1,6 @@
 // kind: arrays by index
 // sizes: 1 22
+// steps: 89256 1609763
 var size = 22;
 // a game of life on a torus in one array, and products of matrices, which are arrays of arrays
 function life(width, height, turns) {

@@ -1,5 +1,6 @@
 // kind: loops
 // sizes: 8 70
+// steps: 43027 1302285
 var size = 70;
 // jumps out of loops by labels, switches that fall through, and loops that test behind
 function triples(below) {

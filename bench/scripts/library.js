@@ -1,5 +1,6 @@
 // kind: library array functions
 // sizes: 4 400
+// steps: 13699 1454971
 var size = 400;
 var a = [], b, i, sum = 0, t = "";
 for (i = 0; i < size * 20; i++) a.push(i);

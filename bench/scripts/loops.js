@@ -1,5 +1,6 @@
 // kind: loops
 // sizes: 100 6000
+// steps: 18456 1726762
 var size = 6000;
 var sum = 0;
 for (var i = 0; i < size * 10; i++) sum += i % 7;

@@ -1,5 +1,6 @@
 // kind: searches by recursion
 // sizes: 3 5
+// steps: 32930 2624110
 var size = 5;
 // knights on a board, colours of a map, and words in a grid of letters
 function tours(n, most) {

@@ -1,5 +1,6 @@
 // kind: searches by recursion
 // sizes: 5 9
+// steps: 9750 2257961
 var size = 9;
 // all places of queens: columns and diagonals are marked, and marks are taken back
 function all(n) {

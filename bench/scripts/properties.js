@@ -1,5 +1,6 @@
 // kind: objects and properties
 // sizes: 1 14
+// steps: 152937 1780083
 var size = 14;
 // maps of 10, 100 and 1,000 names: looks, changes, `in`, `delete`, `for`-`in`
 var names = [], i;

@@ -1,5 +1,6 @@
 // kind: library array functions
 // sizes: 3 24
+// steps: 17795 415636
 var size = 24;
 // breadth first through a grid by a queue, brackets by a stack, and lines that are edited
 function distances(width, height) {

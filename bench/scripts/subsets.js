@@ -1,5 +1,6 @@
 // kind: searches by recursion
 // sizes: 6 14
+// steps: 28942 1449462
 var size = 14;
 // sums of subsets with a bound, permutations by swaps, and ways to pay that are remembered
 function subsets(values, at, left) {

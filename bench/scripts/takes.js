@@ -1,5 +1,6 @@
 // kind: calls
 // sizes: 4 10
+// steps: 92843 369238
 var size = 10;
 // calls within arguments, functions that call each other, and methods found two prototypes up
 function tak(x, y, z) {

@@ -1,5 +1,6 @@
 // kind: texts
 // sizes: 1 10
+// steps: 107498 1074269
 var size = 10;
 function words(n, from) {
   var t = "", i;

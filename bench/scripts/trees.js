@@ -1,5 +1,6 @@
 // kind: objects and properties
 // sizes: 20 2000
+// steps: 11951 2230617
 var size = 2000;
 // a search tree of objects, and shapes whose methods are found in prototypes one and two up
 function Node(key) { this.key = key; this.left = this.right = null; this.count = 1; }

@@ -1,5 +1,6 @@
 // kind: texts
 // sizes: 10 400
+// steps: 38177 1515135
 var size = 400;
 // one unit after another
 var alphabet = "abcdefghijklmnopqrstuvwxyz";

@@ -1,5 +1,6 @@
 // kind: exceptions
 // sizes: 30 3000
+// steps: 11847 1146951
 var size = 3000;
 // records are checked by parts; what is wrong is thrown as an object, told more of on its way, and counted
 function Fault(what, path) { this.what = what; this.path = path; }

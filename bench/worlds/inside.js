@@ -1,4 +1,5 @@
 // sizes: 30 1500
+// steps: 16903 845979
 var size = 1500;
 // plain work in a child of the first world, in a child of that, and in strict ones: loops, calls, objects, elements
 function Cell(v, next) { this.v = v; this.next = next; }

@@ -1,4 +1,5 @@
 // sizes: 30 1500
+// steps: 16876 845952
 var size = 1500;
 // the same in the first world
 function Cell(v, next) { this.v = v; this.next = next; }

@@ -1,4 +1,5 @@
 // sizes: 5 8
+// steps: 21716 1933345
 var size = 8;
 // all places of queens; each that is tried stands in a copy of its own
 function safe(row, r, c) {

@@ -1,4 +1,5 @@
 // sizes: 20 500
+// steps: 37616 193328
 var size = 500;
 // siblings move sums between 1,000 accounts, each in a world of its own, and are committed one after another
 var accounts = {}, worlds = [], moved = 0, refused = 0, all = 0, i;

@@ -1,4 +1,5 @@
 // sizes: 20 500
+// steps: 47869 448669
 var size = 500;
 // the same by layers: each keeps what it has seen and changed, and hands its changes on where what it has seen stands still
 function Ground(map) { this.map = map; }

@@ -1,4 +1,5 @@
 // sizes: 30 1000
+// steps: 6825 91603
 var size = 1000;
 // each edit stands in a child of the last; to undo is to go back to an older world
 var cells = {}, worlds = [thisWorld], i;

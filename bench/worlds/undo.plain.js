@@ -1,4 +1,5 @@
 // sizes: 30 1000
+// steps: 51943 1136556
 var size = 1000;
 // the same by layers, each over the last
 function Ground(map) { this.map = map; }
