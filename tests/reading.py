@@ -15,6 +15,8 @@ import sys
 TOP = os.path.dirname(os.path.dirname(os.path.abspath(__file__)))
 START = ('wjs_command', 'src/work.rt', 'pub fn command<')
 WORD = re.compile(r"[^\s(){}\[\],;.@\\]+")
+# What binds variables: types in brackets, λ and `let`; and the fields of a record.
+BINDERS = (re.compile(r'[({]([^(){}:]+) :'), re.compile(r'λ ([^.]+)\.'), re.compile(r'\blet (\S+)'), re.compile(r'^(?:pub )?(\S+) :'))
 
 
 def kit_folder():
@@ -62,7 +64,7 @@ class File:
         with open(path, encoding='utf-8') as it:
             lines = it.read().split('\n')
         self.imports = imports_of(lines)
-        self.items, self.names = [], {}
+        self.items, self.names, self.given = [], {}, set()
         item, depth_of_item = None, 0
         for line in lines:
             text = line.strip()
@@ -71,6 +73,7 @@ class File:
             depth = len(line) - len(line.lstrip())
             if re.match(r'(abbrev )?(mutual|module\b.*where|module\b.*)$', text) and not text.startswith('module.'):
                 item = None
+                self.given |= bound_by(text)
                 continue
             head = re.match(r'(?:(?:abbrev|pub|data|record|unfoldable|pattern) )*(\S+) (?:\{[^}]*\} |\([^)]*\) )*(?::|\()?', text)
             begins = re.match(r"(?:(?:abbrev|pub|data|record|unfoldable) )+(\S+)", text) or re.match(r"(\S+) : ", text)
@@ -88,6 +91,20 @@ class File:
             # the constructors and fields of a type lead to the type
             if is_field and field:
                 self.names.setdefault(field[1], item)
+
+
+def bound_by(text):
+    return {name for binder in BINDERS for found in binder.findall(text) for name in WORD.findall(found)}
+
+
+def local_to(held, item):
+    """The names of a file that an item may mean. A variable that is named as a field of another type doesn't mean that type."""
+    bound = set(held.given)
+    for line in item['lines']:
+        bound |= bound_by(line)
+        if line.startswith(item['name'] + ' ') and ' = ' in line:
+            bound |= set(WORD.findall(line.partition(' = ')[0]))
+    return {name: (held, it) for name, it in held.names.items() if it['name'] == name or name not in bound}
 
 
 FILES = {}
@@ -144,7 +161,7 @@ def main():
         if (held.path, item['name']) in read:
             continue
         read[held.path, item['name']] = len(item['lines'])
-        local = {name: (held, it) for name, it in held.names.items()}
+        local = local_to(held, item)
         waiting += [it for line in item['lines'] for it in named(line, held.imports, local) if it]
     by_file = collections.defaultdict(list)
     for path, name in read:
