@@ -1,9 +1,10 @@
 #!/usr/bin/env python3
-"""Whether crates.txt lists for each crate only libraries that the crate names.
+"""Whether crates.txt lists for each crate only libraries that the crate names, and each crate behind those that it names.
 
 A crate names a library in its sources, definitions, proofs and must-fail edits: `NAME::`, `use NAME` or `Rattle.NAME`.
 Each that is listed and never named has a line here, and the status is then 1: before its first proof `rt` walks every way
-through crates.txt, and each needless entry makes these ways many more.
+through crates.txt, and each needless entry makes these ways many more. A crate that stands before a library that it lists has
+one too, so that the file keeps the order of the layers.
 """
 import glob
 import os
@@ -30,11 +31,23 @@ def named(crate):
                     yield from filter(None, names)
 
 
+def faults():
+    crates = dict(listed())
+    above = set()
+    for crate, libraries in crates.items():
+        for library in sorted(set(libraries) - set(named(crate))):
+            yield f'{crate} lists {library} and never names it'
+        for library in libraries:
+            if library in crates and library not in above:
+                yield f'{crate} stands before {library}, which it lists'
+        above.add(crate)
+
+
 def main():
-    idle = [(crate, library) for crate, libraries in listed() for library in sorted(set(libraries) - set(named(crate)))]
-    for crate, library in idle:
-        print(f'crates.txt: {crate} lists {library} and never names it', file=sys.stderr)
-    sys.exit(1 if idle else 0)
+    found = list(faults())
+    for fault in found:
+        print(f'crates.txt: {fault}', file=sys.stderr)
+    sys.exit(1 if found else 0)
 
 
 if __name__ == '__main__':
