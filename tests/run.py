@@ -6,7 +6,8 @@ usage: tests/run.py [TABLE..] [-- COMMAND..]     no TABLE: all of tests/*.jsonl,
 A table has a row a line, a JSON object: `id`, `words`, `stdin` (or `stdin_hex`, or `parts`: texts, each with how many times it stands
 there, `#` in it being the number of the time), and the `out`, `err` and `status` that are due.
 An `err` of `usage: ` stands for one line that begins so. Of an example, examples/NAME.js, examples/NAME.out is due, nothing on
-standard error, and status 0; and its log is one that is audited. A row may have besides:
+standard error, and status 0; and its log is one that is audited. So it is of a play, examples/NAME.play, whose first line has its
+words behind `// worlds`, and which has no log. A row may have besides:
   lines        in place of `out`: patterns, each with how many lines of `out` it fits, or null where that is one at least
   last         the pattern of the last line of `out`
   audited      `out` is given to the program in mode `audit`, which must say yes
@@ -19,8 +20,10 @@ standard error, and status 0; and its log is one that is audited. A row may have
   stack_kb     the program has so much stack
   fronts       in place of `out`, `err` and `status`: the script is not run alone, but each of its fronts. A part of this list has the
                greatest length of the fronts for which it holds, then their `out`, `err` and `status`
+  stops        the same of each number from 1 on, which stands in place of `#` in `stdin`
+  program      the row runs another program than worlds: that of this crate
 
-Without a COMMAND the program is what ./worlds runs, which is proved and built first where a source is newer.
+Without a COMMAND the program is what ./worlds runs, which is proved and built first where a source is newer, as the others are.
 Each row that differs has a line here. The last line counts, and the status is 1 where a row differs.
 """
 import concurrent.futures
@@ -43,15 +46,19 @@ LIMITS = (('memory_mb', resource.RLIMIT_AS, 20), ('stack_kb', resource.RLIMIT_ST
 def rows_of_table(path):
     with open(path, encoding='utf-8') as table:
         for row in map(json.loads, table):
-            yield from rows_of_fronts(row) if 'fronts' in row else [row]
+            if 'fronts' in row:
+                yield from rows_by_number(row, row['fronts'], 0, lambda length, stdin: stdin[:length])
+            elif 'stops' in row:
+                yield from rows_by_number(row, row['stops'], 1, lambda steps, stdin: stdin.replace('#', str(steps)))
+            else:
+                yield row
 
 
-def rows_of_fronts(row):
-    length = 0
-    for greatest, out, err, status in row['fronts']:
-        while length <= greatest:
-            yield row | {'id': f"{row['id']}-{length}", 'stdin': row['stdin'][:length], 'out': out, 'err': err, 'status': status}
-            length += 1
+def rows_by_number(row, due, number, given):
+    for greatest, out, err, status in due:
+        while number <= greatest:
+            yield row | {'id': f"{row['id']}-{number}", 'stdin': given(number, row['stdin']), 'out': out, 'err': err, 'status': status}
+            number += 1
 
 
 def rows_of_examples():
@@ -62,13 +69,32 @@ def rows_of_examples():
         with open(path, 'rb') as script:
             yield {'id': 'the log of examples/' + os.path.basename(path), 'words': ['--mode', 'log'], 'stdin_hex': script.read().hex(),
                    'lines': [], 'audited': True, 'err': '', 'status': 0}
+    for path in sorted(glob.glob(os.path.join(TOP, 'examples', '*.play'))):
+        with open(path, 'rb') as play, open(path[:-len('.play')] + '.out', encoding='utf-8', newline='') as out:
+            given = play.read()
+            yield {'id': 'examples/' + os.path.basename(path), 'words': given.decode().split('\n')[0].removeprefix('// worlds ').split(),
+                   'stdin_hex': given.hex(), 'out': out.read(), 'err': '', 'status': 0}
 
 
 def built():
     """The program itself, since ./worlds looks for newer sources each time."""
     if subprocess.run([os.path.join(TOP, 'worlds'), '--mode', 'check'], stdin=subprocess.DEVNULL, stdout=subprocess.DEVNULL).returncode:
         sys.exit('tests/run.py: ./worlds does not run')
-    return [os.path.join(TOP, 'crates', 'worlds', 'out', 'worlds')]
+    return [program_of('worlds')]
+
+
+def program_of(crate):
+    return os.path.join(TOP, 'crates', crate, 'out', crate)
+
+
+def build(crate):
+    """Proves and builds the program of a crate where that has not been done since the last change."""
+    program, crates = program_of(crate), os.path.join(TOP, 'crates')
+    newer = ['find', crates, '-name', 'out', '-prune', '-o', '-type', 'f', '-newer', program, '-print', '-quit']
+    if not os.path.exists(program) or subprocess.run(newer, stdout=subprocess.PIPE).stdout:
+        built = subprocess.run(['rt', 'run'], cwd=os.path.join(crates, crate), stdin=subprocess.DEVNULL, stdout=subprocess.DEVNULL)
+        if built.returncode:
+            sys.exit(f'tests/run.py: the program of {crate} could not be built')
 
 
 def streams_of(row, opened):
@@ -131,6 +157,7 @@ def shown(out, err, status):
 
 def difference(row, command):
     """What was got in place of what is due, None where that is the same."""
+    command = [program_of(row['program'])] if 'program' in row else command
     try:
         with contextlib.ExitStack() as opened:
             done = subprocess.run(command + row['words'], timeout=SECONDS, preexec_fn=preparation_of(row), **streams_of(row, opened))
@@ -160,6 +187,8 @@ def main(words):
     tables = words or sorted(glob.glob(os.path.join(TOP, 'tests', '*.jsonl')))
     rows = [row for table in tables for row in rows_of_table(table)] + ([] if words else list(rows_of_examples()))
     command = command or built()
+    for crate in sorted({row['program'] for row in rows if 'program' in row}):
+        build(crate)
     failed = 0
     with concurrent.futures.ThreadPoolExecutor(os.cpu_count()) as pool:
         for row, got in zip(rows, pool.map(lambda row: difference(row, command), rows)):

@@ -40,6 +40,9 @@ def grammar_of(name):
 # What the scripts of a grammar begin with, and its words.
 GRAMMARS = {name: (read('show.js') + read(f'{name}.js'), grammar_of(name)) for name in ('values', 'names')}
 
+# What most plays begin with, and the words of their parts (plays.py).
+PARTS = read('parts.js'), grammar_of('parts')
+
 # How a statement is run in a world that is committed right after it, also where it throws or jumps: in that world itself, in a child of
 # it that is committed first, and in it after a child has been dropped that had changed much. A script prints what it would without.
 IN_WORLDS = [
@@ -60,7 +63,7 @@ class Drawer:
     """Draws one script. `share` of its statements run in worlds; that changes nothing else of the script."""
 
     def __init__(self, grammar, seed, share=0):
-        self.head, self.words = GRAMMARS[grammar]
+        self.head, self.words = PARTS if grammar == 'parts' else GRAMMARS[grammar]
         self.draws = random.Random(f'{grammar} {seed}')
         self.world_draws = random.Random(f'worlds {seed}')
         self.share = share

@@ -26,6 +26,10 @@ WORDS = 20
 # The first world reads what a child has written but not yet committed, and a sibling reads what it writes itself.
 SIBLINGS = ('var a = thisWorld.sprout(), b = thisWorld.sprout(); in a { s = true; } in b { print(typeof t); t = true; } '
             'print(typeof s); a.commit(); print(s); b.commit(); print(t);')
+# The second script's first try is dropped, since the fourth changes what it has read.
+PLAY = "var x = 1;\n---\nvar w = thisWorld.sprout(); in w { x = x + 1; print(x); } w.commit(); print(x);\n---\nx = 7; throw 'no';\n---\nx = 5;\n"
+PLAYED = ('6\n6\nactivity 1 committed tries 1\nactivity 2 committed tries 2\n'
+          'activity 3 threw no tries 1\nactivity 4 committed tries 1\n')
 GATE = ('case-2', 'checked', 'refused-place')
 
 
@@ -46,6 +50,9 @@ def runs():
     # two pieces of output go out, and the rest waits
     yield 'printing', [], 'for (var i = 0; i < 1100; i++) print("abcdefg");', 'abcdefg\n' * 1100, '', 0
     yield 'spent', ['--steps', '1000'], 'print(1); while (true) {}', '1\n', 'step budget spent\n', 2
+    yield 'played', ['--mode', 'play', '--turn', '20'], PLAY, PLAYED, '', 0
+    yield 'refused-part', ['--mode', 'play'], 'x = 1;\n---\n#', '', 'line 3: not a token\n', 4
+    yield 'spent-by-the-library', ['--mode', 'play', '--steps', '50'], PLAY, '', 'step budget spent\n', 2
 
 
 def ended(command, words, script, memory=None, **refused):

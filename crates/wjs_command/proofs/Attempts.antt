@@ -7,6 +7,7 @@ use Rattle.wjs_io.specs.Streams.{Stream, stream, Failed, Gave, Got, GotPrefix, G
 use Rattle.wjs_io.proofs.Written.{Appends-nil}
 use Rattle.wjs_gen.specs.Script.{script}
 use Rattle.wjs_meaning.specs.Programs.{Ending, Done as EndsDone, Threw as EndsThrown, StepsSpent as EndsSpent}
+use Rattle.wjs_meaning.specs.Trees.{Tree}
 use Rattle.wjs_words.specs.Command.{command}
 use Rattle.wjs_words.specs.Lines.{IsUsageLine}
 use Rattle.wjs_words.specs.declared.answer.Options.{Options}
@@ -19,7 +20,9 @@ use Rattle.wjs_command.specs.declared.report.Stop.{Stop}
 use Rattle.wjs_command.specs.declared.report.Stop.TheVariants.{ReadFault, OutFault, OutOfMemory}
 use Rattle.wjs_command.specs.Table.{Due, Told, line}
 use Rattle.wjs_command.specs.Runs.{status_of_end}
-use Rattle.wjs_command.specs.Due.{most_of, refused, IsRun, OfScript, refuses, reads, blames, agrees, owed_in, IsTold, too_long, served, Asks, bytes_by, bytes_for, taken_by, IsDue, usage, asked}
+use Rattle.wjs_command.specs.Refusals.{refused}
+use Rattle.wjs_command.specs.Plays.{OfParts, spends, plays, OfPlay, refuses as refuses_play, divides}
+use Rattle.wjs_command.specs.Due.{most_of, IsRun, OfScript, refuses, reads, blames, agrees, owed_in, IsTold, too_long, served, Asks, bytes_by, bytes_for, taken_by, IsDue, usage, asked}
 use Rattle.wjs_command.specs.Command.{AsDue, ErrFailed, EndsBy, Ends, Faultless, Causes, IsComplete}
 use Rattle.wjs_command.specs.Attempt.{Delivers, Comes, nothing, something, Refuses, ReachesTold, Serves, Reaches, WordsFit, HasCauses, Attempts, Finishes}
 
@@ -73,6 +76,7 @@ taken_read modes.Run bytes other = refl
 taken_read modes.Check bytes other = refl
 taken_read modes.Tree bytes other = refl
 taken_read modes.Gen bytes other = absurd (other refl)
+taken_read modes.Play bytes other = refl
 taken_read modes.Log bytes other = refl
 taken_read modes.Audit bytes other = refl
 
@@ -81,6 +85,7 @@ bytes_read modes.Run number bytes other = refl
 bytes_read modes.Check number bytes other = refl
 bytes_read modes.Tree number bytes other = refl
 bytes_read modes.Gen number bytes other = absurd (other refl)
+bytes_read modes.Play number bytes other = refl
 bytes_read modes.Log number bytes other = refl
 bytes_read modes.Audit number bytes other = refl
 
@@ -172,12 +177,21 @@ ordinary_run : (mode : Mode) (steps : ℕ) (bytes : List ℕ) (told : Told) → 
 ordinary_run mode steps bytes told (refuses h) = subst (λ (t : Told). IsOrdinary t.status) (sym h.is) tt
 ordinary_run mode steps bytes told (reads h) = subst (λ (t : Told). IsOrdinary t.status) (sym (h.owed).is) (ordinary_end _)
 
+ordinary_parts : (steps : ℕ) (parts : List Tree) (told : Told) → OfParts steps parts told → IsOrdinary told.status
+ordinary_parts steps parts told (spends h) = subst (λ (t : Told). IsOrdinary t.status) (sym h.is) tt
+ordinary_parts steps parts told (plays h) = subst (λ (t : Told). IsOrdinary t.status) (sym h.is) tt
+
+ordinary_play : (steps : ℕ) (bytes : List ℕ) (told : Told) → OfPlay steps bytes told → IsOrdinary told.status
+ordinary_play steps bytes told (refuses_play h) = subst (λ (t : Told). IsOrdinary t.status) (sym h.is) tt
+ordinary_play steps bytes told (divides h) = ordinary_parts steps h.parts told h.owed
+
 ordinary_owed : (mode : Mode) (steps : ℕ) (bytes : List ℕ) (told : Told) → owed_in mode steps bytes told → IsOrdinary told.status
 ordinary_owed modes.Run steps bytes told h = ordinary_run modes.Run steps bytes told h
 ordinary_owed modes.Check steps bytes told (refuses h) = subst (λ (t : Told). IsOrdinary t.status) (sym h.is) tt
 ordinary_owed modes.Check steps bytes told (reads h) = subst (λ (t : Told). IsOrdinary t.status) (sym h.owed) tt
 ordinary_owed modes.Tree steps bytes told h = ordinary_run modes.Tree steps bytes told h
 ordinary_owed modes.Gen steps bytes told h = ordinary_run modes.Gen steps bytes told h
+ordinary_owed modes.Play steps bytes told h = ordinary_play steps bytes told h
 ordinary_owed modes.Log steps bytes told (refuses h) = subst (λ (t : Told). IsOrdinary t.status) (sym h.is) tt
 ordinary_owed modes.Log steps bytes told (reads h) = subst IsOrdinary (sym ((h.owed).run).status) (ordinary_end _)
 ordinary_owed modes.Audit steps bytes told (blames h) = subst (λ (t : Told). IsOrdinary t.status) (sym h.is) tt

@@ -2,6 +2,7 @@ mod Deliveries
 mod Beginnings
 mod Endings
 pub mod Scripts
+mod Played
 mod Attempts
 mod Loggings
 mod OneDue

@@ -19,7 +19,8 @@ use Rattle.wjs_command.specs.declared.report.Report.{Report}
 use Rattle.wjs_command.specs.declared.report.Stop.{Stop}
 use Rattle.wjs_command.specs.Table.{Told}
 use Rattle.wjs_programs.specs.Programs.{IsProgram}
-use Rattle.wjs_command.specs.Due.{most_of, refused, text_of_refusal, text_of_fault, IsRefused, IsRun, OfScript, refuses, reads, OfLog, blames, agrees, IsAgreed, owed_in, IsTold, served}
+use Rattle.wjs_command.specs.Refusals.{refused, text_of_refusal}
+use Rattle.wjs_command.specs.Due.{most_of, text_of_fault, IsRefused, IsRun, OfScript, refuses, reads, OfLog, blames, agrees, IsAgreed, owed_in, IsTold, served}
 use Rattle.wjs_command.specs.Attempt.{IsRunOf, IsLogRun, Delivers, Comes, nothing, something, Refuses, RefusesAs, RefusesLog}
 use Rattle.wjs_command.proofs.Deliveries.{comes_as}
 
@@ -29,6 +30,7 @@ most_least modes.Run = omega arith
 most_least modes.Check = omega arith
 most_least modes.Tree = omega arith
 most_least modes.Gen = omega arith
+most_least modes.Play = omega arith
 most_least modes.Log = omega arith
 most_least modes.Audit = omega arith
 
@@ -38,6 +40,7 @@ most_script modes.Run bytes other within = within
 most_script modes.Check bytes other within = within
 most_script modes.Tree bytes other within = within
 most_script modes.Gen bytes other within = within
+most_script modes.Play bytes other within = within
 most_script modes.Log bytes other within = within
 most_script modes.Audit bytes other within = absurd (other refl)
 
@@ -49,25 +52,27 @@ served_comes options bytes out result within h =
 -- ---- scripts
 
 -- bytes that are no script are refused in each mode that takes one
-refused_owed : (mode : Mode) (steps : ℕ) (bytes : List ℕ) (told : Told) → mode ≢ modes.Audit → IsRefused bytes told → owed_in mode steps bytes told
-refused_owed modes.Run steps bytes told other is = refuses is
-refused_owed modes.Check steps bytes told other is = refuses is
-refused_owed modes.Tree steps bytes told other is = refuses is
-refused_owed modes.Gen steps bytes told other is = refuses is
-refused_owed modes.Log steps bytes told other is = refuses is
-refused_owed modes.Audit steps bytes told other is = absurd (other refl)
+refused_owed : (mode : Mode) (steps : ℕ) (bytes : List ℕ) (told : Told) → mode ≢ modes.Audit → mode ≢ modes.Play → IsRefused bytes told → owed_in mode steps bytes told
+refused_owed modes.Run steps bytes told other script is = refuses is
+refused_owed modes.Check steps bytes told other script is = refuses is
+refused_owed modes.Tree steps bytes told other script is = refuses is
+refused_owed modes.Gen steps bytes told other script is = refuses is
+refused_owed modes.Play steps bytes told other script is = absurd (script refl)
+refused_owed modes.Log steps bytes told other script is = refuses is
+refused_owed modes.Audit steps bytes told other script is = absurd (other refl)
 
 -- and in the modes that print a run is owed
-run_owed : (mode : Mode) (steps : ℕ) (bytes : List ℕ) (told : Told) → mode ≢ modes.Audit → mode ≢ modes.Check → mode ≢ modes.Log → OfScript (IsRun mode steps) bytes told → owed_in mode steps bytes told
-run_owed modes.Run steps bytes told other unchecked unlogged is = is
-run_owed modes.Check steps bytes told other unchecked unlogged is = absurd (unchecked refl)
-run_owed modes.Tree steps bytes told other unchecked unlogged is = is
-run_owed modes.Gen steps bytes told other unchecked unlogged is = is
-run_owed modes.Log steps bytes told other unchecked unlogged is = absurd (unlogged refl)
-run_owed modes.Audit steps bytes told other unchecked unlogged is = absurd (other refl)
+run_owed : (mode : Mode) (steps : ℕ) (bytes : List ℕ) (told : Told) → mode ≢ modes.Audit → mode ≢ modes.Play → mode ≢ modes.Check → mode ≢ modes.Log → OfScript (IsRun mode steps) bytes told → owed_in mode steps bytes told
+run_owed modes.Run steps bytes told other script unchecked unlogged is = is
+run_owed modes.Check steps bytes told other script unchecked unlogged is = absurd (unchecked refl)
+run_owed modes.Tree steps bytes told other script unchecked unlogged is = is
+run_owed modes.Gen steps bytes told other script unchecked unlogged is = is
+run_owed modes.Play steps bytes told other script unchecked unlogged is = absurd (script refl)
+run_owed modes.Log steps bytes told other script unchecked unlogged is = absurd (unlogged refl)
+run_owed modes.Audit steps bytes told other script unchecked unlogged is = absurd (other refl)
 
-pub run_told : (options : Options) (bytes : List ℕ) (texts : Table) (script : Program) → options.mode ≢ modes.Audit → options.mode ≢ modes.Check → options.mode ≢ modes.Log → IsProgram bytes (unit_in texts script) → (told : Told) → IsRunOf texts script options.steps options.mode told → owed_in options.mode options.steps bytes told
-run_told options bytes texts script other unchecked unlogged spelled told h = run_owed options.mode options.steps bytes told other unchecked unlogged (reads (record {
+pub run_told : (options : Options) (bytes : List ℕ) (texts : Table) (script : Program) → options.mode ≢ modes.Audit → options.mode ≢ modes.Play → options.mode ≢ modes.Check → options.mode ≢ modes.Log → IsProgram bytes (unit_in texts script) → (told : Told) → IsRunOf texts script options.steps options.mode told → owed_in options.mode options.steps bytes told
+run_told options bytes texts script other one unchecked unlogged spelled told h = run_owed options.mode options.steps bytes told other one unchecked unlogged (reads (record {
   tree = unit_in texts script;
   spelled = spelled;
   owed = record { library = h.library; first = h.first; is = h.is };
@@ -82,15 +87,15 @@ log_told options bytes texts script is spelled told h = subst (λ (m : Mode). ow
 }))
 
 -- the reason is reported, or memory ran out
-refusal_comes : (options : Options) (bytes : List ℕ) (refusal : Refusal) (result : Result Report Stop) (one : Option (List ℕ)) (counted : ℕ) → options.mode ≢ modes.Audit → AreRefused bytes refusal → Refuses (text_of_refusal refusal) result → Comes (owed_in options.mode options.steps bytes) (stream one one counted counted) result
-refusal_comes options bytes refusal (Ok report) one counted other why is =
+refusal_comes : (options : Options) (bytes : List ℕ) (refusal : Refusal) (result : Result Report Stop) (one : Option (List ℕ)) (counted : ℕ) → options.mode ≢ modes.Audit → options.mode ≢ modes.Play → AreRefused bytes refusal → Refuses (text_of_refusal refusal) result → Comes (owed_in options.mode options.steps bytes) (stream one one counted counted) result
+refusal_comes options bytes refusal (Ok report) one counted other script why is =
     let told = refused (text_of_refusal refusal) in
-    something told (refused_owed options.mode options.steps bytes told other (record { refusal = refusal; why = why; is = refl })) (Appends-nil one, is)
-refusal_comes options bytes refusal (Err e) one counted other why is = nothing (ap Err is) (Appends-nil one)
+    something told (refused_owed options.mode options.steps bytes told other script (record { refusal = refusal; why = why; is = refl })) (Appends-nil one, is)
+refusal_comes options bytes refusal (Err e) one counted other script why is = nothing (ap Err is) (Appends-nil one)
 
-pub fault_comes : (options : Options) (bytes : List ℕ) (fault : LoadFault) (result : Result Report Stop) (one : Option (List ℕ)) (counted : ℕ) → options.mode ≢ modes.Audit → IsNone bytes fault → RefusesAs fault result → Comes (owed_in options.mode options.steps bytes) (stream one one counted counted) result
-fault_comes options bytes (faults.Refused refusal) result one counted other why is = refusal_comes options bytes refusal result one counted other why is
-fault_comes options bytes faults.OutOfMemory result one counted other why is = nothing is (Appends-nil one)
+pub fault_comes : (options : Options) (bytes : List ℕ) (fault : LoadFault) (result : Result Report Stop) (one : Option (List ℕ)) (counted : ℕ) → options.mode ≢ modes.Audit → options.mode ≢ modes.Play → IsNone bytes fault → RefusesAs fault result → Comes (owed_in options.mode options.steps bytes) (stream one one counted counted) result
+fault_comes options bytes (faults.Refused refusal) result one counted other script why is = refusal_comes options bytes refusal result one counted other script why is
+fault_comes options bytes faults.OutOfMemory result one counted other script why is = nothing is (Appends-nil one)
 
 -- in mode `check` this is owed for a script
 pub check_comes : (mode : Mode) (steps : ℕ) (bytes : List ℕ) (out : Stream) (result : Result Report Stop) (told : Told) → mode ≡ modes.Check → owed_in modes.Check steps bytes told → Delivers told out result → Comes (owed_in mode steps bytes) out result

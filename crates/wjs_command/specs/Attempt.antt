@@ -19,6 +19,10 @@ use Rattle.wjs_model.specs.Units.{unit_in}
 use Rattle.wjs_load.specs.declared.tokens.LoadFault.{LoadFault}
 use Rattle.wjs_load.specs.declared.tokens.LoadFault.TheVariants as faults
 use Rattle.wjs_start.specs.First.{writes_told}
+use Rattle.wjs_activity.specs.declared.whole.PlayEnd.{PlayEnd}
+use Rattle.wjs_activity.specs.declared.whole.PlayEnd.TheVariants as played
+use Rattle.wjs_division.specs.declared.input.InputFault.{InputFault}
+use Rattle.wjs_division.specs.declared.input.InputFault.TheVariants as inputs
 use Rattle.wjs_audit.specs.Deeds.{told_of}
 use Rattle.wjs_audit.specs.Recorded.{Recorded}
 use Rattle.wjs_audit.specs.declared.fault.AuditFault.{AuditFault}
@@ -37,7 +41,9 @@ use Rattle.wjs_command.specs.declared.report.Stop.TheVariants.{ReadFault, OutFau
 use Rattle.wjs_command.specs.Table.{Due, Told, line}
 use Rattle.wjs_command.specs.Scripts.{IsLibrary}
 use Rattle.wjs_command.specs.Runs.{LogsRun, told_by_run}
-use Rattle.wjs_command.specs.Due.{IsDue, IsTold, text_of_refusal, text_of_fault, bytes_for, taken_by}
+use Rattle.wjs_command.specs.Refusals.{text_of_refusal}
+use Rattle.wjs_command.specs.Plays.{text_of_input}
+use Rattle.wjs_command.specs.Due.{IsDue, IsTold, text_of_fault, bytes_for, taken_by}
 use Rattle.wjs_command.specs.Command.{GotFront, Faultless}
 
 -- ---- what is owed for a script is delivered
@@ -68,6 +74,11 @@ Refuses text (Err e) = e ≡ OutOfMemory
 abbrev pub RefusesAs : LoadFault → Result Report Stop → Type 0
 RefusesAs (faults.Refused refusal) result = Refuses (text_of_refusal refusal) result
 RefusesAs faults.OutOfMemory result = result ≡ Err OutOfMemory
+
+-- a fault of a play's input is reported, or memory ran out
+abbrev pub RefusesInput : InputFault → Result Report Stop → Type 0
+RefusesInput inputs.OutOfMemory result = result ≡ Err OutOfMemory
+RefusesInput fault result = Refuses (text_of_input fault) result
 
 -- a fault of a log is reported, or memory ran out
 abbrev pub RefusesLog : AuditFault → Result Report Stop → Type 0
@@ -132,6 +143,15 @@ pub record IsLogRun (texts : Table) (script : Program) (steps : ℕ) (told : Tol
   pub library : Option Tree
   pub first : IsLibrary library
   pub run : LogsRun (machine library (unit_in texts script) steps) told
+
+-- how a play ended is told: its output was written before
+abbrev pub TellsPlay : PlayEnd → Result Report Stop → Type 0
+TellsPlay (played.Done ends heap) (Ok report) = IsReport statuses.Done [] report
+TellsPlay (played.Done ends heap) (Err e) = ⊥
+TellsPlay played.StepsSpent (Ok report) = IsReport statuses.StepsSpent (line (codes "step budget spent")) report
+TellsPlay played.StepsSpent (Err e) = e ≡ OutOfMemory
+TellsPlay played.SinkFailed result = result ≡ Err OutFault
+TellsPlay played.OutOfMemory result = result ≡ Err OutOfMemory
 
 -- the store of the configuration has logged the writes of the first slots and then this run's actions
 abbrev pub HasLogged : {S : Type 0} → Config (Recorded S) → Ending × St → Type 0

@@ -9,7 +9,6 @@ use Rattle.wjs_words.specs.declared.answer.Options.{Options}
 use Rattle.wjs_words.specs.declared.mode.Mode.{Mode}
 use Rattle.wjs_words.specs.declared.mode.Mode.TheVariants as modes
 use Rattle.wjs_load.specs.declared.tokens.Refusal.{Refusal}
-use Rattle.wjs_load.specs.declared.tokens.Refusal.TheVariants as refusals
 use Rattle.wjs_load.specs.Loading.{Refuses}
 use Rattle.wjs_gen.specs.Script.{script}
 use Rattle.wjs_audit.specs.declared.fault.AuditFault.{AuditFault}
@@ -19,8 +18,10 @@ use Rattle.wjs_logs.specs.Telling.{Tells}
 use Rattle.wjs_content.specs.Plans.{Told as Deed}
 use Rattle.wjs_meaning.specs.Trees.{Tree}
 use Rattle.wjs_meaning.specs.Programs.{machine}
-use Rattle.wjs_command.specs.declared.status.Status.TheVariants.{Done, Refused, Usage}
+use Rattle.wjs_command.specs.declared.status.Status.TheVariants.{Done, Usage}
 use Rattle.wjs_command.specs.Table.{Due, Told, line}
+use Rattle.wjs_command.specs.Refusals.{refused, text_of_refusal}
+use Rattle.wjs_command.specs.Plays.{OfPlay}
 use Rattle.wjs_programs.specs.Programs.{IsProgram}
 use Rattle.wjs_command.specs.Scripts.{IsLibrary}
 use Rattle.wjs_command.specs.Runs.{LogsRun, told_by_run}
@@ -31,16 +32,6 @@ most_of modes.Audit = 67108864
 most_of _ = 16777216
 
 -- ---- what is owed for the bytes
-
--- a refusal writes a line on err and nothing on out
-abbrev pub refused : List ℕ → Told
-refused text = record { out = []; err = line text; status = Refused }
-
-abbrev pub text_of_refusal : Refusal → List ℕ
-text_of_refusal refusals.NotUtf8 = codes "not UTF-8"
-text_of_refusal (refusals.NotAToken n) = codes "line " ++ decimal n ++ codes ": not a token"
-text_of_refusal (refusals.Unexpected n) = codes "line " ++ decimal n ++ codes ": syntax error"
-text_of_refusal refusals.NotAScript = codes "syntax error"
 
 -- there are too many bytes
 pub record IsTooLong (mode : Mode) (bytes : List ℕ) (told : Told) : Type 0 where
@@ -105,6 +96,7 @@ pub data OfLog (bytes : List ℕ) (told : Told) : Type 0 where
 -- what is owed in a mode, for bytes that aren't too many
 abbrev pub owed_in : Mode → ℕ → List ℕ → Told → Type 0
 owed_in modes.Check steps bytes told = OfScript IsChecked bytes told
+owed_in modes.Play steps bytes told = OfPlay steps bytes told
 owed_in modes.Log steps bytes told = OfScript (IsLogged steps) bytes told
 owed_in modes.Audit steps bytes told = OfLog bytes told
 owed_in mode steps bytes told = OfScript (IsRun mode steps) bytes told
@@ -163,13 +155,21 @@ pub data SameLog (one other : List ℕ) : Type 0 where
   same_bytes : other ≡ one → SameLog one other
   same_told : (told : List Deed) → Tells one told → Tells other told → SameLog one other
 
--- for words without a fault at most one thing is due, in each mode but `log`
-abbrev pub OneDue : Type 0
-OneDue = (words : List (List ℕ)) (bytes : List ℕ) (d e : Due) → IsDue words bytes d → IsDue words bytes e → fault_of command words ≡ [] → ((options : Options) → Asks words options → options.mode ≢ modes.Log) → e ≡ d
+-- the words ask for another mode
+abbrev pub AskNo : Mode → List (List ℕ) → Type 0
+AskNo mode words = (options : Options) → Asks words options → options.mode ≢ mode
 
--- and in that mode too, up to the log, which tells one list
+-- for words without a fault at most one thing is due, in each mode but `log` and `play`
+abbrev pub OneDue : Type 0
+OneDue = (words : List (List ℕ)) (bytes : List ℕ) (d e : Due) → IsDue words bytes d → IsDue words bytes e → fault_of command words ≡ [] → AskNo modes.Log words → AskNo modes.Play words → e ≡ d
+
+-- in mode `log` too, up to the log, which tells one list
 abbrev pub OneLog : Type 0
-OneLog = (words : List (List ℕ)) (bytes : List ℕ) (d e : Due) → IsDue words bytes d → IsDue words bytes e → fault_of command words ≡ [] → (e ≡ record d { out = e.out }) × SameLog d.out e.out
+OneLog = (words : List (List ℕ)) (bytes : List ℕ) (d e : Due) → IsDue words bytes d → IsDue words bytes e → fault_of command words ≡ [] → AskNo modes.Play words → (e ≡ record d { out = e.out }) × SameLog d.out e.out
+
+-- and in mode `play`, where only the output of a play that has come to its end goes by the order in which its activities ended
+abbrev pub OnePlay : Type 0
+OnePlay = (words : List (List ℕ)) (bytes : List ℕ) (d e : Due) → IsDue words bytes d → IsDue words bytes e → fault_of command words ≡ [] → AskNo modes.Log words → (e ≡ record d { out = e.out }) × (d.status ≢ Done → e ≡ d)
 
 -- for words with a fault all but the text behind `usage: ` is one
 abbrev pub OneUsage : Type 0

@@ -2,6 +2,8 @@ pub mod Status
 pub mod Table
 pub mod Scripts
 pub mod Runs
+pub mod Refusals
+pub mod Plays
 pub mod Due
 pub mod Command
 pub mod Attempt

@@ -1,4 +1,4 @@
-//! The bytes of a script, checked, run or logged, or those of a log, audited.
+//! The bytes of a script, checked, run or logged, those of several, played, or those of a log, audited.
 ghost use Rattle.std.specs.Prelude.{◌≡◌, ◌≢◌, ◌≤◌, [], codes, length};
 ghost use Rattle.wjs_io.specs.Streams.{stream};
 ghost use Rattle.wjs_start.specs.First.{IsNew};
@@ -9,6 +9,7 @@ ghost use Rattle.wjs_command.specs.Attempt.{Delivers, Comes, RefusesAs};
 
 use crate::auditing::audit;
 use crate::logging::log_script;
+use crate::playing::play_parts;
 use crate::report::{Report, Stop, done, refuse};
 use crate::running::{run_script, write_or_stop};
 use std::alloc::Global;
@@ -26,7 +27,26 @@ pub fn perform<O: Sink>(
     bytes: &[u8],
     out: &mut O,
 ) -> Result<Report, Stop>
-    requires { length bytes.now ≤ most_of options.mode }
+    requires within { length bytes.now ≤ most_of options.mode }
+    requires steps { 1 ≤ options.steps }
+    requires turn { 1 ≤ options.turn }
+    ensures { Comes (IsTold options bytes.now) (stream (O.held out.old) (O.held out.new) (O.faults out.old) (O.faults out.new)) result }
+{
+    match options.mode {
+        Mode::Play => play_parts(alloc, bytes, options.steps, options.turn, out),
+        _ => perform_one(alloc, options, bytes, out),
+    }
+}
+
+/// Does what the options ask with the bytes of one script or log.
+fn perform_one<O: Sink>(
+    alloc: Global,
+    options: Options,
+    bytes: &[u8],
+    out: &mut O,
+) -> Result<Report, Stop>
+    requires mode { options.mode ≢ Mode.Play }
+    requires within { length bytes.now ≤ most_of options.mode }
     ensures { Comes (IsTold options bytes.now) (stream (O.held out.old) (O.held out.new) (O.faults out.old) (O.faults out.new)) result }
 {
     match Overlay::new(alloc) {
@@ -35,7 +55,7 @@ pub fn perform<O: Sink>(
     }
 }
 
-/// Does what the options ask with the bytes, over a new store of worlds, which may tell its actions.
+/// Does what the options ask with the bytes of one script or log, over a new store of worlds, which may tell its actions.
 pub fn perform_in<S: WorldStore + Drop, O: Sink>(
     alloc: Global,
     store: S,
@@ -44,6 +64,7 @@ pub fn perform_in<S: WorldStore + Drop, O: Sink>(
     out: &mut O,
 ) -> Result<Report, Stop>
     requires new { IsNew (S.meaning store) }
+    requires mode { options.mode ≢ Mode.Play }
     requires within { length bytes.now ≤ most_of options.mode }
     ensures { Comes (IsTold options bytes.now) (stream (O.held out.old) (O.held out.new) (O.faults out.old) (O.faults out.new)) result }
 {
@@ -63,6 +84,7 @@ fn perform_script<S: WorldStore + Drop, O: Sink>(
 ) -> Result<Report, Stop>
     requires new { IsNew (S.meaning store) }
     requires mode { options.mode ≢ Mode.Audit }
+    requires script { options.mode ≢ Mode.Play }
     requires within { length bytes.now ≤ most_of options.mode }
     ensures { Comes (owed_in options.mode options.steps bytes.now) (stream (O.held out.old) (O.held out.new) (O.faults out.old) (O.faults out.new)) result }
 {

@@ -3,7 +3,7 @@ ghost use Rattle.std.specs.Prelude.{◌≡◌, ◌++◌, [], IfOk, codes};
 ghost use Rattle.std.specs.Fmt.{decimal};
 ghost use Rattle.wjs_command.specs.declared.status.Status.TheVariants as statuses;
 ghost use Rattle.wjs_command.specs.Table.{line as as_line};
-ghost use Rattle.wjs_command.specs.Due.{text_of_refusal};
+ghost use Rattle.wjs_command.specs.Refusals.{text_of_refusal};
 ghost use Rattle.wjs_command.specs.Attempt.{IsReport};
 
 use crate::status::Status;

@@ -31,6 +31,8 @@ fn generate<O: Sink>(alloc: Global, options: Options, out: &mut O) -> Result<Rep
     requires mode { options.mode ≡ Mode.Gen }
     requires least { 1 ≤ options.number }
     requires greatest { options.number ≤ 50000 }
+    requires steps { 1 ≤ options.steps }
+    requires turn { 1 ≤ options.turn }
     ensures { Comes (IsTold options (script options.number)) (stream (O.held out.old) (O.held out.new) (O.faults out.old) (O.faults out.new)) result }
 {
     match script_of(alloc, options.number) {
@@ -46,7 +48,9 @@ fn read<S: Source, O: Sink>(
     source: &mut S,
     out: &mut O,
 ) -> Result<Report, Stop>
-    requires { options.mode ≢ Mode.Gen }
+    requires mode { options.mode ≢ Mode.Gen }
+    requires steps { 1 ≤ options.steps }
+    requires turn { 1 ≤ options.turn }
     ensures { Serves options
         (stream (S.left source.old) (S.left source.new) (S.faults source.old) (S.faults source.new))
         (stream (O.held out.old) (O.held out.new) (O.faults out.old) (O.faults out.new)) result }
@@ -78,6 +82,8 @@ fn obey<S: Source, O: Sink>(
 ) -> Result<Report, Stop>
     requires least { 1 ≤ options.number }
     requires greatest { options.number ≤ 50000 }
+    requires steps { 1 ≤ options.steps }
+    requires turn { 1 ≤ options.turn }
     ensures { Serves options
         (stream (S.left source.old) (S.left source.new) (S.faults source.old) (S.faults source.new))
         (stream (O.held out.old) (O.held out.new) (O.faults out.old) (O.faults out.new)) result }
@@ -146,8 +152,8 @@ fn finish<E: Sink>(err: &mut E, outcome: Result<Report, Stop>) -> Status
 /// Reads a script from the source, runs it, and writes what it prints on `out` and a line on `err` where it doesn't end normally;
 /// or does what another mode asks for.
 ///
-/// The words are those of the command line, the program's name first: `worlds [--steps N] [--mode M] [--number K]`, read by
-/// `clap`. The options, and what each mode does, are said by [`wjs_words::Options`] and [`wjs_words::Mode`]; what each status stands
+/// The words are those of the command line, the program's name first: `worlds [--steps N] [--mode M] [--number K] [--turn Q]`, read
+/// by `clap`. The options, and what each mode does, are said by [`wjs_words::Options`] and [`wjs_words::Mode`]; what each status stands
 /// for is said by [`Status`]. A status by a fault comes only where the count of faults of the source or the sink at fault rose in
 /// this call, and OutOfMemory where memory ran out.
 pub fn command<S: Source, O: Sink, E: Sink>(

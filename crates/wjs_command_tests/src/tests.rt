@@ -4,6 +4,7 @@ ghost use Rattle.std.specs.Prelude.{◌<◌};
 mod copies;
 mod faults;
 mod limits;
+mod plays;
 mod scripts;
 mod turns;
 

@@ -23,12 +23,12 @@ use Rattle.clap.specs.Walk.{rows_of}
 use Rattle.clap.proofs.WalkLemmas.{first_value-rows, list_any-map, one_text-rows}
 use Rattle.clap.proofs.FaultLemmas.{free_args}
 use Rattle.clap.proofs.SimpleLemmas.{all_simple, ready_simple, simple_groups}
-use Rattle.wjs_words.specs.Command.{IsModes, Names, command_with, mode_rule, number_rule, option_rule, steps_rule}
+use Rattle.wjs_words.specs.Command.{IsModes, Names, command_with, mode_rule, number_rule, option_rule, steps_rule, turn_rule}
 use Rattle.wjs_words.specs.Options.{HasOptions, mode_named}
 use Rattle.wjs_words.proofs.DefaultReads.{Reads, default_reads}
 
 abbrev table : Names → List Rule
-table names = steps_rule ∷ mode_rule names ∷ number_rule ∷ []
+table names = steps_rule ∷ mode_rule names ∷ number_rule ∷ turn_rule ∷ []
 
 is_simple_command : (names : Names) (c : Command) → app_of c ≡ command_with names → IsSimple c
 is_simple_command names c is =
@@ -42,21 +42,28 @@ is_plain_command names c is =
     ((λ k d lt. let one = free k d lt in (one.exclusive, one.conflicts, one.overrides, alone k d lt)), simple.groups)
 
 -- no two of the arguments have one id
-one_place : (names : Names) (j k : ℕ) (e d : Rule) → j < 3 → k < 3
+one_place : (names : Names) (j k : ℕ) (e d : Rule) → j < 4 → k < 4
     → bytes_eq (slice_index_or (table names) j e).id (slice_index_or (table names) k d).id ≡ true → j ≡ k
 one_place names zero zero e d low lt same = refl
 one_place names zero (suc zero) e d low lt same = cc
 one_place names zero (suc (suc zero)) e d low lt same = cc
+one_place names zero (suc (suc (suc zero))) e d low lt same = cc
 one_place names (suc zero) zero e d low lt same = cc
 one_place names (suc zero) (suc zero) e d low lt same = refl
 one_place names (suc zero) (suc (suc zero)) e d low lt same = cc
+one_place names (suc zero) (suc (suc (suc zero))) e d low lt same = cc
 one_place names (suc (suc zero)) zero e d low lt same = cc
 one_place names (suc (suc zero)) (suc zero) e d low lt same = cc
 one_place names (suc (suc zero)) (suc (suc zero)) e d low lt same = refl
-one_place names (suc (suc (suc j))) k e d low lt same = absurd (omega arith)
-one_place names j (suc (suc (suc k))) e d low lt same = absurd (omega arith)
+one_place names (suc (suc zero)) (suc (suc (suc zero))) e d low lt same = cc
+one_place names (suc (suc (suc zero))) zero e d low lt same = cc
+one_place names (suc (suc (suc zero))) (suc zero) e d low lt same = cc
+one_place names (suc (suc (suc zero))) (suc (suc zero)) e d low lt same = cc
+one_place names (suc (suc (suc zero))) (suc (suc (suc zero))) e d low lt same = refl
+one_place names (suc (suc (suc (suc j)))) k e d low lt same = absurd (omega arith)
+one_place names j (suc (suc (suc (suc k)))) e d low lt same = absurd (omega arith)
 
-is_rule : (names : Names) (c : Command) → app_of c ≡ command_with names → (k : ℕ) (d : Arg) (e : Rule) → k < 3
+is_rule : (names : Names) (c : Command) → app_of c ≡ command_with names → (k : ℕ) (d : Arg) (e : Rule) → k < 4
     → rule_of (slice_index_or (args_of c) k d) ≡ slice_index_or (table names) k e
 is_rule names c is k d e lt =
     let list : map rule_of (args_of c) ≡ table names = ap (λ (a : App). a.top.rules) is in
@@ -65,7 +72,7 @@ is_rule names c is k d e lt =
 
 -- what a parse of the command read of the option at k
 pub option_reads : (names : Names) (c : Command) (m : ArgMatches) → app_of c ≡ command_with names → IsParsedFrom c m
-    → (k : ℕ) (d : Arg) → k < 3 → (id otherwise : Text) (q : ValueParser)
+    → (k : ℕ) (d : Arg) → k < 4 → (id otherwise : Text) (q : ValueParser)
     → rule_of (slice_index_or (args_of c) k d) ≡ option_rule id q otherwise
     → (id ≡ [] → ⊥) → bytes_eq id (codes "help") ≡ false → bytes_eq id (codes "version") ≡ false
     → Reads (found_of m) id (reading_of q) (Accepts false q)
@@ -73,7 +80,7 @@ option_reads names c m is p k d lt id otherwise q rule named help version =
     let a = slice_index_or (args_of c) k d in
     let simple = is_simple_command names c is in
     let list : map rule_of (args_of c) ≡ table names = ap (λ (a : App). a.top.rules) is in
-    let long : length (args_of c) ≡ 3 = sym (length-map (args_of c) rule_of) ∙ ap length list in
+    let long : length (args_of c) ≡ 4 = sym (length-map (args_of c) rule_of) ∙ ap length list in
     let inside : k < length (args_of c) = omega arith in
     let id_is : a.id.now ≡ id = ap (λ (r : Rule). r.id) rule in
     let defaults : 0 < length (items_of a.default_vals) = let one = ap (λ (r : Rule). length r.defaults) rule in omega (arith, length-map (items_of a.default_vals) (λ s. s.now)) in
@@ -106,7 +113,7 @@ named_by name text known same = subst (λ (w : Text). IsSome (mode_named w)) ((b
 mode_among : (names : Names) → IsModes names → (text : Text) → Accepts false (Among names) text → IsSome (mode_named text)
 mode_among names modes text passed =
     let some = sym (list_any-map (λ (w : Text). bytes_eq w text) (λ name. name.now) names.now) ∙ passed in
-    let one : list_any (λ (w : Text). bytes_eq w text) (codes "run" ∷ codes "check" ∷ codes "tree" ∷ codes "gen" ∷ codes "log" ∷ codes "audit" ∷ []) ≡ true =
+    let one : list_any (λ (w : Text). bytes_eq w text) (codes "run" ∷ codes "check" ∷ codes "tree" ∷ codes "gen" ∷ codes "play" ∷ codes "log" ∷ codes "audit" ∷ []) ≡ true =
     subst (λ (l : List Text). list_any (λ (w : Text). bytes_eq w text) l ≡ true) modes some in
     elim (either _ _ one) [
       | inl h ↦ named_by (codes "run") text (search rules) h
@@ -117,10 +124,13 @@ mode_among names modes text passed =
           | inr h ↦ elim (either _ _ h) [
             | inl h ↦ named_by (codes "gen") text (search rules) h
             | inr h ↦ elim (either _ _ h) [
-              | inl h ↦ named_by (codes "log") text (search rules) h
+              | inl h ↦ named_by (codes "play") text (search rules) h
               | inr h ↦ elim (either _ _ h) [
-                | inl h ↦ named_by (codes "audit") text (search rules) h
-                | inr h ↦ cc
+                | inl h ↦ named_by (codes "log") text (search rules) h
+                | inr h ↦ elim (either _ _ h) [
+                  | inl h ↦ named_by (codes "audit") text (search rules) h
+                  | inr h ↦ cc
+                ]
               ]
             ]
           ]
@@ -137,14 +147,16 @@ pub has_options : (names : Names) (c : Command) (m : ArgMatches) → IsModes nam
     → HasOptions (rows_of (found_of m))
 has_options names c m modes is p =
     let list : map rule_of (args_of c) ≡ table names = ap (λ (a : App). a.top.rules) is in
-    let long : length (args_of c) ≡ 3 = sym (length-map (args_of c) rule_of) ∙ ap length list in
+    let long : length (args_of c) ≡ 4 = sym (length-map (args_of c) rule_of) ∙ ap length list in
     let d = some_arg (args_of c) (omega arith) in
     let f = found_of m in
     let steps = option_reads names c m is p 0 d (omega arith) (codes "steps") (codes "10000000") (Unsigned 1 (10 ^ 12)) (is_rule names c is 0 d steps_rule (omega arith)) (λ e. cc) refl refl in
     let mode = option_reads names c m is p 1 d (omega arith) (codes "mode") (codes "run") (Among names) (is_rule names c is 1 d steps_rule (omega arith)) (λ e. cc) refl refl in
     let number = option_reads names c m is p 2 d (omega arith) (codes "number") (codes "1000") (Unsigned 1 50000) (is_rule names c is 2 d steps_rule (omega arith)) (λ e. cc) refl refl in
+    let turn = option_reads names c m is p 3 d (omega arith) (codes "turn") (codes "100") (Unsigned 1 (10 ^ 6)) (is_rule names c is 3 d steps_rule (omega arith)) (λ e. cc) refl refl in
     record {
       steps = (steps.0, sym (one_text-rows f (codes "steps")) ∙ steps.2, steps.3);
       mode = (mode.0, sym (first_value-rows f (codes "mode")) ∙ mode.1, mode_among names modes mode.0 mode.3);
       number = (number.0, sym (one_text-rows f (codes "number")) ∙ number.2, number.3);
+      turn = (turn.0, sym (one_text-rows f (codes "turn")) ∙ turn.2, turn.3);
     }

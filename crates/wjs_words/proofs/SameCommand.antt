@@ -20,7 +20,7 @@ use Rattle.wjs_words.specs.Options.{Answers, Gives}
 use Rattle.wjs_words.proofs.ReadLemmas.{says_weaker}
 use Rattle.wjs_words.proofs.AlikeFaults.{finished_same, level_same}
 use Rattle.wjs_words.proofs.AlikeWalks.{Alike, Likes, Same, walk_same}
-use Rattle.wjs_words.specs.Command.{IsCommand, IsModes, Names, anywhere, command, mode_names, command_with, mode_rule, number_rule, steps_rule}
+use Rattle.wjs_words.specs.Command.{IsCommand, IsModes, Names, anywhere, command, mode_names, command_with, mode_rule, number_rule, steps_rule, turn_rule}
 
 -- the arguments of the built command
 abbrev built_rules : Names → List Rule
@@ -34,6 +34,9 @@ built_steps = with_index 1 (filled steps_rule)
 
 abbrev built_number : Rule
 built_number = with_index 1 (filled number_rule)
+
+abbrev built_turn : Rule
+built_turn = with_index 1 (filled turn_rule)
 
 abbrev built_help : Rule
 built_help = with_index 1 (filled help_rule)
@@ -67,26 +70,27 @@ same_self : (r : Rule) → Same r r
 same_self r = record { id = refl; use_is = λ values rows. refl; fault_is = λ again values rows. refl; takes = refl; most = refl }
 
 -- a test that tells the rules of the mode not apart finds the same
-likes_found : (test : Rule → Bool) (r m n s t : Rule) → Same m n → test m ≡ test n
-    → Likes (find test (r ∷ m ∷ s ∷ t ∷ [])) (find test (r ∷ n ∷ s ∷ t ∷ []))
-likes_found test r m n s t l same = go (test r) (test m) (test n) (test s) (test t) same
+likes_found : (test : Rule → Bool) (r m n s t u : Rule) → Same m n → test m ≡ test n
+    → Likes (find test (r ∷ m ∷ s ∷ t ∷ u ∷ [])) (find test (r ∷ n ∷ s ∷ t ∷ u ∷ []))
+likes_found test r m n s t u l same = go (test r) (test m) (test n) (test s) (test t) (test u) same
   where
-    go : (tr tm tn ts th : Bool) → tm ≡ tn
-        → Likes (cond tr (Some r) (cond tm (Some m) (cond ts (Some s) (cond th (Some t) None))))
-        (cond tr (Some r) (cond tn (Some n) (cond ts (Some s) (cond th (Some t) None))))
-    go true tm tn ts th e = same_self r
-    go false true true ts th e = l
-    go false true false ts th e = cc
-    go false false true ts th e = cc
-    go false false false true th e = same_self s
-    go false false false false true e = same_self t
-    go false false false false false e = tt
+    go : (tr tm tn ts tu th : Bool) → tm ≡ tn
+        → Likes (cond tr (Some r) (cond tm (Some m) (cond ts (Some s) (cond tu (Some t) (cond th (Some u) None)))))
+        (cond tr (Some r) (cond tn (Some n) (cond ts (Some s) (cond tu (Some t) (cond th (Some u) None)))))
+    go true tm tn ts tu th e = same_self r
+    go false true true ts tu th e = l
+    go false true false ts tu th e = cc
+    go false false true ts tu th e = cc
+    go false false false true tu th e = same_self s
+    go false false false false true th e = same_self t
+    go false false false false false true e = same_self u
+    go false false false false false false e = tt
 
 alike : (a b : Names) → IsModes a → IsModes b → Alike (built_rules a) (built_rules b)
 unfolding defaults_fault
 alike a b in-a in-b =
     let same = same_mode a b in-a in-b in
-    let found = λ (test : Rule → Bool). likes_found test built_steps (built_mode a) (built_mode b) built_number built_help same in
+    let found = λ (test : Rule → Bool). likes_found test built_steps (built_mode a) (built_mode b) built_number built_turn built_help same in
     record {
       by_id = λ id. found (λ r. bytes_eq r.id id) refl;
       by_long = λ name. found (λ r. not (is_some r.index) && has_long r name) refl;
@@ -95,7 +99,7 @@ alike a b in-a in-b =
       defaulted = λ rows. refl;
       defaults = λ rows.
           let given = with_default rows built_steps in
-          let rest = defaults_fault (with_default given (built_mode b)) (built_number ∷ built_help ∷ []) in
+          let rest = defaults_fault (with_default given (built_mode b)) (built_number ∷ built_turn ∷ built_help ∷ []) in
           ap (λ (k : Kinds). or_else (default_fault rows built_steps) (or_else (cond (has_row (codes "mode") given || false) [] k) rest))
           (same_values a b in-a in-b (codes "run" ∷ []));
       missing = λ rows. refl;

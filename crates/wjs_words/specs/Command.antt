@@ -11,7 +11,7 @@ abbrev pub Names : Type 0
 Names = Bor (List (Bor Text))
 
 abbrev pub mode_names : List Text
-mode_names = codes "run" ∷ codes "check" ∷ codes "tree" ∷ codes "gen" ∷ codes "log" ∷ codes "audit" ∷ []
+mode_names = codes "run" ∷ codes "check" ∷ codes "tree" ∷ codes "gen" ∷ codes "play" ∷ codes "log" ∷ codes "audit" ∷ []
 
 abbrev pub IsModes : Names → Type 0
 IsModes names = map (λ name. name.now) names.now ≡ mode_names
@@ -34,10 +34,13 @@ mode_rule names = option_rule (codes "mode") (Among names) (codes "run")
 abbrev pub number_rule : Rule
 number_rule = option_rule (codes "number") (Unsigned 1 50000) (codes "1000")
 
--- `worlds [--steps N] [--mode M] [--number K]`, where the names of the modes stand there
+abbrev pub turn_rule : Rule
+turn_rule = option_rule (codes "turn") (Unsigned 1 (10 ^ 6)) (codes "100")
+
+-- `worlds [--steps N] [--mode M] [--number K] [--turn Q]`, where the names of the modes stand there
 abbrev pub command_with : Names → App
 command_with names =
-    with_rule (with_rule (with_rule (new_app (codes "worlds")) steps_rule) (mode_rule names)) number_rule
+    with_rule (with_rule (with_rule (with_rule (new_app (codes "worlds")) steps_rule) (mode_rule names)) number_rule) turn_rule
 
 -- the app is that command, wherever the names of the modes stand
 abbrev pub IsCommand : App → Type 0
@@ -47,6 +50,6 @@ IsCommand app = (names : Names) × IsModes names × (app ≡ command_with names)
 abbrev pub anywhere : {X : Type 0} → X → Bor X
 anywhere x = record { ref_ptr = (0, 0); now = x }
 
--- `worlds [--steps N] [--mode M] [--number K]`
+-- `worlds [--steps N] [--mode M] [--number K] [--turn Q]`
 abbrev pub command : App
 command = command_with (anywhere (map anywhere mode_names))

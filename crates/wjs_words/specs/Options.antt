@@ -6,7 +6,7 @@ use Rattle.std.specs.Str.Parse.{digits_value, without_leading_plus}
 use Rattle.clap.specs.Words.{App, IsUnsignedIn, Row, Text, fault_of, first_of, matches_of, one_of}
 use Rattle.wjs_words.specs.Lines.{IsUsageLine}
 use Rattle.wjs_words.specs.declared.mode.Mode.{Mode}
-use Rattle.wjs_words.specs.declared.mode.Mode.TheVariants.{Run, Check, Tree, Gen, Log, Audit}
+use Rattle.wjs_words.specs.declared.mode.Mode.TheVariants.{Run, Check, Tree, Gen, Play, Log, Audit}
 use Rattle.wjs_words.specs.declared.answer.Options.{Options}
 use Rattle.wjs_words.specs.declared.answer.WordsFault.{WordsFault}
 use Rattle.wjs_words.specs.declared.answer.WordsFault.TheVariants.{Usage, OutOfMemory}
@@ -17,8 +17,9 @@ mode_named name = if bytes_eq name (codes "run") then Some Run
     else (if bytes_eq name (codes "check") then Some Check
     else (if bytes_eq name (codes "tree") then Some Tree
     else (if bytes_eq name (codes "gen") then Some Gen
+    else (if bytes_eq name (codes "play") then Some Play
     else (if bytes_eq name (codes "log") then Some Log
-    else (if bytes_eq name (codes "audit") then Some Audit else None)))))
+    else (if bytes_eq name (codes "audit") then Some Audit else None))))))
 
 -- the number that the digits of a text write
 abbrev pub number_of : Text → ℕ
@@ -33,6 +34,9 @@ pub record Gives (rows : List Row) (options : Options) : Type 0 where
   pub number : option_map number_of (one_of (codes "number") rows) ≡ Some options.number
   pub number_from : 1 ≤ options.number
   pub number_to : options.number ≤ 50000
+  pub turn : option_map number_of (one_of (codes "turn") rows) ≡ Some options.turn
+  pub turn_from : 1 ≤ options.turn
+  pub turn_to : options.turn ≤ 10 ^ 6
 
 -- a fault that is the line for a reason that holds, or want of memory
 abbrev pub Says : Type 0 → WordsFault → Type 0
@@ -55,3 +59,4 @@ pub record HasOptions (rows : List Row) : Type 0 where
   pub steps : HasNumber rows (codes "steps") (10 ^ 12)
   pub mode : HasMode rows
   pub number : HasNumber rows (codes "number") 50000
+  pub turn : HasNumber rows (codes "turn") (10 ^ 6)

@@ -13,6 +13,8 @@ pub struct Options {
     pub mode: Mode,
     /// The number that the generated script is made from, from 1 to 50,000.
     pub number: u64,
+    /// The steps of a turn of a play, from 1 to 1,000,000.
+    pub turn: u64,
 }
 
 /// Why the words give no options.

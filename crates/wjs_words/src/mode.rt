@@ -13,6 +13,8 @@ pub enum Mode {
     Tree,
     /// Run a generated script in place of one that is read.
     Gen,
+    /// Run the scripts that the source is divided into by turns, each in a world of its own, and commit each at its end.
+    Play,
     /// Run the script, and write the log of its actions on worlds in place of what it prints.
     Log,
     /// Read a log of actions on worlds, and say whether its answers are the full-copy machine's.
@@ -20,7 +22,7 @@ pub enum Mode {
 }
 
 /// The names of the modes.
-pub(crate) static MODES: [&str; 6] = ["run", "check", "tree", "gen", "log", "audit"];
+pub(crate) static MODES: [&str; 7] = ["run", "check", "tree", "gen", "play", "log", "audit"];
 
 impl Mode {
     /// The mode of this name, where it is one's.
@@ -32,6 +34,7 @@ impl Mode {
             "check" => Some(Mode::Check),
             "tree" => Some(Mode::Tree),
             "gen" => Some(Mode::Gen),
+            "play" => Some(Mode::Play),
             "log" => Some(Mode::Log),
             "audit" => Some(Mode::Audit),
             _ => None,

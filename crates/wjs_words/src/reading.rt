@@ -15,7 +15,7 @@ use std::alloc::Global;
 /// What the words of the command line ask for, of which the first is the program's name.
 ///
 /// Without a fault by `clap`'s definitions the options are those of its matches: `--steps` (10000000
-/// where it isn't given), `--mode` (`run`) and `--number` (1000).
+/// where it isn't given), `--mode` (`run`), `--number` (1000) and `--turn` (100).
 ///
 /// # Errors
 ///
@@ -41,6 +41,7 @@ fn read(matches: &ArgMatches<'_>) -> Options
         steps: matches.get_one::<u64>("steps").unwrap(),
         mode: Mode::named(mode).unwrap(),
         number: matches.get_one::<u64>("number").unwrap(),
+        turn: matches.get_one::<u64>("turn").unwrap(),
     }
 }
 

@@ -1,4 +1,5 @@
 //! The scripts over a store that keeps every copy, in place of the program's own.
+ghost use Rattle.std.specs.Prelude.{◌≢◌};
 ghost use Rattle.wjs_start.specs.First.{IsNew};
 
 use super::*;
@@ -16,7 +17,8 @@ fn printed_over<S: WorldStore + Drop>(
     mode: Mode,
     script: &str,
 ) -> Result<Vec<u8>, Fail>
-    requires { IsNew (S.meaning store) }
+    requires new { IsNew (S.meaning store) }
+    requires mode { mode ≢ Mode.Play }
 {
     assert!(rt; script.len() <= 16_777_216);
     let mut out = MemSink::new(alloc, Vec::new(alloc), 4096);
@@ -24,6 +26,7 @@ fn printed_over<S: WorldStore + Drop>(
         steps: 10_000_000,
         mode,
         number: 1,
+        turn: 1,
     };
     let Ok(report) = perform_in(alloc, store, options, script.as_bytes(), &mut out) else {
         return Err("stopped")?;
@@ -33,12 +36,9 @@ fn printed_over<S: WorldStore + Drop>(
 }
 
 /// Runs each script in the mode, and compares what it prints.
-fn expect(
-    rt: &impl Abort,
-    alloc: Global,
-    mode: Mode,
-    scripts: &[(&str, &str)],
-) -> Result<(), Fail> {
+fn expect(rt: &impl Abort, alloc: Global, mode: Mode, scripts: &[(&str, &str)]) -> Result<(), Fail>
+    requires { mode ≢ Mode.Play }
+{
     for (script, printed) in scripts {
         let store = FullStore::new(alloc)?;
         let out = printed_over(rt, alloc, store, mode, script)?;

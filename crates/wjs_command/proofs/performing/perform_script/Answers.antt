@@ -44,8 +44,8 @@ returns-in_default g c =
     let loaded = c.in-Ok-load in
     let out = stream (held c.args.out.now) (held c.run_script.new.out) (faults c.args.out.now) (faults c.run_script.new.out) in
     comes_as (IsRunOf texts loaded.script options.steps options.mode) (owed_in options.mode options.steps bytes) out c.run_script.result
-    (run_told options bytes texts loaded.script c.requires.mode c.in_default.not-Check c.in_default.not-Log loaded.ensures.ok)
+    (run_told options bytes texts loaded.script c.requires.mode c.requires.script c.in_default.not-Check c.in_default.not-Log loaded.ensures.ok)
     c.run_script.ensures
 
 pub returns-in-Err-load : goal.returns-in-Err-load
-returns-in-Err-load g c = fault_comes c.args.options c.args.bytes.now c.in-Err-load.fault c.refuse_or_stop.result (g.O.Sink.held c.args.out.now) (g.O.Sink.faults c.args.out.now) c.requires.mode c.in-Err-load.ensures.err c.refuse_or_stop.ensures
+returns-in-Err-load g c = fault_comes c.args.options c.args.bytes.now c.in-Err-load.fault c.refuse_or_stop.result (g.O.Sink.held c.args.out.now) (g.O.Sink.faults c.args.out.now) c.requires.mode c.requires.script c.in-Err-load.ensures.err c.refuse_or_stop.ensures

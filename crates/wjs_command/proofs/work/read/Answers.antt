@@ -14,7 +14,7 @@ returns-in-Ok g c =
     let out = stream (g.O.Sink.held c.args.out.now) (g.O.Sink.held c.perform.new.out) (g.O.Sink.faults c.args.out.now) (g.O.Sink.faults c.perform.new.out) in
     let P : List ℕ → Type 0 = λ bytes. Comes (IsTold c.args.options bytes) out c.perform.result in
     serve_read c.args.options (left c.args.source.now) (left c.read_all.new.source) (counted c.args.source.now) (counted c.read_all.new.source) out c.in-Ok.bytes.items c.perform.result
-    c.requires c.in-Ok.ensures.all c.in-Ok.ensures.end (subst (λ (n : ℕ). length c.in-Ok.bytes.items ≤ n) c.most_bytes.ensures c.in-Ok.ensures.within) (subst P c.as_slice.ensures.value c.perform.ensures)
+    c.requires.mode c.in-Ok.ensures.all c.in-Ok.ensures.end (subst (λ (n : ℕ). length c.in-Ok.bytes.items ≤ n) c.most_bytes.ensures c.in-Ok.ensures.within) (subst P c.as_slice.ensures.value c.perform.ensures)
 
 pub returns-in-Err-TooLong : goal.returns-in-Err-TooLong
 returns-in-Err-TooLong g c =
@@ -23,7 +23,7 @@ returns-in-Err-TooLong g c =
     let P : ReadFault → Type 0 = λ fault. StopsAfter c.most_bytes.result (left c.args.source.now) (left c.read_all.new.source) fault in
     let stops = subst P c.in-Err-TooLong.field-0-is c.in-Err-TooLong.ensures.stops in
     serve_long c.args.options (left c.args.source.now) (left c.read_all.new.source) (g.O.Sink.held c.args.out.now) (counted c.args.source.now) (counted c.read_all.new.source) (g.O.Sink.faults c.args.out.now) stops.0 c.refuse_length.result
-    c.requires (stops.1 ∙ ap (λ (n : ℕ). n + 1) c.most_bytes.ensures) stops.2 c.refuse_length.ensures
+    c.requires.mode (stops.1 ∙ ap (λ (n : ℕ). n + 1) c.most_bytes.ensures) stops.2 c.refuse_length.ensures
 
 pub returns-in-Err-Failed : goal.returns-in-Err-Failed
 returns-in-Err-Failed g c =

@@ -1,0 +1,191 @@
+-- What the end of a try leaves.
+use Rattle.std.proofs.Common.{◌≡◌, ℕ, Bool, true, false, List, [], None, Some, Vec, Global, refl, sym, ap, ◌∙◌, subst}
+use Rattle.std.specs.Prelude.{Result, Ok, Err, IfOk}
+use Rattle.std.specs.FinMap as map
+use Rattle.wjs_base.specs.declared.ids.ObjId.{ObjId}
+use Rattle.wjs_base.specs.declared.ids.OutOfMemory.{OutOfMemory}
+use Rattle.wjs_base.specs.declared.ids.WorldId.{WorldId}
+use Rattle.wjs_base.specs.declared.values.Value.{Value as Numbered}
+use Rattle.wjs_base.specs.Text.{Grows}
+use Rattle.wjs_base.proofs.TextLaws.{Grows-refl}
+use Rattle.wjs_store.specs.State.{same_world}
+use Rattle.wjs_store.specs.Shown.{first_of}
+use Rattle.wjs_store.specs.Reached.{IsReached}
+use Rattle.wjs_store.specs.declared.store.Verdict.{Verdict}
+use Rattle.wjs_arena.specs.Entries.{Objects, Entry, Keeps}
+use Rattle.wjs_meaning.specs.Trees.{Tree}
+use Rattle.wjs_model.specs.declared.config.Config.{Config}
+use Rattle.wjs_model.specs.declared.config.State.{State}
+use Rattle.wjs_model.specs.declared.config.State.TheVariants as states
+use Rattle.wjs_model.specs.Soundness.{Base, Sound}
+use Rattle.wjs_overlay.specs.declared.overlay.Overlay.{Overlay}
+use Rattle.wjs_parts.specs.Walking.{Walks}
+use Rattle.wjs_reports.specs.Thrown.{ShowsIn}
+use Rattle.wjs_reports.specs.Thrown as thrown
+use Rattle.wjs_session.specs.declared.session.Session.{Session}
+use Rattle.wjs_session.specs.Session.{world_at, first_copy, passes}
+use Rattle.wjs_session.specs.Stores.{worlds_in}
+use Rattle.wjs_session.specs.Returns.{Returns}
+use Rattle.wjs_session.specs.Owned.{own_passes}
+use Rattle.wjs_session.specs.Settled.{Agrees, Settles}
+use Rattle.wjs_session.proofs.AnswerLaws.{overlay_reached}
+use Rattle.wjs_session.proofs.Leaving.{ends}
+use Rattle.wjs_activity.specs.declared.common.Common.{Common}
+use Rattle.wjs_activity.specs.declared.ends.Outcome.TheVariants as told
+use Rattle.wjs_activity.specs.declared.turns.Came.{Came}
+use Rattle.wjs_activity.specs.declared.turns.Came.TheVariants as came
+use Rattle.wjs_activity.specs.Meant.{session_meaning}
+use Rattle.wjs_activity.specs.Views.{held_in}
+use Rattle.wjs_activity.specs.Common.{IsCommon}
+use Rattle.wjs_activity.specs.Passing.{Passes}
+use Rattle.wjs_activity.specs.Turning.{common_of, IsLive, IsOver, IsTurned, EndsAlone, CameTo, Shares, IsRest, IsEnd, IsAtEnd, AgreesNow}
+use Rattle.wjs_activity.proofs.Overs.{over_walked, committed_alone, spent_alone, threw_alone}
+use Rattle.wjs_activity.proofs.Rests.{common_shared}
+use Rattle.wjs_activity.proofs.Turned.{live, kept_now, number_is, common_after, first_stays, common_turned, passes_turned, passes_then}
+
+pub not_both : (m : Objects) (o : ObjId) (e : Entry) (P : Type 0) → map.get m o ≡ None → map.get m o ≡ Some e → P
+not_both m o e P none at = let h : None ≡ Some e = sym none ∙ at in absurd (cc)
+
+-- nothing was done but that a session gave back what it shares
+pub passes_left : (c : Config Session) (common : Common) → IsReached (worlds_in c.heap.store.shared) → Shares c common → Passes c.owner (common_of c) common
+passes_left c common reached s = record {
+  texts = subst (λ t. Grows c.heap.texts t) (sym s.texts) (Grows-refl c.heap.texts);
+  objects = subst (λ m. Keeps c.heap.arena m) (sym s.arena_is) (λ o e at. at);
+  made = λ o e none at. not_both c.heap.arena o e (o.owner ≡ c.owner) none (ap (λ (m : Objects). map.get m o) (sym s.arena_is) ∙ at);
+  units = s.units;
+  first = ap first_of s.worlds;
+  returns = λ i e child. subst (λ H. Returns (worlds_in c.heap.store.shared) H i) (sym s.worlds) (record { reached = reached; child = child; marks = refl; holds = λ k t. refl });
+}
+
+module _ (c : Config Session) (sound : Sound session_meaning c) where
+  -- a dropped try
+  pub dropped : (common : Common) → Shares c common → (trees : List Tree) (tree budget drawn : ℕ) → IsCommon c.heap.texts c.heap.arena c.units.items (worlds_in c.heap.store.shared) drawn → IsTurned session_meaning trees tree budget drawn c common came.Drops
+  dropped common s trees tree budget drawn h = record {
+    leaves = passes_left c common h.reached s;
+    works = s.works;
+    is_common = common_shared c common drawn s h;
+    came = ap (λ F. held_in common.texts (first_copy F)) s.worlds;
+  }
+
+  -- one that has spent its budget
+  pub spent : (common : Common) (output : Vec ℕ Global) → Shares c common → output.items ≡ [] → c.state ≡ states.StepsSpent → IsAtEnd session_meaning c common (came.Ends told.Spent output)
+  spent common output s none is = record {
+    ends = tt;
+    turned = λ trees tree budget drawn over agrees. record {
+      leaves = passes_left c common (over.common).reached s;
+      works = s.works;
+      is_common = common_shared c common drawn s over.common;
+      came = subst (λ l. EndsAlone session_meaning trees tree budget drawn c.owner (held_in common.texts (first_copy (worlds_in c.heap.store.shared))) common told.Spent l) (sym none)
+          (spent_alone trees tree budget drawn c over agrees common (subst (λ t. Grows c.heap.texts t) (sym s.texts) (Grows-refl c.heap.texts)) s.arena_is (ap first_copy s.worlds) is);
+    };
+  }
+
+  -- one that threw, whose value's text was found
+  pub threw : (value : Numbered) (bytes : List ℕ) (next : Config Session) (common : Common) (output : Vec ℕ Global) → c.state ≡ states.Threw value → ShowsIn session_meaning c value bytes → thrown.Leaves session_meaning c next → Shares next common → output.items ≡ []
+      → IsAtEnd session_meaning c common (came.Ends (told.Threw bytes) output)
+  threw value bytes next common output is shows left s none = record {
+    ends = tt;
+    turned = λ trees tree budget drawn over agrees. record {
+      leaves = passes_turned c next sound.base left.base left.stays common s;
+      works = s.works;
+      is_common = common_shared next common drawn s (common_turned c next sound.base left.base left.stays drawn over.owner over.common);
+      came = subst (λ l. EndsAlone session_meaning trees tree budget drawn c.owner (held_in common.texts (first_copy (worlds_in c.heap.store.shared))) common (told.Threw bytes) l) (sym none)
+          (threw_alone trees tree budget drawn c over agrees common (subst (λ t. Grows c.heap.texts t) (sym s.texts) left.stays.texts) (s.arena_is ∙ left.objects) (ap first_copy s.worlds ∙ first_stays c next sound.base left.base left.stays) value bytes is shows);
+    };
+  }
+
+  -- one that was committed
+  pub committed : (shared : Overlay) (verdict : Verdict) → Settles (worlds_in c.heap.store.shared) c.heap.store.world (worlds_in c.heap.store.inner) (worlds_in shared) verdict → shared.spent ≡ false → c.state ≡ states.Done
+      → IsAtEnd session_meaning c (record { texts = c.heap.texts; arena = c.heap.arena; units = c.units; shared = shared }) (came.Ends told.Committed c.pending)
+  committed shared verdict settles works is =
+      let F = worlds_in c.heap.store.shared in
+      let j = c.heap.store.world in
+      let common : Common = record { texts = c.heap.texts; arena = c.heap.arena; units = c.units; shared = shared } in
+      let left = ends F (worlds_in shared) j (worlds_in c.heap.store.inner) verdict (kept_now c sound.base) settles in
+      record {
+        ends = tt;
+        turned = λ trees tree budget drawn over agrees.
+            let holds = settles.holds (settles.moves.1 agrees) in
+            record {
+              leaves = record {
+                texts = Grows-refl c.heap.texts;
+                objects = λ o e at. at;
+                made = λ o e none at. not_both c.heap.arena o e (o.owner ≡ c.owner) none at;
+                units = refl;
+                first = left.first;
+                returns = λ i e child. left.returns i (ap (same_world i) (number_is c sound.base) ∙ e) child;
+              };
+              works = works;
+              is_common = common_after session_meaning c sound.base c.heap.texts c.heap.arena c.units.items F (worlds_in shared) j c.owner drawn over.common over.owner
+                  (λ o e none at. not_both c.heap.arena o e (o.owner ≡ c.owner) none at) (overlay_reached shared works) left.first left.there (ap (λ (z : WorldId). z.owner) (number_is c sound.base))
+                  (λ s v at. sound.base.heap.slots j s v (sym (holds s) ∙ at));
+              came = committed_alone trees tree budget drawn c over agrees is common refl refl holds;
+            };
+      }
+
+-- ---- a walk and the end behind it
+
+pub walked_turned : (trees : List Tree) (tree budget drawn : ℕ) (old new : Config Session) (common : Common) (c : Came) → Passes old.owner (common_of old) (common_of new) → new.owner ≡ old.owner → first_copy (worlds_in new.heap.store.shared) ≡ first_copy (worlds_in old.heap.store.shared) → IsTurned session_meaning trees tree budget drawn new common c → IsTurned session_meaning trees tree budget drawn old common c
+walked_turned trees tree budget drawn old new common c between owner first h = record {
+  leaves = passes_then old.owner (common_of old) (common_of new) common between (subst (λ q. Passes q (common_of new) common) owner h.leaves);
+  works = h.works;
+  is_common = h.is_common;
+  came = subst (λ q. CameTo session_meaning trees tree budget drawn q (held_in common.texts (first_copy (worlds_in old.heap.store.shared))) common c) owner
+      (subst (λ m. CameTo session_meaning trees tree budget drawn new.owner (held_in common.texts m) common c) first h.came);
+}
+
+-- what a configuration shares is shared as it is
+pub shares_itself : (c : Config Session) → Base session_meaning c → Shares c (common_of c)
+shares_itself c base = record { texts = refl; arena_is = refl; units = refl; worlds = refl; works = (c.heap.store.works (live c base)).0 }
+
+-- a turn at whose end the try goes on no more
+pub finished_turned : (trees : List Tree) (tree budget drawn steps took : ℕ) (old new : Config Session) (common : Common) (c : Came) → IsLive session_meaning trees tree budget drawn old → Walks session_meaning steps took old new → ¬ (new.state ≡ states.Running)
+    → ((is : IsOver session_meaning trees tree budget drawn new) → IsTurned session_meaning trees tree budget drawn new common c) → IsTurned session_meaning trees tree budget drawn old common c
+finished_turned trees tree budget drawn steps took old new common c l w over go =
+    walked_turned trees tree budget drawn old new common c
+    (passes_turned old new l.sound.base w.sound.base w.stays (common_of new) (shares_itself new w.sound.base)) w.stays.owner (first_stays old new l.sound.base w.sound.base w.stays)
+    (go (over_walked trees tree budget drawn steps took old new l w over))
+
+-- ---- whether the reads hold
+
+-- a session that says that it agrees does
+pub agreed : (c : Config Session) {answer : Bool} → answer ≡ true → Agrees (worlds_in c.heap.store.shared) c.heap.store.world answer → AgreesNow session_meaning c
+agreed c is h = sym h.answers ∙ is
+
+-- a try that takes the first world to hold what it holds agrees
+pub own_agrees : (c : Config Session) → Sound session_meaning c → (session_meaning c.heap.store).own ≡ first_copy (worlds_in c.heap.store.shared) → AgreesNow session_meaning c
+own_agrees c sound own =
+    let F = worlds_in c.heap.store.shared in
+    let x = world_at F c.heap.store.world in
+    ap (passes x) (sym own) ∙ own_passes (first_copy F) x
+
+-- ---- an end that was answered
+
+pub end_turned : (c : Config Session) (result : Result (Common × Came) OutOfMemory) → AgreesNow session_meaning c → IfOk result (λ r. IsAtEnd session_meaning c r.0 r.1)
+    → IfOk result (λ r. (trees : List Tree) (tree budget drawn : ℕ) → IsOver session_meaning trees tree budget drawn c → IsTurned session_meaning trees tree budget drawn c r.0 r.1)
+end_turned c (Ok r) agrees h = λ trees tree budget drawn over. h.turned trees tree budget drawn over agrees
+end_turned c (Err e) agrees h = tt
+
+pub end_no_rest : (k : Came) → IsEnd k → ¬ (IsRest k)
+end_no_rest (came.Ends outcome output) h = λ r. r
+end_no_rest (came.Rests rest) h = absurd h
+end_no_rest came.Drops h = absurd h
+
+pub end_no_drop : (k : Came) → IsEnd k → ¬ (k ≡ came.Drops)
+end_no_drop (came.Ends outcome output) h e = cc
+end_no_drop (came.Rests rest) h e = absurd h
+end_no_drop came.Drops h e = absurd h
+
+pub end_awake : (c : Config Session) (result : Result (Common × Came) OutOfMemory) → IfOk result (λ r. IsAtEnd session_meaning c r.0 r.1) → IfOk result (λ r. ¬ (IsRest r.1))
+end_awake c (Ok r) h = end_no_rest r.1 h.ends
+end_awake c (Err e) h = tt
+
+pub end_kept : (c : Config Session) (result : Result (Common × Came) OutOfMemory) → IfOk result (λ r. IsAtEnd session_meaning c r.0 r.1) → IfOk result (λ r. (session_meaning c.heap.store).own ≡ first_copy (worlds_in c.heap.store.shared) → ¬ (r.1 ≡ came.Drops))
+end_kept c (Ok r) h = λ own. end_no_drop r.1 h.ends
+end_kept c (Err e) h = tt
+
+pub spent_left : (s : State) → ¬ (s ≡ states.Running) → ¬ (s ≡ states.Done) → ((v : Numbered) → ¬ (s ≡ states.Threw v)) → s ≡ states.StepsSpent
+spent_left states.Running a b f = absurd (a refl)
+spent_left states.Done a b f = absurd (b refl)
+spent_left (states.Threw v) a b f = absurd (f v refl)
+spent_left states.StepsSpent a b f = refl

@@ -1,0 +1,33 @@
+use Rattle.std.proofs.Common.{sym, subst}
+use Rattle.wjs_io.specs.Streams.{stream}
+use Rattle.wjs_props.proofs.Putting.{if_ok}
+use Rattle.wjs_activity.specs.Rounds.{OneTurn, HaltsIn}
+use Rattle.wjs_activity.proofs.Composed.{one_turned, one_stopped, out_of_memory, if_err}
+use Rattle.wjs_activity.proofs.rounds.one_turn.Goals as goal
+
+pub returns-in-Ok-clause-ok : goal.returns-in-Ok-clause-ok
+returns-in-Ok-clause-ok g c =
+    let held = g.O.Sink.held in
+    let faults = g.O.Sink.faults in
+    let first = c.args.out.now in
+    let after = c.written.new.out in
+    let s = stream (held first) (held after) (faults first) (faults after) in
+    let r = c.in-Ok.turned in
+    if_ok c.written.result _ _
+    (λ next h. subst (OneTurn c.args.rules s c.args.place c.args.play) (sym h.0) (one_turned c.args.rules s c.args.place c.args.play r.0 r.1.items c.in-Ok.ensures h.1))
+    c.written.ensures.ok
+
+pub returns-in-Ok-clause-err : goal.returns-in-Ok-clause-err
+returns-in-Ok-clause-err g c =
+    let held = g.O.Sink.held in
+    let faults = g.O.Sink.faults in
+    let first = c.args.out.now in
+    let after = c.written.new.out in
+    let s = stream (held first) (held after) (faults first) (faults after) in
+    let r = c.in-Ok.turned in
+    if_err c.written.result _ _
+    (λ halt h. subst (HaltsIn c.args.rules s c.args.play) (sym h.0) (one_stopped c.args.rules s c.args.place c.args.play r.0 r.1.items c.in-Ok.ensures h.1))
+    c.written.ensures.err
+
+pub returns-in-Err-clause-err : goal.returns-in-Err-clause-err
+returns-in-Err-clause-err g c = out_of_memory c.args.rules (g.O.Sink.held c.args.out.now) (g.O.Sink.faults c.args.out.now) c.args.play

@@ -1,0 +1,54 @@
+use Rattle.std.proofs.Common.{arith}
+use Rattle.wjs_io.specs.Streams.{stream}
+use Rattle.wjs_activity.proofs.Composed.{turns_none, turns_then, halts_then, goes_on}
+use Rattle.wjs_activity.proofs.rounds.scheduled.Goals as goal
+
+pub loop-turn-init : goal.loop-turn-init
+loop-turn-init g c =
+    let first = c.args.out.now in
+    record { turns = turns_none c.args.rules (g.O.Sink.held first) (g.O.Sink.faults first) c.args.play; settled = c.requires.settled; never_falls = omega arith }
+
+pub turn_of-requires-clause-going : goal.turn_of-requires-clause-going
+turn_of-requires-clause-going g c =
+    let held = g.O.Sink.held in
+    let faults = g.O.Sink.faults in
+    let first = c.args.out.now in
+    let before = c.loop-turn.out in
+    goes_on c.args.rules (stream (held first) (held before) (faults first) (faults before)) c.args.play c.loop-turn.current c.requires.going c.loop-turn.invariant.turns
+
+pub turn_of-requires-clause-settled : goal.turn_of-requires-clause-settled
+turn_of-requires-clause-settled g c = c.loop-turn.invariant.settled
+
+pub loop-turn-preserved : goal.loop-turn-preserved
+loop-turn-preserved g c =
+    let held = g.O.Sink.held in
+    let faults = g.O.Sink.faults in
+    let first = c.args.out.now in
+    let before = c.loop-turn.out in
+    let after = c.turn_of.new.out in
+    record {
+      turns = turns_then c.args.rules (held first) (held before) (held after) (faults first) (faults before) (faults after) c.args.play c.loop-turn.current c.in-Ok.next c.loop-turn.invariant.turns c.in-Ok.ensures.ok;
+      settled = c.in-Ok.ensures.settled;
+      never_falls = omega (arith, c.loop-turn.invariant.never_falls, c.turn_of.ensures.never_falls);
+    }
+
+pub returns-in-Err-clause-err : goal.returns-in-Err-clause-err
+returns-in-Err-clause-err g c =
+    let held = g.O.Sink.held in
+    let faults = g.O.Sink.faults in
+    let first = c.args.out.now in
+    let before = c.loop-turn.out in
+    let after = c.turn_of.new.out in
+    halts_then c.args.rules (held first) (held before) (held after) (faults first) (faults before) (faults after) c.args.play c.loop-turn.current c.in-Err.halt c.loop-turn.invariant.never_falls c.loop-turn.invariant.turns c.in-Err.ensures.err
+
+pub returns-in-Err-clause-never_falls : goal.returns-in-Err-clause-never_falls
+returns-in-Err-clause-never_falls g c = omega (arith, c.loop-turn.invariant.never_falls, c.turn_of.ensures.never_falls)
+
+pub returns-clause-ok : goal.returns-clause-ok
+returns-clause-ok g c = c.loop-turn.invariant.turns
+
+pub returns-clause-settled : goal.returns-clause-settled
+returns-clause-settled g c = c.loop-turn.invariant.settled
+
+pub returns-clause-never_falls : goal.returns-clause-never_falls
+returns-clause-never_falls g c = c.loop-turn.invariant.never_falls

@@ -1,0 +1,90 @@
+use Rattle.std.proofs.Common.{◌∙◌, sym, ap, List, arith}
+use Rattle.std.specs.Prelude.{slice_get}
+use Rattle.wjs_io.specs.Streams.{stream}
+use Rattle.wjs_props.proofs.Putting.{if_ok}
+use Rattle.wjs_activity.specs.declared.activities.Activity.{Activity}
+use Rattle.wjs_activity.specs.Rounds.{Settled, LastTurn, TurnAt, TurnsTo, HaltsIn}
+use Rattle.wjs_activity.proofs.Composed.{turns_none, turns_then, halts_then, goes_on, there_at, at_none, may_first, may_last, settled_at, turned_at, long_changed, if_err}
+use Rattle.wjs_activity.proofs.rounds.turn_at.Goals as goal
+
+pub returns-then-has_ended-clause-ok : goal.returns-then-has_ended-clause-ok
+returns-then-has_ended-clause-ok g c = turns_none c.args.rules (g.O.Sink.held c.args.out.now) (g.O.Sink.faults c.args.out.now) c.args.play
+
+pub returns-then-has_ended-clause-changes : goal.returns-then-has_ended-clause-changes
+returns-then-has_ended-clause-changes g c =
+    let w = there_at c.args.play.activities.items c.args.place c.requires.place in
+    at_none c.args.rules.budget c.args.place c.args.play w.0 w.1
+    (sym (c.has_ended.ensures w.0 (ap (λ (l : List Activity). slice_get l c.args.place) c.as_slice.ensures.value ∙ w.1)) ∙ c.if-has_ended.true)
+
+pub one_turn-requires-clause-there : goal.one_turn-requires-clause-there
+one_turn-requires-clause-there g c =
+    let w = there_at c.args.play.activities.items c.args.place c.requires.place in
+    may_first c.args.rules.budget c.args.place c.args.steps c.args.play w.0 c.requires.settled w.1
+    (sym (c.has_ended.ensures w.0 (ap (λ (l : List Activity). slice_get l c.args.place) c.as_slice.ensures.value ∙ w.1)) ∙ c.if-has_ended.false)
+
+pub last_turn-requires-clause-going : goal.last_turn-requires-clause-going
+last_turn-requires-clause-going g c =
+    let held = g.O.Sink.held in
+    let faults = g.O.Sink.faults in
+    let first = c.args.out.now in
+    let middle = c.one_turn.new.out in
+    goes_on c.args.rules (stream (held first) (held middle) (faults first) (faults middle)) c.args.play c.in-Ok.next c.requires.going c.in-Ok.ensures.ok.turns
+
+pub last_turn-requires-clause-place : goal.last_turn-requires-clause-place
+last_turn-requires-clause-place g c =
+    let long = long_changed c.args.rules.budget c.args.place c.args.play c.in-Ok.next c.in-Ok.ensures.ok.changes in
+    omega (arith, long, c.requires.place)
+
+pub last_turn-requires-clause-due : goal.last_turn-requires-clause-due
+last_turn-requires-clause-due g c =
+    let w = there_at c.args.play.activities.items c.args.place c.requires.place in
+    may_last c.args.rules.budget c.args.place c.args.play c.in-Ok.next w.0 c.in-Ok.ensures.ok.changes w.1
+
+pub returns-in-Ok-clause-ok : goal.returns-in-Ok-clause-ok
+returns-in-Ok-clause-ok g c =
+    let held = g.O.Sink.held in
+    let faults = g.O.Sink.faults in
+    let first = c.args.out.now in
+    let middle = c.one_turn.new.out in
+    let after = c.last_turn.new.out in
+    if_ok c.last_turn.result (LastTurn c.args.rules (stream (held middle) (held after) (faults middle) (faults after)) c.args.place c.in-Ok.next) (TurnsTo c.args.rules (stream (held first) (held after) (faults first) (faults after)) c.args.play)
+    (λ next l. turns_then c.args.rules (held first) (held middle) (held after) (faults first) (faults middle) (faults after) c.args.play c.in-Ok.next next c.in-Ok.ensures.ok.turns l.turns)
+    c.last_turn.ensures.ok
+
+pub returns-in-Ok-clause-settled : goal.returns-in-Ok-clause-settled
+returns-in-Ok-clause-settled g c =
+    let held = g.O.Sink.held in
+    let faults = g.O.Sink.faults in
+    let middle = c.one_turn.new.out in
+    let after = c.last_turn.new.out in
+    let s = stream (held middle) (held after) (faults middle) (faults after) in
+    let w = there_at c.args.play.activities.items c.args.place c.requires.place in
+    if_ok c.last_turn.result (LastTurn c.args.rules s c.args.place c.in-Ok.next) (λ next. Settled next.activities.items)
+    (λ next l. settled_at c.args.rules s c.args.place c.args.play c.in-Ok.next next w.0 w.1 c.in-Ok.ensures.ok.changes l c.requires.settled)
+    c.last_turn.ensures.ok
+
+pub returns-in-Ok-clause-changes : goal.returns-in-Ok-clause-changes
+returns-in-Ok-clause-changes g c =
+    let held = g.O.Sink.held in
+    let faults = g.O.Sink.faults in
+    let middle = c.one_turn.new.out in
+    let after = c.last_turn.new.out in
+    let s = stream (held middle) (held after) (faults middle) (faults after) in
+    let w = there_at c.args.play.activities.items c.args.place c.requires.place in
+    if_ok c.last_turn.result (LastTurn c.args.rules s c.args.place c.in-Ok.next) (TurnAt c.args.rules.budget c.args.place c.args.play)
+    (λ next l. turned_at c.args.rules s c.args.place c.args.play c.in-Ok.next next w.0 w.1 c.in-Ok.ensures.ok.changes l)
+    c.last_turn.ensures.ok
+
+pub returns-in-Ok-clause-err : goal.returns-in-Ok-clause-err
+returns-in-Ok-clause-err g c =
+    let held = g.O.Sink.held in
+    let faults = g.O.Sink.faults in
+    let first = c.args.out.now in
+    let middle = c.one_turn.new.out in
+    let after = c.last_turn.new.out in
+    if_err c.last_turn.result (HaltsIn c.args.rules (stream (held middle) (held after) (faults middle) (faults after)) c.in-Ok.next) (HaltsIn c.args.rules (stream (held first) (held after) (faults first) (faults after)) c.args.play)
+    (λ halt h. halts_then c.args.rules (held first) (held middle) (held after) (faults first) (faults middle) (faults after) c.args.play c.in-Ok.next halt c.one_turn.ensures.never_falls c.in-Ok.ensures.ok.turns h)
+    c.last_turn.ensures.err
+
+pub returns-in-Ok-clause-never_falls : goal.returns-in-Ok-clause-never_falls
+returns-in-Ok-clause-never_falls g c = omega (arith, c.one_turn.ensures.never_falls, c.last_turn.ensures.never_falls)

@@ -1,0 +1,41 @@
+use Rattle.std.proofs.Common.{refl, arith}
+use Rattle.wjs_activity.proofs.Comes.{turned_lem, few_places, part_there, few_units, rests_there, few_noted, mid_long}
+use Rattle.wjs_activity.proofs.rounds.turned.Goals as goal
+
+pub overflow_cast-part : goal.overflow_cast-part
+overflow_cast-part c = let few = few_places c.args.rules c.args.play c.args.place c.requires.place c.requires.going in omega (arith, few)
+
+pub go_on_or_open-requires-clause-live : goal.go_on_or_open-requires-clause-live
+go_on_or_open-requires-clause-live c = c.requires.going.is.works
+
+pub go_on_or_open-requires-clause-common : goal.go_on_or_open-requires-clause-common
+go_on_or_open-requires-clause-common c = c.requires.going.is.common
+
+pub go_on_or_open-requires-clause-part : goal.go_on_or_open-requires-clause-part
+go_on_or_open-requires-clause-part c = part_there c.args.rules c.args.play c.args.place c.requires.place c.requires.going
+
+pub go_on_or_open-requires-clause-few : goal.go_on_or_open-requires-clause-few
+go_on_or_open-requires-clause-few c = few_units c.args.rules c.args.play c.args.place c.requires.place c.requires.going
+
+pub go_on_or_open-requires-clause-rests : goal.go_on_or_open-requires-clause-rests
+go_on_or_open-requires-clause-rests c = rests_there c.args.rules c.args.play c.args.place c.requires.place c.requires.going c.take_running-running.new.activities.items c.take_running-running.result c.take_running-running.ensures
+
+pub note_at-requires-clause-place : goal.note_at-requires-clause-place
+note_at-requires-clause-place c = mid_long c.args.rules c.args.play c.args.place c.requires.place c.requires.going c.take_running-running.new.activities.items c.take_running-running.result c.take_running-running.ensures
+
+pub note_at-requires-clause-number : goal.note_at-requires-clause-number
+note_at-requires-clause-number c = let few = few_places c.args.rules c.args.play c.args.place c.requires.place c.requires.going in omega (arith, few)
+
+pub note_at-requires-clause-few : goal.note_at-requires-clause-few
+note_at-requires-clause-few c = λ a at.
+    let few = few_noted c.args.rules c.args.play c.args.place c.requires.place c.requires.going c.take_running-running.new.activities.items c.take_running-running.result c.take_running-running.ensures a at c.args.steps c.requires.there in
+    omega (arith, few)
+
+pub returns : goal.returns
+returns c =
+    let t = c.in_ok-taken.taken in
+    let e = c.in_ok-taken.ensures in
+    let k = c.in_ok-config.ensures in
+    turned_lem c.args.rules c.args.play c.args.place c.args.steps c.requires.there c.requires.some c.take_running-running.new.activities.items c.take_running-running.result c.take_running-running.ensures c.in_ok-config.config k.begun k.goes_on t.0 t.1 e.turned e.whole e.less e.certain
+    c.note_at.new.activities.items c.note_at.new.ends c.in_ok-output.output.items c.in_ok-output.ensures
+    (record { common = t.0; activities = c.note_at.new.activities; ends = c.note_at.new.ends; drawn = c.latest.result }) refl c.latest.ensures refl refl

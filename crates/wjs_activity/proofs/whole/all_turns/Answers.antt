@@ -1,0 +1,44 @@
+use Rattle.std.proofs.Common.{arith}
+use Rattle.wjs_io.specs.Streams.{stream}
+use Rattle.wjs_props.proofs.Putting.{if_ok}
+use Rattle.wjs_activity.proofs.Composed.{turns_then, halts_then, goes_on, if_err}
+use Rattle.wjs_activity.proofs.whole.all_turns.Goals as goal
+
+pub rounds-requires-clause-going : goal.rounds-requires-clause-going
+rounds-requires-clause-going g c =
+    let held = g.O.Sink.held in
+    let faults = g.O.Sink.faults in
+    let first = c.args.out.now in
+    let middle = c.scheduled.new.out in
+    goes_on c.args.rules (stream (held first) (held middle) (faults first) (faults middle)) c.args.play c.in-Ok.next c.requires.going c.in-Ok.ensures.ok
+
+pub rounds-requires-clause-settled : goal.rounds-requires-clause-settled
+rounds-requires-clause-settled g c = c.in-Ok.ensures.settled
+
+pub returns-in-Ok-clause-ok : goal.returns-in-Ok-clause-ok
+returns-in-Ok-clause-ok g c =
+    let held = g.O.Sink.held in
+    let faults = g.O.Sink.faults in
+    let first = c.args.out.now in
+    let middle = c.scheduled.new.out in
+    let after = c.rounds.new.out in
+    if_ok c.rounds.result _ _
+    (λ next h. turns_then c.args.rules (held first) (held middle) (held after) (faults first) (faults middle) (faults after) c.args.play c.in-Ok.next next c.in-Ok.ensures.ok h)
+    c.rounds.ensures.ok
+
+pub returns-in-Ok-clause-ended : goal.returns-in-Ok-clause-ended
+returns-in-Ok-clause-ended g c = c.rounds.ensures.ended
+
+pub returns-in-Ok-clause-err : goal.returns-in-Ok-clause-err
+returns-in-Ok-clause-err g c =
+    let held = g.O.Sink.held in
+    let faults = g.O.Sink.faults in
+    let first = c.args.out.now in
+    let middle = c.scheduled.new.out in
+    let after = c.rounds.new.out in
+    if_err c.rounds.result _ _
+    (λ halt h. halts_then c.args.rules (held first) (held middle) (held after) (faults first) (faults middle) (faults after) c.args.play c.in-Ok.next halt c.scheduled.ensures.never_falls c.in-Ok.ensures.ok h)
+    c.rounds.ensures.err
+
+pub returns-in-Ok-clause-never_falls : goal.returns-in-Ok-clause-never_falls
+returns-in-Ok-clause-never_falls g c = omega (arith, c.scheduled.ensures.never_falls, c.rounds.ensures.never_falls)

@@ -1,0 +1,11 @@
+pub mod Meant
+pub mod Views
+pub mod Trying
+pub mod Common
+pub mod Passing
+pub mod Resting
+pub mod Turning
+pub mod Noting
+pub mod SoFar
+pub mod Rounds
+pub mod Plays

@@ -1,0 +1,9 @@
+mod Cuts
+mod Dividing
+mod Texts
+mod Ended
+mod Onward
+mod Programs
+mod Refused
+mod Whole
+mod OneInput

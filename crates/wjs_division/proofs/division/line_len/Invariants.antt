@@ -1,0 +1,6 @@
+use Rattle.std.proofs.Common.{◌≡◌, ℕ, ◌<◌, get_or}
+use Rattle.wjs_division.proofs.division.line_len.Given as goal
+
+-- no line has ended so far
+abbrev pub invariant-loop-place : goal.invariant-loop-place
+invariant-loop-place l = (k : ℕ) → k < l.place → get_or l.bytes k 0 ≡ 10 → ⊥

@@ -1,0 +1,4 @@
+pub mod Division
+pub mod Pieces
+pub mod Inputs
+pub mod Laws
