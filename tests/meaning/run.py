@@ -33,10 +33,11 @@ COPIED = {
     'wjs_store': ['Naming', 'State'],
     'wjs_content': ['Rename', 'Values', 'Names', 'Objects', 'Plans', 'Conversions', 'Properties'],
     'wjs_meaning': None,
+    'wjs_session': ['Along'],
     'wjs_alone': None,
 }
 LIBRARIES = ['wjs_base', 'wjs_num', 'wjs_arena', 'wjs_tree', 'wjs_store', 'wjs_content', 'wjs_meaning']
-LEFT_OUT = {'Lib', 'Laws', 'Reading'}
+LEFT_OUT = {'Lib', 'Laws', 'Reading', 'Views', 'Named', 'Fronts'}
 
 MAPS = open(os.path.join(HERE, 'Maps.antt.txt')).read()
 HEAD = open(os.path.join(HERE, 'Head.antt.txt')).read()

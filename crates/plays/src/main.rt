@@ -3,7 +3,8 @@
 //!
 //! The first line is as `1:1000000 2:9 turn 1 steps 3000`: a turn of 1,000,000 steps of activity 1, then one of 9 of activity 2, then
 //! rounds whose turns have one step each; a try has 3,000 steps, and so has the library. The scripts stand below it, divided by lines
-//! `---`, as in mode `play` of `worlds`. Output and statuses are those of that mode, and a line is counted in the whole input.
+//! `---`, as in mode `play` of `worlds`. Output and statuses are those of that mode, and a line is counted in the whole input; a first
+//! line that is no schedule is refused, too.
 #![tactic(auto)]
 
 mod fault;

@@ -71,7 +71,6 @@ fn play_parts<O: Sink>(
     requires table { IsTable texts }
     requires parts { All (KnowsUnit texts) parts.items }
     requires places { All (PlacesUnit texts) parts.items }
-    requires some { 1 ≤ length parts.items }
     requires few { length parts.items ≤ 1000 }
     requires turns { All (λ (t : PlayTurn). 1 ≤ t.steps) schedule.now.turns.items }
     requires turn { 1 ≤ schedule.now.turn }

@@ -38,7 +38,7 @@ pub fn schedule_of(alloc: Global, line: &str) -> Result<Schedule, Fault>
     })
 }
 
-/// The turns that words tell, each with a space behind it.
+/// The turns that words tell, with a space between each and the next. Behind the last it may stand or not.
 fn turns_of(alloc: Global, words: &str) -> Result<Vec<PlayTurn>, Fault>
     ensures { IfOk result (λ turns. All (λ (t : PlayTurn). 1 ≤ t.steps) turns.items) }
 {
@@ -65,7 +65,7 @@ fn turn_of(word: &str) -> Option<PlayTurn>
     Some(PlayTurn { activity, steps })
 }
 
-/// The number of steps that a word tells.
+/// The number of steps that a word tells: a sign `+` and zeros may stand in front, and its only bound is that of 64 bits.
 fn steps_of(word: &str) -> Option<u64>
     ensures { IfSome result (λ steps. 1 ≤ steps) }
 {

@@ -28,15 +28,18 @@ module _ (library : Option Tree) (parts : List Tree) (budget : ℕ) where
   abbrev next : Copy → Run → Copy
   next m x = copy_after x.owner m (run_at library parts budget m x)
 
-  pub copy_then : (m : Copy) (rs : List Run) (r : Run) → copy_by library parts budget m (rs ++ r ∷ []) ≡ copy_after r.owner (copy_by library parts budget m rs) (run_behind m rs r)
+  pub copy_then : (m : Copy) (rs : List Run) (r : Run) → copy_by library parts budget m (rs ++ r ∷ [])
+      ≡ copy_after r.owner (copy_by library parts budget m rs) (run_behind m rs r)
   copy_then m [] r = refl
   copy_then m (x ∷ rs) r = copy_then (next m x) rs r
 
-  pub outcomes_then : (m : Copy) (rs : List Run) (r : Run) → outcomes_by library parts budget m (rs ++ r ∷ []) ≡ outcomes_by library parts budget m rs ++ outcome_of r.owner (run_behind m rs r) ∷ []
+  pub outcomes_then : (m : Copy) (rs : List Run) (r : Run) → outcomes_by library parts budget m (rs ++ r ∷ [])
+      ≡ outcomes_by library parts budget m rs ++ outcome_of r.owner (run_behind m rs r) ∷ []
   outcomes_then m [] r = refl
   outcomes_then m (x ∷ rs) r = ap (λ (l : List Outcome). outcome_of x.owner (run_at library parts budget m x) ∷ l) (outcomes_then (next m x) rs r)
 
-  pub printed_then : (m : Copy) (rs : List Run) (r : Run) → printed_by library parts budget m (rs ++ r ∷ []) ≡ printed_by library parts budget m rs ++ printed (run_behind m rs r)
+  pub printed_then : (m : Copy) (rs : List Run) (r : Run) → printed_by library parts budget m (rs ++ r ∷ [])
+      ≡ printed_by library parts budget m rs ++ printed (run_behind m rs r)
   printed_then m [] r = append-nil (printed (run_at library parts budget m r))
   printed_then m (x ∷ rs) r =
       ap (λ (l : List ℕ). printed (run_at library parts budget m x) ++ l) (printed_then (next m x) rs r)
@@ -46,6 +49,8 @@ module _ (library : Option Tree) (parts : List Tree) (budget : ℕ) where
   left_then m a [] r = refl
   left_then m a (x ∷ rs) r = left_then (next m x) ((run_at library parts budget m x).1).arena rs r
 
-  pub grow_then : (m : Copy) (a : Arena) (rs : List Run) (r : Run) → ObjectsGrow library parts budget m a rs → Holds (left_by library parts budget m a rs) r.objects → NewOwn (left_by library parts budget m a rs) r.objects → ObjectsGrow library parts budget m a (rs ++ r ∷ [])
+  pub grow_then : (m : Copy) (a : Arena) (rs : List Run) (r : Run) → ObjectsGrow library parts budget m a rs
+      → Holds (left_by library parts budget m a rs) r.objects → NewOwn (left_by library parts budget m a rs) r.objects
+      → ObjectsGrow library parts budget m a (rs ++ r ∷ [])
   grow_then m a [] r g h w = (h, w, tt)
   grow_then m a (x ∷ rs) r g h w = (g.0, g.1, grow_then (next m x) ((run_at library parts budget m x).1).arena rs r g.2 h w)

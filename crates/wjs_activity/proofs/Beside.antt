@@ -75,7 +75,8 @@ module _ (a more : Arena) (q : ℕ) (x : Internals) (none : Others q a) (others 
 -- ---- more objects
 
 -- where objects were added that are an owner's, the others' are the same
-module _ (t : Table) (old new : Objects) (q : ℕ) (keeps : Keeps old new) (made : (o : ObjId) (e : Placed) → map.get old o ≡ None → map.get new o ≡ Some e → o.owner ≡ q) where
+module _ (t : Table) (old new : Objects) (q : ℕ) (keeps : Keeps old new)
+    (made : (o : ObjId) (e : Placed) → map.get old o ≡ None → map.get new o ≡ Some e → o.owner ≡ q) where
   pub same_found : (o : ObjId) → ¬ (o.owner ≡ q) → map.get old o ≡ map.get new o
   same_found o apart = by (map.get old o) refl
     where
@@ -91,15 +92,18 @@ module _ (t : Table) (old new : Objects) (q : ℕ) (keeps : Keeps old new) (made
   same_in o apart = object_found t old o ∙ ap (option_map (entry_in t)) (same_found o apart) ∙ sym (object_found t new o)
 
   pub same_beside : (more : Arena) (o : ObjId) → ¬ (o.owner ≡ q) → map.get (beside (arena_in t old) more) o ≡ map.get (beside (arena_in t new) more) o
-  same_beside more o apart = get_beside (arena_in t old) more o ∙ ap (λ (r : Option Entry). option_or r (map.get more o)) (same_in o apart) ∙ sym (get_beside (arena_in t new) more o)
+  same_beside more o apart = get_beside (arena_in t old) more o ∙ ap (λ (r : Option Entry). option_or r (map.get more o)) (same_in o apart)
+      ∙ sym (get_beside (arena_in t new) more o)
 
   -- for another owner they are further objects beside those that were there
   module _ (p : ℕ) (differ : ¬ (p ≡ q)) (more : Arena) where
-    kept_first : (o : ObjId) (r : Option Placed) → map.get old o ≡ r → (s : Option Entry) → option_or (option_map (entry_in t) r) (option_or (option_map (entry_in t) (map.get new o)) s) ≡ option_or (option_map (entry_in t) (map.get new o)) s
+    kept_first : (o : ObjId) (r : Option Placed) → map.get old o ≡ r → (s : Option Entry)
+        → option_or (option_map (entry_in t) r) (option_or (option_map (entry_in t) (map.get new o)) s) ≡ option_or (option_map (entry_in t) (map.get new o)) s
     kept_first o None e s = refl
     kept_first o (Some x) e s = ap (λ (r : Option Placed). option_or (option_map (entry_in t) r) s) (sym (keeps o x e))
 
-    by_owner : (o : ObjId) (b : Bool) → (o.owner == p) ≡ b → option_or (map.get (arena_in t old) o) (option_or (cond (not b) (map.get (arena_in t new) o) None) (map.get more o)) ≡ option_or (map.get (arena_in t new) o) (map.get more o)
+    by_owner : (o : ObjId) (b : Bool) → (o.owner == p) ≡ b → option_or (map.get (arena_in t old) o)
+        (option_or (cond (not b) (map.get (arena_in t new) o) None) (map.get more o)) ≡ option_or (map.get (arena_in t new) o) (map.get more o)
     by_owner o true e = ap (λ (r : Option Entry). option_or r (map.get more o)) (same_in o (λ h. differ (sym (eqb-true o.owner p e) ∙ h)))
     by_owner o false e =
         (λ i. option_or (object_found t old o i) (option_or (object_found t new o i) (map.get more o)))
@@ -109,6 +113,7 @@ module _ (t : Table) (old new : Objects) (q : ℕ) (keeps : Keeps old new) (made
     pub beside_others : beside (arena_in t old) (beside (without p (arena_in t new)) more) ≡ beside (arena_in t new) more
     beside_others = map.same_map obj_total obj_exact (beside (arena_in t old) (beside (without p (arena_in t new)) more)) (beside (arena_in t new) more) (λ o.
         get_beside (arena_in t old) (beside (without p (arena_in t new)) more) o
-        ∙ ap (option_or (map.get (arena_in t old) o)) (get_beside (without p (arena_in t new)) more o ∙ ap (λ (r : Option Entry). option_or r (map.get more o)) (get_without p (arena_in t new) o))
+        ∙ ap (option_or (map.get (arena_in t old) o)) (get_beside (without p (arena_in t new)) more o
+        ∙ ap (λ (r : Option Entry). option_or r (map.get more o)) (get_without p (arena_in t new) o))
         ∙ by_owner o (o.owner == p) refl
         ∙ sym (get_beside (arena_in t new) more o))

@@ -19,6 +19,8 @@ use Rattle.wjs_session.specs.Resumed.{Rests}
 use Rattle.wjs_alone.specs.Alone.{Copy}
 use Rattle.wjs_alone.specs.Opening.{trees_of, tree_number}
 use Rattle.wjs_alone.specs.Serial.{End}
+use Rattle.wjs_alone.specs.Playing as defined
+use Rattle.wjs_alone.specs.Playing.{try_of}
 use Rattle.wjs_activity.specs.declared.common.Common.{Common}
 use Rattle.wjs_activity.specs.declared.common.Rested.{Rested}
 use Rattle.wjs_activity.specs.declared.ends.Ended.{Ended}
@@ -29,44 +31,36 @@ use Rattle.wjs_activity.specs.declared.turns.Came.{Came}
 use Rattle.wjs_activity.specs.declared.turns.Came.TheVariants as came
 use Rattle.wjs_activity.specs.Meant.{itself, session_meaning, resting}
 use Rattle.wjs_activity.specs.Noting.{Notes, NotesAt, Takes}
+use Rattle.wjs_activity.specs.Views.{KnowsView}
+use Rattle.wjs_activity.specs.Exact.{IsExact}
+use Rattle.wjs_activity.specs.Exactly.{IsActivity, IsExactly, TurnIs}
 use Rattle.wjs_activity.specs.Resting.{IsResting}
 use Rattle.wjs_activity.specs.SoFar.{GoesOn, StandsBy, IsPlay, times_owned}
 use Rattle.wjs_activity.specs.Turning.{IsLive, IsTurned, IsRest, HasLess, Begun, GoesOnAs}
-use Rattle.wjs_activity.specs.Rounds.{first_number, steps_left, fuel_by, fuel_of, fuel, Made, After, MayTurn, IsGoing, TurnMade}
+use Rattle.wjs_activity.specs.Rounds.{first_number, steps_left, fuel_by, fuel_of, fuel, left_of, turns_left, Sooner, MadeExactly, After, MayTurn, Changes, IsGoing, TurnMade}
+use Rattle.wjs_activity.proofs.Places.{set_other, set_there, set_twice}
+use Rattle.wjs_activity.proofs.Runs.{view_grows}
+use Rattle.wjs_activity.proofs.Founds.{stands_at}
 use Rattle.wjs_activity.proofs.Steps.{stays_made, rests_step, drops_step, ends_made}
 use Rattle.wjs_activity.proofs.Taking.{Taken, came_to, taken_begun, taken_resumed}
+use Rattle.wjs_activity.proofs.TurnsExactly.{SameTry, try_new, try_on, more_of, turn_is}
 
 -- ---- lists of which one element was set
-
-pub set_other : {A : Type 0} (xs : List A) (i j : ℕ) (y : A) → ¬ (j ≡ i) → slice_get (set xs i y) j ≡ slice_get xs j
-set_other [] i j y apart = refl
-set_other (x ∷ xs) zero zero y apart = absurd (apart refl)
-set_other (x ∷ xs) zero (suc j) y apart = refl
-set_other (x ∷ xs) (suc i) zero y apart = refl
-set_other (x ∷ xs) (suc i) (suc j) y apart = set_other xs i j y (λ e. apart (ap suc e))
-
-pub set_there : {A : Type 0} (xs : List A) (i : ℕ) (x y : A) → slice_get xs i ≡ Some x → slice_get (set xs i y) i ≡ Some y
-set_there [] i x y at = let none : None ≡ Some x = at in absurd (cc)
-set_there (z ∷ xs) zero x y at = refl
-set_there (z ∷ xs) (suc i) x y at = set_there xs i x y at
-
-pub set_twice : {A : Type 0} (xs : List A) (i : ℕ) (x y : A) → set (set xs i x) i y ≡ set xs i y
-set_twice [] i x y = refl
-set_twice (z ∷ xs) zero x y = refl
-set_twice (z ∷ xs) (suc i) x y = ap (λ (l : List _). z ∷ l) (set_twice xs i x y)
 
 -- ---- fuel
 
 sum_less : (s t f g : ℕ) → s + f ≡ t + g → g < f → s < t
 sum_less s t f g e h = omega (arith, e, h)
 
-pub fuel_set : (budget : ℕ) (xs : List Activity) (i : ℕ) (x y : Activity) → slice_get xs i ≡ Some x → fuel_of budget y < fuel_of budget x → sum (each (fuel_of budget) (set xs i y)) < sum (each (fuel_of budget) xs)
+pub fuel_set : (budget : ℕ) (xs : List Activity) (i : ℕ) (x y : Activity) → slice_get xs i ≡ Some x → fuel_of budget y < fuel_of budget x
+    → sum (each (fuel_of budget) (set xs i y)) < sum (each (fuel_of budget) xs)
 fuel_set budget xs i x y at less =
     let f = fuel_of budget in
     let change = sum_by-set f xs i y x (slice_get_within xs i x at) ∙ refl in
     let was = ap f (get_or_from_slice_get xs i x x at) in
     let whole : sum_by f (set xs i y) + f x ≡ sum_by f xs + f y = ap (λ k. sum_by f (set xs i y) + k) (sym was) ∙ change in
-    subst (λ k. k < sum (each f xs)) (sym (sum-map f (set xs i y))) (subst (λ k. sum_by f (set xs i y) < k) (sym (sum-map f xs)) (sum_less (sum_by f (set xs i y)) (sum_by f xs) (f x) (f y) whole less))
+    subst (λ k. k < sum (each f xs)) (sym (sum-map f (set xs i y)))
+    (subst (λ k. sum_by f (set xs i y) < k) (sym (sum-map f xs)) (sum_less (sum_by f (set xs i y)) (sum_by f xs) (f x) (f y) whole less))
 
 rests_less : (x r l s : ℕ) → r < l → l ≤ s → x + r + 1 < x + s + 1
 rests_less x r l s h k = omega (arith, h, k)
@@ -76,6 +70,15 @@ drops_less zero b s h = omega arith
 drops_less (suc zero) b s h = omega arith
 drops_less (suc (suc zero)) b s h = omega arith
 drops_less (suc (suc (suc d))) b s h = absurd (omega (arith, h))
+
+less_then : (x r l m : ℕ) → r < l → l ≡ m → x + r < x + m
+less_then x r l m h e = omega (arith, h, e)
+
+-- a try fewer
+fewer_left : (d b l : ℕ) → d + 1 < 3 → 0 < l → (2 - (d + 1)) * b + b < (2 - d) * b + l
+fewer_left zero b l h some = omega (arith, some)
+fewer_left (suc zero) b l h some = omega (arith, some)
+fewer_left (suc (suc d)) b l h some = absurd (omega (arith, h))
 
 three_or_less : (d : ℕ) → d < 3 → (d + 1 < 3) ⊎ (d + 1 ≡ 3)
 three_or_less zero h = inl (omega arith)
@@ -92,9 +95,11 @@ number_is (Some tree) first place h = omega (arith, h)
 -- ---- one turn
 
 module _ (rules : Rules) (p : Play) (place : ℕ) (a : Activity) (at : slice_get p.activities.items place ≡ Some a) (alive : a.ended ≡ false)
-    (c : Config Session) (begun : a.running ≡ None → Begun session_meaning (p.drawn + 1) (rules.first + place) rules.budget p.common c) (goes_on : (r : Rested) → a.running ≡ Some r → GoesOnAs session_meaning p.common r c)
+    (c : Config Session) (begun : a.running ≡ None → Begun session_meaning (p.drawn + 1) (rules.first + place) rules.budget p.common c)
+    (goes_on : (r : Rested) → a.running ≡ Some r → GoesOnAs session_meaning p.common r c)
     (next : Common) (now : Activity) (ends' : List Ended) (output : List ℕ)
-    (after : Play) (common_is : after.common ≡ next) (drawn_is : after.drawn ≡ max p.drawn c.owner) (ends_is : after.ends ≡ ends') (items_is : after.activities.items ≡ set p.activities.items place now) where
+    (after : Play) (common_is : after.common ≡ next) (drawn_is : after.drawn ≡ max p.drawn c.owner) (ends_is : after.ends ≡ ends')
+    (items_is : after.activities.items ≡ set p.activities.items place now) where
   abbrev emptied : Activity
   emptied = record a { running = None }
 
@@ -109,7 +114,8 @@ module _ (rules : Rules) (p : Play) (place : ℕ) (a : Activity) (at : slice_get
 
   -- ---- by a play's invariant
 
-  module _ (library : Option Tree) (parts : List Tree) (copy : Copy) (arena : Arena) (ends : List End) (first : rules.first ≡ first_number library) (is : IsPlay library parts rules.budget copy arena p ends) where
+  module _ (library : Option Tree) (parts : List Tree) (copy : Copy) (arena : Arena) (ends : List End) (first : rules.first ≡ first_number library)
+      (is : IsPlay library parts rules.budget copy arena p ends) where
     abbrev trees : List Tree
     trees = trees_of library parts
 
@@ -137,7 +143,8 @@ module _ (rules : Rules) (p : Play) (place : ℕ) (a : Activity) (at : slice_get
         record {
           more = omega arith;
           drawn_now = drawn_is ∙ (let top : max p.drawn c.owner ≡ p.drawn + 1 = omega (arith, owner) in top);
-          taken = taken_begun trees tree rules.budget (p.drawn + 1) (rules.first + place) p.drawn p.common c b (number_is library rules.first place first) is.common is.trees_are;
+          taken = taken_begun trees tree rules.budget (p.drawn + 1) (rules.first + place) p.drawn p.common c b
+              (number_is library rules.first place first) is.common is.trees_are;
           own = λ r e. let h : None ≡ Some r = sym none ∙ e in absurd (cc);
           new = λ e. omega arith;
         }
@@ -155,32 +162,78 @@ module _ (rules : Rules) (p : Play) (place : ℕ) (a : Activity) (at : slice_get
           new = λ e. let h : None ≡ Some r = sym e ∙ running in absurd (cc);
         }
 
+    -- it is the definition's
+    exactly : (steps q drawn : ℕ) (t : Took q drawn) (k : Came) → IsTurned session_meaning trees tree rules.budget drawn c next k
+        → (KnowsView c.heap.texts (session_meaning c.heap.store).own → IsExact session_meaning trees tree rules.budget t.taken.live.taken steps c next k)
+        → Notes (place + 1) c.owner k emptied p.ends now ends' output
+        → (s : defined.Play) → IsExactly rules.budget p ends s
+        → TurnIs library parts rules.budget steps place s after (ends ++ more_of library parts rules.budget p place a q next k) output
+    exactly steps q drawn t k turned exact notes s ex =
+        let f = stands_at rules.budget p ends s ex place a at alive in
+        let r : IsActivity rules.budget p.common (place + 1) a f.is = (f.by).0 in
+        let try = same_try f.is r in
+        turn_is library parts rules.budget copy arena p ends is place a at alive q drawn t.more c next k t.taken turned t.own t.new after common_is
+        t.drawn_now (drawn_is ∙ ap (max p.drawn) t.taken.owner) now items_is
+        steps (exact (view_grows p.common.texts c.heap.texts
+        (session_meaning c.heap.store).own t.taken.start.texts try.known)) s ex f.is f.there r try ends' output notes
+      where
+        same_try : (b : defined.Activity) → IsActivity rules.budget p.common (place + 1) a b → SameTry p.common t.taken.live.taken c s (try_of b s)
+        same_try b r = by a.running refl
+          where
+            by : (o : Option Rested) → a.running ≡ o → SameTry p.common t.taken.live.taken c s (try_of b s)
+            by None e = try_new library parts rules.budget copy arena p ends is s ex (place + 1) a b r c t.taken.live.taken t.taken.live.trying.budget_is
+                (rules.first + place) e (begun e)
+            by (Some rest) e = try_on library parts rules.budget copy arena p ends is s ex
+                (place + 1) a b r c t.taken.live.taken t.taken.live.trying.budget_is rest e (goes_on rest e)
+
     -- what it came to
-    finish : (q drawn : ℕ) → Took q drawn → (k : Came) → IsTurned session_meaning trees tree rules.budget drawn c next k → Notes (place + 1) c.owner k emptied p.ends now ends' output → (k ≡ came.Drops → a.dropped < 3) → Made library parts rules.budget copy arena ends after output
-    finish q drawn t (came.Rests rest) turned notes few =
+    finish : (steps q drawn : ℕ) (t : Took q drawn) (k : Came) → IsTurned session_meaning trees tree rules.budget drawn c next k
+        → (KnowsView c.heap.texts (session_meaning c.heap.store).own → IsExact session_meaning trees tree rules.budget t.taken.live.taken steps c next k)
+        → Notes (place + 1) c.owner k emptied p.ends now ends' output → (k ≡ came.Drops → a.dropped < 3)
+        → MadeExactly library parts rules.budget copy arena place steps p ends after output
+    finish steps q drawn t (came.Rests rest) turned exact notes few =
         let to = came_to library parts rules.budget copy arena p ends is (place + 1) q drawn c next (came.Rests rest) t.taken turned in
-        stays_made library parts rules.budget copy arena ends after output notes.2
-        (rests_step library parts rules.budget copy arena p ends is place a at alive q drawn t.more c next (came.Rests rest) t.taken turned t.own t.new after common_is t.drawn_now long others now at_now
-        rest notes.0 (ends_is ∙ notes.1) to.0 to.1 to.2)
-    finish q drawn t came.Drops turned notes few =
+        record {
+          made = stays_made library parts rules.budget copy arena ends after output notes.2
+              (rests_step library parts rules.budget copy arena p ends is place a at alive q drawn t.more c next
+              (came.Rests rest) t.taken turned t.own t.new after common_is t.drawn_now long others now at_now
+              rest notes.0 (ends_is ∙ notes.1) to.0 to.1 to.2);
+          exact = exactly steps q drawn t (came.Rests rest) turned exact notes;
+        }
+    finish steps q drawn t came.Drops turned exact notes few =
         let to = came_to library parts rules.budget copy arena p ends is (place + 1) q drawn c next came.Drops t.taken turned in
-        stays_made library parts rules.budget copy arena ends after output notes.2
-        (drops_step library parts rules.budget copy arena p ends is place a at alive q drawn t.more c next came.Drops t.taken turned t.own t.new after common_is t.drawn_now long others now at_now
-        notes.0 (ends_is ∙ notes.1) (few refl) to)
-    finish q drawn t (came.Ends outcome out) turned notes few =
+        record {
+          made = stays_made library parts rules.budget copy arena ends after output notes.2
+              (drops_step library parts rules.budget copy arena p ends is place a at alive q drawn t.more c next came.Drops t.taken turned t.own t.new after
+              common_is t.drawn_now long others now at_now
+              notes.0 (ends_is ∙ notes.1) (few refl) to);
+          exact = exactly steps q drawn t came.Drops turned exact notes;
+        }
+    finish steps q drawn t (came.Ends outcome out) turned exact notes few =
         let to = came_to library parts rules.budget copy arena p ends is (place + 1) q drawn c next (came.Ends outcome out) t.taken turned in
         let owner = t.taken.owner in
         let told = ap (λ k. p.ends ++ record { activity = place + 1; owner = k; outcome = outcome; tries = a.dropped + 1 } ∷ []) owner in
-        ends_made library parts rules.budget copy arena p ends is place a at alive q drawn t.more c next (came.Ends outcome out) t.taken turned t.own t.new after common_is t.drawn_now long others now at_now
-        outcome out.items to (subst (λ k. 1 ≤ k) owner t.taken.live.some) (subst (λ k. k ≤ drawn) owner t.taken.live.owner) inside was_on.few
-        notes.0 (ends_is ∙ notes.1 ∙ told) output notes.2
+        record {
+          made = ends_made library parts rules.budget copy arena p ends is place a at alive q drawn t.more c next
+              (came.Ends outcome out) t.taken turned t.own t.new after common_is t.drawn_now long others now at_now
+              outcome out.items to (subst (λ k. 1 ≤ k) owner t.taken.live.some) (subst (λ k. k ≤ drawn) owner t.taken.live.owner) inside was_on.few
+              notes.0 (ends_is ∙ notes.1 ∙ told) output notes.2;
+          exact = exactly steps q drawn t (came.Ends outcome out) turned exact notes;
+        }
 
-    made_by : (k : Came) → ((ts : List Tree) (n b d : ℕ) → IsLive session_meaning ts n b d c → IsTurned session_meaning ts n b d c next k) → Notes (place + 1) c.owner k emptied p.ends now ends' output → (k ≡ came.Drops → a.dropped < 3) → Made library parts rules.budget copy arena ends after output
-    made_by k turned notes few = by a.running refl was_on.rests
+    made_by : (steps : ℕ) (k : Came) → ((ts : List Tree) (n b d : ℕ) → IsLive session_meaning ts n b d c → IsTurned session_meaning ts n b d c next k)
+        → ((ts : List Tree) (n b d : ℕ) → (l : IsLive session_meaning ts n b d c) → KnowsView c.heap.texts (session_meaning c.heap.store).own
+        → IsExact session_meaning ts n b l.taken steps c next k) → Notes (place + 1) c.owner k emptied p.ends now ends' output
+        → (k ≡ came.Drops → a.dropped < 3)
+        → MadeExactly library parts rules.budget copy arena place steps p ends after output
+    made_by steps k turned exact notes few = by a.running refl was_on.rests
       where
-        by : (o : Option Rested) → a.running ≡ o → IfSome o (λ r. IsResting trees tree rules.budget p.drawn p.common r × (times_owned r.owner ends ≡ 0)) → Made library parts rules.budget copy arena ends after output
-        by None e h = let t = took_new e in finish (p.drawn + 1) (p.drawn + 1) t k (turned trees tree rules.budget (p.drawn + 1) t.taken.live) notes few
-        by (Some r) e h = let t = took_on r e h.0 in finish r.owner p.drawn t k (turned trees tree rules.budget p.drawn t.taken.live) notes few
+        by : (o : Option Rested) → a.running ≡ o → IfSome o (λ r. IsResting trees tree rules.budget p.drawn p.common r × (times_owned r.owner ends ≡ 0))
+            → MadeExactly library parts rules.budget copy arena place steps p ends after output
+        by None e h = let t = took_new e in finish steps (p.drawn + 1) (p.drawn + 1) t k (turned trees tree rules.budget (p.drawn + 1) t.taken.live)
+            (exact trees tree rules.budget (p.drawn + 1) t.taken.live) notes few
+        by (Some r) e h = let t = took_on r e h.0 in finish steps r.owner p.drawn t k (turned trees tree rules.budget p.drawn t.taken.live)
+            (exact trees tree rules.budget p.drawn t.taken.live) notes few
 
   -- ---- steps and tries
 
@@ -192,28 +245,63 @@ module _ (rules : Rules) (p : Play) (place : ℕ) (a : Activity) (at : slice_get
       by None e = let left : c.left ≡ rules.budget = (begun e).left in omega (arith, left)
       by (Some r) e = let left : c.left ≡ r.left = ap (λ (d : Config Meaning). d.left) (goes_on r e).same in omega (arith, left)
 
+  left_is : c.left ≡ left_of rules.budget a.running
+  left_is = by a.running refl
+    where
+      by : (o : Option Rested) → a.running ≡ o → c.left ≡ left_of rules.budget o
+      by None e = (begun e).left
+      by (Some r) e = ap (λ (d : Config Meaning). d.left) (goes_on r e).same
+
+  sooner_by : (k : Came) → Notes (place + 1) c.owner k emptied p.ends now ends' output → HasLess c.left k → 0 < left_of rules.budget a.running
+      → Sooner rules.budget a now
+  sooner_by (came.Rests rest) notes less some = λ on few. (
+    alive,
+    subst (λ (x : Activity). turns_left rules.budget x < turns_left rules.budget a) (sym notes.0)
+        (less_then ((2 - a.dropped) * rules.budget) rest.left c.left (left_of rules.budget a.running) less left_is),
+  )
+  sooner_by came.Drops notes less some = λ on few. (
+    alive,
+    subst (λ (x : Activity). turns_left rules.budget x < turns_left rules.budget a) (sym notes.0)
+        (fewer_left a.dropped rules.budget (left_of rules.budget a.running) (subst (λ (x : Activity). x.dropped < 3) notes.0 few) some),
+  )
+  sooner_by (came.Ends outcome out) notes less some = λ on few. absurd (false≢true (sym on ∙ ap (λ (x : Activity). x.ended) notes.0))
+
   fuel_was : fuel_of rules.budget a ≡ (3 - a.dropped) * (rules.budget + 2) + steps_left rules.budget a.running + 1
   fuel_was = ap (fuel_by rules.budget a.dropped a.running) alive
 
-  fuel_now : (k : Came) → Notes (place + 1) c.owner k emptied p.ends now ends' output → HasLess c.left k → (k ≡ came.Drops → a.dropped < 3) → fuel_of rules.budget now < fuel_of rules.budget a
+  fuel_now : (k : Came) → Notes (place + 1) c.owner k emptied p.ends now ends' output → HasLess c.left k → (k ≡ came.Drops → a.dropped < 3)
+      → fuel_of rules.budget now < fuel_of rules.budget a
   fuel_now (came.Rests rest) notes less few =
       let spent = ap (fuel_of rules.budget) notes.0 ∙ ap (fuel_by rules.budget a.dropped (Some rest)) alive in
-      subst (λ n. n < fuel_of rules.budget a) (sym spent) (subst (λ n. (3 - a.dropped) * (rules.budget + 2) + rest.left + 1 < n) (sym fuel_was) (rests_less ((3 - a.dropped) * (rules.budget + 2)) rest.left c.left (steps_left rules.budget a.running) less left_most))
+      subst (λ n. n < fuel_of rules.budget a) (sym spent) (subst (λ n. (3 - a.dropped) * (rules.budget + 2) + rest.left + 1 < n) (sym fuel_was)
+      (rests_less ((3 - a.dropped) * (rules.budget + 2)) rest.left c.left (steps_left rules.budget a.running) less left_most))
   fuel_now came.Drops notes less few =
       let spent = ap (fuel_of rules.budget) notes.0 ∙ ap (fuel_by rules.budget (a.dropped + 1) None) alive in
-      subst (λ n. n < fuel_of rules.budget a) (sym spent) (subst (λ n. (3 - (a.dropped + 1)) * (rules.budget + 2) + (rules.budget + 1) + 1 < n) (sym fuel_was) (drops_less a.dropped rules.budget (steps_left rules.budget a.running) (few refl)))
+      subst (λ n. n < fuel_of rules.budget a) (sym spent) (subst (λ n. (3 - (a.dropped + 1)) * (rules.budget + 2) + (rules.budget + 1) + 1 < n) (sym fuel_was)
+      (drops_less a.dropped rules.budget (steps_left rules.budget a.running) (few refl)))
   fuel_now (came.Ends outcome out) notes less few =
       let spent = ap (fuel_of rules.budget) notes.0 in
       subst (λ n. n < fuel_of rules.budget a) (sym spent) (subst (λ n. 0 < n) (sym fuel_was) (omega arith))
 
-  after_by : (k : Came) → Notes (place + 1) c.owner k emptied p.ends now ends' output → (¬ (a.dropped < 3) → ¬ (IsRest k)) → (k ≡ came.Drops → a.dropped < 3) → (a.dropped < 3) ⊎ (¬ (a.dropped < 3)) → After a now
-  after_by (came.Rests rest) notes whole few (inl lt) = inr (ap (λ (x : Activity). x.ended) notes.0 ∙ alive, lt, inl (subst (λ (x : Activity). x.dropped < 3) (sym notes.0) lt))
+  after_by : (k : Came) → Notes (place + 1) c.owner k emptied p.ends now ends' output → (¬ (a.dropped < 3) → ¬ (IsRest k)) → (k ≡ came.Drops → a.dropped < 3)
+      → (a.dropped < 3) ⊎ (¬ (a.dropped < 3)) → After a now
+  after_by (came.Rests rest) notes whole few (inl lt) = inr (
+    ap (λ (x : Activity). x.ended) notes.0
+        ∙ alive,
+    lt,
+    inl (subst (λ (x : Activity). x.dropped < 3) (sym notes.0) lt),
+  )
   after_by (came.Rests rest) notes whole few (inr ge) = absurd (whole ge tt)
   after_by came.Drops notes whole few which = by (three_or_less a.dropped (few refl))
     where
       by : (a.dropped + 1 < 3) ⊎ (a.dropped + 1 ≡ 3) → After a now
       by (inl lt) = inr (ap (λ (x : Activity). x.ended) notes.0 ∙ alive, few refl, inl (subst (λ (x : Activity). x.dropped < 3) (sym notes.0) lt))
-      by (inr three) = inr (ap (λ (x : Activity). x.ended) notes.0 ∙ alive, few refl, inr (ap (λ (x : Activity). x.dropped) notes.0 ∙ three, ap (λ (x : Activity). x.running) notes.0))
+      by (inr three) = inr (
+        ap (λ (x : Activity). x.ended) notes.0
+            ∙ alive,
+        few refl,
+        inr (ap (λ (x : Activity). x.dropped) notes.0 ∙ three, ap (λ (x : Activity). x.running) notes.0),
+      )
   after_by (came.Ends outcome out) notes whole few which = inl (ap (λ (x : Activity). x.ended) notes.0)
 
   below_three : (a.dropped < 3) ⊎ (¬ (a.dropped < 3))
@@ -226,7 +314,10 @@ module _ (rules : Rules) (p : Play) (place : ℕ) (a : Activity) (at : slice_get
       by (suc (suc (suc n))) e = inr (λ h. absurd (omega (arith, e, h)))
 
   module _ (steps : ℕ) (may : (a.dropped < 3) ⊎ ((a.running ≡ None) × (rules.budget ≤ steps))) (some : 1 ≤ steps) (k : Came)
-      (turned : (ts : List Tree) (n b d : ℕ) → IsLive session_meaning ts n b d c → IsTurned session_meaning ts n b d c next k) (whole : c.left ≤ steps → ¬ (IsRest k)) (less : 1 ≤ steps → HasLess c.left k) (certain : (session_meaning c.heap.store).own ≡ first_copy (worlds_in c.heap.store.shared) → ¬ (k ≡ came.Drops))
+      (turned : (ts : List Tree) (n b d : ℕ) → IsLive session_meaning ts n b d c → IsTurned session_meaning ts n b d c next k)
+      (exact : (ts : List Tree) (n b d : ℕ) → (l : IsLive session_meaning ts n b d c) → KnowsView c.heap.texts (session_meaning c.heap.store).own
+      → IsExact session_meaning ts n b l.taken steps c next k) (whole : c.left ≤ steps → ¬ (IsRest k)) (less : 1 ≤ steps → HasLess c.left k)
+      (certain : (session_meaning c.heap.store).own ≡ first_copy (worlds_in c.heap.store.shared) → ¬ (k ≡ came.Drops))
       (notes : Notes (place + 1) c.owner k emptied p.ends now ends' output) where
     -- the fourth try isn't dropped
     few_dropped : k ≡ came.Drops → a.dropped < 3
@@ -244,34 +335,44 @@ module _ (rules : Rules) (p : Play) (place : ℕ) (a : Activity) (at : slice_get
         by (inl lt) = absurd (ge lt)
         by (inr h) = whole (let left : c.left ≡ rules.budget = (begun h.0).left in let enough : rules.budget ≤ steps = h.1 in omega (arith, left, enough))
 
-    pub turn_made : TurnMade rules place p after output
-    turn_made = record {
-      made = λ library parts copy arena ends first is. made_by library parts copy arena ends first is k turned notes few_dropped;
+    pub turn_made : 0 < left_of rules.budget a.running → TurnMade rules place steps p after output
+    turn_made left = record {
+      made = λ library parts copy arena ends first is. made_by library parts copy arena ends first is steps k turned exact notes few_dropped;
       changes = record {
         now = now;
         is = items_is;
-        less = subst (λ l. sum (each (fuel_of rules.budget) l) < fuel rules.budget p) (sym items_is) (fuel_set rules.budget p.activities.items place a now at (fuel_now k notes (less some) few_dropped));
+        less = subst (λ l. sum (each (fuel_of rules.budget) l) < fuel rules.budget p) (sym items_is)
+            (fuel_set rules.budget p.activities.items place a now at (fuel_now k notes (less some) few_dropped));
         after = λ x found. subst (λ y. After y now) (same_Some a x (sym at ∙ found)) (after_by k notes no_rest few_dropped below_three);
+        sooner = λ x found. subst (λ y. Sooner rules.budget y now) (same_Some a x (sym at ∙ found)) (sooner_by k notes (less some) left);
       };
     }
 
 -- what was taken out and noted of the activity at the place
-pub turned_lem : (rules : Rules) (p : Play) (place steps : ℕ) → ((x : Activity) → slice_get p.activities.items place ≡ Some x → MayTurn rules.budget steps x) → 1 ≤ steps
+pub turned_lem : (rules : Rules) (p : Play) (place steps : ℕ) → ((x : Activity) → slice_get p.activities.items place ≡ Some x → MayTurn rules.budget steps x)
+    → ((x : Activity) → slice_get p.activities.items place ≡ Some x → x.ended ≡ false → 0 < left_of rules.budget x.running) → 1 ≤ steps
     → (mid : List Activity) (running : Option Rested) → Takes place p.activities.items mid running
-    → (c : Config Session) → (running ≡ None → Begun session_meaning (p.drawn + 1) (rules.first + place) rules.budget p.common c) → ((r : Rested) → running ≡ Some r → GoesOnAs session_meaning p.common r c)
-    → (next : Common) (k : Came) → ((ts : List Tree) (n b d : ℕ) → IsLive session_meaning ts n b d c → IsTurned session_meaning ts n b d c next k) → (c.left ≤ steps → ¬ (IsRest k)) → (1 ≤ steps → HasLess c.left k)
+    → (c : Config Session) → (running ≡ None → Begun session_meaning (p.drawn + 1) (rules.first + place) rules.budget p.common c)
+    → ((r : Rested) → running ≡ Some r → GoesOnAs session_meaning p.common r c)
+    → (next : Common) (k : Came) → ((ts : List Tree) (n b d : ℕ) → IsLive session_meaning ts n b d c → IsTurned session_meaning ts n b d c next k)
+    → ((ts : List Tree) (n b d : ℕ) → (l : IsLive session_meaning ts n b d c) → KnowsView c.heap.texts (session_meaning c.heap.store).own
+    → IsExact session_meaning ts n b l.taken steps c next k) → (c.left ≤ steps → ¬ (IsRest k)) → (1 ≤ steps → HasLess c.left k)
     → ((session_meaning c.heap.store).own ≡ first_copy (worlds_in c.heap.store.shared) → ¬ (k ≡ came.Drops))
     → (new : List Activity) (ends' : List Ended) (output : List ℕ) → NotesAt place c.owner k mid p.ends new ends' output
-    → (after : Play) → after.common ≡ next → after.drawn ≡ max p.drawn c.owner → after.ends ≡ ends' → after.activities.items ≡ new → TurnMade rules place p after output
-turned_lem rules p place steps there some mid running t c begun goes_on next k turned whole less certain new ends' output n after common_is drawn_is ends_is items =
+    → (after : Play) → after.common ≡ next → after.drawn ≡ max p.drawn c.owner → after.ends ≡ ends' → after.activities.items ≡ new
+    → TurnMade rules place steps p after output
+turned_lem rules p place steps there left some mid running t c begun goes_on next k turned exact whole less certain new ends' output n after common_is
+    drawn_is ends_is items =
     let a = t.was in
     let may = there a t.there in
-    let at_mid : slice_get mid place ≡ Some (record a { running = None }) = ap (λ (l : List Activity). slice_get l place) t.is ∙ set_there p.activities.items place a (record a { running = None }) t.there in
+    let at_mid : slice_get mid place ≡ Some (record a { running = None }) = ap (λ (l : List Activity). slice_get l place) t.is
+    ∙ set_there p.activities.items place a (record a { running = None }) t.there in
     let same : n.was ≡ record a { running = None } = same_Some n.was (record a { running = None }) (sym n.there ∙ at_mid) in
     let items_is : after.activities.items ≡ set p.activities.items place n.now =
     items ∙ n.is ∙ ap (λ (l : List Activity). set l place n.now) t.is ∙ set_twice p.activities.items place (record a { running = None }) n.now in
-    turn_made rules p place a t.there may.0 c (λ e. begun (t.value ∙ e)) (λ r e. goes_on r (t.value ∙ e)) next n.now ends' output after common_is drawn_is ends_is items_is steps may.1 some k turned whole less certain
-    (subst (λ (x : Activity). Notes (place + 1) c.owner k x p.ends n.now ends' output) same n.notes)
+    turn_made rules p place a t.there may.0 c (λ e. begun (t.value ∙ e))
+    (λ r e. goes_on r (t.value ∙ e)) next n.now ends' output after common_is drawn_is ends_is items_is steps may.1 some k turned exact whole less certain
+    (subst (λ (x : Activity). Notes (place + 1) c.owner k x p.ends n.now ends' output) same n.notes) (left a t.there may.0)
 
 -- ---- what is asked of the calls
 
@@ -305,25 +406,33 @@ module _ (rules : Rules) (p : Play) (place : ℕ) (inside : place < length p.act
       omega (arith, long, few, first)
 
   -- the try that rests rests over what is shared, and is sound
-  pub rests_there : (mid : List Activity) (running : Option Rested) → Takes place p.activities.items mid running → IfSome running (λ r. Rests (worlds_in p.common.shared) r.resting × Sound itself (resting p.common r))
+  pub rests_there : (mid : List Activity) (running : Option Rested) → Takes place p.activities.items mid running
+      → IfSome running (λ r. Rests (worlds_in p.common.shared) r.resting × Sound itself (resting p.common r))
   rests_there mid running t = by running t.value (stands t.was.ended (g.is.activities place t.was t.there))
     where
-      weaker : (o : Option Rested) → IfSome o (λ r. IsResting (trees_of g.library g.parts) (tree_number g.library (place + 1)) rules.budget p.drawn p.common r × (times_owned r.owner g.ends ≡ 0)) → IfSome o (λ r. Rests (worlds_in p.common.shared) r.resting × Sound itself (resting p.common r))
+      weaker : (o : Option Rested) → IfSome o (λ r. IsResting (trees_of g.library g.parts) (tree_number g.library (place + 1)) rules.budget p.drawn p.common r
+          × (times_owned r.owner g.ends ≡ 0)) → IfSome o (λ r. Rests (worlds_in p.common.shared) r.resting × Sound itself (resting p.common r))
       weaker None h = tt
       weaker (Some r) h = ((h.0).stands, (h.0).sound)
 
-      stands : (e : Bool) → StandsBy g.library g.parts rules.budget g.copy g.arena e p g.ends (place + 1) t.was → IfSome t.was.running (λ r. Rests (worlds_in p.common.shared) r.resting × Sound itself (resting p.common r))
-      stands true h = subst (λ (o : Option Rested). IfSome o (λ r. Rests (worlds_in p.common.shared) r.resting × Sound itself (resting p.common r))) (sym h.1) tt
+      stands : (e : Bool) → StandsBy g.library g.parts rules.budget g.copy g.arena e p g.ends (place + 1) t.was
+          → IfSome t.was.running (λ r. Rests (worlds_in p.common.shared) r.resting × Sound itself (resting p.common r))
+      stands true h = subst (λ (o : Option Rested). IfSome o (λ r. Rests (worlds_in p.common.shared) r.resting × Sound itself (resting p.common r)))
+          (sym h.1) tt
       stands false h = weaker t.was.running h.rests
 
-      by : (o : Option Rested) → o ≡ t.was.running → IfSome t.was.running (λ r. Rests (worlds_in p.common.shared) r.resting × Sound itself (resting p.common r)) → IfSome o (λ r. Rests (worlds_in p.common.shared) r.resting × Sound itself (resting p.common r))
+      by : (o : Option Rested) → o ≡ t.was.running → IfSome t.was.running
+          (λ r. Rests (worlds_in p.common.shared) r.resting × Sound itself (resting p.common r))
+          → IfSome o (λ r. Rests (worlds_in p.common.shared) r.resting × Sound itself (resting p.common r))
       by o e h = subst (λ (x : Option Rested). IfSome x (λ r. Rests (worlds_in p.common.shared) r.resting × Sound itself (resting p.common r))) (sym e) h
 
   -- so few tries were dropped that one more can be counted
-  pub few_noted : (mid : List Activity) (running : Option Rested) → Takes place p.activities.items mid running → (x : Activity) → slice_get mid place ≡ Some x → (steps : ℕ) → ((y : Activity) → slice_get p.activities.items place ≡ Some y → MayTurn rules.budget steps y) → x.dropped ≤ 3
+  pub few_noted : (mid : List Activity) (running : Option Rested) → Takes place p.activities.items mid running → (x : Activity) → slice_get mid place ≡ Some x
+      → (steps : ℕ) → ((y : Activity) → slice_get p.activities.items place ≡ Some y → MayTurn rules.budget steps y) → x.dropped ≤ 3
   few_noted mid running t x found steps there =
       let a = t.was in
-      let at_mid : slice_get mid place ≡ Some (record a { running = None }) = ap (λ (l : List Activity). slice_get l place) t.is ∙ set_there p.activities.items place a (record a { running = None }) t.there in
+      let at_mid : slice_get mid place ≡ Some (record a { running = None }) = ap (λ (l : List Activity). slice_get l place) t.is
+      ∙ set_there p.activities.items place a (record a { running = None }) t.there in
       let same : x ≡ record a { running = None } = same_Some x (record a { running = None }) (sym found ∙ at_mid) in
       subst (λ (y : Activity). y.dropped ≤ 3) (sym same) (by a.ended (there a t.there).0 (g.is.activities place a t.there))
     where
@@ -335,3 +444,13 @@ module _ (rules : Rules) (p : Play) (place : ℕ) (inside : place < length p.act
   mid_long mid running t =
       let long = ap length t.is ∙ length-set p.activities.items place (record t.was { running = None }) in
       omega (arith, inside, long)
+
+  -- a try that goes on can take a step still
+  pub left_some : (a : Activity) → slice_get p.activities.items place ≡ Some a → a.ended ≡ false → 0 < left_of rules.budget a.running
+  left_some a at on = by a.running (subst (λ e. StandsBy g.library g.parts rules.budget g.copy g.arena e p g.ends (place + 1) a) on
+      (g.is.activities place a at)).rests
+    where
+      by : (o : Option Rested) → IfSome o (λ r. IsResting (trees_of g.library g.parts) (tree_number g.library (place + 1)) rules.budget p.drawn p.common r
+          × (times_owned r.owner g.ends ≡ 0)) → 0 < left_of rules.budget o
+      by None h = g.some
+      by (Some r) h = (h.0).left

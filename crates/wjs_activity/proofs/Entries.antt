@@ -25,7 +25,8 @@ use Rattle.wjs_activity.specs.Trying.{IsTrying}
 use Rattle.wjs_activity.proofs.OneWorld.{one_in, one_known}
 use Rattle.wjs_activity.proofs.Beside.{Others, others_in, made_alone}
 
-module _ {S : Type 0} (meaning : S → Meaning) (texts : Table) (arena : Objects) (units : List Program) (F : Worlds) (q part budget : ℕ) (old new : Config S) (opens : Opens meaning texts arena units F q old) (e : Enters meaning part budget old new)
+module _ {S : Type 0} (meaning : S → Meaning) (texts : Table) (arena : Objects) (units : List Program) (F : Worlds) (q part budget : ℕ) (old new : Config S)
+    (opens : Opens meaning texts arena units F q old) (e : Enters meaning part budget old new)
     (none : (o : ObjId) → IsTrue (has arena o) → ¬ (o.owner ≡ q)) (prototype : IsTrue (has arena world_prototype)) where
   store_is : meaning new.heap.store ≡ beginning F q
   store_is = e.store ∙ opens.store
@@ -54,7 +55,8 @@ module _ {S : Type 0} (meaning : S → Meaning) (texts : Table) (arena : Objects
         let a = arena_in t old.heap.arena in
         let x : Internals = world_object_of (world_of q) in
         let made : arena_in t new.heap.arena ≡ created a q x = e.objects t ∙ (λ i. created a (opens.owner_is i) (world_object_of (opens.world i))) in
-        let old_none : (o : ObjId) → IsTrue (has old.heap.arena o) → ¬ (o.owner ≡ q) = λ o h. none o (subst (λ (m : Objects). IsTrue (has m o)) opens.arena_is h) in
+        let old_none : (o : ObjId) → IsTrue (has old.heap.arena o)
+        → ¬ (o.owner ≡ q) = λ o h. none o (subst (λ (m : Objects). IsTrue (has m o)) opens.arena_is h) in
         let there : IsTrue (has old.heap.arena world_prototype) = subst (λ (m : Objects). IsTrue (has m world_prototype)) (sym opens.arena_is) prototype in
         ap (λ m. beside m v.more) made
         ∙ sym (made_alone a v.more q x (others_in t old.heap.arena q old_none) others (there_in t old.heap.arena world_prototype there) tt)
@@ -73,7 +75,9 @@ module _ {S : Type 0} (meaning : S → Meaning) (texts : Table) (arena : Objects
         e.run t v n
         ∙ (λ i. seen (tells_is i) (part_run trees part (world_is i) (global_is i) (owner_is i) (state_is i) n))
 
-  goes_alone : (v : Outside) → Admits meaning new v → KnowsView v.texts v.view → (n : ℕ) → alone (each (unit_in new.heap.texts) new.units.items) part new.owner (held_in v.texts v.view) (beside (arena_in new.heap.texts new.heap.arena) v.more) (0 + n) ≡ rest meaning new.heap.texts v new n
+  goes_alone : (v : Outside) → Admits meaning new v → KnowsView v.texts v.view → (n : ℕ)
+      → alone (each (unit_in new.heap.texts) new.units.items) part new.owner (held_in v.texts v.view) (beside (arena_in new.heap.texts new.heap.arena) v.more)
+      (0 + n) ≡ rest meaning new.heap.texts v new n
   goes_alone v a k n =
       let t = new.heap.texts in
       let others : Others q v.more = λ o x at is. a.further.apart o x at (is ∙ sym owner_is) in

@@ -54,12 +54,15 @@ passes_left c common reached s = record {
   made = λ o e none at. not_both c.heap.arena o e (o.owner ≡ c.owner) none (ap (λ (m : Objects). map.get m o) (sym s.arena_is) ∙ at);
   units = s.units;
   first = ap first_of s.worlds;
-  returns = λ i e child. subst (λ H. Returns (worlds_in c.heap.store.shared) H i) (sym s.worlds) (record { reached = reached; child = child; marks = refl; holds = λ k t. refl });
+  returns = λ i e child. subst (λ H. Returns (worlds_in c.heap.store.shared) H i) (sym s.worlds)
+      (record { reached = reached; child = child; marks = refl; holds = λ k t. refl });
 }
 
 module _ (c : Config Session) (sound : Sound session_meaning c) where
   -- a dropped try
-  pub dropped : (common : Common) → Shares c common → (trees : List Tree) (tree budget drawn : ℕ) → IsCommon c.heap.texts c.heap.arena c.units.items (worlds_in c.heap.store.shared) drawn → IsTurned session_meaning trees tree budget drawn c common came.Drops
+  pub dropped : (common : Common) → Shares c common → (trees : List Tree) (tree budget drawn : ℕ)
+      → IsCommon c.heap.texts c.heap.arena c.units.items (worlds_in c.heap.store.shared) drawn
+      → IsTurned session_meaning trees tree budget drawn c common came.Drops
   dropped common s trees tree budget drawn h = record {
     leaves = passes_left c common h.reached s;
     works = s.works;
@@ -68,34 +71,45 @@ module _ (c : Config Session) (sound : Sound session_meaning c) where
   }
 
   -- one that has spent its budget
-  pub spent : (common : Common) (output : Vec ℕ Global) → Shares c common → output.items ≡ [] → c.state ≡ states.StepsSpent → IsAtEnd session_meaning c common (came.Ends told.Spent output)
+  pub spent : (common : Common) (output : Vec ℕ Global) → Shares c common → output.items ≡ [] → c.state ≡ states.StepsSpent
+      → IsAtEnd session_meaning c common (came.Ends told.Spent output)
   spent common output s none is = record {
     ends = tt;
+    texts = subst (λ t. Grows c.heap.texts t) (sym s.texts) (Grows-refl c.heap.texts);
+    arena_is = s.arena_is;
     turned = λ trees tree budget drawn over agrees. record {
       leaves = passes_left c common (over.common).reached s;
       works = s.works;
       is_common = common_shared c common drawn s over.common;
-      came = subst (λ l. EndsAlone session_meaning trees tree budget drawn c.owner (held_in common.texts (first_copy (worlds_in c.heap.store.shared))) common told.Spent l) (sym none)
-          (spent_alone trees tree budget drawn c over agrees common (subst (λ t. Grows c.heap.texts t) (sym s.texts) (Grows-refl c.heap.texts)) s.arena_is (ap first_copy s.worlds) is);
+      came = subst (λ l. EndsAlone session_meaning trees tree budget drawn c.owner
+          (held_in common.texts (first_copy (worlds_in c.heap.store.shared))) common told.Spent l) (sym none)
+          (spent_alone trees tree budget drawn c over agrees common (subst (λ t. Grows c.heap.texts t) (sym s.texts) (Grows-refl c.heap.texts)) s.arena_is
+          (ap first_copy s.worlds) is);
     };
   }
 
   -- one that threw, whose value's text was found
-  pub threw : (value : Numbered) (bytes : List ℕ) (next : Config Session) (common : Common) (output : Vec ℕ Global) → c.state ≡ states.Threw value → ShowsIn session_meaning c value bytes → thrown.Leaves session_meaning c next → Shares next common → output.items ≡ []
+  pub threw : (value : Numbered) (bytes : List ℕ) (next : Config Session) (common : Common) (output : Vec ℕ Global) → c.state ≡ states.Threw value
+      → ShowsIn session_meaning c value bytes → thrown.Leaves session_meaning c next → Shares next common → output.items ≡ []
       → IsAtEnd session_meaning c common (came.Ends (told.Threw bytes) output)
   threw value bytes next common output is shows left s none = record {
     ends = tt;
+    texts = subst (λ t. Grows c.heap.texts t) (sym s.texts) left.stays.texts;
+    arena_is = s.arena_is ∙ left.objects;
     turned = λ trees tree budget drawn over agrees. record {
       leaves = passes_turned c next sound.base left.base left.stays common s;
       works = s.works;
       is_common = common_shared next common drawn s (common_turned c next sound.base left.base left.stays drawn over.owner over.common);
-      came = subst (λ l. EndsAlone session_meaning trees tree budget drawn c.owner (held_in common.texts (first_copy (worlds_in c.heap.store.shared))) common (told.Threw bytes) l) (sym none)
-          (threw_alone trees tree budget drawn c over agrees common (subst (λ t. Grows c.heap.texts t) (sym s.texts) left.stays.texts) (s.arena_is ∙ left.objects) (ap first_copy s.worlds ∙ first_stays c next sound.base left.base left.stays) value bytes is shows);
+      came = subst (λ l. EndsAlone session_meaning trees tree budget drawn c.owner (held_in common.texts (first_copy (worlds_in c.heap.store.shared))) common
+          (told.Threw bytes) l) (sym none)
+          (threw_alone trees tree budget drawn c over agrees common (subst (λ t. Grows c.heap.texts t) (sym s.texts) left.stays.texts)
+          (s.arena_is ∙ left.objects) (ap first_copy s.worlds ∙ first_stays c next sound.base left.base left.stays) value bytes is shows);
     };
   }
 
   -- one that was committed
-  pub committed : (shared : Overlay) (verdict : Verdict) → Settles (worlds_in c.heap.store.shared) c.heap.store.world (worlds_in c.heap.store.inner) (worlds_in shared) verdict → shared.spent ≡ false → c.state ≡ states.Done
+  pub committed : (shared : Overlay) (verdict : Verdict) → Settles (worlds_in c.heap.store.shared) c.heap.store.world (worlds_in c.heap.store.inner)
+      (worlds_in shared) verdict → shared.spent ≡ false → c.state ≡ states.Done
       → IsAtEnd session_meaning c (record { texts = c.heap.texts; arena = c.heap.arena; units = c.units; shared = shared }) (came.Ends told.Committed c.pending)
   committed shared verdict settles works is =
       let F = worlds_in c.heap.store.shared in
@@ -104,6 +118,8 @@ module _ (c : Config Session) (sound : Sound session_meaning c) where
       let left = ends F (worlds_in shared) j (worlds_in c.heap.store.inner) verdict (kept_now c sound.base) settles in
       record {
         ends = tt;
+        texts = Grows-refl c.heap.texts;
+        arena_is = refl;
         turned = λ trees tree budget drawn over agrees.
             let holds = settles.holds (settles.moves.1 agrees) in
             record {
@@ -116,8 +132,10 @@ module _ (c : Config Session) (sound : Sound session_meaning c) where
                 returns = λ i e child. left.returns i (ap (same_world i) (number_is c sound.base) ∙ e) child;
               };
               works = works;
-              is_common = common_after session_meaning c sound.base c.heap.texts c.heap.arena c.units.items F (worlds_in shared) j c.owner drawn over.common over.owner
-                  (λ o e none at. not_both c.heap.arena o e (o.owner ≡ c.owner) none at) (overlay_reached shared works) left.first left.there (ap (λ (z : WorldId). z.owner) (number_is c sound.base))
+              is_common = common_after session_meaning c sound.base c.heap.texts c.heap.arena c.units.items F
+                  (worlds_in shared) j c.owner drawn over.common over.owner
+                  (λ o e none at. not_both c.heap.arena o e (o.owner ≡ c.owner) none at) (overlay_reached shared works) left.first left.there
+                  (ap (λ (z : WorldId). z.owner) (number_is c sound.base))
                   (λ s v at. sound.base.heap.slots j s v (sym (holds s) ∙ at));
               came = committed_alone trees tree budget drawn c over agrees is common refl refl holds;
             };
@@ -125,7 +143,10 @@ module _ (c : Config Session) (sound : Sound session_meaning c) where
 
 -- ---- a walk and the end behind it
 
-pub walked_turned : (trees : List Tree) (tree budget drawn : ℕ) (old new : Config Session) (common : Common) (c : Came) → Passes old.owner (common_of old) (common_of new) → new.owner ≡ old.owner → first_copy (worlds_in new.heap.store.shared) ≡ first_copy (worlds_in old.heap.store.shared) → IsTurned session_meaning trees tree budget drawn new common c → IsTurned session_meaning trees tree budget drawn old common c
+pub walked_turned : (trees : List Tree) (tree budget drawn : ℕ) (old new : Config Session) (common : Common) (c : Came)
+    → Passes old.owner (common_of old) (common_of new) → new.owner ≡ old.owner
+    → first_copy (worlds_in new.heap.store.shared) ≡ first_copy (worlds_in old.heap.store.shared)
+    → IsTurned session_meaning trees tree budget drawn new common c → IsTurned session_meaning trees tree budget drawn old common c
 walked_turned trees tree budget drawn old new common c between owner first h = record {
   leaves = passes_then old.owner (common_of old) (common_of new) common between (subst (λ q. Passes q (common_of new) common) owner h.leaves);
   works = h.works;
@@ -139,21 +160,26 @@ pub shares_itself : (c : Config Session) → Base session_meaning c → Shares c
 shares_itself c base = record { texts = refl; arena_is = refl; units = refl; worlds = refl; works = (c.heap.store.works (live c base)).0 }
 
 -- a turn at whose end the try goes on no more
-pub finished_turned : (trees : List Tree) (tree budget drawn steps took : ℕ) (old new : Config Session) (common : Common) (c : Came) → IsLive session_meaning trees tree budget drawn old → Walks session_meaning steps took old new → ¬ (new.state ≡ states.Running)
-    → ((is : IsOver session_meaning trees tree budget drawn new) → IsTurned session_meaning trees tree budget drawn new common c) → IsTurned session_meaning trees tree budget drawn old common c
+pub finished_turned : (trees : List Tree) (tree budget drawn steps took : ℕ) (old new : Config Session) (common : Common) (c : Came)
+    → IsLive session_meaning trees tree budget drawn old → Walks session_meaning steps took old new → ¬ (new.state ≡ states.Running)
+    → ((is : IsOver session_meaning trees tree budget drawn new) → IsTurned session_meaning trees tree budget drawn new common c)
+    → IsTurned session_meaning trees tree budget drawn old common c
 finished_turned trees tree budget drawn steps took old new common c l w over go =
     walked_turned trees tree budget drawn old new common c
-    (passes_turned old new l.sound.base w.sound.base w.stays (common_of new) (shares_itself new w.sound.base)) w.stays.owner (first_stays old new l.sound.base w.sound.base w.stays)
+    (passes_turned old new l.sound.base w.sound.base w.stays (common_of new) (shares_itself new w.sound.base)) w.stays.owner
+    (first_stays old new l.sound.base w.sound.base w.stays)
     (go (over_walked trees tree budget drawn steps took old new l w over))
 
 -- ---- whether the reads hold
 
 -- a session that says that it agrees does
-pub agreed : (c : Config Session) {answer : Bool} → answer ≡ true → Agrees (worlds_in c.heap.store.shared) c.heap.store.world answer → AgreesNow session_meaning c
+pub agreed : (c : Config Session) {answer : Bool} → answer ≡ true → Agrees (worlds_in c.heap.store.shared) c.heap.store.world answer
+    → AgreesNow session_meaning c
 agreed c is h = sym h.answers ∙ is
 
 -- a try that takes the first world to hold what it holds agrees
-pub own_agrees : (c : Config Session) → Sound session_meaning c → (session_meaning c.heap.store).own ≡ first_copy (worlds_in c.heap.store.shared) → AgreesNow session_meaning c
+pub own_agrees : (c : Config Session) → Sound session_meaning c → (session_meaning c.heap.store).own ≡ first_copy (worlds_in c.heap.store.shared)
+    → AgreesNow session_meaning c
 own_agrees c sound own =
     let F = worlds_in c.heap.store.shared in
     let x = world_at F c.heap.store.world in
@@ -161,8 +187,10 @@ own_agrees c sound own =
 
 -- ---- an end that was answered
 
-pub end_turned : (c : Config Session) (result : Result (Common × Came) OutOfMemory) → AgreesNow session_meaning c → IfOk result (λ r. IsAtEnd session_meaning c r.0 r.1)
-    → IfOk result (λ r. (trees : List Tree) (tree budget drawn : ℕ) → IsOver session_meaning trees tree budget drawn c → IsTurned session_meaning trees tree budget drawn c r.0 r.1)
+pub end_turned : (c : Config Session) (result : Result (Common × Came) OutOfMemory) → AgreesNow session_meaning c
+    → IfOk result (λ r. IsAtEnd session_meaning c r.0 r.1)
+    → IfOk result (λ r. (trees : List Tree) (tree budget drawn : ℕ) → IsOver session_meaning trees tree budget drawn c
+    → IsTurned session_meaning trees tree budget drawn c r.0 r.1)
 end_turned c (Ok r) agrees h = λ trees tree budget drawn over. h.turned trees tree budget drawn over agrees
 end_turned c (Err e) agrees h = tt
 
@@ -176,11 +204,13 @@ end_no_drop (came.Ends outcome output) h e = cc
 end_no_drop (came.Rests rest) h e = absurd h
 end_no_drop came.Drops h e = absurd h
 
-pub end_awake : (c : Config Session) (result : Result (Common × Came) OutOfMemory) → IfOk result (λ r. IsAtEnd session_meaning c r.0 r.1) → IfOk result (λ r. ¬ (IsRest r.1))
+pub end_awake : (c : Config Session) (result : Result (Common × Came) OutOfMemory) → IfOk result (λ r. IsAtEnd session_meaning c r.0 r.1)
+    → IfOk result (λ r. ¬ (IsRest r.1))
 end_awake c (Ok r) h = end_no_rest r.1 h.ends
 end_awake c (Err e) h = tt
 
-pub end_kept : (c : Config Session) (result : Result (Common × Came) OutOfMemory) → IfOk result (λ r. IsAtEnd session_meaning c r.0 r.1) → IfOk result (λ r. (session_meaning c.heap.store).own ≡ first_copy (worlds_in c.heap.store.shared) → ¬ (r.1 ≡ came.Drops))
+pub end_kept : (c : Config Session) (result : Result (Common × Came) OutOfMemory) → IfOk result (λ r. IsAtEnd session_meaning c r.0 r.1)
+    → IfOk result (λ r. (session_meaning c.heap.store).own ≡ first_copy (worlds_in c.heap.store.shared) → ¬ (r.1 ≡ came.Drops))
 end_kept c (Ok r) h = λ own. end_no_drop r.1 h.ends
 end_kept c (Err e) h = tt
 

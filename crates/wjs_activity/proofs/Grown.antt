@@ -20,10 +20,12 @@ use Rattle.wjs_session.specs.Maps.{get_filled, get_outer, own_by, get_owned}
 use Rattle.wjs_session.specs.Fills.{fill, find_fill}
 use Rattle.wjs_activity.specs.Views.{KnowsView}
 
-filled_at : (w : Slot → Bool) (o : View) (G : Worlds) (d : WorldId) (s : Slot) → content_at (each (fill w o) G) d s ≡ cond (has_world G d) (cond (w s) (content_at G d s) (map.get o s)) None
+filled_at : (w : Slot → Bool) (o : View) (G : Worlds) (d : WorldId) (s : Slot)
+    → content_at (each (fill w o) G) d s ≡ cond (has_world G d) (cond (w s) (content_at G d s) (map.get o s)) None
 filled_at w o G d s = ap (option_and_then (λ (y : World plain). map.get y.copy s)) (find_fill w o G d) ∙ by (find_world G d)
   where
-    by : (r : Option (World plain)) → option_and_then (λ (y : World plain). map.get y.copy s) (option_map (fill w o) r) ≡ cond (is_some r) (cond (w s) (option_and_then (λ (y : World plain). map.get y.copy s) r) (map.get o s)) None
+    by : (r : Option (World plain)) → option_and_then (λ (y : World plain). map.get y.copy s) (option_map (fill w o) r)
+        ≡ cond (is_some r) (cond (w s) (option_and_then (λ (y : World plain). map.get y.copy s) r) (map.get o s)) None
     by None = refl
     by (Some y) = get_filled w y.copy o s
 
@@ -56,7 +58,8 @@ module _ (x : World plain) (G : Worlds) (base own : View) where
   not_settled s t = ap (λ b. b && same_content same_value (map.get (first_copy G) s) (map.get x.copy s)) t
 
   -- what a slot holds now it held under the other view, or the first world holds it
-  pub either_held : (i : WorldId) (s : Slot) (v : Value) (P : Type 0) → (content_at (full_of x G own) i s ≡ Some v → P) → (map.get base s ≡ Some v → P) → content_at (full_of x G (owned x base)) i s ≡ Some v → P
+  pub either_held : (i : WorldId) (s : Slot) (v : Value) (P : Type 0) → (content_at (full_of x G own) i s ≡ Some v → P) → (map.get base s ≡ Some v → P)
+      → content_at (full_of x G (owned x base)) i s ≡ Some v → P
   either_held i s v P was fresh at = by_bool (is_touched x s)
       (λ t.
       let same = filled_at (settled x G) (outer x (owned x base)) G i s

@@ -37,7 +37,8 @@ use Rattle.wjs_activity.specs.Trying.{IsTrying}
 use Rattle.wjs_activity.proofs.Beside.{get_without, beside_others}
 
 -- an object of two arenas, the first of which hasn't it, is of the second
-either_of : (a more : Arena) (o : ObjId) (e : Entry) (P : Type 0) → (map.get a o ≡ Some e → P) → (map.get more o ≡ Some e → P) → map.get (beside a more) o ≡ Some e → P
+either_of : (a more : Arena) (o : ObjId) (e : Entry) (P : Type 0) → (map.get a o ≡ Some e → P) → (map.get more o ≡ Some e → P)
+    → map.get (beside a more) o ≡ Some e → P
 either_of a more o e P first second at = by (map.get a o) refl
   where
     by : (r : Option Entry) → map.get a o ≡ r → P
@@ -45,7 +46,8 @@ either_of a more o e P first second at = by (map.get a o) refl
     by (Some x) is = first (is ∙ sym (get_beside a more o ∙ ap (λ (r : Option Entry). option_or r (map.get more o)) is) ∙ at)
 
 -- an object by content is one by number, of the same world
-numbered_of : (t : Table) (objects : Objects) (o : ObjId) (e : Entry) (P : Type 0) → ((x : Placed) → map.get objects o ≡ Some x → e ≡ entry_in t x → P) → map.get (arena_in t objects) o ≡ Some e → P
+numbered_of : (t : Table) (objects : Objects) (o : ObjId) (e : Entry) (P : Type 0) → ((x : Placed) → map.get objects o ≡ Some x → e ≡ entry_in t x → P)
+    → map.get (arena_in t objects) o ≡ Some e → P
 numbered_of t objects o e P go at = by (map.get objects o) refl
   where
     by : (r : Option Placed) → map.get objects o ≡ r → P
@@ -53,10 +55,13 @@ numbered_of t objects o e P go at = by (map.get objects o) refl
     by (Some x) is = go x is (same_Some e (entry_in t x) (sym at ∙ object_found t objects o ∙ ap (option_map (entry_in t)) is))
 
 -- on another heap, whose store means the same under each view and admits the same, and to whose objects another owner's were added
-module _ (trees : List Tree) (tree budget taken : ℕ) (old : Config Meaning) (heap : Heap Meaning) (q : ℕ) (sound : Sound itself old) (try : IsTrying trees tree budget taken old)
-    (grows : Grows old.heap.texts heap.texts) (keeps : Keeps old.heap.arena heap.arena) (made : (o : ObjId) (e : Placed) → map.get old.heap.arena o ≡ None → map.get heap.arena o ≡ Some e → o.owner ≡ q) (differ : ¬ (old.owner ≡ q))
+module _ (trees : List Tree) (tree budget taken : ℕ) (old : Config Meaning) (heap : Heap Meaning) (q : ℕ) (sound : Sound itself old)
+    (try : IsTrying trees tree budget taken old)
+    (grows : Grows old.heap.texts heap.texts) (keeps : Keeps old.heap.arena heap.arena)
+    (made : (o : ObjId) (e : Placed) → map.get old.heap.arena o ≡ None → map.get heap.arena o ≡ Some e → o.owner ≡ q) (differ : ¬ (old.owner ≡ q))
     (worlds_by : (o : ObjId) (e : Placed) (w : WorldId) → map.get heap.arena o ≡ Some e → e.object.world ≡ Some w → w.owner ≡ o.owner)
-    (full : heap.store.full ≡ old.heap.store.full) (admits : heap.store.admits ≡ old.heap.store.admits) (told : heap.store.told ≡ old.heap.store.told) (same_worlds : (w : WorldId) → has_world (worlds heap.store) w ≡ has_world (worlds old.heap.store) w) where
+    (full : heap.store.full ≡ old.heap.store.full) (admits : heap.store.admits ≡ old.heap.store.admits) (told : heap.store.told ≡ old.heap.store.told)
+    (same_worlds : (w : WorldId) → has_world (worlds heap.store) w ≡ has_world (worlds old.heap.store) w) where
   abbrev new : Config Meaning
   new = record old { heap = heap }
 
@@ -72,18 +77,23 @@ module _ (trees : List Tree) (tree budget taken : ℕ) (old : Config Meaning) (h
     not_own o e at is = by (o.owner == old.owner) refl
       where
         by : (b : Bool) → (o.owner == old.owner) ≡ b → ⊥
-        by true h = let gone : None ≡ Some e = sym (get_without old.owner (arena_in heap.texts heap.arena) o ∙ ap (λ c. cond (not c) (map.get (arena_in heap.texts heap.arena) o) None) h) ∙ at in cc
+        by true h = let gone : None ≡ Some e = sym (get_without old.owner (arena_in heap.texts heap.arena) o
+            ∙ ap (λ c. cond (not c) (map.get (arena_in heap.texts heap.arena) o) None) h) ∙ at in cc
         by false h = eqb-false o.owner old.owner h is
 
-    found_there : (o : ObjId) (e : Entry) → map.get (without old.owner (arena_in heap.texts heap.arena)) o ≡ Some e → map.get (arena_in heap.texts heap.arena) o ≡ Some e
+    found_there : (o : ObjId) (e : Entry) → map.get (without old.owner (arena_in heap.texts heap.arena)) o ≡ Some e
+        → map.get (arena_in heap.texts heap.arena) o ≡ Some e
     found_there o e at = by (o.owner == old.owner) refl
       where
         by : (b : Bool) → (o.owner == old.owner) ≡ b → map.get (arena_in heap.texts heap.arena) o ≡ Some e
-        by true h = let gone : None ≡ Some e = sym (get_without old.owner (arena_in heap.texts heap.arena) o ∙ ap (λ c. cond (not c) (map.get (arena_in heap.texts heap.arena) o) None) h) ∙ at in absurd (cc)
-        by false h = sym (get_without old.owner (arena_in heap.texts heap.arena) o ∙ ap (λ c. cond (not c) (map.get (arena_in heap.texts heap.arena) o) None) h) ∙ at
+        by true h = let gone : None ≡ Some e = sym (get_without old.owner (arena_in heap.texts heap.arena) o
+            ∙ ap (λ c. cond (not c) (map.get (arena_in heap.texts heap.arena) o) None) h) ∙ at in absurd (cc)
+        by false h = sym (get_without old.owner (arena_in heap.texts heap.arena) o
+            ∙ ap (λ c. cond (not c) (map.get (arena_in heap.texts heap.arena) o) None) h) ∙ at
 
     -- an object of another owner stands for a world of that owner, if it stands for one
-    other_world : (o : ObjId) (e : Entry) (w : WorldId) → map.get (without old.owner (arena_in heap.texts heap.arena)) o ≡ Some e → e.object.world ≡ Some w → ¬ (w.owner ≡ old.owner)
+    other_world : (o : ObjId) (e : Entry) (w : WorldId) → map.get (without old.owner (arena_in heap.texts heap.arena)) o ≡ Some e → e.object.world ≡ Some w
+        → ¬ (w.owner ≡ old.owner)
     other_world o e w at is same = numbered_of heap.texts heap.arena o e ⊥ (λ x there by_number.
         not_own o e at (sym (worlds_by o x w there (sym (ap (λ (y : Entry). y.object.world) by_number) ∙ is)) ∙ same)) (found_there o e at)
 
@@ -92,8 +102,10 @@ module _ (trees : List Tree) (tree budget taken : ℕ) (old : Config Meaning) (h
 
     is_further : IsFurther old.heap.store old.owner (further v)
     is_further = record {
-      apart = λ o e at. either_of (without old.owner (arena_in heap.texts heap.arena)) v.more o e (¬ (o.owner ≡ old.owner)) (not_own o e) (a.further.apart o e) at;
-      worlds = λ o e w at is. either_of (without old.owner (arena_in heap.texts heap.arena)) v.more o e (¬ IsTrue (has_world (worlds old.heap.store) w) × ¬ (w.owner ≡ old.owner))
+      apart = λ o e at. either_of (without old.owner (arena_in heap.texts heap.arena)) v.more o e (¬ (o.owner ≡ old.owner)) (not_own o e)
+          (a.further.apart o e) at;
+      worlds = λ o e w at is. either_of (without old.owner (arena_in heap.texts heap.arena)) v.more o e
+          (¬ IsTrue (has_world (worlds old.heap.store) w) × ¬ (w.owner ≡ old.owner))
           (λ h. (no_world w (other_world o e w h is), other_world o e w h is))
           (λ h. let f = a.further.worlds o e w h is in (λ there. f.0 (same_worlds w ∙ there), f.1))
           at;
@@ -121,12 +133,14 @@ module _ (trees : List Tree) (tree budget taken : ℕ) (old : Config Meaning) (h
         λ i. record { full = worlds_same i; arena = arena i; out = old.pending.items; done = done i }
 
     rest_same : (n : ℕ) → rest itself heap.texts (wider v) old n ≡ rest itself heap.texts v new n
-    rest_same n = λ i. seen (is_some (sym told i)) (rest_by heap.texts old.state (run_in itself heap.texts old) (frames_in itself heap.texts old) (state_same i) n)
+    rest_same n = λ i. seen (is_some (sym told i)) (rest_by heap.texts old.state (run_in itself heap.texts old) (frames_in itself heap.texts old)
+        (state_same i) n)
 
     knows_new : KnowsView v.texts v.view → Knows itself new v
     knows_new k = subst (λ f. KnowsWorlds v.texts (f v.view)) (sym full) (try.knows (wider v) admits_wider k)
 
-    alone_new : KnowsView v.texts v.view → (n : ℕ) → alone trees tree old.owner (held_in v.texts v.view) (beside (arena_in heap.texts heap.arena) v.more) (taken + n) ≡ rest itself heap.texts v new n
+    alone_new : KnowsView v.texts v.view → (n : ℕ) → alone trees tree old.owner (held_in v.texts v.view) (beside (arena_in heap.texts heap.arena) v.more)
+        (taken + n) ≡ rest itself heap.texts v new n
     alone_new k n =
         ap (λ m. alone trees tree old.owner (held_in v.texts v.view) m (taken + n)) (sym objects_same)
         ∙ try.alone (wider v) admits_wider k n
@@ -136,7 +150,8 @@ module _ (trees : List Tree) (tree budget taken : ℕ) (old : Config Meaning) (h
   pub others_keep_alone : IsTrying trees tree budget taken new
   others_keep_alone = record {
     budget_is = try.budget_is;
-    trees_are = each_alike (unit_in heap.texts) (unit_in old.heap.texts) (KnowsUnit old.heap.texts) (unit_grows old.heap.texts heap.texts grows) old.units.items sound.base.units ∙ try.trees_are;
+    trees_are = each_alike (unit_in heap.texts) (unit_in old.heap.texts) (KnowsUnit old.heap.texts)
+        (unit_grows old.heap.texts heap.texts grows) old.units.items sound.base.units ∙ try.trees_are;
     global = try.global;
     world = try.world;
     knows = λ v a k. knows_new v a k;

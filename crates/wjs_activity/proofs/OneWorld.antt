@@ -18,7 +18,7 @@ use Rattle.wjs_session.specs.Session as session
 use Rattle.wjs_alone.specs.Alone as part
 use Rattle.wjs_activity.specs.Views.{held_in, KnowsView}
 
-empty_in : {X Y : Type 0} (t : Table) (f : X → Y) → renamed {S = slot_cmp} (names_of t).slot f (map.empty {X = X} {R = plain.cmp}) ≡ map.empty
+pub empty_in : {X Y : Type 0} (t : Table) (f : X → Y) → renamed {S = slot_cmp} (names_of t).slot f (map.empty {X = X} {R = plain.cmp}) ≡ map.empty
 empty_in {X} {Y} t f = ap (λ es. map.from_entries {R = slot_cmp} (each (λ e. ((names_of t).slot e.0, f e.1)) es)) (empty_entries plain.cmp)
 
 pub one_in : (t : Table) (i : WorldId) (v : View) → worlds_in t (session.holding i v ∷ []) ≡ part.holding i (held_in t v) ∷ []
@@ -32,7 +32,7 @@ one_in t i v = λ k. record {
   closed = map.empty;
 } ∷ []
 
-none_there : {X : Type 0} (s : NumberedSlot) (x : X) → map.get (map.empty {X = X} {R = plain.cmp}) s ≡ Some x → ⊥
+pub none_there : {X : Type 0} (s : NumberedSlot) (x : X) → map.get (map.empty {X = X} {R = plain.cmp}) s ≡ Some x → ⊥
 none_there s x e = let h : None ≡ Some x = sym (map.get-empty plain.cmp s) ∙ e in cc
 
 pub one_known : (t : Table) (i : WorldId) (v : View) → KnowsView t v → KnowsWorlds t (session.holding i v ∷ [])

@@ -167,7 +167,8 @@ module _ (old new : Table) (g : Grows old new) where
   parts_grow : (parts : List Program) → All (KnowsUnit old) parts → each (unit_in new) parts ≡ each (unit_in old) parts
   parts_grow parts k = each_alike (unit_in new) (unit_in old) (KnowsUnit old) (unit_grows old new g) parts k
 
-trees_are_so : (t : Table) (library : Option Program) (parts : List Program) → each (unit_in t) (units_of library parts) ≡ trees_of (option_map (unit_in t) library) (each (unit_in t) parts)
+trees_are_so : (t : Table) (library : Option Program) (parts : List Program)
+    → each (unit_in t) (units_of library parts) ≡ trees_of (option_map (unit_in t) library) (each (unit_in t) parts)
 trees_are_so t None parts = refl
 trees_are_so t (Some u) parts = refl
 
@@ -196,9 +197,12 @@ record Later (library : Option Program) (parts : List Program) (budget : ℕ) (o
   pub base : Base overlay_meaning new
   pub made : (o : ObjId) → IsTrue (has new.heap.arena o) → o.owner ≡ 0
   pub over : ¬ (new.state ≡ states.Running)
-  pub ends : seen false (after_done (writes_told properties) (opening (option_map (unit_in old.heap.texts) library) (each (unit_in old.heap.texts) parts) budget)) ≡ (ending_in new.heap.texts new.state, state_in overlay_meaning new.heap.texts (outside.alone map.empty new.heap.texts) new)
+  pub ends : seen false (after_done (writes_told properties)
+      (opening (option_map (unit_in old.heap.texts) library) (each (unit_in old.heap.texts) parts) budget))
+      ≡ (ending_in new.heap.texts new.state, state_in overlay_meaning new.heap.texts (outside.alone map.empty new.heap.texts) new)
 
-module _ (texts : Table) (library : Option Program) (parts : List Program) (budget : ℕ) (before : Meaning) (silent : before ≡ fixed fresh false) (old : Config Overlay)
+module _ (texts : Table) (library : Option Program) (parts : List Program) (budget : ℕ) (before : Meaning) (silent : before ≡ fixed fresh false)
+    (old : Config Overlay)
     (st : StartsParts overlay_meaning texts before library parts budget old) (sound : Sound overlay_meaning old) where
   none_told : is_some before.told ≡ false
   none_told = ap (λ (m : Meaning). is_some m.told) silent
@@ -210,10 +214,13 @@ module _ (texts : Table) (library : Option Program) (parts : List Program) (budg
       zero_objects old.heap.texts old.heap.arena (part_names (each (unit_in old.heap.texts) parts)) arena
 
   -- what is left of the run at first
-  run_first : (u : Table) → Grows old.heap.texts u → (n : ℕ) → rest overlay_meaning old.heap.texts (outside.alone map.empty u) old n ≡ seen false (after_done (writes_told properties) (opening (option_map (unit_in old.heap.texts) library) (each (unit_in old.heap.texts) parts) n))
+  run_first : (u : Table) → Grows old.heap.texts u → (n : ℕ)
+      → rest overlay_meaning old.heap.texts (outside.alone map.empty u) old n
+      ≡ seen false (after_done (writes_told properties) (opening (option_map (unit_in old.heap.texts) library) (each (unit_in old.heap.texts) parts) n))
   run_first u g n =
       st.run_is u g map.empty refl n
-      ∙ ap (λ b. seen b (after_done (writes_told properties) (opening (option_map (unit_in old.heap.texts) library) (each (unit_in old.heap.texts) parts) n))) none_told
+      ∙ ap (λ b. seen b (after_done (writes_told properties)
+      (opening (option_map (unit_in old.heap.texts) library) (each (unit_in old.heap.texts) parts) n))) none_told
 
   -- where there was no library
   later_none : ¬ (old.state ≡ states.Running) → Later library parts budget old old
@@ -226,7 +233,8 @@ module _ (texts : Table) (library : Option Program) (parts : List Program) (budg
     over = over;
     ends =
         sym (run_first old.heap.texts (Grows-refl old.heap.texts) budget)
-        ∙ ap (seen false) (by_over old.heap.texts old.state (run_in overlay_meaning old.heap.texts old) (frames_in overlay_meaning old.heap.texts old) (state_in overlay_meaning old.heap.texts (outside.alone map.empty old.heap.texts) old) budget over);
+        ∙ ap (seen false) (by_over old.heap.texts old.state (run_in overlay_meaning old.heap.texts old) (frames_in overlay_meaning old.heap.texts old)
+        (state_in overlay_meaning old.heap.texts (outside.alone map.empty old.heap.texts) old) budget over);
   }
 
   -- behind a walk
@@ -259,17 +267,21 @@ module _ (texts : Table) (library : Option Program) (parts : List Program) (budg
     knows = (worlds_grow old.heap.texts t w.stays.texts (worlds_in old.heap.store) sound.base.marks).0
 
     -- by the later table
-    run_now : (n : ℕ) → rest overlay_meaning t v old n ≡ seen false (after_done (writes_told properties) (opening (option_map (unit_in old.heap.texts) library) (each (unit_in old.heap.texts) parts) n))
+    run_now : (n : ℕ) → rest overlay_meaning t v old n ≡ seen false
+        (after_done (writes_told properties) (opening (option_map (unit_in old.heap.texts) library) (each (unit_in old.heap.texts) parts) n))
     run_now n = (left_alike overlay_meaning t v old sound w.stays.texts).rest n ∙ run_first t w.stays.texts n
 
-    ends_walked : Stops overlay_meaning budget taken old new → (¬ (new.state ≡ states.Running)) × (seen false (after_done (writes_told properties) (opening (option_map (unit_in old.heap.texts) library) (each (unit_in old.heap.texts) parts) budget)) ≡ (ending_in t new.state, state_in overlay_meaning t v new))
+    ends_walked : Stops overlay_meaning budget taken old new → (¬ (new.state ≡ states.Running))
+        × (seen false (after_done (writes_told properties) (opening (option_map (unit_in old.heap.texts) library)
+        (each (unit_in old.heap.texts) parts) budget)) ≡ (ending_in t new.state, state_in overlay_meaning t v new))
     ends_walked (ended done alive kept) =
         let all : budget ≡ taken + new.left = sym st.left ∙ w.left in (
           done,
           sym (run_now budget)
               ∙ ap (rest overlay_meaning t v old) all
               ∙ kept v admitted knows new.left
-              ∙ ap (seen false) (by_over t new.state (run_in overlay_meaning t new) (frames_in overlay_meaning t new) (state_in overlay_meaning t v new) new.left done),
+              ∙ ap (seen false) (by_over t new.state (run_in overlay_meaning t new) (frames_in overlay_meaning t new)
+              (state_in overlay_meaning t v new) new.left done),
         )
     ends_walked (paused on all some due kept) =
         let left : old.left ≡ taken + new.left = w.left in
@@ -314,7 +326,8 @@ module _ (texts : Table) (library : Option Program) (parts : List Program) (budg
 
   -- ---- the opening by content
 
-  module _ (known : IfSome library (KnowsUnit texts)) (parts_known : All (KnowsUnit texts) parts) (new : Config Overlay) (ran : RanLibrary overlay_meaning budget old new) where
+  module _ (known : IfSome library (KnowsUnit texts)) (parts_known : All (KnowsUnit texts) parts) (new : Config Overlay)
+      (ran : RanLibrary overlay_meaning budget old new) where
     abbrev l : Option Tree
     l = option_map (unit_in texts) library
 
@@ -325,9 +338,11 @@ module _ (texts : Table) (library : Option Program) (parts : List Program) (budg
     later = later_is new ran
 
     opening_same : opening (option_map (unit_in old.heap.texts) library) (each (unit_in old.heap.texts) parts) budget ≡ opening l ps budget
-    opening_same = λ i. opening (library_grows texts old.heap.texts st.grows library known i) (parts_grow texts old.heap.texts st.grows parts parts_known i) budget
+    opening_same = λ i. opening (library_grows texts old.heap.texts st.grows library known i)
+        (parts_grow texts old.heap.texts st.grows parts parts_known i) budget
 
-    ends_so : seen false (after_done (writes_told properties) (opening l ps budget)) ≡ (ending_in new.heap.texts new.state, state_in overlay_meaning new.heap.texts (outside.alone map.empty new.heap.texts) new)
+    ends_so : seen false (after_done (writes_told properties) (opening l ps budget))
+        ≡ (ending_in new.heap.texts new.state, state_in overlay_meaning new.heap.texts (outside.alone map.empty new.heap.texts) new)
     ends_so = ap (λ r. seen false (after_done (writes_told properties) r)) (sym opening_same) ∙ later.ends
 
     ending_so : (opening l ps budget).0 ≡ ending_in new.heap.texts new.state
@@ -355,7 +370,8 @@ module _ (texts : Table) (library : Option Program) (parts : List Program) (budg
       spends = λ e. ending_so ∙ ap (ending_in new.heap.texts) e;
       opens = λ apart e. apart (is_spent_end new.heap.texts new.state later.over (sym ending_so ∙ e));
       holds =
-          copy_of_world new.heap.texts (worlds_in new.heap.store) first_world (first_copy (worlds_in new.heap.store)) (first_has new later.base later.owner later.made)
+          copy_of_world new.heap.texts (worlds_in new.heap.store) first_world (first_copy (worlds_in new.heap.store))
+          (first_has new later.base later.owner later.made)
           (λ s. first_content (worlds_in new.heap.store) first_world s (first_is new later.base later.owner later.made))
           ∙ ap (λ H. copy_in H first_world) (sym full_so);
       objects = sym arena_so;

@@ -47,10 +47,12 @@ use Rattle.wjs_activity.proofs.Turned.{kept_now, number_is, common_after}
 
 -- ---- what a session means that begins
 
-pub number_begun : (F : Worlds) (owner : ℕ) (i : WorldId) (m : Meaning) → IsReached F → has_world F (world_of owner) ≡ false → Begins F owner i m → i ≡ world_of owner
+pub number_begun : (F : Worlds) (owner : ℕ) (i : WorldId) (m : Meaning) → IsReached F → has_world F (world_of owner) ≡ false → Begins F owner i m
+    → i ≡ world_of owner
 number_begun F owner i m reached new b = b.number ∙ (λ k. record { owner = owner; serial = count_none F owner reached new k })
 
-pub meaning_begun : (F : Worlds) (owner : ℕ) (i : WorldId) (m : Meaning) → IsReached F → has_world F (world_of owner) ≡ false → Begins F owner i m → m ≡ beginning F owner
+pub meaning_begun : (F : Worlds) (owner : ℕ) (i : WorldId) (m : Meaning) → IsReached F → has_world F (world_of owner) ≡ false → Begins F owner i m
+    → m ≡ beginning F owner
 meaning_begun F owner i m reached new b =
     let is = number_begun F owner i m reached new b in
     λ k. record {
@@ -76,7 +78,8 @@ there_itself : (x : World plain) → has_world (x ∷ []) x.id ≡ true
 unfolding find_world
 there_itself x = ap (λ b. is_some (cond b (Some x) None)) (same_self x.id)
 
-held_if : (x : World plain) (s : Slot) (v : Value) (b : Bool) → option_and_then (λ (y : World plain). map.get y.copy s) (cond b (Some x) None) ≡ Some v → map.get x.copy s ≡ Some v
+held_if : (x : World plain) (s : Slot) (v : Value) (b : Bool) → option_and_then (λ (y : World plain). map.get y.copy s) (cond b (Some x) None) ≡ Some v
+    → map.get x.copy s ≡ Some v
 held_if x s v true h = h
 held_if x s v false h = absurd (cc)
 
@@ -86,7 +89,8 @@ one_holds x i s v h = held_if x s v (same_world x.id i) h
 
 -- ---- the configuration before its part is entered
 
-module _ {S : Type 0} (meaning : S → Meaning) (t : Table) (arena : Objects) (units : List Program) (F : Worlds) (q drawn : ℕ) (c : Config S) (opens : Opens meaning t arena units F q c) (shared : IsCommon t arena units F drawn) (later : drawn < q) where
+module _ {S : Type 0} (meaning : S → Meaning) (t : Table) (arena : Objects) (units : List Program) (F : Worlds) (q drawn : ℕ) (c : Config S)
+    (opens : Opens meaning t arena units F q c) (shared : IsCommon t arena units F drawn) (later : drawn < q) where
   common : IsCommon c.heap.texts c.heap.arena c.units.items F drawn
   common =
       subst (λ us. IsCommon c.heap.texts c.heap.arena us F drawn) (sym opens.units_are) (
@@ -141,13 +145,16 @@ module _ {S : Type 0} (meaning : S → Meaning) (t : Table) (arena : Objects) (u
     near_objects = λ o e at n. objects_near c.apart.items opens.apart e.object;
     near_slots = slots_near c.apart.items opens.apart (worlds (meaning c.heap.store));
     frames = subst (All (IsThere meaning c)) (sym opens.frames) (All-nil (IsThere meaning c));
-    marks = subst (KnowsWorlds c.heap.texts) (sym worlds_are) (one_known c.heap.texts (world_of q) (first_copy F) (view_known c.heap.texts c.heap.arena (first_copy F) common.table common.slots));
+    marks = subst (KnowsWorlds c.heap.texts) (sym worlds_are)
+        (one_known c.heap.texts (world_of q) (first_copy F) (view_known c.heap.texts c.heap.arena (first_copy F) common.table common.slots));
     told = subst (λ (m : Meaning). KnowsTold c.heap.texts m.told) (sym opens.store) tt;
   }
 
 -- ---- the part is entered
 
-module _ (shared : Common) (q drawn part budget : ℕ) (old new : Config Session) (opens : Opens session_meaning shared.texts shared.arena shared.units.items (worlds_in shared.shared) q old) (known : IsCommon shared.texts shared.arena shared.units.items (worlds_in shared.shared) drawn)
+module _ (shared : Common) (q drawn part budget : ℕ) (old new : Config Session)
+    (opens : Opens session_meaning shared.texts shared.arena shared.units.items (worlds_in shared.shared) q old)
+    (known : IsCommon shared.texts shared.arena shared.units.items (worlds_in shared.shared) drawn)
     (later : drawn < q) (e : Enters session_meaning part budget old new) (units : old.units ≡ shared.units) where
   abbrev F : Worlds
   F = worlds_in shared.shared
@@ -165,7 +172,8 @@ module _ (shared : Common) (q drawn part budget : ℕ) (old new : Config Session
   around_is = ap (around_of F') (sym number) ∙ ap (λ (m : Meaning). m.around) (e.store ∙ opens.store)
 
   both : Leaves F (world_of q) F' × (first_copy F' ≡ first_copy F)
-  both = begins F F' (world_of q) (worlds_in new.heap.store.inner) (subst (λ i. IsSession F' i (worlds_in new.heap.store.inner)) number (kept_now new e.sound.base)) around_is
+  both = begins F F' (world_of q) (worlds_in new.heap.store.inner)
+      (subst (λ i. IsSession F' i (worlds_in new.heap.store.inner)) number (kept_now new e.sound.base)) around_is
 
   grows : Grows shared.texts new.heap.texts
   grows = subst (λ u. Grows shared.texts u) (sym (e.texts ∙ opens.texts)) (Grows-refl shared.texts)
@@ -213,18 +221,22 @@ module _ (shared : Common) (q drawn part budget : ℕ) (old new : Config Session
     live = record {
       sound = e.sound;
       taken = 0;
-      trying = enter_is_alone session_meaning shared.texts shared.arena shared.units.items F q part budget old new opens e none (known.builtins 7 (omega arith));
+      trying = enter_is_alone session_meaning shared.texts shared.arena shared.units.items F q part budget old new opens e none
+          (known.builtins 7 (omega arith));
       number = number ∙ ap world_of (sym owner_is);
       some = let l : new.owner ≡ q = owner_is in omega (arith, l, later);
       owner = let l : new.owner ≡ q = owner_is in omega (arith, l);
       apart = ap (λ v. v.items) e.stays.apart ∙ opens.apart;
-      common = common_after session_meaning new e.sound.base shared.texts shared.arena shared.units.items F F' (world_of q) q q known_later (omega arith) made (kept_now new e.sound.base).shared (both.0).first (both.0).there refl
-          (λ s v at. slot_later shared.texts new.heap.texts grows shared.arena new.heap.arena keeps s v (known.slots s v (ap (λ m. map.get m s) (sym both.1) ∙ at)));
+      common = common_after session_meaning new e.sound.base shared.texts shared.arena shared.units.items F F' (world_of q) q q known_later (omega arith) made
+          (kept_now new e.sound.base).shared (both.0).first (both.0).there refl
+          (λ s v at. slot_later shared.texts new.heap.texts grows shared.arena new.heap.arena keeps s v
+          (known.slots s v (ap (λ m. map.get m s) (sym both.1) ∙ at)));
     };
   }
 
 -- a later owner has no world
-pub no_world_yet : (t : Table) (arena : Objects) (units : List Program) (F : Worlds) (q drawn : ℕ) → IsCommon t arena units F drawn → drawn < q → has_world F (world_of q) ≡ false
+pub no_world_yet : (t : Table) (arena : Objects) (units : List Program) (F : Worlds) (q drawn : ℕ) → IsCommon t arena units F drawn → drawn < q
+    → has_world F (world_of q) ≡ false
 no_world_yet t arena units F q drawn known later = by (has_world F (world_of q)) refl
   where
     by : (b : Bool) → has_world F (world_of q) ≡ b → b ≡ false
@@ -232,7 +244,8 @@ no_world_yet t arena units F q drawn known later = by (has_world F (world_of q))
     by false h = refl
 
 -- what is shared is a heap, with the first world's slots alone
-pub heap_common : (t : Table) (arena : Objects) (units : List Program) (F : Worlds) (drawn : ℕ) → IsCommon t arena units F drawn → IsHeap (record { texts = t; arena = arena; store = beginning F 0 })
+pub heap_common : (t : Table) (arena : Objects) (units : List Program) (F : Worlds) (drawn : ℕ) → IsCommon t arena units F drawn
+    → IsHeap (record { texts = t; arena = arena; store = beginning F 0 })
 heap_common t arena units F drawn known = record {
   table = known.table;
   arena = known.arena_is;

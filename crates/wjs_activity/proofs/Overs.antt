@@ -57,7 +57,8 @@ use Rattle.wjs_activity.proofs.Walked.{trees_stay, knows_still, over_alone}
 
 -- ---- a walk behind which the try goes on no more
 
-pub over_walked : (trees : List Tree) (tree budget drawn steps took : ℕ) (old new : Config Session) → IsLive session_meaning trees tree budget drawn old → Walks session_meaning steps took old new → ¬ (new.state ≡ states.Running) → IsOver session_meaning trees tree budget drawn new
+pub over_walked : (trees : List Tree) (tree budget drawn steps took : ℕ) (old new : Config Session) → IsLive session_meaning trees tree budget drawn old
+    → Walks session_meaning steps took old new → ¬ (new.state ≡ states.Running) → IsOver session_meaning trees tree budget drawn new
 over_walked trees tree budget drawn steps took old new l w over =
     let owner = w.stays.owner in
     record {
@@ -77,10 +78,13 @@ over_walked trees tree budget drawn steps took old new l w over =
 
 -- ---- what a world holds, by content
 
-pub copy_of_world : (t : Table) (H : Worlds) (i : WorldId) (m : View) → has_world H i ≡ true → ((s : Slot) → map.get m s ≡ content_at H i s) → held_in t m ≡ copy_in (named_worlds t H) i
-copy_of_world t H i m there same = by (find_world H i) there same ∙ sym (ap (λ (r : Option (World content)). option_map_or (λ (x : World content). x.copy) r map.empty) (find_named t H i))
+pub copy_of_world : (t : Table) (H : Worlds) (i : WorldId) (m : View) → has_world H i ≡ true → ((s : Slot) → map.get m s ≡ content_at H i s)
+    → held_in t m ≡ copy_in (named_worlds t H) i
+copy_of_world t H i m there same = by (find_world H i) there same
+    ∙ sym (ap (λ (r : Option (World content)). option_map_or (λ (x : World content). x.copy) r map.empty) (find_named t H i))
   where
-    by : (r : Option (World plain)) → is_some r ≡ true → ((s : Slot) → map.get m s ≡ option_and_then (λ (y : World plain). map.get y.copy s) r) → held_in t m ≡ option_map_or (λ (x : World content). x.copy) (option_map (named_world (names_of t)) r) map.empty
+    by : (r : Option (World plain)) → is_some r ≡ true → ((s : Slot) → map.get m s ≡ option_and_then (λ (y : World plain). map.get y.copy s) r)
+        → held_in t m ≡ option_map_or (λ (x : World content). x.copy) (option_map (named_world (names_of t)) r) map.empty
     by None h f = absurd (cc)
     by (Some y) h f = ap (held_in t) (same_view m y.copy f)
 
@@ -98,7 +102,8 @@ held_grows old new v g k =
 
 -- ---- where the reads hold
 
-module _ (trees : List Tree) (tree budget drawn : ℕ) (c : Config Session) (is : IsOver session_meaning trees tree budget drawn c) (agrees : AgreesNow session_meaning c) where
+module _ (trees : List Tree) (tree budget drawn : ℕ) (c : Config Session) (is : IsOver session_meaning trees tree budget drawn c)
+    (agrees : AgreesNow session_meaning c) where
   abbrev t : Table
   t = c.heap.texts
 
@@ -127,10 +132,12 @@ module _ (trees : List Tree) (tree budget drawn : ℕ) (c : Config Session) (is 
 
   -- the part's run alone from there
   pub run_is : alone trees tree c.owner (held_in t (first_copy F)) (arena_in t c.heap.arena) budget ≡ (ending_in t c.state, state_in session_meaning t v c)
-  run_is = ap (λ m. alone trees tree c.owner (held_in t (first_copy F)) m budget) (sym (beside_nothing (arena_in t c.heap.arena))) ∙ is.alone v admitted first_known
+  run_is = ap (λ m. alone trees tree c.owner (held_in t (first_copy F)) m budget) (sym (beside_nothing (arena_in t c.heap.arena)))
+      ∙ is.alone v admitted first_known
 
   -- by a later table
-  later_run : (u : Table) → Grows t u → alone trees tree c.owner (held_in u (first_copy F)) (arena_in u c.heap.arena) budget ≡ (ending_in t c.state, state_in session_meaning t v c)
+  later_run : (u : Table) → Grows t u → alone trees tree c.owner (held_in u (first_copy F)) (arena_in u c.heap.arena) budget
+      ≡ (ending_in t c.state, state_in session_meaning t v c)
   later_run u g =
       let held = held_grows t u (first_copy F) g first_known in
       let arena = (arena_grows t u g c.heap.arena (arena_known (parts session_meaning c.heap) is.sound.base.heap)).1 in
@@ -146,14 +153,17 @@ module _ (trees : List Tree) (tree budget drawn : ℕ) (c : Config Session) (is 
   there_world : has_world (worlds (session_meaning c.heap.store)) c.heap.store.world ≡ true
   there_world =
       let k = kept_now c is.sound.base in
-      has_full (world_at F c.heap.store.world) (worlds_in c.heap.store.inner) (owned (world_at F c.heap.store.world) (first_copy F)) c.heap.store.world ∙ first_there (worlds_in c.heap.store.inner) c.heap.store.world k.inner k.first
+      has_full (world_at F c.heap.store.world) (worlds_in c.heap.store.inner) (owned (world_at F c.heap.store.world) (first_copy F)) c.heap.store.world
+      ∙ first_there (worlds_in c.heap.store.inner) c.heap.store.world k.inner k.first
 
   -- ---- a normal end, which was committed
 
   module _ (done : c.state ≡ states.Done) (common : Common) (texts : common.texts ≡ t) (arena : common.arena ≡ c.heap.arena)
       (holds : (s : Slot) → map.get (first_copy (worlds_in common.shared)) s ≡ content_at (worlds (session_meaning c.heap.store)) c.heap.store.world s) where
-    done_run : alone trees tree c.owner (held_in common.texts (first_copy F)) (arena_in common.texts common.arena) budget ≡ (Done, state_in session_meaning t v c)
-    done_run = (λ i. alone trees tree c.owner (held_in (texts i) (first_copy F)) (arena_in (texts i) (arena i)) budget) ∙ run_is ∙ ap (λ s. (ending_in t s, state_in session_meaning t v c)) done
+    done_run : alone trees tree c.owner (held_in common.texts (first_copy F)) (arena_in common.texts common.arena) budget
+        ≡ (Done, state_in session_meaning t v c)
+    done_run = (λ i. alone trees tree c.owner (held_in (texts i) (first_copy F)) (arena_in (texts i) (arena i)) budget) ∙ run_is
+        ∙ ap (λ s. (ending_in t s, state_in session_meaning t v c)) done
 
     left_in_first : first_in common ≡ copy_in (state_in session_meaning t v c).full (world_of c.owner)
     left_in_first =
@@ -171,8 +181,10 @@ module _ (trees : List Tree) (tree budget drawn : ℕ) (c : Config Session) (is 
 
   -- ---- another end, of which nothing is kept
 
-  module _ (common : Common) (grows : Grows t common.texts) (arena : common.arena ≡ c.heap.arena) (same : first_copy (worlds_in common.shared) ≡ first_copy F) where
-    other_run : alone trees tree c.owner (held_in common.texts (first_copy F)) (arena_in common.texts common.arena) budget ≡ (ending_in t c.state, state_in session_meaning t v c)
+  module _ (common : Common) (grows : Grows t common.texts) (arena : common.arena ≡ c.heap.arena)
+      (same : first_copy (worlds_in common.shared) ≡ first_copy F) where
+    other_run : alone trees tree c.owner (held_in common.texts (first_copy F)) (arena_in common.texts common.arena) budget
+        ≡ (ending_in t c.state, state_in session_meaning t v c)
     other_run = ap (λ m. alone trees tree c.owner (held_in common.texts (first_copy F)) (arena_in common.texts m) budget) arena ∙ later_run common.texts grows
 
     objects_later : (state_in session_meaning t v c).arena ≡ arena_in common.texts common.arena
@@ -181,7 +193,8 @@ module _ (trees : List Tree) (tree budget drawn : ℕ) (c : Config Session) (is 
         ∙ sym (arena_grows t common.texts grows c.heap.arena (arena_known (parts session_meaning c.heap) is.sound.base.heap)).1
         ∙ ap (arena_in common.texts) (sym arena)
 
-    pub spent_alone : c.state ≡ states.StepsSpent → EndsAlone session_meaning trees tree budget drawn c.owner (held_in common.texts (first_copy F)) common told.Spent []
+    pub spent_alone : c.state ≡ states.StepsSpent → EndsAlone session_meaning trees tree budget drawn c.owner
+        (held_in common.texts (first_copy F)) common told.Spent []
     spent_alone spent =
         let run = other_run ∙ ap (λ s. (ending_in t s, state_in session_meaning t v c)) spent in
         record {
@@ -192,7 +205,8 @@ module _ (trees : List Tree) (tree budget drawn : ℕ) (c : Config Session) (is 
         }
 
     -- the text is shown in the try's own first world, as its run left it
-    pub threw_alone : (value : Numbered) (bytes : List ℕ) → c.state ≡ states.Threw value → ShowsIn session_meaning c value bytes → EndsAlone session_meaning trees tree budget drawn c.owner (held_in common.texts (first_copy F)) common (told.Threw bytes) []
+    pub threw_alone : (value : Numbered) (bytes : List ℕ) → c.state ≡ states.Threw value → ShowsIn session_meaning c value bytes
+        → EndsAlone session_meaning trees tree budget drawn c.owner (held_in common.texts (first_copy F)) common (told.Threw bytes) []
     threw_alone value bytes threw shows =
         let run = other_run ∙ ap (λ s. (ending_in t s, state_in session_meaning t v c)) threw in
         let st = state_in session_meaning t v c in

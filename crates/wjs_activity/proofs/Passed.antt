@@ -23,7 +23,9 @@ use Rattle.wjs_activity.specs.Trying.{IsTrying}
 use Rattle.wjs_activity.proofs.Kept.{others_keep_alone}
 use Rattle.wjs_activity.proofs.Soundly.{full_stays, admits_stays, worlds_same, others_keep_sound}
 
-module _ (trees : List Tree) (tree budget drawn drawn' q : ℕ) (old new : Common) (rest : Rested) (is : IsResting trees tree budget drawn old rest) (passes : Passes q old new) (common : IsCommon new.texts new.arena new.units.items (worlds_in new.shared) drawn') (more : drawn ≤ drawn') (differ : ¬ (rest.owner ≡ q)) where
+module _ (trees : List Tree) (tree budget drawn drawn' q : ℕ) (old new : Common) (rest : Rested) (is : IsResting trees tree budget drawn old rest)
+    (passes : Passes q old new) (common : IsCommon new.texts new.arena new.units.items (worlds_in new.shared) drawn') (more : drawn ≤ drawn')
+    (differ : ¬ (rest.owner ≡ q)) where
   abbrev F : Worlds
   F = worlds_in old.shared
 
@@ -43,8 +45,8 @@ module _ (trees : List Tree) (tree budget drawn drawn' q : ℕ) (old new : Commo
       by true e = absurd (differ (ap (λ (w : WorldId). w.owner) (sym is.number ∙ world_is rest.resting.world (world_of q) e)))
       by false e = refl
 
-  returns : Returns F F' rest.resting.world
-  returns = passes.returns rest.resting.world apart is.stands.child
+  pub returns : Returns F F' rest.resting.world
+  returns = passes.returns rest.resting.world apart is.stands.is.child
 
   units_same : IsCommon new.texts new.arena old.units.items F' drawn'
   units_same = subst (λ us. IsCommon new.texts new.arena us.items F' drawn') passes.units common
@@ -54,14 +56,18 @@ module _ (trees : List Tree) (tree budget drawn drawn' q : ℕ) (old new : Commo
   now_is = λ i. record (resting new rest) { units = sym passes.units i }
 
   sound_now : Sound itself (record before { heap = heap })
-  sound_now = others_keep_sound before heap F F' rest.resting q drawn' refl refl is.sound refl is.stands returns units_same is.apart passes.texts passes.objects passes.made differ
+  sound_now = others_keep_sound before heap F F' rest.resting q drawn' refl refl is.sound refl is.stands returns units_same is.apart passes.texts
+      passes.objects passes.made differ
 
   trying_now : IsTrying trees tree budget is.taken (record before { heap = heap })
   trying_now = others_keep_alone trees tree budget is.taken before heap q is.sound is.trying passes.texts passes.objects passes.made differ common.worlds_by
-      (full_stays before heap F F' rest.resting q drawn' refl refl is.sound refl is.stands returns units_same is.apart passes.texts passes.objects passes.made differ)
-      (admits_stays before heap F F' rest.resting q drawn' refl refl is.sound refl is.stands returns units_same is.apart passes.texts passes.objects passes.made differ)
+      (full_stays before heap F F' rest.resting q drawn' refl refl is.sound refl is.stands returns units_same is.apart passes.texts passes.objects passes.made
+      differ)
+      (admits_stays before heap F F' rest.resting q drawn' refl refl is.sound refl is.stands returns units_same is.apart passes.texts passes.objects
+      passes.made differ)
       refl
-      (worlds_same before heap F F' rest.resting q drawn' refl refl is.sound refl is.stands returns units_same is.apart passes.texts passes.objects passes.made differ)
+      (worlds_same before heap F F' rest.resting q drawn' refl refl is.sound refl is.stands returns units_same is.apart passes.texts passes.objects
+      passes.made differ)
 
   pub rests_still : IsResting trees tree budget drawn' new rest
   rests_still = record {

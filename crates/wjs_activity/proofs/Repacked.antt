@@ -27,7 +27,8 @@ use Rattle.wjs_activity.specs.Meant.{itself, meant}
 
 -- ---- what is there in one is there in the other, where texts and objects are
 
-module _ {S T : Type 0} (c : Config S) (d : Config T) (texts : (id : TextId) → Has c.heap.texts id → Has d.heap.texts id) (names : (n : Name) → HasName c n → HasName d n) (objects : (o : ObjId) → HasObject c o → HasObject d o) where
+module _ {S T : Type 0} (c : Config S) (d : Config T) (texts : (id : TextId) → Has c.heap.texts id → Has d.heap.texts id)
+    (names : (n : Name) → HasName c n → HasName d n) (objects : (o : ObjId) → HasObject c o → HasObject d o) where
   value_across : (v : Value) → HasValue c v → HasValue d v
   value_across values.Undefined h = tt
   value_across values.Null h = tt
@@ -150,7 +151,17 @@ module _ {S : Type 0} (meaning : S → Meaning) (c : Config S) where
   }
 
   pub sound_to : Sound meaning c → Sound itself (meant meaning c)
-  sound_to s = record { base = base_to s.base; thrown = thrown_across c (meant meaning c) (λ id k. k) (λ n k. k) (λ o k. k) c.state s.thrown; running = s.running }
+  sound_to s = record {
+    base = base_to s.base;
+    thrown = thrown_across c (meant meaning c) (λ id k. k) (λ n k. k) (λ o k. k) c.state s.thrown;
+    running =
+        s.running;
+  }
 
   pub sound_from : Sound itself (meant meaning c) → Sound meaning c
-  sound_from s = record { base = base_from s.base; thrown = thrown_across (meant meaning c) c (λ id k. k) (λ n k. k) (λ o k. k) c.state s.thrown; running = s.running }
+  sound_from s = record {
+    base = base_from s.base;
+    thrown = thrown_across (meant meaning c) c (λ id k. k) (λ n k. k) (λ o k. k) c.state s.thrown;
+    running =
+        s.running;
+  }

@@ -26,18 +26,23 @@ use Rattle.wjs_activity.proofs.Turned.{number_is, first_stays, common_turned, pa
 use Rattle.wjs_activity.proofs.Walked.{paused_alone, goes_on_paused}
 
 -- what is known of shared things is known of their equals
-pub common_shared : (c : Config Session) (common : Common) (drawn : ℕ) → Shares c common → IsCommon c.heap.texts c.heap.arena c.units.items (worlds_in c.heap.store.shared) drawn → IsCommon common.texts common.arena common.units.items (worlds_in common.shared) drawn
+pub common_shared : (c : Config Session) (common : Common) (drawn : ℕ) → Shares c common
+    → IsCommon c.heap.texts c.heap.arena c.units.items (worlds_in c.heap.store.shared) drawn
+    → IsCommon common.texts common.arena common.units.items (worlds_in common.shared) drawn
 common_shared c common drawn s h = subst (λ F. IsCommon common.texts common.arena common.units.items F drawn) (sym s.worlds) (
     subst (λ us. IsCommon common.texts common.arena us.items (worlds_in c.heap.store.shared) drawn) (sym s.units) (
     subst (λ m. IsCommon common.texts m c.units.items (worlds_in c.heap.store.shared) drawn) (sym s.arena_is) (
     subst (λ t. IsCommon t c.heap.arena c.units.items (worlds_in c.heap.store.shared) drawn) (sym s.texts) h)))
 
-module _ (trees : List Tree) (tree budget drawn steps took : ℕ) (old new : Config Session) (is_live : IsLive session_meaning trees tree budget drawn old) (w : Walks session_meaning steps took old new) where
+module _ (trees : List Tree) (tree budget drawn steps took : ℕ) (old new : Config Session) (is_live : IsLive session_meaning trees tree budget drawn old)
+    (w : Walks session_meaning steps took old new) where
   pub common_walked : IsCommon new.heap.texts new.heap.arena new.units.items (worlds_in new.heap.store.shared) drawn
   common_walked = common_turned old new is_live.sound.base w.sound.base w.stays drawn is_live.owner is_live.common
 
-  module _ (running : new.state ≡ states.Running) (common : Common) (rest : Rested) (shares : Shares new common) (stands : RestsOver (worlds_in common.shared) rest.resting) (number : rest.resting.world ≡ new.heap.store.world)
-      (same : resting common rest ≡ meant session_meaning new) (owner : rest.owner ≡ new.owner) (left : rest.left ≡ new.left) (apart : rest.apart ≡ new.apart) where
+  module _ (running : new.state ≡ states.Running) (common : Common) (rest : Rested) (shares : Shares new common)
+      (stands : RestsOver (worlds_in common.shared) rest.resting) (number : rest.resting.world ≡ new.heap.store.world)
+      (same : resting common rest ≡ meant session_meaning new) (owner : rest.owner ≡ new.owner) (left : rest.left ≡ new.left)
+      (apart : rest.apart ≡ new.apart) where
     pause : RestIs session_meaning old new (λ n. took + n) × ((took ≡ steps) × (0 < new.left))
     pause = goes_on_paused session_meaning steps took old new w running
 
@@ -54,7 +59,8 @@ module _ (trees : List Tree) (tree budget drawn steps took : ℕ) (old new : Con
       left = subst (λ k. 0 < k) (sym left) (pause.1).1;
       sound = subst (Sound itself) (sym same) (sound_to session_meaning new w.sound);
       taken = is_live.taken + took;
-      trying = subst (IsTrying trees tree budget (is_live.taken + took)) (sym same) (paused_alone session_meaning trees tree budget is_live.taken steps took old new is_live.sound is_live.trying w pause.0);
+      trying = subst (IsTrying trees tree budget (is_live.taken + took)) (sym same)
+          (paused_alone session_meaning trees tree budget is_live.taken steps took old new is_live.sound is_live.trying w pause.0);
     }
 
     pub rests_turned : IsTurned session_meaning trees tree budget drawn old common (came.Rests rest)
@@ -66,7 +72,8 @@ module _ (trees : List Tree) (tree budget drawn steps took : ℕ) (old new : Con
     }
 
 -- where a walk pauses fewer steps are left than there were, and a walk that may take them all doesn't pause
-pub less_left : (steps took left : ℕ) (old new : Config Session) → Walks session_meaning steps took old new → new.state ≡ states.Running → left ≡ new.left → 1 ≤ steps → left < old.left
+pub less_left : (steps took left : ℕ) (old new : Config Session) → Walks session_meaning steps took old new → new.state ≡ states.Running → left ≡ new.left
+    → 1 ≤ steps → left < old.left
 less_left steps took left old new w running same some =
     let l : old.left ≡ took + new.left = w.left in
     let all : took ≡ steps = ((goes_on_paused session_meaning steps took old new w running).1).0 in

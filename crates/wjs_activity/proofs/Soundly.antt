@@ -62,14 +62,17 @@ value_known t arena table (values.Number x) h = refl
 value_known t arena table (values.Text id) h = text_known t table id h
 value_known t arena table (values.Object o) h = refl
 
-pub view_known : (t : Table) (arena : Objects) (v : View) → IsTable t → ((s : Slot) (x : Value) → map.get v s ≡ Some x → HasSlot t arena s × HasValue t arena x) → KnowsView t v
+pub view_known : (t : Table) (arena : Objects) (v : View) → IsTable t
+    → ((s : Slot) (x : Value) → map.get v s ≡ Some x → HasSlot t arena s × HasValue t arena x) → KnowsView t v
 view_known t arena v table there s x at = let h = there s x at in (name_known t table s.name (h.0).name, value_known t arena table x h.1)
 
 -- ---- the configuration of a resting try, over other worlds
 
-module _ (old : Config Meaning) (heap : Heap Meaning) (F F' : Worlds) (r : Resting) (q drawn : ℕ) (store_is : old.heap.store ≡ resumed F r) (now_is : heap.store ≡ resumed F' r) (sound : Sound itself old) (running : old.state ≡ states.Running)
+module _ (old : Config Meaning) (heap : Heap Meaning) (F F' : Worlds) (r : Resting) (q drawn : ℕ) (store_is : old.heap.store ≡ resumed F r)
+    (now_is : heap.store ≡ resumed F' r) (sound : Sound itself old) (running : old.state ≡ states.Running)
     (stands : Rests F r) (returns : Returns F F' r.world) (common : IsCommon heap.texts heap.arena old.units.items F' drawn) (none : old.apart.items ≡ [])
-    (grows : Grows old.heap.texts heap.texts) (keeps : Keeps old.heap.arena heap.arena) (made : (o : ObjId) (e : Entry) → map.get old.heap.arena o ≡ None → map.get heap.arena o ≡ Some e → o.owner ≡ q) (differ : ¬ (old.owner ≡ q)) where
+    (grows : Grows old.heap.texts heap.texts) (keeps : Keeps old.heap.arena heap.arena)
+    (made : (o : ObjId) (e : Entry) → map.get old.heap.arena o ≡ None → map.get heap.arena o ≡ Some e → o.owner ≡ q) (differ : ¬ (old.owner ≡ q)) where
   abbrev G : Worlds
   G = worlds_in r.inner
 
@@ -107,18 +110,23 @@ module _ (old : Config Meaning) (heap : Heap Meaning) (F F' : Worlds) (r : Resti
     table = common.table;
     arena = common.arena_is;
     objects = common.objects;
-    slots = λ i s v at. either_held (world_at F' r.world) G (first_copy F') old.heap.store.own i s v (HasSlot heap.texts heap.arena s × HasValue heap.texts heap.arena v)
-        (λ h. slot_later old.heap.texts heap.texts grows old.heap.arena heap.arena keeps s v (sound.base.heap.slots i s v (ap (λ H. content_at H i s) (sym was_is) ∙ h)))
+    slots = λ i s v at. either_held (world_at F' r.world) G (first_copy F') old.heap.store.own i s v
+        (HasSlot heap.texts heap.arena s × HasValue heap.texts heap.arena v)
+        (λ h. slot_later old.heap.texts heap.texts grows old.heap.arena heap.arena keeps s v
+        (sound.base.heap.slots i s v (ap (λ H. content_at H i s) (sym was_is) ∙ h)))
         (λ h. common.slots s v h)
         (ap (λ H. content_at H i s) (sym now_are) ∙ at);
   }
 
   marks_known : KnowsWorlds heap.texts (worlds heap.store)
   marks_known =
-      let before : KnowsWorlds heap.texts was = subst (KnowsWorlds heap.texts) (sym was_is) (worlds_grow old.heap.texts heap.texts grows (worlds old.heap.store) sound.base.marks).0 in
-      subst (KnowsWorlds heap.texts) (sym now_are) (all_known (world_at F' r.world) G (first_copy F') old.heap.store.own heap.texts (view_known heap.texts heap.arena (first_copy F') common.table common.slots) G before)
+      let before : KnowsWorlds heap.texts was = subst (KnowsWorlds heap.texts) (sym was_is)
+      (worlds_grow old.heap.texts heap.texts grows (worlds old.heap.store) sound.base.marks).0 in
+      subst (KnowsWorlds heap.texts) (sym now_are) (all_known (world_at F' r.world) G (first_copy F') old.heap.store.own heap.texts
+      (view_known heap.texts heap.arena (first_copy F') common.table common.slots) G before)
 
-  own_worlds : (o : ObjId) (e : Entry) (w : WorldId) → map.get heap.arena o ≡ Some e → e.object.world ≡ Some w → w.owner ≡ old.owner → IsTrue (has_world (worlds heap.store) w)
+  own_worlds : (o : ObjId) (e : Entry) (w : WorldId) → map.get heap.arena o ≡ Some e → e.object.world ≡ Some w → w.owner ≡ old.owner
+      → IsTrue (has_world (worlds heap.store) w)
   own_worlds o e w at is same = by (map.get old.heap.arena o) refl
     where
       by : (x : Option Entry) → map.get old.heap.arena o ≡ x → IsTrue (has_world (worlds heap.store) w)
@@ -138,7 +146,9 @@ module _ (old : Config Meaning) (heap : Heap Meaning) (F F' : Worlds) (r : Resti
 
   pub others_keep_sound : Sound itself (record old { heap = heap })
   others_keep_sound = record {
-    base = base_on itself old heap grows keeps (λ w h. worlds_same w ∙ h) sound.base is_heap marks_known (subst (KnowsTold heap.texts) (sym told_same) (told_stays old.heap.texts heap.texts grows old.heap.store.told sound.base.told)) (ap (λ (m : Meaning). not m.spent) now_is) own_worlds apart_stays;
+    base = base_on itself old heap grows keeps (λ w h. worlds_same w ∙ h) sound.base is_heap marks_known
+        (subst (KnowsTold heap.texts) (sym told_same) (told_stays old.heap.texts heap.texts grows old.heap.store.told sound.base.told))
+        (ap (λ (m : Meaning). not m.spent) now_is) own_worlds apart_stays;
     thrown = subst (HasThrown (record old { heap = heap })) (sym running) tt;
     running = sound.running;
   }

@@ -46,7 +46,8 @@ holds_later t u old new g known keeps o e at = by (map.get old o) refl
     by (Some x) h = object_found u new o ∙ ap (option_map (entry_in u)) (keeps o x h) ∙ sym (object_found u old o ∙ ap (option_map (entry_in u)) h) ∙ found
 
 -- the worlds that objects stand for are their owners', by content too
-pub worlds_own_in : (t : Table) (objects : Objects) → ((o : ObjId) (e : Placed) (w : WorldId) → map.get objects o ≡ Some e → e.object.world ≡ Some w → w.owner ≡ o.owner) → WorldsOwn (arena_in t objects)
+pub worlds_own_in : (t : Table) (objects : Objects) → ((o : ObjId) (e : Placed) (w : WorldId) → map.get objects o ≡ Some e → e.object.world ≡ Some w
+    → w.owner ≡ o.owner) → WorldsOwn (arena_in t objects)
 worlds_own_in t objects h o e w at is = by (map.get objects o) refl
   where
     by : (r : Option Placed) → map.get objects o ≡ r → w.owner ≡ o.owner
@@ -61,7 +62,8 @@ pub count_push : {A : Type 0} (p : A → Bool) (xs : List A) (x : A) → count_b
 count_push p xs x = sum_by_push (λ y. cond (p y) 1 0) xs x
 
 -- a number that none had, one more has it
-pub one_more : (number : End → ℕ) (ends : List End) (e : End) → count_by (λ (x : End). number x == number e) ends ≡ 0 → (k : ℕ) → count_by (λ (x : End). number x == k) ends ≤ 1 → count_by (λ (x : End). number x == k) (ends ++ e ∷ []) ≤ 1
+pub one_more : (number : End → ℕ) (ends : List End) (e : End) → count_by (λ (x : End). number x == number e) ends ≡ 0 → (k : ℕ)
+    → count_by (λ (x : End). number x == k) ends ≤ 1 → count_by (λ (x : End). number x == k) (ends ++ e ∷ []) ≤ 1
 one_more number ends e unused k few = by (number e == k) refl
   where
     count : count_by (λ (x : End). number x == k) (ends ++ e ∷ []) ≡ count_by (λ (x : End). number x == k) ends + cond (number e == k) 1 0
@@ -71,16 +73,19 @@ one_more number ends e unused k few = by (number e == k) refl
     by true h =
         let is : number e ≡ k = eqb-true (number e) k h in
         let none : count_by (λ (x : End). number x == k) ends ≡ 0 = subst (λ j. count_by (λ (x : End). number x == j) ends ≡ 0) is unused in
-        let all : count_by (λ (x : End). number x == k) (ends ++ e ∷ []) ≡ count_by (λ (x : End). number x == k) ends + 1 = count ∙ ap (λ b. count_by (λ (x : End). number x == k) ends + cond b 1 0) h in
+        let all : count_by (λ (x : End). number x == k) (ends ++ e ∷ []) ≡ count_by (λ (x : End). number x == k) ends + 1 = count
+        ∙ ap (λ b. count_by (λ (x : End). number x == k) ends + cond b 1 0) h in
         omega (arith, all, none)
     by false h =
-        let all : count_by (λ (x : End). number x == k) (ends ++ e ∷ []) ≡ count_by (λ (x : End). number x == k) ends + 0 = count ∙ ap (λ b. count_by (λ (x : End). number x == k) ends + cond b 1 0) h in
+        let all : count_by (λ (x : End). number x == k) (ends ++ e ∷ []) ≡ count_by (λ (x : End). number x == k) ends + 0 = count
+        ∙ ap (λ b. count_by (λ (x : End). number x == k) ends + cond b 1 0) h in
         omega (arith, all, few)
 
 -- ---- a turn without an end
 
 module _ (library : Option Tree) (parts : List Tree) (budget : ℕ) (copy : Copy) (arena : Arena) (ends : List End) where
-  pub so_far_stays : (now now' : Copy) (objects objects' : Arena) → SoFar library parts budget copy arena now objects ends → now ≡ now' → Holds objects objects' → SoFar library parts budget copy arena now' objects' ends
+  pub so_far_stays : (now now' : Copy) (objects objects' : Arena) → SoFar library parts budget copy arena now objects ends → now ≡ now'
+      → Holds objects objects' → SoFar library parts budget copy arena now' objects' ends
   so_far_stays now now' objects objects' s same more = record {
     grow = s.grow;
     left = holds_then (left_by library parts budget copy arena (runs_of ends)) objects objects' s.left more;
@@ -95,9 +100,12 @@ module _ (library : Option Tree) (parts : List Tree) (budget : ℕ) (copy : Copy
 
   -- ---- an end
 
-  module _ (now : Copy) (objects : Arena) (s : SoFar library parts budget copy arena now objects ends) (activity owner tries drawn : ℕ) (before : Copy) (common : Common) (told : Told) (output : List ℕ)
-      (e : EndsAlone session_meaning (trees_of library parts) (tree_number library activity) budget drawn owner before common told output) (same : before ≡ now) (more : Holds objects (arena_in common.texts common.arena)) (own : WorldsOwn (arena_in common.texts common.arena))
-      (few : (1 ≤ tries) × (tries ≤ 4)) (number : (1 ≤ activity) × (activity ≤ length parts)) (some : 1 ≤ owner) (unused : times_owned owner ends ≡ 0) (fresh : times_ended activity ends ≡ 0) where
+  module _ (now : Copy) (objects : Arena) (s : SoFar library parts budget copy arena now objects ends) (activity owner tries drawn : ℕ) (before : Copy)
+      (common : Common) (told : Told) (output : List ℕ)
+      (e : EndsAlone session_meaning (trees_of library parts) (tree_number library activity) budget drawn owner before common told output)
+      (same : before ≡ now) (more : Holds objects (arena_in common.texts common.arena)) (own : WorldsOwn (arena_in common.texts common.arena))
+      (few : (1 ≤ tries) × (tries ≤ 4)) (number : (1 ≤ activity) × (activity ≤ length parts)) (some : 1 ≤ owner) (unused : times_owned owner ends ≡ 0)
+      (fresh : times_ended activity ends ≡ 0) where
     abbrev run : Run
     run = record { activity = activity; owner = owner; objects = arena_in common.texts common.arena }
 
@@ -129,9 +137,13 @@ module _ (library : Option Tree) (parts : List Tree) (budget : ℕ) (copy : Copy
 
     pub so_far_then : SoFar library parts budget copy arena (first_in common) (arena_in common.texts common.arena) (ends ++ end ∷ [])
     so_far_then = record {
-      grow = subst (ObjectsGrow library parts budget copy arena) (sym (runs_then ends end)) (grow_then library parts budget copy arena (runs_of ends) run s.grow (holds_then (left_by library parts budget copy arena (runs_of ends)) objects (arena_in common.texts common.arena) s.left more) (λ o x w none at is. own o x w at is));
+      grow = subst (ObjectsGrow library parts budget copy arena) (sym (runs_then ends end))
+          (grow_then library parts budget copy arena (runs_of ends) run s.grow
+          (holds_then (left_by library parts budget copy arena (runs_of ends)) objects (arena_in common.texts common.arena) s.left more)
+          (λ o x w none at is. own o x w at is));
       left = holds_same (left_by library parts budget copy arena (runs_of (ends ++ end ∷ []))) (arena_in common.texts common.arena)
-          (ap (left_by library parts budget copy arena) (runs_then ends end) ∙ left_then library parts budget copy arena (runs_of ends) run ∙ ap (λ r. (r.1).arena) run_same ∙ left_is);
+          (ap (left_by library parts budget copy arena) (runs_then ends end) ∙ left_then library parts budget copy arena (runs_of ends) run
+          ∙ ap (λ r. (r.1).arena) run_same ∙ left_is);
       outcomes =
           told_then ends end
           ∙ ap (λ (l : List Outcome). l ++ end.outcome ∷ []) s.outcomes
@@ -148,7 +160,8 @@ module _ (library : Option Tree) (parts : List Tree) (budget : ℕ) (copy : Copy
       owners = owner_once;
       none_first =
           let none : times_owned 0 ends ≡ 0 = s.none_first in
-          let all : times_owned 0 (ends ++ end ∷ []) ≡ times_owned 0 ends + 0 = count_push (λ (x : End). x.run.owner == 0) ends end ∙ ap (λ b. times_owned 0 ends + cond b 1 0) not_first in
+          let all : times_owned 0 (ends ++ end ∷ []) ≡ times_owned 0 ends + 0 = count_push (λ (x : End). x.run.owner == 0) ends end
+          ∙ ap (λ b. times_owned 0 ends + cond b 1 0) not_first in
           omega (arith, all, none);
       numbers = All-push (λ (x : End). (1 ≤ x.run.activity) × (x.run.activity ≤ length parts)) ends end s.numbers number;
     }

@@ -49,7 +49,8 @@ none_drawn (e ∷ ends) drawn q lt h = by (e.run.owner == q) refl (none_drawn en
     by : (b : Bool) → (e.run.owner == q) ≡ b → times_owned q ends ≡ 0 → times_owned q (e ∷ ends) ≡ 0
     by true k none = let is = eqb-true e.run.owner q k in let le = All-head (λ (x : End). x.run.owner ≤ drawn) e ends h in absurd (omega (arith, is, le, lt))
     by false k none =
-        let all : times_owned q (e ∷ ends) ≡ 0 + times_owned q ends = sum_by-cons (λ (x : End). cond (x.run.owner == q) 1 0) e ends ∙ ap (λ b. cond b 1 0 + times_owned q ends) k in
+        let all : times_owned q (e ∷ ends) ≡ 0 + times_owned q ends = sum_by-cons (λ (x : End). cond (x.run.owner == q) 1 0) e ends
+        ∙ ap (λ b. cond b 1 0 + times_owned q ends) k in
         omega (arith, all, none)
 
 -- a try that goes on or has begun over what a play shares: by whom, and with how many owners drawn
@@ -59,8 +60,10 @@ pub record Taken (trees : List Tree) (tree budget q drawn : ℕ) (shared : Commo
   pub holds : first_copy (worlds_in c.heap.store.shared) ≡ first_copy (worlds_in shared.shared)
   pub live : IsLive session_meaning trees tree budget drawn c
 
-module _ (library : Option Tree) (parts : List Tree) (budget : ℕ) (copy : Copy) (arena : Arena) (p : Play) (ends : List End) (is : IsPlay library parts budget copy arena p ends) (activity q drawn : ℕ) (c : Config Session) (next : Common) (came : Came)
-    (taken : Taken (trees_of library parts) (tree_number library activity) budget q drawn p.common c) (turned : IsTurned session_meaning (trees_of library parts) (tree_number library activity) budget drawn c next came) where
+module _ (library : Option Tree) (parts : List Tree) (budget : ℕ) (copy : Copy) (arena : Arena) (p : Play) (ends : List End)
+    (is : IsPlay library parts budget copy arena p ends) (activity q drawn : ℕ) (c : Config Session) (next : Common) (came : Came)
+    (taken : Taken (trees_of library parts) (tree_number library activity) budget q drawn p.common c)
+    (turned : IsTurned session_meaning (trees_of library parts) (tree_number library activity) budget drawn c next came) where
   -- what the others see of it
   pub passes_all : Passes q p.common next
   passes_all = passes_then q p.common (common_of c) next taken.start (subst (λ k. Passes k (common_of c) next) taken.owner turned.leaves)
@@ -69,7 +72,8 @@ module _ (library : Option Tree) (parts : List Tree) (budget : ℕ) (copy : Copy
   pub held_before : held_in next.texts (first_copy (worlds_in c.heap.store.shared)) ≡ first_in p.common
   held_before =
       ap (held_in next.texts) taken.holds
-      ∙ held_grows p.common.texts next.texts (first_copy (worlds_in p.common.shared)) passes_all.texts (view_known p.common.texts p.common.arena (first_copy (worlds_in p.common.shared)) is.common.table is.common.slots)
+      ∙ held_grows p.common.texts next.texts (first_copy (worlds_in p.common.shared)) passes_all.texts
+      (view_known p.common.texts p.common.arena (first_copy (worlds_in p.common.shared)) is.common.table is.common.slots)
 
   -- what the turn came to, from what the first world held
   pub came_to : CameTo session_meaning (trees_of library parts) (tree_number library activity) budget drawn q (first_in p.common) next came
@@ -80,16 +84,20 @@ module _ (library : Option Tree) (parts : List Tree) (budget : ℕ) (copy : Copy
 -- ---- how it was taken
 
 -- a try that has begun
-pub taken_begun : (trees : List Tree) (tree budget q part drawn : ℕ) (shared : Common) (c : Config Session) → Begun session_meaning q part budget shared c → part ≡ tree → IsCommon shared.texts shared.arena shared.units.items (worlds_in shared.shared) drawn → each (unit_in shared.texts) shared.units.items ≡ trees → Taken trees tree budget q q shared c
+pub taken_begun : (trees : List Tree) (tree budget q part drawn : ℕ) (shared : Common) (c : Config Session) → Begun session_meaning q part budget shared c
+    → part ≡ tree → IsCommon shared.texts shared.arena shared.units.items (worlds_in shared.shared) drawn
+    → each (unit_in shared.texts) shared.units.items ≡ trees → Taken trees tree budget q q shared c
 taken_begun trees tree budget q part drawn shared c b number known are = record {
   start = b.leaves;
   owner = b.owner_is;
   holds = b.holds;
-  live = subst (λ k. IsLive session_meaning trees k budget q c) number (subst (λ ts. IsLive session_meaning ts part budget q c) (trees_pass q shared (common_of c) drawn known b.leaves ∙ are) b.live);
+  live = subst (λ k. IsLive session_meaning trees k budget q c) number
+      (subst (λ ts. IsLive session_meaning ts part budget q c) (trees_pass q shared (common_of c) drawn known b.leaves ∙ are) b.live);
 }
 
 -- a try that goes on where it rested
-module _ (trees : List Tree) (tree budget drawn : ℕ) (shared : Common) (rest : Rested) (c : Config Session) (g : GoesOnAs session_meaning shared rest c) (is : IsResting trees tree budget drawn shared rest) (known : IsCommon shared.texts shared.arena shared.units.items (worlds_in shared.shared) drawn) where
+module _ (trees : List Tree) (tree budget drawn : ℕ) (shared : Common) (rest : Rested) (c : Config Session) (g : GoesOnAs session_meaning shared rest c)
+    (is : IsResting trees tree budget drawn shared rest) (known : IsCommon shared.texts shared.arena shared.units.items (worlds_in shared.shared) drawn) where
   abbrev F : Worlds
   F = worlds_in shared.shared
 

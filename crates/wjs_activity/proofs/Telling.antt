@@ -47,7 +47,8 @@ told_threw Committed shown a b h e = absurd h
 told_threw (Threw text) shown a b h e = e ∙ ap (λ (l : List ℕ). a ++ codes " threw " ++ l) h ∙ append_assoc a (codes " threw ") (utf8_of text)
 told_threw Spent shown a b h e = absurd h
 
-pub line_made : (a number outcome word tries end t0 t1 t2 t3 t4 : List ℕ) → t1 ≡ t0 ++ a ++ number → t2 ≡ t1 ++ outcome → t3 ≡ t2 ++ word ++ tries → t4 ≡ t3 ++ end → t4 ≡ t0 ++ (a ++ number ++ outcome ++ word ++ tries ++ end)
+pub line_made : (a number outcome word tries end t0 t1 t2 t3 t4 : List ℕ) → t1 ≡ t0 ++ a ++ number → t2 ≡ t1 ++ outcome → t3 ≡ t2 ++ word ++ tries
+    → t4 ≡ t3 ++ end → t4 ≡ t0 ++ (a ++ number ++ outcome ++ word ++ tries ++ end)
 line_made a number outcome word tries end t0 t1 t2 t3 t4 e1 e2 e3 e4 =
     e4 ∙ ap (λ (l : List ℕ). l ++ end) (e3 ∙ ap (λ (l : List ℕ). l ++ word ++ tries) (e2 ∙ ap (λ (l : List ℕ). l ++ outcome) e1)) ∙ regroup
   where
@@ -55,7 +56,8 @@ line_made a number outcome word tries end t0 t1 t2 t3 t4 e1 e2 e3 e4 =
     regroup = simp append_assoc
 
 -- the line of an end
-pub line_told : (x : Ended) (e : End) (t0 t1 t2 t3 t4 : List ℕ) → TellsEnd x e → t1 ≡ t0 ++ codes "activity " ++ decimal x.activity → t2 ≡ t1 ++ outcome_text e.outcome → t3 ≡ t2 ++ codes " tries " ++ decimal x.tries → t4 ≡ t3 ++ 10 ∷ [] → t4 ≡ t0 ++ line_of e
+pub line_told : (x : Ended) (e : End) (t0 t1 t2 t3 t4 : List ℕ) → TellsEnd x e → t1 ≡ t0 ++ codes "activity " ++ decimal x.activity
+    → t2 ≡ t1 ++ outcome_text e.outcome → t3 ≡ t2 ++ codes " tries " ++ decimal x.tries → t4 ≡ t3 ++ 10 ∷ [] → t4 ≡ t0 ++ line_of e
 line_told x e t0 t1 t2 t3 t4 tells e1 e2 e3 e4 =
     line_made (codes "activity ") (decimal x.activity) (outcome_text e.outcome) (codes " tries ") (decimal x.tries) (10 ∷ []) t0 t1 t2 t3 t4 e1 e2 e3 e4
     ∙ (λ i. t0 ++ (codes "activity " ++ decimal (tells.activity i) ++ outcome_text e.outcome ++ codes " tries " ++ decimal (tells.tries i) ++ 10 ∷ []))
@@ -90,16 +92,23 @@ line_if true e rest h = absurd (cc)
 line_if false e rest h = refl
 
 -- an end that is of another activity is passed over
-pub line_behind : (xs : List Ended) (es : List End) (i : ℕ) (x : Ended) (activity : ℕ) → slice_get xs i ≡ Some x → TellsEnds xs es → ¬ (x.activity ≡ activity) → line_at (drop i es) activity ≡ line_at (drop (i + 1) es) activity
+pub line_behind : (xs : List Ended) (es : List End) (i : ℕ) (x : Ended) (activity : ℕ) → slice_get xs i ≡ Some x → TellsEnds xs es → ¬ (x.activity ≡ activity)
+    → line_at (drop i es) activity ≡ line_at (drop (i + 1) es) activity
 line_behind xs es i x activity at h apart =
     let t = told_at xs es i x at h in
     ap (λ (l : List End). line_at l activity) t.there
-    ∙ line_if (t.end.run.activity == activity) t.end (line_at (drop (i + 1) es) activity) (ne_eqb t.end.run.activity activity (λ e. apart ((t.tells).activity ∙ e)))
+    ∙ line_if (t.end.run.activity == activity) t.end (line_at (drop (i + 1) es) activity)
+    (ne_eqb t.end.run.activity activity (λ e. apart ((t.tells).activity ∙ e)))
 
-pub line_here : (xs : List Ended) (es : List End) (i : ℕ) (x : Ended) (activity : ℕ) → slice_get xs i ≡ Some x → TellsEnds xs es → x.activity ≡ activity → (e : End) × (TellsEnd x e) × (line_at (drop i es) activity ≡ line_of e)
+pub line_here : (xs : List Ended) (es : List End) (i : ℕ) (x : Ended) (activity : ℕ) → slice_get xs i ≡ Some x → TellsEnds xs es → x.activity ≡ activity
+    → (e : End) × (TellsEnd x e) × (line_at (drop i es) activity ≡ line_of e)
 line_here xs es i x activity at h same =
-    let t = told_at xs es i x at h in
-    (t.end, t.tells, ap (λ (l : List End). line_at l activity) t.there ∙ ap (λ b. cond b (line_of t.end) (line_at (drop (i + 1) es) activity)) (eq-eqb t.end.run.activity activity (sym (t.tells).activity ∙ same)))
+    let t = told_at xs es i x at h in (
+      t.end,
+      t.tells,
+      ap (λ (l : List End). line_at l activity) t.there
+          ∙ ap (λ b. cond b (line_of t.end) (line_at (drop (i + 1) es) activity)) (eq-eqb t.end.run.activity activity (sym (t.tells).activity ∙ same)),
+    )
 
 drop_past : (es : List End) (i : ℕ) → length es ≤ i → drop i es ≡ []
 drop_past [] zero h = refl

@@ -55,14 +55,17 @@ module _ (c : Config Session) (base : Base session_meaning c) where
       let F = worlds_in c.heap.store.shared in
       let G = worlds_in c.heap.store.inner in
       let i = c.heap.store.world in
-      let there : HasWorld session_meaning c i = has_full (world_at F i) G (owned (world_at F i) (first_copy F)) i ∙ first_there G i kept_now.inner kept_now.first in
+      let there : HasWorld session_meaning c i = has_full (world_at F i) G (owned (world_at F i) (first_copy F)) i
+      ∙ first_there G i kept_now.inner kept_now.first in
       λ k. record { owner = base.worlds_own i there k; serial = (numbers F i G kept_now).0 k }
 
 -- ---- what is shared, behind what one owner did
 
-module _ {S : Type 0} (meaning : S → Meaning) (c : Config S) (base : Base meaning c) (old : Table) (arena : Objects) (units : List Program) (F F' : Worlds) (j : WorldId) (owner drawn : ℕ) (common : IsCommon old arena units F drawn) (within : owner ≤ drawn)
+module _ {S : Type 0} (meaning : S → Meaning) (c : Config S) (base : Base meaning c) (old : Table) (arena : Objects) (units : List Program) (F F' : Worlds)
+    (j : WorldId) (owner drawn : ℕ) (common : IsCommon old arena units F drawn) (within : owner ≤ drawn)
     (made : (o : ObjId) (e : Entry) → map.get arena o ≡ None → map.get c.heap.arena o ≡ Some e → o.owner ≡ owner)
-    (reached : IsReached F') (first : first_of F' ≡ first_of F) (there : (d : WorldId) → same_world d j ≡ false → has_world F' d ≡ has_world F d) (number : j.owner ≡ owner)
+    (reached : IsReached F') (first : first_of F' ≡ first_of F) (there : (d : WorldId) → same_world d j ≡ false → has_world F' d ≡ has_world F d)
+    (number : j.owner ≡ owner)
     (slots : (s : Slot) (v : Value) → map.get (first_copy F') s ≡ Some v → HasSlot c.heap.texts c.heap.arena s × HasValue c.heap.texts c.heap.arena v) where
   owner_of : (o : ObjId) → IsTrue (has c.heap.arena o) → o.owner ≤ drawn
   owner_of o h = by (map.get arena o) refl
@@ -116,15 +119,20 @@ module _ (old new : Config Session) (base : Base session_meaning old) (base' : B
   around_same = ap (around_of F') (sym same_number) ∙ stays.around
 
   both : Leaves F j F' × (first_copy F' ≡ first_copy F)
-  both = turns F F' j (worlds_in old.heap.store.inner) (worlds_in new.heap.store.inner) (kept_now old base) (subst (λ i. IsSession F' i (worlds_in new.heap.store.inner)) same_number (kept_now new base')) around_same
+  both = turns F F' j (worlds_in old.heap.store.inner) (worlds_in new.heap.store.inner) (kept_now old base)
+      (subst (λ i. IsSession F' i (worlds_in new.heap.store.inner)) same_number (kept_now new base')) around_same
 
   pub first_stays : first_copy F' ≡ first_copy F
   first_stays = both.1
 
-  pub common_turned : (drawn : ℕ) → old.owner ≤ drawn → IsCommon old.heap.texts old.heap.arena old.units.items F drawn → IsCommon new.heap.texts new.heap.arena new.units.items F' drawn
-  common_turned drawn within common = common_after session_meaning new base' old.heap.texts old.heap.arena old.units.items F F' j old.owner drawn common within stays.made (kept_now new base').shared (both.0).first (both.0).there
+  pub common_turned : (drawn : ℕ) → old.owner ≤ drawn → IsCommon old.heap.texts old.heap.arena old.units.items F drawn
+      → IsCommon new.heap.texts new.heap.arena new.units.items F' drawn
+  common_turned drawn within common =
+      common_after session_meaning new base' old.heap.texts old.heap.arena old.units.items F F' j old.owner drawn common within stays.made
+      (kept_now new base').shared (both.0).first (both.0).there
       (ap (λ (z : WorldId). z.owner) (number_is old base))
-      (λ s v at. slot_later old.heap.texts new.heap.texts stays.texts old.heap.arena new.heap.arena stays.objects s v (common.slots s v (ap (λ m. map.get m s) (sym first_stays) ∙ at)))
+      (λ s v at. slot_later old.heap.texts new.heap.texts stays.texts old.heap.arena new.heap.arena stays.objects s v
+      (common.slots s v (ap (λ m. map.get m s) (sym first_stays) ∙ at)))
 
   -- as the others see it
   pub passes_turned : (common : Common) → Shares new common → Passes old.owner (common_of old) common
@@ -146,7 +154,8 @@ passes_then owner a b c p r = record {
   made = λ o e none at. by o e none at (map.get b.arena o) refl;
   units = r.units ∙ p.units;
   first = r.first ∙ p.first;
-  returns = λ i e child. let one = p.returns i e child in returns_compose.1 (worlds_in a.shared) (worlds_in b.shared) (worlds_in c.shared) i one (r.returns i e one.child);
+  returns = λ i e child. let one = p.returns i e child in returns_compose.1 (worlds_in a.shared) (worlds_in b.shared) (worlds_in c.shared) i one
+      (r.returns i e one.child);
 }
   where
     by : (o : ObjId) (e : Entry) → map.get a.arena o ≡ None → map.get c.arena o ≡ Some e → (x : Option Entry) → map.get b.arena o ≡ x → o.owner ≡ owner

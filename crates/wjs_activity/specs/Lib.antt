@@ -5,6 +5,8 @@ pub mod Common
 pub mod Passing
 pub mod Resting
 pub mod Turning
+pub mod Exact
+pub mod Exactly
 pub mod Noting
 pub mod SoFar
 pub mod Rounds

@@ -64,7 +64,8 @@ resting common rest = record {
 
 -- ---- tries that have not begun
 
--- what a session of an owner would mean that began over these worlds: its world alone, which holds the view; its own view is what the first world holds, and it has told nothing
+-- what a session of an owner would mean that began over these worlds: its world alone, which holds the view; its own view is what the first
+-- world holds, and it has told nothing
 abbrev pub beginning : Worlds → ℕ → Meaning
 beginning F owner = record {
   full = λ v. holding (world_of owner) v ∷ [];
@@ -76,7 +77,8 @@ beginning F owner = record {
 }
 
 -- a configuration of an owner over what is shared, of which nothing is due yet
-pub record Opens {S : Type 0} (meaning : S → Meaning) (t : Table) (arena : Objects) (units : List Program) (F : Worlds) (owner : ℕ) (c : Config S) : Type 0 where
+pub record Opens {S : Type 0} (meaning : S → Meaning) (t : Table) (arena : Objects) (units : List Program) (F : Worlds) (owner : ℕ)
+    (c : Config S) : Type 0 where
   pub texts : c.heap.texts ≡ t
   pub arena_is : c.heap.arena ≡ arena
   pub store : meaning c.heap.store ≡ beginning F owner

@@ -14,7 +14,8 @@ AllNew list = All (λ a. a ≡ record { dropped = 0; running = None; ended = fal
 abbrev pub Notes : ℕ → ℕ → Came → Activity → List Ended → Activity → List Ended → List ℕ → Type 0
 Notes number owner (came.Rests rest) old ends new ends' output = (new ≡ record old { running = Some rest }) × (ends' ≡ ends) × (output ≡ [])
 Notes number owner came.Drops old ends new ends' output = (new ≡ record old { dropped = old.dropped + 1 }) × (ends' ≡ ends) × (output ≡ [])
-Notes number owner (came.Ends outcome out) old ends new ends' output = (new ≡ record old { ended = true }) × (ends' ≡ ends ++ record { activity = number; owner = owner; outcome = outcome; tries = old.dropped + 1 } ∷ []) × (output ≡ out.items)
+Notes number owner (came.Ends outcome out) old ends new ends' output = (new ≡ record old { ended = true })
+    × (ends' ≡ ends ++ record { activity = number; owner = owner; outcome = outcome; tries = old.dropped + 1 } ∷ []) × (output ≡ out.items)
 
 -- the try that rests was taken out of the activity at a place
 pub record Takes (place : ℕ) (old new : List Activity) (running : Option Rested) : Type 0 where
@@ -24,7 +25,8 @@ pub record Takes (place : ℕ) (old new : List Activity) (running : Option Reste
   pub value : running ≡ was.running
 
 -- what a turn came to is noted of the activity at a place; activities count from 1
-pub record NotesAt (place owner : ℕ) (came : Came) (old : List Activity) (ends : List Ended) (new : List Activity) (ends' : List Ended) (output : List ℕ) : Type 0 where
+pub record NotesAt (place owner : ℕ) (came : Came) (old : List Activity) (ends : List Ended) (new : List Activity) (ends' : List Ended)
+    (output : List ℕ) : Type 0 where
   pub was : Activity
   pub there : slice_get old place ≡ Some was
   pub now : Activity

@@ -20,4 +20,5 @@ pub record Passes (owner : ℕ) (old new : Common) : Type 0 where
   pub made : (o : ObjId) (e : Entry) → map.get old.arena o ≡ None → map.get new.arena o ≡ Some e → o.owner ≡ owner
   pub units : new.units ≡ old.units
   pub first : first_of (worlds_in new.shared) ≡ first_of (worlds_in old.shared)
-  pub returns : (i : WorldId) → same_world i (world_of owner) ≡ false → IsChild (worlds_in old.shared) i → Returns (worlds_in old.shared) (worlds_in new.shared) i
+  pub returns : (i : WorldId) → same_world i (world_of owner) ≡ false → IsChild (worlds_in old.shared) i
+      → Returns (worlds_in old.shared) (worlds_in new.shared) i

@@ -45,7 +45,8 @@ module _ (library : Option Tree) (parts : List Tree) (budget : ℕ) where
 
 -- two tries that rest are of two owners
 abbrev pub Differ : Play → Type 0
-Differ p = (i j : ℕ) (a b : Activity) (r s : Rested) → slice_get p.activities.items i ≡ Some a → slice_get p.activities.items j ≡ Some b → a.running ≡ Some r → b.running ≡ Some s → r.owner ≡ s.owner → i ≡ j
+Differ p = (i j : ℕ) (a b : Activity) (r s : Rested) → slice_get p.activities.items i ≡ Some a → slice_get p.activities.items j ≡ Some b → a.running ≡ Some r
+    → b.running ≡ Some s → r.owner ≡ s.owner → i ≡ j
 
 -- by the library's tree, the parts' and the budget of each try, what the first world held and the objects that were there before the first turn
 module _ (library : Option Tree) (parts : List Tree) (budget : ℕ) (copy : Copy) (arena : Arena) where
@@ -65,7 +66,8 @@ module _ (library : Option Tree) (parts : List Tree) (budget : ℕ) (copy : Copy
   pub record GoesOn (p : Play) (ends : List End) (activity : ℕ) (a : Activity) : Type 0 where
     pub none : times_ended activity ends ≡ 0
     pub few : a.dropped ≤ 3
-    pub rests : IfSome a.running (λ r. IsResting (trees_of library parts) (tree_number library activity) budget p.drawn p.common r × (times_owned r.owner ends ≡ 0))
+    pub rests : IfSome a.running (λ r. IsResting (trees_of library parts) (tree_number library activity) budget p.drawn p.common r
+        × (times_owned r.owner ends ≡ 0))
 
   abbrev pub StandsBy : Bool → Play → List End → ℕ → Activity → Type 0
   StandsBy true p ends activity a = (times_ended activity ends ≡ 1) × (a.running ≡ None)

@@ -18,9 +18,11 @@ use Rattle.wjs_activity.specs.Views.{held_in, KnowsView}
 
 -- by the trees of the play, and the number of the part's
 module _ (trees : List Tree) (tree : ℕ) where
-  -- after so many steps, with some more: the part alone, in the world of the configuration's owner, from what a view holds that is admitted still, and with the objects that are there and further ones
+  -- after so many steps, with some more: the part alone, in the world of the configuration's owner, from what a view holds that is admitted
+  -- still, and with the objects that are there and further ones
   abbrev pub GoesAlone : ℕ → Config Meaning → Type 0
-  GoesAlone taken c = (v : Outside) → Admits itself c v → KnowsView v.texts v.view → (n : ℕ) → alone trees tree c.owner (held_in v.texts v.view) (beside (arena_in c.heap.texts c.heap.arena) v.more) (taken + n) ≡ rest itself c.heap.texts v c n
+  GoesAlone taken c = (v : Outside) → Admits itself c v → KnowsView v.texts v.view → (n : ℕ)
+      → alone trees tree c.owner (held_in v.texts v.view) (beside (arena_in c.heap.texts c.heap.arena) v.more) (taken + n) ≡ rest itself c.heap.texts v c n
 
   -- a table that knows the view knows the worlds under it
   abbrev pub KnowsAll : Config Meaning → Type 0

@@ -1,5 +1,6 @@
 -- What a turn of a try comes to.
 use Rattle.std.specs.Prelude.{◌≡◌, ℕ, ◌<◌, ◌≤◌, true, false, List, [], map as each}
+use Rattle.wjs_base.specs.Text.{Grows}
 use Rattle.wjs_base.specs.Unicode.{utf8_of}
 use Rattle.wjs_store.specs.Meaning.{Meaning}
 use Rattle.wjs_content.specs.Tables.{arena_in}
@@ -56,7 +57,8 @@ module _ (meaning : Session → Meaning) (trees : List Tree) (tree budget drawn 
     pub apart : c.apart.items ≡ []
     pub common : IsCommon c.heap.texts c.heap.arena c.units.items (worlds_in c.heap.store.shared) drawn
 
-  -- the try has ended, and its reads hold: it is its part's run alone, from what the first world held and with the objects that are there; what is printed and what the first world holds now are that run's
+  -- the try has ended, and its reads hold: it is its part's run alone, from what the first world held and with the objects that are there;
+  -- what is printed and what the first world holds now are that run's
   pub record EndsAlone (owner : ℕ) (before : Copy) (common : Common) (outcome : Told) (output : List ℕ) : Type 0 where
     pub tells : Tells outcome (outcome_of owner (alone trees tree owner before (arena_in common.texts common.arena) budget))
     pub prints : output ≡ printed (alone trees tree owner before (arena_in common.texts common.arena) budget)
@@ -84,7 +86,9 @@ module _ (meaning : Session → Meaning) (trees : List Tree) (tree budget drawn 
     pub global : c.global ≡ global_object
     pub world : c.world ≡ world_of c.owner
     pub knows : KnowsAll trees tree (meant meaning c)
-    pub alone : (v : Outside) → Admits meaning c v → KnowsView v.texts v.view → alone trees tree c.owner (held_in v.texts v.view) (beside (arena_in c.heap.texts c.heap.arena) v.more) budget ≡ (ending_in c.heap.texts c.state, state_in meaning c.heap.texts v c)
+    pub alone : (v : Outside) → Admits meaning c v → KnowsView v.texts v.view
+        → alone trees tree c.owner (held_in v.texts v.view) (beside (arena_in c.heap.texts c.heap.arena) v.more) budget
+        ≡ (ending_in c.heap.texts c.state, state_in meaning c.heap.texts v c)
     pub number : c.heap.store.world ≡ world_of c.owner
     pub some : 1 ≤ c.owner
     pub owner : c.owner ≤ drawn
@@ -122,7 +126,11 @@ module _ (meaning : Session → Meaning) where
   -- the activity of a try that agrees has ended
   pub record IsAtEnd (c : Config Session) (common : Common) (came : Came) : Type 0 where
     pub ends : IsEnd came
-    pub turned : (trees : List Tree) (tree budget drawn : ℕ) → IsOver meaning trees tree budget drawn c → AgreesNow c → IsTurned meaning trees tree budget drawn c common came
+    -- texts may have been made, and no object
+    pub texts : Grows c.heap.texts common.texts
+    pub arena_is : common.arena ≡ c.heap.arena
+    pub turned : (trees : List Tree) (tree budget drawn : ℕ) → IsOver meaning trees tree budget drawn c → AgreesNow c
+        → IsTurned meaning trees tree budget drawn c common came
 
   -- a try of an owner has begun, with the whole budget: it is the part of a number, alone; what the first world holds stays, and the try takes it to hold that
   pub record Begun (owner part budget : ℕ) (common : Common) (c : Config Session) : Type 0 where

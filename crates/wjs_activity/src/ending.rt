@@ -5,6 +5,7 @@ ghost use Rattle.wjs_model.specs.Soundness.{Sound};
 ghost use Rattle.wjs_session.specs.Session.{first_copy};
 ghost use Rattle.wjs_session.specs.Stores.{worlds_in};
 ghost use Rattle.wjs_activity.specs.Turning.{IsOver, IsTurned, IsAtEnd, IsRest};
+ghost use Rattle.wjs_activity.specs.Exact.{EndsBy};
 
 use crate::common::Common;
 use crate::ends::{Outcome, Shown};
@@ -22,9 +23,12 @@ use wjs_store::WorldStore;
 pub fn finish(config: Config<Session>) -> Result<(Common, Came), OutOfMemory>
     requires over { ¬ (config.state ≡ State.Running) }
     requires sound { Sound (⟦<Session as WorldStore>⟧.meaning) config }
-    ensures turned { IfOk result (λ r. (trees : List Tree) (tree budget drawn : ℕ) → IsOver (⟦<Session as WorldStore>⟧.meaning) trees tree budget drawn config → IsTurned (⟦<Session as WorldStore>⟧.meaning) trees tree budget drawn config r.0 r.1) }
+    ensures turned { IfOk result (λ r. (trees : List Tree) (tree budget drawn : ℕ) → IsOver (⟦<Session as WorldStore>⟧.meaning) trees tree budget drawn config
+        → IsTurned (⟦<Session as WorldStore>⟧.meaning) trees tree budget drawn config r.0 r.1) }
     ensures awake { IfOk result (λ r. ¬ (IsRest r.1)) }
-    ensures certain { IfOk result (λ r. (⟦<Session as WorldStore>⟧.meaning config.heap.store).own ≡ first_copy (worlds_in config.heap.store.shared) → ¬ (r.1 ≡ Came.Drops)) }
+    ensures certain { IfOk result (λ r. (⟦<Session as WorldStore>⟧.meaning config.heap.store).own ≡ first_copy (worlds_in config.heap.store.shared)
+        → ¬ (r.1 ≡ Came.Drops)) }
+    ensures checked { IfOk result (λ r. EndsBy config r.0 r.1) }
 {
     if !config.heap.store.agrees() {
         return Ok((left_behind(config), Came::Drops));

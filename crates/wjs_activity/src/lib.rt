@@ -2,7 +2,7 @@
 //! ("Worlds: Controlling the Scope of Side Effects", ECOOP 2011).
 //!
 //! What a play prints and leaves is what its parts print and leave when they are run alone, one after another, in the order of their
-//! ends. [`play`](crate::whole::play) says so.
+//! ends; and it is the play that `wjs_alone` defines by its turns. [`play`](crate::whole::play) says so.
 #![tactic(auto)]
 
 mod activities;

@@ -96,7 +96,8 @@ pub fn rest(config: Config<Session>) -> (Common, Rested)
     ensures shares { Shares config result.0 }
     ensures stands { Rests (worlds_in result.0.shared) result.1.resting }
     ensures number { result.1.resting.world ≡ config.heap.store.world }
-    ensures same { config.state ≡ State.Running → config.global ≡ global_object → config.world ≡ world_of config.owner → resting result.0 result.1 ≡ meant (⟦<Session as WorldStore>⟧.meaning) config }
+    ensures same { config.state ≡ State.Running → config.global ≡ global_object → config.world ≡ world_of config.owner
+        → resting result.0 result.1 ≡ meant (⟦<Session as WorldStore>⟧.meaning) config }
     ensures owner { result.1.owner ≡ config.owner }
     ensures left { result.1.left ≡ config.left }
     ensures apart { result.1.apart ≡ config.apart }

@@ -1,5 +1,5 @@
 //! Turns of a play.
-ghost use Rattle.std.specs.Prelude.{◌≡◌, ◌<◌, ◌≤◌, ◌+◌, ◌⊎◌, max, true, false, length, slice_get, All, None, Some, IfSome, MatchOption, IfOk, IfErr};
+ghost use Rattle.std.specs.Prelude.{◌≡◌, ◌<◌, ◌≤◌, ◌+◌, ◌⊎◌, max, true, false, length, slice_get, map, All, None, Some, IfSome, MatchOption, IfOk, IfErr};
 ghost use Rattle.wjs_io.specs.Streams.{stream, Got, Stops};
 ghost use Rattle.wjs_model.specs.Soundness.{Sound};
 ghost use Rattle.wjs_session.specs.Stores.{worlds_in};
@@ -10,7 +10,8 @@ ghost use Rattle.wjs_activity.specs.declared.ends.PlayTurn.{PlayTurn};
 ghost use Rattle.wjs_activity.specs.Meant.{itself, resting};
 ghost use Rattle.wjs_activity.specs.Common.{IsCommon};
 ghost use Rattle.wjs_activity.specs.Turning.{Begun, GoesOnAs};
-ghost use Rattle.wjs_activity.specs.Rounds.{IsGoing, Settled, last_is_due, MayTurn, TurnAt, TurnsTo, HaltsIn, TurnMade, OneTurn, LastTurn, fuel};
+ghost use Rattle.wjs_activity.specs.Rounds.{IsGoing, Settled, last_is_due, MayTurn, TurnAt, TurnsTo, HaltsIn, HaltsAt, TurnMade, OneTurn, LastTurn, LastHalts, AllSooner, fuel, at_place, by_turn, by_turns, by_round, by_rounds, Is};
+ghost use Rattle.wjs_activity.specs.Plays.{turn_in};
 
 use crate::activities::{Activity, Play, Rules, note_at, take_running};
 use crate::common::{Common, Rested};
@@ -37,9 +38,11 @@ pub fn scheduled<O: Sink>(
     requires going { IsGoing rules play }
     requires settled { Settled play.activities.items }
     requires some { All (λ (t : PlayTurn). 1 ≤ t.steps) schedule.now }
-    ensures ok { IfOk result (TurnsTo rules (stream (O.held out.old) (O.held out.new) (O.faults out.old) (O.faults out.new)) play) }
+    ensures ok { IfOk result (TurnsTo rules (stream (O.held out.old) (O.held out.new) (O.faults out.old) (O.faults out.new))
+        (Is (by_turns rules.budget (map turn_in schedule.now))) play) }
     ensures settled { IfOk result (λ next. Settled next.activities.items) }
-    ensures err { IfErr result (HaltsIn rules (stream (O.held out.old) (O.held out.new) (O.faults out.old) (O.faults out.new)) play) }
+    ensures err { IfErr result (HaltsIn rules (stream (O.held out.old) (O.held out.new) (O.faults out.old) (O.faults out.new))
+        (by_turns rules.budget (map turn_in schedule.now)) play) }
     ensures never_falls { O.faults out.old ≤ O.faults out.new }
 {
     let mut current = play;
@@ -63,9 +66,11 @@ fn turn_of<O: Sink>(
     requires going { IsGoing rules play }
     requires settled { Settled play.activities.items }
     requires some { 1 ≤ turn.steps }
-    ensures ok { IfOk result (TurnsTo rules (stream (O.held out.old) (O.held out.new) (O.faults out.old) (O.faults out.new)) play) }
+    ensures ok { IfOk result (TurnsTo rules (stream (O.held out.old) (O.held out.new) (O.faults out.old) (O.faults out.new))
+        (Is (by_turn rules.budget (turn_in turn))) play) }
     ensures settled { IfOk result (λ next. Settled next.activities.items) }
-    ensures err { IfErr result (HaltsIn rules (stream (O.held out.old) (O.held out.new) (O.faults out.old) (O.faults out.new)) play) }
+    ensures err { IfErr result (HaltsIn rules (stream (O.held out.old) (O.held out.new) (O.faults out.old) (O.faults out.new))
+        (by_turn rules.budget (turn_in turn)) play) }
     ensures never_falls { O.faults out.old ≤ O.faults out.new }
 {
     match place_of(turn.activity, play.activities.len()) {
@@ -99,9 +104,11 @@ pub fn rounds<O: Sink>(
     requires going { IsGoing rules play }
     requires settled { Settled play.activities.items }
     requires some { 1 ≤ turn }
-    ensures ok { IfOk result (TurnsTo rules (stream (O.held out.old) (O.held out.new) (O.faults out.old) (O.faults out.new)) play) }
+    ensures ok { IfOk result (TurnsTo rules (stream (O.held out.old) (O.held out.new) (O.faults out.old) (O.faults out.new))
+        (Is (by_rounds rules.budget turn)) play) }
     ensures ended { IfOk result (λ next. All (λ (a : Activity). a.ended ≡ true) next.activities.items) }
-    ensures err { IfErr result (HaltsIn rules (stream (O.held out.old) (O.held out.new) (O.faults out.old) (O.faults out.new)) play) }
+    ensures err { IfErr result (HaltsIn rules (stream (O.held out.old) (O.held out.new) (O.faults out.old) (O.faults out.new))
+        (by_rounds rules.budget turn) play) }
     ensures never_falls { O.faults out.old ≤ O.faults out.new }
 {
     let mut current = play;
@@ -138,10 +145,13 @@ fn round<O: Sink>(
     requires going { IsGoing rules play }
     requires settled { Settled play.activities.items }
     requires some { 1 ≤ turn }
-    ensures ok { IfOk result (TurnsTo rules (stream (O.held out.old) (O.held out.new) (O.faults out.old) (O.faults out.new)) play) }
+    ensures ok { IfOk result (TurnsTo rules (stream (O.held out.old) (O.held out.new) (O.faults out.old) (O.faults out.new))
+        (Is (by_round rules.budget turn)) play) }
     ensures settled { IfOk result (λ next. Settled next.activities.items) }
+    ensures sooner { IfOk result (AllSooner rules.budget play) }
     ensures less { IfOk result (λ next. ¬ (All (λ (a : Activity). a.ended ≡ true) play.activities.items) → fuel rules.budget next < fuel rules.budget play) }
-    ensures err { IfErr result (HaltsIn rules (stream (O.held out.old) (O.held out.new) (O.faults out.old) (O.faults out.new)) play) }
+    ensures err { IfErr result (HaltsIn rules (stream (O.held out.old) (O.held out.new) (O.faults out.old) (O.faults out.new))
+        (by_round rules.budget turn) play) }
     ensures never_falls { O.faults out.old ≤ O.faults out.new }
 {
     let count = play.activities.len();
@@ -169,10 +179,12 @@ fn turn_at<O: Sink>(
     requires settled { Settled play.activities.items }
     requires place { place < length play.activities.items }
     requires some { 1 ≤ steps }
-    ensures ok { IfOk result (TurnsTo rules (stream (O.held out.old) (O.held out.new) (O.faults out.old) (O.faults out.new)) play) }
+    ensures ok { IfOk result (TurnsTo rules (stream (O.held out.old) (O.held out.new) (O.faults out.old) (O.faults out.new))
+        (Is (by_turn rules.budget (at_place place steps))) play) }
     ensures settled { IfOk result (λ next. Settled next.activities.items) }
     ensures changes { IfOk result (TurnAt rules.budget place play) }
-    ensures err { IfErr result (HaltsIn rules (stream (O.held out.old) (O.held out.new) (O.faults out.old) (O.faults out.new)) play) }
+    ensures err { IfErr result (HaltsIn rules (stream (O.held out.old) (O.held out.new) (O.faults out.old) (O.faults out.new))
+        (by_turn rules.budget (at_place place steps)) play) }
     ensures never_falls { O.faults out.old ≤ O.faults out.new }
 {
     if has_ended(play.activities.as_slice(), place) {
@@ -196,7 +208,7 @@ fn last_turn<O: Sink>(
     requires place { place < length play.activities.items }
     requires due { (a : Activity) → slice_get play.activities.items place ≡ Some a → last_is_due a ≡ true → MayTurn rules.budget rules.budget a }
     ensures ok { IfOk result (LastTurn rules (stream (O.held out.old) (O.held out.new) (O.faults out.old) (O.faults out.new)) place play) }
-    ensures err { IfErr result (HaltsIn rules (stream (O.held out.old) (O.held out.new) (O.faults out.old) (O.faults out.new)) play) }
+    ensures err { IfErr result (LastHalts rules (stream (O.held out.old) (O.held out.new) (O.faults out.old) (O.faults out.new)) place play) }
     ensures never_falls { O.faults out.old ≤ O.faults out.new }
 {
     if is_last(play.activities.as_slice(), place) {
@@ -238,8 +250,8 @@ fn one_turn<O: Sink>(
     requires place { place < length play.activities.items }
     requires there { (a : Activity) → slice_get play.activities.items place ≡ Some a → MayTurn rules.budget steps a }
     requires some { 1 ≤ steps }
-    ensures ok { IfOk result (OneTurn rules (stream (O.held out.old) (O.held out.new) (O.faults out.old) (O.faults out.new)) place play) }
-    ensures err { IfErr result (HaltsIn rules (stream (O.held out.old) (O.held out.new) (O.faults out.old) (O.faults out.new)) play) }
+    ensures ok { IfOk result (OneTurn rules (stream (O.held out.old) (O.held out.new) (O.faults out.old) (O.faults out.new)) place steps play) }
+    ensures err { IfErr result (HaltsAt rules (stream (O.held out.old) (O.held out.new) (O.faults out.old) (O.faults out.new)) place steps play) }
     ensures never_falls { O.faults out.old ≤ O.faults out.new }
 {
     match turned(alloc, play, rules, place, steps) {
@@ -251,7 +263,8 @@ fn one_turn<O: Sink>(
 /// Writes what is printed for a turn.
 fn written<O: Sink>(turned: (Play, Vec<u8>), out: &mut O) -> Result<Play, Halt>
     ensures ok { IfOk result (λ next. (next ≡ turned.0) × Got (stream (O.held out.old) (O.held out.new) (O.faults out.old) (O.faults out.new)) turned.1.items) }
-    ensures err { IfErr result (λ halt. (halt ≡ Halt.SinkFailed) × Stops (stream (O.held out.old) (O.held out.new) (O.faults out.old) (O.faults out.new)) turned.1.items) }
+    ensures err { IfErr result (λ halt. (halt ≡ Halt.SinkFailed)
+        × Stops (stream (O.held out.old) (O.held out.new) (O.faults out.old) (O.faults out.new)) turned.1.items) }
     ensures never_falls { O.faults out.old ≤ O.faults out.new }
 {
     let (next, output) = turned;
@@ -273,7 +286,7 @@ fn turned(
     requires place { place < length play.activities.items }
     requires there { (a : Activity) → slice_get play.activities.items place ≡ Some a → MayTurn rules.budget steps a }
     requires some { 1 ≤ steps }
-    ensures { IfOk result (λ r. TurnMade rules place play r.0 r.1.items) }
+    ensures { IfOk result (λ r. TurnMade rules place steps play r.0 r.1.items) }
 {
     let Play {
         common,
@@ -320,7 +333,8 @@ fn go_on_or_open(
     requires rests { IfSome running (λ (r : Rested). Rests (worlds_in common.shared) r.resting × Sound itself (resting common r)) }
     ensures running { IfOk result (λ config. config.state ≡ State.Running) }
     ensures sound { IfOk result (Sound (⟦<Session as WorldStore>⟧.meaning)) }
-    ensures begun { IfOk result (λ config. running ≡ None → Begun (⟦<Session as WorldStore>⟧.meaning) (drawn + 1) (rules.first + place) rules.budget common config) }
+    ensures begun { IfOk result (λ config. running ≡ None → Begun (⟦<Session as WorldStore>⟧.meaning) (drawn + 1)
+        (rules.first + place) rules.budget common config) }
     ensures goes_on { IfOk result (λ config. (r : Rested) → running ≡ Some r → GoesOnAs (⟦<Session as WorldStore>⟧.meaning) common r config) }
 {
     match running {

@@ -4,7 +4,9 @@ ghost use Rattle.wjs_meaning.specs.Trees.{Tree};
 ghost use Rattle.wjs_model.specs.Soundness.{Sound};
 ghost use Rattle.wjs_session.specs.Session.{first_copy};
 ghost use Rattle.wjs_session.specs.Stores.{worlds_in};
+ghost use Rattle.wjs_activity.specs.Views.{KnowsView};
 ghost use Rattle.wjs_activity.specs.Turning.{IsLive, IsTurned, IsRest, HasLess};
+ghost use Rattle.wjs_activity.specs.Exact.{IsExact};
 
 use crate::common::{Common, Rested};
 use crate::ending::finish;
@@ -32,12 +34,19 @@ pub enum Came {
 pub fn take_turn(config: Config<Session>, steps: u64) -> Result<(Common, Came), OutOfMemory>
     requires running { config.state ≡ State.Running }
     requires sound { Sound (⟦<Session as WorldStore>⟧.meaning) config }
-    ensures turned { IfOk result (λ r. (trees : List Tree) (tree budget drawn : ℕ) → IsLive (⟦<Session as WorldStore>⟧.meaning) trees tree budget drawn config → IsTurned (⟦<Session as WorldStore>⟧.meaning) trees tree budget drawn config r.0 r.1) }
+    ensures turned { IfOk result (λ r. (trees : List Tree) (tree budget drawn : ℕ) → IsLive (⟦<Session as WorldStore>⟧.meaning) trees tree budget drawn config
+        → IsTurned (⟦<Session as WorldStore>⟧.meaning) trees tree budget drawn config r.0 r.1) }
+    // It is the turn that the definition of plays has.
+    ensures exact { IfOk result (λ r. (trees : List Tree) (tree budget drawn : ℕ)
+        → (is : IsLive (⟦<Session as WorldStore>⟧.meaning) trees tree budget drawn config)
+        → KnowsView config.heap.texts (⟦<Session as WorldStore>⟧.meaning config.heap.store).own
+        → IsExact (⟦<Session as WorldStore>⟧.meaning) trees tree budget is.taken steps config r.0 r.1) }
     // A turn without limit doesn't end at rest, and others end it with fewer steps left.
     ensures whole { IfOk result (λ r. config.left ≤ steps → ¬ (IsRest r.1)) }
     ensures less { IfOk result (λ r. 1 ≤ steps → HasLess config.left r.1) }
     // Where the try takes the first world to hold what it holds, it isn't dropped.
-    ensures certain { IfOk result (λ r. (⟦<Session as WorldStore>⟧.meaning config.heap.store).own ≡ first_copy (worlds_in config.heap.store.shared) → ¬ (r.1 ≡ Came.Drops)) }
+    ensures certain { IfOk result (λ r. (⟦<Session as WorldStore>⟧.meaning config.heap.store).own ≡ first_copy (worlds_in config.heap.store.shared)
+        → ¬ (r.1 ≡ Came.Drops)) }
 {
     let mut config = config;
     let _taken = walk(&mut config, steps)?;

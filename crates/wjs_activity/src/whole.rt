@@ -3,19 +3,18 @@ ghost use Rattle.std.specs.Prelude.{◌≡◌, ◌≤◌, ℕ, true, false, List
 ghost use Rattle.std.specs.Option.{option_map};
 ghost use Rattle.wjs_base.specs.Text.{Table, IsTable};
 ghost use Rattle.wjs_io.specs.Streams.{Stream, stream};
-ghost use Rattle.wjs_content.specs.Objects.{Arena};
 ghost use Rattle.wjs_meaning.specs.Trees.{Tree};
 ghost use Rattle.wjs_model.specs.Soundness.{Sound};
 ghost use Rattle.wjs_model.specs.Texts.{KnowsUnit, PlacesUnit};
 ghost use Rattle.wjs_model.specs.Units.{unit_in};
 ghost use Rattle.wjs_parts.specs.Walking.{Walks};
-ghost use Rattle.wjs_alone.specs.Alone.{Copy};
 ghost use Rattle.wjs_alone.specs.Serial.{End, lines_from};
+ghost use Rattle.wjs_alone.specs.Playing as defined;
 ghost use Rattle.wjs_activity.specs.declared.activities.Activity.{Activity};
 ghost use Rattle.wjs_activity.specs.declared.ends.PlayTurn.{PlayTurn};
-ghost use Rattle.wjs_activity.specs.SoFar.{IsPlay, TellsEnds};
-ghost use Rattle.wjs_activity.specs.Rounds.{first_number, IsGoing, Settled, TurnsTo, HaltsIn};
-ghost use Rattle.wjs_activity.specs.Plays.{Plays, PlaysOut, Finishes, IsOpened, RanLibrary, CanBegin, BegunFrom, ClosesAs, WritesLast};
+ghost use Rattle.wjs_activity.specs.SoFar.{TellsEnds};
+ghost use Rattle.wjs_activity.specs.Rounds.{first_number, IsGoing, Settled, TurnsTo, HaltsIn, by_all, Is};
+ghost use Rattle.wjs_activity.specs.Plays.{turn_in, Plays, PlaysOut, BeginsAs, IsOpened, RanLibrary, CanBegin, BegunFrom, ClosesAs, WritesLast};
 
 use crate::activities::{Play, Rules, none_begun};
 use crate::common::Common;
@@ -44,14 +43,16 @@ pub enum PlayEnd {
     OutOfMemory,
 }
 
-/// Plays activities: a part each, at most 1000, numbered from 1, behind the library. The programs' texts are in the table, and keep
-/// their numbers.
+/// Plays activities: a part each, at most 1000, numbered from 1, behind the library. The programs' texts are in the table.
 ///
 /// Each activity takes turns, first those of the schedule and then, round by round, of `turn` steps each, until all have ended. It
 /// runs in a world of its own over the first one, with `budget` steps for a try; its end counts where what it has read stands in the
-/// first world still, and else it is run again. The fourth try goes on to its end at once. So what is printed and left is what the
-/// parts print and leave that run alone, one after another, in the order of the ends; then a line for each activity tells how it
-/// ended. Turns of activities that have ended, and of numbers that none has, are left out. Each turn has a step at least.
+/// first world still, and else it is run again. The fourth try goes on to its end at once. Turns of activities that have ended, and
+/// of numbers that none has, are left out. Each turn has a step at least. What is printed, told and left is that play, as it is
+/// defined (`play` in `wjs_alone`).
+///
+/// And it is what those parts print and leave that end normally, if each runs alone, one after another, in the order of the ends;
+/// then a line for each activity tells how it ended. The library's throw counts as its end, and what it prints is not written.
 ///
 /// StepsSpent comes only where the library needs more steps than the budget, and nothing is written then. SinkFailed comes only
 /// where the sink's count of faults rose in this call, and OutOfMemory where memory ran out; a front of what is due was written then.
@@ -74,7 +75,8 @@ pub fn play<O: Sink>(
     requires turn { 1 ≤ turn }
     requires budget { 1 ≤ budget }
     requires steps { All (λ (t : PlayTurn). 1 ≤ t.steps) schedule.now }
-    ensures { Plays (option_map (unit_in texts) library) (map (unit_in texts) parts.items) budget (stream (O.held out.old) (O.held out.new) (O.faults out.old) (O.faults out.new)) result }
+    ensures { Plays (option_map (unit_in texts) library) (map (unit_in texts) parts.items) budget (map turn_in schedule.now) turn
+        (stream (O.held out.old) (O.held out.new) (O.faults out.old) (O.faults out.new)) result }
 {
     match play_out(alloc, texts, library, parts, schedule, turn, budget, out) {
         Ok(end) => end,
@@ -84,7 +86,8 @@ pub fn play<O: Sink>(
 
 /// The end of a play that was halted.
 fn halted(halt: Halt) -> PlayEnd
-    ensures { (library : Option Tree) (parts : List Tree) (budget : ℕ) (s : Stream) → PlaysOut library parts budget s (Err halt) → Plays library parts budget s result }
+    ensures { (library : Option Tree) (parts : List Tree) (budget : ℕ) (schedule : List defined.PlayTurn) (turn : ℕ) (s : Stream)
+        → PlaysOut library parts budget schedule turn s (Err halt) → Plays library parts budget schedule turn s result }
 {
     match halt {
         Halt::SinkFailed => PlayEnd::SinkFailed,
@@ -112,7 +115,8 @@ fn play_out<O: Sink>(
     requires turn { 1 ≤ turn }
     requires budget { 1 ≤ budget }
     requires steps { All (λ (t : PlayTurn). 1 ≤ t.steps) schedule.now }
-    ensures { PlaysOut (option_map (unit_in texts) library) (map (unit_in texts) parts.items) budget (stream (O.held out.old) (O.held out.new) (O.faults out.old) (O.faults out.new)) result }
+    ensures { PlaysOut (option_map (unit_in texts) library) (map (unit_in texts) parts.items) budget (map turn_in schedule.now) turn
+        (stream (O.held out.old) (O.held out.new) (O.faults out.old) (O.faults out.new)) result }
 {
     let rules = Rules {
         first: first_number(&library),
@@ -138,7 +142,9 @@ fn played<O: Sink>(
     requires begin { CanBegin rules count config }
     requires turn { 1 ≤ turn }
     requires steps { All (λ (t : PlayTurn). 1 ≤ t.steps) schedule.now }
-    ensures { (library : Option Tree) (parts : List Tree) → rules.first ≡ first_number library → count ≡ length parts → IsOpened library parts rules.budget config → PlaysOut library parts rules.budget (stream (O.held out.old) (O.held out.new) (O.faults out.old) (O.faults out.new)) result }
+    ensures { (library : Option Tree) (parts : List Tree) → rules.first ≡ first_number library → count ≡ length parts
+        → IsOpened library parts rules.budget config → PlaysOut library parts rules.budget (map turn_in schedule.now) turn
+        (stream (O.held out.old) (O.held out.new) (O.faults out.old) (O.faults out.new)) result }
 {
     if is_spent(config.state) {
         return Ok(PlayEnd::StepsSpent);
@@ -173,7 +179,10 @@ fn finished<O: Sink>(
     requires settled { Settled play.activities.items }
     requires turn { 1 ≤ turn }
     requires steps { All (λ (t : PlayTurn). 1 ≤ t.steps) schedule.now }
-    ensures { (library : Option Tree) (parts : List Tree) (copy : Copy) (arena : Arena) → rules.first ≡ first_number library → IsPlay library parts rules.budget copy arena play [] → Finishes library parts rules.budget copy arena (stream (O.held out.old) (O.held out.new) (O.faults out.old) (O.faults out.new)) result }
+    ensures { (library : Option Tree) (parts : List Tree) → rules.first ≡ first_number library
+        → BeginsAs library parts rules.budget (map turn_in schedule.now) turn play
+        → PlaysOut library parts rules.budget (map turn_in schedule.now) turn
+        (stream (O.held out.old) (O.held out.new) (O.faults out.old) (O.faults out.new)) result }
 {
     match all_turns(alloc, play, rules, schedule, turn, out) {
         Ok(next) => close(alloc, next, out),
@@ -194,9 +203,11 @@ fn all_turns<O: Sink>(
     requires settled { Settled play.activities.items }
     requires turn { 1 ≤ turn }
     requires steps { All (λ (t : PlayTurn). 1 ≤ t.steps) schedule.now }
-    ensures ok { IfOk result (TurnsTo rules (stream (O.held out.old) (O.held out.new) (O.faults out.old) (O.faults out.new)) play) }
+    ensures ok { IfOk result (TurnsTo rules (stream (O.held out.old) (O.held out.new) (O.faults out.old) (O.faults out.new))
+        (Is (by_all rules.budget (map turn_in schedule.now) turn)) play) }
     ensures ended { IfOk result (λ next. All (λ (a : Activity). a.ended ≡ true) next.activities.items) }
-    ensures err { IfErr result (HaltsIn rules (stream (O.held out.old) (O.held out.new) (O.faults out.old) (O.faults out.new)) play) }
+    ensures err { IfErr result (HaltsIn rules (stream (O.held out.old) (O.held out.new) (O.faults out.old) (O.faults out.new))
+        (by_all rules.budget (map turn_in schedule.now) turn) play) }
     ensures never_falls { O.faults out.old ≤ O.faults out.new }
 {
     match scheduled(alloc, play, rules, schedule, out) {

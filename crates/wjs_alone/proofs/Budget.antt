@@ -67,7 +67,7 @@ either (suc n) (suc m) = by (either n m)
     by (inr h) = let e : m + h.0 ≡ n = h.1 in inr (h.0, omega arith)
 
 module _ (trees : List Tree) (tree owner : ℕ) (copy : Copy) (arena : Arena) where
-  with_more : (n more : ℕ) → ¬ ((alone trees tree owner copy arena n).0 ≡ StepsSpent) → alone trees tree owner copy arena (n + more) ≡ alone trees tree owner copy arena n
+  pub with_more : (n more : ℕ) → ¬ ((alone trees tree owner copy arena n).0 ≡ StepsSpent) → alone trees tree owner copy arena (n + more) ≡ alone trees tree owner copy arena n
   with_more n more enough =
       let env = env_of_program trees tree (world_of owner) global_object owner in
       let st = before owner copy arena in

@@ -1,4 +1,10 @@
 pub mod Ascending
 pub mod Budget
+pub mod NamedMaps
+pub mod OneAbove
+pub mod NamedChecks
+pub mod NamedMarks
+pub mod NamedViews
 pub mod Objects
 pub mod Order
+pub mod AllTurns

@@ -17,7 +17,7 @@ OneEnding = (trees : List Tree) (tree owner : ℕ) (copy : Copy) (arena : Arena)
 abbrev pub OwnObjectsAreLeftOut : Type 0
 OwnObjectsAreLeftOut = (trees : List Tree) (tree owner : ℕ) (copy : Copy) (one two : Arena) (n : ℕ) → ((o : ObjId) → ¬ (o.owner ≡ owner) → map.get one o ≡ map.get two o) → alone trees tree owner copy one n ≡ alone trees tree owner copy two n
 
--- ends are decided by the order of their runs, their owners and objects; nothing decides the number of their tries
+-- ends are decided by the order of their runs, their owners and objects; that they are serial does not decide the number of their tries
 abbrev pub OrderDecides : Type 0
 OrderDecides = (library : Option Tree) (parts : List Tree) (budget : ℕ) (copy : Copy) (arena : Arena) (one two : List End) → IsSerial library parts budget copy arena one → IsSerial library parts budget copy arena two → runs_of one ≡ runs_of two → tries_of one ≡ tries_of two → one ≡ two
 

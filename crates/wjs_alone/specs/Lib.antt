@@ -3,4 +3,7 @@ pub mod Opening
 pub mod Serial
 pub mod Marks
 pub mod Playing
+pub mod Fronts
+pub mod Views
+pub mod Named
 pub mod Laws

@@ -139,7 +139,8 @@ module _ (library : Option Tree) (parts : List Tree) (budget : ℕ) where
   abbrev pub opened : St → Play
   opened st = record { copy = copy_in st.full first_world; objects = st.arena; owners = 0; activities = activities_from 1 parts; ends = []; out = [] }
 
-  -- the turns of the schedule come first; three tries of an activity take at most three times the budget of turns, and the fourth is over at once
+  -- the turns of the schedule come first. Where each turn has a step at least, three tries of an activity take at most three times as many turns as the budget
+  -- has steps, and the fourth is over at once
   abbrev pub played : List PlayTurn → ℕ → St → Play
   played schedule steps st = rounds (3 * budget + 1) steps (fold turn (opened st) schedule)
 

@@ -6,11 +6,12 @@ use Rattle.wjs_base.specs.declared.ids.ObjId.{ObjId}
 use Rattle.wjs_base.specs.declared.ids.WorldId.{WorldId}
 use Rattle.wjs_base.specs.Unicode.{utf8_of}
 use Rattle.wjs_content.specs.Objects.{Arena, Entry}
+use Rattle.wjs_meaning.specs.Builtins.{first_world}
 use Rattle.wjs_meaning.specs.Trees.{Tree}
 use Rattle.wjs_meaning.specs.Deeds.{St}
 use Rattle.wjs_meaning.specs.Programs.{Ending}
-use Rattle.wjs_alone.specs.Alone.{Copy, alone, Outcome, Committed, Threw, Spent, outcome_of, copy_after, printed}
-use Rattle.wjs_alone.specs.Opening.{trees_of, tree_number}
+use Rattle.wjs_alone.specs.Alone.{Copy, copy_in, alone, Outcome, Committed, Threw, Spent, outcome_of, copy_after, printed}
+use Rattle.wjs_alone.specs.Opening.{trees_of, tree_number, opening}
 
 -- the run that an activity ended with: whose it was, and the objects of the play at its end
 pub record Run : Type 0 where
@@ -105,3 +106,19 @@ module _ (library : Option Tree) (parts : List Tree) (budget : ℕ) where
   -- what is due then: the output of those that are committed, and a line for each activity, ascending
   abbrev pub out_of : Copy → List End → List ℕ
   out_of copy ends = printed_by copy (runs_of ends) ++ lines_from (length parts) 1 ends
+
+  -- ---- behind the library
+
+  -- what its end leaves in the first world, and the objects that are there then
+  abbrev pub first_held : Copy
+  first_held = copy_in ((opening library parts budget).1).full first_world
+
+  abbrev pub first_objects : Arena
+  first_objects = ((opening library parts budget).1).arena
+
+  -- ends in serial order from there, and what is due for them
+  abbrev pub Serial : List End → Type 0
+  Serial ends = IsSerial first_held first_objects ends
+
+  abbrev pub due : List End → List ℕ
+  due ends = out_of first_held ends

@@ -28,6 +28,3 @@ pub use log::Log;
 pub use logged::Logged;
 pub use reading::read_log;
 pub use spelling::spell_log;
-
-#[cfg(test)]
-mod tests;

@@ -8,6 +8,7 @@ use Rattle.wjs_io.proofs.Written.{Appends-nil}
 use Rattle.wjs_gen.specs.Script.{script}
 use Rattle.wjs_meaning.specs.Programs.{Ending, Done as EndsDone, Threw as EndsThrown, StepsSpent as EndsSpent}
 use Rattle.wjs_meaning.specs.Trees.{Tree}
+use Rattle.wjs_alone.specs.Playing.{Play, play}
 use Rattle.wjs_words.specs.Command.{command}
 use Rattle.wjs_words.specs.Lines.{IsUsageLine}
 use Rattle.wjs_words.specs.declared.answer.Options.{Options}
@@ -21,10 +22,13 @@ use Rattle.wjs_command.specs.declared.report.Stop.TheVariants.{ReadFault, OutFau
 use Rattle.wjs_command.specs.Table.{Due, Told, line}
 use Rattle.wjs_command.specs.Runs.{status_of_end}
 use Rattle.wjs_command.specs.Refusals.{refused}
-use Rattle.wjs_command.specs.Plays.{OfParts, spends, plays, OfPlay, refuses as refuses_play, divides}
+use Rattle.wjs_command.specs.Plays.{told_by_play, OfPlay, refuses as refuses_play, divides, PlayedAlone}
 use Rattle.wjs_command.specs.Due.{most_of, IsRun, OfScript, refuses, reads, blames, agrees, owed_in, IsTold, too_long, served, Asks, bytes_by, bytes_for, taken_by, IsDue, usage, asked}
-use Rattle.wjs_command.specs.Command.{AsDue, ErrFailed, EndsBy, Ends, Faultless, Causes, IsComplete}
-use Rattle.wjs_command.specs.Attempt.{Delivers, Comes, nothing, something, Refuses, ReachesTold, Serves, Reaches, WordsFit, HasCauses, Attempts, Finishes}
+use Rattle.wjs_command.specs.Command.{AsDue, ErrFailed, EndsBy, WroteAlone, Ends, Faultless, Causes, IsComplete}
+use Rattle.wjs_command.specs.Attempt.{Delivers, Comes, nothing, something, ComesAlone, Refuses, ReachesTold, Serves, Reaches, WordsFit, HasCauses}
+use Rattle.wjs_command.specs.Attempt.{Attempts, Reports, Finishes}
+use Rattle.wjs_command.proofs.Deliveries.{refused_alone}
+use Rattle.wjs_command.proofs.OneDue.{one_options}
 
 -- ---- the bytes of a source
 
@@ -89,6 +93,10 @@ bytes_read modes.Play number bytes other = refl
 bytes_read modes.Log number bytes other = refl
 bytes_read modes.Audit number bytes other = refl
 
+abbrev IsGen : Mode → Type 0
+IsGen modes.Gen = Unit {0}
+IsGen _ = ⊥
+
 -- ---- what the options ask for is done
 
 reaches_by : (options : Options) (bytes : List ℕ) (source out : Stream) (told : Told) (result : Result Report Stop) → IsTold options (bytes_for options bytes) told → Gave source (taken_by options.mode bytes) → Delivers told out result → ReachesTold options bytes source out result
@@ -104,14 +112,19 @@ reaches_come : (options : Options) (bytes own : List ℕ) (source out : Stream) 
 reaches_come options bytes own source out result e gave (nothing spent got) = reaches_spent options bytes source out result spent got
 reaches_come options bytes own source out result e gave (something told p d) = reaches_by options bytes source out told result (subst (λ bs. IsTold options bs told) (sym e) p) gave d
 
-pub serve_read : (options : Options) (left rest : Option (List ℕ)) (read more : ℕ) (out : Stream) (items : List ℕ) (result : Result Report Stop) → options.mode ≢ modes.Gen → IfSome left (λ known. items ≡ known) → IsAtEnd rest → length items ≤ most_of options.mode → Comes (IsTold options items) out result → Serves options (stream left rest read more) out result
-serve_read options left rest read more out items result other all end within h =
+pub serve_read : (options : Options) (left rest : Option (List ℕ)) (read more : ℕ) (out : Stream) (items : List ℕ) (result : Result Report Stop) → options.mode ≢ modes.Gen → IfSome left (λ known. items ≡ known) → IsAtEnd rest → length items ≤ most_of options.mode → Comes (IsTold options items) out result → (options.mode ≡ modes.Play → ComesAlone (PlayedAlone options.steps items) out result) → Serves options (stream left rest read more) out result
+serve_read options left rest read more out items result other all end within h alone =
     let taken = taken_read options.mode items other ∙ take_few (most_of options.mode + 1) items (omega (arith, within)) in
     record {
       bytes = items;
       had = had_all left items all;
       reaches = reaches_come options items items (stream left rest read more) out result (bytes_read options.mode options.number items other) (gave_all left rest items (taken_by options.mode items) all end taken) h;
+      alone = alone;
     }
+
+-- one mode is asked for
+pub not_both : (mode : Mode) → mode ≡ modes.Gen → mode ≡ modes.Play → ⊥
+not_both mode gen is = subst IsGen (sym gen ∙ is) tt
 
 pub serve_generated : (options : Options) (left : Option (List ℕ)) (read : ℕ) (out : Stream) (result : Result Report Stop) → options.mode ≡ modes.Gen → Comes (IsTold options (script options.number)) out result → Serves options (stream left left read read) out result
 serve_generated options left read out result gen h =
@@ -120,17 +133,18 @@ serve_generated options left read out result gen h =
       bytes = b.0;
       had = b.1;
       reaches = reaches_come options b.0 (script options.number) (stream left left read read) out result (ap (λ mode. bytes_by mode options.number b.0) gen) (gave_none left (taken_by options.mode b.0) (ap (λ mode. taken_by mode b.0) gen)) h;
+      alone = λ is. absurd (not_both options.mode gen is);
     }
 
 pub serve_failed : (options : Options) (left rest held : Option (List ℕ)) (read more wrote : ℕ) → Failed (stream left rest read more) → Serves options (stream left rest read more) (stream held held wrote wrote) (Err ReadFault)
 serve_failed options left rest held read more wrote failed =
     let b = bytes_had left in
-    record { bytes = b.0; had = b.1; reaches = (failed, Appends-nil held) }
+    record { bytes = b.0; had = b.1; reaches = (failed, Appends-nil held); alone = λ is. tt }
 
 pub serve_spent : (options : Options) (left rest held : Option (List ℕ)) (read more wrote : ℕ) → Serves options (stream left rest read more) (stream held held wrote wrote) (Err OutOfMemory)
 serve_spent options left rest held read more wrote =
     let b = bytes_had left in
-    record { bytes = b.0; had = b.1; reaches = inl (Appends-nil held) }
+    record { bytes = b.0; had = b.1; reaches = inl (Appends-nil held); alone = λ is. inl (Appends-nil held) }
 
 reaches_refused : (options : Options) (bytes : List ℕ) (source : Stream) (held : Option (List ℕ)) (wrote : ℕ) (text : List ℕ) (result : Result Report Stop) → IsTold options (bytes_for options bytes) (refused text) → Gave source (taken_by options.mode bytes) → Refuses text result → ReachesTold options bytes source (stream held held wrote wrote) result
 reaches_refused options bytes source held wrote text (Ok report) p gave is = (refused text, p, is, gave, Appends-nil held)
@@ -147,6 +161,7 @@ serve_long options left rest held read more wrote taken result other count h is 
       bytes = b.bytes;
       had = b.had;
       reaches = reaches_refused options b.bytes (stream left rest read more) held wrote (codes "too long") result told (b.gave (taken_by options.mode b.bytes) (taken_read options.mode b.bytes other ∙ front)) is;
+      alone = λ play. refused_alone (PlayedAlone options.steps b.bytes) (stream held held wrote wrote) (codes "too long") result is (Appends-nil held);
     }
 
 -- ---- the statuses that tell of a run
@@ -177,29 +192,31 @@ ordinary_run : (mode : Mode) (steps : ℕ) (bytes : List ℕ) (told : Told) → 
 ordinary_run mode steps bytes told (refuses h) = subst (λ (t : Told). IsOrdinary t.status) (sym h.is) tt
 ordinary_run mode steps bytes told (reads h) = subst (λ (t : Told). IsOrdinary t.status) (sym (h.owed).is) (ordinary_end _)
 
-ordinary_parts : (steps : ℕ) (parts : List Tree) (told : Told) → OfParts steps parts told → IsOrdinary told.status
-ordinary_parts steps parts told (spends h) = subst (λ (t : Told). IsOrdinary t.status) (sym h.is) tt
-ordinary_parts steps parts told (plays h) = subst (λ (t : Told). IsOrdinary t.status) (sym h.is) tt
+ordinary_played : (library : Option Tree) (parts : List Tree) (steps : ℕ) (p : Option Play) → IsOrdinary (told_by_play library parts steps p).status
+ordinary_played library parts steps None = tt
+ordinary_played library parts steps (Some p) = tt
 
-ordinary_play : (steps : ℕ) (bytes : List ℕ) (told : Told) → OfPlay steps bytes told → IsOrdinary told.status
-ordinary_play steps bytes told (refuses_play h) = subst (λ (t : Told). IsOrdinary t.status) (sym h.is) tt
-ordinary_play steps bytes told (divides h) = ordinary_parts steps h.parts told h.owed
+ordinary_play : (steps turn : ℕ) (bytes : List ℕ) (told : Told) → OfPlay steps turn bytes told → IsOrdinary told.status
+ordinary_play steps turn bytes told (refuses_play h) = subst (λ (t : Told). IsOrdinary t.status) (sym h.is) tt
+ordinary_play steps turn bytes told (divides h) =
+    let p = play (h.owed).library h.parts steps [] turn in
+    subst (λ (t : Told). IsOrdinary t.status) (sym (h.owed).is) (ordinary_played (h.owed).library h.parts steps p)
 
-ordinary_owed : (mode : Mode) (steps : ℕ) (bytes : List ℕ) (told : Told) → owed_in mode steps bytes told → IsOrdinary told.status
-ordinary_owed modes.Run steps bytes told h = ordinary_run modes.Run steps bytes told h
-ordinary_owed modes.Check steps bytes told (refuses h) = subst (λ (t : Told). IsOrdinary t.status) (sym h.is) tt
-ordinary_owed modes.Check steps bytes told (reads h) = subst (λ (t : Told). IsOrdinary t.status) (sym h.owed) tt
-ordinary_owed modes.Tree steps bytes told h = ordinary_run modes.Tree steps bytes told h
-ordinary_owed modes.Gen steps bytes told h = ordinary_run modes.Gen steps bytes told h
-ordinary_owed modes.Play steps bytes told h = ordinary_play steps bytes told h
-ordinary_owed modes.Log steps bytes told (refuses h) = subst (λ (t : Told). IsOrdinary t.status) (sym h.is) tt
-ordinary_owed modes.Log steps bytes told (reads h) = subst IsOrdinary (sym ((h.owed).run).status) (ordinary_end _)
-ordinary_owed modes.Audit steps bytes told (blames h) = subst (λ (t : Told). IsOrdinary t.status) (sym h.is) tt
-ordinary_owed modes.Audit steps bytes told (agrees h) = subst (λ (t : Told). IsOrdinary t.status) (sym h.is) tt
+ordinary_owed : (mode : Mode) (steps turn : ℕ) (bytes : List ℕ) (told : Told) → owed_in mode steps turn bytes told → IsOrdinary told.status
+ordinary_owed modes.Run steps turn bytes told h = ordinary_run modes.Run steps bytes told h
+ordinary_owed modes.Check steps turn bytes told (refuses h) = subst (λ (t : Told). IsOrdinary t.status) (sym h.is) tt
+ordinary_owed modes.Check steps turn bytes told (reads h) = subst (λ (t : Told). IsOrdinary t.status) (sym h.owed) tt
+ordinary_owed modes.Tree steps turn bytes told h = ordinary_run modes.Tree steps bytes told h
+ordinary_owed modes.Gen steps turn bytes told h = ordinary_run modes.Gen steps bytes told h
+ordinary_owed modes.Play steps turn bytes told h = ordinary_play steps turn bytes told h
+ordinary_owed modes.Log steps turn bytes told (refuses h) = subst (λ (t : Told). IsOrdinary t.status) (sym h.is) tt
+ordinary_owed modes.Log steps turn bytes told (reads h) = subst IsOrdinary (sym ((h.owed).run).status) (ordinary_end _)
+ordinary_owed modes.Audit steps turn bytes told (blames h) = subst (λ (t : Told). IsOrdinary t.status) (sym h.is) tt
+ordinary_owed modes.Audit steps turn bytes told (agrees h) = subst (λ (t : Told). IsOrdinary t.status) (sym h.is) tt
 
 ordinary_told : (options : Options) (bytes : List ℕ) (told : Told) → IsTold options bytes told → IsOrdinary told.status
 ordinary_told options bytes told (too_long h) = subst (λ (t : Told). IsOrdinary t.status) (sym h.is) tt
-ordinary_told options bytes told (served h) = ordinary_owed options.mode options.steps bytes told h.owed
+ordinary_told options bytes told (served h) = ordinary_owed options.mode options.steps options.turn bytes told h.owed
 
 reported : (s : Status) → IsOrdinary s → IsReported s
 reported statuses.Done h = tt
@@ -245,11 +262,19 @@ cause words bytes options source out (Err ReadFault) asks r = (r.0, asks.faultle
 cause words bytes options source out (Err OutFault) asks r = ((r.2).cause, asks.faultless)
 cause words bytes options source out (Err OutOfMemory) asks r = tt
 
+-- equal options ask for the same play
+alone_by : (options others : Options) (bytes : List ℕ) (out : Stream) (result : Result Report Stop) → others ≡ options →
+    (options.mode ≡ modes.Play → ComesAlone (PlayedAlone options.steps bytes) out result) →
+    others.mode ≡ modes.Play → ComesAlone (PlayedAlone others.steps bytes) out result
+alone_by options others bytes out result same alone =
+    subst (λ (o : Options). o.mode ≡ modes.Play → ComesAlone (PlayedAlone o.steps bytes) out result) (sym same) alone
+
 pub attempt_served : (words : List (List ℕ)) (options : Options) (source out : Stream) (result : Result Report Stop) → Asks words options → Serves options source out result → Attempts words source out result
 attempt_served words options source out result asks h = record {
   bytes = h.bytes;
   had = h.had;
   reaches = reach words h.bytes options source out result asks h.reaches;
+  alone = λ others others_asked. alone_by options others h.bytes out result (one_options words options others asks others_asked) h.alone;
   causes = cause words h.bytes options source out result asks h.reaches;
 }
 
@@ -261,13 +286,14 @@ attempt_usage words left held read wrote report fault status said =
       bytes = b.0;
       had = b.1;
       reaches = (due, usage (record { fault = fault; said = said; is = refl }), record { status_is = status; line_is = refl }, gave_none left [] refl, Appends-nil held);
+      alone = λ options asks. absurd (fault asks.faultless);
       causes = subst (WordsFit words) (sym status) fault;
     }
 
 pub attempt_spent : (words : List (List ℕ)) (left held : Option (List ℕ)) (read wrote : ℕ) → Attempts words (stream left left read read) (stream held held wrote wrote) (Err OutOfMemory)
 attempt_spent words left held read wrote =
     let b = bytes_had left in
-    record { bytes = b.0; had = b.1; reaches = inl (Appends-nil held); causes = tt }
+    record { bytes = b.0; had = b.1; reaches = inl (Appends-nil held); alone = λ options asks is. inl (Appends-nil held); causes = tt }
 
 -- ---- the line on err
 
@@ -313,8 +339,44 @@ ends_by words bytes source out err (Err ReadFault) status r f = ends_unread word
 ends_by words bytes source out err (Err OutFault) status r f = subst (EndsBy words bytes source out err) (sym f.0) (record { cause = (r.2).cause; due = r.0; is_due = r.1; on_out = (r.2).wrote; on_err = f.1 })
 ends_by words bytes source out err (Err OutOfMemory) status r f = subst (EndsBy words bytes source out err) (sym f.0) (record { on_out = r; on_err = spent_line err f.1 })
 
+-- ---- a play, by what its scripts print alone
+
+module _ (steps : ℕ) (bytes : List ℕ) (out : Stream) where
+  -- another status than that of a fault
+  wrote_told : (s : Status) → IsReported s → (s ≡ statuses.Done → PlayedAlone steps bytes (Got out)) → WroteAlone steps bytes out s
+  wrote_told statuses.Done r h = h refl
+  wrote_told statuses.Threw r h = tt
+  wrote_told statuses.StepsSpent r h = tt
+  wrote_told statuses.Refused r h = tt
+  wrote_told statuses.Usage r h = tt
+  wrote_told statuses.OutOfMemory r h = absurd r
+  wrote_told statuses.ReadFault r h = absurd r
+  wrote_told statuses.OutFault r h = absurd r
+  wrote_told statuses.ErrFault r h = absurd r
+
+  -- a line, or a fault of err
+  wrote_line : (err : Stream) (text : List ℕ) (said status : Status) →
+      Reports err text said status → WroteAlone steps bytes out said → WroteAlone steps bytes out status
+  wrote_line err text said status (inl f) h = subst (WroteAlone steps bytes out) (sym f.0) h
+  wrote_line err text said status (inr f) h = subst (WroteAlone steps bytes out) (sym f.0) tt
+
+  wrote_alone : (words : List (List ℕ)) (source err : Stream) (outcome : Result Report Stop) (status : Status) →
+      Reaches words bytes source out outcome → ComesAlone (PlayedAlone steps bytes) out outcome →
+      Finishes err outcome status → WroteAlone steps bytes out status
+  wrote_alone words source err (Ok report) status r h f =
+      let known : IsReported report.status = subst IsReported (sym (r.2).status_is) (reported_due words bytes r.0 r.1) in
+      wrote_line err report.line.items report.status status f (wrote_told report.status known h)
+  wrote_alone words source err (Err ReadFault) status r h f = wrote_line err (line (codes "read failed")) statuses.ReadFault status f tt
+  wrote_alone words source err (Err OutFault) status r h f = subst (WroteAlone steps bytes out) (sym f.0) h
+  wrote_alone words source err (Err OutOfMemory) status r h f = subst (WroteAlone steps bytes out) (sym f.0) h
+
 pub ends_from : (words : List (List ℕ)) (source out err : Stream) (outcome : Result Report Stop) (status : Status) → Attempts words source out outcome → Finishes err outcome status → Ends words source out err status
-ends_from words source out err outcome status a f = record { bytes = a.bytes; had = a.had; ends = ends_by words a.bytes source out err outcome status a.reaches f }
+ends_from words source out err outcome status a f = record {
+  bytes = a.bytes;
+  had = a.had;
+  ends = ends_by words a.bytes source out err outcome status a.reaches f;
+  alone = λ options asks is. wrote_alone options.steps a.bytes out words source err outcome status a.reaches (a.alone options asks is) f;
+}
 
 -- ---- causes
 

@@ -16,7 +16,7 @@ use Rattle.wjs_meaning.specs.Start.{properties}
 use Rattle.wjs_meaning.specs.declared.library.TheConstants.{LIBRARY}
 use Rattle.wjs_model.specs.declared.config.Config.{Config}
 use Rattle.wjs_model.specs.declared.unit.Unit.{Unit as Program}
-use Rattle.wjs_model.specs.Configurations.{seen, after_done, tells}
+use Rattle.wjs_model.specs.Configurations.{seen, after_done}
 use Rattle.wjs_model.specs.Soundness.{Sound}
 use Rattle.wjs_model.specs.Texts.{KnowsUnit, PlacesUnit}
 use Rattle.wjs_model.specs.Units.{unit_in}

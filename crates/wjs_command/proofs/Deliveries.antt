@@ -1,13 +1,15 @@
 -- What is delivered in parts.
-use Rattle.std.proofs.Common.{◌≡◌, ℕ, ◌≤◌, List, [], ◌++◌, Option, Result, Ok, Err, refl, sym, ◌∙◌, ap, arith, append_assoc, append-nil}
+use Rattle.std.proofs.Common.{◌≡◌, ℕ, ◌≤◌, inl, inr, List, [], ◌++◌, Option, Result, Ok, Err, refl, sym, ◌∙◌, ap, subst, arith, append_assoc, append-nil}
 use Rattle.wjs_io.specs.Faults.{Rises}
-use Rattle.wjs_io.specs.Streams.{Stream, stream, Got, GotPrefix}
+use Rattle.wjs_io.specs.Streams.{Stream, stream, Got, GotPrefix, Stops}
 use Rattle.wjs_io.proofs.Written.{Appends-then}
 use Rattle.wjs_command.specs.declared.report.Report.{Report}
 use Rattle.wjs_command.specs.declared.report.Stop.{Stop}
 use Rattle.wjs_command.specs.declared.report.Stop.TheVariants.{ReadFault, OutFault, OutOfMemory}
+use Rattle.wjs_command.specs.declared.status.Status.{Status}
+use Rattle.wjs_command.specs.declared.status.Status.TheVariants as statuses
 use Rattle.wjs_command.specs.Table.{Told}
-use Rattle.wjs_command.specs.Attempt.{Delivers, Comes, nothing, something, Writes}
+use Rattle.wjs_command.specs.Attempt.{Delivers, Comes, nothing, something, ComesAlone, Refuses, Writes}
 
 -- a front of all is a front of more
 pub prefix_longer : (s : Stream) (bytes all later : List ℕ) → all ≡ bytes ++ later → GotPrefix s bytes → GotPrefix s all
@@ -62,3 +64,32 @@ writes_stop told out OutOfMemory h = prefix_none out told.out h
 pub comes_as : (P Q : Told → Type 0) (out : Stream) (result : Result Report Stop) → ((told : Told) → P told → Q told) → Comes P out result → Comes Q out result
 comes_as P Q out result f (nothing e got) = nothing e got
 comes_as P Q out result f (something told p d) = something told (f told p) d
+
+-- ---- a play, by what its parts print alone
+
+-- what is written alone by one reading is by another
+pub alone_as : (P Q : (List ℕ → Type 0) → Type 0) (out : Stream) (result : Result Report Stop) →
+    ((Wrote : List ℕ → Type 0) → P Wrote → Q Wrote) → ComesAlone P out result → ComesAlone Q out result
+alone_as P Q out (Ok report) f h = λ done. f (Got out) (h done)
+alone_as P Q out (Err ReadFault) f h = tt
+alone_as P Q out (Err OutFault) f h = f (Stops out) h
+alone_as P Q out (Err OutOfMemory) f (inl got) = inl got
+alone_as P Q out (Err OutOfMemory) f (inr h) = inr (f (GotPrefix out) h)
+
+-- a play of another status has not come to its end
+abbrev pub IsOther : Status → Type 0
+IsOther statuses.Done = ⊥
+IsOther _ = Unit {0}
+
+pub not_done : (s : Status) (report : Report) → IsOther s → report.status ≡ s → report.status ≡ statuses.Done → ⊥
+not_done s report other is done = subst IsOther (sym is ∙ done) other
+
+-- nothing was written
+pub none_alone : (Alone : (List ℕ → Type 0) → Type 0) (out : Stream) (result : Result Report Stop) →
+    result ≡ Err OutOfMemory → Got out [] → ComesAlone Alone out result
+none_alone Alone out result e got = subst (ComesAlone Alone out) (sym e) (inl got)
+
+pub refused_alone : (Alone : (List ℕ → Type 0) → Type 0) (out : Stream) (text : List ℕ) (result : Result Report Stop) →
+    Refuses text result → Got out [] → ComesAlone Alone out result
+refused_alone Alone out text (Ok report) is got = λ done. absurd (not_done statuses.Refused report tt is.status_is done)
+refused_alone Alone out text (Err e) is got = none_alone Alone out (Err e) (ap Err is) got

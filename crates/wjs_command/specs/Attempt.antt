@@ -32,6 +32,7 @@ use Rattle.wjs_machine.specs.declared.halt.Ending.TheVariants as outcomes
 use Rattle.wjs_machine.specs.Runs.{run_of}
 use Rattle.wjs_words.specs.Command.{command}
 use Rattle.wjs_words.specs.declared.mode.Mode.{Mode}
+use Rattle.wjs_words.specs.declared.mode.Mode.TheVariants.{Play}
 use Rattle.wjs_words.specs.declared.answer.Options.{Options}
 use Rattle.wjs_command.specs.declared.status.Status.{Status}
 use Rattle.wjs_command.specs.declared.status.Status.TheVariants as statuses
@@ -42,8 +43,8 @@ use Rattle.wjs_command.specs.Table.{Due, Told, line}
 use Rattle.wjs_command.specs.Scripts.{IsLibrary}
 use Rattle.wjs_command.specs.Runs.{LogsRun, told_by_run}
 use Rattle.wjs_command.specs.Refusals.{text_of_refusal}
-use Rattle.wjs_command.specs.Plays.{text_of_input}
-use Rattle.wjs_command.specs.Due.{IsDue, IsTold, text_of_fault, bytes_for, taken_by}
+use Rattle.wjs_command.specs.Plays.{text_of_input, PlayedAlone}
+use Rattle.wjs_command.specs.Due.{Asks, IsDue, IsTold, text_of_fault, bytes_for, taken_by}
 use Rattle.wjs_command.specs.Command.{GotFront, Faultless}
 
 -- ---- what is owed for a script is delivered
@@ -64,6 +65,13 @@ Delivers told out (Err OutOfMemory) = GotPrefix out told.out
 pub data Comes (Owed : Told → Type 0) (out : Stream) (result : Result Report Stop) : Type 0 where
   nothing : result ≡ Err OutOfMemory → Got out [] → Comes Owed out result
   something : (told : Told) → Owed told → Delivers told out result → Comes Owed out result
+
+-- a play that has come to its end wrote all that was to be written, and one that was stopped a front
+abbrev pub ComesAlone : ((List ℕ → Type 0) → Type 0) → Stream → Result Report Stop → Type 0
+ComesAlone Alone out (Ok report) = report.status ≡ statuses.Done → Alone (Got out)
+ComesAlone Alone out (Err ReadFault) = Unit {0}
+ComesAlone Alone out (Err OutFault) = Alone (Stops out)
+ComesAlone Alone out (Err OutOfMemory) = Got out [] ⊎ Alone (GotPrefix out)
 
 -- a refusal is reported by this text
 abbrev pub Refuses : List ℕ → Result Report Stop → Type 0
@@ -170,6 +178,7 @@ pub record Serves (options : Options) (source out : Stream) (outcome : Result Re
   pub bytes : List ℕ
   pub had : Had source bytes
   pub reaches : ReachesTold options bytes source out outcome
+  pub alone : options.mode ≡ Play → ComesAlone (PlayedAlone options.steps bytes) out outcome
 
 -- what was done before the line on err
 abbrev pub Reaches : List (List ℕ) → List ℕ → Stream → Stream → Result Report Stop → Type 0
@@ -194,6 +203,7 @@ pub record Attempts (words : List (List ℕ)) (source out : Stream) (outcome : R
   pub bytes : List ℕ
   pub had : Had source bytes
   pub reaches : Reaches words bytes source out outcome
+  pub alone : (options : Options) → Asks words options → options.mode ≡ Play → ComesAlone (PlayedAlone options.steps bytes) out outcome
   pub causes : HasCauses words source out outcome
 
 -- ---- the line on err

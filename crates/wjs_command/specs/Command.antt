@@ -2,11 +2,14 @@
 use Rattle.std.specs.Prelude.{◌≡◌, ◌≢◌, ℕ, List, [], codes, ◌⊎◌}
 use Rattle.clap.specs.Words.{fault_of}
 use Rattle.wjs_words.specs.Command.{command}
-use Rattle.wjs_io.specs.Streams.{Stream, Failed, Had, Gave, Got, GotPrefix, GotLess}
+use Rattle.wjs_words.specs.declared.answer.Options.{Options}
+use Rattle.wjs_words.specs.declared.mode.Mode.TheVariants.{Play}
+use Rattle.wjs_io.specs.Streams.{Stream, Failed, Had, Gave, Got, GotPrefix, GotLess, Stops}
 use Rattle.wjs_command.specs.declared.status.Status.{Status}
 use Rattle.wjs_command.specs.declared.status.Status.TheVariants.{Done, Threw, StepsSpent, OutOfMemory, Refused, Usage, ReadFault, OutFault, ErrFault}
 use Rattle.wjs_command.specs.Table.{Due, line}
-use Rattle.wjs_command.specs.Due.{IsDue}
+use Rattle.wjs_command.specs.Plays.{PlayedAlone}
+use Rattle.wjs_command.specs.Due.{Asks, IsDue}
 
 -- ---- the table of endings
 
@@ -74,11 +77,19 @@ EndsBy words bytes source out err ReadFault = SourceFailed source out err
 EndsBy words bytes source out err OutFault = OutFailed words bytes out err
 EndsBy words bytes source out err ErrFault = ErrFailed words bytes source out err
 
--- the bytes are those that the source had, where it tells them, and the run ends for them by the table
+-- what a play that ended so wrote of what its scripts print alone: all of it, or a front
+abbrev pub WroteAlone : ℕ → List ℕ → Stream → Status → Type 0
+WroteAlone steps bytes out Done = PlayedAlone steps bytes (Got out)
+WroteAlone steps bytes out OutFault = PlayedAlone steps bytes (Stops out)
+WroteAlone steps bytes out OutOfMemory = Got out [] ⊎ PlayedAlone steps bytes (GotPrefix out)
+WroteAlone steps bytes out _ = Unit {0}
+
+-- the bytes are those that the source had, where it tells them, and the run ends for them by the table; a play wrote what its scripts print alone
 pub record Ends (words : List (List ℕ)) (source out err : Stream) (status : Status) : Type 0 where
   pub bytes : List ℕ
   pub had : Had source bytes
   pub ends : EndsBy words bytes source out err status
+  pub alone : (options : Options) → Asks words options → options.mode ≡ Play → WroteAlone options.steps bytes out status
 
 -- ---- what is said of the causes without the bytes
 

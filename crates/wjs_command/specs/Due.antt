@@ -93,17 +93,17 @@ pub data OfLog (bytes : List ℕ) (told : Told) : Type 0 where
   blames : IsBlamed bytes told → OfLog bytes told
   agrees : IsAgreed bytes told → OfLog bytes told
 
--- what is owed in a mode, for bytes that aren't too many
-abbrev pub owed_in : Mode → ℕ → List ℕ → Told → Type 0
-owed_in modes.Check steps bytes told = OfScript IsChecked bytes told
-owed_in modes.Play steps bytes told = OfPlay steps bytes told
-owed_in modes.Log steps bytes told = OfScript (IsLogged steps) bytes told
-owed_in modes.Audit steps bytes told = OfLog bytes told
-owed_in mode steps bytes told = OfScript (IsRun mode steps) bytes told
+-- what is owed in a mode, with so many steps and turns of so many, for bytes that aren't too many
+abbrev pub owed_in : Mode → ℕ → ℕ → List ℕ → Told → Type 0
+owed_in modes.Check steps turn bytes told = OfScript IsChecked bytes told
+owed_in modes.Play steps turn bytes told = OfPlay steps turn bytes told
+owed_in modes.Log steps turn bytes told = OfScript (IsLogged steps) bytes told
+owed_in modes.Audit steps turn bytes told = OfLog bytes told
+owed_in mode steps turn bytes told = OfScript (IsRun mode steps) bytes told
 
 pub record IsServed (options : Options) (bytes : List ℕ) (told : Told) : Type 0 where
   pub within : length bytes ≤ most_of options.mode
-  pub owed : owed_in options.mode options.steps bytes told
+  pub owed : owed_in options.mode options.steps options.turn bytes told
 
 -- what is owed for the bytes
 pub data IsTold (options : Options) (bytes : List ℕ) (told : Told) : Type 0 where
@@ -155,21 +155,18 @@ pub data SameLog (one other : List ℕ) : Type 0 where
   same_bytes : other ≡ one → SameLog one other
   same_told : (told : List Deed) → Tells one told → Tells other told → SameLog one other
 
--- the words ask for another mode
-abbrev pub AskNo : Mode → List (List ℕ) → Type 0
-AskNo mode words = (options : Options) → Asks words options → options.mode ≢ mode
+-- the words ask for another mode than `log`
+abbrev pub AskNoLog : List (List ℕ) → Type 0
+AskNoLog words = (options : Options) → Asks words options → options.mode ≢ modes.Log
 
--- for words without a fault at most one thing is due, in each mode but `log` and `play`
+-- for words without a fault at most one thing is due, in each mode but `log`
 abbrev pub OneDue : Type 0
-OneDue = (words : List (List ℕ)) (bytes : List ℕ) (d e : Due) → IsDue words bytes d → IsDue words bytes e → fault_of command words ≡ [] → AskNo modes.Log words → AskNo modes.Play words → e ≡ d
+OneDue = (words : List (List ℕ)) (bytes : List ℕ) (d e : Due) → IsDue words bytes d → IsDue words bytes e → fault_of command words ≡ [] → AskNoLog words → e ≡ d
 
 -- in mode `log` too, up to the log, which tells one list
 abbrev pub OneLog : Type 0
-OneLog = (words : List (List ℕ)) (bytes : List ℕ) (d e : Due) → IsDue words bytes d → IsDue words bytes e → fault_of command words ≡ [] → AskNo modes.Play words → (e ≡ record d { out = e.out }) × SameLog d.out e.out
-
--- and in mode `play`, where only the output of a play that has come to its end goes by the order in which its activities ended
-abbrev pub OnePlay : Type 0
-OnePlay = (words : List (List ℕ)) (bytes : List ℕ) (d e : Due) → IsDue words bytes d → IsDue words bytes e → fault_of command words ≡ [] → AskNo modes.Log words → (e ≡ record d { out = e.out }) × (d.status ≢ Done → e ≡ d)
+OneLog = (words : List (List ℕ)) (bytes : List ℕ) (d e : Due) →
+    IsDue words bytes d → IsDue words bytes e → fault_of command words ≡ [] → (e ≡ record d { out = e.out }) × SameLog d.out e.out
 
 -- for words with a fault all but the text behind `usage: ` is one
 abbrev pub OneUsage : Type 0

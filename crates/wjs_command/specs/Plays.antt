@@ -1,10 +1,8 @@
 -- What a play of the scripts that bytes are divided into owes.
-use Rattle.std.specs.Prelude.{◌≡◌, ℕ, List, [], Option, codes}
+use Rattle.std.specs.Prelude.{◌≡◌, ℕ, List, [], Option, None, Some, codes}
 use Rattle.wjs_meaning.specs.Trees.{Tree}
-use Rattle.wjs_meaning.specs.Programs.{StepsSpent}
-use Rattle.wjs_alone.specs.Serial.{End}
-use Rattle.wjs_alone.specs.Opening.{opening}
-use Rattle.wjs_activity.specs.Plays.{Serial, due}
+use Rattle.wjs_alone.specs.Serial.{End, Serial, due}
+use Rattle.wjs_alone.specs.Playing.{Play, play, bytes_of}
 use Rattle.wjs_division.specs.declared.input.InputFault.{InputFault}
 use Rattle.wjs_division.specs.declared.input.InputFault.TheVariants as inputs
 use Rattle.wjs_division.specs.Inputs.{HasFault, IsInput}
@@ -26,34 +24,41 @@ pub record IsNoPlay (bytes : List ℕ) (told : Told) : Type 0 where
   pub why : HasFault bytes fault
   pub is : told ≡ refused (text_of_input fault)
 
--- the library needs more steps than there are: the play is over before its first part begins
-pub record IsSpent (steps : ℕ) (parts : List Tree) (told : Told) : Type 0 where
+-- a play's bytes; or, where the library needs more steps than there are, and the play is over before its first part begins, a line
+abbrev pub told_by_play : Option Tree → List Tree → ℕ → Option Play → Told
+told_by_play library parts steps None = record { out = []; err = line (codes "step budget spent"); status = statuses.StepsSpent }
+told_by_play library parts steps (Some played) = record { out = bytes_of library parts steps played; err = []; status = statuses.Done }
+
+-- the parts are played behind the library: in rounds, in which each that has not ended takes a turn of so many steps
+pub record IsPlayed (steps turn : ℕ) (parts : List Tree) (told : Told) : Type 0 where
   pub library : Option Tree
   pub first : IsLibrary library
-  pub spends : (opening library parts steps).0 ≡ StepsSpent
-  pub is : told ≡ record { out = []; err = line (codes "step budget spent"); status = statuses.StepsSpent }
+  pub is : told ≡ told_by_play library parts steps (play library parts steps [] turn)
 
--- behind the library each part has run alone, one after another in the order of some ends; what they printed is owed, and a line for each
-pub record IsPlayed (steps : ℕ) (parts : List Tree) (told : Told) : Type 0 where
-  pub library : Option Tree
-  pub first : IsLibrary library
-  pub opens : ¬ ((opening library parts steps).0 ≡ StepsSpent)
-  pub ends : List End
-  pub serial : Serial library parts steps ends
-  pub is : told ≡ record { out = due library parts steps ends; err = []; status = statuses.Done }
-
--- what is owed for the parts' trees
-pub data OfParts (steps : ℕ) (parts : List Tree) (told : Told) : Type 0 where
-  spends : IsSpent steps parts told → OfParts steps parts told
-  plays : IsPlayed steps parts told → OfParts steps parts told
-
--- the bytes are divided into the scripts of these trees
-pub record IsDivided (steps : ℕ) (bytes : List ℕ) (told : Told) : Type 0 where
+-- the bytes are divided into the scripts of these trees, which are played
+pub record IsDivided (steps turn : ℕ) (bytes : List ℕ) (told : Told) : Type 0 where
   pub parts : List Tree
   pub input : IsInput bytes parts
-  pub owed : OfParts steps parts told
+  pub owed : IsPlayed steps turn parts told
 
 -- what is owed for the bytes of a play
-pub data OfPlay (steps : ℕ) (bytes : List ℕ) (told : Told) : Type 0 where
-  refuses : IsNoPlay bytes told → OfPlay steps bytes told
-  divides : IsDivided steps bytes told → OfPlay steps bytes told
+pub data OfPlay (steps turn : ℕ) (bytes : List ℕ) (told : Told) : Type 0 where
+  refuses : IsNoPlay bytes told → OfPlay steps turn bytes told
+  divides : IsDivided steps turn bytes told → OfPlay steps turn bytes told
+
+-- ---- the same by parts that run alone
+
+-- behind the library each part has run alone, one after another in the order of some ends: this was written of what is due for these, the output of those
+-- that ended normally and a line for each
+pub record RanAlone (steps : ℕ) (parts : List Tree) (Wrote : List ℕ → Type 0) : Type 0 where
+  pub library : Option Tree
+  pub first : IsLibrary library
+  pub ends : List End
+  pub serial : Serial library parts steps ends
+  pub wrote : Wrote (due library parts steps ends)
+
+-- so have the scripts that the bytes are divided into
+pub record PlayedAlone (steps : ℕ) (bytes : List ℕ) (Wrote : List ℕ → Type 0) : Type 0 where
+  pub parts : List Tree
+  pub input : IsInput bytes parts
+  pub alone : RanAlone steps parts Wrote

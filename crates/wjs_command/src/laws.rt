@@ -2,7 +2,7 @@
 ghost use Rattle.std.specs.Prelude.{◌≡◌, ℕ, List};
 ghost use Rattle.wjs_command.specs.declared.status.Status.{Status};
 ghost use Rattle.wjs_io.specs.Streams.{Stream};
-ghost use Rattle.wjs_command.specs.Due.{OneDue, OneLog, OnePlay, OneUsage};
+ghost use Rattle.wjs_command.specs.Due.{OneDue, OneLog, OneUsage};
 ghost use Rattle.wjs_command.specs.Command.{EndsBy, IsComplete};
 ghost use Rattle.wjs_logs.specs.Telling.{OneTelling};
 
@@ -17,14 +17,13 @@ pub fn completeness()
 {}
 
 /// For words without a fault at most one thing is due: one list of bytes on out, one on err, one status, and one number of
-/// bytes that are taken. In mode `log` two logs may be due, which tell the same actions with the same answers: of a log's bytes it
-/// is left open which number a text has, and so where a name stands in a listing and which slot a refused commit names. In mode
-/// `play` it is left open in which order the activities end, and what goes by that order on out. For words with a fault the same
-/// holds of all but the text behind `usage: `, which is `clap`'s.
+/// bytes that are taken. So it is in mode `play` too, where the words say how many steps a turn has. In mode `log` two logs may be
+/// due, which tell the same actions with the same answers: of a log's bytes it is left open which number a text has, and so where a
+/// name stands in a listing and which slot a refused commit names. For words with a fault the same holds of all but the text behind
+/// `usage: `, which is `clap`'s.
 pub fn one_due()
     ensures faultless { OneDue }
     ensures logs { OneLog }
-    ensures plays { OnePlay }
     ensures telling { OneTelling }
     ensures usage { OneUsage }
 {

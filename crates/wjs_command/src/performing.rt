@@ -4,8 +4,9 @@ ghost use Rattle.wjs_io.specs.Streams.{stream};
 ghost use Rattle.wjs_start.specs.First.{IsNew};
 ghost use Rattle.wjs_command.specs.declared.status.Status.TheVariants as statuses;
 ghost use Rattle.wjs_command.specs.Table.{line};
+ghost use Rattle.wjs_command.specs.Plays.{PlayedAlone};
 ghost use Rattle.wjs_command.specs.Due.{most_of, IsTold, owed_in};
-ghost use Rattle.wjs_command.specs.Attempt.{Delivers, Comes, RefusesAs};
+ghost use Rattle.wjs_command.specs.Attempt.{Delivers, Comes, ComesAlone, RefusesAs};
 
 use crate::auditing::audit;
 use crate::logging::log_script;
@@ -28,9 +29,13 @@ pub fn perform<O: Sink>(
     out: &mut O,
 ) -> Result<Report, Stop>
     requires within { length bytes.now ≤ most_of options.mode }
-    requires steps { 1 ≤ options.steps }
-    requires turn { 1 ≤ options.turn }
-    ensures { Comes (IsTold options bytes.now) (stream (O.held out.old) (O.held out.new) (O.faults out.old) (O.faults out.new)) result }
+    requires steps { options.mode ≡ Mode.Play → 1 ≤ options.steps }
+    requires turn { options.mode ≡ Mode.Play → 1 ≤ options.turn }
+    ensures told { Comes (IsTold options bytes.now) (stream (O.held out.old) (O.held out.new) (O.faults out.old) (O.faults out.new)) result }
+
+    // What a play wrote is what its scripts print alone.
+    ensures alone { options.mode ≡ Mode.Play → ComesAlone (PlayedAlone options.steps bytes.now)
+        (stream (O.held out.old) (O.held out.new) (O.faults out.old) (O.faults out.new)) result }
 {
     match options.mode {
         Mode::Play => play_parts(alloc, bytes, options.steps, options.turn, out),
@@ -86,7 +91,7 @@ fn perform_script<S: WorldStore + Drop, O: Sink>(
     requires mode { options.mode ≢ Mode.Audit }
     requires script { options.mode ≢ Mode.Play }
     requires within { length bytes.now ≤ most_of options.mode }
-    ensures { Comes (owed_in options.mode options.steps bytes.now) (stream (O.held out.old) (O.held out.new) (O.faults out.old) (O.faults out.new)) result }
+    ensures { Comes (owed_in options.mode options.steps options.turn bytes.now) (stream (O.held out.old) (O.held out.new) (O.faults out.old) (O.faults out.new)) result }
 {
     let mut texts = match Texts::new(alloc) {
         Ok(texts) => texts,

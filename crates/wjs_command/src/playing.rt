@@ -4,10 +4,10 @@ ghost use Rattle.wjs_base.specs.Text.{IsTable};
 ghost use Rattle.wjs_io.specs.Streams.{stream};
 ghost use Rattle.wjs_model.specs.Texts.{KnowsUnit, PlacesUnit};
 ghost use Rattle.wjs_model.specs.Units.{unit_in};
-ghost use Rattle.wjs_command.specs.Plays.{OfParts, OfPlay};
-ghost use Rattle.wjs_command.specs.Attempt.{Comes, Refuses, RefusesInput, TellsPlay};
+ghost use Rattle.wjs_command.specs.Plays.{IsPlayed, OfPlay, RanAlone, PlayedAlone};
+ghost use Rattle.wjs_command.specs.Attempt.{Comes, ComesAlone, RefusesInput, TellsPlay};
 
-use crate::report::{Report, Stop, done, refuse, report_line};
+use crate::report::{Report, Stop, done, refuse, refuse_by, report_line};
 use crate::status::Status;
 use std::alloc::Global;
 use std::mem::ManuallyDrop;
@@ -18,8 +18,8 @@ use wjs_io::Sink;
 use wjs_load::library;
 use wjs_model::Unit;
 
-/// Runs the scripts that the bytes are divided into by turns of so many steps, each with this budget for a try, in worlds of their own
-/// under one first world.
+/// Plays the scripts that the bytes are divided into, in rounds of turns of so many steps, each with this budget for a try: in worlds
+/// of their own under one first world.
 pub fn play_parts<O: Sink>(
     alloc: Global,
     bytes: &[u8],
@@ -30,7 +30,8 @@ pub fn play_parts<O: Sink>(
     requires within { length bytes.now ≤ 2 ^ 24 }
     requires budget { 1 ≤ budget }
     requires turn { 1 ≤ turn }
-    ensures { Comes (OfPlay budget bytes.now) (stream (O.held out.old) (O.held out.new) (O.faults out.old) (O.faults out.new)) result }
+    ensures told { Comes (OfPlay budget turn bytes.now) (stream (O.held out.old) (O.held out.new) (O.faults out.old) (O.faults out.new)) result }
+    ensures alone { ComesAlone (PlayedAlone budget bytes.now) (stream (O.held out.old) (O.held out.new) (O.faults out.old) (O.faults out.new)) result }
 {
     let mut texts = match Texts::new(alloc) {
         Ok(texts) => texts,
@@ -42,7 +43,7 @@ pub fn play_parts<O: Sink>(
     }
 }
 
-/// Runs the parts behind the library.
+/// Plays the parts behind the library.
 fn play_units<O: Sink>(
     alloc: Global,
     texts: Texts,
@@ -54,11 +55,13 @@ fn play_units<O: Sink>(
     requires table { IsTable texts }
     requires parts { All (KnowsUnit texts) parts.items }
     requires places { All (PlacesUnit texts) parts.items }
-    requires some { 1 ≤ length parts.items }
     requires few { length parts.items ≤ 1000 }
     requires budget { 1 ≤ budget }
     requires turn { 1 ≤ turn }
-    ensures { Comes (OfParts budget (map (unit_in texts) parts.items)) (stream (O.held out.old) (O.held out.new) (O.faults out.old) (O.faults out.new)) result }
+    ensures told { Comes (IsPlayed budget turn (map (unit_in texts) parts.items))
+        (stream (O.held out.old) (O.held out.new) (O.faults out.old) (O.faults out.new)) result }
+    ensures alone { ComesAlone (RanAlone budget (map (unit_in texts) parts.items))
+        (stream (O.held out.old) (O.held out.new) (O.faults out.old) (O.faults out.new)) result }
 {
     let mut texts = texts;
     let library = match library(alloc, &mut texts) {
@@ -108,15 +111,5 @@ fn refuse_input(alloc: Global, fault: InputFault) -> Result<Report, Stop>
             Err(OutOfMemory) => Err(Stop::OutOfMemory),
         },
         InputFault::OutOfMemory => Err(Stop::OutOfMemory),
-    }
-}
-
-/// The report of a refusal in these words.
-fn refuse_by(alloc: Global, words: &[u8]) -> Result<Report, Stop>
-    ensures { Refuses words.now result }
-{
-    match report_line(alloc, Status::Refused, b"", words) {
-        Ok(report) => Ok(report),
-        Err(OutOfMemory) => Err(Stop::OutOfMemory),
     }
 }

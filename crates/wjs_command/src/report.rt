@@ -4,7 +4,7 @@ ghost use Rattle.std.specs.Fmt.{decimal};
 ghost use Rattle.wjs_command.specs.declared.status.Status.TheVariants as statuses;
 ghost use Rattle.wjs_command.specs.Table.{line as as_line};
 ghost use Rattle.wjs_command.specs.Refusals.{text_of_refusal};
-ghost use Rattle.wjs_command.specs.Attempt.{IsReport};
+ghost use Rattle.wjs_command.specs.Attempt.{IsReport, Refuses};
 
 use crate::status::Status;
 use std::alloc::Global;
@@ -55,6 +55,16 @@ pub fn report_line(
         return Err(OutOfMemory);
     }
     Ok(Report { status, line })
+}
+
+/// The report of a refusal in these words.
+pub fn refuse_by(alloc: Global, words: &[u8]) -> Result<Report, Stop>
+    ensures { Refuses words.now result }
+{
+    match report_line(alloc, Status::Refused, b"", words) {
+        Ok(report) => Ok(report),
+        Err(OutOfMemory) => Err(Stop::OutOfMemory),
+    }
 }
 
 /// The report of bytes that are no script.

@@ -3,21 +3,21 @@
 /// How a run of the program ends.
 #[derive(Clone, Copy, Debug, PartialEq, Eq)]
 pub enum Status {
-    /// The run ended normally.
+    /// The run ended normally, the script was checked, all activities of a play have ended, or the audit says yes.
     Done,
-    /// It ended by a throw.
+    /// The run ended by a throw.
     Threw,
-    /// It needed more steps than there were.
+    /// It needed more steps than there were; in a play the library did.
     StepsSpent,
     /// Memory ran out.
     OutOfMemory,
-    /// The script was refused before it ran.
+    /// The bytes were refused: they are too many, or no script, no scripts of a play, or no log whose answers are right.
     Refused,
     /// The words were not understood, and nothing was read.
     Usage,
     /// The source failed.
     ReadFault,
-    /// The script's output could not be written.
+    /// The output could not be written.
     OutFault,
     /// The line on errors could not be written.
     ErrFault,

@@ -1,14 +1,14 @@
 //! The work of the program, from its words and the bytes of its source to what it writes.
-ghost use Rattle.std.specs.Prelude.{◌≡◌, ◌≢◌, ◌≤◌, map, codes, Ok, Err};
+ghost use Rattle.std.specs.Prelude.{◌≡◌, ◌≢◌, ◌≤◌, map, Ok, Err};
 ghost use Rattle.std.specs.String.{string_bytes};
 ghost use Rattle.wjs_io.specs.Streams.{stream};
 ghost use Rattle.wjs_gen.specs.Script.{script};
 ghost use Rattle.wjs_command.specs.Due.{most_of, IsTold};
-ghost use Rattle.wjs_command.specs.Attempt.{Attempts, Serves, Comes, Refuses, Reports, Finishes};
+ghost use Rattle.wjs_command.specs.Attempt.{Attempts, Serves, Comes, Reports, Finishes};
 ghost use Rattle.wjs_command.specs.Command.{Ends, Causes};
 
 use crate::performing::perform;
-use crate::report::{Report, Stop, report_line};
+use crate::report::{Report, Stop, refuse_by};
 use crate::status::Status;
 use std::alloc::Global;
 use wjs_base::OutOfMemory;
@@ -31,8 +31,6 @@ fn generate<O: Sink>(alloc: Global, options: Options, out: &mut O) -> Result<Rep
     requires mode { options.mode ≡ Mode.Gen }
     requires least { 1 ≤ options.number }
     requires greatest { options.number ≤ 50000 }
-    requires steps { 1 ≤ options.steps }
-    requires turn { 1 ≤ options.turn }
     ensures { Comes (IsTold options (script options.number)) (stream (O.held out.old) (O.held out.new) (O.faults out.old) (O.faults out.new)) result }
 {
     match script_of(alloc, options.number) {
@@ -57,19 +55,10 @@ fn read<S: Source, O: Sink>(
 {
     match read_all(alloc, source, most_bytes(options.mode)) {
         Ok(bytes) => perform(alloc, options, bytes.as_slice(), out),
-        Err(ReadFault::TooLong) => refuse_length(alloc),
+        // A source that gave too many bytes.
+        Err(ReadFault::TooLong) => refuse_by(alloc, b"too long"),
         Err(ReadFault::Failed) => Err(Stop::ReadFault),
         Err(ReadFault::OutOfMemory) => Err(Stop::OutOfMemory),
-    }
-}
-
-/// The report of a source that gave too many bytes.
-fn refuse_length(alloc: Global) -> Result<Report, Stop>
-    ensures { Refuses (codes "too long") result }
-{
-    match report_line(alloc, Status::Refused, b"too long", b"") {
-        Ok(report) => Ok(report),
-        Err(OutOfMemory) => Err(Stop::OutOfMemory),
     }
 }
 
@@ -163,7 +152,7 @@ pub fn command<S: Source, O: Sink, E: Sink>(
     out: &mut O,
     err: &mut E,
 ) -> Status
-    // For the words and the bytes that the source had, the run ends by the table.
+    // For the words and the bytes that the source had, the run ends by the table, and a play wrote what its scripts print alone.
     ensures ends { Ends (map string_bytes words.now)
         (stream (S.left source.old) (S.left source.new) (S.faults source.old) (S.faults source.new))
         (stream (O.held out.old) (O.held out.new) (O.faults out.old) (O.faults out.new))

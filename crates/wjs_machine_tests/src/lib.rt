@@ -11,6 +11,3 @@ pub use owners::{is_of_owner, world_of_object};
 pub use runs::{run_program, run_unheard};
 pub use turns::{turn, two_turns};
 pub use walks::{enter_below, run_part, walk_on};
-
-#[cfg(test)]
-mod tests;

@@ -23,6 +23,8 @@ use Rattle.wjs_session.specs.Filled.{filled}
 use Rattle.wjs_session.specs.Session.{holding, world_at, first_copy, has_child, settled, outer, full_of, passes, owned, around_of, session}
 use Rattle.wjs_session.specs.Kept.{IsChild, IsShut, IsSession}
 use Rattle.wjs_session.specs.Begun.{Begins}
+use Rattle.wjs_session.specs.Along.{along}
+use Rattle.wjs_session.specs.Tells.{actions_of, under, unmarked, TellsMarks}
 use Rattle.wjs_session.proofs.Worlds.{found_at, at_found, id_at, first_there, first_child}
 use Rattle.wjs_session.proofs.Marking.{own_fresh}
 use Rattle.wjs_session.proofs.Acting.{sprout_is}
@@ -163,9 +165,22 @@ module _ (F : Worlds) (p : WorldId) (owner : ℕ) (r : IsReached F) (first : fir
     works = refl;
   }
 
+  outer_now : (v : View) → outer c v ≡ v
+  outer_now v = same_view (outer c v) v (λ t. get_outer c v t ∙ ap (λ b. cond b (map.get c.copy t) (map.get v t)) (untouched_bare c refl refl refl t))
+
+  -- nothing was told, and its world has no marks
+  tells_now : (told : List (PlainAct × PlainReply)) → told ≡ [] → TellsMarks (world_at now (next_id F owner)) (begun (next_id F owner)) told
+  tells_now told e = λ v q.
+      (λ j. along (actions_of (e j)) (holding (world_now j).id v ∷ []) (unmarked (world_now j) v))
+      ∙ (λ j. (sym (full_now v) j, record c { copy = sym (outer_now v) j }))
+      ∙ ap (λ (y : World plain). (full_of (world_at now (next_id F owner)) (begun (next_id F owner)) v, under y v)) (sym world_now)
+
   -- by the worlds that the sprout leaves
   pub kept_begun : IsSession (after_sprout F p owner false) (next_id F owner) (begun (next_id F owner))
   kept_begun = subst (λ H. IsSession H (next_id F owner) (begun (next_id F owner))) (sym is_now) kept_now
 
   pub begins : (told : List (PlainAct × PlainReply)) → told ≡ [] → Begins F owner (next_id F owner) (session (after_sprout F p owner false) (next_id F owner) (begun (next_id F owner)) told false)
   begins told e = subst (λ H. Begins F owner (next_id F owner) (session H (next_id F owner) (begun (next_id F owner)) told false)) (sym is_now) (begins_now told e)
+
+  pub tells_begun : (told : List (PlainAct × PlainReply)) → told ≡ [] → TellsMarks (world_at (after_sprout F p owner false) (next_id F owner)) (begun (next_id F owner)) told
+  tells_begun told e = subst (λ (H : Worlds). TellsMarks (world_at H (next_id F owner)) (begun (next_id F owner)) told) (sym is_now) (tells_now told e)

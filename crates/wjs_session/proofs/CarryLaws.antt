@@ -65,9 +65,12 @@ written_touched G d s there h =
     let x = world_at G d in
     or_left (has_row x s) (map.contains_key x.closed s.object) (or_right (map.contains_key x.first s) (map.contains_key x.written s) (sym (ap (λ o. option_map_or (λ (y : World plain). map.contains_key y.written s) o false) (found_at G d there)) ∙ h))
 
-pub read_written : (G : Worlds) (d : WorldId) (s : Slot) → IsReached G → has_world G d ≡ true → is_written G d s ≡ true → after_read G d s ≡ G
+pub read_again : (G : Worlds) (d : WorldId) (s : Slot) → IsReached G → has_world G d ≡ true → is_touched (world_at G d) s ≡ true → after_read G d s ≡ G
 unfolding after_read
-read_written G d s r there h = read_on d s (world_at G d) (written_touched G d s there h) G r (found_at G d there)
+read_again G d s r there h = read_on d s (world_at G d) h G r (found_at G d there)
+
+pub read_written : (G : Worlds) (d : WorldId) (s : Slot) → IsReached G → has_world G d ≡ true → is_written G d s ≡ true → after_read G d s ≡ G
+read_written G d s r there h = read_again G d s r there (written_touched G d s there h)
 
 -- ---- the loop
 
@@ -77,10 +80,10 @@ passed_by true true e = absurd (true≢false e)
 passed_by true false e = refl
 passed_by false b e = refl
 
-less_apart : (t s : Slot) → is_lt (slot_cmp t s) ≡ true → eq_by_cmp slot_cmp t s ≡ false
+pub less_apart : (t s : Slot) → is_lt (slot_cmp t s) ≡ true → eq_by_cmp slot_cmp t s ≡ false
 less_apart t s l = false_from_ne_true (eq_by_cmp slot_cmp t s) (λ e. true≢false (sym l ∙ ap (λ (q : Slot). is_lt (slot_cmp q s)) (key_is slot_exact t s e) ∙ not_self slot_total s))
 
-more_apart : (t s : Slot) → is_lt (slot_cmp s t) ≡ true → eq_by_cmp slot_cmp t s ≡ false
+pub more_apart : (t s : Slot) → is_lt (slot_cmp s t) ≡ true → eq_by_cmp slot_cmp t s ≡ false
 more_apart t s l = false_from_ne_true (eq_by_cmp slot_cmp t s) (λ e. true≢false (sym l ∙ ap (λ (q : Slot). is_lt (slot_cmp s q)) (key_is slot_exact t s e) ∙ not_self slot_total s))
 
 module _ (F : Worlds) (i : WorldId) (G : Worlds) (d : WorldId) where

@@ -68,7 +68,7 @@ pair_some G d q x z fx up fz =
     ∙ ap (option_map (λ p. (x, p))) fz
 
 -- a world with this parent is there
-parent_found : (G : Worlds) (d q : WorldId) {P : Type 0} → parent_of G d ≡ Some q → ((x : World plain) → find_world G d ≡ Some x → x.parent ≡ Some q → P) → P
+pub parent_found : (G : Worlds) (d q : WorldId) {P : Type 0} → parent_of G d ≡ Some q → ((x : World plain) → find_world G d ≡ Some x → x.parent ≡ Some q → P) → P
 parent_found G d q {P = P} h f = by (find_world G d) refl h
   where
     by : (o : Option (World plain)) → find_world G d ≡ o → option_and_then (λ (x : World plain). x.parent) o ≡ Some q → P

@@ -19,12 +19,13 @@ use Rattle.wjs_store.proofs.Keeps.{reached_read, reached_list}
 use Rattle.wjs_store.proofs.MovedMarks.{kept_parts, past_at}
 use Rattle.wjs_store.proofs.Writes.{by_one, same_self, get_put, has_at, reached_write}
 use Rattle.wjs_store.proofs.Commits.{local_find, inherits_find, find_at_here}
-use Rattle.wjs_session.specs.Session.{holding, world_at, first_copy, has_child, passes, owned, around_of}
+use Rattle.wjs_session.specs.Session.{holding, world_at, first_copy, has_child, outer, passes, owned, around_of}
 use Rattle.wjs_session.specs.Kept.{IsChild}
 use Rattle.wjs_session.specs.Grown.{Grows}
 use Rattle.wjs_session.proofs.Worlds.{found_at, at_found, id_at, content_is, first_each, Above, above, write_leaf}
 use Rattle.wjs_session.proofs.Marking.{Stands, Marked, marked_read, marked_list, touched_write, marked_write}
 use Rattle.wjs_session.specs.Fills.{each_twice}
+use Rattle.wjs_session.specs.Maps.{get_outer}
 
 -- ---- one world is changed, and its number, its parent and whether it is strict stay
 
@@ -146,6 +147,18 @@ module _ (F : Worlds) (i : WorldId) (r : IsReached F) (c : IsChild F i) where
 
   pub write_copy : (s : Slot) (d : Option Value) (t : Slot) → map.get (world_at (after_write F i s d) i).copy t ≡ cond (eq_by_cmp slot_cmp t s) d (map.get (world_at F i).copy t)
   write_copy s d t = ap (λ (y : World plain). map.get y.copy t) (write_world s d) ∙ get_put slot_total (world_at F i).copy s d t
+
+  -- what it holds then under a view
+  pub write_outer : (s : Slot) (d : Option Value) (v : View) (t : Slot) → map.get (outer (world_at (after_write F i s d) i) v) t ≡ cond (eq_by_cmp slot_cmp t s) d (map.get (outer (world_at F i) v) t)
+  write_outer s d v t =
+      get_outer (world_at (after_write F i s d) i) v t
+      ∙ (λ j. cond (write_touched s d t j) (write_copy s d t j) (map.get v t))
+      ∙ by (eq_by_cmp slot_cmp t s)
+      ∙ ap (cond (eq_by_cmp slot_cmp t s) d) (sym (get_outer (world_at F i) v t))
+    where
+      by : (b : Bool) → cond (b || is_touched (world_at F i) t) (cond b d (map.get (world_at F i).copy t)) (map.get v t) ≡ cond b d (cond (is_touched (world_at F i) t) (map.get (world_at F i).copy t) (map.get v t))
+      by true = refl
+      by false = refl
 
   pub grows_read : (s : Slot) → Grows F i (after_read F i s)
   unfolding after_read

@@ -12,13 +12,17 @@ pub mod Owning
 pub mod Writing
 pub mod Alone
 pub mod Bringing
+pub mod Unders
 pub mod Committing
+pub mod MarkLaws
 pub mod CarryLaws
+pub mod ToCome
 pub mod BeginLaws
 pub mod EndLaws
 pub mod RestLaws
 pub mod CallLaws
 pub mod StoreLaws
 pub mod AnswerLaws
+pub mod TellLaws
 pub mod CommitCalls
 pub mod Leaving

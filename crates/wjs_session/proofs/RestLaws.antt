@@ -1,5 +1,5 @@
 -- What others do while a session rests changes nothing of it.
-use Rattle.std.proofs.Common.{◌≡◌, Bool, true, false, cond, not, ◌&&◌, List, refl, ap, sym, ◌∙◌, subst, map as each}
+use Rattle.std.proofs.Common.{◌≡◌, Bool, true, false, cond, not, ◌&&◌, List, [], ◌∷◌, refl, ap, sym, ◌∙◌, subst, map as each}
 use Rattle.std.specs.Option.{is_none}
 use Rattle.std.specs.List.{AllByRecursion}
 use Rattle.std.specs.FinMap as map
@@ -14,11 +14,13 @@ use Rattle.wjs_session.specs.Session.{holding, world_at, first_copy, settled, ou
 use Rattle.wjs_session.specs.Kept.{IsShut, IsSession}
 use Rattle.wjs_session.specs.Stores.{worlds_in}
 use Rattle.wjs_session.specs.Told.{told_of}
+use Rattle.wjs_session.specs.Along.{along}
+use Rattle.wjs_session.specs.Tells.{actions_of, unmarked, TellsMarks}
 use Rattle.wjs_session.specs.Returns.{Returns, IsTheSame, RestChangesNothing}
 use Rattle.wjs_session.specs.Resumed.{RestingStandsStill, RestingIsSound}
 use Rattle.wjs_session.specs.Sound.{sound_session}
 use Rattle.wjs_session.proofs.Acting.{fill_alike}
-use Rattle.wjs_session.specs.Maps.{get_outer}
+use Rattle.wjs_session.specs.Maps.{get_outer, same_view}
 
 module _ (F F' : Worlds) (i : WorldId) (b : Returns F F' i) where
   touched_same : (s : Slot) → is_touched (world_at F' i) s ≡ is_touched (world_at F i) s
@@ -57,6 +59,16 @@ module _ (F F' : Worlds) (i : WorldId) (b : Returns F F' i) where
     shut = subst (λ (w : Slot → Bool). AllByRecursion (IsShut w) G) (λ k s. sym (settled_same G s) k) h.shut;
   }
 
+-- what was told makes the marks still
+tells_still : (F F' : Worlds) (i : WorldId) (G : Worlds) (told : List (PlainAct × PlainReply)) → Returns F F' i → TellsMarks (world_at F i) G told → TellsMarks (world_at F' i) G told
+tells_still F F' i G told b old = λ v p.
+    let x = world_at F i in
+    let y = world_at F' i in
+    let same : outer y v ≡ outer x v = same_view (outer y v) (outer x v) (outer_same F F' i b v) in
+    (λ j. along (actions_of told) (holding (b.marks j).id v ∷ []) (unmarked (b.marks j) v))
+    ∙ old v (ap (λ (test : View → Bool). test v) (sym (passes_same F F' i b)) ∙ p)
+    ∙ (λ j. (sym (full_same F F' i b G) j v, record (sym b.marks j) { copy = sym same j }))
+
 pub rest_law : RestChangesNothing
 rest_law F F' i G h b = (kept_same F F' i b G h, full_same F F' i b G, passes_same F F' i b)
 
@@ -67,7 +79,11 @@ resumed F' i G told m e = record {
 }
 
 pub stands_still : RestingStandsStill
-stands_still F F' r k b = (kept_same F F' r.world b (worlds_in r.inner) k, full_same F F' r.world b (worlds_in r.inner), passes_same F F' r.world b)
+stands_still F F' r k b = (
+  record { is = kept_same F F' r.world b (worlds_in r.inner) k.is; tells = tells_still F F' r.world (worlds_in r.inner) (told_of r.told.chain.value) b k.tells },
+  full_same F F' r.world b (worlds_in r.inner),
+  passes_same F F' r.world b,
+)
 
 pub is_sound : RestingIsSound
-is_sound F r k = sound_session F r.world (worlds_in r.inner) (told_of r.told.chain.value) false (λ e. k) refl
+is_sound F r k = sound_session F r.world (worlds_in r.inner) (told_of r.told.chain.value) false (λ e. k.is) refl

@@ -17,6 +17,7 @@ use Rattle.wjs_store.proofs.Ascending.{same_listed}
 use Rattle.wjs_store.proofs.Writes.{by_bool, or_false}
 use Rattle.wjs_store.proofs.Commits.{pairs, hand_one, hand_on, close_on, pair_parts}
 use Rattle.wjs_session.specs.Kept.{IsShut}
+use Rattle.wjs_session.specs.Along.{moved_into}
 use Rattle.wjs_session.proofs.Worlds.{all_find}
 use Rattle.wjs_session.proofs.ShutCommits.{written_pass, shut_settle}
 use Rattle.wjs_session.proofs.Filling.{fill_at, filled_write}
@@ -159,3 +160,14 @@ module _ (w : Slot → Bool) (o : View) where
             last : (b : Bool) → IsShut w p.0 → AllByRecursion (IsShut w) (cond b (settle p.0 p.1.id G) G)
             last true s = shut_settle w p.0 p.1.id G s shut
             last false s = shut
+
+    -- what it moves
+    pub moved_filled : (i : WorldId) → moved_into i (each (fill w o) G) d ≡ moved_into i G d
+    moved_filled i = ap (λ r. option_map_or (λ (e : World plain × World plain). cond (same_world e.1.id i && is_none (fault_in e.0 e.1)) (moves e.0) []) r []) (pair_fill G d) ∙ by (with_parent G d) refl
+      where
+        by : (r : Option (World plain × World plain)) → with_parent G d ≡ r → option_map_or (λ (e : World plain × World plain). cond (same_world e.1.id i && is_none (fault_in e.0 e.1)) (moves e.0) []) (option_map both r) [] ≡ option_map_or (λ (e : World plain × World plain). cond (same_world e.1.id i && is_none (fault_in e.0 e.1)) (moves e.0) []) r []
+        by None e = refl
+        by (Some p) e =
+            let shut_x = all_find (IsShut w) G d p.0 shut (pair_parts G d p e).0 in
+            ap (λ q. cond (same_world p.1.id i && is_none q) (moves (fill w o p.0)) []) (fault_fill p.0 p.1 shut_x)
+            ∙ ap (λ es. cond (same_world p.1.id i && is_none (fault_in p.0 p.1)) es []) (moves_fill p.0 (map.keys p.0.written) (written_pass w p.0 shut_x))

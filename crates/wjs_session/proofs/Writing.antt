@@ -28,7 +28,7 @@ use Rattle.wjs_session.proofs.Worlds.{all_weaker, all_each, first_each, first_co
 use Rattle.wjs_session.proofs.Filling.{filled_write}
 use Rattle.wjs_session.proofs.Shutting.{shut_after_write}
 use Rattle.wjs_session.proofs.Below.{Free, write_everywhere}
-use Rattle.wjs_session.proofs.Growing.{write_touched, write_copy, grows_write, grows_same}
+use Rattle.wjs_session.proofs.Growing.{write_touched, write_copy, write_outer, grows_write, grows_same}
 use Rattle.wjs_session.proofs.Looking.{inner_there, own_content, settled_touched, settled_same}
 use Rattle.wjs_session.proofs.Acting.{fill_alike}
 use Rattle.wjs_session.specs.Maps.{get_filled, get_outer, same_view, same_content_self}
@@ -152,15 +152,7 @@ module _ (F : Worlds) (i : WorldId) (G : Worlds) (k : IsSession F i G) (s : Slot
 
   module _ (c : Option Value) where
     pub now_outer : (v : View) (t : Slot) → map.get (outer (world_at (after_write F i s c) i) v) t ≡ cond (eq_by_cmp slot_cmp t s) c (map.get (outer (world_at F i) v) t)
-    now_outer v t =
-        get_outer (world_at (after_write F i s c) i) v t
-        ∙ (λ j. cond (write_touched F i k.shared k.child s c t j) (write_copy F i k.shared k.child s c t j) (map.get v t))
-        ∙ by (eq_by_cmp slot_cmp t s)
-        ∙ ap (cond (eq_by_cmp slot_cmp t s) c) (sym (get_outer (world_at F i) v t))
-      where
-        by : (b : Bool) → cond (b || is_touched (world_at F i) t) (cond b c (map.get (world_at F i).copy t)) (map.get v t) ≡ cond b c (cond (is_touched (world_at F i) t) (map.get (world_at F i).copy t) (map.get v t))
-        by true = refl
-        by false = refl
+    now_outer v t = write_outer F i k.shared k.child s c v t
 
     -- with worlds below it
     inner_settled : (t : Slot) → settled (world_at (after_write F i s c) i) (after_write G i s c) t ≡ (eq_by_cmp slot_cmp t s || settled (world_at F i) G t)

@@ -62,7 +62,7 @@ IsShut-prop passing y = hlevel (props, content_set)
 AllShut-prop : (passing : Slot → Bool) (G : Worlds) → IsProp (AllByRecursion (IsShut passing) G)
 AllShut-prop passing G = AllByRecursion-prop (IsShut passing) (IsShut-prop passing) G
 
-IsSession-prop : (F : Worlds) (i : WorldId) (G : Worlds) → IsProp (IsSession F i G)
+pub IsSession-prop : (F : Worlds) (i : WorldId) (G : Worlds) → IsProp (IsSession F i G)
 IsSession-prop F i G = hlevel (props, IsReached-prop, IsChild-prop, AllShut-prop, number_set)
 
 pub session_prop : (spent : Bool) (F : Worlds) (i : WorldId) (G : Worlds) → IsProp (spent ≡ false → IsSession F i G)

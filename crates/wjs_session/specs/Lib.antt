@@ -1,6 +1,8 @@
 pub mod Filled
 pub mod Session
 pub mod Kept
+pub mod Along
+pub mod Tells
 pub mod Stores
 pub mod Grown
 pub mod Calls

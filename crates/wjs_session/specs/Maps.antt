@@ -4,21 +4,23 @@ use Rattle.std.specs.declared.cmp.Ordering.{Ordering}
 use Rattle.std.specs.declared.cmp.Ordering.TheVariants.{Equal}
 use Rattle.std.specs.Option.{option_map_or, is_none}
 use Rattle.std.specs.Ordering.{eq_by_cmp}
+use Rattle.std.specs.Cmp.{IsTotalOrder}
 use Rattle.std.specs.List.{list_any}
 use Rattle.std.specs.FinMap as map
-use Rattle.std.specs.FinMap.{FinMap}
+use Rattle.std.specs.FinMap.{FinMap, IsAntisymmetric}
 use Rattle.std.proofs.lemmas.Bool.{true≢false, false≢true}
 use Rattle.wjs_base.specs.declared.values.Slot.{Slot}
 use Rattle.wjs_base.specs.declared.values.Value.{Value}
 use Rattle.wjs_base.specs.Order.{slot_cmp, slot_total, slot_exact}
 use Rattle.wjs_base.specs.Same.{same_value, value_Decides}
-use Rattle.wjs_store.specs.Naming.{plain}
+use Rattle.wjs_store.specs.Naming.{Naming, plain}
 use Rattle.wjs_store.specs.Meaning.{View}
-use Rattle.wjs_store.specs.State.{World, put, has_row, is_touched, same_content, fails, fault_in, least, reads_of}
+use Rattle.wjs_store.specs.State.{World, put, has_row, is_touched, same_content, fails, fault_in, least}
 use Rattle.wjs_store.proofs.Marks.{key_is}
 use Rattle.wjs_store.proofs.Writes.{by_bool, get_put, or_false}
 use Rattle.wjs_store.proofs.Commits.{pairs, no_fault, agree_read, agree_closed, none_is}
-use Rattle.wjs_session.specs.Filled.{filled, put_all}
+use Rattle.wjs_session.specs.Filled.{filled}
+use Rattle.wjs_session.specs.Along.{put_all, own_of}
 use Rattle.wjs_session.specs.Session.{holding, outer, passes, owned}
 
 -- ---- one map over another
@@ -64,24 +66,27 @@ two_conds true true p q r f = refl
 two_conds true false p q r f = f refl
 two_conds false a p q r f = refl
 
-get_put_all : (v : Slot → Option Value) (ks : List Slot) (m : View) (t : Slot) → map.get (put_all (pairs v ks) m) t ≡ cond (list_any (eq_by_cmp slot_cmp t) ks) (v t) (map.get m t)
-get_put_all v [] m t = refl
-get_put_all v (s ∷ ks) m t =
-    get_put_all v ks (put m s (v s)) t
-    ∙ ap (cond (list_any (eq_by_cmp slot_cmp t) ks) (v t)) (get_put slot_total m s (v s) t)
-    ∙ two_conds (eq_by_cmp slot_cmp t s) (list_any (eq_by_cmp slot_cmp t) ks) (v s) (v t) (map.get m t) (λ e. ap v (sym (key_is slot_exact t s e)))
+get_put_all : {K V : Type 0} {R : K → K → Ordering} → IsTotalOrder R → IsAntisymmetric R → (v : K → Option V) (ks : List K) (m : FinMap R V) (t : K) → map.get (put_all (pairs v ks) m) t ≡ cond (list_any (eq_by_cmp R t) ks) (v t) (map.get m t)
+get_put_all total exact v [] m t = refl
+get_put_all {R = R} total exact v (s ∷ ks) m t =
+    get_put_all total exact v ks (put m s (v s)) t
+    ∙ ap (cond (list_any (eq_by_cmp R t) ks) (v t)) (get_put total m s (v s) t)
+    ∙ two_conds (eq_by_cmp R t s) (list_any (eq_by_cmp R t) ks) (v s) (v t) (map.get m t) (λ e. ap v (sym (key_is exact t s e)))
 
 -- what a session's own view holds, by what is recorded, and whether the slot is hidden
-abbrev pub own_by : Option (Option Value) → Bool → Bool → Option Value → Option Value
+abbrev pub own_by : {V : Type 0} → Option (Option V) → Bool → Bool → Option V → Option V
 own_by recorded closed row c = cond (is_some recorded) (unwrap_or recorded None) (cond (not (closed && not row)) c None)
+
+pub get_own : {K V : Type 0} {n : Naming K V} (x : World n) (base : FinMap n.cmp V) (t : K) → map.get (own_of x base) t ≡ own_by (map.get x.first t) (map.contains_key x.closed (n.object t)) (has_row x t) (map.get base t)
+get_own {K = K} {n = n} x base t =
+    let kept : K → Bool = λ s. not (map.contains_key x.closed (n.object s) && not (has_row x s)) in
+    get_put_all n.total n.exact (λ s. unwrap_or (map.get x.first s) None) (map.keys x.first) (map.retain_keys base kept) t
+    ∙ ap (λ b. cond b (unwrap_or (map.get x.first t) None) (map.get (map.retain_keys base kept) t)) (sym (map.contains_key-keys x.first t))
+    ∙ ap (cond (map.contains_key x.first t) (unwrap_or (map.get x.first t) None)) (map.get-retain_keys base kept t (λ s e. ap kept (sym (n.exact t s e))))
 
 pub get_owned : (x : World plain) (base : View) (t : Slot) → map.get (owned x base) t ≡ own_by (map.get x.first t) (map.contains_key x.closed t.object) (has_row x t) (map.get base t)
 unfolding owned
-get_owned x base t =
-    let kept : Slot → Bool = λ s. not (map.contains_key x.closed s.object && not (has_row x s)) in
-    get_put_all (λ s. unwrap_or (map.get x.first s) None) (map.keys x.first) (map.retain_keys base kept) t
-    ∙ ap (λ b. cond b (unwrap_or (map.get x.first t) None) (map.get (map.retain_keys base kept) t)) (sym (map.contains_key-keys x.first t))
-    ∙ ap (cond (map.contains_key x.first t) (unwrap_or (map.get x.first t) None)) (map.get-retain_keys base kept t (alike kept t))
+get_owned x base t = get_own x base t
 
 -- ---- the check
 

@@ -1,7 +1,7 @@
 -- What a session means. It is a world in a shared store, and an inner store whose first world has the same number. The worlds
 -- of the session are those of the inner store; what its first world holds is told by the shared world, and where that has
 -- touched nothing by the view.
-use Rattle.std.specs.Prelude.{◌≡◌, Bool, false, not, ◌&&◌, ◌||◌, List, map as each, None, Some, is_none, unwrap_or}
+use Rattle.std.specs.Prelude.{◌≡◌, Bool, false, ◌&&◌, ◌||◌, List, map as each, None, Some, is_none, unwrap_or}
 use Rattle.std.specs.Option.{option_map_or}
 use Rattle.std.specs.List.{list_any}
 use Rattle.std.specs.FinMap as map
@@ -9,10 +9,11 @@ use Rattle.wjs_base.specs.declared.ids.WorldId.{WorldId}
 use Rattle.wjs_base.specs.declared.values.Slot.{Slot}
 use Rattle.wjs_base.specs.Same.{same_value}
 use Rattle.wjs_store.specs.Naming.{plain}
-use Rattle.wjs_store.specs.State.{World, find_world, same_world, has_row, is_touched, same_content, fault_in, reads_of, at_world}
+use Rattle.wjs_store.specs.State.{World, find_world, same_world, is_touched, same_content, fault_in, at_world}
 use Rattle.wjs_store.specs.Shown.{first_of}
 use Rattle.wjs_store.specs.Meaning.{Meaning, View, Worlds, PlainAct, PlainReply}
-use Rattle.wjs_session.specs.Filled.{filled, put_all}
+use Rattle.wjs_session.specs.Filled.{filled}
+use Rattle.wjs_session.specs.Along.{own_of}
 
 -- a world without parent that holds this
 abbrev pub holding : WorldId → View → World plain
@@ -51,9 +52,9 @@ full_of x G v = each (widened x G v) G
 unfoldable pub passes : World plain → View → Bool
 passes x v = is_none (fault_in x (holding x.id v))
 
--- a first world's copy with the recorded reads of x put back, and without the slots of objects that x has listed which x has neither read nor written
+-- what x takes a first world to hold
 unfoldable pub owned : World plain → View → View
-owned x base = put_all (reads_of x) (map.retain_keys base (λ s. not (map.contains_key x.closed s.object && not (has_row x s))))
+owned x base = own_of x base
 
 -- the worlds without what the world i holds and without its marks
 abbrev pub around_of : Worlds → WorldId → Worlds

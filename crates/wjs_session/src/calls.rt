@@ -6,13 +6,13 @@
 ghost use Rattle.std.specs.Prelude.{◌≡◌, true, false, IsTrue, OnOk, IfOk};
 ghost use Rattle.std.specs.List.{AllByRecursion};
 ghost use Rattle.wjs_base.specs.declared.values.Slot.{Slot};
-ghost use Rattle.wjs_store.specs.State.{has_world, parent_of, read, write, list, commit, found, wrote, listed, committed, same_content};
+ghost use Rattle.wjs_store.specs.State.{has_world, parent_of, read, write, list, commit, found, wrote, listed, committed, same_content, after_read};
 ghost use Rattle.wjs_store.specs.Shown.{content_of, slots_of, verdict_of};
 ghost use Rattle.wjs_base.specs.Same.{same_value};
 ghost use Rattle.wjs_session.specs.Stores.{worlds_in};
 ghost use Rattle.wjs_session.specs.Session.{world_at, settled};
 ghost use Rattle.wjs_session.specs.Kept.{IsSession, IsAlone};
-ghost use Rattle.wjs_session.specs.Calls.{Answered, Brought};
+ghost use Rattle.wjs_session.specs.Calls.{Answered, Brought, Marks, AllTouched};
 
 use crate::carry::{carry, moves_into};
 use wjs_base::{Content, Names, ObjId, OutOfMemory, Slot, WorldId, same_value};
@@ -40,6 +40,7 @@ fn bring(
     requires kept { IsSession (worlds_in shared.old) world (worlds_in inner.old) }
     ensures brought { OnOk result (Brought (worlds_in shared.old) world (worlds_in inner.old) (worlds_in shared.new) (worlds_in inner.new)) }
     ensures settled { OnOk result (settled (world_at (worlds_in shared.new) world) (worlds_in inner.new) slot ≡ true) }
+    ensures reads { OnOk result (worlds_in shared.new ≡ after_read (worlds_in shared.old) world slot) }
     ensures works { OnOk result ((shared.new.spent ≡ shared.old.spent) × (inner.new.spent ≡ inner.old.spent)) }
 {
     let held = shared.read(world, slot)?;
@@ -61,6 +62,7 @@ fn bring_all(
     requires kept { IsSession (worlds_in shared.old) world (worlds_in inner.old) }
     ensures brought { OnOk result (Brought (worlds_in shared.old) world (worlds_in inner.old) (worlds_in shared.new) (worlds_in inner.new)) }
     ensures settled { OnOk result (AllByRecursion (λ (s : Slot). settled (world_at (worlds_in shared.new) world) (worlds_in inner.new) s ≡ true) (slots_of object names.now)) }
+    ensures stays { OnOk result (AllTouched (worlds_in shared.old) world object → worlds_in shared.new ≡ worlds_in shared.old) }
     ensures works { OnOk result ((shared.new.spent ≡ shared.old.spent) × (inner.new.spent ≡ inner.old.spent)) }
 {
     for place in 0..names.len() {
@@ -80,6 +82,7 @@ pub fn read(
     requires kept { IsSession (worlds_in shared.old) world (worlds_in inner.old) }
     requires there { IsTrue (has_world (worlds_in inner.old) at) }
     ensures answered { IfOk result (λ content. Answered (worlds_in shared.old) world (worlds_in inner.old) (read at slot) (found (content_of content)) (worlds_in shared.new) (worlds_in inner.new)) }
+    ensures marks { OnOk result (Marks (worlds_in shared.old) world (worlds_in inner.old) (read at slot) (worlds_in shared.new)) }
     ensures alone { OnOk result (IsAlone (worlds_in inner.old) → IsAlone (worlds_in inner.new)) }
     ensures works { OnOk result ((shared.new.spent ≡ shared.old.spent) × (inner.new.spent ≡ inner.old.spent)) }
 {
@@ -104,6 +107,7 @@ pub fn write(
     requires there { IsTrue (has_world (worlds_in inner.old) at) }
     requires alone { nested ≡ false → IsAlone (worlds_in inner.old) }
     ensures answered { OnOk result (Answered (worlds_in shared.old) world (worlds_in inner.old) (write at slot (content_of content)) wrote (worlds_in shared.new) (worlds_in inner.new)) }
+    ensures marks { OnOk result (Marks (worlds_in shared.old) world (worlds_in inner.old) (write at slot (content_of content)) (worlds_in shared.new)) }
     ensures alone { OnOk result (nested ≡ false → IsAlone (worlds_in inner.new)) }
     ensures works { OnOk result ((shared.new.spent ≡ shared.old.spent) × (inner.new.spent ≡ inner.old.spent)) }
 {
@@ -128,6 +132,7 @@ pub fn list(
     requires kept { IsSession (worlds_in shared.old) world (worlds_in inner.old) }
     requires there { IsTrue (has_world (worlds_in inner.old) at) }
     ensures answered { IfOk result (λ names. Answered (worlds_in shared.old) world (worlds_in inner.old) (list at object) (listed (slots_of object names)) (worlds_in shared.new) (worlds_in inner.new)) }
+    ensures marks { OnOk result (Marks (worlds_in shared.old) world (worlds_in inner.old) (list at object) (worlds_in shared.new)) }
     ensures alone { OnOk result (IsAlone (worlds_in inner.old) → IsAlone (worlds_in inner.new)) }
     ensures works { OnOk result ((shared.new.spent ≡ shared.old.spent) × (inner.new.spent ≡ inner.old.spent)) }
 {
@@ -150,6 +155,7 @@ pub fn commit(
     requires kept { IsSession (worlds_in shared.old) world (worlds_in inner.old) }
     requires there { IsTrue (has_world (worlds_in inner.old) at) }
     ensures answered { IfOk result (λ verdict. Answered (worlds_in shared.old) world (worlds_in inner.old) (commit at) (committed (verdict_of verdict)) (worlds_in shared.new) (worlds_in inner.new)) }
+    ensures marks { OnOk result (Marks (worlds_in shared.old) world (worlds_in inner.old) (commit at) (worlds_in shared.new)) }
     ensures alone { OnOk result (IsAlone (worlds_in inner.old) → IsAlone (worlds_in inner.new)) }
     ensures works { OnOk result ((shared.new.spent ≡ shared.old.spent) × (inner.new.spent ≡ inner.old.spent)) }
 {

@@ -1,8 +1,9 @@
 //! What a commit into the session's world writes there.
 ghost use Rattle.std.specs.Prelude.{◌≡◌, ◌↔◌, true, false, None, Some, IsTrue, OnOk};
-ghost use Rattle.wjs_store.specs.State.{has_world, parent_of};
+ghost use Rattle.wjs_store.specs.State.{has_world, parent_of, moves, write_all};
 ghost use Rattle.wjs_overlay.specs.Store.{check_of};
 ghost use Rattle.wjs_session.specs.Stores.{worlds_in};
+ghost use Rattle.wjs_session.specs.Session.{world_at};
 ghost use Rattle.wjs_session.specs.Kept.{IsSession};
 ghost use Rattle.wjs_session.specs.Carried.{Carried};
 
@@ -33,6 +34,7 @@ pub fn carry(
     requires kept { IsSession (worlds_in shared.old) world (worlds_in inner.old) }
     requires there { IsTrue (has_world (worlds_in inner.old) at) }
     ensures carried { OnOk result (Carried (worlds_in shared.old) world (worlds_in inner.old) at (worlds_in shared.new)) }
+    ensures writes { OnOk result (worlds_in shared.new ≡ write_all world (moves (world_at (worlds_in inner.old) at)) (worlds_in shared.old)) }
     ensures inner { OnOk result (worlds_in inner.new ≡ worlds_in inner.old) }
     ensures works { OnOk result ((shared.new.spent ≡ shared.old.spent) × (inner.new.spent ≡ inner.old.spent)) }
 {

@@ -87,7 +87,8 @@ impl Resting {
     }
 }
 
-/// A session means the same, and admits the same views, over all shared worlds that have its world as it was.
+/// A session means the same, and admits the same views, over all shared worlds that have its world as it was. That it still rests
+/// there, which `resume` asks, is said by `resting_stands_still`.
 pub fn rest_changes_nothing()
     ensures { RestChangesNothing }
 {}

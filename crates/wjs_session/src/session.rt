@@ -1,7 +1,10 @@
 //! The store of worlds of one session.
 ghost use Rattle.std.specs.Prelude.{◌≡◌, false};
 ghost use Rattle.wjs_session.specs.Stores.{worlds_in};
+ghost use Rattle.wjs_session.specs.Session.{world_at};
 ghost use Rattle.wjs_session.specs.Kept.{IsSession, IsAlone, session_prop, alone_prop};
+ghost use Rattle.wjs_session.specs.Told.{told_of};
+ghost use Rattle.wjs_session.specs.Tells.{TellsMarks, tells_prop};
 
 use crate::calls;
 use crate::told::{Entry, Told};
@@ -26,6 +29,7 @@ pub struct Session {
     ghost works: { spent ≡ false → (shared.spent ≡ false) × (inner.spent ≡ false) },
     ghost kept: { spent ≡ false → IsSession (worlds_in shared) world (worlds_in inner) } by { session_prop spent (worlds_in shared) world (worlds_in inner) },
     ghost alone: { spent ≡ false → nested ≡ false → IsAlone (worlds_in inner) } by { alone_prop spent nested (worlds_in inner) },
+    ghost marks: { spent ≡ false → TellsMarks (world_at (worlds_in shared) world) (worlds_in inner) (told_of told.chain.value) } by { tells_prop spent (world_at (worlds_in shared) world) (worlds_in inner) (told_of told.chain.value) },
 }
 
 impl Session {

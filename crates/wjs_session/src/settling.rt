@@ -1,7 +1,10 @@
 //! The end of a session: whether its check passes, and its commit into the first world.
 ghost use Rattle.std.specs.Prelude.{◌≡◌, false, true, IfOk};
 ghost use Rattle.wjs_session.specs.Stores.{worlds_in};
+ghost use Rattle.wjs_session.specs.Session.{world_at};
 ghost use Rattle.wjs_session.specs.Settled.{Agrees, Settles};
+ghost use Rattle.wjs_session.specs.Told.{told_of};
+ghost use Rattle.wjs_session.specs.Tells.{TellsMarks};
 
 use crate::session::Session;
 use wjs_base::OutOfMemory;
@@ -11,10 +14,12 @@ use wjs_store::{Verdict, WorldStore};
 impl Session {
     /// Whether a commit into the shared store's first world would move now: what the session has read still stands there.
     ///
-    /// Where it would, the session's own view is what the first world holds.
+    /// Where it would, the session's own view is what the first world holds. What it has read is told by its actions: they make
+    /// the marks that are asked, and there are no others.
     pub fn agrees(&self) -> bool
         requires { self.now.spent ≡ false }
-        ensures { Agrees (worlds_in self.now.shared) self.now.world result }
+        ensures agrees { Agrees (worlds_in self.now.shared) self.now.world result }
+        ensures told { TellsMarks (world_at (worlds_in self.now.shared) self.now.world) (worlds_in self.now.inner) (told_of self.now.told.chain.value) }
     {
         self.shared.commit_check(self.world).is_none()
     }

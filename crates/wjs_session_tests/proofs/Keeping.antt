@@ -14,7 +14,6 @@ use Rattle.wjs_session.specs.Session.{holding, world_at, first_copy, around_of, 
 use Rattle.wjs_session.specs.Kept.{IsSession}
 use Rattle.wjs_session.specs.Settled.{Settles}
 use Rattle.wjs_session.specs.Begun.{Begins}
-use Rattle.wjs_session.specs.Returns.{RestChangesNothing}
 use Rattle.wjs_session.specs.Resumed.{Rests, RestingStandsStill}
 use Rattle.wjs_session.specs.Others.{TurnsLeaveOthers, BeginsLeaveOthers, EndsLeaveOthers, WritesLeaveOthers, NumbersByOwner}
 
@@ -46,24 +45,24 @@ same_around F i G told m F' i' G' told' m' is is' e = sym (ap (λ (n : Meaning).
 -- ---- what others do
 
 -- after a write in the first world
-pub written_beside : RestChangesNothing → WritesLeaveOthers → (F F' : Worlds) (spent spent' : Bool) (p : WorldId) (s : Slot) (c : Option Value) (i : WorldId) (G : Worlds) → IsSession F i G → first_of F ≡ Some p → Does (fixed F spent) (write p s c) wrote (fixed F' spent') → IsSession F' i G
-written_beside rests writes F F' spent spent' p s c i G k first d =
+pub written_beside : RestingStandsStill → WritesLeaveOthers → (F F' : Worlds) (spent spent' : Bool) (p : WorldId) (s : Slot) (c : Option Value) (r : Resting) → Rests F r → first_of F ≡ Some p → Does (fixed F spent) (write p s c) wrote (fixed F' spent') → Rests F' r
+written_beside still writes F F' spent spent' p s c r k first d =
     let is : F' ≡ after_write F p s c = d.worlds map.empty refl in
-    subst (λ (H : Worlds). IsSession H i G) (sym is) (rests F (after_write F p s c) i G k (writes F p s c k.shared first i k.child)).0
+    subst (λ (H : Worlds). Rests H r) (sym is) (still F (after_write F p s c) r k (writes F p s c k.is.shared first r.world k.is.child)).0
 
 -- after another began on the world j
 pub begun_beside : RestingStandsStill → BeginsLeaveOthers → (F F' : Worlds) (owner : ℕ) (j n : WorldId) (m : Meaning) (G : Worlds) → Begins F owner n m → j ≡ n → IsSession F' j G → m.around ≡ around_of F' j → (r : Resting) → same_world r.world j ≡ false → Rests F r → Rests F' r
 begun_beside still begins F F' owner j n m G b is k a r past rests =
     let around : around_of F' j ≡ record (holding j map.empty) { parent = first_of F } ∷ F = sym a ∙ b.around ∙ ap (λ (w : WorldId). record (holding w map.empty) { parent = first_of F } ∷ F) (sym is) in
-    (still F F' r rests ((begins F F' j G k around).0.returns r.world past rests.child)).0
+    (still F F' r rests ((begins F F' j G k around).0.returns r.world past rests.is.child)).0
 
 -- after a turn of the session on the world j
 pub turned_beside : RestingStandsStill → TurnsLeaveOthers → (F F' : Worlds) (j j' : WorldId) (G G' : Worlds) → j' ≡ j → IsSession F j G → IsSession F' j' G' → around_of F' j' ≡ around_of F j → (r : Resting) → same_world r.world j ≡ false → Rests F r → Rests F' r
 turned_beside still turns F F' j j' G G' is k k' a r past rests =
     let there : IsSession F' j G' = subst (λ (w : WorldId). IsSession F' w G') is k' in
     let around : around_of F' j ≡ around_of F j = ap (around_of F') (sym is) ∙ a in
-    (still F F' r rests ((turns F F' j G G' k there around).0.returns r.world past rests.child)).0
+    (still F F' r rests ((turns F F' j G G' k there around).0.returns r.world past rests.is.child)).0
 
 -- after its end
 pub ended_beside : RestingStandsStill → EndsLeaveOthers → (F F' : Worlds) (j : WorldId) (G : Worlds) (verdict : Verdict) → IsSession F j G → Settles F j G F' verdict → (r : Resting) → same_world r.world j ≡ false → Rests F r → Rests F' r
-ended_beside still ends F F' j G verdict k e r past rests = (still F F' r rests ((ends F F' j G verdict k e).returns r.world past rests.child)).0
+ended_beside still ends F F' j G verdict k e r past rests = (still F F' r rests ((ends F F' j G verdict k e).returns r.world past rests.is.child)).0

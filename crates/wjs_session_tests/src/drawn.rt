@@ -212,6 +212,20 @@ fn is_marked(child: &FullStore, counts: Counts) -> bool {
     due.reads == counts.reads && due.writes == counts.writes && due.closed == counts.closed
 }
 
+/// Writes a slot in the first world of each store.
+fn write_first(
+    alloc: Global,
+    beside: &mut Beside,
+    shared: &mut Overlay,
+    write: Action,
+) -> Result<(), OutOfMemory> {
+    one(alloc, &mut beside.worlds, write)?;
+    one(alloc, &mut beside.sparse, write)?;
+    one(alloc, &mut beside.child, write)?;
+    one(alloc, shared, write)?;
+    Ok(())
+}
+
 /// Eight slots are written in the first world, and the session begins.
 fn start(alloc: Global, mut drawn: u64) -> Result<(Beside, Session), OutOfMemory> {
     let mut beside = Beside {
@@ -222,10 +236,7 @@ fn start(alloc: Global, mut drawn: u64) -> Result<(Beside, Session), OutOfMemory
     let mut shared = Overlay::new(alloc)?;
     for _ in 0..8 {
         drawn = next(drawn);
-        one(alloc, &mut beside.worlds, write_of(drawn))?;
-        one(alloc, &mut beside.sparse, write_of(drawn))?;
-        one(alloc, &mut beside.child, write_of(drawn))?;
-        one(alloc, &mut shared, write_of(drawn))?;
+        write_first(alloc, &mut beside, &mut shared, write_of(drawn))?;
     }
     let sprout = Action::Sprout {
         world: FIRST,
@@ -236,50 +247,72 @@ fn start(alloc: Global, mut drawn: u64) -> Result<(Beside, Session), OutOfMemory
     Ok((beside, begin(alloc, shared, 1)?))
 }
 
-/// A slot changes in the first world, and the session ends.
-fn finish(
+/// Compares what two first worlds hold in the eight slots.
+fn same_first(
     rt: &impl Abort,
     alloc: Global,
-    mut beside: Beside,
-    session: Session,
-    drawn: u64,
-) -> Result<(), Fail> {
-    let session = write_beside(session, slot_of(drawn), content_of(drawn))?;
-    one(alloc, &mut beside.child, write_of(drawn))?;
-    let (mut shared, agrees, verdict) = end(session)?;
-    let due = one(alloc, &mut beside.child, Action::Commit { world: CHILD })?;
-    assert!(rt; same_answer(&due, &Answer::Committed(verdict)));
-    assert_eq!(rt; agrees, verdict == Verdict::Moved);
+    child: &mut FullStore,
+    shared: &mut Overlay,
+) -> Result<(), OutOfMemory> {
     for place in 0..8u64 {
         let read = Action::Read {
             world: FIRST,
             slot: slot_of(place << 56),
         };
-        let due = one(alloc, &mut beside.child, read)?;
-        let got = one(alloc, &mut shared, read)?;
-        assert!(rt; same_answer(&due, &got), "slot {place}");
+        let due = one(alloc, child, read)?;
+        let got = one(alloc, shared, read)?;
+        assert!(rt; same_answer(&due, &got));
     }
     Ok(())
+}
+
+/// A slot changes in the first world, and the session ends.
+fn finish(
+    rt: &impl Abort,
+    alloc: Global,
+    child: &mut FullStore,
+    session: Session,
+    drawn: u64,
+) -> Result<(), OutOfMemory> {
+    let session = write_beside(session, slot_of(drawn), content_of(drawn))?;
+    one(alloc, child, write_of(drawn))?;
+    let (mut shared, agrees, verdict) = end(session)?;
+    let due = one(alloc, child, Action::Commit { world: CHILD })?;
+    assert!(rt; same_answer(&due, &Answer::Committed(verdict)));
+    assert!(rt; agrees == (verdict == Verdict::Moved));
+    same_first(rt, alloc, child, &mut shared)
+}
+
+/// A drawn action, behind which the session rests and goes on.
+fn act(
+    rt: &impl Abort,
+    alloc: Global,
+    beside: &mut Beside,
+    mut session: Session,
+    drawn: u64,
+) -> Result<Session, OutOfMemory> {
+    let due = step(alloc, beside, action_of(drawn, 0))?;
+    let got = one(alloc, &mut session, action_of(drawn, 1))?;
+    assert!(rt; same_answer(&due, &got));
+    let (session, counts) = marks(session)?;
+    assert!(rt; is_marked(&beside.child, counts));
+    Ok(session)
+}
+
+/// So many drawn actions, and the session's end.
+fn check(rt: &impl Abort, alloc: Global, mut drawn: u64, actions: u64) -> Result<(), OutOfMemory> {
+    let (mut beside, mut session) = start(alloc, drawn)?;
+    for _ in 0..actions {
+        drawn = next(drawn);
+        session = act(rt, alloc, &mut beside, session, drawn)?;
+    }
+    finish(rt, alloc, &mut beside.child, session, next(drawn))
 }
 
 #[test]
 fn drawn_actions_are_answered_and_marked_as_over_full_copies(rt: HostRuntime) -> Result<(), Fail> {
     for seed in 0..16u64 {
-        let mut drawn = next(next(seed));
-        let (mut beside, mut session) = start(rt.alloc(), drawn)?;
-        for round in 0..seed * 8 {
-            drawn = next(drawn);
-            let due = step(rt.alloc(), &mut beside, action_of(drawn, 0))?;
-            let got = one(rt.alloc(), &mut session, action_of(drawn, 1))?;
-            assert!(rt; same_answer(&due, &got), "seed {seed} round {round}");
-            let (rested, counts) = marks(session)?;
-            session = rested;
-            assert!(rt;
-                is_marked(&beside.child, counts),
-                "seed {seed} round {round}"
-            );
-        }
-        finish(&rt, rt.alloc(), beside, session, next(drawn))?;
+        check(&rt, rt.alloc(), next(next(seed)), seed * 8)?;
     }
     Ok(())
 }

@@ -2,8 +2,7 @@
 ghost use Rattle.std.specs.Prelude.{◌≡◌, false};
 ghost use Rattle.wjs_store.specs.State.{same_world};
 ghost use Rattle.wjs_session.specs.Stores.{worlds_in};
-ghost use Rattle.wjs_session.specs.Kept.{session_prop};
-ghost use Rattle.wjs_session.specs.Resumed.{Rests};
+ghost use Rattle.wjs_session.specs.Resumed.{Rests, rests_prop};
 
 use std::alloc::Global;
 use wjs_base::{OutOfMemory, WorldId};
@@ -22,8 +21,8 @@ pub(crate) struct Pair {
     one: Resting,
     two: Resting,
     ghost live: { shared.spent ≡ false },
-    ghost one_rests: { shared.spent ≡ false → Rests (worlds_in shared) one } by { session_prop shared.spent (worlds_in shared) one.world (worlds_in one.inner) },
-    ghost two_rests: { shared.spent ≡ false → Rests (worlds_in shared) two } by { session_prop shared.spent (worlds_in shared) two.world (worlds_in two.inner) },
+    ghost one_rests: { shared.spent ≡ false → Rests (worlds_in shared) one } by { rests_prop shared.spent (worlds_in shared) one },
+    ghost two_rests: { shared.spent ≡ false → Rests (worlds_in shared) two } by { rests_prop shared.spent (worlds_in shared) two },
     ghost apart: { same_world two.world one.world ≡ false },
 }
 

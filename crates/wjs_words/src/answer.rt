@@ -7,7 +7,7 @@ use std::alloc::AllocError;
 /// What the words ask for.
 #[derive(Clone, Copy)]
 pub struct Options {
-    /// The most steps that the run may take, from 1 to 1,000,000,000,000.
+    /// The most steps that a run may take, or in a play each try and the library, from 1 to 1,000,000,000,000.
     pub steps: u64,
     /// What to do.
     pub mode: Mode,

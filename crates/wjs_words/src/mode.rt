@@ -13,7 +13,7 @@ pub enum Mode {
     Tree,
     /// Run a generated script in place of one that is read.
     Gen,
-    /// Run the scripts that the source is divided into by turns, each in a world of its own, and commit each at its end.
+    /// Run the scripts that the source is divided into by turns, each in a world of its own, which is committed where it ends normally.
     Play,
     /// Run the script, and write the log of its actions on worlds in place of what it prints.
     Log,

@@ -1,125 +1,162 @@
-//! The longest script, and output that goes out while the run goes on.
+//! Scripts that are too long, and output that goes out while the run goes on.
 
 use super::*;
+use std::test::Fail;
 use wjs_io::read_all;
 
 /// The most bytes that a script has.
 const MOST: usize = 16_777_216;
 
-#[test]
-fn the_longest_script(rt: HostRuntime) -> Result<(), Fail> {
-    let alloc = rt.alloc();
+/// Of how many of so many spaces nothing was taken, where the run ended so.
+fn left_of(
+    alloc: Global,
+    length: usize,
+    err: Flow,
+    line: &[u8],
+    status: Status,
+) -> Result<Option<usize>, Fail> {
     let words = words(alloc, &[])?;
-    let spaces = vec![in alloc; b' '; MOST]?;
+    let spaces = vec![in alloc; b' '; length]?;
     let mut source = MemSource::new(spaces, Vec::new(alloc), 65_536);
-    let mut out = MemSink::new(alloc, Vec::new(alloc), 4096);
-    let mut err = MemSink::new(alloc, Vec::new(alloc), 4096);
+    let mut out = sink(alloc, WHOLE)?;
+    let mut err = sink(alloc, err)?;
     let ended = command(alloc, words.as_slice(), &mut source, &mut out, &mut err);
-    assert_eq!(rt; ended, Status::Done);
-    assert_eq!(rt; out.content(), b"".as_slice());
-    assert_eq!(rt; err.content(), b"".as_slice());
-    Ok(())
+    if ended != status || !out.content().is_empty() || err.content() != line {
+        return Ok(None);
+    }
+    let rest = read_all(alloc, &mut source, 8)?;
+    Ok(Some(rest.len()))
 }
 
 /// Of a script that is too long one byte more than the most is taken.
 #[test]
 fn scripts_that_are_too_long(rt: HostRuntime) -> Result<(), Fail> {
-    let alloc = rt.alloc();
-    let words = words(alloc, &[])?;
-    let rows = [
-        (MOST + 1, 0, "too long\n", Status::Refused, 0),
-        (MOST + 4, 0, "too long\n", Status::Refused, 3),
-        (MOST + 4, 2, "too ", Status::ErrFault, 3),
-    ];
-    for (length, err_fails, line, status, left) in rows {
-        let spaces = vec![in alloc; b' '; length]?;
-        let mut source = MemSource::new(spaces, Vec::new(alloc), 65_536);
-        let mut out = MemSink::new(alloc, Vec::new(alloc), 4096);
-        let mut err = MemSink::new(alloc, [err_fails].to_vec(alloc)?, 4);
-        let ended = command(alloc, words.as_slice(), &mut source, &mut out, &mut err);
-        assert_eq!(rt; ended, status, "{length} bytes");
-        assert_eq!(rt; out.content(), b"".as_slice(), "{length} bytes");
-        assert_eq!(rt; err.content(), line.as_bytes(), "{length} bytes");
-        let rest = read_all(alloc, &mut source, 8)?;
-        assert_eq!(rt; rest.len(), left, "{length} bytes");
+    for (length, err, line, status, left) in [
+        (
+            MOST + 1,
+            WHOLE,
+            b"too long\n".as_slice(),
+            Status::Refused,
+            0,
+        ),
+        (
+            MOST + 4,
+            WHOLE,
+            b"too long\n".as_slice(),
+            Status::Refused,
+            3,
+        ),
+        (
+            MOST + 4,
+            Flow(4, 2),
+            b"too ".as_slice(),
+            Status::ErrFault,
+            3,
+        ),
+    ] {
+        let got = left_of(rt.alloc(), length, err, line, status)?;
+        assert!(rt; got == Some(left));
     }
     Ok(())
 }
 
-fn repeated(alloc: Global, text: &str, count: usize) -> Result<String, AllocError> {
-    let mut all = String::new(alloc);
-    for _ in 0..count {
-        all.push_str(text)?;
+/// A thousand lines, a text of 8,192 letters, and lines without end.
+const LINES: &[u8] = b"for (var i = 0; i < 1000; i++) print(\"abcdefg\");";
+
+const TEXT: &[u8] = b"var s = \"ab\"; for (var i = 0; i < 12; i++) s = s + s; print(s);";
+
+const ENDLESS: &[u8] = b"while (true) print(1);";
+
+/// The script, out, what it prints so often and then, how many bytes of that go out, and the status. Output goes in pieces of 4,096
+/// bytes, also where out takes more in one call, and as it comes: a run that would print for very long ends as soon as out fails.
+const ROWS: [(&[u8], Flow, &str, usize, &str, usize, Status); 7] = [
+    (
+        LINES,
+        Flow(4096, 2),
+        "abcdefg\n",
+        1000,
+        "",
+        4096,
+        Status::OutFault,
+    ),
+    (
+        LINES,
+        Flow(100_000, 2),
+        "abcdefg\n",
+        1000,
+        "",
+        4096,
+        Status::OutFault,
+    ),
+    (
+        LINES,
+        Flow(100_000, 3),
+        "abcdefg\n",
+        1000,
+        "",
+        8000,
+        Status::Done,
+    ),
+    (
+        TEXT,
+        Flow(100_000, 2),
+        "ab",
+        4096,
+        "\n",
+        4096,
+        Status::OutFault,
+    ),
+    (
+        TEXT,
+        Flow(100_000, 3),
+        "ab",
+        4096,
+        "\n",
+        8192,
+        Status::OutFault,
+    ),
+    (TEXT, Flow(100_000, 4), "ab", 4096, "\n", 8193, Status::Done),
+    (
+        ENDLESS,
+        Flow(4096, 3),
+        "1\n",
+        4096,
+        "",
+        8192,
+        Status::OutFault,
+    ),
+];
+
+/// So many of the first bytes of a text so often and then another.
+fn front(
+    alloc: Global,
+    text: &str,
+    times: usize,
+    end: &str,
+    length: usize,
+) -> Result<Vec<u8>, AllocError> {
+    let mut all = Vec::new(alloc);
+    for _ in 0..times {
+        all.extend_from_slice(text.as_bytes())?;
     }
+    all.extend_from_slice(end.as_bytes())?;
+    all.truncate(length);
     Ok(all)
 }
 
-/// The run prints so many of the first bytes of `printed`.
-fn check_front(
-    rt: &impl Abort,
-    alloc: Global,
-    run: Run,
-    printed: &str,
-    gone: usize,
-    status: Status,
-) -> Result<(), Fail> {
-    assert!(rt; gone <= printed.len());
-    check(rt, alloc, run, &printed.as_bytes()[..gone], b"", status)
-}
-
-/// The pieces are of 4,096 bytes, also where the sink takes more in one call.
 #[test]
-fn output_goes_in_pieces(rt: HostRuntime) -> Result<(), Fail> {
-    let alloc = rt.alloc();
-    let lines = plain("for (var i = 0; i < 1000; i++) print(\"abcdefg\");");
-    let printed = repeated(alloc, "abcdefg\n", 1000)?;
-    for (piece, fails, gone, status) in [
-        (4096, 2, 4096, Status::OutFault),
-        (100_000, 2, 4096, Status::OutFault),
-        (100_000, 3, 8000, Status::Done),
-    ] {
-        let out = Flow { piece, fails };
-        let run = Run { out, ..lines };
-        check_front(&rt, alloc, run, printed.as_str(), gone, status)?;
-    }
-    Ok(())
-}
-
-/// One long text goes out in pieces, too.
-#[test]
-fn a_text_goes_in_pieces(rt: HostRuntime) -> Result<(), Fail> {
-    let alloc = rt.alloc();
-    let text = plain("var s = \"ab\"; for (var i = 0; i < 12; i++) s = s + s; print(s);");
-    let mut printed = repeated(alloc, "ab", 4096)?;
-    printed.push_str("\n")?;
-    for (fails, gone, status) in [
-        (2, 4096, Status::OutFault),
-        (3, 8192, Status::OutFault),
-        (4, 8193, Status::Done),
-    ] {
-        let out = Flow {
-            piece: 100_000,
-            fails,
+fn output_goes_in_pieces_as_it_comes(rt: HostRuntime) -> Result<(), Fail> {
+    for &(script, out, text, times, end, length, status) in &ROWS {
+        let run = Run {
+            words: &["--steps", "1000000000000"],
+            script,
+            source: WHOLE,
+            out,
+            err: WHOLE,
         };
-        let run = Run { out, ..text };
-        check_front(&rt, alloc, run, printed.as_str(), gone, status)?;
+        let printed = front(rt.alloc(), text, times, end, length)?;
+        assert!(rt; printed.len() == length);
+        assert!(rt; comes_to(rt.alloc(), run, printed.as_slice(), b"", status)?);
     }
     Ok(())
-}
-
-/// A run that would print for very long ends as soon as out fails.
-#[test]
-fn output_goes_as_it_comes(rt: HostRuntime) -> Result<(), Fail> {
-    let alloc = rt.alloc();
-    let printed = repeated(alloc, "1\n", 4096)?;
-    let out = Flow {
-        piece: 4096,
-        fails: 3,
-    };
-    let run = Run {
-        words: &["--steps", "1000000000000"],
-        out,
-        ..plain("while (true) print(1);")
-    };
-    check_front(&rt, alloc, run, printed.as_str(), 8192, Status::OutFault)
 }

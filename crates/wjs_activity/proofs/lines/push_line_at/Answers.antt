@@ -13,7 +13,8 @@ returns-then-is_of c =
     let inside : i < length ends = omega arith in
     on_ok c.push_line.result
     (λ wrote es told.
-    let h = line_here ends es i x c.args.activity (slice_get_read ends (length ends) i x refl inside c.end-item.is) told (c.is_of.ensures.yes c.if-is_of.true) in
+    let h = line_here ends es i x c.args.activity (slice_get_read ends (length ends) i x refl inside c.end-item.is) told
+    (c.is_of.ensures.yes c.if-is_of.true) in
     wrote h.0 h.1
     ∙ ap (λ (l : List ℕ). l ++ line_of h.0) c.loop-end.invariant.same
     ∙ ap (λ (l : List ℕ). c.args.text.now.items ++ l) (sym (c.loop-end.invariant.passed es told ∙ h.2)))
@@ -29,7 +30,8 @@ loop-end-preserved c =
       same = c.loop-end.invariant.same;
       passed = λ es told.
           c.loop-end.invariant.passed es told
-          ∙ line_behind ends es i x c.args.activity (slice_get_read ends (length ends) i x refl inside c.end-item.is) told (c.is_of.ensures.no c.if-is_of.false);
+          ∙ line_behind ends es i x c.args.activity (slice_get_read ends (length ends) i x refl inside c.end-item.is) told
+          (c.is_of.ensures.no c.if-is_of.false);
     }
 
 pub returns : goal.returns
@@ -37,4 +39,5 @@ returns c = λ es told.
     let past : length c.args.ends.now ≤ c.loop-end.end-index = omega arith in
     c.loop-end.invariant.same
     ∙ sym (append-nil c.args.text.now.items)
-    ∙ ap (λ (l : List ℕ). c.args.text.now.items ++ l) (sym (c.loop-end.invariant.passed es told ∙ line_none c.args.ends.now es c.loop-end.end-index c.args.activity told past))
+    ∙ ap (λ (l : List ℕ). c.args.text.now.items ++ l) (sym (c.loop-end.invariant.passed es told
+    ∙ line_none c.args.ends.now es c.loop-end.end-index c.args.activity told past))

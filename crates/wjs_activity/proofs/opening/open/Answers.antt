@@ -14,7 +14,8 @@ pub enter-requires-clause-base : goal.enter-requires-clause-base
 enter-requires-clause-base c =
     let common = c.args.common in
     let some = c.requires.some in
-    base_opened session_meaning common.texts common.arena common.units.items (worlds_in common.shared) c.args.owner (c.args.owner - 1) c.in_ok-config.config c.in_ok-config.ensures.opens c.requires.common (omega (arith, some))
+    base_opened session_meaning common.texts common.arena common.units.items (worlds_in common.shared) c.args.owner
+    (c.args.owner - 1) c.in_ok-config.config c.in_ok-config.ensures.opens c.requires.common (omega (arith, some))
 
 pub enter-requires-clause-frames : goal.enter-requires-clause-frames
 enter-requires-clause-frames c = c.in_ok-config.ensures.opens.frames
@@ -26,7 +27,8 @@ pub enter-requires-clause-fresh : goal.enter-requires-clause-fresh
 enter-requires-clause-fresh c =
     let common = c.args.common in
     let some = c.requires.some in
-    none_shown session_meaning common.texts common.arena common.units.items (worlds_in common.shared) c.args.owner (c.args.owner - 1) c.in_ok-config.config c.in_ok-config.ensures.opens c.requires.common (omega (arith, some))
+    none_shown session_meaning common.texts common.arena common.units.items (worlds_in common.shared) c.args.owner
+    (c.args.owner - 1) c.in_ok-config.config c.in_ok-config.ensures.opens c.requires.common (omega (arith, some))
 
 pub returns-clause-running : goal.returns-clause-running
 returns-clause-running c = c.in_ok-enter.ensures.running
@@ -37,4 +39,6 @@ returns-clause-sound c = c.in_ok-enter.ensures.sound
 pub returns-clause-begun : goal.returns-clause-begun
 returns-clause-begun c =
     let some = c.requires.some in
-    begun c.args.common c.args.owner (c.args.owner - 1) c.args.part c.args.budget c.in_ok-config.config c.enter.new.config c.in_ok-config.ensures.opens c.requires.common (omega (arith, some)) c.in_ok-enter.ensures c.in_ok-config.ensures.units
+    begun c.args.common c.args.owner
+    (c.args.owner - 1) c.args.part c.args.budget c.in_ok-config.config c.enter.new.config c.in_ok-config.ensures.opens c.requires.common
+    (omega (arith, some)) c.in_ok-enter.ensures c.in_ok-config.ensures.units

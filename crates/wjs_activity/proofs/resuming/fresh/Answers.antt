@@ -27,4 +27,5 @@ pub returns-clause-number : goal.returns-clause-number
 returns-clause-number c =
     let shared = c.args.common.shared in
     let store = c.in_ok-store.store in
-    number_begun (worlds_in shared) c.args.owner store.world (session_meaning store) (overlay_reached shared c.requires.live) c.requires.new c.in_ok-store.ensures
+    number_begun (worlds_in shared) c.args.owner store.world (session_meaning store)
+    (overlay_reached shared c.requires.live) c.requires.new c.in_ok-store.ensures

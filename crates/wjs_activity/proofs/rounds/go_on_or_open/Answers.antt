@@ -23,11 +23,13 @@ pub returns-in-Some-clause-running : goal.returns-in-Some-clause-running
 returns-in-Some-clause-running c = ap (λ (d : Config Meaning). d.state) c.resume.ensures.same
 
 pub returns-in-Some-clause-sound : goal.returns-in-Some-clause-sound
-returns-in-Some-clause-sound c = sound_from session_meaning c.resume.result (subst (Sound itself) (sym c.resume.ensures.same) (subst (At c.args.common) c.in-Some.is c.requires.rests).1)
+returns-in-Some-clause-sound c = sound_from session_meaning c.resume.result
+    (subst (Sound itself) (sym c.resume.ensures.same) (subst (At c.args.common) c.in-Some.is c.requires.rests).1)
 
 pub returns-in-Some-clause-begun : goal.returns-in-Some-clause-begun
 returns-in-Some-clause-begun c = λ none. let h : None ≡ Some c.in-Some.rest = sym none ∙ c.in-Some.is in absurd (cc)
 
 pub returns-in-Some-clause-goes_on : goal.returns-in-Some-clause-goes_on
 returns-in-Some-clause-goes_on c = λ r at.
-    subst (λ (x : Rested). GoesOnAs session_meaning c.args.common x c.resume.result) (same_Some c.in-Some.rest r (sym c.in-Some.is ∙ at)) (record { same = c.resume.ensures.same; number = c.resume.ensures.number; shared = c.resume.ensures.shared })
+    subst (λ (x : Rested). GoesOnAs session_meaning c.args.common x c.resume.result) (same_Some c.in-Some.rest r (sym c.in-Some.is ∙ at))
+    (record { same = c.resume.ensures.same; number = c.resume.ensures.number; shared = c.resume.ensures.shared })

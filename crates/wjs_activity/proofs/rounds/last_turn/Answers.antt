@@ -1,9 +1,10 @@
-use Rattle.std.proofs.Common.{◌∙◌, sym, ap, refl, List}
+use Rattle.std.proofs.Common.{◌∙◌, sym, ap, List}
 use Rattle.std.specs.Prelude.{slice_get}
-use Rattle.std.proofs.lemmas.Bool.{false≢true}
+use Rattle.wjs_io.specs.Streams.{stream}
 use Rattle.wjs_props.proofs.Putting.{if_ok}
 use Rattle.wjs_activity.specs.declared.activities.Activity.{Activity}
-use Rattle.wjs_activity.proofs.Composed.{turns_none}
+use Rattle.wjs_activity.proofs.AtPlace.{last_taken, last_left}
+use Rattle.wjs_activity.proofs.Composed.{if_err}
 use Rattle.wjs_activity.proofs.rounds.last_turn.Goals as goal
 
 pub one_turn-requires-clause-there : goal.one_turn-requires-clause-there
@@ -15,17 +16,25 @@ one_turn-requires-clause-some g c = c.requires.going.some
 
 pub returns-then-is_last-clause-ok : goal.returns-then-is_last-clause-ok
 returns-then-is_last-clause-ok g c =
+    let held = g.O.Sink.held in
+    let faults = g.O.Sink.faults in
+    let first = c.args.out.now in
+    let after = c.one_turn.new.out in
     if_ok c.one_turn.result _ _
-    (λ next h. record {
-      turns = h.turns;
-      none = λ a at not_due. absurd (false≢true (sym not_due ∙ sym (c.is_last.ensures a (ap (λ (l : List Activity). slice_get l c.args.place) c.as_slice.ensures.value ∙ at)) ∙ c.if-is_last.true));
-      one = λ a at due. h.changes;
-    })
+    (λ next h. last_taken c.args.rules (stream (held first) (held after) (faults first) (faults after)) c.args.place c.args.play next
+    (λ a at. sym (c.is_last.ensures a (ap (λ (l : List Activity). slice_get l c.args.place) c.as_slice.ensures.value ∙ at)) ∙ c.if-is_last.true) h)
     c.one_turn.ensures.ok
 
+pub returns-then-is_last-clause-err : goal.returns-then-is_last-clause-err
+returns-then-is_last-clause-err g c =
+    if_err c.one_turn.result _ _
+    (λ halt h. record {
+      due = λ a at. sym (c.is_last.ensures a (ap (λ (l : List Activity). slice_get l c.args.place) c.as_slice.ensures.value ∙ at)) ∙ c.if-is_last.true;
+      halts = h;
+    })
+    c.one_turn.ensures.err
+
 pub returns-clause-ok : goal.returns-clause-ok
-returns-clause-ok g c = record {
-  turns = turns_none c.args.rules (g.O.Sink.held c.args.out.now) (g.O.Sink.faults c.args.out.now) c.args.play;
-  none = λ a at not_due. refl;
-  one = λ a at due. absurd (false≢true (sym c.if-is_last.false ∙ c.is_last.ensures a (ap (λ (l : List Activity). slice_get l c.args.place) c.as_slice.ensures.value ∙ at) ∙ due));
-}
+returns-clause-ok g c =
+    last_left c.args.rules (g.O.Sink.held c.args.out.now) (g.O.Sink.faults c.args.out.now) c.args.place c.args.play
+    (λ a at. sym (c.is_last.ensures a (ap (λ (l : List Activity). slice_get l c.args.place) c.as_slice.ensures.value ∙ at)) ∙ c.if-is_last.false)

@@ -1,8 +1,9 @@
 use Rattle.std.proofs.Common.{sym, subst}
 use Rattle.wjs_io.specs.Streams.{stream}
 use Rattle.wjs_props.proofs.Putting.{if_ok}
-use Rattle.wjs_activity.specs.Rounds.{OneTurn, HaltsIn}
-use Rattle.wjs_activity.proofs.Composed.{one_turned, one_stopped, out_of_memory, if_err}
+use Rattle.wjs_activity.specs.Rounds.{OneTurn, HaltsAt}
+use Rattle.wjs_activity.proofs.AtPlace.{one_turned, one_stopped, out_of_memory}
+use Rattle.wjs_activity.proofs.Composed.{if_err}
 use Rattle.wjs_activity.proofs.rounds.one_turn.Goals as goal
 
 pub returns-in-Ok-clause-ok : goal.returns-in-Ok-clause-ok
@@ -14,7 +15,8 @@ returns-in-Ok-clause-ok g c =
     let s = stream (held first) (held after) (faults first) (faults after) in
     let r = c.in-Ok.turned in
     if_ok c.written.result _ _
-    (λ next h. subst (OneTurn c.args.rules s c.args.place c.args.play) (sym h.0) (one_turned c.args.rules s c.args.place c.args.play r.0 r.1.items c.in-Ok.ensures h.1))
+    (λ next h. subst (OneTurn c.args.rules s c.args.place c.args.steps c.args.play) (sym h.0)
+    (one_turned c.args.rules s c.args.place c.args.steps c.args.play r.0 r.1.items c.in-Ok.ensures h.1))
     c.written.ensures.ok
 
 pub returns-in-Ok-clause-err : goal.returns-in-Ok-clause-err
@@ -26,8 +28,9 @@ returns-in-Ok-clause-err g c =
     let s = stream (held first) (held after) (faults first) (faults after) in
     let r = c.in-Ok.turned in
     if_err c.written.result _ _
-    (λ halt h. subst (HaltsIn c.args.rules s c.args.play) (sym h.0) (one_stopped c.args.rules s c.args.place c.args.play r.0 r.1.items c.in-Ok.ensures h.1))
+    (λ halt h. subst (HaltsAt c.args.rules s c.args.place c.args.steps c.args.play) (sym h.0)
+    (one_stopped c.args.rules s c.args.place c.args.steps c.args.play r.0 r.1.items c.in-Ok.ensures h.1))
     c.written.ensures.err
 
 pub returns-in-Err-clause-err : goal.returns-in-Err-clause-err
-returns-in-Err-clause-err g c = out_of_memory c.args.rules (g.O.Sink.held c.args.out.now) (g.O.Sink.faults c.args.out.now) c.args.play
+returns-in-Err-clause-err g c = out_of_memory c.args.rules (g.O.Sink.held c.args.out.now) (g.O.Sink.faults c.args.out.now) c.args.place c.args.steps c.args.play

@@ -3,12 +3,20 @@ use Rattle.std.specs.Prelude.{slice_get}
 use Rattle.wjs_io.specs.Streams.{stream}
 use Rattle.wjs_props.proofs.Putting.{if_ok}
 use Rattle.wjs_activity.specs.declared.activities.Activity.{Activity}
-use Rattle.wjs_activity.specs.Rounds.{Settled, LastTurn, TurnAt, TurnsTo, HaltsIn}
-use Rattle.wjs_activity.proofs.Composed.{turns_none, turns_then, halts_then, goes_on, there_at, at_none, may_first, may_last, settled_at, turned_at, long_changed, if_err}
+use Rattle.wjs_activity.specs.Rounds.{Settled, LastTurn, LastHalts, TurnAt, TurnsTo, HaltsIn, Is, by_turn, at_place}
+use Rattle.wjs_activity.proofs.Places.{there_at}
+use Rattle.wjs_activity.proofs.Founds.{ended_turn}
+use Rattle.wjs_activity.proofs.Composed.{turns_none, goes_on, if_err}
+use Rattle.wjs_activity.proofs.AtPlace.{at_none, may_first, may_last, settled_at, turned_at, long_changed, turn_stopped, turn_taken, last_stopped}
 use Rattle.wjs_activity.proofs.rounds.turn_at.Goals as goal
 
 pub returns-then-has_ended-clause-ok : goal.returns-then-has_ended-clause-ok
-returns-then-has_ended-clause-ok g c = turns_none c.args.rules (g.O.Sink.held c.args.out.now) (g.O.Sink.faults c.args.out.now) c.args.play
+returns-then-has_ended-clause-ok g c =
+    let w = there_at c.args.play.activities.items c.args.place c.requires.place in
+    let over = sym (c.has_ended.ensures w.0 (ap (λ (l : List Activity). slice_get l c.args.place) c.as_slice.ensures.value ∙ w.1)) ∙ c.if-has_ended.true in
+    turns_none c.args.rules (g.O.Sink.held c.args.out.now) (g.O.Sink.faults c.args.out.now) c.args.play
+    (Is (by_turn c.args.rules.budget (at_place c.args.place c.args.steps)))
+    (λ library parts ends d ex. ended_turn c.args.rules.budget c.args.play ends d ex library parts c.args.place c.args.steps w.0 w.1 over)
 
 pub returns-then-has_ended-clause-changes : goal.returns-then-has_ended-clause-changes
 returns-then-has_ended-clause-changes g c =
@@ -28,7 +36,7 @@ last_turn-requires-clause-going g c =
     let faults = g.O.Sink.faults in
     let first = c.args.out.now in
     let middle = c.one_turn.new.out in
-    goes_on c.args.rules (stream (held first) (held middle) (faults first) (faults middle)) c.args.play c.in-Ok.next c.requires.going c.in-Ok.ensures.ok.turns
+    goes_on c.args.rules (stream (held first) (held middle) (faults first) (faults middle)) _ c.args.play c.in-Ok.next c.requires.going c.in-Ok.ensures.ok.turns
 
 pub last_turn-requires-clause-place : goal.last_turn-requires-clause-place
 last_turn-requires-clause-place g c =
@@ -47,8 +55,13 @@ returns-in-Ok-clause-ok g c =
     let first = c.args.out.now in
     let middle = c.one_turn.new.out in
     let after = c.last_turn.new.out in
-    if_ok c.last_turn.result (LastTurn c.args.rules (stream (held middle) (held after) (faults middle) (faults after)) c.args.place c.in-Ok.next) (TurnsTo c.args.rules (stream (held first) (held after) (faults first) (faults after)) c.args.play)
-    (λ next l. turns_then c.args.rules (held first) (held middle) (held after) (faults first) (faults middle) (faults after) c.args.play c.in-Ok.next next c.in-Ok.ensures.ok.turns l.turns)
+    let w = there_at c.args.play.activities.items c.args.place c.requires.place in
+    if_ok c.last_turn.result (LastTurn c.args.rules (stream (held middle) (held after) (faults middle) (faults after)) c.args.place c.in-Ok.next)
+    (TurnsTo c.args.rules (stream (held first) (held after) (faults first) (faults after))
+    (Is (by_turn c.args.rules.budget (at_place c.args.place c.args.steps))) c.args.play)
+    (λ next l. turn_taken c.args.rules c.args.place c.args.steps c.args.play c.in-Ok.next w.0 w.1 (held first) (held middle) (held after) (faults first)
+    (faults middle) (faults after) c.in-Ok.ensures.ok next
+    (may_last c.args.rules.budget c.args.place c.args.play c.in-Ok.next w.0 c.in-Ok.ensures.ok.changes w.1) l)
     c.last_turn.ensures.ok
 
 pub returns-in-Ok-clause-settled : goal.returns-in-Ok-clause-settled
@@ -82,9 +95,25 @@ returns-in-Ok-clause-err g c =
     let first = c.args.out.now in
     let middle = c.one_turn.new.out in
     let after = c.last_turn.new.out in
-    if_err c.last_turn.result (HaltsIn c.args.rules (stream (held middle) (held after) (faults middle) (faults after)) c.in-Ok.next) (HaltsIn c.args.rules (stream (held first) (held after) (faults first) (faults after)) c.args.play)
-    (λ halt h. halts_then c.args.rules (held first) (held middle) (held after) (faults first) (faults middle) (faults after) c.args.play c.in-Ok.next halt c.one_turn.ensures.never_falls c.in-Ok.ensures.ok.turns h)
+    let w = there_at c.args.play.activities.items c.args.place c.requires.place in
+    if_err c.last_turn.result (LastHalts c.args.rules (stream (held middle) (held after) (faults middle) (faults after)) c.args.place c.in-Ok.next)
+    (HaltsIn c.args.rules (stream (held first) (held after) (faults first) (faults after))
+    (by_turn c.args.rules.budget (at_place c.args.place c.args.steps)) c.args.play)
+    (λ halt h. last_stopped c.args.rules c.args.place c.args.steps c.args.play c.in-Ok.next w.0 w.1 (held first) (held middle) (held after) (faults first)
+    (faults middle) (faults after) c.in-Ok.ensures.ok halt c.one_turn.ensures.never_falls
+    (may_last c.args.rules.budget c.args.place c.args.play c.in-Ok.next w.0 c.in-Ok.ensures.ok.changes w.1) h)
     c.last_turn.ensures.err
 
 pub returns-in-Ok-clause-never_falls : goal.returns-in-Ok-clause-never_falls
 returns-in-Ok-clause-never_falls g c = omega (arith, c.one_turn.ensures.never_falls, c.last_turn.ensures.never_falls)
+
+pub returns-in-Err-clause-err : goal.returns-in-Err-clause-err
+returns-in-Err-clause-err g c =
+    let held = g.O.Sink.held in
+    let faults = g.O.Sink.faults in
+    let first = c.args.out.now in
+    let after = c.one_turn.new.out in
+    let w = there_at c.args.play.activities.items c.args.place c.requires.place in
+    let on = sym (c.has_ended.ensures w.0 (ap (λ (l : List Activity). slice_get l c.args.place) c.as_slice.ensures.value ∙ w.1)) ∙ c.if-has_ended.false in
+    turn_stopped c.args.rules c.args.place c.args.steps c.args.play c.args.play w.0 w.1
+    (stream (held first) (held after) (faults first) (faults after)) c.in-Err.halt on c.in-Err.ensures.err

@@ -1,5 +1,5 @@
 use Rattle.std.proofs.Common.{refl, arith}
-use Rattle.wjs_activity.proofs.Comes.{turned_lem, few_places, part_there, few_units, rests_there, few_noted, mid_long}
+use Rattle.wjs_activity.proofs.Comes.{turned_lem, few_places, part_there, few_units, rests_there, few_noted, mid_long, left_some}
 use Rattle.wjs_activity.proofs.rounds.turned.Goals as goal
 
 pub overflow_cast-part : goal.overflow_cast-part
@@ -18,17 +18,22 @@ pub go_on_or_open-requires-clause-few : goal.go_on_or_open-requires-clause-few
 go_on_or_open-requires-clause-few c = few_units c.args.rules c.args.play c.args.place c.requires.place c.requires.going
 
 pub go_on_or_open-requires-clause-rests : goal.go_on_or_open-requires-clause-rests
-go_on_or_open-requires-clause-rests c = rests_there c.args.rules c.args.play c.args.place c.requires.place c.requires.going c.take_running-running.new.activities.items c.take_running-running.result c.take_running-running.ensures
+go_on_or_open-requires-clause-rests c =
+    rests_there c.args.rules c.args.play c.args.place c.requires.place c.requires.going c.take_running-running.new.activities.items
+    c.take_running-running.result c.take_running-running.ensures
 
 pub note_at-requires-clause-place : goal.note_at-requires-clause-place
-note_at-requires-clause-place c = mid_long c.args.rules c.args.play c.args.place c.requires.place c.requires.going c.take_running-running.new.activities.items c.take_running-running.result c.take_running-running.ensures
+note_at-requires-clause-place c =
+    mid_long c.args.rules c.args.play c.args.place c.requires.place c.requires.going c.take_running-running.new.activities.items c.take_running-running.result
+    c.take_running-running.ensures
 
 pub note_at-requires-clause-number : goal.note_at-requires-clause-number
 note_at-requires-clause-number c = let few = few_places c.args.rules c.args.play c.args.place c.requires.place c.requires.going in omega (arith, few)
 
 pub note_at-requires-clause-few : goal.note_at-requires-clause-few
 note_at-requires-clause-few c = λ a at.
-    let few = few_noted c.args.rules c.args.play c.args.place c.requires.place c.requires.going c.take_running-running.new.activities.items c.take_running-running.result c.take_running-running.ensures a at c.args.steps c.requires.there in
+    let few = few_noted c.args.rules c.args.play c.args.place c.requires.place c.requires.going c.take_running-running.new.activities.items
+    c.take_running-running.result c.take_running-running.ensures a at c.args.steps c.requires.there in
     omega (arith, few)
 
 pub returns : goal.returns
@@ -36,6 +41,8 @@ returns c =
     let t = c.in_ok-taken.taken in
     let e = c.in_ok-taken.ensures in
     let k = c.in_ok-config.ensures in
-    turned_lem c.args.rules c.args.play c.args.place c.args.steps c.requires.there c.requires.some c.take_running-running.new.activities.items c.take_running-running.result c.take_running-running.ensures c.in_ok-config.config k.begun k.goes_on t.0 t.1 e.turned e.whole e.less e.certain
+    turned_lem c.args.rules c.args.play c.args.place c.args.steps c.requires.there
+    (left_some c.args.rules c.args.play c.args.place c.requires.place c.requires.going) c.requires.some c.take_running-running.new.activities.items
+    c.take_running-running.result c.take_running-running.ensures c.in_ok-config.config k.begun k.goes_on t.0 t.1 e.turned e.exact e.whole e.less e.certain
     c.note_at.new.activities.items c.note_at.new.ends c.in_ok-output.output.items c.in_ok-output.ensures
     (record { common = t.0; activities = c.note_at.new.activities; ends = c.note_at.new.ends; drawn = c.latest.result }) refl c.latest.ensures refl refl

@@ -1,5 +1,6 @@
 use Rattle.std.proofs.Common.{sym, ap, ◌∙◌}
 use Rattle.wjs_props.proofs.Putting.{if_ok}
+use Rattle.wjs_activity.proofs.Exactly.{exact_rests, exact_over}
 use Rattle.wjs_activity.proofs.Finished.{finished_turned}
 use Rattle.wjs_activity.proofs.Rests.{rests_turned, less_left, not_whole, less_awake}
 use Rattle.wjs_activity.proofs.Turned.{live, first_stays}
@@ -21,14 +22,20 @@ returns-in-Running-clause-turned c = λ trees tree budget drawn is.
     let new = c.walk.new.config in
     let w = c.in_ok-_taken.ensures in
     let r = c.rest-common.result in
-    rests_turned trees tree budget drawn c.args.steps c.in_ok-_taken._taken old new is w c.in-Running.is r.0 r.1 c.rest-common.ensures.shares c.rest-common.ensures.stands c.rest-common.ensures.number
-    (c.rest-common.ensures.same c.in-Running.is (w.stays.global ∙ is.trying.global) (w.stays.world ∙ is.trying.world ∙ ap (λ q. record { owner = q; serial = 0 }) (sym w.stays.owner))) c.rest-common.ensures.owner c.rest-common.ensures.left c.rest-common.ensures.apart
+    rests_turned trees tree budget drawn c.args.steps c.in_ok-_taken._taken old new is w c.in-Running.is r.0 r.1 c.rest-common.ensures.shares
+    c.rest-common.ensures.stands c.rest-common.ensures.number
+    (c.rest-common.ensures.same c.in-Running.is (w.stays.global ∙ is.trying.global)
+    (w.stays.world ∙ is.trying.world ∙ ap (λ q. record { owner = q; serial = 0 })
+    (sym w.stays.owner))) c.rest-common.ensures.owner c.rest-common.ensures.left c.rest-common.ensures.apart
 
 pub returns-in-Running-clause-whole : goal.returns-in-Running-clause-whole
-returns-in-Running-clause-whole c = λ le rests. not_whole c.args.steps c.in_ok-_taken._taken c.args.config c.walk.new.config c.in_ok-_taken.ensures c.in-Running.is le
+returns-in-Running-clause-whole c =
+    λ le rests. not_whole c.args.steps c.in_ok-_taken._taken c.args.config c.walk.new.config c.in_ok-_taken.ensures c.in-Running.is le
 
 pub returns-in-Running-clause-less : goal.returns-in-Running-clause-less
-returns-in-Running-clause-less c = λ some. less_left c.args.steps c.in_ok-_taken._taken c.rest-common.result.1.left c.args.config c.walk.new.config c.in_ok-_taken.ensures c.in-Running.is c.rest-common.ensures.left some
+returns-in-Running-clause-less c =
+    λ some. less_left c.args.steps c.in_ok-_taken._taken c.rest-common.result.1.left c.args.config c.walk.new.config c.in_ok-_taken.ensures c.in-Running.is
+    c.rest-common.ensures.left some
 
 pub returns-in-Running-clause-certain : goal.returns-in-Running-clause-certain
 returns-in-Running-clause-certain c = λ own e. cc
@@ -37,7 +44,8 @@ returns-in-Running-clause-certain c = λ own e. cc
 pub returns-in_default-clause-turned : goal.returns-in_default-clause-turned
 returns-in_default-clause-turned c =
     if_ok c.finish.result _ _
-    (λ r h trees tree budget drawn is. finished_turned trees tree budget drawn c.args.steps c.in_ok-_taken._taken c.args.config c.walk.new.config r.0 r.1 is c.in_ok-_taken.ensures c.in_default.not-Running (λ over. h trees tree budget drawn over))
+    (λ r h trees tree budget drawn is. finished_turned trees tree budget drawn c.args.steps c.in_ok-_taken._taken c.args.config c.walk.new.config r.0 r.1 is
+    c.in_ok-_taken.ensures c.in_default.not-Running (λ over. h trees tree budget drawn over))
     c.finish.ensures.turned
 
 pub returns-in_default-clause-whole : goal.returns-in_default-clause-whole
@@ -54,3 +62,17 @@ returns-in_default-clause-certain c =
     if_ok c.finish.result _ _
     (λ r h own. h (w.stays.own ∙ own ∙ sym (first_stays old new c.requires.sound.base w.sound.base w.stays)))
     c.finish.ensures.certain
+
+-- it is the definition's turn
+pub returns-in-Running-clause-exact : goal.returns-in-Running-clause-exact
+returns-in-Running-clause-exact c = λ trees tree budget drawn is known.
+    let r = c.rest-common.result in
+    exact_rests trees tree budget drawn c.args.steps c.in_ok-_taken._taken c.args.config c.walk.new.config is c.in_ok-_taken.ensures known c.in-Running.is r.0
+    r.1 c.rest-common.ensures.shares c.rest-common.ensures.number c.rest-common.ensures.left
+
+pub returns-in_default-clause-exact : goal.returns-in_default-clause-exact
+returns-in_default-clause-exact c =
+    if_ok c.finish.result _ _
+    (λ r h trees tree budget drawn is known. exact_over trees tree budget drawn c.args.steps c.in_ok-_taken._taken c.args.config c.walk.new.config is
+    c.in_ok-_taken.ensures known r.0 h.texts h.arena_is c.in_default.not-Running r.1 h.by_check)
+    c.finish.ensures.checked

@@ -9,7 +9,8 @@ returns-in-Ok g c =
     let faults = g.O.Sink.faults in
     let first = c.args.out.now in
     let after = c.close_with.new.out in
-    closes_with (stream (held first) (held after) (faults first) (faults after)) c.args.play c.in-Ok.bytes.items c.close_with.result c.in-Ok.ensures c.close_with.ensures
+    closes_with (stream (held first) (held after) (faults first)
+    (faults after)) c.args.play c.in-Ok.bytes.items c.close_with.result c.in-Ok.ensures c.close_with.ensures
 
 pub returns-in-Err : goal.returns-in-Err
 returns-in-Err g c = Appends-nil (g.O.Sink.held c.args.out.now)

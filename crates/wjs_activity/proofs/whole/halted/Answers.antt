@@ -5,7 +5,9 @@ use Rattle.wjs_activity.specs.Plays.{PlaysOut}
 use Rattle.wjs_activity.proofs.whole.halted.Goals as goal
 
 pub returns-in-SinkFailed : goal.returns-in-SinkFailed
-returns-in-SinkFailed c = λ library parts budget s h. subst (λ (halt : Halt). PlaysOut library parts budget s (Err halt)) c.in-SinkFailed.is h
+returns-in-SinkFailed c = λ library parts budget schedule turn s h. subst
+    (λ (halt : Halt). PlaysOut library parts budget schedule turn s (Err halt)) c.in-SinkFailed.is h
 
 pub returns-in-OutOfMemory : goal.returns-in-OutOfMemory
-returns-in-OutOfMemory c = λ library parts budget s h. subst (λ (halt : Halt). PlaysOut library parts budget s (Err halt)) c.in-OutOfMemory.is h
+returns-in-OutOfMemory c = λ library parts budget schedule turn s h. subst
+    (λ (halt : Halt). PlaysOut library parts budget schedule turn s (Err halt)) c.in-OutOfMemory.is h

@@ -8,5 +8,6 @@ use Rattle.wjs_activity.proofs.whole.lines_of.Goals as goal
 pub returns : goal.returns
 returns c =
     if_ok c.lines.result _ _
-    (λ bytes h es tells. h es (subst (λ (l : List Ended). TellsEnds l es) (sym c.as_slice.ensures) tells) ∙ ap (λ n. lines_from n 1 es) (c.len.ensures ∙ c.args.play.now.activities.ok.0))
+    (λ bytes h es tells. h es (subst (λ (l : List Ended). TellsEnds l es) (sym c.as_slice.ensures) tells)
+    ∙ ap (λ n. lines_from n 1 es) (c.len.ensures ∙ c.args.play.now.activities.ok.0))
     c.lines.ensures

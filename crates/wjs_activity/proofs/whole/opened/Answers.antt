@@ -11,5 +11,7 @@ run_library-requires c = c.in_ok-config.ensures.sound
 pub returns : goal.returns
 returns c =
     if_ok c.run_library.result _ _
-    (λ new ran. opened_so c.args.texts c.args.library c.args.parts.items c.args.budget (overlay_meaning c.in_ok-store.store) c.in_ok-store.ensures c.in_ok-config.config c.in_ok-config.ensures.starts c.in_ok-config.ensures.sound c.requires.library c.requires.parts new ran)
+    (λ new ran. opened_so c.args.texts c.args.library c.args.parts.items c.args.budget
+    (overlay_meaning c.in_ok-store.store) c.in_ok-store.ensures c.in_ok-config.config c.in_ok-config.ensures.starts c.in_ok-config.ensures.sound
+    c.requires.library c.requires.parts new ran)
     c.run_library.ensures

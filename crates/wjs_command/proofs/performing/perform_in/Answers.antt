@@ -12,7 +12,7 @@ returns-in-Audit g c =
     let bytes = c.args.bytes.now in
     let out = stream (held c.args.out.now) (held c.audit.new.out) (faults c.args.out.now) (faults c.audit.new.out) in
     served_comes options bytes out c.audit.result c.requires.within
-    (comes_as (OfLog bytes) (owed_in options.mode options.steps bytes) out c.audit.result (λ told h. log_owed options.mode options.steps bytes told c.in-Audit.is h) c.audit.ensures)
+    (comes_as (OfLog bytes) (owed_in options.mode options.steps options.turn bytes) out c.audit.result (λ told h. log_owed options.mode options.steps options.turn bytes told c.in-Audit.is h) c.audit.ensures)
 
 pub returns-in_default : goal.returns-in_default
 returns-in_default g c =

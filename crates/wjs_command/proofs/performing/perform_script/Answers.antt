@@ -18,7 +18,7 @@ returns-in-Check g c =
     let faults = g.O.Sink.faults in
     let told : Told = record { out = line (codes "ok"); err = []; status = Done } in
     let loaded = c.in-Ok-load in
-    check_comes c.args.options.mode c.args.options.steps c.args.bytes.now (stream (held c.args.out.now) (held c.accept.new.out) (faults c.args.out.now) (faults c.accept.new.out)) c.accept.result told
+    check_comes c.args.options.mode c.args.options.steps c.args.options.turn c.args.bytes.now (stream (held c.args.out.now) (held c.accept.new.out) (faults c.args.out.now) (faults c.accept.new.out)) c.accept.result told
     c.in-Check.is (reads (record { tree = unit_in c.load.new.texts loaded.script; spelled = loaded.ensures.ok; owed = refl })) c.accept.ensures
 
 pub returns-in-Log : goal.returns-in-Log
@@ -30,7 +30,7 @@ returns-in-Log g c =
     let texts = c.load.new.texts in
     let loaded = c.in-Ok-load in
     let out = stream (held c.args.out.now) (held c.log_script.new.out) (faults c.args.out.now) (faults c.log_script.new.out) in
-    comes_as (IsLogRun texts loaded.script options.steps) (owed_in options.mode options.steps bytes) out c.log_script.result
+    comes_as (IsLogRun texts loaded.script options.steps) (owed_in options.mode options.steps options.turn bytes) out c.log_script.result
     (log_told options bytes texts loaded.script c.in-Log.is loaded.ensures.ok)
     c.log_script.ensures
 
@@ -43,7 +43,7 @@ returns-in_default g c =
     let texts = c.load.new.texts in
     let loaded = c.in-Ok-load in
     let out = stream (held c.args.out.now) (held c.run_script.new.out) (faults c.args.out.now) (faults c.run_script.new.out) in
-    comes_as (IsRunOf texts loaded.script options.steps options.mode) (owed_in options.mode options.steps bytes) out c.run_script.result
+    comes_as (IsRunOf texts loaded.script options.steps options.mode) (owed_in options.mode options.steps options.turn bytes) out c.run_script.result
     (run_told options bytes texts loaded.script c.requires.mode c.requires.script c.in_default.not-Check c.in_default.not-Log loaded.ensures.ok)
     c.run_script.ensures
 

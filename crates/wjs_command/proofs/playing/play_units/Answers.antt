@@ -4,7 +4,7 @@ use Rattle.wjs_io.specs.Streams.{stream}
 use Rattle.wjs_model.specs.Units.{unit_in}
 use Rattle.wjs_model.proofs.Placed.{placed_stay}
 use Rattle.wjs_deeds.proofs.Staying.{units_stay}
-use Rattle.wjs_command.proofs.Played.{trees_stay, play_comes}
+use Rattle.wjs_command.proofs.Played.{trees_stay, play_comes, play_alone}
 use Rattle.wjs_command.proofs.playing.play_units.Goals as goal
 
 pub play-end-requires-clause-parts : goal.play-end-requires-clause-parts
@@ -13,12 +13,26 @@ play-end-requires-clause-parts g c = units_stay c.args.texts c.library.new.texts
 pub play-end-requires-clause-part_places : goal.play-end-requires-clause-part_places
 play-end-requires-clause-part_places g c = placed_stay c.args.texts c.library.new.texts c.in-Ok.ensures.grows c.args.parts.items c.requires.parts c.requires.places
 
-pub returns : goal.returns
-returns g c =
+pub returns-clause-told : goal.returns-clause-told
+returns-clause-told g c =
     let held = g.O.Sink.held in
     let faults = g.O.Sink.faults in
     let t = c.library.new.texts in
     let units = c.args.parts.items in
     let out = stream (held c.args.out.now) (held c.play-end.new.out) (faults c.args.out.now) (faults c.play-end.new.out) in
-    play_comes (option_map (unit_in t) c.in-Ok.library) (each (unit_in t) units) (each (unit_in c.args.texts) units) c.args.budget out c.play-end.result c.tell_play.result
+    let library = option_map (unit_in t) c.in-Ok.library in
+    let known = each (unit_in c.args.texts) units in
+    play_comes library (each (unit_in t) units) known c.args.budget c.args.turn out c.play-end.result c.tell_play.result
+    c.in-Ok.ensures.ok (trees_stay c.args.texts t units c.in-Ok.ensures.grows c.requires.parts) c.play-end.ensures c.tell_play.ensures
+
+pub returns-clause-alone : goal.returns-clause-alone
+returns-clause-alone g c =
+    let held = g.O.Sink.held in
+    let faults = g.O.Sink.faults in
+    let t = c.library.new.texts in
+    let units = c.args.parts.items in
+    let out = stream (held c.args.out.now) (held c.play-end.new.out) (faults c.args.out.now) (faults c.play-end.new.out) in
+    let library = option_map (unit_in t) c.in-Ok.library in
+    let known = each (unit_in c.args.texts) units in
+    play_alone library (each (unit_in t) units) known c.args.budget c.args.turn out c.play-end.result c.tell_play.result
     c.in-Ok.ensures.ok (trees_stay c.args.texts t units c.in-Ok.ensures.grows c.requires.parts) c.play-end.ensures c.tell_play.ensures

@@ -1,5 +1,4 @@
-use Rattle.std.proofs.Common.{◌≡◌, List, ℕ, ◌++◌, codes, IfOk, sym, ap, ◌∙◌, subst}
-use Rattle.std.specs.Fmt.{decimal}
+use Rattle.std.proofs.Common.{List, ℕ, ◌++◌, IfOk, ◌∙◌, subst}
 use Rattle.wjs_command.specs.declared.status.Status.TheVariants.{Refused}
 use Rattle.wjs_command.specs.Table.{line as as_line}
 use Rattle.wjs_command.specs.Attempt.{IsReport}

@@ -2,11 +2,19 @@ use Rattle.std.proofs.Common.{List, ℕ, subst, ◌∙◌}
 use Rattle.wjs_io.specs.Streams.{stream}
 use Rattle.wjs_command.specs.Due.{IsTold}
 use Rattle.wjs_command.specs.Attempt.{Comes}
+use Rattle.wjs_command.proofs.Attempts.{not_both}
 use Rattle.wjs_command.proofs.work.generate.Goals as goal
+
+-- a generated script isn't played
+pub perform-requires-clause-steps : goal.perform-requires-clause-steps
+perform-requires-clause-steps g c = λ is. absurd (not_both c.args.options.mode c.requires.mode is)
+
+pub perform-requires-clause-turn : goal.perform-requires-clause-turn
+perform-requires-clause-turn g c = λ is. absurd (not_both c.args.options.mode c.requires.mode is)
 
 pub returns-in-Ok : goal.returns-in-Ok
 returns-in-Ok g c =
     let held = g.O.Sink.held in
     let faults = g.O.Sink.faults in
     let P : List ℕ → Type 0 = λ bytes. Comes (IsTold c.args.options bytes) (stream (held c.args.out.now) (held c.perform.new.out) (faults c.args.out.now) (faults c.perform.new.out)) c.perform.result in
-    subst P (c.as_slice.ensures.value ∙ c.in-Ok.ensures.script) c.perform.ensures
+    subst P (c.as_slice.ensures.value ∙ c.in-Ok.ensures.script) c.perform.ensures.told

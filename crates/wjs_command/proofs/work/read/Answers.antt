@@ -1,11 +1,19 @@
-use Rattle.std.proofs.Common.{List, ℕ, ◌+◌, ◌≤◌, Err, ap, subst, length, ◌∙◌}
+use Rattle.std.proofs.Common.{◌≡◌, List, ℕ, ◌+◌, ◌≤◌, Err, ap, subst, length, ◌∙◌}
 use Rattle.wjs_io.specs.Streams.{stream}
 use Rattle.wjs_io.specs.Stops.{StopsAfter}
 use Rattle.wjs_io.specs.declared.loops.ReadFault.{ReadFault}
+use Rattle.wjs_words.specs.declared.mode.Mode.TheVariants.{Play}
 use Rattle.wjs_command.specs.Due.{IsTold}
-use Rattle.wjs_command.specs.Attempt.{Comes}
+use Rattle.wjs_command.specs.Plays.{PlayedAlone}
+use Rattle.wjs_command.specs.Attempt.{Comes, ComesAlone}
 use Rattle.wjs_command.proofs.Attempts.{serve_read, serve_failed, serve_spent, serve_long}
 use Rattle.wjs_command.proofs.work.read.Goals as goal
+
+pub perform-requires-clause-steps : goal.perform-requires-clause-steps
+perform-requires-clause-steps g c = λ is. c.requires.steps
+
+pub perform-requires-clause-turn : goal.perform-requires-clause-turn
+perform-requires-clause-turn g c = λ is. c.requires.turn
 
 pub returns-in-Ok : goal.returns-in-Ok
 returns-in-Ok g c =
@@ -13,8 +21,9 @@ returns-in-Ok g c =
     let counted = g.S.Source.faults in
     let out = stream (g.O.Sink.held c.args.out.now) (g.O.Sink.held c.perform.new.out) (g.O.Sink.faults c.args.out.now) (g.O.Sink.faults c.perform.new.out) in
     let P : List ℕ → Type 0 = λ bytes. Comes (IsTold c.args.options bytes) out c.perform.result in
+    let Q : List ℕ → Type 0 = λ bytes. c.args.options.mode ≡ Play → ComesAlone (PlayedAlone c.args.options.steps bytes) out c.perform.result in
     serve_read c.args.options (left c.args.source.now) (left c.read_all.new.source) (counted c.args.source.now) (counted c.read_all.new.source) out c.in-Ok.bytes.items c.perform.result
-    c.requires.mode c.in-Ok.ensures.all c.in-Ok.ensures.end (subst (λ (n : ℕ). length c.in-Ok.bytes.items ≤ n) c.most_bytes.ensures c.in-Ok.ensures.within) (subst P c.as_slice.ensures.value c.perform.ensures)
+    c.requires.mode c.in-Ok.ensures.all c.in-Ok.ensures.end (subst (λ (n : ℕ). length c.in-Ok.bytes.items ≤ n) c.most_bytes.ensures c.in-Ok.ensures.within) (subst P c.as_slice.ensures.value c.perform.ensures.told) (subst Q c.as_slice.ensures.value c.perform.ensures.alone)
 
 pub returns-in-Err-TooLong : goal.returns-in-Err-TooLong
 returns-in-Err-TooLong g c =
@@ -22,8 +31,8 @@ returns-in-Err-TooLong g c =
     let counted = g.S.Source.faults in
     let P : ReadFault → Type 0 = λ fault. StopsAfter c.most_bytes.result (left c.args.source.now) (left c.read_all.new.source) fault in
     let stops = subst P c.in-Err-TooLong.field-0-is c.in-Err-TooLong.ensures.stops in
-    serve_long c.args.options (left c.args.source.now) (left c.read_all.new.source) (g.O.Sink.held c.args.out.now) (counted c.args.source.now) (counted c.read_all.new.source) (g.O.Sink.faults c.args.out.now) stops.0 c.refuse_length.result
-    c.requires.mode (stops.1 ∙ ap (λ (n : ℕ). n + 1) c.most_bytes.ensures) stops.2 c.refuse_length.ensures
+    serve_long c.args.options (left c.args.source.now) (left c.read_all.new.source) (g.O.Sink.held c.args.out.now) (counted c.args.source.now) (counted c.read_all.new.source) (g.O.Sink.faults c.args.out.now) stops.0 c.refuse_by.result
+    c.requires.mode (stops.1 ∙ ap (λ (n : ℕ). n + 1) c.most_bytes.ensures) stops.2 c.refuse_by.ensures
 
 pub returns-in-Err-Failed : goal.returns-in-Err-Failed
 returns-in-Err-Failed g c =

@@ -59,3 +59,9 @@ returns-else-not-same_content-clause-settled c =
     let a = of_does c.args.shared.now c.read.new.self (read c.args.world c.args.slot) (found h) c.in_ok-held.ensures.0 in
     let b = of_does c.args.inner.now c.read-2.new.self (read c.args.world c.args.slot) (found e) c.in_ok-inside.ensures.0 in
     (bring_same F c.args.world G c.requires.kept c.args.slot (worlds_in c.read.new.self) (worlds_in c.read-2.new.self) h e a.worlds (found_is h (content_at F c.args.world c.args.slot) a.answers) b.worlds (found_is e (content_at G c.args.world c.args.slot) b.answers) (sym c.if-not-same_content.ensures)).1
+
+pub returns-in_ok-write-clause-reads : goal.returns-in_ok-write-clause-reads
+returns-in_ok-write-clause-reads c = (of_does c.args.shared.now c.read.new.self (read c.args.world c.args.slot) (found (content_of c.in_ok-held.held)) c.in_ok-held.ensures.0).worlds
+
+pub returns-else-not-same_content-clause-reads : goal.returns-else-not-same_content-clause-reads
+returns-else-not-same_content-clause-reads c = (of_does c.args.shared.now c.read.new.self (read c.args.world c.args.slot) (found (content_of c.in_ok-held.held)) c.in_ok-held.ensures.0).worlds

@@ -5,9 +5,10 @@ use Rattle.wjs_store.specs.State.{same_world, write, wrote}
 use Rattle.wjs_store.specs.Shown.{content_of}
 use Rattle.wjs_session.specs.Stores.{worlds_in}
 use Rattle.wjs_session.specs.Kept.{IsAlone}
-use Rattle.wjs_session.specs.Calls.{Answered}
+use Rattle.wjs_session.specs.Calls.{Answered, Marks}
 use Rattle.wjs_session.proofs.CallLaws.{first_write, both_write, inner_write, never_alone}
 use Rattle.wjs_session.proofs.AnswerLaws.{of_does, on_answers, on_any}
+use Rattle.wjs_session.proofs.MarkLaws.{marks_below, marks_write}
 use Rattle.wjs_session.proofs.calls.write.Goals as goal
 
 pub returns-then-ne-clause-answered : goal.returns-then-ne-clause-answered
@@ -53,3 +54,30 @@ returns-clause-answered c =
     let here = not-false (same_world c.args.at c.args.world) (sym c.if-ne.ensures) in
     let outside = of_does c.args.shared.now m (write c.args.world c.args.slot v) wrote c.in_ok-write.ensures.0 in
     first_write F c.args.world G c.requires.kept c.args.at c.args.slot v (worlds_in m) here outside.worlds (c.requires.alone c.if-nested.false)
+
+pub returns-then-ne-clause-marks : goal.returns-then-ne-clause-marks
+returns-then-ne-clause-marks c =
+    let F = worlds_in c.args.shared.now in
+    let G = worlds_in c.args.inner.now in
+    let F1 = worlds_in c.bring.new.shared in
+    let v = content_of c.args.content in
+    let apart = not-true (same_world c.args.at c.args.world) (sym c.if-ne.ensures) in
+    on_any c.write.result (Marks F c.args.world G (write c.args.at c.args.slot v) F1) (marks_below F c.args.world G c.requires.kept c.args.at c.args.slot v F1 apart c.in_ok-bring.ensures.reads)
+
+pub returns-then-nested-clause-marks : goal.returns-then-nested-clause-marks
+returns-then-nested-clause-marks c =
+    let F = worlds_in c.args.shared.now in
+    let G = worlds_in c.args.inner.now in
+    let m = c.write-2.new.self in
+    let v = content_of c.args.content in
+    let here = not-false (same_world c.args.at c.args.world) (sym c.if-ne.ensures) in
+    on_any c.write-then-nested.result (Marks F c.args.world G (write c.args.at c.args.slot v) (worlds_in m)) (marks_write F c.args.world G c.requires.kept c.args.at c.args.slot v (worlds_in m) here (of_does c.args.shared.now m (write c.args.world c.args.slot v) wrote c.in_ok-write.ensures.0).worlds)
+
+pub returns-clause-marks : goal.returns-clause-marks
+returns-clause-marks c =
+    let F = worlds_in c.args.shared.now in
+    let G = worlds_in c.args.inner.now in
+    let m = c.write-2.new.self in
+    let v = content_of c.args.content in
+    let here = not-false (same_world c.args.at c.args.world) (sym c.if-ne.ensures) in
+    marks_write F c.args.world G c.requires.kept c.args.at c.args.slot v (worlds_in m) here (of_does c.args.shared.now m (write c.args.world c.args.slot v) wrote c.in_ok-write.ensures.0).worlds

@@ -1,4 +1,4 @@
-use Rattle.std.proofs.Common.{◌≡◌, ◌+◌, ◌≤◌, ◌&&◌, None, Some, sym, ap, ◌∙◌, subst, arith}
+use Rattle.std.proofs.Common.{◌≡◌, ◌+◌, ◌≤◌, ◌&&◌, None, Some, refl, sym, ap, ◌∙◌, subst, arith}
 use Rattle.std.specs.FinMap as map
 use Rattle.wjs_base.specs.declared.values.Slot.{Slot}
 use Rattle.wjs_store.specs.Marked.{is_written}
@@ -10,9 +10,20 @@ use Rattle.wjs_overlay.specs.Cursor.{to_come, count_passing}
 use Rattle.wjs_session.specs.Session.{world_at}
 use Rattle.wjs_session.specs.Stores.{worlds_in}
 use Rattle.wjs_session.proofs.CallLaws.{found_is}
-use Rattle.wjs_session.proofs.CarryLaws.{Carries, is_next, carries_one, carries_all, fewer, read_written}
+use Rattle.wjs_session.proofs.CarryLaws.{Carries, is_next, carries_none, carries_one, carries_all, fewer, read_written}
+use Rattle.wjs_session.proofs.ToCome.{IsToWrite, write_none, write_last, write_next}
 use Rattle.wjs_session.proofs.AnswerLaws.{of_does}
 use Rattle.wjs_session.proofs.carry.carry.Goals as goal
+
+pub slots-init : goal.slots-init
+slots-init c =
+    let k = c.requires.kept in (
+      carries_none (worlds_in c.args.shared.now) c.args.world (worlds_in c.args.inner.now) c.args.at k.shared k.child,
+      refl,
+      refl,
+      refl,
+      write_none (worlds_in c.args.inner.now) c.args.at c.args.world (worlds_in c.args.shared.now),
+    )
 
 pub slots-smaller : goal.slots-smaller
 slots-smaller c =
@@ -49,6 +60,7 @@ slots-preserved c =
       a.worlds ∙ ap (λ K. after_read K w n) v.1 ∙ read_written G w n c.requires.kept.inner c.requires.there next.0,
       b.spent ∙ v.2,
       a.spent ∙ v.3,
+      subst (IsToWrite G w i F (Some n)) (sym to) (write_next G w c.requires.there i F c.slots.passed (worlds_in c.slots.shared) v.4 n least next.0 next.1),
     )
 
 pub returns-clause-carried : goal.returns-clause-carried
@@ -59,3 +71,12 @@ returns-clause-carried c =
     let v = c.slots.invariant in
     let least : IsLeast (λ (s : Slot). is_written G w s && to_come c.slots.passed s) None = subst (λ (K : Worlds). IsLeast (λ (s : Slot). is_written K w s && to_come c.slots.passed s) None) v.1 (subst (λ o. IsLeast (λ (s : Slot). is_written (worlds_in c.slots.inner) w s && to_come c.slots.passed s) o) c.in_default.is c.next_written.ensures) in
     carries_all F c.args.world G w c.slots.passed (worlds_in c.slots.shared) v.0 least
+
+pub returns-clause-writes : goal.returns-clause-writes
+returns-clause-writes c =
+    let F = worlds_in c.args.shared.now in
+    let G = worlds_in c.args.inner.now in
+    let w = c.args.at in
+    let v = c.slots.invariant in
+    let least : IsLeast (λ (s : Slot). is_written G w s && to_come c.slots.passed s) None = subst (λ (K : Worlds). IsLeast (λ (s : Slot). is_written K w s && to_come c.slots.passed s) None) v.1 (subst (λ o. IsLeast (λ (s : Slot). is_written (worlds_in c.slots.inner) w s && to_come c.slots.passed s) o) c.in_default.is c.next_written.ensures) in
+    write_last G w c.requires.there c.args.world F c.slots.passed (worlds_in c.slots.shared) v.4 least

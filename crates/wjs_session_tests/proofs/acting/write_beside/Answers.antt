@@ -12,4 +12,4 @@ resume-requires-clause-stands c =
     let old = c.rest-shared.result.0 in
     let new = c.write.new.self in
     let resting = c.rest-shared.result.1 in
-    written_beside c.rest_changes_nothing.ensures c.writes_leave_others.ensures (worlds_in old) (worlds_in new) old.spent new.spent c.first-first.result c.args.slot (content_of c.args.content) resting.world (worlds_in resting.inner) c.rest-shared.ensures.stands c.first-first.ensures c.in_ok-write.ensures.0
+    written_beside c.resting_stands_still.ensures c.writes_leave_others.ensures (worlds_in old) (worlds_in new) old.spent new.spent c.first-first.result c.args.slot (content_of c.args.content) resting c.rest-shared.ensures.stands c.first-first.ensures c.in_ok-write.ensures.0

@@ -8,8 +8,9 @@ use Rattle.wjs_session.proofs.resting.Resting.resume.Goals as goal
 pub invariant_of-result : goal.invariant_of-result
 invariant_of-result c = record {
   works = λ e. (c.requires.live, c.args.self.works);
-  kept = λ e. c.requires.stands;
+  kept = λ e. c.requires.stands.is;
   alone = c.args.self.alone;
+  marks = λ e. c.requires.stands.tells;
 }
 
 pub returns-clause-same : goal.returns-clause-same

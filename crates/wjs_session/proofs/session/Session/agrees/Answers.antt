@@ -13,7 +13,10 @@ commit_check-requires-clause-parent c =
     let k = c.args.self.now.kept c.requires in
     ap (λ o. is_some (option_and_then (λ (x : World plain). x.parent) o)) (found_at F c.args.self.now.world k.child.there) ∙ parent_some F c.args.self.now.world k.shared k.child
 
-pub returns : goal.returns
-returns c =
+pub returns-clause-agrees : goal.returns-clause-agrees
+returns-clause-agrees c =
     let k = c.args.self.now.kept c.requires in
     agrees_is (worlds_in c.args.self.now.shared) c.args.self.now.world k.shared k.child c.is_none.result (none_from c.commit_check.result c.is_none.result c.is_none.ensures ∙ ap is_none c.commit_check.ensures)
+
+pub returns-clause-told : goal.returns-clause-told
+returns-clause-told c = c.args.self.now.marks c.requires

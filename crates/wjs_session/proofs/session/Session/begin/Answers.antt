@@ -5,13 +5,14 @@ use Rattle.wjs_store.specs.Fixed.{begun}
 use Rattle.wjs_store.specs.Meaning.{Meaning, Worlds}
 use Rattle.wjs_store.specs.State.{next_id, sprout, sprouted}
 use Rattle.wjs_session.specs.Stores.{worlds_in}
-use Rattle.wjs_session.specs.Session.{session}
+use Rattle.wjs_session.specs.Session.{world_at, session}
 use Rattle.wjs_session.specs.Kept.{IsSession, IsAlone}
 use Rattle.wjs_session.specs.Begun.{Begins}
 use Rattle.wjs_session.specs.Told.{told_of}
+use Rattle.wjs_session.specs.Tells.{TellsMarks}
 use Rattle.std.proofs.Common.{false}
 use Rattle.wjs_session.proofs.Worlds.{first_there}
-use Rattle.wjs_session.proofs.BeginLaws.{count_none, kept_begun, begins}
+use Rattle.wjs_session.proofs.BeginLaws.{count_none, kept_begun, tells_begun, begins}
 use Rattle.wjs_session.proofs.AnswerLaws.{of_does, overlay_reached, sprouted_is, alone_begun}
 use Rattle.wjs_session.proofs.session.Session.begin.Goals as goal
 
@@ -33,10 +34,13 @@ invariant_of-result c =
     let is = sprouted_is c.in_ok-world.world (next_id F c.args.owner) d.answers in
     let inner : worlds_in c.in_ok-inner.inner ≡ begun c.in_ok-world.world = ap (λ (m : Meaning). m.full map.empty) c.in_ok-inner.ensures in
     let kept = kept_begun F c.first-first.result c.args.owner r c.first-first.ensures (count_none F c.args.owner r c.requires.new) in
+    let told = told_of c.nothing.result.chain.value in
+    let tells = tells_begun F c.first-first.result c.args.owner r c.first-first.ensures (count_none F c.args.owner r c.requires.new) told c.nothing.ensures in
     record {
       works = λ e. (d.spent ∙ c.requires.live, ap (λ (m : Meaning). m.spent) c.in_ok-inner.ensures);
       kept = λ e. subst (λ (H : Worlds). IsSession (worlds_in c.sprout.new.self) c.in_ok-world.world H) (sym inner) (subst (λ (w : WorldId). IsSession (worlds_in c.sprout.new.self) w (begun w)) (sym is) (subst (λ (H : Worlds). IsSession H (next_id F c.args.owner) (begun (next_id F c.args.owner))) (sym d.worlds) kept));
       alone = λ e n. subst IsAlone (sym inner) (alone_begun c.in_ok-world.world);
+      marks = λ e. subst (λ (H : Worlds). TellsMarks (world_at (worlds_in c.sprout.new.self) c.in_ok-world.world) H told) (sym inner) (subst (λ (w : WorldId). TellsMarks (world_at (worlds_in c.sprout.new.self) w) (begun w) told) (sym is) (subst (λ (H : Worlds). TellsMarks (world_at H (next_id F c.args.owner)) (begun (next_id F c.args.owner)) told) (sym d.worlds) tells));
     }
 
 pub returns : goal.returns

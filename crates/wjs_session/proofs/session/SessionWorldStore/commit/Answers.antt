@@ -1,8 +1,22 @@
 use Rattle.std.proofs.Common.{◌≡◌, sym, ap, ◌∙◌}
+use Rattle.wjs_store.specs.State.{commit, committed}
+use Rattle.wjs_store.specs.Shown.{verdict_of}
+use Rattle.wjs_session.specs.Told.{told_of}
 use Rattle.wjs_session.specs.Stores.{worlds_in}
 use Rattle.wjs_session.specs.Session.{world_at, first_copy, owned}
 use Rattle.wjs_session.proofs.StoreLaws.{has_full}
+use Rattle.wjs_session.proofs.TellLaws.{tells_more}
 use Rattle.wjs_session.proofs.session.SessionWorldStore.commit.Goals as goal
 
 pub commit-requires-clause-there : goal.commit-requires-clause-there
 commit-requires-clause-there c = sym (has_full (world_at (worlds_in c.args.self.now.shared) c.args.self.now.world) (worlds_in c.args.self.now.inner) (owned (world_at (worlds_in c.args.self.now.shared) c.args.self.now.world) (first_copy (worlds_in c.args.self.now.shared))) c.args.world) ∙ c.requires
+
+pub invariant_of-self-2 : goal.invariant_of-self-2
+invariant_of-self-2 c =
+    let s = c.args.self.now in
+    let e = c.in_ok-verdict.ensures in record {
+      works = λ _. (e.works.0 ∙ (s.works c.if-self.false).0, e.works.1 ∙ (s.works c.if-self.false).1);
+      kept = λ _. e.answered.kept;
+      alone = λ _ n. e.alone (s.alone c.if-self.false n);
+      marks = λ _. tells_more (worlds_in s.shared) s.world (worlds_in s.inner) (commit c.args.world) (committed (verdict_of c.in_ok-verdict.verdict)) (worlds_in c.commit.new.shared) (worlds_in c.commit.new.inner) (told_of s.told.chain.value) (told_of c.tell.new.self.chain.value) (s.kept c.if-self.false) (s.marks c.if-self.false) e.answered e.marks c.tell.ensures;
+    }

@@ -1,4 +1,4 @@
-use Rattle.std.proofs.Common.{◌≡◌, sym, ap, ◌∙◌}
+use Rattle.std.proofs.Common.{◌≡◌, refl, sym, ap, ◌∙◌}
 use Rattle.std.proofs.lemmas.Bool.{true≢false}
 use Rattle.wjs_store.specs.State.{next_id, sprout, sprouted}
 use Rattle.wjs_session.specs.Told.{told_of}
@@ -6,6 +6,7 @@ use Rattle.wjs_session.specs.Stores.{worlds_in}
 use Rattle.wjs_session.specs.Session.{world_at, first_copy, owned}
 use Rattle.wjs_session.proofs.StoreLaws.{has_full, session_answers}
 use Rattle.wjs_session.proofs.AnswerLaws.{of_does, sprouted_is, made_below}
+use Rattle.wjs_session.proofs.TellLaws.{tells_more}
 use Rattle.wjs_session.proofs.session.SessionWorldStore.sprout.Goals as goal
 
 pub sprout-requires : goal.sprout-requires
@@ -25,6 +26,7 @@ invariant_of-self-2 c =
       works = λ e. ((c.args.self.now.works c.if-self.false).0, d.spent ∙ (c.args.self.now.works c.if-self.false).1);
       kept = λ e. made.kept;
       alone = λ e z. absurd (true≢false z);
+      marks = λ e. tells_more F i G a (sprouted c.in_ok-child.child) F (worlds_in n) (told_of c.args.self.now.told.chain.value) (told_of c.tell.new.self.chain.value) (c.args.self.now.kept c.if-self.false) (c.args.self.now.marks c.if-self.false) made (λ v p. refl) c.tell.ensures;
     }
 
 pub returns : goal.returns

@@ -23,7 +23,7 @@ invariant_of-result c =
     let apart = of_two_owners F (worlds_in c.args.shared) two.world one.world (c.rest-shared-2.ensures.world ∙ c.in_ok-second.ensures.number) (c.rest-shared.ensures.world ∙ c.in_ok-first.ensures.number) in
     record {
       live = c.rest-shared-2.ensures.works;
-      one_rests = λ e. begun_beside c.resting_stands_still.ensures c.begins_leave_others.ensures F F' 2 two.world s.world m (worlds_in two.inner) c.in_ok-second.ensures c.rest-shared-2.ensures.world c.rest-shared-2.ensures.stands (ap (λ (n : Meaning). n.around) c.rest-shared-2.ensures.same) one apart.1 c.rest-shared.ensures.stands;
+      one_rests = λ e. begun_beside c.resting_stands_still.ensures c.begins_leave_others.ensures F F' 2 two.world s.world m (worlds_in two.inner) c.in_ok-second.ensures c.rest-shared-2.ensures.world c.rest-shared-2.ensures.stands.is (ap (λ (n : Meaning). n.around) c.rest-shared-2.ensures.same) one apart.1 c.rest-shared.ensures.stands;
       two_rests = λ e. c.rest-shared-2.ensures.stands;
       apart = apart.0;
     }
