@@ -23,6 +23,7 @@ use Rattle.wjs_session.specs.Stores.{worlds_in}
 use Rattle.wjs_alone.specs.Alone.{Copy}
 use Rattle.wjs_alone.specs.Opening.{opening}
 use Rattle.wjs_alone.specs.Serial.{End, runs_of, copy_by, lines_from, Holds, IsSerial, first_held, first_objects, Serial, due}
+use Rattle.wjs_activity.specs.Unnamed.{NamesNone}
 use Rattle.wjs_alone.specs.Playing as defined
 use Rattle.wjs_alone.specs.Playing.{activities_from, play_behind, bytes_of}
 use Rattle.wjs_activity.specs.declared.common.Common.{Common}
@@ -34,6 +35,8 @@ use Rattle.wjs_activity.specs.declared.whole.PlayEnd.{PlayEnd}
 use Rattle.wjs_activity.specs.declared.whole.PlayEnd.TheVariants as endings
 use Rattle.wjs_activity.specs.Views.{held_in, KnowsView}
 use Rattle.wjs_activity.specs.Common.{IsCommon}
+use Rattle.wjs_activity.specs.Hiding.{no_owner}
+use Rattle.wjs_activity.specs.Listing.{entry_of}
 use Rattle.wjs_activity.specs.Noting.{AllNew}
 use Rattle.wjs_activity.specs.SoFar.{TellsEnds, times_ended, StandsBy, IsPlay, left_by}
 use Rattle.wjs_activity.specs.Turning.{first_in}
@@ -77,6 +80,15 @@ module _ (library : Option Tree) (parts : List Tree) (budget count : ℕ) (c : C
       let h : None ≡ Some r = sym (ap (λ (x : Activity). x.running) (is_new p.activities.items b.activities i a at)) ∙ running in
       cc
 
+  list_begun : (i : ℕ) (a : Activity) → slice_get p.activities.items i ≡ Some a → slice_get p.common.apart.items i ≡ Some (entry_of a.running)
+  list_begun i a at =
+      let lt : i < length p.activities.items = slice_get_within p.activities.items i a at in
+      let long : length p.common.apart.items ≡ length p.activities.items = b.apart.0 ∙ sym b.count_is in
+      let inside : i < length p.common.apart.items = omega (arith, lt, long) in
+      let entry = there_at p.common.apart.items i inside in
+      let is_none : entry.0 ≡ no_owner = sym (get_or_from_slice_get p.common.apart.items i entry.0 entry.0 entry.1) ∙ b.apart.1 i entry.0 inside in
+      entry.1 ∙ ap Some is_none ∙ ap (λ (x : Activity). Some (entry_of x.running)) (sym (is_new p.activities.items b.activities i a at))
+
   held_begun : first_held library parts budget ≡ first_in p.common
   held_begun = sym ((λ i. held_in (b.texts i) (first_copy (worlds_in (b.shared i)))) ∙ is.holds)
 
@@ -105,6 +117,14 @@ module _ (library : Option Tree) (parts : List Tree) (budget count : ℕ) (c : C
       none_first = refl;
       numbers = All-nil (λ (e : End). (1 ≤ e.run.activity) × (e.run.activity ≤ length parts));
     };
+    apart = record {
+      few = let none : p.drawn ≡ 0 = b.drawn in omega (arith, none);
+      long = b.apart.0 ∙ sym b.count_is;
+      lists = list_begun;
+      hidden = λ i x r found running. absurd (no_run i x r found running);
+      unaware = λ i j x y r s differ fx fy rx ry. absurd (no_run i x r fx rx);
+    };
+    named = tt;
   }
 
 -- a play that has begun goes on
@@ -277,6 +297,7 @@ module _ (rules : Rules) (library : Option Tree) (parts : List Tree) (first : ru
           holds = left.0;
           objects = left.1;
           serial = subst (Serial library parts rules.budget) are serial;
+          named = subst (λ es. NamesNone library parts rules.budget copy (runs_of es)) are to.is.named;
           prints = subst (λ es. due library parts rules.budget es ≡ bytes_of library parts rules.budget last) are (due_is ∙ sym bytes_are);
           leaves = subst (λ es. copy_by library parts rules.budget copy (runs_of es) ≡ last.copy) are left_copy;
           further = subst (λ es. Holds (left_by library parts rules.budget copy arena (runs_of es)) last.objects) are left_objects;

@@ -1,5 +1,5 @@
 -- What one turn of the activity at a place makes of a play.
-use Rattle.std.proofs.Common.{◌≡◌, ℕ, zero, suc, ◌+◌, ◌*◌, ◌-◌, ◌≤◌, ◌<◌, ◌⊎◌, inl, inr, Bool, true, false, List, [], ◌∷◌, ◌++◌, length, set, Option, None, Some, refl, sym, ap, ◌∙◌, subst, arith, length-set}
+use Rattle.std.proofs.Common.{◌≡◌, ℕ, zero, suc, ◌+◌, ◌*◌, ◌-◌, ◌≤◌, ◌<◌, ◌⊎◌, inl, inr, Bool, true, false, List, [], ◌∷◌, ◌++◌, length, set, Option, None, Some, refl, sym, ap, ◌∙◌, subst, arith, length-set, IsTrue}
 use Rattle.std.proofs.lemmas.Bool.{false≢true}
 use Rattle.std.proofs.lemmas.List.{length-map}
 use Rattle.std.specs.Prelude.{IfSome, max, slice_get, map as each}
@@ -9,6 +9,7 @@ use Rattle.std.proofs.lemmas.Option.{slice_get_within, get_or_from_slice_get, sa
 use Rattle.wjs_content.specs.Objects.{Arena}
 use Rattle.wjs_meaning.specs.Trees.{Tree}
 use Rattle.wjs_model.specs.declared.config.Config.{Config}
+use Rattle.wjs_model.specs.Apart.{is_apart}
 use Rattle.wjs_model.specs.Soundness.{Sound}
 use Rattle.wjs_model.specs.Units.{unit_in}
 use Rattle.wjs_store.specs.Meaning.{Meaning}
@@ -29,20 +30,24 @@ use Rattle.wjs_activity.specs.declared.activities.Play.{Play}
 use Rattle.wjs_activity.specs.declared.activities.Rules.{Rules}
 use Rattle.wjs_activity.specs.declared.turns.Came.{Came}
 use Rattle.wjs_activity.specs.declared.turns.Came.TheVariants as came
-use Rattle.wjs_activity.specs.Meant.{itself, session_meaning, resting}
+use Rattle.wjs_activity.specs.Hiding.{no_owner, IsHidden, MayList}
+use Rattle.wjs_activity.specs.Listing.{entry_of, KeepsApart}
+use Rattle.wjs_activity.specs.Meant.{itself, session_meaning, Listed, resting}
 use Rattle.wjs_activity.specs.Noting.{Notes, NotesAt, Takes}
 use Rattle.wjs_activity.specs.Views.{KnowsView}
 use Rattle.wjs_activity.specs.Exact.{IsExact}
 use Rattle.wjs_activity.specs.Exactly.{IsActivity, IsExactly, TurnIs}
 use Rattle.wjs_activity.specs.Resting.{IsResting}
 use Rattle.wjs_activity.specs.SoFar.{GoesOn, StandsBy, IsPlay, times_owned}
-use Rattle.wjs_activity.specs.Turning.{IsLive, IsTurned, IsRest, HasLess, Begun, GoesOnAs}
-use Rattle.wjs_activity.specs.Rounds.{first_number, steps_left, fuel_by, fuel_of, fuel, left_of, turns_left, Sooner, MadeExactly, After, MayTurn, Changes, IsGoing, TurnMade}
+use Rattle.wjs_activity.specs.Turning.{IsLive, IsTurned, HiddenIn, TurnsApart, IsRest, HasLess, Begun, GoesOnAs}
+use Rattle.wjs_activity.specs.Rounds.{first_number, steps_left, fuel_by, fuel_of, fuel, left_of, turns_left, Sooner, MadeExactly, After, MayTurn, IsGoing, TurnMade}
+use Rattle.wjs_activity.proofs.Apart.{Emptied, Ran, rests_at, sound_resumed, may_list, apart_after}
+use Rattle.wjs_activity.proofs.Hidings.{hidden_same}
 use Rattle.wjs_activity.proofs.Places.{set_other, set_there, set_twice}
 use Rattle.wjs_activity.proofs.Runs.{view_grows}
 use Rattle.wjs_activity.proofs.Founds.{stands_at}
 use Rattle.wjs_activity.proofs.Steps.{stays_made, rests_step, drops_step, ends_made}
-use Rattle.wjs_activity.proofs.Taking.{Taken, came_to, taken_begun, taken_resumed}
+use Rattle.wjs_activity.proofs.Taking.{Taken, passes_all, came_to, taken_begun, taken_resumed}
 use Rattle.wjs_activity.proofs.TurnsExactly.{SameTry, try_new, try_on, more_of, turn_is}
 
 -- ---- lists of which one element was set
@@ -97,6 +102,8 @@ number_is (Some tree) first place h = omega (arith, h)
 module _ (rules : Rules) (p : Play) (place : ℕ) (a : Activity) (at : slice_get p.activities.items place ≡ Some a) (alive : a.ended ≡ false)
     (c : Config Session) (begun : a.running ≡ None → Begun session_meaning (p.drawn + 1) (rules.first + place) rules.budget p.common c)
     (goes_on : (r : Rested) → a.running ≡ Some r → GoesOnAs session_meaning p.common r c)
+    (sound : Sound session_meaning c) (few_drawn : a.running ≡ None → p.drawn + 1 < no_owner)
+    (list : (r : Rested) → a.running ≡ Some r → c.apart.items ≡ set p.common.apart.items place no_owner)
     (next : Common) (now : Activity) (ends' : List Ended) (output : List ℕ)
     (after : Play) (common_is : after.common ≡ next) (drawn_is : after.drawn ≡ max p.drawn c.owner) (ends_is : after.ends ≡ ends')
     (items_is : after.activities.items ≡ set p.activities.items place now) where
@@ -129,6 +136,10 @@ module _ (rules : Rules) (p : Play) (place : ℕ) (a : Activity) (at : slice_get
       pub taken : Taken trees tree rules.budget q drawn p.common c
       pub own : (r : Rested) → a.running ≡ Some r → r.owner ≡ q
       pub new : a.running ≡ None → p.drawn < q
+      pub few : drawn < no_owner
+      -- the list has no entry for the turn's try, and of the others' nothing is named
+      pub emptied : Emptied place p.common.apart.items c.apart.items
+      pub hides : (u : ℕ) → IsTrue (is_apart c.apart.items u) → IsHidden p.common u → HiddenIn c u
 
     was_on : GoesOn library parts rules.budget copy arena p ends (place + 1) a
     was_on = subst (λ b. StandsBy library parts rules.budget copy arena b p ends (place + 1) a) alive (is.activities place a at)
@@ -147,11 +158,19 @@ module _ (rules : Rules) (p : Play) (place : ℕ) (a : Activity) (at : slice_get
               (number_is library rules.first place first) is.common is.trees_are;
           own = λ r e. let h : None ≡ Some r = sym none ∙ e in absurd (cc);
           new = λ e. omega arith;
+          few = few_drawn none;
+          emptied = record {
+            here = ap (λ v. slice_get v.items place) b.apart ∙ is.apart.lists place a at ∙ ap (λ o. Some (entry_of o)) none;
+            other = λ i away. ap (λ v. slice_get v.items i) b.apart;
+            long = ap (λ v. length v.items) b.apart;
+          };
+          hides = λ u h. b.hides u (subst (λ v. IsTrue (is_apart v.items u)) b.apart h);
         }
 
     took_on : (r : Rested) → a.running ≡ Some r → IsResting trees tree rules.budget p.drawn p.common r → Took r.owner p.drawn
     took_on r running resting =
-        let t = taken_resumed trees tree rules.budget p.drawn p.common r c (goes_on r running) resting is.common in
+        let t = taken_resumed trees tree rules.budget p.drawn p.common r c (goes_on r running) resting is.common sound in
+        let l = list r running in
         let owner : c.owner ≡ r.owner = t.owner in
         let within : r.owner ≤ p.drawn = resting.owner in
         record {
@@ -160,7 +179,27 @@ module _ (rules : Rules) (p : Play) (place : ℕ) (a : Activity) (at : slice_get
           taken = t;
           own = λ s e. ap (λ (x : Rested). x.owner) (same_Some s r (sym e ∙ running));
           new = λ e. let h : None ≡ Some r = sym e ∙ running in absurd (cc);
+          few = is.apart.few;
+          emptied = record {
+            here = ap (λ xs. slice_get xs place) l ∙ set_there p.common.apart.items place (entry_of a.running) no_owner (is.apart.lists place a at);
+            other = λ i away. ap (λ xs. slice_get xs i) l ∙ set_other p.common.apart.items place i no_owner away;
+            long = ap length l ∙ length-set p.common.apart.items place no_owner;
+          };
+          hides = λ u h k. hidden_same p.common.arena c.heap.arena (first_copy (worlds_in p.common.shared)) (first_copy (worlds_in c.heap.store.shared)) u
+              (ap (λ (d : Config Meaning). d.heap.arena) (goes_on r running).same) t.holds k;
         }
+
+    -- tries that rest are kept apart behind it
+    kept_after : (q drawn : ℕ) (t : Took q drawn) (k : Came) → IsTurned session_meaning trees tree rules.budget drawn c next k → TurnsApart place c next k
+        → Ran k now.running → ((r : Rested) → now.running ≡ Some r → r.owner ≡ q) → KeepsApart after
+    kept_after q drawn t k turned apart ran mine =
+        apart_after library parts rules.budget copy arena p ends is place a at alive q next drawn t.more
+        (passes_all library parts rules.budget copy arena p ends is
+        (place + 1) q drawn c next k t.taken turned) turned.is_common turned.works t.own t.new after common_is t.drawn_now long others now at_now
+        c t.taken.owner t.taken.holds t.emptied t.hides t.few k apart ran mine
+
+    none_runs : (q : ℕ) → now.running ≡ None → (r : Rested) → now.running ≡ Some r → r.owner ≡ q
+    none_runs q none r running = let h : None ≡ Some r = sym none ∙ running in absurd (cc)
 
     -- it is the definition's
     exactly : (steps q drawn : ℕ) (t : Took q drawn) (k : Came) → IsTurned session_meaning trees tree rules.budget drawn c next k
@@ -189,51 +228,57 @@ module _ (rules : Rules) (p : Play) (place : ℕ) (a : Activity) (at : slice_get
     -- what it came to
     finish : (steps q drawn : ℕ) (t : Took q drawn) (k : Came) → IsTurned session_meaning trees tree rules.budget drawn c next k
         → (KnowsView c.heap.texts (session_meaning c.heap.store).own → IsExact session_meaning trees tree rules.budget t.taken.live.taken steps c next k)
-        → Notes (place + 1) c.owner k emptied p.ends now ends' output → (k ≡ came.Drops → a.dropped < 3)
+        → TurnsApart place c next k → Notes (place + 1) c.owner k emptied p.ends now ends' output → (k ≡ came.Drops → a.dropped < 3)
         → MadeExactly library parts rules.budget copy arena place steps p ends after output
-    finish steps q drawn t (came.Rests rest) turned exact notes few =
+    finish steps q drawn t (came.Rests rest) turned exact apart notes few =
         let to = came_to library parts rules.budget copy arena p ends is (place + 1) q drawn c next (came.Rests rest) t.taken turned in
+        let runs : now.running ≡ Some rest = ap (λ (x : Activity). x.running) notes.0 in
         record {
           made = stays_made library parts rules.budget copy arena ends after output notes.2
               (rests_step library parts rules.budget copy arena p ends is place a at alive q drawn t.more c next
               (came.Rests rest) t.taken turned t.own t.new after common_is t.drawn_now long others now at_now
+              (kept_after q drawn t (came.Rests rest) turned apart runs
+              (λ r running. ap (λ (x : Rested). x.owner) (same_Some r rest (sym running ∙ runs)) ∙ to.0))
               rest notes.0 (ends_is ∙ notes.1) to.0 to.1 to.2);
           exact = exactly steps q drawn t (came.Rests rest) turned exact notes;
         }
-    finish steps q drawn t came.Drops turned exact notes few =
+    finish steps q drawn t came.Drops turned exact apart notes few =
         let to = came_to library parts rules.budget copy arena p ends is (place + 1) q drawn c next came.Drops t.taken turned in
+        let none : now.running ≡ None = ap (λ (x : Activity). x.running) notes.0 in
         record {
           made = stays_made library parts rules.budget copy arena ends after output notes.2
               (drops_step library parts rules.budget copy arena p ends is place a at alive q drawn t.more c next came.Drops t.taken turned t.own t.new after
               common_is t.drawn_now long others now at_now
-              notes.0 (ends_is ∙ notes.1) (few refl) to);
+              (kept_after q drawn t came.Drops turned apart none (none_runs q none)) notes.0 (ends_is ∙ notes.1) (few refl) to);
           exact = exactly steps q drawn t came.Drops turned exact notes;
         }
-    finish steps q drawn t (came.Ends outcome out) turned exact notes few =
+    finish steps q drawn t (came.Ends outcome out) turned exact apart notes few =
         let to = came_to library parts rules.budget copy arena p ends is (place + 1) q drawn c next (came.Ends outcome out) t.taken turned in
         let owner = t.taken.owner in
+        let none : now.running ≡ None = ap (λ (x : Activity). x.running) notes.0 in
         let told = ap (λ k. p.ends ++ record { activity = place + 1; owner = k; outcome = outcome; tries = a.dropped + 1 } ∷ []) owner in
         record {
           made = ends_made library parts rules.budget copy arena p ends is place a at alive q drawn t.more c next
               (came.Ends outcome out) t.taken turned t.own t.new after common_is t.drawn_now long others now at_now
               outcome out.items to (subst (λ k. 1 ≤ k) owner t.taken.live.some) (subst (λ k. k ≤ drawn) owner t.taken.live.owner) inside was_on.few
-              notes.0 (ends_is ∙ notes.1 ∙ told) output notes.2;
+              (kept_after q drawn t (came.Ends outcome out) turned apart none (none_runs q none)) notes.0 (ends_is ∙ notes.1 ∙ told) output notes.2;
           exact = exactly steps q drawn t (came.Ends outcome out) turned exact notes;
         }
 
     made_by : (steps : ℕ) (k : Came) → ((ts : List Tree) (n b d : ℕ) → IsLive session_meaning ts n b d c → IsTurned session_meaning ts n b d c next k)
         → ((ts : List Tree) (n b d : ℕ) → (l : IsLive session_meaning ts n b d c) → KnowsView c.heap.texts (session_meaning c.heap.store).own
-        → IsExact session_meaning ts n b l.taken steps c next k) → Notes (place + 1) c.owner k emptied p.ends now ends' output
-        → (k ≡ came.Drops → a.dropped < 3)
+        → IsExact session_meaning ts n b l.taken steps c next k)
+        → ((ts : List Tree) (n b d : ℕ) → IsLive session_meaning ts n b d c → TurnsApart place c next k)
+        → Notes (place + 1) c.owner k emptied p.ends now ends' output → (k ≡ came.Drops → a.dropped < 3)
         → MadeExactly library parts rules.budget copy arena place steps p ends after output
-    made_by steps k turned exact notes few = by a.running refl was_on.rests
+    made_by steps k turned exact apart notes few = by a.running refl was_on.rests
       where
         by : (o : Option Rested) → a.running ≡ o → IfSome o (λ r. IsResting trees tree rules.budget p.drawn p.common r × (times_owned r.owner ends ≡ 0))
             → MadeExactly library parts rules.budget copy arena place steps p ends after output
         by None e h = let t = took_new e in finish steps (p.drawn + 1) (p.drawn + 1) t k (turned trees tree rules.budget (p.drawn + 1) t.taken.live)
-            (exact trees tree rules.budget (p.drawn + 1) t.taken.live) notes few
+            (exact trees tree rules.budget (p.drawn + 1) t.taken.live) (apart trees tree rules.budget (p.drawn + 1) t.taken.live) notes few
         by (Some r) e h = let t = took_on r e h.0 in finish steps r.owner p.drawn t k (turned trees tree rules.budget p.drawn t.taken.live)
-            (exact trees tree rules.budget p.drawn t.taken.live) notes few
+            (exact trees tree rules.budget p.drawn t.taken.live) (apart trees tree rules.budget p.drawn t.taken.live) notes few
 
   -- ---- steps and tries
 
@@ -318,6 +363,7 @@ module _ (rules : Rules) (p : Play) (place : ℕ) (a : Activity) (at : slice_get
       (exact : (ts : List Tree) (n b d : ℕ) → (l : IsLive session_meaning ts n b d c) → KnowsView c.heap.texts (session_meaning c.heap.store).own
       → IsExact session_meaning ts n b l.taken steps c next k) (whole : c.left ≤ steps → ¬ (IsRest k)) (less : 1 ≤ steps → HasLess c.left k)
       (certain : (session_meaning c.heap.store).own ≡ first_copy (worlds_in c.heap.store.shared) → ¬ (k ≡ came.Drops))
+      (apart : (ts : List Tree) (n b d : ℕ) → IsLive session_meaning ts n b d c → TurnsApart place c next k)
       (notes : Notes (place + 1) c.owner k emptied p.ends now ends' output) where
     -- the fourth try isn't dropped
     few_dropped : k ≡ came.Drops → a.dropped < 3
@@ -337,7 +383,7 @@ module _ (rules : Rules) (p : Play) (place : ℕ) (a : Activity) (at : slice_get
 
     pub turn_made : 0 < left_of rules.budget a.running → TurnMade rules place steps p after output
     turn_made left = record {
-      made = λ library parts copy arena ends first is. made_by library parts copy arena ends first is steps k turned exact notes few_dropped;
+      made = λ library parts copy arena ends first is. made_by library parts copy arena ends first is steps k turned exact apart notes few_dropped;
       changes = record {
         now = now;
         is = items_is;
@@ -354,15 +400,18 @@ pub turned_lem : (rules : Rules) (p : Play) (place steps : ℕ) → ((x : Activi
     → (mid : List Activity) (running : Option Rested) → Takes place p.activities.items mid running
     → (c : Config Session) → (running ≡ None → Begun session_meaning (p.drawn + 1) (rules.first + place) rules.budget p.common c)
     → ((r : Rested) → running ≡ Some r → GoesOnAs session_meaning p.common r c)
+    → Sound session_meaning c → (running ≡ None → p.drawn + 1 < no_owner)
+    → ((r : Rested) → running ≡ Some r → c.apart.items ≡ set p.common.apart.items place no_owner)
     → (next : Common) (k : Came) → ((ts : List Tree) (n b d : ℕ) → IsLive session_meaning ts n b d c → IsTurned session_meaning ts n b d c next k)
     → ((ts : List Tree) (n b d : ℕ) → (l : IsLive session_meaning ts n b d c) → KnowsView c.heap.texts (session_meaning c.heap.store).own
     → IsExact session_meaning ts n b l.taken steps c next k) → (c.left ≤ steps → ¬ (IsRest k)) → (1 ≤ steps → HasLess c.left k)
     → ((session_meaning c.heap.store).own ≡ first_copy (worlds_in c.heap.store.shared) → ¬ (k ≡ came.Drops))
+    → ((ts : List Tree) (n b d : ℕ) → IsLive session_meaning ts n b d c → TurnsApart place c next k)
     → (new : List Activity) (ends' : List Ended) (output : List ℕ) → NotesAt place c.owner k mid p.ends new ends' output
     → (after : Play) → after.common ≡ next → after.drawn ≡ max p.drawn c.owner → after.ends ≡ ends' → after.activities.items ≡ new
     → TurnMade rules place steps p after output
-turned_lem rules p place steps there left some mid running t c begun goes_on next k turned exact whole less certain new ends' output n after common_is
-    drawn_is ends_is items =
+turned_lem rules p place steps there left some mid running t c begun goes_on sound few_drawn list next k turned exact whole less certain apart new ends'
+    output n after common_is drawn_is ends_is items =
     let a = t.was in
     let may = there a t.there in
     let at_mid : slice_get mid place ≡ Some (record a { running = None }) = ap (λ (l : List Activity). slice_get l place) t.is
@@ -370,8 +419,8 @@ turned_lem rules p place steps there left some mid running t c begun goes_on nex
     let same : n.was ≡ record a { running = None } = same_Some n.was (record a { running = None }) (sym n.there ∙ at_mid) in
     let items_is : after.activities.items ≡ set p.activities.items place n.now =
     items ∙ n.is ∙ ap (λ (l : List Activity). set l place n.now) t.is ∙ set_twice p.activities.items place (record a { running = None }) n.now in
-    turn_made rules p place a t.there may.0 c (λ e. begun (t.value ∙ e))
-    (λ r e. goes_on r (t.value ∙ e)) next n.now ends' output after common_is drawn_is ends_is items_is steps may.1 some k turned exact whole less certain
+    turn_made rules p place a t.there may.0 c (λ e. begun (t.value ∙ e)) (λ r e. goes_on r (t.value ∙ e)) sound (λ e. few_drawn (t.value ∙ e))
+    (λ r e. list r (t.value ∙ e)) next n.now ends' output after common_is drawn_is ends_is items_is steps may.1 some k turned exact whole less certain apart
     (subst (λ (x : Activity). Notes (place + 1) c.owner k x p.ends n.now ends' output) same n.notes) (left a t.there may.0)
 
 -- ---- what is asked of the calls
@@ -405,26 +454,39 @@ module _ (rules : Rules) (p : Play) (place : ℕ) (inside : place < length p.act
       let first = first_few g.library in
       omega (arith, long, few, first)
 
-  -- the try that rests rests over what is shared, and is sound
-  pub rests_there : (mid : List Activity) (running : Option Rested) → Takes place p.activities.items mid running
-      → IfSome running (λ r. Rests (worlds_in p.common.shared) r.resting × Sound itself (resting p.common r))
-  rests_there mid running t = by running t.value (stands t.was.ended (g.is.activities place t.was t.there))
+  -- what is asked of the try that rests: it rests over what is shared, and is sound where the others are kept apart from it
+  abbrev pub Resumes : Option Rested → Type 0
+  Resumes o = IfSome o (λ r. Rests (worlds_in p.common.shared) r.resting
+      × ((us : Listed) → us.items ≡ set p.common.apart.items place no_owner → Sound itself (resting us p.common r)))
+
+  pub rests_there : (mid : List Activity) (running : Option Rested) → Takes place p.activities.items mid running → Resumes running
+  rests_there mid running t = by running refl
     where
-      weaker : (o : Option Rested) → IfSome o (λ r. IsResting (trees_of g.library g.parts) (tree_number g.library (place + 1)) rules.budget p.drawn p.common r
-          × (times_owned r.owner g.ends ≡ 0)) → IfSome o (λ r. Rests (worlds_in p.common.shared) r.resting × Sound itself (resting p.common r))
-      weaker None h = tt
-      weaker (Some r) h = ((h.0).stands, (h.0).sound)
+      by : (o : Option Rested) → running ≡ o → Resumes o
+      by None e = tt
+      by (Some r) e =
+          let runs : t.was.running ≡ Some r = sym t.value ∙ e in (
+            (rests_at g.library g.parts rules.budget g.copy g.arena p g.ends g.is place t.was r t.there runs).stands,
+            λ us items. sound_resumed g.library g.parts rules.budget g.copy g.arena p g.ends g.is place t.was r t.there runs us items,
+          )
 
-      stands : (e : Bool) → StandsBy g.library g.parts rules.budget g.copy g.arena e p g.ends (place + 1) t.was
-          → IfSome t.was.running (λ r. Rests (worlds_in p.common.shared) r.resting × Sound itself (resting p.common r))
-      stands true h = subst (λ (o : Option Rested). IfSome o (λ r. Rests (worlds_in p.common.shared) r.resting × Sound itself (resting p.common r)))
-          (sym h.1) tt
-      stands false h = weaker t.was.running h.rests
+  -- the list has an entry for the activity
+  pub entry_there : place < length p.common.apart.items
+  entry_there = let long : length p.common.apart.items ≡ length p.activities.items = g.is.apart.long in omega (arith, inside, long)
 
-      by : (o : Option Rested) → o ≡ t.was.running → IfSome t.was.running
-          (λ r. Rests (worlds_in p.common.shared) r.resting × Sound itself (resting p.common r))
-          → IfSome o (λ r. Rests (worlds_in p.common.shared) r.resting × Sound itself (resting p.common r))
-      by o e h = subst (λ (x : Option Rested). IfSome x (λ r. Rests (worlds_in p.common.shared) r.resting × Sound itself (resting p.common r))) (sym e) h
+  -- and for the configuration of its turn
+  pub entry_taken : (running : Option Rested) (c : Config Session)
+      → (running ≡ None → Begun session_meaning (p.drawn + 1) (rules.first + place) rules.budget p.common c)
+      → ((r : Rested) → running ≡ Some r → c.apart.items ≡ set p.common.apart.items place no_owner) → place < length c.apart.items
+  entry_taken running c begun list = by running refl
+    where
+      by : (o : Option Rested) → running ≡ o → place < length c.apart.items
+      by None e = subst (λ v. place < length v.items) (sym (begun e).apart) entry_there
+      by (Some r) e = subst (λ n. place < n) (sym (ap length (list r e) ∙ length-set p.common.apart.items place no_owner)) entry_there
+
+  -- those that rest may be kept apart from a try that begins
+  pub begins_apart : p.drawn + 1 < no_owner → (u : ℕ) → IsTrue (is_apart p.common.apart.items u) → MayList (p.drawn + 1) p.common u
+  begins_apart few u h = may_list g.library g.parts rules.budget g.copy g.arena p g.ends g.is few u h
 
   -- so few tries were dropped that one more can be counted
   pub few_noted : (mid : List Activity) (running : Option Rested) → Takes place p.activities.items mid running → (x : Activity) → slice_get mid place ≡ Some x

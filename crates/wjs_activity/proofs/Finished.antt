@@ -39,6 +39,7 @@ use Rattle.wjs_activity.specs.Views.{held_in}
 use Rattle.wjs_activity.specs.Common.{IsCommon}
 use Rattle.wjs_activity.specs.Passing.{Passes}
 use Rattle.wjs_activity.specs.Turning.{common_of, IsLive, IsOver, IsTurned, EndsAlone, CameTo, Shares, IsRest, IsEnd, IsAtEnd, AgreesNow}
+use Rattle.wjs_activity.proofs.Hidings.{hidden_same, left_apart, committed_apart}
 use Rattle.wjs_activity.proofs.Overs.{over_walked, committed_alone, spent_alone, threw_alone}
 use Rattle.wjs_activity.proofs.Rests.{common_shared}
 use Rattle.wjs_activity.proofs.Turned.{live, kept_now, number_is, common_after, first_stays, common_turned, passes_turned, passes_then}
@@ -71,12 +72,13 @@ module _ (c : Config Session) (sound : Sound session_meaning c) where
   }
 
   -- one that has spent its budget
-  pub spent : (common : Common) (output : Vec ℕ Global) → Shares c common → output.items ≡ [] → c.state ≡ states.StepsSpent
+  pub spent : (common : Common) (output : Vec ℕ Global) → Shares c common → common.apart ≡ c.apart → output.items ≡ [] → c.state ≡ states.StepsSpent
       → IsAtEnd session_meaning c common (came.Ends told.Spent output)
-  spent common output s none is = record {
+  spent common output s list none is = record {
     ends = tt;
     texts = subst (λ t. Grows c.heap.texts t) (sym s.texts) (Grows-refl c.heap.texts);
     arena_is = s.arena_is;
+    apart = λ agrees. left_apart c common s list;
     turned = λ trees tree budget drawn over agrees. record {
       leaves = passes_left c common (over.common).reached s;
       works = s.works;
@@ -90,12 +92,17 @@ module _ (c : Config Session) (sound : Sound session_meaning c) where
 
   -- one that threw, whose value's text was found
   pub threw : (value : Numbered) (bytes : List ℕ) (next : Config Session) (common : Common) (output : Vec ℕ Global) → c.state ≡ states.Threw value
-      → ShowsIn session_meaning c value bytes → thrown.Leaves session_meaning c next → Shares next common → output.items ≡ []
+      → ShowsIn session_meaning c value bytes → thrown.Leaves session_meaning c next → Shares next common → common.apart ≡ next.apart → output.items ≡ []
       → IsAtEnd session_meaning c common (came.Ends (told.Threw bytes) output)
-  threw value bytes next common output is shows left s none = record {
+  threw value bytes next common output is shows left s list none = record {
     ends = tt;
     texts = subst (λ t. Grows c.heap.texts t) (sym s.texts) left.stays.texts;
     arena_is = s.arena_is ∙ left.objects;
+    apart = λ agrees. record {
+      list = list ∙ left.stays.apart;
+      hidden = λ u a h. hidden_same c.heap.arena common.arena (first_copy (worlds_in c.heap.store.shared)) (first_copy (worlds_in common.shared)) u
+          (s.arena_is ∙ left.objects) (ap first_copy s.worlds ∙ first_stays c next sound.base left.base left.stays) h;
+    };
     turned = λ trees tree budget drawn over agrees. record {
       leaves = passes_turned c next sound.base left.base left.stays common s;
       works = s.works;
@@ -110,16 +117,18 @@ module _ (c : Config Session) (sound : Sound session_meaning c) where
   -- one that was committed
   pub committed : (shared : Overlay) (verdict : Verdict) → Settles (worlds_in c.heap.store.shared) c.heap.store.world (worlds_in c.heap.store.inner)
       (worlds_in shared) verdict → shared.spent ≡ false → c.state ≡ states.Done
-      → IsAtEnd session_meaning c (record { texts = c.heap.texts; arena = c.heap.arena; units = c.units; shared = shared }) (came.Ends told.Committed c.pending)
+      → IsAtEnd session_meaning c (record { texts = c.heap.texts; arena = c.heap.arena; units = c.units; shared = shared; apart = c.apart })
+      (came.Ends told.Committed c.pending)
   committed shared verdict settles works is =
       let F = worlds_in c.heap.store.shared in
       let j = c.heap.store.world in
-      let common : Common = record { texts = c.heap.texts; arena = c.heap.arena; units = c.units; shared = shared } in
+      let common : Common = record { texts = c.heap.texts; arena = c.heap.arena; units = c.units; shared = shared; apart = c.apart } in
       let left = ends F (worlds_in shared) j (worlds_in c.heap.store.inner) verdict (kept_now c sound.base) settles in
       record {
         ends = tt;
         texts = Grows-refl c.heap.texts;
         arena_is = refl;
+        apart = λ agrees. committed_apart c shared sound (settles.holds (settles.moves.1 agrees));
         turned = λ trees tree budget drawn over agrees.
             let holds = settles.holds (settles.moves.1 agrees) in
             record {

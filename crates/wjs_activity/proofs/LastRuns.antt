@@ -1,5 +1,5 @@
 -- An end of the definition is that of the part's run alone with the whole budget.
-use Rattle.std.proofs.Common.{◌≡◌, ℕ, ◌+◌, ◌-◌, ◌≤◌, ◌<◌, true, false, ◌⊎◌, inl, inr, refl, sym, ap, ◌∙◌, arith, List}
+use Rattle.std.proofs.Common.{◌≡◌, ℕ, ◌+◌, ◌-◌, ◌≤◌, ◌<◌, false, ◌⊎◌, inl, inr, refl, sym, ap, ◌∙◌, arith, List}
 use Rattle.std.specs.Prelude.{nat_lt}
 use Rattle.std.proofs.lemmas.Bool.{true≢false, lt-ltb, cases_lt}
 use Rattle.wjs_content.specs.Objects.{Arena}

@@ -12,6 +12,11 @@ pub mod Defines
 pub mod Exacts
 pub mod Repacked
 pub mod Beside
+pub mod NotYet
+pub mod Unawares
+pub mod Hidings
+pub mod NamesNone
+pub mod Apart
 pub mod Entries
 pub mod Walked
 pub mod Kept

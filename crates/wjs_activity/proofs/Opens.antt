@@ -14,7 +14,7 @@ use Rattle.wjs_store.specs.Naming.{plain}
 use Rattle.wjs_store.specs.State.{World, find_world, has_world, content_at, same_world}
 use Rattle.wjs_store.specs.Shown.{first_of}
 use Rattle.wjs_store.specs.Reached.{IsReached}
-use Rattle.wjs_store.specs.Meaning.{Meaning, Worlds, worlds}
+use Rattle.wjs_store.specs.Meaning.{Meaning, View, Worlds, worlds}
 use Rattle.wjs_store.proofs.Writes.{world_is, same_self}
 use Rattle.wjs_arena.specs.Entries as numbered
 use Rattle.wjs_arena.specs.Entries.{Objects, Entry, Keeps, has}
@@ -24,7 +24,11 @@ use Rattle.wjs_heap.specs.Means.{parts}
 use Rattle.wjs_meaning.specs.Builtins.{builtin}
 use Rattle.wjs_model.specs.declared.config.Config.{Config}
 use Rattle.wjs_model.specs.declared.unit.Unit.{Unit as Program}
-use Rattle.wjs_model.specs.Soundness.{HasObject, HasWorld, IsThere, Base}
+use Rattle.wjs_model.specs.declared.config.State.TheVariants as states
+use Rattle.wjs_model.specs.Apart.{is_apart}
+use Rattle.wjs_model.specs.Others.{OtherFrame, OtherState, KeptApart}
+use Rattle.wjs_model.specs.Soundness.{HasObject, HasWorld, HasThrown, IsThere, Base, Sound}
+use Rattle.wjs_model.proofs.Others.{keeps_apart, stays_apart, sound_listed}
 use Rattle.wjs_parts.specs.Entering.{Enters}
 use Rattle.wjs_session.specs.declared.session.Session.{Session}
 use Rattle.wjs_session.specs.Session.{holding, first_copy, around_of}
@@ -37,9 +41,10 @@ use Rattle.wjs_session.proofs.Leaving.{begins}
 use Rattle.wjs_start.proofs.NoneApart.{all_near, objects_near, slots_near}
 use Rattle.wjs_alone.specs.Alone.{world_of}
 use Rattle.wjs_activity.specs.declared.common.Common.{Common}
+use Rattle.wjs_activity.specs.Hiding.{Hidden, IsHidden, MayList}
 use Rattle.wjs_activity.specs.Meant.{session_meaning, beginning, Opens}
 use Rattle.wjs_activity.specs.Common.{IsCommon}
-use Rattle.wjs_activity.specs.Turning.{Begun}
+use Rattle.wjs_activity.specs.Turning.{HiddenIn, Begun}
 use Rattle.wjs_activity.proofs.Entries.{enter_is_alone}
 use Rattle.wjs_activity.proofs.OneWorld.{one_known}
 use Rattle.wjs_activity.proofs.Soundly.{view_known, slot_later}
@@ -122,17 +127,21 @@ module _ {S : Type 0} (meaning : S → Meaning) (t : Table) (arena : Objects) (u
     slots = λ i s v at. common.slots s v (one_holds one i s v (ap (λ H. content_at H i s) (sym worlds_are) ∙ at));
   }
 
-  builtin_there : (n : ℕ) → n < 14 → HasObject c (builtin n)
-  builtin_there n lt = (common.builtins n lt, all_near c.apart.items opens.apart (builtin n))
+  -- with none kept apart
+  abbrev bare : Config S
+  bare = record c { apart = c.pending }
+
+  builtin_there : (n : ℕ) → n < 14 → HasObject bare (builtin n)
+  builtin_there n lt = (common.builtins n lt, all_near c.pending.items opens.pending (builtin n))
 
   own_none : (o : ObjId) (e : Entry) (w : WorldId) → map.get c.heap.arena o ≡ Some e → e.object.world ≡ Some w → w.owner ≡ c.owner → HasWorld meaning c w
   own_none o e w at is same = absurd (no_owner o (ap is_some at) (sym (common.worlds_by o e w at is) ∙ same ∙ opens.owner_is))
 
-  pub base_opened : Base meaning c
-  base_opened = record {
+  base_bare : Base meaning bare
+  base_bare = record {
     heap = is_heap;
     works = ap (λ (m : Meaning). not m.spent) opens.store;
-    global = subst (HasObject c) (sym opens.global) (builtin_there 2 (omega arith));
+    global = subst (HasObject bare) (sym opens.global) (builtin_there 2 (omega arith));
     world = ap (λ H. has_world H c.world) worlds_are ∙ ap (has_world (one ∷ [])) opens.world ∙ there_itself one;
     builtins = builtin_there;
     units = common.units_known;
@@ -141,21 +150,61 @@ module _ {S : Type 0} (meaning : S → Meaning) (t : Table) (arena : Objects) (u
     worlds_own = λ w h. ap (λ (z : WorldId). z.owner) (one_there one w (ap (λ H. has_world H w) (sym worlds_are) ∙ h)) ∙ sym opens.owner_is;
     worlds_by = common.worlds_by;
     own_worlds = own_none;
-    own = all_near c.apart.items opens.apart (record { owner = c.owner; serial = 0 });
-    near_objects = λ o e at n. objects_near c.apart.items opens.apart e.object;
-    near_slots = slots_near c.apart.items opens.apart (worlds (meaning c.heap.store));
-    frames = subst (All (IsThere meaning c)) (sym opens.frames) (All-nil (IsThere meaning c));
+    own = all_near c.pending.items opens.pending (record { owner = c.owner; serial = 0 });
+    near_objects = λ o e at n. objects_near c.pending.items opens.pending e.object;
+    near_slots = slots_near c.pending.items opens.pending (worlds (meaning c.heap.store));
+    frames = subst (All (IsThere meaning bare)) (sym opens.frames) (All-nil (IsThere meaning bare));
     marks = subst (KnowsWorlds c.heap.texts) (sym worlds_are)
         (one_known c.heap.texts (world_of q) (first_copy F) (view_known c.heap.texts c.heap.arena (first_copy F) common.table common.slots));
     told = subst (λ (m : Meaning). KnowsTold c.heap.texts m.told) (sym opens.store) tt;
   }
+
+  sound_bare : Sound meaning bare
+  sound_bare = record {
+    base = base_bare;
+    thrown = subst (HasThrown bare) (sym opens.state) tt;
+    running = λ on. let h : states.Done ≡ states.Running = sym opens.state ∙ on in absurd (cc);
+  }
+
+  -- it names no object of an owner that nothing else names
+  kept_bare : (u : ℕ) → ¬ (u ≡ 0) → ¬ (u ≡ q) → Hidden arena (first_copy F) u → KeptApart meaning bare u
+  kept_bare u some other h = record {
+    no_worlds = λ o e w at is stands there. other (sym is ∙ sym (common.worlds_by o e w at stands) ∙ base_bare.worlds_own w there ∙ opens.owner_is);
+    slots = λ i s v at. h.slots s v (one_holds one i s v (ap (λ H. content_at H i s) (sym worlds_are) ∙ at));
+    frames = subst (All (OtherFrame u)) (sym opens.frames) (All-nil (OtherFrame u));
+    state = subst (OtherState u) (sym opens.state) tt;
+    objects = λ o e at k. h.objects o e (ap (λ (m : Objects). map.get m o) (sym opens.arena_is) ∙ at) k;
+    global = λ e. some (sym e ∙ ap (λ (o : ObjId). o.owner) opens.global);
+  }
+
+  -- and so they may be kept apart from it
+  pub sound_opened : ((u : ℕ) → IsTrue (is_apart c.apart.items u) → ¬ (u ≡ 0) × (¬ (u ≡ q) × Hidden arena (first_copy F) u)) → Sound meaning c
+  sound_opened may = sound_listed bare c meaning sound_bare (λ u a. let m = may u a in (
+    m.0,
+    (
+      λ e. m.1.0 (e
+          ∙ opens.owner_is),
+      kept_bare u m.0 m.1.0 m.1.1,
+    ),
+  )) refl
+
+-- with the tries kept apart that rest
+pub opened_listed : (shared : Common) (q drawn : ℕ) (old : Config Session)
+    → Opens session_meaning shared.texts shared.arena shared.units.items (worlds_in shared.shared) q old
+    → IsCommon shared.texts shared.arena shared.units.items (worlds_in shared.shared) drawn → drawn < q
+    → old.apart ≡ shared.apart → ((u : ℕ) → IsTrue (is_apart shared.apart.items u) → MayList q shared u) → Sound session_meaning old
+opened_listed shared q drawn old opens known later listed may =
+    sound_opened session_meaning shared.texts shared.arena shared.units.items (worlds_in shared.shared) q drawn old opens known later (λ u a.
+    let m = may u (subst (λ v. IsTrue (is_apart v.items u)) listed a) in
+    (m.some, (m.other, m.hidden)))
 
 -- ---- the part is entered
 
 module _ (shared : Common) (q drawn part budget : ℕ) (old new : Config Session)
     (opens : Opens session_meaning shared.texts shared.arena shared.units.items (worlds_in shared.shared) q old)
     (known : IsCommon shared.texts shared.arena shared.units.items (worlds_in shared.shared) drawn)
-    (later : drawn < q) (e : Enters session_meaning part budget old new) (units : old.units ≡ shared.units) where
+    (later : drawn < q) (e : Enters session_meaning part budget old new) (units : old.units ≡ shared.units) (listed : old.apart ≡ shared.apart)
+    (may : (u : ℕ) → IsTrue (is_apart shared.apart.items u) → MayList q shared u) where
   abbrev F : Worlds
   F = worlds_in shared.shared
 
@@ -204,6 +253,18 @@ module _ (shared : Common) (q drawn part budget : ℕ) (old new : Config Session
   none : (o : ObjId) → IsTrue (has shared.arena o) → ¬ (o.owner ≡ q)
   none o h is = let le : o.owner ≤ drawn = known.object_owners o h in absurd (omega (arith, le, is, later))
 
+  sound_before : Sound session_meaning old
+  sound_before = opened_listed shared q drawn old opens known later listed may
+
+  -- nothing names an object of a listed owner still
+  still_hidden : (u : ℕ) → IsTrue (is_apart shared.apart.items u) → IsHidden shared u → HiddenIn new u
+  still_hidden u a h =
+      let was : IsTrue (is_apart old.apart.items u) = subst (λ v. IsTrue (is_apart v.items u)) (sym listed) a in
+      let kept = keeps_apart old u was session_meaning sound_before
+      (λ o x at l k. h.objects o x (ap (λ (m : Objects). map.get m o) (sym opens.arena_is) ∙ at) k) in
+      let now = stays_apart session_meaning old new u sound_before e.stays kept e.sound was in
+      record { slots = λ s v at. h.slots s v (ap (λ (m : View). map.get m s) (sym both.1) ∙ at); objects = now.objects }
+
   pub begun : Begun session_meaning q part budget shared new
   begun = record {
     leaves = record {
@@ -226,12 +287,15 @@ module _ (shared : Common) (q drawn part budget : ℕ) (old new : Config Session
       number = number ∙ ap world_of (sym owner_is);
       some = let l : new.owner ≡ q = owner_is in omega (arith, l, later);
       owner = let l : new.owner ≡ q = owner_is in omega (arith, l);
-      apart = ap (λ v. v.items) e.stays.apart ∙ opens.apart;
+      none = old.pending;
+      none_is = opens.pending;
       common = common_after session_meaning new e.sound.base shared.texts shared.arena shared.units.items F F' (world_of q) q q known_later (omega arith) made
           (kept_now new e.sound.base).shared (both.0).first (both.0).there refl
           (λ s v at. slot_later shared.texts new.heap.texts grows shared.arena new.heap.arena keeps s v
           (known.slots s v (ap (λ m. map.get m s) (sym both.1) ∙ at)));
     };
+    apart = e.stays.apart ∙ listed;
+    hides = still_hidden;
   }
 
 -- a later owner has no world

@@ -23,7 +23,6 @@ use Rattle.wjs_session.specs.Tells.{actions_of, under, unmarked, TellsMarks}
 use Rattle.wjs_session.proofs.Worlds.{id_at, above}
 use Rattle.wjs_session.proofs.Growing.{stands_at}
 use Rattle.wjs_alone.specs.Alone.{world_of}
-use Rattle.wjs_alone.specs.Alone as part
 use Rattle.wjs_alone.specs.Marks.{child, marked, agrees}
 use Rattle.wjs_alone.specs.Views.{held_in, KnowsView}
 use Rattle.wjs_alone.specs.Named.{world_in, MarksByContent, ChecksByContent, AlongByContent}

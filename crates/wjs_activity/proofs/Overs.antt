@@ -72,7 +72,6 @@ over_walked trees tree budget drawn steps took old new l w over =
       number = number_is new w.sound.base;
       some = subst (λ k. 1 ≤ k) (sym owner) l.some;
       owner = subst (λ k. k ≤ drawn) (sym owner) l.owner;
-      apart = ap (λ v. v.items) w.stays.apart ∙ l.apart;
       common = common_walked trees tree budget drawn steps took old new l w;
     }
 

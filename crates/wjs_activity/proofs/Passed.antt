@@ -33,7 +33,7 @@ module _ (trees : List Tree) (tree budget drawn drawn' q : ℕ) (old new : Commo
   F' = worlds_in new.shared
 
   abbrev before : Config Meaning
-  before = resting old rest
+  before = resting is.none old rest
 
   abbrev heap : Heap Meaning
   heap = record { texts = new.texts; arena = new.arena; store = resumed F' rest.resting }
@@ -52,21 +52,21 @@ module _ (trees : List Tree) (tree budget drawn drawn' q : ℕ) (old new : Commo
   units_same = subst (λ us. IsCommon new.texts new.arena us.items F' drawn') passes.units common
 
   -- the configuration that it would be now
-  now_is : record before { heap = heap } ≡ resting new rest
-  now_is = λ i. record (resting new rest) { units = sym passes.units i }
+  now_is : record before { heap = heap } ≡ resting is.none new rest
+  now_is = λ i. record (resting is.none new rest) { units = sym passes.units i }
 
   sound_now : Sound itself (record before { heap = heap })
-  sound_now = others_keep_sound before heap F F' rest.resting q drawn' refl refl is.sound refl is.stands returns units_same is.apart passes.texts
+  sound_now = others_keep_sound before heap F F' rest.resting q drawn' refl refl is.sound refl is.stands returns units_same is.none_is passes.texts
       passes.objects passes.made differ
 
   trying_now : IsTrying trees tree budget is.taken (record before { heap = heap })
   trying_now = others_keep_alone trees tree budget is.taken before heap q is.sound is.trying passes.texts passes.objects passes.made differ common.worlds_by
-      (full_stays before heap F F' rest.resting q drawn' refl refl is.sound refl is.stands returns units_same is.apart passes.texts passes.objects passes.made
-      differ)
-      (admits_stays before heap F F' rest.resting q drawn' refl refl is.sound refl is.stands returns units_same is.apart passes.texts passes.objects
+      (full_stays before heap F F' rest.resting q drawn' refl refl is.sound refl is.stands returns units_same is.none_is passes.texts passes.objects
+      passes.made differ)
+      (admits_stays before heap F F' rest.resting q drawn' refl refl is.sound refl is.stands returns units_same is.none_is passes.texts passes.objects
       passes.made differ)
       refl
-      (worlds_same before heap F F' rest.resting q drawn' refl refl is.sound refl is.stands returns units_same is.apart passes.texts passes.objects
+      (worlds_same before heap F F' rest.resting q drawn' refl refl is.sound refl is.stands returns units_same is.none_is passes.texts passes.objects
       passes.made differ)
 
   pub rests_still : IsResting trees tree budget drawn' new rest
@@ -75,8 +75,9 @@ module _ (trees : List Tree) (tree budget drawn drawn' q : ℕ) (old new : Commo
     number = is.number;
     some = is.some;
     owner = let le : rest.owner ≤ drawn = is.owner in omega (arith, le, more);
-    apart = is.apart;
     left = is.left;
+    none = is.none;
+    none_is = is.none_is;
     sound = subst (Sound itself) now_is sound_now;
     taken = is.taken;
     trying = subst (IsTrying trees tree budget is.taken) now_is trying_now;

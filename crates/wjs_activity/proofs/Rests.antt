@@ -15,12 +15,13 @@ use Rattle.wjs_activity.specs.declared.common.Common.{Common}
 use Rattle.wjs_activity.specs.declared.common.Rested.{Rested}
 use Rattle.wjs_activity.specs.declared.turns.Came.{Came}
 use Rattle.wjs_activity.specs.declared.turns.Came.TheVariants as came
-use Rattle.wjs_activity.specs.Meant.{itself, session_meaning, meant, resting}
+use Rattle.wjs_activity.specs.Meant.{itself, session_meaning, meant, Listed, resting}
 use Rattle.wjs_activity.specs.Views.{held_in}
 use Rattle.wjs_activity.specs.Common.{IsCommon}
 use Rattle.wjs_activity.specs.Resting.{IsResting}
 use Rattle.wjs_activity.specs.Trying.{IsTrying}
 use Rattle.wjs_activity.specs.Turning.{IsLive, IsTurned, Shares, IsRest, HasLess}
+use Rattle.wjs_activity.proofs.Hidings.{sound_bare, trying_with}
 use Rattle.wjs_activity.proofs.Repacked.{sound_to}
 use Rattle.wjs_activity.proofs.Turned.{number_is, first_stays, common_turned, passes_turned}
 use Rattle.wjs_activity.proofs.Walked.{paused_alone, goes_on_paused}
@@ -41,8 +42,8 @@ module _ (trees : List Tree) (tree budget drawn steps took : ℕ) (old new : Con
 
   module _ (running : new.state ≡ states.Running) (common : Common) (rest : Rested) (shares : Shares new common)
       (stands : RestsOver (worlds_in common.shared) rest.resting) (number : rest.resting.world ≡ new.heap.store.world)
-      (same : resting common rest ≡ meant session_meaning new) (owner : rest.owner ≡ new.owner) (left : rest.left ≡ new.left)
-      (apart : rest.apart ≡ new.apart) where
+      (same : (us : Listed) → resting us common rest ≡ record (meant session_meaning new) { apart = us }) (owner : rest.owner ≡ new.owner)
+      (left : rest.left ≡ new.left) where
     pause : RestIs session_meaning old new (λ n. took + n) × ((took ≡ steps) × (0 < new.left))
     pause = goes_on_paused session_meaning steps took old new w running
 
@@ -55,12 +56,15 @@ module _ (trees : List Tree) (tree budget drawn steps took : ℕ) (old new : Con
       number = number ∙ number_is new w.sound.base ∙ ap world_of (sym owner);
       some = subst (λ k. 1 ≤ k) (sym owner_stays) is_live.some;
       owner = subst (λ k. k ≤ drawn) (sym owner_stays) is_live.owner;
-      apart = ap (λ v. v.items) (apart ∙ w.stays.apart) ∙ is_live.apart;
       left = subst (λ k. 0 < k) (sym left) (pause.1).1;
-      sound = subst (Sound itself) (sym same) (sound_to session_meaning new w.sound);
+      none = is_live.none;
+      none_is = is_live.none_is;
+      sound = subst (Sound itself) (sym (same is_live.none))
+          (sound_bare (meant session_meaning new) is_live.none is_live.none_is (sound_to session_meaning new w.sound));
       taken = is_live.taken + took;
-      trying = subst (IsTrying trees tree budget (is_live.taken + took)) (sym same)
-          (paused_alone session_meaning trees tree budget is_live.taken steps took old new is_live.sound is_live.trying w pause.0);
+      trying = subst (IsTrying trees tree budget (is_live.taken + took)) (sym (same is_live.none))
+          (trying_with trees tree budget (is_live.taken + took) (meant session_meaning new) is_live.none
+          (paused_alone session_meaning trees tree budget is_live.taken steps took old new is_live.sound is_live.trying w pause.0));
     }
 
     pub rests_turned : IsTurned session_meaning trees tree budget drawn old common (came.Rests rest)

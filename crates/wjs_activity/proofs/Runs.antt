@@ -14,7 +14,7 @@ use Rattle.wjs_content.specs.Tables.{arena_in}
 use Rattle.wjs_content.proofs.Growth.{slot_grows, value_grows}
 use Rattle.wjs_meaning.specs.Trees.{Tree}
 use Rattle.wjs_meaning.specs.Deeds.{St}
-use Rattle.wjs_meaning.specs.Programs.{Ending, Done, Threw, StepsSpent}
+use Rattle.wjs_meaning.specs.Programs.{Ending, Done, StepsSpent}
 use Rattle.wjs_model.specs.declared.config.Config.{Config}
 use Rattle.wjs_model.specs.declared.config.State.{State}
 use Rattle.wjs_model.specs.declared.config.State.TheVariants as states

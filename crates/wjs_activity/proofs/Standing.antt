@@ -11,13 +11,15 @@ use Rattle.wjs_model.specs.Units.{unit_in}
 use Rattle.wjs_session.specs.Stores.{worlds_in}
 use Rattle.wjs_alone.specs.Alone.{Copy}
 use Rattle.wjs_alone.specs.Opening.{trees_of, tree_number}
-use Rattle.wjs_alone.specs.Serial.{End}
+use Rattle.wjs_alone.specs.Serial.{End, runs_of}
+use Rattle.wjs_activity.specs.Unnamed.{NamesNone}
 use Rattle.wjs_activity.specs.declared.common.Common.{Common}
 use Rattle.wjs_activity.specs.declared.common.Rested.{Rested}
 use Rattle.wjs_activity.specs.declared.ends.Ended.{Ended}
 use Rattle.wjs_activity.specs.declared.activities.Activity.{Activity}
 use Rattle.wjs_activity.specs.declared.activities.Play.{Play}
 use Rattle.wjs_activity.specs.Common.{IsCommon}
+use Rattle.wjs_activity.specs.Listing.{KeepsApart}
 use Rattle.wjs_activity.specs.Passing.{Passes}
 use Rattle.wjs_activity.specs.Resting.{IsResting}
 use Rattle.wjs_activity.specs.SoFar.{TellsEnd, TellsEnds, times_ended, times_owned, SoFar, GoesOn, StandsBy, Differ, IsPlay}
@@ -100,10 +102,10 @@ module _ (library : Option Tree) (parts : List Tree) (budget : ℕ) (copy : Copy
   other_stands i b true far h = h
   other_stands i b false far h = other_goes_on library parts budget copy arena p ends q next drawn' more passes common after common_is drawn_is (i + 1) b far h
 
-  pub plays_on : after.ends ≡ p.ends → SoFar library parts budget copy arena (first_in after.common) (arena_in after.common.texts after.common.arena) ends
-      → StandsBy library parts budget copy arena a'.ended after ends (place + 1) a' → ((r : Rested) → a'.running ≡ Some r → r.owner ≡ q)
-      → IsPlay library parts budget copy arena after ends
-  plays_on ends_same so_far stands mine = record {
+  pub plays_on : KeepsApart after → after.ends ≡ p.ends → SoFar library parts budget copy arena (first_in after.common)
+      (arena_in after.common.texts after.common.arena) ends → StandsBy library parts budget copy arena a'.ended after ends (place + 1) a'
+      → ((r : Rested) → a'.running ≡ Some r → r.owner ≡ q) → IsPlay library parts budget copy arena after ends
+  plays_on kept ends_same so_far stands mine = record {
     common = common_now;
     works = works_now;
     trees_are = trees_still;
@@ -122,6 +124,8 @@ module _ (library : Option Tree) (parts : List Tree) (budget : ℕ) (copy : Copy
     drawn = All-weaker (λ (e : End). e.run.owner ≤ p.drawn) (λ (e : End). e.run.owner ≤ after.drawn)
         (λ e h. let all : after.drawn ≡ drawn' = drawn_is in omega (arith, h, more, all)) ends is.drawn;
     so_far = so_far;
+    apart = kept;
+    named = is.named;
   }
 
   -- ---- an end of the owner came, of this activity
@@ -138,10 +142,10 @@ module _ (library : Option Tree) (parts : List Tree) (budget : ℕ) (copy : Copy
         other_goes_on_behind library parts budget copy arena p ends q next drawn' more passes common after common_is drawn_is (i + 1) b end owner
         (not_number i ni) far h
 
-    pub plays_behind : after.ends ≡ p.ends ++ told ∷ [] → SoFar library parts budget copy arena (first_in after.common)
-        (arena_in after.common.texts after.common.arena) (ends ++ end ∷ []) → a'.ended ≡ true → a'.running ≡ None
-        → IsPlay library parts budget copy arena after (ends ++ end ∷ [])
-    plays_behind ends_more so_far over none = record {
+    pub plays_behind : KeepsApart after → NamesNone library parts budget copy (runs_of (ends ++ end ∷ [])) → after.ends ≡ p.ends ++ told ∷ []
+        → SoFar library parts budget copy arena (first_in after.common) (arena_in after.common.texts after.common.arena) (ends ++ end ∷ []) → a'.ended ≡ true
+        → a'.running ≡ None → IsPlay library parts budget copy arena after (ends ++ end ∷ [])
+    plays_behind kept named ends_more so_far over none = record {
       common = common_now;
       works = works_now;
       trees_are = trees_still;
@@ -166,4 +170,6 @@ module _ (library : Option Tree) (parts : List Tree) (budget : ℕ) (copy : Copy
           (λ e h. let all : after.drawn ≡ drawn' = drawn_is in omega (arith, h, more, all)) ends is.drawn)
           (let all : after.drawn ≡ drawn' = drawn_is in omega (arith, owner, within, all));
       so_far = so_far;
+      apart = kept;
+      named = named;
     }

@@ -8,22 +8,29 @@ use Rattle.wjs_meaning.specs.Trees.{Tree}
 use Rattle.wjs_moves.proofs.Growing.{arena_known}
 use Rattle.wjs_model.specs.declared.config.Config.{Config}
 use Rattle.wjs_session.specs.declared.session.Session.{Session}
+use Rattle.wjs_session.specs.Session.{first_copy}
 use Rattle.wjs_session.specs.Stores.{worlds_in}
 use Rattle.wjs_alone.specs.Alone.{Copy, outcome_of}
 use Rattle.wjs_alone.specs.Opening.{trees_of, tree_number}
 use Rattle.wjs_alone.specs.Serial.{Run, End, Holds, WorldsOwn, run_at, runs_of, printed_by}
+use Rattle.wjs_activity.specs.Unnamed.{NamesOthers, NamesNone}
 use Rattle.wjs_activity.specs.declared.common.Common.{Common}
 use Rattle.wjs_activity.specs.declared.common.Rested.{Rested}
 use Rattle.wjs_activity.specs.declared.ends.Outcome.{Outcome as Told}
 use Rattle.wjs_activity.specs.declared.activities.Activity.{Activity}
 use Rattle.wjs_activity.specs.declared.activities.Play.{Play}
 use Rattle.wjs_activity.specs.declared.turns.Came.{Came}
+use Rattle.wjs_activity.specs.Listing.{KeepsApart}
 use Rattle.wjs_activity.specs.Meant.{session_meaning}
 use Rattle.wjs_activity.specs.Resting.{IsResting}
 use Rattle.wjs_activity.specs.SoFar.{times_owned, SoFar, GoesOn, StandsBy, IsPlay}
 use Rattle.wjs_activity.specs.Turning.{IsTurned, EndsAlone, first_in}
 use Rattle.wjs_activity.specs.Rounds.{Made}
+use Rattle.wjs_activity.proofs.Apart.{own_before}
+use Rattle.wjs_activity.proofs.Appended.{runs_then}
+use Rattle.wjs_activity.proofs.NamesNone.{names_others, named_then}
 use Rattle.wjs_activity.proofs.Opens.{heap_common}
+use Rattle.wjs_activity.proofs.Soundly.{view_known}
 use Rattle.wjs_activity.proofs.Standing.{was_on, plays_on, plays_behind}
 use Rattle.wjs_activity.proofs.Stepped.{holds_later, worlds_own_in, so_far_stays, so_far_then, prints_more}
 use Rattle.wjs_activity.proofs.Taking.{Taken, none_drawn, passes_all}
@@ -64,21 +71,31 @@ module _ (library : Option Tree) (parts : List Tree) (budget : ℕ) (copy : Copy
       (so_far_stays library parts budget copy arena ends (first_in p.common) (first_in next) (arena_in p.common.texts p.common.arena)
       (arena_in next.texts next.arena) is.so_far (sym same) objects_stay)
 
+  -- as it begins the first world names none of its objects
+  named_now : NamesOthers q (arena_in next.texts next.arena) (first_in p.common)
+  named_now =
+      let first = first_copy (worlds_in p.common.shared) in
+      let passes = passes_all library parts budget copy arena p ends is (place + 1) q drawn c next came taken turned in
+      names_others p.common.texts next.texts p.common.arena next.arena q passes.objects first
+      (view_known p.common.texts p.common.arena first is.common.table is.common.slots) is.common.slots
+      (own_before library parts budget copy arena p ends is place q a at own new).slots
+
   -- without an end
-  stays : after.ends ≡ p.ends → first_in next ≡ first_in p.common → StandsBy library parts budget copy arena a'.ended after ends (place + 1) a'
-      → ((r : Rested) → a'.running ≡ Some r → r.owner ≡ q) → IsPlay library parts budget copy arena after ends
-  stays ends_same same stands mine =
+  stays : KeepsApart after → after.ends ≡ p.ends → first_in next ≡ first_in p.common
+      → StandsBy library parts budget copy arena a'.ended after ends (place + 1) a' → ((r : Rested) → a'.running ≡ Some r → r.owner ≡ q)
+      → IsPlay library parts budget copy arena after ends
+  stays kept ends_same same stands mine =
       plays_on library parts budget copy arena p ends is place a at alive q next drawn more
       (passes_all library parts budget copy arena p ends is
       (place + 1) q drawn c next came taken turned) turned.is_common turned.works own new after common_is drawn_is long others a' at'
-      ends_same (so_far_now same) stands mine
+      kept ends_same (so_far_now same) stands mine
 
   -- the try rests
-  pub rests_step : (rest : Rested) → a' ≡ record a { running = Some rest } → after.ends ≡ p.ends → rest.owner ≡ q
+  pub rests_step : KeepsApart after → (rest : Rested) → a' ≡ record a { running = Some rest } → after.ends ≡ p.ends → rest.owner ≡ q
       → IsResting (trees_of library parts) (tree_number library (place + 1)) budget drawn next rest → first_in next ≡ first_in p.common
       → IsPlay library parts budget copy arena after ends
-  rests_step rest form ends_same owner resting same =
-      stays ends_same same
+  rests_step kept rest form ends_same owner resting same =
+      stays kept ends_same same
       (subst (λ (x : Activity). StandsBy library parts budget copy arena x.ended after ends (place + 1) x) (sym form)
       (subst (λ b. StandsBy library parts budget copy arena b after ends (place + 1) (record a { running = Some rest })) (sym alive) (record {
         none = on.none;
@@ -94,10 +111,10 @@ module _ (library : Option Tree) (parts : List Tree) (budget : ℕ) (copy : Copy
       ap (λ (x : Rested). x.owner) (sym one) ∙ owner)
 
   -- the try was dropped, and it wasn't the fourth
-  pub drops_step : a' ≡ record a { dropped = a.dropped + 1; running = None } → after.ends ≡ p.ends → a.dropped < 3 → first_in next ≡ first_in p.common
-      → IsPlay library parts budget copy arena after ends
-  drops_step form ends_same few same =
-      stays ends_same same
+  pub drops_step : KeepsApart after → a' ≡ record a { dropped = a.dropped + 1; running = None } → after.ends ≡ p.ends → a.dropped < 3
+      → first_in next ≡ first_in p.common → IsPlay library parts budget copy arena after ends
+  drops_step kept form ends_same few same =
+      stays kept ends_same same
       (subst (λ (x : Activity). StandsBy library parts budget copy arena x.ended after ends (place + 1) x) (sym form)
       (subst (λ b. StandsBy library parts budget copy arena b after ends (place + 1) (record a { dropped = a.dropped + 1; running = None })) (sym alive)
       (record {
@@ -133,27 +150,30 @@ module _ (library : Option Tree) (parts : List Tree) (budget : ℕ) (copy : Copy
     so_far_step = so_far_then library parts budget copy arena ends (first_in p.common) (arena_in p.common.texts p.common.arena) is.so_far (place + 1) q
         (a.dropped + 1) drawn (first_in p.common) next told output e refl objects_stay own_worlds tries_few number_in some unused on.none
 
-    pub ends_step : a' ≡ record a { running = None; ended = true }
+    pub ends_step : KeepsApart after → a' ≡ record a { running = None; ended = true }
         → after.ends ≡ p.ends ++ record { activity = place + 1; owner = q; outcome = told; tries = a.dropped + 1 } ∷ []
         → IsPlay library parts budget copy arena after (ends ++ end ∷ [])
-    ends_step form ends_more =
+    ends_step kept form ends_more =
         plays_behind library parts budget copy arena p ends is place a at alive q next drawn more
         (passes_all library parts budget copy arena p ends is
         (place + 1) q drawn c next came taken turned) turned.is_common turned.works own new after common_is drawn_is long others a' at'
         end refl refl within (record { activity = place + 1; owner = q; outcome = told; tries = a.dropped + 1 })
         (record { activity = refl; owner = refl; tries = refl; outcome = e.tells })
+        kept (subst (NamesNone library parts budget copy) (sym (runs_then ends end))
+        (named_then library parts budget copy (runs_of ends) run is.named
+        (subst (NamesOthers q (arena_in next.texts next.arena)) (sym is.so_far.holds) named_now)))
         ends_more
         (subst (λ (k : Common). SoFar library parts budget copy arena (first_in k) (arena_in k.texts k.arena) (ends ++ end ∷ [])) (sym common_is) so_far_step)
         (ap (λ (x : Activity). x.ended) form) (ap (λ (x : Activity). x.running) form)
 
     -- with what is printed for it
-    abbrev pub ends_made : a' ≡ record a { running = None; ended = true }
+    abbrev pub ends_made : KeepsApart after → a' ≡ record a { running = None; ended = true }
         → after.ends ≡ p.ends ++ record { activity = place + 1; owner = q; outcome = told; tries = a.dropped + 1 } ∷ [] → (out : List ℕ) → out ≡ output
         → Made library parts budget copy arena ends after out
-    ends_made form ends_more out same = record {
+    ends_made kept form ends_more out same = record {
       more = end ∷ [];
       further = record { is = prints_step ∙ ap (λ (l : List ℕ). printed_by library parts budget copy (runs_of ends) ++ l) (sym same) };
-      is = ends_step form ends_more;
+      is = ends_step kept form ends_more;
     }
 
 -- no end came, and nothing is printed

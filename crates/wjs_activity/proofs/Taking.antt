@@ -26,7 +26,7 @@ use Rattle.wjs_activity.specs.declared.common.Common.{Common}
 use Rattle.wjs_activity.specs.declared.common.Rested.{Rested}
 use Rattle.wjs_activity.specs.declared.activities.Play.{Play}
 use Rattle.wjs_activity.specs.declared.turns.Came.{Came}
-use Rattle.wjs_activity.specs.Meant.{itself, session_meaning}
+use Rattle.wjs_activity.specs.Meant.{session_meaning, resting}
 use Rattle.wjs_activity.specs.Views.{held_in}
 use Rattle.wjs_activity.specs.Common.{IsCommon}
 use Rattle.wjs_activity.specs.Passing.{Passes}
@@ -35,9 +35,9 @@ use Rattle.wjs_activity.specs.Trying.{IsTrying}
 use Rattle.wjs_activity.specs.SoFar.{times_owned, IsPlay}
 use Rattle.wjs_activity.specs.Turning.{common_of, IsLive, IsTurned, CameTo, Begun, GoesOnAs, first_in}
 use Rattle.wjs_activity.proofs.Finished.{not_both}
+use Rattle.wjs_activity.proofs.Hidings.{trying_with}
 use Rattle.wjs_activity.proofs.Overs.{held_grows}
 use Rattle.wjs_activity.proofs.Playing.{trees_pass}
-use Rattle.wjs_activity.proofs.Repacked.{sound_from}
 use Rattle.wjs_activity.proofs.Soundly.{view_known}
 use Rattle.wjs_activity.proofs.Turned.{passes_then}
 
@@ -97,7 +97,8 @@ taken_begun trees tree budget q part drawn shared c b number known are = record 
 
 -- a try that goes on where it rested
 module _ (trees : List Tree) (tree budget drawn : ℕ) (shared : Common) (rest : Rested) (c : Config Session) (g : GoesOnAs session_meaning shared rest c)
-    (is : IsResting trees tree budget drawn shared rest) (known : IsCommon shared.texts shared.arena shared.units.items (worlds_in shared.shared) drawn) where
+    (is : IsResting trees tree budget drawn shared rest) (known : IsCommon shared.texts shared.arena shared.units.items (worlds_in shared.shared) drawn)
+    (sound : Sound session_meaning c) where
   abbrev F : Worlds
   F = worlds_in shared.shared
 
@@ -133,22 +134,21 @@ module _ (trees : List Tree) (tree budget drawn : ℕ) (shared : Common) (rest :
     returns = λ i e child. subst (λ H. Returns F H i) (sym worlds_same) (record { reached = known.reached; child = child; marks = refl; holds = λ s t. refl });
   }
 
-  pub sound_resumed : Sound session_meaning c
-  sound_resumed = sound_from session_meaning c (subst (Sound itself) (sym g.same) is.sound)
-
   pub taken_resumed : Taken trees tree budget rest.owner drawn shared c
   taken_resumed = record {
     start = start_same;
     owner = owner_same;
     holds = ap first_copy worlds_same;
     live = record {
-      sound = sound_resumed;
+      sound = sound;
       taken = is.taken;
-      trying = subst (IsTrying trees tree budget is.taken) (sym g.same) is.trying;
+      trying = subst (IsTrying trees tree budget is.taken) (sym g.same)
+          (trying_with trees tree budget is.taken (resting is.none shared rest) c.apart is.trying);
       number = g.number ∙ is.number ∙ ap world_of (sym owner_same);
       some = subst (λ k. 1 ≤ k) (sym owner_same) is.some;
       owner = subst (λ k. k ≤ drawn) (sym owner_same) is.owner;
-      apart = ap (λ (d : Config Meaning). d.apart.items) g.same ∙ is.apart;
+      none = is.none;
+      none_is = is.none_is;
       common = common_same;
     };
   }

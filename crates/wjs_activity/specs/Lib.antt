@@ -2,6 +2,9 @@ pub mod Meant
 pub mod Views
 pub mod Trying
 pub mod Common
+pub mod Unnamed
+pub mod Hiding
+pub mod Listing
 pub mod Passing
 pub mod Resting
 pub mod Turning

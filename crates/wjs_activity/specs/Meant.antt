@@ -1,5 +1,6 @@
 -- Configurations whose store is no more than what it means. So one can be spoken of whose session rests, or has not begun.
 use Rattle.std.specs.Prelude.{◌≡◌, ℕ, true, false, List, [], ◌∷◌, Some}
+use Rattle.std.specs.Global.{Vec}
 use Rattle.std.specs.FinMap as map
 use Rattle.wjs_base.specs.Text.{Table}
 use Rattle.wjs_store.specs.Meaning.{Meaning, Worlds}
@@ -47,16 +48,20 @@ meant meaning c = record {
 
 -- ---- tries that rest
 
--- the configuration that a try would be, were it resumed
-abbrev pub resting : Common → Rested → Config Meaning
-resting common rest = record {
+-- a list of owners that are kept apart
+abbrev pub Listed : Type 0
+Listed = Vec ℕ
+
+-- the configuration that a try would be, were it resumed with these kept apart
+abbrev pub resting : Listed → Common → Rested → Config Meaning
+resting apart common rest = record {
   heap = record { texts = common.texts; arena = common.arena; store = resumed (worlds_in common.shared) rest.resting };
   units = common.units;
   frames = rest.frames;
   global = global_object;
   world = world_of rest.owner;
   owner = rest.owner;
-  apart = rest.apart;
+  apart = apart;
   pending = rest.pending;
   left = rest.left;
   state = states.Running;
@@ -87,5 +92,5 @@ pub record Opens {S : Type 0} (meaning : S → Meaning) (t : Table) (arena : Obj
   pub global : c.global ≡ global_object
   pub world : c.world ≡ world_of owner
   pub owner_is : c.owner ≡ owner
-  pub apart : c.apart.items ≡ []
   pub pending : c.pending.items ≡ []
+  pub state : c.state ≡ states.Done

@@ -1,5 +1,5 @@
 -- What a play comes to.
-use Rattle.std.specs.Prelude.{◌≡◌, ℕ, ◌≤◌, ◌⊎◌, false, List, [], length, map as each, Option, None, Some, Result, Ok, Err}
+use Rattle.std.specs.Prelude.{◌≡◌, ℕ, ◌≤◌, ◌⊎◌, false, List, [], length, map as each, All, Option, None, Some, Result, Ok, Err}
 use Rattle.wjs_base.specs.Text.{IsTable}
 use Rattle.wjs_io.specs.Streams.{Stream, Got, GotPrefix, Stops}
 use Rattle.wjs_store.specs.Meaning.{Meaning}
@@ -18,6 +18,7 @@ use Rattle.wjs_session.specs.Session.{first_copy}
 use Rattle.wjs_session.specs.Stores.{worlds_in}
 use Rattle.wjs_alone.specs.Opening.{opening, trees_of}
 use Rattle.wjs_alone.specs.Serial.{End, Holds, runs_of, copy_by, lines_from, first_held, first_objects, Serial, due}
+use Rattle.wjs_activity.specs.Unnamed.{NamesNone}
 use Rattle.wjs_alone.specs.Playing as defined
 use Rattle.wjs_alone.specs.Playing.{play, bytes_of}
 use Rattle.wjs_activity.specs.declared.ends.Ended.{Ended}
@@ -28,6 +29,7 @@ use Rattle.wjs_activity.specs.declared.whole.PlayEnd.{PlayEnd}
 use Rattle.wjs_activity.specs.declared.whole.PlayEnd.TheVariants as endings
 use Rattle.wjs_activity.specs.Views.{held_in, KnowsView}
 use Rattle.wjs_activity.specs.Common.{IsCommon}
+use Rattle.wjs_activity.specs.Hiding.{no_owner}
 use Rattle.wjs_activity.specs.Noting.{AllNew}
 use Rattle.wjs_activity.specs.SoFar.{TellsEnds, left_by, IsPlay}
 use Rattle.wjs_activity.specs.Exactly.{IsExactly}
@@ -48,6 +50,8 @@ module _ (library : Option Tree) (parts : List Tree) (budget : ℕ) (schedule : 
     pub holds : held_in heap.texts (first_copy (worlds_in heap.store)) ≡ played.copy
     pub objects : arena_in heap.texts heap.arena ≡ played.objects
     pub serial : Serial library parts budget played.ends
+    -- as each of them began the first world named none of its objects
+    pub named : NamesNone library parts budget (first_held library parts budget) (runs_of played.ends)
     pub prints : due library parts budget played.ends ≡ bytes_of library parts budget played
     pub leaves : copy_by library parts budget (first_held library parts budget) (runs_of played.ends) ≡ played.copy
     pub further : Holds (left_by library parts budget (first_held library parts budget) (first_objects library parts budget)
@@ -121,6 +125,7 @@ pub record BegunFrom (c : Config Overlay) (count : ℕ) (p : Play) : Type 0 wher
   pub shared : p.common.shared ≡ c.heap.store
   pub count_is : length p.activities.items ≡ count
   pub activities : AllNew p.activities.items
+  pub apart : (length p.common.apart.items ≡ count) × All (λ u. u ≡ no_owner) p.common.apart.items
   pub ends : p.ends ≡ []
   pub drawn : p.drawn ≡ 0
 

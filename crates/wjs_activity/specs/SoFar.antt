@@ -8,11 +8,13 @@ use Rattle.wjs_session.specs.Stores.{worlds_in}
 use Rattle.wjs_alone.specs.Alone.{Copy, copy_after}
 use Rattle.wjs_alone.specs.Opening.{trees_of, tree_number}
 use Rattle.wjs_alone.specs.Serial.{Run, End, runs_of, outcomes_of, Holds, run_at, outcomes_by, copy_by, ObjectsGrow}
+use Rattle.wjs_activity.specs.Unnamed.{NamesNone}
 use Rattle.wjs_activity.specs.declared.common.Rested.{Rested}
 use Rattle.wjs_activity.specs.declared.ends.Ended.{Ended}
 use Rattle.wjs_activity.specs.declared.activities.Activity.{Activity}
 use Rattle.wjs_activity.specs.declared.activities.Play.{Play}
 use Rattle.wjs_activity.specs.Common.{IsCommon}
+use Rattle.wjs_activity.specs.Listing.{KeepsApart}
 use Rattle.wjs_activity.specs.Resting.{IsResting}
 use Rattle.wjs_activity.specs.Turning.{Tells, first_in}
 
@@ -85,3 +87,6 @@ module _ (library : Option Tree) (parts : List Tree) (budget : ℕ) (copy : Copy
     -- owners of ends were drawn
     pub drawn : All (λ e. e.run.owner ≤ p.drawn) ends
     pub so_far : SoFar (first_in p.common) (arena_in p.common.texts p.common.arena) ends
+    -- tries that rest are kept apart, and were where one has ended
+    pub apart : KeepsApart p
+    pub named : NamesNone library parts budget copy (runs_of ends)

@@ -1,5 +1,5 @@
 -- What a turn of a try comes to.
-use Rattle.std.specs.Prelude.{◌≡◌, ℕ, ◌<◌, ◌≤◌, true, false, List, [], map as each}
+use Rattle.std.specs.Prelude.{◌≡◌, ℕ, ◌<◌, ◌≤◌, true, false, List, [], set, map as each, IsTrue}
 use Rattle.wjs_base.specs.Text.{Grows}
 use Rattle.wjs_base.specs.Unicode.{utf8_of}
 use Rattle.wjs_store.specs.Meaning.{Meaning}
@@ -8,6 +8,7 @@ use Rattle.wjs_meaning.specs.Trees.{Tree}
 use Rattle.wjs_meaning.specs.Builtins.{global_object}
 use Rattle.wjs_model.specs.declared.config.Config.{Config}
 use Rattle.wjs_model.specs.declared.config.State.TheVariants as states
+use Rattle.wjs_model.specs.Apart.{is_apart}
 use Rattle.wjs_model.specs.Soundness.{Sound}
 use Rattle.wjs_model.specs.Outside.{Outside, Admits, beside}
 use Rattle.wjs_model.specs.Configurations.{state_in}
@@ -22,7 +23,8 @@ use Rattle.wjs_activity.specs.declared.ends.Outcome.{Outcome as Told}
 use Rattle.wjs_activity.specs.declared.ends.Outcome.TheVariants as told
 use Rattle.wjs_activity.specs.declared.turns.Came.{Came}
 use Rattle.wjs_activity.specs.declared.turns.Came.TheVariants as came
-use Rattle.wjs_activity.specs.Meant.{meant, resting}
+use Rattle.wjs_activity.specs.Hiding.{Hidden, IsHidden, Unaware}
+use Rattle.wjs_activity.specs.Meant.{meant, Listed, resting}
 use Rattle.wjs_activity.specs.Views.{held_in, KnowsView}
 use Rattle.wjs_activity.specs.Trying.{KnowsAll, IsTrying, ending_in}
 use Rattle.wjs_activity.specs.Common.{IsCommon}
@@ -31,7 +33,7 @@ use Rattle.wjs_activity.specs.Resting.{IsResting}
 
 -- what a configuration shares with others
 abbrev pub common_of : Config Session → Common
-common_of c = record { texts = c.heap.texts; arena = c.heap.arena; units = c.units; shared = c.heap.store.shared }
+common_of c = record { texts = c.heap.texts; arena = c.heap.arena; units = c.units; shared = c.heap.store.shared; apart = c.apart }
 
 -- what the first world holds, by content
 abbrev pub first_in : Common → Copy
@@ -54,7 +56,8 @@ module _ (meaning : Session → Meaning) (trees : List Tree) (tree budget drawn 
     pub number : c.heap.store.world ≡ world_of c.owner
     pub some : 1 ≤ c.owner
     pub owner : c.owner ≤ drawn
-    pub apart : c.apart.items ≡ []
+    pub none : Listed
+    pub none_is : none.items ≡ []
     pub common : IsCommon c.heap.texts c.heap.arena c.units.items (worlds_in c.heap.store.shared) drawn
 
   -- the try has ended, and its reads hold: it is its part's run alone, from what the first world held and with the objects that are there;
@@ -92,7 +95,6 @@ module _ (meaning : Session → Meaning) (trees : List Tree) (tree budget drawn 
     pub number : c.heap.store.world ≡ world_of c.owner
     pub some : 1 ≤ c.owner
     pub owner : c.owner ≤ drawn
-    pub apart : c.apart.items ≡ []
     pub common : IsCommon c.heap.texts c.heap.arena c.units.items (worlds_in c.heap.store.shared) drawn
 
 -- what is shared is that of the configuration
@@ -102,6 +104,32 @@ pub record Shares (c : Config Session) (common : Common) : Type 0 where
   pub units : common.units ≡ c.units
   pub worlds : worlds_in common.shared ≡ worlds_in c.heap.store.shared
   pub works : common.shared.spent ≡ false
+
+-- ---- who names whom
+
+-- nothing names an object of the owner but its own objects, where a try is taken out for its turn
+abbrev pub HiddenIn : Config Session → ℕ → Type 0
+HiddenIn c u = Hidden c.heap.arena (first_copy (worlds_in c.heap.store.shared)) u
+
+-- of each listed owner of which nothing was named
+abbrev pub OfHidden : Config Session → (ℕ → Type 0) → Type 0
+OfHidden c P = (u : ℕ) → IsTrue (is_apart c.apart.items u) → HiddenIn c u → P u
+
+-- the list of a try that goes on no more is as it was, and nothing is named still of those that are listed
+pub record EndsApart (c : Config Session) (common : Common) : Type 0 where
+  pub list : common.apart ≡ c.apart
+  pub hidden : OfHidden c (IsHidden common)
+
+-- a try of the activity at a place that rests is listed, and left the first world as it was; it is unaware of the others
+abbrev pub ListsRest : ℕ → Config Session → Common → Came → Type 0
+ListsRest place c common (came.Rests rest) = (common.apart.items ≡ set c.apart.items place c.owner)
+    × (first_copy (worlds_in common.shared) ≡ first_copy (worlds_in c.heap.store.shared)) × OfHidden c (Unaware common rest)
+ListsRest place c common _ = common.apart ≡ c.apart
+
+-- after a turn of a try of the activity at a place
+pub record TurnsApart (place : ℕ) (c : Config Session) (common : Common) (k : Came) : Type 0 where
+  pub hidden : OfHidden c (IsHidden common)
+  pub lists : ListsRest place c common k
 
 -- a try rests
 abbrev pub IsRest : Came → Type 0
@@ -129,6 +157,7 @@ module _ (meaning : Session → Meaning) where
     -- texts may have been made, and no object
     pub texts : Grows c.heap.texts common.texts
     pub arena_is : common.arena ≡ c.heap.arena
+    pub apart : AgreesNow c → EndsApart c common
     pub turned : (trees : List Tree) (tree budget drawn : ℕ) → IsOver meaning trees tree budget drawn c → AgreesNow c
         → IsTurned meaning trees tree budget drawn c common came
 
@@ -140,9 +169,12 @@ module _ (meaning : Session → Meaning) where
     pub holds : first_copy (worlds_in c.heap.store.shared) ≡ first_copy (worlds_in common.shared)
     pub own : (meaning c.heap.store).own ≡ first_copy (worlds_in c.heap.store.shared)
     pub live : IsLive meaning (each (unit_in c.heap.texts) c.units.items) part budget owner c
+    -- the list is as it was, and nothing is named still of those of which nothing was
+    pub apart : c.apart ≡ common.apart
+    pub hides : (u : ℕ) → IsTrue (is_apart common.apart.items u) → IsHidden common u → HiddenIn c u
 
   -- a try goes on as it rested
   pub record GoesOnAs (common : Common) (rest : Rested) (c : Config Session) : Type 0 where
-    pub same : meant meaning c ≡ resting common rest
+    pub same : meant meaning c ≡ resting c.apart common rest
     pub number : c.heap.store.world ≡ rest.resting.world
     pub shared : c.heap.store.shared ≡ common.shared

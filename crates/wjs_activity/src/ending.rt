@@ -4,7 +4,7 @@ ghost use Rattle.wjs_meaning.specs.Trees.{Tree};
 ghost use Rattle.wjs_model.specs.Soundness.{Sound};
 ghost use Rattle.wjs_session.specs.Session.{first_copy};
 ghost use Rattle.wjs_session.specs.Stores.{worlds_in};
-ghost use Rattle.wjs_activity.specs.Turning.{IsOver, IsTurned, IsAtEnd, IsRest};
+ghost use Rattle.wjs_activity.specs.Turning.{IsOver, IsTurned, IsAtEnd, IsRest, EndsApart};
 ghost use Rattle.wjs_activity.specs.Exact.{EndsBy};
 
 use crate::common::Common;
@@ -29,6 +29,7 @@ pub fn finish(config: Config<Session>) -> Result<(Common, Came), OutOfMemory>
     ensures certain { IfOk result (λ r. (⟦<Session as WorldStore>⟧.meaning config.heap.store).own ≡ first_copy (worlds_in config.heap.store.shared)
         → ¬ (r.1 ≡ Came.Drops)) }
     ensures checked { IfOk result (λ r. EndsBy config r.0 r.1) }
+    ensures apart { IfOk result (λ r. EndsApart config r.0) }
 {
     if !config.heap.store.agrees() {
         return Ok((left_behind(config), Came::Drops));
@@ -57,7 +58,7 @@ fn commit(config: Config<Session>) -> Result<(Common, Came), OutOfMemory>
         global: _,
         world: _,
         owner: _,
-        apart: _,
+        apart,
         pending,
         left: _,
         state: _,
@@ -69,6 +70,7 @@ fn commit(config: Config<Session>) -> Result<(Common, Came), OutOfMemory>
         arena,
         units,
         shared,
+        apart,
     };
     Ok((common, Came::Ends(Outcome::Committed, pending)))
 }

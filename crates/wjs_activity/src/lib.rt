@@ -9,6 +9,7 @@ mod activities;
 mod common;
 mod ending;
 mod ends;
+mod keeping;
 mod lines;
 mod opening;
 mod resuming;

@@ -1,8 +1,10 @@
 //! The begin of a try.
-ghost use Rattle.std.specs.Prelude.{◌≡◌, ◌-◌, ◌<◌, ◌≤◌, false, length, IfOk};
+ghost use Rattle.std.specs.Prelude.{◌≡◌, ◌-◌, ◌<◌, ◌≤◌, ℕ, false, length, IfOk, IsTrue};
+ghost use Rattle.wjs_model.specs.Apart.{is_apart};
 ghost use Rattle.wjs_model.specs.Soundness.{Sound};
 ghost use Rattle.wjs_session.specs.Stores.{worlds_in};
 ghost use Rattle.wjs_activity.specs.Common.{IsCommon};
+ghost use Rattle.wjs_activity.specs.Hiding.{MayList};
 ghost use Rattle.wjs_activity.specs.Turning.{Begun};
 
 use crate::common::Common;
@@ -27,6 +29,7 @@ pub fn open(
     requires some { 1 ≤ owner }
     requires common { IsCommon common.texts common.arena common.units.items (worlds_in common.shared) (owner - 1) }
     requires part { part < length common.units.items }
+    requires apart { (u : ℕ) → IsTrue (is_apart common.apart.items u) → MayList owner common u }
     ensures running { IfOk result (λ config. config.state ≡ State.Running) }
     ensures sound { IfOk result (Sound (⟦<Session as WorldStore>⟧.meaning)) }
     ensures begun { IfOk result (Begun (⟦<Session as WorldStore>⟧.meaning) owner part budget common) }

@@ -1,14 +1,16 @@
 //! A try becomes a configuration for its turn, and rests behind it.
-ghost use Rattle.std.specs.Prelude.{◌≡◌, [], false, IfOk};
+ghost use Rattle.std.specs.Prelude.{◌≡◌, ◌<◌, false, length, set, IfOk};
 ghost use Rattle.wjs_store.specs.State.{has_world};
 ghost use Rattle.wjs_meaning.specs.Builtins.{global_object};
 ghost use Rattle.wjs_session.specs.Stores.{worlds_in};
 ghost use Rattle.wjs_session.specs.Resumed.{Rests};
 ghost use Rattle.wjs_alone.specs.Alone.{world_of};
-ghost use Rattle.wjs_activity.specs.Meant.{meant, resting, Opens};
+ghost use Rattle.wjs_activity.specs.Hiding.{no_owner};
+ghost use Rattle.wjs_activity.specs.Meant.{meant, Listed, resting, Opens};
 ghost use Rattle.wjs_activity.specs.Turning.{Shares};
 
 use crate::common::{Common, Rested};
+use crate::keeping::{NO_OWNER, set_apart};
 use std::alloc::Global;
 use wjs_base::{OutOfMemory, WorldId};
 use wjs_heap::Heap;
@@ -24,12 +26,14 @@ pub fn fresh(alloc: Global, common: Common, owner: u32) -> Result<Config<Session
     ensures opens { IfOk result (Opens (⟦<Session as WorldStore>⟧.meaning) common.texts common.arena common.units.items (worlds_in common.shared) owner) }
     ensures units { IfOk result (λ config. config.units ≡ common.units) }
     ensures number { IfOk result (λ config. config.heap.store.world ≡ world_of owner) }
+    ensures apart { IfOk result (λ config. config.apart ≡ common.apart) }
 {
     let Common {
         texts,
         arena,
         units,
         shared,
+        apart,
     } = common;
     let store = Session::begin(alloc, shared, owner)?;
     Ok(Config {
@@ -43,31 +47,34 @@ pub fn fresh(alloc: Global, common: Common, owner: u32) -> Result<Config<Session
         global: GLOBAL_OBJECT,
         world: WorldId { owner, serial: 0 },
         owner,
-        apart: Vec::new(alloc),
+        apart,
         pending: Vec::new(alloc),
         left: 0,
         state: State::Done,
     })
 }
 
-/// A try goes on where it rested.
-pub fn resume(common: Common, rest: Rested) -> Config<Session>
+/// The try of the activity at a place goes on where it rested; the others' are kept apart from it.
+pub fn resume(common: Common, rest: Rested, place: usize) -> Config<Session>
     requires live { common.shared.spent ≡ false }
     requires stands { Rests (worlds_in common.shared) rest.resting }
-    ensures same { meant (⟦<Session as WorldStore>⟧.meaning) result ≡ resting common rest }
+    requires place { place < length common.apart.items }
+    ensures same { meant (⟦<Session as WorldStore>⟧.meaning) result ≡ resting result.apart common rest }
     ensures number { result.heap.store.world ≡ rest.resting.world }
     ensures shared { result.heap.store.shared ≡ common.shared }
+    ensures list { result.apart.items ≡ set common.apart.items place no_owner }
 {
     let Common {
         texts,
         arena,
         units,
         shared,
+        mut apart,
     } = common;
+    set_apart(&mut apart, place, NO_OWNER);
     let Rested {
         resting,
         frames,
-        apart,
         pending,
         left,
         owner,
@@ -90,17 +97,35 @@ pub fn resume(common: Common, rest: Rested) -> Config<Session>
     }
 }
 
-/// A try rests that goes on.
-pub fn rest(config: Config<Session>) -> (Common, Rested)
+/// The try of the activity at a place rests, and is kept apart from the others'.
+pub fn rest(config: Config<Session>, place: usize) -> (Common, Rested)
+    requires live { config.heap.store.spent ≡ false }
+    requires place { place < length config.apart.items }
+    ensures shares { Shares config result.0 }
+    ensures stands { Rests (worlds_in result.0.shared) result.1.resting }
+    ensures number { result.1.resting.world ≡ config.heap.store.world }
+    ensures same { config.state ≡ State.Running → config.global ≡ global_object → config.world ≡ world_of config.owner → (us : Listed)
+        → resting us result.0 result.1 ≡ record (meant (⟦<Session as WorldStore>⟧.meaning) config) { apart = us } }
+    ensures owner { result.1.owner ≡ config.owner }
+    ensures left { result.1.left ≡ config.left }
+    ensures list { result.0.apart.items ≡ set config.apart.items place config.owner }
+{
+    let (mut common, rest) = pause(config);
+    set_apart(&mut common.apart, place, rest.owner);
+    (common, rest)
+}
+
+/// A try rests.
+fn pause(config: Config<Session>) -> (Common, Rested)
     requires { config.heap.store.spent ≡ false }
     ensures shares { Shares config result.0 }
     ensures stands { Rests (worlds_in result.0.shared) result.1.resting }
     ensures number { result.1.resting.world ≡ config.heap.store.world }
-    ensures same { config.state ≡ State.Running → config.global ≡ global_object → config.world ≡ world_of config.owner
-        → resting result.0 result.1 ≡ meant (⟦<Session as WorldStore>⟧.meaning) config }
+    ensures same { config.state ≡ State.Running → config.global ≡ global_object → config.world ≡ world_of config.owner → (us : Listed)
+        → resting us result.0 result.1 ≡ record (meant (⟦<Session as WorldStore>⟧.meaning) config) { apart = us } }
     ensures owner { result.1.owner ≡ config.owner }
     ensures left { result.1.left ≡ config.left }
-    ensures apart { result.1.apart ≡ config.apart }
+    ensures apart { result.0.apart ≡ config.apart }
 {
     let Config {
         heap: Heap {
@@ -125,11 +150,11 @@ pub fn rest(config: Config<Session>) -> (Common, Rested)
             arena,
             units,
             shared,
+            apart,
         },
         Rested {
             resting,
             frames,
-            apart,
             pending,
             left,
             owner,
@@ -140,8 +165,9 @@ pub fn rest(config: Config<Session>) -> (Common, Rested)
 /// What is shared, of a try of which nothing else is kept.
 pub fn left_behind(config: Config<Session>) -> Common
     requires { config.heap.store.spent ≡ false }
-    ensures { Shares config result }
+    ensures shares { Shares config result }
+    ensures apart { result.apart ≡ config.apart }
 {
-    let (common, _rest) = rest(config);
+    let (common, _rest) = pause(config);
     common
 }

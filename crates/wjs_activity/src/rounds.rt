@@ -1,13 +1,15 @@
 //! Turns of a play.
-ghost use Rattle.std.specs.Prelude.{◌≡◌, ◌<◌, ◌≤◌, ◌+◌, ◌⊎◌, max, true, false, length, slice_get, map, All, None, Some, IfSome, MatchOption, IfOk, IfErr};
+ghost use Rattle.std.specs.Prelude.{◌≡◌, ◌<◌, ◌≤◌, ◌+◌, ◌⊎◌, ℕ, max, true, false, length, set, slice_get, map, All, None, Some, IfSome, MatchOption, IfOk, IfErr, IsTrue};
 ghost use Rattle.wjs_io.specs.Streams.{stream, Got, Stops};
+ghost use Rattle.wjs_model.specs.Apart.{is_apart};
 ghost use Rattle.wjs_model.specs.Soundness.{Sound};
 ghost use Rattle.wjs_session.specs.Stores.{worlds_in};
 ghost use Rattle.wjs_session.specs.Resumed.{Rests};
 ghost use Rattle.wjs_activity.specs.declared.activities.Activity.{Activity};
 ghost use Rattle.wjs_activity.specs.declared.common.Rested.{Rested};
 ghost use Rattle.wjs_activity.specs.declared.ends.PlayTurn.{PlayTurn};
-ghost use Rattle.wjs_activity.specs.Meant.{itself, resting};
+ghost use Rattle.wjs_activity.specs.Hiding.{no_owner, MayList};
+ghost use Rattle.wjs_activity.specs.Meant.{itself, Listed, resting};
 ghost use Rattle.wjs_activity.specs.Common.{IsCommon};
 ghost use Rattle.wjs_activity.specs.Turning.{Begun, GoesOnAs};
 ghost use Rattle.wjs_activity.specs.Rounds.{IsGoing, Settled, last_is_due, MayTurn, TurnAt, TurnsTo, HaltsIn, HaltsAt, TurnMade, OneTurn, LastTurn, LastHalts, AllSooner, fuel, at_place, by_turn, by_turns, by_round, by_rounds, Is};
@@ -16,6 +18,7 @@ ghost use Rattle.wjs_activity.specs.Plays.{turn_in};
 use crate::activities::{Activity, Play, Rules, note_at, take_running};
 use crate::common::{Common, Rested};
 use crate::ends::PlayTurn;
+use crate::keeping::next_owner;
 use crate::opening::open;
 use crate::resuming::resume;
 use crate::turns::take_turn;
@@ -298,7 +301,7 @@ fn turned(
     let part = place as u32;
     let config = go_on_or_open(alloc, common, running, drawn, rules, part)?;
     let owner = config.owner;
-    let taken = take_turn(config, steps)?;
+    let taken = take_turn(config, place, steps)?;
     let (common, came) = taken;
     let output = note_at(alloc, &mut activities, place, &mut ends, owner, came)?;
     let next = Play {
@@ -330,15 +333,20 @@ fn go_on_or_open(
     requires common { IsCommon common.texts common.arena common.units.items (worlds_in common.shared) drawn }
     requires part { rules.first + place < length common.units.items }
     requires few { length common.units.items ≤ 1001 }
-    requires rests { IfSome running (λ (r : Rested). Rests (worlds_in common.shared) r.resting × Sound itself (resting common r)) }
+    requires place { place < length common.apart.items }
+    requires rests { IfSome running (λ (r : Rested). Rests (worlds_in common.shared) r.resting
+        × ((us : Listed) → us.items ≡ set common.apart.items place no_owner → Sound itself (resting us common r))) }
+    requires apart { running ≡ None → drawn + 1 < no_owner → (u : ℕ) → IsTrue (is_apart common.apart.items u) → MayList (drawn + 1) common u }
     ensures running { IfOk result (λ config. config.state ≡ State.Running) }
     ensures sound { IfOk result (Sound (⟦<Session as WorldStore>⟧.meaning)) }
     ensures begun { IfOk result (λ config. running ≡ None → Begun (⟦<Session as WorldStore>⟧.meaning) (drawn + 1)
         (rules.first + place) rules.budget common config) }
     ensures goes_on { IfOk result (λ config. (r : Rested) → running ≡ Some r → GoesOnAs (⟦<Session as WorldStore>⟧.meaning) common r config) }
+    ensures few { IfOk result (λ config. running ≡ None → drawn + 1 < no_owner) }
+    ensures list { IfOk result (λ config. (r : Rested) → running ≡ Some r → config.apart.items ≡ set common.apart.items place no_owner) }
 {
     match running {
-        Some(rest) => Ok(resume(common, rest)),
+        Some(rest) => Ok(resume(common, rest, place as usize)),
         None => open_next(alloc, common, drawn, rules, place),
     }
 }
@@ -355,11 +363,13 @@ fn open_next(
     requires common { IsCommon common.texts common.arena common.units.items (worlds_in common.shared) drawn }
     requires part { rules.first + place < length common.units.items }
     requires few { length common.units.items ≤ 1001 }
+    requires apart { drawn + 1 < no_owner → (u : ℕ) → IsTrue (is_apart common.apart.items u) → MayList (drawn + 1) common u }
     ensures running { IfOk result (λ config. config.state ≡ State.Running) }
     ensures sound { IfOk result (Sound (⟦<Session as WorldStore>⟧.meaning)) }
     ensures begun { IfOk result (Begun (⟦<Session as WorldStore>⟧.meaning) (drawn + 1) (rules.first + place) rules.budget common) }
+    ensures few { IfOk result (λ config. drawn + 1 < no_owner) }
 {
-    match drawn.checked_add(1) {
+    match next_owner(drawn) {
         Some(owner) => open(alloc, common, owner, rules.first + place, rules.budget),
         None => Err(OutOfMemory),
     }

@@ -19,6 +19,7 @@ ghost use Rattle.wjs_activity.specs.Plays.{turn_in, Plays, PlaysOut, BeginsAs, I
 use crate::activities::{Play, Rules, none_begun};
 use crate::common::Common;
 use crate::ends::{Ends, PlayTurn};
+use crate::keeping::none_apart;
 use crate::lines::lines;
 use crate::rounds::{rounds, scheduled};
 use std::alloc::Global;
@@ -290,11 +291,13 @@ fn begun(alloc: Global, config: Config<Overlay>, count: usize) -> Result<Play, O
         state: _,
     } = config;
     let activities = none_begun(alloc, count)?;
+    let apart = none_apart(alloc, count)?;
     let common = Common {
         texts,
         arena,
         units,
         shared: store,
+        apart,
     };
     Ok(Play {
         common,
@@ -338,6 +341,7 @@ fn close_with<O: Sink>(play: Play, bytes: Vec<u8>, out: &mut O) -> Result<PlayEn
         arena,
         units: _,
         shared,
+        apart: _,
     } = common;
     match write_pieces(out, bytes.as_slice()) {
         Ok(()) => Ok(PlayEnd::Done(

@@ -4,6 +4,7 @@ use Rattle.wjs_base.specs.Text.{Grows}
 use Rattle.wjs_base.proofs.TextLaws.{Grows-refl}
 use Rattle.wjs_activity.proofs.Exactly.{ends_by, ends_by_ok}
 use Rattle.wjs_activity.proofs.Finished.{dropped, agreed, spent_left, end_turned, end_awake, end_kept, end_no_rest, end_no_drop, own_agrees}
+use Rattle.wjs_activity.proofs.Hidings.{left_apart, end_apart}
 use Rattle.wjs_activity.proofs.Turned.{live}
 use Rattle.wjs_activity.proofs.ending.finish.Goals as goal
 
@@ -14,8 +15,8 @@ pub left_behind-requires : goal.left_behind-requires
 left_behind-requires c = live c.args.config c.requires.sound.base
 
 pub returns-then-not-agrees-clause-turned : goal.returns-then-not-agrees-clause-turned
-returns-then-not-agrees-clause-turned c =
-    λ trees tree budget drawn over. dropped c.args.config c.requires.sound c.left_behind.result c.left_behind.ensures trees tree budget drawn over.common
+returns-then-not-agrees-clause-turned c = λ trees tree budget drawn over. dropped c.args.config c.requires.sound c.left_behind.result
+    c.left_behind.ensures.shares trees tree budget drawn over.common
 
 pub returns-then-not-agrees-clause-awake : goal.returns-then-not-agrees-clause-awake
 returns-then-not-agrees-clause-awake c = λ r. r
@@ -59,7 +60,7 @@ spend-requires-clause-spent c = spent_left c.args.config.state c.requires.over c
 pub returns-then-not-agrees-clause-checked : goal.returns-then-not-agrees-clause-checked
 returns-then-not-agrees-clause-checked c =
     let config = c.args.config in
-    let s = c.left_behind.ensures in
+    let s = c.left_behind.ensures.shares in
     record {
       texts = subst (λ t. Grows config.heap.texts t) (sym s.texts) (Grows-refl config.heap.texts);
       arena_is = s.arena_is;
@@ -77,3 +78,15 @@ returns-in-Threw-clause-checked c = ends_by_ok c.args.config c.tell.result (agre
 pub returns-in_default-clause-checked : goal.returns-in_default-clause-checked
 returns-in_default-clause-checked c = ends_by c.args.config c.spend.result.0 c.spend.result.1
     (agreed c.args.config c.if-not-agrees.false c.agrees.ensures.agrees) c.spend.ensures
+
+pub returns-then-not-agrees-clause-apart : goal.returns-then-not-agrees-clause-apart
+returns-then-not-agrees-clause-apart c = left_apart c.args.config c.left_behind.result c.left_behind.ensures.shares c.left_behind.ensures.apart
+
+pub returns-in-Done-clause-apart : goal.returns-in-Done-clause-apart
+returns-in-Done-clause-apart c = end_apart c.args.config c.commit.result (agreed c.args.config c.if-not-agrees.false c.agrees.ensures.agrees) c.commit.ensures
+
+pub returns-in-Threw-clause-apart : goal.returns-in-Threw-clause-apart
+returns-in-Threw-clause-apart c = end_apart c.args.config c.tell.result (agreed c.args.config c.if-not-agrees.false c.agrees.ensures.agrees) c.tell.ensures
+
+pub returns-in_default-clause-apart : goal.returns-in_default-clause-apart
+returns-in_default-clause-apart c = c.spend.ensures.apart (agreed c.args.config c.if-not-agrees.false c.agrees.ensures.agrees)

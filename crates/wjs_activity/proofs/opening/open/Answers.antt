@@ -1,7 +1,7 @@
 use Rattle.std.proofs.Common.{◌<◌, ◌-◌, sym, subst, arith, length}
 use Rattle.wjs_session.specs.Stores.{worlds_in}
 use Rattle.wjs_activity.specs.Meant.{session_meaning}
-use Rattle.wjs_activity.proofs.Opens.{base_opened, none_shown, begun, no_world_yet}
+use Rattle.wjs_activity.proofs.Opens.{opened_listed, none_shown, begun, no_world_yet}
 use Rattle.wjs_activity.proofs.opening.open.Goals as goal
 
 pub fresh-requires-clause-new : goal.fresh-requires-clause-new
@@ -14,8 +14,8 @@ pub enter-requires-clause-base : goal.enter-requires-clause-base
 enter-requires-clause-base c =
     let common = c.args.common in
     let some = c.requires.some in
-    base_opened session_meaning common.texts common.arena common.units.items (worlds_in common.shared) c.args.owner
-    (c.args.owner - 1) c.in_ok-config.config c.in_ok-config.ensures.opens c.requires.common (omega (arith, some))
+    (opened_listed common c.args.owner (c.args.owner - 1) c.in_ok-config.config c.in_ok-config.ensures.opens c.requires.common
+    (omega (arith, some)) c.in_ok-config.ensures.apart c.requires.apart).base
 
 pub enter-requires-clause-frames : goal.enter-requires-clause-frames
 enter-requires-clause-frames c = c.in_ok-config.ensures.opens.frames
@@ -39,6 +39,5 @@ returns-clause-sound c = c.in_ok-enter.ensures.sound
 pub returns-clause-begun : goal.returns-clause-begun
 returns-clause-begun c =
     let some = c.requires.some in
-    begun c.args.common c.args.owner
-    (c.args.owner - 1) c.args.part c.args.budget c.in_ok-config.config c.enter.new.config c.in_ok-config.ensures.opens c.requires.common
-    (omega (arith, some)) c.in_ok-enter.ensures c.in_ok-config.ensures.units
+    begun c.args.common c.args.owner (c.args.owner - 1) c.args.part c.args.budget c.in_ok-config.config c.enter.new.config c.in_ok-config.ensures.opens
+    c.requires.common (omega (arith, some)) c.in_ok-enter.ensures c.in_ok-config.ensures.units c.in_ok-config.ensures.apart c.requires.apart

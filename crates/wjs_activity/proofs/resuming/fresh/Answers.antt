@@ -19,8 +19,8 @@ returns-clause-opens c =
       global = refl;
       world = refl;
       owner_is = refl;
-      apart = c.new-2.ensures.items;
-      pending = c.new-3.ensures.items;
+      pending = c.new-2.ensures.items;
+      state = refl;
     }
 
 pub returns-clause-number : goal.returns-clause-number

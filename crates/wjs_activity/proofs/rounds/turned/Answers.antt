@@ -1,5 +1,5 @@
 use Rattle.std.proofs.Common.{refl, arith}
-use Rattle.wjs_activity.proofs.Comes.{turned_lem, few_places, part_there, few_units, rests_there, few_noted, mid_long, left_some}
+use Rattle.wjs_activity.proofs.Comes.{turned_lem, few_places, part_there, few_units, rests_there, entry_there, entry_taken, begins_apart, few_noted, mid_long, left_some}
 use Rattle.wjs_activity.proofs.rounds.turned.Goals as goal
 
 pub overflow_cast-part : goal.overflow_cast-part
@@ -22,6 +22,17 @@ go_on_or_open-requires-clause-rests c =
     rests_there c.args.rules c.args.play c.args.place c.requires.place c.requires.going c.take_running-running.new.activities.items
     c.take_running-running.result c.take_running-running.ensures
 
+pub go_on_or_open-requires-clause-place : goal.go_on_or_open-requires-clause-place
+go_on_or_open-requires-clause-place c = entry_there c.args.rules c.args.play c.args.place c.requires.place c.requires.going
+
+pub go_on_or_open-requires-clause-apart : goal.go_on_or_open-requires-clause-apart
+go_on_or_open-requires-clause-apart c = λ none few u listed. begins_apart c.args.rules c.args.play c.args.place c.requires.place c.requires.going few u listed
+
+pub take_turn-requires-clause-place : goal.take_turn-requires-clause-place
+take_turn-requires-clause-place c =
+    let k = c.in_ok-config.ensures in
+    entry_taken c.args.rules c.args.play c.args.place c.requires.place c.requires.going c.take_running-running.result c.in_ok-config.config k.begun k.list
+
 pub note_at-requires-clause-place : goal.note_at-requires-clause-place
 note_at-requires-clause-place c =
     mid_long c.args.rules c.args.play c.args.place c.requires.place c.requires.going c.take_running-running.new.activities.items c.take_running-running.result
@@ -43,6 +54,7 @@ returns c =
     let k = c.in_ok-config.ensures in
     turned_lem c.args.rules c.args.play c.args.place c.args.steps c.requires.there
     (left_some c.args.rules c.args.play c.args.place c.requires.place c.requires.going) c.requires.some c.take_running-running.new.activities.items
-    c.take_running-running.result c.take_running-running.ensures c.in_ok-config.config k.begun k.goes_on t.0 t.1 e.turned e.exact e.whole e.less e.certain
+    c.take_running-running.result c.take_running-running.ensures c.in_ok-config.config k.begun k.goes_on k.sound k.few k.list t.0 t.1 e.turned e.exact
+    e.whole e.less e.certain e.apart
     c.note_at.new.activities.items c.note_at.new.ends c.in_ok-output.output.items c.in_ok-output.ensures
     (record { common = t.0; activities = c.note_at.new.activities; ends = c.note_at.new.ends; drawn = c.latest.result }) refl c.latest.ensures refl refl

@@ -1,13 +1,17 @@
-use Rattle.std.proofs.Common.{sym, ap, ◌∙◌}
+use Rattle.std.proofs.Common.{◌<◌, length, sym, ap, ◌∙◌, subst}
 use Rattle.wjs_props.proofs.Putting.{if_ok}
 use Rattle.wjs_activity.proofs.Exactly.{exact_rests, exact_over}
 use Rattle.wjs_activity.proofs.Finished.{finished_turned}
+use Rattle.wjs_activity.proofs.Hidings.{rests_apart, ends_apart_ok}
 use Rattle.wjs_activity.proofs.Rests.{rests_turned, less_left, not_whole, less_awake}
 use Rattle.wjs_activity.proofs.Turned.{live, first_stays}
 use Rattle.wjs_activity.proofs.turns.take_turn.Goals as goal
 
-pub rest-common-requires : goal.rest-common-requires
-rest-common-requires c = live c.walk.new.config c.in_ok-_taken.ensures.sound.base
+pub rest-common-requires-clause-live : goal.rest-common-requires-clause-live
+rest-common-requires-clause-live c = live c.walk.new.config c.in_ok-_taken.ensures.sound.base
+
+pub rest-common-requires-clause-place : goal.rest-common-requires-clause-place
+rest-common-requires-clause-place c = subst (λ v. c.args.place < length v.items) (sym c.in_ok-_taken.ensures.stays.apart) c.requires.place
 
 pub finish-requires-clause-over : goal.finish-requires-clause-over
 finish-requires-clause-over c = c.in_default.not-Running
@@ -26,7 +30,7 @@ returns-in-Running-clause-turned c = λ trees tree budget drawn is.
     c.rest-common.ensures.stands c.rest-common.ensures.number
     (c.rest-common.ensures.same c.in-Running.is (w.stays.global ∙ is.trying.global)
     (w.stays.world ∙ is.trying.world ∙ ap (λ q. record { owner = q; serial = 0 })
-    (sym w.stays.owner))) c.rest-common.ensures.owner c.rest-common.ensures.left c.rest-common.ensures.apart
+    (sym w.stays.owner))) c.rest-common.ensures.owner c.rest-common.ensures.left
 
 pub returns-in-Running-clause-whole : goal.returns-in-Running-clause-whole
 returns-in-Running-clause-whole c =
@@ -76,3 +80,21 @@ returns-in_default-clause-exact c =
     (λ r h trees tree budget drawn is known. exact_over trees tree budget drawn c.args.steps c.in_ok-_taken._taken c.args.config c.walk.new.config is
     c.in_ok-_taken.ensures known r.0 h.texts h.arena_is c.in_default.not-Running r.1 h.by_check)
     c.finish.ensures.checked
+
+-- and names nothing of what is kept apart
+pub returns-in-Running-clause-apart : goal.returns-in-Running-clause-apart
+returns-in-Running-clause-apart c = λ trees tree budget drawn is.
+    let old = c.args.config in
+    let new = c.walk.new.config in
+    let w = c.in_ok-_taken.ensures in
+    let r = c.rest-common.result in
+    rests_apart c.args.place old new c.requires.sound w.stays w.sound r.0 r.1 c.rest-common.ensures.shares
+    (c.rest-common.ensures.same c.in-Running.is (w.stays.global ∙ is.trying.global)
+    (w.stays.world ∙ is.trying.world ∙ ap (λ q. record { owner = q; serial = 0 }) (sym w.stays.owner))) c.rest-common.ensures.list
+
+pub returns-in_default-clause-apart : goal.returns-in_default-clause-apart
+returns-in_default-clause-apart c =
+    let w = c.in_ok-_taken.ensures in
+    if_ok c.finish.result _ _
+    (λ r h trees tree budget drawn is. h)
+    (ends_apart_ok c.args.place c.args.config c.walk.new.config c.requires.sound w.stays w.sound c.finish.result c.finish.ensures.apart c.finish.ensures.awake)

@@ -9,6 +9,7 @@ returns c = record {
   shared = refl;
   count_is = c.in_ok-activities.ensures.0;
   activities = c.in_ok-activities.ensures.1;
+  apart = c.in_ok-apart.ensures;
   ends = c.new.ensures;
   drawn = refl;
 }
