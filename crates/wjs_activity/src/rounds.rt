@@ -1,6 +1,7 @@
 //! Turns of a play.
-ghost use Rattle.std.specs.Prelude.{◌≡◌, ◌<◌, ◌≤◌, ◌+◌, ◌⊎◌, ℕ, max, true, false, length, set, slice_get, map, All, None, Some, IfSome, MatchOption, IfOk, IfErr, IsTrue};
-ghost use Rattle.wjs_io.specs.Streams.{stream, Got, Stops};
+ghost use Rattle.std.specs.Prelude.{◌≡◌, ◌<◌, ◌≤◌, ◌+◌, ◌⊎◌, ℕ, max, true, false, length, set, slice_get, map, All, None, Some, IfSome, MatchOption, IfOk};
+ghost use Rattle.std.specs.Prelude.{IfErr, IsTrue};
+ghost use Rattle.wjs_io.specs.Streams.{over, Got, Stops};
 ghost use Rattle.wjs_model.specs.Apart.{is_apart};
 ghost use Rattle.wjs_model.specs.Soundness.{Sound};
 ghost use Rattle.wjs_session.specs.Stores.{worlds_in};
@@ -12,7 +13,8 @@ ghost use Rattle.wjs_activity.specs.Hiding.{no_owner, MayList};
 ghost use Rattle.wjs_activity.specs.Meant.{itself, Listed, resting};
 ghost use Rattle.wjs_activity.specs.Common.{IsCommon};
 ghost use Rattle.wjs_activity.specs.Turning.{Begun, GoesOnAs};
-ghost use Rattle.wjs_activity.specs.Rounds.{IsGoing, Settled, last_is_due, MayTurn, TurnAt, TurnsTo, HaltsIn, HaltsAt, TurnMade, OneTurn, LastTurn, LastHalts, AllSooner, fuel, at_place, by_turn, by_turns, by_round, by_rounds, Is};
+ghost use Rattle.wjs_activity.specs.Rounds.{IsGoing, Settled, last_is_due, MayTurn, TurnAt, TurnsTo, HaltsIn, HaltsAt, TurnMade, OneTurn, LastTurn};
+ghost use Rattle.wjs_activity.specs.Rounds.{LastHalts, AllSooner, fuel, at_place, by_turn, by_turns, by_round, by_rounds, Is};
 ghost use Rattle.wjs_activity.specs.Plays.{turn_in};
 
 use crate::activities::{Activity, Play, Rules, note_at, take_running};
@@ -41,12 +43,12 @@ pub fn scheduled<O: Sink>(
     requires going { IsGoing rules play }
     requires settled { Settled play.activities.items }
     requires some { All (λ (t : PlayTurn). 1 ≤ t.steps) schedule.now }
-    ensures ok { IfOk result (TurnsTo rules (stream (O.held out.old) (O.held out.new) (O.faults out.old) (O.faults out.new))
+    ensures ok { IfOk result (TurnsTo rules (over O.seen out.old out.new)
         (Is (by_turns rules.budget (map turn_in schedule.now))) play) }
     ensures settled { IfOk result (λ next. Settled next.activities.items) }
-    ensures err { IfErr result (HaltsIn rules (stream (O.held out.old) (O.held out.new) (O.faults out.old) (O.faults out.new))
+    ensures err { IfErr result (HaltsIn rules (over O.seen out.old out.new)
         (by_turns rules.budget (map turn_in schedule.now)) play) }
-    ensures never_falls { O.faults out.old ≤ O.faults out.new }
+    ensures never_falls { (O.seen out.old).faults ≤ (O.seen out.new).faults }
 {
     let mut current = play;
     for turn in schedule {
@@ -69,12 +71,12 @@ fn turn_of<O: Sink>(
     requires going { IsGoing rules play }
     requires settled { Settled play.activities.items }
     requires some { 1 ≤ turn.steps }
-    ensures ok { IfOk result (TurnsTo rules (stream (O.held out.old) (O.held out.new) (O.faults out.old) (O.faults out.new))
+    ensures ok { IfOk result (TurnsTo rules (over O.seen out.old out.new)
         (Is (by_turn rules.budget (turn_in turn))) play) }
     ensures settled { IfOk result (λ next. Settled next.activities.items) }
-    ensures err { IfErr result (HaltsIn rules (stream (O.held out.old) (O.held out.new) (O.faults out.old) (O.faults out.new))
+    ensures err { IfErr result (HaltsIn rules (over O.seen out.old out.new)
         (by_turn rules.budget (turn_in turn)) play) }
-    ensures never_falls { O.faults out.old ≤ O.faults out.new }
+    ensures never_falls { (O.seen out.old).faults ≤ (O.seen out.new).faults }
 {
     match place_of(turn.activity, play.activities.len()) {
         Some(place) => turn_at(alloc, play, rules, place, turn.steps, out),
@@ -107,12 +109,12 @@ pub fn rounds<O: Sink>(
     requires going { IsGoing rules play }
     requires settled { Settled play.activities.items }
     requires some { 1 ≤ turn }
-    ensures ok { IfOk result (TurnsTo rules (stream (O.held out.old) (O.held out.new) (O.faults out.old) (O.faults out.new))
+    ensures ok { IfOk result (TurnsTo rules (over O.seen out.old out.new)
         (Is (by_rounds rules.budget turn)) play) }
     ensures ended { IfOk result (λ next. All (λ (a : Activity). a.ended ≡ true) next.activities.items) }
-    ensures err { IfErr result (HaltsIn rules (stream (O.held out.old) (O.held out.new) (O.faults out.old) (O.faults out.new))
+    ensures err { IfErr result (HaltsIn rules (over O.seen out.old out.new)
         (by_rounds rules.budget turn) play) }
-    ensures never_falls { O.faults out.old ≤ O.faults out.new }
+    ensures never_falls { (O.seen out.old).faults ≤ (O.seen out.new).faults }
 {
     let mut current = play;
     while go_on(current.activities.as_slice()) {
@@ -148,14 +150,14 @@ fn round<O: Sink>(
     requires going { IsGoing rules play }
     requires settled { Settled play.activities.items }
     requires some { 1 ≤ turn }
-    ensures ok { IfOk result (TurnsTo rules (stream (O.held out.old) (O.held out.new) (O.faults out.old) (O.faults out.new))
+    ensures ok { IfOk result (TurnsTo rules (over O.seen out.old out.new)
         (Is (by_round rules.budget turn)) play) }
     ensures settled { IfOk result (λ next. Settled next.activities.items) }
     ensures sooner { IfOk result (AllSooner rules.budget play) }
     ensures less { IfOk result (λ next. ¬ (All (λ (a : Activity). a.ended ≡ true) play.activities.items) → fuel rules.budget next < fuel rules.budget play) }
-    ensures err { IfErr result (HaltsIn rules (stream (O.held out.old) (O.held out.new) (O.faults out.old) (O.faults out.new))
+    ensures err { IfErr result (HaltsIn rules (over O.seen out.old out.new)
         (by_round rules.budget turn) play) }
-    ensures never_falls { O.faults out.old ≤ O.faults out.new }
+    ensures never_falls { (O.seen out.old).faults ≤ (O.seen out.new).faults }
 {
     let count = play.activities.len();
     let mut current = play;
@@ -182,13 +184,13 @@ fn turn_at<O: Sink>(
     requires settled { Settled play.activities.items }
     requires place { place < length play.activities.items }
     requires some { 1 ≤ steps }
-    ensures ok { IfOk result (TurnsTo rules (stream (O.held out.old) (O.held out.new) (O.faults out.old) (O.faults out.new))
+    ensures ok { IfOk result (TurnsTo rules (over O.seen out.old out.new)
         (Is (by_turn rules.budget (at_place place steps))) play) }
     ensures settled { IfOk result (λ next. Settled next.activities.items) }
     ensures changes { IfOk result (TurnAt rules.budget place play) }
-    ensures err { IfErr result (HaltsIn rules (stream (O.held out.old) (O.held out.new) (O.faults out.old) (O.faults out.new))
+    ensures err { IfErr result (HaltsIn rules (over O.seen out.old out.new)
         (by_turn rules.budget (at_place place steps)) play) }
-    ensures never_falls { O.faults out.old ≤ O.faults out.new }
+    ensures never_falls { (O.seen out.old).faults ≤ (O.seen out.new).faults }
 {
     if has_ended(play.activities.as_slice(), place) {
         return Ok(play);
@@ -210,9 +212,9 @@ fn last_turn<O: Sink>(
     requires going { IsGoing rules play }
     requires place { place < length play.activities.items }
     requires due { (a : Activity) → slice_get play.activities.items place ≡ Some a → last_is_due a ≡ true → MayTurn rules.budget rules.budget a }
-    ensures ok { IfOk result (LastTurn rules (stream (O.held out.old) (O.held out.new) (O.faults out.old) (O.faults out.new)) place play) }
-    ensures err { IfErr result (LastHalts rules (stream (O.held out.old) (O.held out.new) (O.faults out.old) (O.faults out.new)) place play) }
-    ensures never_falls { O.faults out.old ≤ O.faults out.new }
+    ensures ok { IfOk result (LastTurn rules (over O.seen out.old out.new) place play) }
+    ensures err { IfErr result (LastHalts rules (over O.seen out.old out.new) place play) }
+    ensures never_falls { (O.seen out.old).faults ≤ (O.seen out.new).faults }
 {
     if is_last(play.activities.as_slice(), place) {
         return one_turn(alloc, play, rules, place, rules.budget, out);
@@ -253,9 +255,9 @@ fn one_turn<O: Sink>(
     requires place { place < length play.activities.items }
     requires there { (a : Activity) → slice_get play.activities.items place ≡ Some a → MayTurn rules.budget steps a }
     requires some { 1 ≤ steps }
-    ensures ok { IfOk result (OneTurn rules (stream (O.held out.old) (O.held out.new) (O.faults out.old) (O.faults out.new)) place steps play) }
-    ensures err { IfErr result (HaltsAt rules (stream (O.held out.old) (O.held out.new) (O.faults out.old) (O.faults out.new)) place steps play) }
-    ensures never_falls { O.faults out.old ≤ O.faults out.new }
+    ensures ok { IfOk result (OneTurn rules (over O.seen out.old out.new) place steps play) }
+    ensures err { IfErr result (HaltsAt rules (over O.seen out.old out.new) place steps play) }
+    ensures never_falls { (O.seen out.old).faults ≤ (O.seen out.new).faults }
 {
     match turned(alloc, play, rules, place, steps) {
         Ok(turned) => written(turned, out),
@@ -265,10 +267,10 @@ fn one_turn<O: Sink>(
 
 /// Writes what is printed for a turn.
 fn written<O: Sink>(turned: (Play, Vec<u8>), out: &mut O) -> Result<Play, Halt>
-    ensures ok { IfOk result (λ next. (next ≡ turned.0) × Got (stream (O.held out.old) (O.held out.new) (O.faults out.old) (O.faults out.new)) turned.1.items) }
+    ensures ok { IfOk result (λ next. (next ≡ turned.0) × Got (over O.seen out.old out.new) turned.1.items) }
     ensures err { IfErr result (λ halt. (halt ≡ Halt.SinkFailed)
-        × Stops (stream (O.held out.old) (O.held out.new) (O.faults out.old) (O.faults out.new)) turned.1.items) }
-    ensures never_falls { O.faults out.old ≤ O.faults out.new }
+        × Stops (over O.seen out.old out.new) turned.1.items) }
+    ensures never_falls { (O.seen out.old).faults ≤ (O.seen out.new).faults }
 {
     let (next, output) = turned;
     match write_pieces(out, output.as_slice()) {

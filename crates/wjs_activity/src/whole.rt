@@ -2,7 +2,7 @@
 ghost use Rattle.std.specs.Prelude.{◌≡◌, ◌≤◌, ℕ, true, false, List, [], All, Option, IfSome, IfOk, IfErr, Err, length, map};
 ghost use Rattle.std.specs.Option.{option_map};
 ghost use Rattle.wjs_base.specs.Text.{Table, IsTable};
-ghost use Rattle.wjs_io.specs.Streams.{Stream, stream};
+ghost use Rattle.wjs_io.specs.Streams.{Stream, over};
 ghost use Rattle.wjs_meaning.specs.Trees.{Tree};
 ghost use Rattle.wjs_model.specs.Soundness.{Sound};
 ghost use Rattle.wjs_model.specs.Texts.{KnowsUnit, PlacesUnit};
@@ -77,7 +77,7 @@ pub fn play<O: Sink>(
     requires budget { 1 ≤ budget }
     requires steps { All (λ (t : PlayTurn). 1 ≤ t.steps) schedule.now }
     ensures { Plays (option_map (unit_in texts) library) (map (unit_in texts) parts.items) budget (map turn_in schedule.now) turn
-        (stream (O.held out.old) (O.held out.new) (O.faults out.old) (O.faults out.new)) result }
+        (over O.seen out.old out.new) result }
 {
     match play_out(alloc, texts, library, parts, schedule, turn, budget, out) {
         Ok(end) => end,
@@ -117,7 +117,7 @@ fn play_out<O: Sink>(
     requires budget { 1 ≤ budget }
     requires steps { All (λ (t : PlayTurn). 1 ≤ t.steps) schedule.now }
     ensures { PlaysOut (option_map (unit_in texts) library) (map (unit_in texts) parts.items) budget (map turn_in schedule.now) turn
-        (stream (O.held out.old) (O.held out.new) (O.faults out.old) (O.faults out.new)) result }
+        (over O.seen out.old out.new) result }
 {
     let rules = Rules {
         first: first_number(&library),
@@ -145,7 +145,7 @@ fn played<O: Sink>(
     requires steps { All (λ (t : PlayTurn). 1 ≤ t.steps) schedule.now }
     ensures { (library : Option Tree) (parts : List Tree) → rules.first ≡ first_number library → count ≡ length parts
         → IsOpened library parts rules.budget config → PlaysOut library parts rules.budget (map turn_in schedule.now) turn
-        (stream (O.held out.old) (O.held out.new) (O.faults out.old) (O.faults out.new)) result }
+        (over O.seen out.old out.new) result }
 {
     if is_spent(config.state) {
         return Ok(PlayEnd::StepsSpent);
@@ -183,7 +183,7 @@ fn finished<O: Sink>(
     ensures { (library : Option Tree) (parts : List Tree) → rules.first ≡ first_number library
         → BeginsAs library parts rules.budget (map turn_in schedule.now) turn play
         → PlaysOut library parts rules.budget (map turn_in schedule.now) turn
-        (stream (O.held out.old) (O.held out.new) (O.faults out.old) (O.faults out.new)) result }
+        (over O.seen out.old out.new) result }
 {
     match all_turns(alloc, play, rules, schedule, turn, out) {
         Ok(next) => close(alloc, next, out),
@@ -204,12 +204,12 @@ fn all_turns<O: Sink>(
     requires settled { Settled play.activities.items }
     requires turn { 1 ≤ turn }
     requires steps { All (λ (t : PlayTurn). 1 ≤ t.steps) schedule.now }
-    ensures ok { IfOk result (TurnsTo rules (stream (O.held out.old) (O.held out.new) (O.faults out.old) (O.faults out.new))
+    ensures ok { IfOk result (TurnsTo rules (over O.seen out.old out.new)
         (Is (by_all rules.budget (map turn_in schedule.now) turn)) play) }
     ensures ended { IfOk result (λ next. All (λ (a : Activity). a.ended ≡ true) next.activities.items) }
-    ensures err { IfErr result (HaltsIn rules (stream (O.held out.old) (O.held out.new) (O.faults out.old) (O.faults out.new))
+    ensures err { IfErr result (HaltsIn rules (over O.seen out.old out.new)
         (by_all rules.budget (map turn_in schedule.now) turn) play) }
-    ensures never_falls { O.faults out.old ≤ O.faults out.new }
+    ensures never_falls { (O.seen out.old).faults ≤ (O.seen out.new).faults }
 {
     match scheduled(alloc, play, rules, schedule, out) {
         Ok(next) => rounds(alloc, next, rules, turn, out),
@@ -310,7 +310,7 @@ fn begun(alloc: Global, config: Config<Overlay>, count: usize) -> Result<Play, O
 /// Writes the lines of a play whose activities have all ended.
 fn close<O: Sink>(alloc: Global, play: Play, out: &mut O) -> Result<PlayEnd, Halt>
     requires { length play.activities.items ≤ 1000 }
-    ensures { ClosesAs (stream (O.held out.old) (O.held out.new) (O.faults out.old) (O.faults out.new)) play result }
+    ensures { ClosesAs (over O.seen out.old out.new) play result }
 {
     match lines_of(alloc, &play) {
         Ok(bytes) => close_with(play, bytes, out),
@@ -328,7 +328,7 @@ fn lines_of(alloc: Global, play: &Play) -> Result<Vec<u8>, OutOfMemory>
 
 /// Writes these bytes behind a play, whose end it is.
 fn close_with<O: Sink>(play: Play, bytes: Vec<u8>, out: &mut O) -> Result<PlayEnd, Halt>
-    ensures { WritesLast (stream (O.held out.old) (O.held out.new) (O.faults out.old) (O.faults out.new)) play bytes.items result }
+    ensures { WritesLast (over O.seen out.old out.new) play bytes.items result }
 {
     let Play {
         common,

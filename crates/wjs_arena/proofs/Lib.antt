@@ -2,3 +2,6 @@ pub mod Trees
 pub mod Owners
 pub mod Made
 pub mod Walks
+pub mod Packing
+pub mod Fields
+pub mod HiddenNames

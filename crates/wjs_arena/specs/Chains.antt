@@ -6,6 +6,9 @@ use Rattle.wjs_base.specs.declared.ids.ObjId.{ObjId}
 use Rattle.wjs_base.specs.declared.values.Name.{Name}
 use Rattle.wjs_base.specs.declared.values.Value.{Value}
 use Rattle.wjs_arena.specs.declared.object.Flags.{Flags}
+use Rattle.wjs_base.specs.declared.values.Value.TheVariants as values
+use Rattle.wjs_arena.specs.declared.class.Class.TheVariants as classes
+use Rattle.wjs_arena.specs.declared.object.Code.TheVariants as codes
 use Rattle.wjs_arena.specs.declared.object.Object.{Object}
 use Rattle.wjs_arena.specs.AtName.{at_name}
 use Rattle.wjs_arena.specs.Entries.{Objects, Entry, prototype_of, depth_at}
@@ -21,6 +24,14 @@ abbrev pub chain : Objects → ObjId → List ObjId
 chain arena o = chain_from (depth_at arena o) arena (Some o)
 
 -- ---- fixed properties and attributes
+
+-- an object with nothing, in place of one that isn't there
+abbrev pub no_object : Object
+no_object = record { class = classes.Plain; prototype = None; scope = None; code = codes.None; primitive = values.Undefined; world = None; fixed = []; flags = []; all_kept = false }
+
+-- the object of an entry
+abbrev pub object_in : Option Entry → Object
+object_in r = option_map_or (λ (e : Entry). e.object) r no_object
 
 -- the value of a fixed property: one that is ReadOnly, DontEnum and DontDelete (ECMA-262, 3rd edition, section 8.6.1)
 abbrev pub fixed : Objects → ObjId → Name → Option Value

@@ -3,6 +3,9 @@ pub mod AtName
 pub mod Chains
 pub mod Rows
 pub mod Codes
+pub mod Hidden
 pub mod Kept
+pub mod Listed
+pub mod Packed
 pub mod There
 pub mod Rest

@@ -6,9 +6,11 @@ ghost use Rattle.wjs_arena.specs.Entries.{has, IsThere, IsArena, Keeps, created,
 ghost use Rattle.wjs_arena.specs.Chains.{fixed, flags, flags_in};
 ghost use Rattle.wjs_arena.specs.Kept.{with_world, without_world};
 
-use crate::entry::Entry;
-use crate::object::{Flags, Object};
+use crate::class::Class;
+use crate::object::{Code, Flags, Object};
+use crate::packed::Packed;
 use crate::rows::Rows;
+use crate::under::find;
 use crate::worlds::Worlds;
 use std::alloc::Global;
 use std::marker::Model;
@@ -74,8 +76,7 @@ impl Arena {
         let Some(depth) = self.depth_over(&object) else {
             return Err(OutOfMemory);
         };
-        let entry = Entry { object, depth };
-        put(&mut self.rows, &mut self.worlds, id, world, entry)?;
+        put(&mut self.rows, &mut self.worlds, id, world, object, depth)?;
         Ok(id)
     }
 
@@ -87,14 +88,71 @@ impl Arena {
         self.rows.has(id)
     }
 
-    /// The object of a number that is there.
+    /// The class of an object.
     #[inline(always)]
-    pub fn object(&self, id: ObjId) -> &Object
+    pub fn class(&self, id: ObjId) -> Class
         requires { IsTrue (has self.now id) }
-        ensures object { IfSome (map.get self.now id) (λ entry. result.now ≡ entry.object) }
+        ensures class { IfSome (map.get self.now id) (λ entry. result ≡ entry.object.class) }
         ensures arena { IsArena self.now }
     {
-        &self.rows.at(id).object
+        self.rows.at(id).class()
+    }
+
+    /// The prototype of an object.
+    #[inline(always)]
+    pub fn prototype(&self, id: ObjId) -> Option<ObjId>
+        requires { IsTrue (has self.now id) }
+        ensures prototype { IfSome (map.get self.now id) (λ entry. result ≡ entry.object.prototype) }
+        ensures arena { IsArena self.now }
+    {
+        self.rows.at(id).prototype()
+    }
+
+    /// A function's scope, or the next scope outwards.
+    #[inline(always)]
+    pub fn scope(&self, id: ObjId) -> Option<ObjId>
+        requires { IsTrue (has self.now id) }
+        ensures scope { IfSome (map.get self.now id) (λ entry. result ≡ entry.object.scope) }
+        ensures arena { IsArena self.now }
+    {
+        self.rows.at(id).scope()
+    }
+
+    /// The code of an object.
+    #[inline(always)]
+    pub fn code(&self, id: ObjId) -> Code
+        requires { IsTrue (has self.now id) }
+        ensures code { IfSome (map.get self.now id) (λ entry. result ≡ entry.object.code) }
+        ensures arena { IsArena self.now }
+    {
+        self.rows.at(id).code()
+    }
+
+    /// What a wrapper holds; otherwise undefined.
+    pub fn primitive(&self, id: ObjId) -> Value
+        requires { IsTrue (has self.now id) }
+        ensures primitive { IfSome (map.get self.now id) (λ entry. result ≡ entry.object.primitive) }
+        ensures arena { IsArena self.now }
+    {
+        self.rows.at(id).primitive()
+    }
+
+    /// The world that an object stands for.
+    pub fn world(&self, id: ObjId) -> Option<WorldId>
+        requires { IsTrue (has self.now id) }
+        ensures world { IfSome (map.get self.now id) (λ entry. result ≡ entry.object.world) }
+        ensures arena { IsArena self.now }
+    {
+        self.rows.at(id).world()
+    }
+
+    /// The properties of an object that no world changes. The first of a name counts.
+    pub fn fixed_of(&self, id: ObjId) -> &[(Name, Value)]
+        requires { IsTrue (has self.now id) }
+        ensures fixed { IfSome (map.get self.now id) (λ entry. result.now ≡ entry.object.fixed) }
+        ensures arena { IsArena self.now }
+    {
+        self.rows.at(id).fixed()
     }
 
     /// The value of a fixed property, which no world changes; None exactly where the object has none of this name.
@@ -104,7 +162,7 @@ impl Arena {
         ensures fixed { result ≡ fixed self.now id name }
         ensures arena { IsArena self.now }
     {
-        self.rows.at(id).object.fixed.get(name)
+        find(self.rows.at(id).fixed(), name)
     }
 
     /// The attributes of a name: a fixed property is hidden and kept, and others are as the object lists them.
@@ -112,7 +170,7 @@ impl Arena {
         requires { IsTrue (has self.now id) }
         ensures { result ≡ flags self.now id name }
     {
-        flags_of(&self.rows.at(id).object, name)
+        flags_in(self.rows.at(id), name)
     }
 
     /// The object that stands for a world; None exactly where none does.
@@ -142,7 +200,7 @@ impl Arena {
     {
         match id {
             None => 0,
-            Some(id) => self.rows.at(id).depth,
+            Some(id) => self.rows.at(id).depth(),
         }
     }
 
@@ -159,22 +217,22 @@ impl Arena {
 }
 
 /// The attributes of a name of an object.
-fn flags_of(object: &Object, name: Name) -> Flags
-    ensures { result ≡ flags_in object.now name }
+fn flags_in(entry: &Packed, name: Name) -> Flags
+    ensures { result ≡ flags_in entry.now.object name }
 {
-    if object.fixed.get(name).is_some() {
+    if find(entry.fixed(), name).is_some() {
         return Flags {
             hidden: true,
             kept: true,
         };
     }
-    let listed = object.flags.get(name).unwrap_or(Flags {
+    let listed = entry.flag(name).unwrap_or(Flags {
         hidden: false,
         kept: false,
     });
     Flags {
         hidden: listed.hidden,
-        kept: object.all_kept || listed.kept,
+        kept: entry.all_kept() || listed.kept,
     }
 }
 
@@ -185,23 +243,37 @@ fn put(
     worlds: &mut Worlds,
     id: ObjId,
     world: Option<WorldId>,
-    entry: Entry,
+    object: Object,
+    depth: u64,
 ) -> Result<(), OutOfMemory>
     requires next { id ≡ next_number rows.old id.owner }
     requires world { IfSome world (λ w. map.get worlds.old w ≡ None) }
-    ensures rows { OnOk result (rows.new ≡ map.insert rows.old id entry) }
+    ensures rows { OnOk result (rows.new ≡ map.insert rows.old id (record { object = object; depth = depth })) }
     ensures worlds { OnOk result (worlds.new ≡ with_world worlds.old world id) }
     ensures serials { OnOk result ((id : ObjId) → IsTrue (has rows.new id) ↔ (id.serial < (next_number rows.new id.owner).serial)) }
     ensures rows_err { OnErr result (rows.new ≡ rows.old) }
     ensures worlds_err { OnErr result (worlds.new ≡ worlds.old) }
 {
     note(worlds, world, id)?;
-    match rows.push(id.owner, entry) {
+    match push(rows, id.owner, object, depth) {
         Ok(()) => Ok(()),
         Err(_) => {
             forget(worlds, world);
             Err(OutOfMemory)
         }
+    }
+}
+
+/// Puts an owner's next object; after a refusal nothing has changed.
+#[inline(always)]
+fn push(rows: &mut Rows, owner: u32, object: Object, depth: u64) -> Result<(), OutOfMemory>
+    ensures ok { OnOk result (rows.new ≡ map.insert rows.old (next_number rows.old owner) (record { object = object; depth = depth })) }
+    ensures err { OnErr result (rows.new ≡ rows.old) }
+    ensures serials { OnOk result ((id : ObjId) → IsTrue (has rows.new id) ↔ (id.serial < (next_number rows.new id.owner).serial)) }
+{
+    match Packed::new(rows.allocator(), object, depth) {
+        Ok(entry) => rows.push(owner, entry),
+        Err(_) => Err(OutOfMemory),
     }
 }
 

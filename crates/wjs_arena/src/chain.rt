@@ -26,7 +26,7 @@ impl<'a> Iterator for Chain<'a> {
 
     fn next(&mut self) -> Option<ObjId> {
         let id = self.next?;
-        self.next = self.arena.object(id).prototype;
+        self.next = self.arena.prototype(id);
         Some(id)
     }
 }
@@ -53,11 +53,10 @@ impl Arena {
     {
         let mut at = Some(id);
         'up: while let Some(next) = at {
-            let object = self.object(next);
-            if object.fixed.get(name).is_some() {
+            if self.fixed(next, name).is_some() {
                 return false;
             }
-            at = object.prototype;
+            at = self.prototype(next);
         }
         true
     }

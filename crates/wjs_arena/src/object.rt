@@ -1,6 +1,7 @@
 //! What an object is in all worlds.
 
 use crate::class::Class;
+use crate::listed::Listed;
 use crate::native::Native;
 use crate::under::Under;
 use wjs_base::{NodeId, ObjId, Value, WorldId};
@@ -38,7 +39,7 @@ pub struct Object {
     /// Properties that no world changes, hidden and kept. The first of a name counts.
     pub fixed: Under<Value>,
     /// The attributes of other names, where they have some. The first of a name counts.
-    pub flags: Under<Flags>,
+    pub flags: Listed,
     /// Whether no property is deletable.
     pub all_kept: bool,
 }

@@ -5,7 +5,7 @@ ghost use Rattle.wjs_base.specs.declared.ids.ObjId.{ObjId};
 ghost use Rattle.wjs_arena.specs.Entries.{has, next_number};
 ghost use Rattle.wjs_arena.specs.Rows.{PutsFirst};
 
-use crate::entry::Entry;
+use crate::packed::Packed;
 use std::alloc::Global;
 use std::collections::BTreeMap;
 use std::marker::Model;
@@ -17,8 +17,8 @@ use wjs_base::{ObjId, OutOfMemory};
 #[derive(Drop)]
 pub struct Rows {
     alloc: Global,
-    first: Vec<Entry>,
-    owners: BTreeMap<u32, Vec<Entry>>,
+    first: Vec<Packed>,
+    owners: BTreeMap<u32, Vec<Packed>>,
 }
 
 impl Model for Rows {
@@ -53,7 +53,7 @@ impl Rows {
 
     /// The objects of an owner, by serial.
     #[inline(always)]
-    fn list(&self, owner: u32) -> &[Entry]
+    fn list(&self, owner: u32) -> &[Packed]
         ensures objects { (id : ObjId) → id.owner ≡ owner → map.get self.now id ≡ slice_get result.now id.serial }
         ensures count { length result.now ≡ (next_number self.now owner).serial }
         ensures serials { (id : ObjId) → IsTrue (has self.now id) ↔ (id.serial < (next_number self.now id.owner).serial) }
@@ -83,7 +83,7 @@ impl Rows {
 
     /// The object of a number that is there.
     #[inline(always)]
-    pub fn at(&self, id: ObjId) -> &Entry
+    pub fn at(&self, id: ObjId) -> &Packed
         requires { IsTrue (has self.now id) }
         ensures { map.get self.now id ≡ Some result.now }
     {
@@ -92,7 +92,7 @@ impl Rows {
 
     /// Puts an owner's next object; after a refusal nothing has changed.
     #[inline(always)]
-    pub fn push(&mut self, owner: u32, entry: Entry) -> Result<(), OutOfMemory>
+    pub fn push(&mut self, owner: u32, entry: Packed) -> Result<(), OutOfMemory>
         ensures ok { OnOk result (self.new ≡ map.insert self.old (next_number self.old owner) entry) }
         ensures err { OnErr result (self.new ≡ self.old) }
         ensures serials { (id : ObjId) → IsTrue (has self.new id) ↔ (id.serial < (next_number self.new id.owner).serial) }
@@ -109,7 +109,7 @@ impl Rows {
 
 /// Puts one object more after those of an owner.
 #[inline(always)]
-fn push_last(rows: &mut Vec<Entry>, entry: Entry) -> Result<(), OutOfMemory>
+fn push_last(rows: &mut Vec<Packed>, entry: Packed) -> Result<(), OutOfMemory>
     ensures ok { OnOk result (rows.new.items ≡ rows.old.items ++ entry ∷ []) }
     ensures err { OnErr result (rows.new.items ≡ rows.old.items) }
 {
@@ -122,9 +122,9 @@ fn push_last(rows: &mut Vec<Entry>, entry: Entry) -> Result<(), OutOfMemory>
 /// Puts the first object of an owner.
 fn push_first(
     alloc: Global,
-    owners: &mut BTreeMap<u32, Vec<Entry>>,
+    owners: &mut BTreeMap<u32, Vec<Packed>>,
     owner: u32,
-    entry: Entry,
+    entry: Packed,
 ) -> Result<(), OutOfMemory>
     ensures ok { OnOk result (PutsFirst (λ rows. rows.items) owners.old owners.new owner entry) }
     ensures err { OnErr result (owners.new.entries ≡ owners.old.entries) }

@@ -1,5 +1,5 @@
 //! Short lists of what stands under names.
-ghost use Rattle.std.specs.Prelude.{◌≡◌, []};
+ghost use Rattle.std.specs.Prelude.{◌≡◌, [], IsTrue};
 ghost use Rattle.wjs_arena.specs.AtName.{at_name};
 
 use std::alloc::Global;
@@ -45,6 +45,13 @@ impl<T> Under<T> {
         self.items
     }
 
+    /// Whether there are no entries.
+    pub fn is_empty(&self) -> bool
+        ensures { IsTrue result → self.now ≡ [] }
+    {
+        self.as_slice().is_empty()
+    }
+
     /// The entries.
     pub fn as_slice(&self) -> &[(Name, T)]
         ensures { result.now ≡ self.now }
@@ -58,11 +65,19 @@ impl<T: Copy> Under<T> {
     pub fn get(&self, name: Name) -> Option<T>
         ensures { result ≡ at_name self.now name }
     {
-        for entry in self.items.iter() {
-            if entry.0 == name {
-                return Some(entry.1);
-            }
-        }
-        None
+        find(self.items.as_slice(), name)
     }
+}
+
+/// What stands under a name in a list: the first entry of it; None exactly where there is none.
+#[inline(always)]
+pub(crate) fn find<T: Copy>(entries: &[(Name, T)], name: Name) -> Option<T>
+    ensures { result ≡ at_name entries.now name }
+{
+    for entry in entries {
+        if entry.0 == name {
+            return Some(entry.1);
+        }
+    }
+    None
 }

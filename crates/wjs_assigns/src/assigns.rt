@@ -1,18 +1,17 @@
 //! Assignments (ECMA-262, 3rd edition, section 11.13).
-ghost use Rattle.std.specs.Prelude.{◌≡◌, None, Some, OnOk};
+ghost use Rattle.std.specs.Prelude.{◌≡◌, None, Some};
 ghost use Rattle.wjs_tree.specs.Operators.{compound};
 ghost use Rattle.wjs_content.specs.Tables.{value_in};
 ghost use Rattle.wjs_meaning.specs.Deeds.{Eval, AtTarget, AtExpr, then_value, then_reference};
 ghost use Rattle.wjs_meaning.specs.Expressions as line;
 ghost use Rattle.wjs_model.specs.Contents.{reference_in, value_held, reference_held};
-ghost use Rattle.wjs_model.specs.Soundness.{Base, IsThere, HasValue, HasReference};
-ghost use Rattle.wjs_moves.specs.Parts.{env_in, node_now};
-ghost use Rattle.wjs_moves.specs.Following.{Follows};
+ghost use Rattle.wjs_model.specs.Soundness.{HasValue, HasReference};
+ghost use Rattle.wjs_moves.specs.Handling.{Runs, IsExpr, GoesOn};
 
 use wjs_base::{OutOfMemory, Value};
 use wjs_deeds::value_of;
 use wjs_lines::{held_reference, held_value, store_and_give};
-use wjs_model::{Completion, Config, Form, Frame, Held, Reference, State};
+use wjs_model::{Completion, Config, Form, Frame, Held, Reference};
 use wjs_moves::{Part, enter, finish, hold, nest};
 use wjs_operators::quick;
 use wjs_store::WorldStore;
@@ -26,12 +25,10 @@ pub(crate) fn assign_start<S: WorldStore>(
     sign: AssignOperator,
     right: NodeId,
 ) -> Result<(), OutOfMemory>
-    requires running { config.old.state ≡ State.Running }
-    requires base { Base S.meaning config.old }
-    requires there { IsThere S.meaning config.old frame }
-    requires form { frame.form ≡ Form.Expr }
-    requires node { node_now S.meaning config.old frame ≡ Node.Assign target sign right }
-    ensures { let t = config.new.heap.texts in let env = env_in S.meaning config.old t frame in OnOk result (Follows S.meaning (Eval (AtTarget target.0) env (then_reference (line.assign_reference (compound sign) right.0 env))) config.old config.new) }
+    requires runs { Runs S.meaning config.old frame }
+    requires node { IsExpr S.meaning config.old frame (Node.Assign target sign right) }
+    ensures { GoesOn S.meaning frame config.old config.new result (λ t env.
+        Eval (AtTarget target.0) env (then_reference (line.assign_reference (compound sign) right.0 env))) }
 {
     enter(config, frame, 1, Part::Target(target))
 }
@@ -46,13 +43,10 @@ pub(crate) fn assign_reference<S: WorldStore>(
     right: NodeId,
     reference: Reference,
 ) -> Result<(), OutOfMemory>
-    requires running { config.old.state ≡ State.Running }
-    requires base { Base S.meaning config.old }
-    requires there { IsThere S.meaning config.old frame }
-    requires form { frame.form ≡ Form.Expr }
-    requires node { node_now S.meaning config.old frame ≡ Node.Assign target sign right }
+    requires runs { Runs S.meaning config.old frame }
+    requires node { IsExpr S.meaning config.old frame (Node.Assign target sign right) }
     requires reference { HasReference config.old reference }
-    ensures { let t = config.new.heap.texts in let env = env_in S.meaning config.old t frame in OnOk result (Follows S.meaning (line.assign_reference (compound sign) right.0 env (reference_in t reference)) config.old config.new) }
+    ensures { GoesOn S.meaning frame config.old config.new result (λ t env. line.assign_reference (compound sign) right.0 env (reference_in t reference)) }
 {
     match operator_of(sign) {
         None => assign_plain(config, frame, target, sign, right, reference),
@@ -91,13 +85,11 @@ fn assign_plain<S: WorldStore>(
     right: NodeId,
     reference: Reference,
 ) -> Result<(), OutOfMemory>
-    requires running { config.old.state ≡ State.Running }
-    requires base { Base S.meaning config.old }
-    requires there { IsThere S.meaning config.old frame }
-    requires form { frame.form ≡ Form.Expr }
-    requires node { node_now S.meaning config.old frame ≡ Node.Assign target sign right }
+    requires runs { Runs S.meaning config.old frame }
+    requires node { IsExpr S.meaning config.old frame (Node.Assign target sign right) }
     requires reference { HasReference config.old reference }
-    ensures { let t = config.new.heap.texts in let env = env_in S.meaning config.old t frame in OnOk result (Follows S.meaning (Eval (AtExpr right.0) env (then_value (line.assign_value (reference_in t reference) env))) config.old config.new) }
+    ensures { GoesOn S.meaning frame config.old config.new result (λ t env.
+        Eval (AtExpr right.0) env (then_value (line.assign_value (reference_in t reference) env))) }
 {
     let mut frame = frame;
     hold(&mut frame, Held::Reference(reference))?;
@@ -115,14 +107,11 @@ fn assign_compound<S: WorldStore>(
     reference: Reference,
     operator: BinaryOperator,
 ) -> Result<(), OutOfMemory>
-    requires running { config.old.state ≡ State.Running }
-    requires base { Base S.meaning config.old }
-    requires there { IsThere S.meaning config.old frame }
-    requires form { frame.form ≡ Form.Expr }
-    requires node { node_now S.meaning config.old frame ≡ Node.Assign target sign right }
+    requires runs { Runs S.meaning config.old frame }
+    requires node { IsExpr S.meaning config.old frame (Node.Assign target sign right) }
     requires operator { compound sign ≡ Some operator }
     requires reference { HasReference config.old reference }
-    ensures { let t = config.new.heap.texts in let env = env_in S.meaning config.old t frame in OnOk result (Follows S.meaning (line.assign_reference (Some operator) right.0 env (reference_in t reference)) config.old config.new) }
+    ensures { GoesOn S.meaning frame config.old config.new result (λ t env. line.assign_reference (Some operator) right.0 env (reference_in t reference)) }
 {
     let answer = value_of(config, &frame, reference)?;
     match answer {
@@ -143,15 +132,13 @@ fn compound_old<S: WorldStore>(
     operator: BinaryOperator,
     old: Value,
 ) -> Result<(), OutOfMemory>
-    requires running { config.old.state ≡ State.Running }
-    requires base { Base S.meaning config.old }
-    requires there { IsThere S.meaning config.old frame }
-    requires form { frame.form ≡ Form.Expr }
-    requires node { node_now S.meaning config.old frame ≡ Node.Assign target sign right }
+    requires runs { Runs S.meaning config.old frame }
+    requires node { IsExpr S.meaning config.old frame (Node.Assign target sign right) }
     requires operator { compound sign ≡ Some operator }
     requires reference { HasReference config.old reference }
     requires old { HasValue config.old old }
-    ensures { let t = config.new.heap.texts in let env = env_in S.meaning config.old t frame in OnOk result (Follows S.meaning (line.compound_old operator right.0 (reference_in t reference) env (value_in t old)) config.old config.new) }
+    ensures { GoesOn S.meaning frame config.old config.new result (λ t env.
+        line.compound_old operator right.0 (reference_in t reference) env (value_in t old)) }
 {
     let _operator = operator;
     let mut frame = frame;
@@ -167,11 +154,10 @@ pub(crate) fn assign_value<S: WorldStore>(
     frame: Frame,
     value: Value,
 ) -> Result<(), OutOfMemory>
-    requires running { config.old.state ≡ State.Running }
-    requires base { Base S.meaning config.old }
-    requires there { IsThere S.meaning config.old frame }
+    requires runs { Runs S.meaning config.old frame }
     requires value { HasValue config.old value }
-    ensures { let t = config.new.heap.texts in let env = env_in S.meaning config.old t frame in OnOk result (Follows S.meaning (line.assign_value (reference_in t (reference_held frame.held)) env (value_in t value)) config.old config.new) }
+    ensures { GoesOn S.meaning frame config.old config.new result (λ t env.
+        line.assign_value (reference_in t (reference_held frame.held)) env (value_in t value)) }
 {
     let reference = held_reference(config, &frame);
     store_and_give(config, frame, reference, value, value)
@@ -188,14 +174,12 @@ pub(crate) fn compound_value<S: WorldStore>(
     operator: BinaryOperator,
     value: Value,
 ) -> Result<(), OutOfMemory>
-    requires running { config.old.state ≡ State.Running }
-    requires base { Base S.meaning config.old }
-    requires there { IsThere S.meaning config.old frame }
-    requires form { frame.form ≡ Form.Expr }
-    requires node { node_now S.meaning config.old frame ≡ Node.Assign target sign right }
+    requires runs { Runs S.meaning config.old frame }
+    requires node { IsExpr S.meaning config.old frame (Node.Assign target sign right) }
     requires operator { compound sign ≡ Some operator }
     requires value { HasValue config.old value }
-    ensures { let t = config.new.heap.texts in let env = env_in S.meaning config.old t frame in OnOk result (Follows S.meaning (line.compound_value operator (value_in t (value_held frame.held)) (reference_in t (reference_held frame.held)) env (value_in t value)) config.old config.new) }
+    ensures { GoesOn S.meaning frame config.old config.new result (λ t env.
+        line.compound_value operator (value_in t (value_held frame.held)) (reference_in t (reference_held frame.held)) env (value_in t value)) }
 {
     let old = held_value(config, &frame);
     match quick(operator, old, value) {
@@ -215,15 +199,13 @@ fn compound_nested<S: WorldStore>(
     old: Value,
     value: Value,
 ) -> Result<(), OutOfMemory>
-    requires running { config.old.state ≡ State.Running }
-    requires base { Base S.meaning config.old }
-    requires there { IsThere S.meaning config.old frame }
-    requires form { frame.form ≡ Form.Expr }
-    requires node { node_now S.meaning config.old frame ≡ Node.Assign target sign right }
+    requires runs { Runs S.meaning config.old frame }
+    requires node { IsExpr S.meaning config.old frame (Node.Assign target sign right) }
     requires operator { compound sign ≡ Some operator }
     requires old { HasValue config.old old }
     requires value { HasValue config.old value }
-    ensures { let t = config.new.heap.texts in let env = env_in S.meaning config.old t frame in OnOk result (Follows S.meaning (line.compound_value operator (value_in t old) (reference_in t (reference_held frame.held)) env (value_in t value)) config.old config.new) }
+    ensures { GoesOn S.meaning frame config.old config.new result (λ t env.
+        line.compound_value operator (value_in t old) (reference_in t (reference_held frame.held)) env (value_in t value)) }
 {
     let (_target, _sign, _right, _operator) = (target, sign, right, operator);
     let mut held = config.frames.nothing_held();

@@ -1,5 +1,5 @@
 //! `delete` (ECMA-262, 3rd edition, section 11.4.1).
-ghost use Rattle.std.specs.Prelude.{◌≡◌, OnOk};
+ghost use Rattle.std.specs.Prelude.{◌≡◌};
 ghost use Rattle.wjs_base.specs.Text.{Table, Grows};
 ghost use Rattle.wjs_content.specs.Names.{length_name};
 ghost use Rattle.wjs_content.specs.Tables.{value_in, name_in};
@@ -9,14 +9,13 @@ ghost use Rattle.wjs_meaning.specs.Expressions as line;
 ghost use Rattle.wjs_meaning.specs.Operators.{give_truth};
 ghost use Rattle.wjs_meaning.specs.Properties as properties;
 ghost use Rattle.wjs_model.specs.Contents.{holding_in, reference_in};
-ghost use Rattle.wjs_model.specs.Soundness.{Base, IsThere, HasName, HasObject, HasReference, HasValue};
+ghost use Rattle.wjs_model.specs.Soundness.{HasName, HasObject, HasReference, HasValue};
 ghost use Rattle.wjs_model.specs.Waiting.{after_prefix};
-ghost use Rattle.wjs_moves.specs.Following.{Follows};
-ghost use Rattle.wjs_moves.specs.Parts.{env_in};
+ghost use Rattle.wjs_moves.specs.Handling.{Runs, IsRunning, GoesOn};
 
 use wjs_base::{Name, ObjId, OutOfMemory, Value};
 use wjs_deeds::{delete, units_of};
-use wjs_model::{Completion, Config, Frame, Reference, State};
+use wjs_model::{Completion, Config, Frame, Reference};
 use wjs_moves::finish;
 use wjs_store::WorldStore;
 use wjs_tree::PrefixOperator;
@@ -29,11 +28,9 @@ pub(crate) fn delete_reference<S: WorldStore>(
     frame: Frame,
     reference: Reference,
 ) -> Result<(), OutOfMemory>
-    requires running { config.old.state ≡ State.Running }
-    requires base { Base S.meaning config.old }
-    requires there { IsThere S.meaning config.old frame }
+    requires runs { Runs S.meaning config.old frame }
     requires reference { HasReference config.old reference }
-    ensures { let t = config.new.heap.texts in let env = env_in S.meaning config.old t frame in OnOk result (Follows S.meaning (line.delete_reference env (reference_in t reference)) config.old config.new) }
+    ensures { GoesOn S.meaning frame config.old config.new result (λ t env. line.delete_reference env (reference_in t reference)) }
 {
     match reference {
         Reference::Local(_, _) => told(config, frame, false),
@@ -48,11 +45,9 @@ fn delete_global<S: WorldStore>(
     frame: Frame,
     name: Name,
 ) -> Result<(), OutOfMemory>
-    requires running { config.old.state ≡ State.Running }
-    requires base { Base S.meaning config.old }
-    requires there { IsThere S.meaning config.old frame }
+    requires runs { Runs S.meaning config.old frame }
     requires name { HasName config.old name }
-    ensures { let t = config.new.heap.texts in let env = env_in S.meaning config.old t frame in OnOk result (Follows S.meaning (properties.delete env.global (name_in t name) env give_truth) config.old config.new) }
+    ensures { GoesOn S.meaning frame config.old config.new result (λ t env. properties.delete env.global (name_in t name) env give_truth) }
 {
     let global = config.global;
     delete_property(config, frame, global, name)
@@ -65,12 +60,10 @@ fn delete_property<S: WorldStore>(
     object: ObjId,
     name: Name,
 ) -> Result<(), OutOfMemory>
-    requires running { config.old.state ≡ State.Running }
-    requires base { Base S.meaning config.old }
-    requires there { IsThere S.meaning config.old frame }
+    requires runs { Runs S.meaning config.old frame }
     requires object { HasObject config.old object }
     requires name { HasName config.old name }
-    ensures { let t = config.new.heap.texts in let env = env_in S.meaning config.old t frame in OnOk result (Follows S.meaning (properties.delete object (name_in t name) env give_truth) config.old config.new) }
+    ensures { GoesOn S.meaning frame config.old config.new result (λ t env. properties.delete object (name_in t name) env give_truth) }
 {
     let answer = delete(config, &frame, object, name)?;
     told(config, frame, answer)
@@ -83,12 +76,10 @@ fn delete_member<S: WorldStore>(
     base: Value,
     name: Name,
 ) -> Result<(), OutOfMemory>
-    requires running { config.old.state ≡ State.Running }
-    requires base { Base S.meaning config.old }
-    requires there { IsThere S.meaning config.old frame }
+    requires runs { Runs S.meaning config.old frame }
     requires value { HasValue config.old base }
     requires name { HasName config.old name }
-    ensures { let t = config.new.heap.texts in let env = env_in S.meaning config.old t frame in OnOk result (Follows S.meaning (line.delete_reference env (Member (value_in t base) (name_in t name))) config.old config.new) }
+    ensures { GoesOn S.meaning frame config.old config.new result (λ t env. line.delete_reference env (Member (value_in t base) (name_in t name))) }
 {
     match base {
         Value::Object(object) => delete_property(config, frame, object, name),
@@ -113,9 +104,8 @@ fn is_length<S: WorldStore>(config: &Config<S>, name: Name) -> bool
 
 /// Ends with a truth value.
 fn told<S: WorldStore>(config: &mut Config<S>, frame: Frame, truth: bool) -> Result<(), OutOfMemory>
-    requires running { config.old.state ≡ State.Running }
-    requires base { Base S.meaning config.old }
-    ensures { OnOk result (Follows S.meaning (give_truth truth) config.old config.new) }
+    requires running { IsRunning S.meaning config.old }
+    ensures { GoesOn S.meaning frame config.old config.new result (λ t env. give_truth truth) }
 {
     finish(config, frame, Completion::Gives(Value::Bool(truth)))
 }
@@ -126,10 +116,10 @@ pub(crate) fn delete_given<S: WorldStore>(
     frame: Frame,
     value: Value,
 ) -> Result<(), OutOfMemory>
-    requires running { config.old.state ≡ State.Running }
-    requires base { Base S.meaning config.old }
+    requires running { IsRunning S.meaning config.old }
     requires value { HasValue config.old value }
-    ensures { let t = config.new.heap.texts in let env = env_in S.meaning config.old t frame in OnOk result (Follows S.meaning (after_prefix PrefixOperator.Delete frame.place (holding_in t frame.held) env (Gives (value_in t value))) config.old config.new) }
+    ensures { GoesOn S.meaning frame config.old config.new result (λ t env.
+        after_prefix PrefixOperator.Delete frame.place (holding_in t frame.held) env (Gives (value_in t value))) }
 {
     if frame.place() == 1 {
         finish(config, frame, Completion::Gives(value))

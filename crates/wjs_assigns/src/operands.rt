@@ -1,13 +1,12 @@
 //! Operands that may be targets (ECMA-262, 3rd edition, sections 8.7 and 11.4).
-ghost use Rattle.std.specs.Prelude.{◌≡◌, OnOk};
-ghost use Rattle.wjs_model.specs.Soundness.{Base, IsThere, StandsHere};
-ghost use Rattle.wjs_moves.specs.Parts.{env_in, then_at};
-ghost use Rattle.wjs_moves.specs.Following.{Follows};
+ghost use Rattle.wjs_model.specs.Soundness.{StandsHere};
+ghost use Rattle.wjs_moves.specs.Parts.{then_at};
 ghost use Rattle.wjs_assigns.specs.Operands.{operand_at};
+ghost use Rattle.wjs_moves.specs.Handling.{Runs, GoesOn};
 
 use wjs_base::OutOfMemory;
 use wjs_members::is_target;
-use wjs_model::{Config, Frame, State};
+use wjs_model::{Config, Frame};
 use wjs_moves::{Part, enter};
 use wjs_store::WorldStore;
 use wjs_tree::NodeId;
@@ -19,11 +18,10 @@ pub(crate) fn enter_operand<S: WorldStore>(
     frame: Frame,
     operand: NodeId,
 ) -> Result<(), OutOfMemory>
-    requires running { config.old.state ≡ State.Running }
-    requires base { Base S.meaning config.old }
-    requires there { IsThere S.meaning config.old frame }
+    requires runs { Runs S.meaning config.old frame }
     requires part { StandsHere config.old frame operand }
-    ensures { let t = config.new.heap.texts in let env = env_in S.meaning config.old t frame in OnOk result (Follows S.meaning (operand_at operand.0 env (then_at S.meaning config.old frame 1 t env) (then_at S.meaning config.old frame 2 t env)) config.old config.new) }
+    ensures { GoesOn S.meaning frame config.old config.new result (λ t env.
+        operand_at operand.0 env (then_at S.meaning config.old frame 1 t env) (then_at S.meaning config.old frame 2 t env)) }
 {
     if is_target(config, &frame, operand) {
         enter(config, frame, 1, Part::Target(operand))

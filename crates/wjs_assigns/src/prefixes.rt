@@ -1,16 +1,15 @@
 //! Operators before an operand (ECMA-262, 3rd edition, section 11.4).
-ghost use Rattle.std.specs.Prelude.{◌≡◌, OnOk};
+ghost use Rattle.std.specs.Prelude.{◌≡◌};
 ghost use Rattle.wjs_content.specs.Tables.{value_in};
 ghost use Rattle.wjs_meaning.specs.Conversions.{number_of_primitive};
 ghost use Rattle.wjs_meaning.specs.Deeds.{Gives, Refers};
 ghost use Rattle.wjs_meaning.specs.Expressions as line;
 ghost use Rattle.wjs_meaning.specs.Operators as operators;
 ghost use Rattle.wjs_model.specs.Contents.{holding_in, reference_in};
-ghost use Rattle.wjs_model.specs.Soundness.{Base, IsThere, HasReference, HasValue};
+ghost use Rattle.wjs_model.specs.Soundness.{HasReference, HasValue};
 ghost use Rattle.wjs_model.specs.Waiting.{after_prefix};
-ghost use Rattle.wjs_moves.specs.Parts.{env_in, node_now};
-ghost use Rattle.wjs_moves.specs.Following.{Follows};
 ghost use Rattle.wjs_assigns.specs.Operands.{operand_of};
+ghost use Rattle.wjs_moves.specs.Handling.{Runs, IsRunning, IsExpr, GoesOn};
 
 use crate::deletes::{delete_given, delete_reference};
 use crate::operands::enter_operand;
@@ -18,7 +17,7 @@ use crate::typeofs::{typeof_given, typeof_reference};
 use crate::updates::{Fix, update_given, update_reference};
 use wjs_base::{OutOfMemory, Value, Whole};
 use wjs_lines::{is_object, to_boolean, to_number};
-use wjs_model::{Completion, Config, Conversion, Form, Frame, Reference, State};
+use wjs_model::{Completion, Config, Conversion, Frame, Reference};
 use wjs_moves::{Part, convert, enter, finish};
 use wjs_num::{bit_not, neg};
 use wjs_store::WorldStore;
@@ -31,12 +30,9 @@ pub(crate) fn prefix_start<S: WorldStore>(
     operator: PrefixOperator,
     operand: NodeId,
 ) -> Result<(), OutOfMemory>
-    requires running { config.old.state ≡ State.Running }
-    requires base { Base S.meaning config.old }
-    requires there { IsThere S.meaning config.old frame }
-    requires form { frame.form ≡ Form.Expr }
-    requires node { node_now S.meaning config.old frame ≡ Node.Prefix operator operand }
-    ensures { let t = config.new.heap.texts in let env = env_in S.meaning config.old t frame in OnOk result (Follows S.meaning (line.prefix_of operator operand.0 env) config.old config.new) }
+    requires runs { Runs S.meaning config.old frame }
+    requires node { IsExpr S.meaning config.old frame (Node.Prefix operator operand) }
+    ensures { GoesOn S.meaning frame config.old config.new result (λ t env. line.prefix_of operator operand.0 env) }
 {
     match operand_of(operator) {
         Operand::Any => enter_operand(config, frame, operand),
@@ -73,13 +69,11 @@ pub(crate) fn prefix_reference<S: WorldStore>(
     operand: NodeId,
     reference: Reference,
 ) -> Result<(), OutOfMemory>
-    requires running { config.old.state ≡ State.Running }
-    requires base { Base S.meaning config.old }
-    requires there { IsThere S.meaning config.old frame }
-    requires form { frame.form ≡ Form.Expr }
-    requires node { node_now S.meaning config.old frame ≡ Node.Prefix operator operand }
+    requires runs { Runs S.meaning config.old frame }
+    requires node { IsExpr S.meaning config.old frame (Node.Prefix operator operand) }
     requires reference { HasReference config.old reference }
-    ensures { let t = config.new.heap.texts in let env = env_in S.meaning config.old t frame in OnOk result (Follows S.meaning (after_prefix operator 1 (holding_in t frame.held) env (Refers (reference_in t reference))) config.old config.new) }
+    ensures { GoesOn S.meaning frame config.old config.new result (λ t env.
+        after_prefix operator 1 (holding_in t frame.held) env (Refers (reference_in t reference))) }
 {
     match operator {
         PrefixOperator::Delete => delete_reference(config, frame, reference),
@@ -114,13 +108,11 @@ pub(crate) fn prefix_value<S: WorldStore>(
     operand: NodeId,
     value: Value,
 ) -> Result<(), OutOfMemory>
-    requires running { config.old.state ≡ State.Running }
-    requires base { Base S.meaning config.old }
-    requires there { IsThere S.meaning config.old frame }
-    requires form { frame.form ≡ Form.Expr }
-    requires node { node_now S.meaning config.old frame ≡ Node.Prefix operator operand }
+    requires runs { Runs S.meaning config.old frame }
+    requires node { IsExpr S.meaning config.old frame (Node.Prefix operator operand) }
     requires value { HasValue config.old value }
-    ensures { let t = config.new.heap.texts in let env = env_in S.meaning config.old t frame in OnOk result (Follows S.meaning (after_prefix operator frame.place (holding_in t frame.held) env (Gives (value_in t value))) config.old config.new) }
+    ensures { GoesOn S.meaning frame config.old config.new result (λ t env.
+        after_prefix operator frame.place (holding_in t frame.held) env (Gives (value_in t value))) }
 {
     match operator {
         PrefixOperator::Delete => delete_given(config, frame, value),
@@ -145,10 +137,9 @@ fn not_value<S: WorldStore>(
     frame: Frame,
     value: Value,
 ) -> Result<(), OutOfMemory>
-    requires running { config.old.state ≡ State.Running }
-    requires base { Base S.meaning config.old }
+    requires running { IsRunning S.meaning config.old }
     requires value { HasValue config.old value }
-    ensures { let t = config.new.heap.texts in OnOk result (Follows S.meaning (operators.not_value (value_in t value)) config.old config.new) }
+    ensures { GoesOn S.meaning frame config.old config.new result (λ t env. operators.not_value (value_in t value)) }
 {
     let truth = to_boolean(config, value);
     finish(config, frame, Completion::Gives(Value::Bool(!truth)))
@@ -161,13 +152,11 @@ fn plus_given<S: WorldStore>(
     operand: NodeId,
     value: Value,
 ) -> Result<(), OutOfMemory>
-    requires running { config.old.state ≡ State.Running }
-    requires base { Base S.meaning config.old }
-    requires there { IsThere S.meaning config.old frame }
-    requires form { frame.form ≡ Form.Expr }
-    requires node { node_now S.meaning config.old frame ≡ Node.Prefix PrefixOperator.Plus operand }
+    requires runs { Runs S.meaning config.old frame }
+    requires node { IsExpr S.meaning config.old frame (Node.Prefix PrefixOperator.Plus operand) }
     requires value { HasValue config.old value }
-    ensures { let t = config.new.heap.texts in let env = env_in S.meaning config.old t frame in OnOk result (Follows S.meaning (after_prefix PrefixOperator.Plus frame.place (holding_in t frame.held) env (Gives (value_in t value))) config.old config.new) }
+    ensures { GoesOn S.meaning frame config.old config.new result (λ t env.
+        after_prefix PrefixOperator.Plus frame.place (holding_in t frame.held) env (Gives (value_in t value))) }
 {
     if frame.place() == 1 {
         plus_value(config, frame, operand, value)
@@ -183,13 +172,10 @@ fn plus_value<S: WorldStore>(
     operand: NodeId,
     value: Value,
 ) -> Result<(), OutOfMemory>
-    requires running { config.old.state ≡ State.Running }
-    requires base { Base S.meaning config.old }
-    requires there { IsThere S.meaning config.old frame }
-    requires form { frame.form ≡ Form.Expr }
-    requires node { node_now S.meaning config.old frame ≡ Node.Prefix PrefixOperator.Plus operand }
+    requires runs { Runs S.meaning config.old frame }
+    requires node { IsExpr S.meaning config.old frame (Node.Prefix PrefixOperator.Plus operand) }
     requires value { HasValue config.old value }
-    ensures { let t = config.new.heap.texts in let env = env_in S.meaning config.old t frame in OnOk result (Follows S.meaning (line.plus_value env (value_in t value)) config.old config.new) }
+    ensures { GoesOn S.meaning frame config.old config.new result (λ t env. line.plus_value env (value_in t value)) }
 {
     let _operand = operand;
     if is_object(value) {
@@ -205,10 +191,9 @@ fn plus_primitive<S: WorldStore>(
     frame: Frame,
     value: Value,
 ) -> Result<(), OutOfMemory>
-    requires running { config.old.state ≡ State.Running }
-    requires base { Base S.meaning config.old }
+    requires running { IsRunning S.meaning config.old }
     requires value { HasValue config.old value }
-    ensures { let t = config.new.heap.texts in OnOk result (Follows S.meaning (number_of_primitive (value_in t value)) config.old config.new) }
+    ensures { GoesOn S.meaning frame config.old config.new result (λ t env. number_of_primitive (value_in t value)) }
 {
     let number = to_number(config, value);
     finish(config, frame, Completion::Gives(Value::Number(number)))
@@ -221,13 +206,11 @@ fn minus_given<S: WorldStore>(
     operand: NodeId,
     value: Value,
 ) -> Result<(), OutOfMemory>
-    requires running { config.old.state ≡ State.Running }
-    requires base { Base S.meaning config.old }
-    requires there { IsThere S.meaning config.old frame }
-    requires form { frame.form ≡ Form.Expr }
-    requires node { node_now S.meaning config.old frame ≡ Node.Prefix PrefixOperator.Minus operand }
+    requires runs { Runs S.meaning config.old frame }
+    requires node { IsExpr S.meaning config.old frame (Node.Prefix PrefixOperator.Minus operand) }
     requires value { HasValue config.old value }
-    ensures { let t = config.new.heap.texts in let env = env_in S.meaning config.old t frame in OnOk result (Follows S.meaning (after_prefix PrefixOperator.Minus frame.place (holding_in t frame.held) env (Gives (value_in t value))) config.old config.new) }
+    ensures { GoesOn S.meaning frame config.old config.new result (λ t env.
+        after_prefix PrefixOperator.Minus frame.place (holding_in t frame.held) env (Gives (value_in t value))) }
 {
     if frame.place() == 1 {
         return minus_value(config, frame, operand, value);
@@ -245,13 +228,10 @@ fn minus_value<S: WorldStore>(
     operand: NodeId,
     value: Value,
 ) -> Result<(), OutOfMemory>
-    requires running { config.old.state ≡ State.Running }
-    requires base { Base S.meaning config.old }
-    requires there { IsThere S.meaning config.old frame }
-    requires form { frame.form ≡ Form.Expr }
-    requires node { node_now S.meaning config.old frame ≡ Node.Prefix PrefixOperator.Minus operand }
+    requires runs { Runs S.meaning config.old frame }
+    requires node { IsExpr S.meaning config.old frame (Node.Prefix PrefixOperator.Minus operand) }
     requires value { HasValue config.old value }
-    ensures { let t = config.new.heap.texts in let env = env_in S.meaning config.old t frame in OnOk result (Follows S.meaning (line.minus_value env (value_in t value)) config.old config.new) }
+    ensures { GoesOn S.meaning frame config.old config.new result (λ t env. line.minus_value env (value_in t value)) }
 {
     let _operand = operand;
     if is_object(value) {
@@ -268,9 +248,8 @@ fn minus_number<S: WorldStore>(
     frame: Frame,
     number: Whole,
 ) -> Result<(), OutOfMemory>
-    requires running { config.old.state ≡ State.Running }
-    requires base { Base S.meaning config.old }
-    ensures { OnOk result (Follows S.meaning (line.minus_number number.number) config.old config.new) }
+    requires running { IsRunning S.meaning config.old }
+    ensures { GoesOn S.meaning frame config.old config.new result (λ t env. line.minus_number number.number) }
 {
     finish(config, frame, Completion::Gives(Value::Number(neg(number))))
 }
@@ -282,13 +261,11 @@ fn complement_given<S: WorldStore>(
     operand: NodeId,
     value: Value,
 ) -> Result<(), OutOfMemory>
-    requires running { config.old.state ≡ State.Running }
-    requires base { Base S.meaning config.old }
-    requires there { IsThere S.meaning config.old frame }
-    requires form { frame.form ≡ Form.Expr }
-    requires node { node_now S.meaning config.old frame ≡ Node.Prefix PrefixOperator.BitNot operand }
+    requires runs { Runs S.meaning config.old frame }
+    requires node { IsExpr S.meaning config.old frame (Node.Prefix PrefixOperator.BitNot operand) }
     requires value { HasValue config.old value }
-    ensures { let t = config.new.heap.texts in let env = env_in S.meaning config.old t frame in OnOk result (Follows S.meaning (after_prefix PrefixOperator.BitNot frame.place (holding_in t frame.held) env (Gives (value_in t value))) config.old config.new) }
+    ensures { GoesOn S.meaning frame config.old config.new result (λ t env.
+        after_prefix PrefixOperator.BitNot frame.place (holding_in t frame.held) env (Gives (value_in t value))) }
 {
     if frame.place() == 1 {
         return complement_value(config, frame, operand, value);
@@ -306,13 +283,10 @@ fn complement_value<S: WorldStore>(
     operand: NodeId,
     value: Value,
 ) -> Result<(), OutOfMemory>
-    requires running { config.old.state ≡ State.Running }
-    requires base { Base S.meaning config.old }
-    requires there { IsThere S.meaning config.old frame }
-    requires form { frame.form ≡ Form.Expr }
-    requires node { node_now S.meaning config.old frame ≡ Node.Prefix PrefixOperator.BitNot operand }
+    requires runs { Runs S.meaning config.old frame }
+    requires node { IsExpr S.meaning config.old frame (Node.Prefix PrefixOperator.BitNot operand) }
     requires value { HasValue config.old value }
-    ensures { let t = config.new.heap.texts in let env = env_in S.meaning config.old t frame in OnOk result (Follows S.meaning (line.complement_value env (value_in t value)) config.old config.new) }
+    ensures { GoesOn S.meaning frame config.old config.new result (λ t env. line.complement_value env (value_in t value)) }
 {
     let _operand = operand;
     if is_object(value) {
@@ -329,9 +303,8 @@ fn complement_number<S: WorldStore>(
     frame: Frame,
     number: Whole,
 ) -> Result<(), OutOfMemory>
-    requires running { config.old.state ≡ State.Running }
-    requires base { Base S.meaning config.old }
-    ensures { OnOk result (Follows S.meaning (line.complement_number number.number) config.old config.new) }
+    requires running { IsRunning S.meaning config.old }
+    ensures { GoesOn S.meaning frame config.old config.new result (λ t env. line.complement_number number.number) }
 {
     finish(
         config,

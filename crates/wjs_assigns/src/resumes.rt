@@ -1,6 +1,6 @@
 //! What operators, conditions, assignments and commas do with the completion that they waited for (ECMA-262, 3rd edition,
 //! sections 11.3 to 11.14).
-ghost use Rattle.std.specs.Prelude.{◌≡◌, None, Some, OnOk};
+ghost use Rattle.std.specs.Prelude.{◌≡◌, None, Some};
 ghost use Rattle.wjs_tree.specs.Operators.{compound};
 ghost use Rattle.wjs_content.specs.Tables.{value_in};
 ghost use Rattle.wjs_meaning.specs.Deeds.{Gives, Refers};
@@ -8,17 +8,17 @@ ghost use Rattle.wjs_meaning.specs.Reading.{node_in};
 ghost use Rattle.wjs_meaning.specs.Trees as trees;
 ghost use Rattle.wjs_model.specs.Contents.{completion_in, holding_in, reference_in};
 ghost use Rattle.wjs_model.specs.Waiting as after;
-ghost use Rattle.wjs_model.specs.Soundness.{Base, IsThere, HasCompletion, HasReference, HasValue};
-ghost use Rattle.wjs_moves.specs.Following.{Follows};
-ghost use Rattle.wjs_moves.specs.Parts.{env_in, node_now};
+ghost use Rattle.wjs_model.specs.Soundness.{HasCompletion, HasReference, HasValue};
+ghost use Rattle.wjs_moves.specs.Parts.{node_now};
 ghost use Rattle.wjs_assigns.specs.Links.{after_operator};
+ghost use Rattle.wjs_moves.specs.Handling.{Runs, IsExpr, GoesOn};
 
 use crate::assigns::{assign_reference, assign_value, compound_value, operator_of};
 use crate::conditions::{comma_left, cond_test};
 use crate::prefixes::{prefix_reference, prefix_value};
 use crate::updates::{Fix, postfix_reference, update_given};
 use wjs_base::{OutOfMemory, Value};
-use wjs_model::{Completion, Config, Form, Frame, Reference, State};
+use wjs_model::{Completion, Config, Form, Frame, Reference};
 use wjs_moves::{finish, node_of};
 use wjs_operators::{binary_left, binary_right, operand_after};
 use wjs_store::WorldStore;
@@ -32,12 +32,11 @@ pub fn operator_given<S: WorldStore>(
     frame: Frame,
     completion: Completion,
 ) -> Result<(), OutOfMemory>
-    requires running { config.old.state ≡ State.Running }
-    requires base { Base S.meaning config.old }
-    requires there { IsThere S.meaning config.old frame }
+    requires runs { Runs S.meaning config.old frame }
     requires form { frame.form ≡ Form.Expr }
     requires completion { HasCompletion config.old completion }
-    ensures { let t = config.new.heap.texts in let env = env_in S.meaning config.old t frame in OnOk result (Follows S.meaning (after_operator (node_in t (node_now S.meaning config.old frame)) frame.place (holding_in t frame.held) env (completion_in t completion)) config.old config.new) }
+    ensures { GoesOn S.meaning frame config.old config.new result (λ t env.
+        after_operator (node_in t (node_now S.meaning config.old frame)) frame.place (holding_in t frame.held) env (completion_in t completion)) }
 {
     match completion {
         Completion::Gives(value) => operator_value(config, frame, value),
@@ -52,12 +51,11 @@ fn operator_reference<S: WorldStore>(
     frame: Frame,
     reference: Reference,
 ) -> Result<(), OutOfMemory>
-    requires running { config.old.state ≡ State.Running }
-    requires base { Base S.meaning config.old }
-    requires there { IsThere S.meaning config.old frame }
+    requires runs { Runs S.meaning config.old frame }
     requires form { frame.form ≡ Form.Expr }
     requires reference { HasReference config.old reference }
-    ensures { let t = config.new.heap.texts in let env = env_in S.meaning config.old t frame in OnOk result (Follows S.meaning (after_operator (node_in t (node_now S.meaning config.old frame)) frame.place (holding_in t frame.held) env (Refers (reference_in t reference))) config.old config.new) }
+    ensures { GoesOn S.meaning frame config.old config.new result (λ t env.
+        after_operator (node_in t (node_now S.meaning config.old frame)) frame.place (holding_in t frame.held) env (Refers (reference_in t reference))) }
 {
     if frame.place() == 1 {
         target_given(config, frame, reference)
@@ -72,12 +70,11 @@ fn target_given<S: WorldStore>(
     frame: Frame,
     reference: Reference,
 ) -> Result<(), OutOfMemory>
-    requires running { config.old.state ≡ State.Running }
-    requires base { Base S.meaning config.old }
-    requires there { IsThere S.meaning config.old frame }
+    requires runs { Runs S.meaning config.old frame }
     requires form { frame.form ≡ Form.Expr }
     requires reference { HasReference config.old reference }
-    ensures { let t = config.new.heap.texts in let env = env_in S.meaning config.old t frame in OnOk result (Follows S.meaning (after_operator (node_in t (node_now S.meaning config.old frame)) 1 (holding_in t frame.held) env (Refers (reference_in t reference))) config.old config.new) }
+    ensures { GoesOn S.meaning frame config.old config.new result (λ t env.
+        after_operator (node_in t (node_now S.meaning config.old frame)) 1 (holding_in t frame.held) env (Refers (reference_in t reference))) }
 {
     match node_of(config, &frame) {
         Some(Node::Postfix(target, operator)) => {
@@ -104,12 +101,11 @@ pub fn operator_value<S: WorldStore>(
     frame: Frame,
     value: Value,
 ) -> Result<(), OutOfMemory>
-    requires running { config.old.state ≡ State.Running }
-    requires base { Base S.meaning config.old }
-    requires there { IsThere S.meaning config.old frame }
+    requires runs { Runs S.meaning config.old frame }
     requires form { frame.form ≡ Form.Expr }
     requires value { HasValue config.old value }
-    ensures { let t = config.new.heap.texts in let env = env_in S.meaning config.old t frame in OnOk result (Follows S.meaning (after_operator (node_in t (node_now S.meaning config.old frame)) frame.place (holding_in t frame.held) env (Gives (value_in t value))) config.old config.new) }
+    ensures { GoesOn S.meaning frame config.old config.new result (λ t env.
+        after_operator (node_in t (node_now S.meaning config.old frame)) frame.place (holding_in t frame.held) env (Gives (value_in t value))) }
 {
     match node_of(config, &frame) {
         Some(Node::Postfix(_, operator)) => {
@@ -149,13 +145,11 @@ fn binary_given<S: WorldStore>(
     right: NodeId,
     value: Value,
 ) -> Result<(), OutOfMemory>
-    requires running { config.old.state ≡ State.Running }
-    requires base { Base S.meaning config.old }
-    requires there { IsThere S.meaning config.old frame }
-    requires form { frame.form ≡ Form.Expr }
-    requires node { node_now S.meaning config.old frame ≡ Node.Binary left operator right }
+    requires runs { Runs S.meaning config.old frame }
+    requires node { IsExpr S.meaning config.old frame (Node.Binary left operator right) }
     requires value { HasValue config.old value }
-    ensures { let t = config.new.heap.texts in let env = env_in S.meaning config.old t frame in OnOk result (Follows S.meaning (after_operator (trees.Binary left.0 operator right.0) frame.place (holding_in t frame.held) env (Gives (value_in t value))) config.old config.new) }
+    ensures { GoesOn S.meaning frame config.old config.new result (λ t env.
+        after_operator (trees.Binary left.0 operator right.0) frame.place (holding_in t frame.held) env (Gives (value_in t value))) }
 {
     match frame.place() {
         1 => binary_left(config, frame, left, operator, right, value),
@@ -173,13 +167,11 @@ fn assign_given<S: WorldStore>(
     right: NodeId,
     value: Value,
 ) -> Result<(), OutOfMemory>
-    requires running { config.old.state ≡ State.Running }
-    requires base { Base S.meaning config.old }
-    requires there { IsThere S.meaning config.old frame }
-    requires form { frame.form ≡ Form.Expr }
-    requires node { node_now S.meaning config.old frame ≡ Node.Assign target sign right }
+    requires runs { Runs S.meaning config.old frame }
+    requires node { IsExpr S.meaning config.old frame (Node.Assign target sign right) }
     requires value { HasValue config.old value }
-    ensures { let t = config.new.heap.texts in let env = env_in S.meaning config.old t frame in OnOk result (Follows S.meaning (after.after_assign (compound sign) right.0 frame.place (holding_in t frame.held) env (Gives (value_in t value))) config.old config.new) }
+    ensures { GoesOn S.meaning frame config.old config.new result (λ t env.
+        after.after_assign (compound sign) right.0 frame.place (holding_in t frame.held) env (Gives (value_in t value))) }
 {
     match frame.place() {
         1 => finish(config, frame, Completion::Gives(value)),
@@ -201,16 +193,14 @@ fn compound_given<S: WorldStore>(
     operator: BinaryOperator,
     value: Value,
 ) -> Result<(), OutOfMemory>
-    requires running { config.old.state ≡ State.Running }
-    requires base { Base S.meaning config.old }
-    requires there { IsThere S.meaning config.old frame }
-    requires form { frame.form ≡ Form.Expr }
-    requires node { node_now S.meaning config.old frame ≡ Node.Assign target sign right }
+    requires runs { Runs S.meaning config.old frame }
+    requires node { IsExpr S.meaning config.old frame (Node.Assign target sign right) }
     requires operator { compound sign ≡ Some operator }
     requires past_target { frame.place ≡ 1 → ⊥ }
     requires past_value { frame.place ≡ 2 → ⊥ }
     requires value { HasValue config.old value }
-    ensures { let t = config.new.heap.texts in let env = env_in S.meaning config.old t frame in OnOk result (Follows S.meaning (after.after_assign (Some operator) right.0 frame.place (holding_in t frame.held) env (Gives (value_in t value))) config.old config.new) }
+    ensures { GoesOn S.meaning frame config.old config.new result (λ t env.
+        after.after_assign (Some operator) right.0 frame.place (holding_in t frame.held) env (Gives (value_in t value))) }
 {
     if frame.place() == 5 {
         return compound_value(config, frame, target, sign, right, operator, value);

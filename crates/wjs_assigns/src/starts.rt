@@ -1,17 +1,16 @@
 //! What operators, conditions, assignments and commas begin with (ECMA-262, 3rd edition, sections 11.3 to 11.14).
-ghost use Rattle.std.specs.Prelude.{◌≡◌, OnOk};
+ghost use Rattle.std.specs.Prelude.{◌≡◌};
 ghost use Rattle.wjs_meaning.specs.Reading.{node_in};
-ghost use Rattle.wjs_model.specs.Soundness.{Base, IsThere};
-ghost use Rattle.wjs_moves.specs.Following.{Follows};
-ghost use Rattle.wjs_moves.specs.Parts.{env_in, node_now};
+ghost use Rattle.wjs_moves.specs.Parts.{node_now};
 ghost use Rattle.wjs_assigns.specs.Links.{operator_of};
+ghost use Rattle.wjs_moves.specs.Handling.{Runs, GoesOn};
 
 use crate::assigns::assign_start;
 use crate::conditions::{comma_start, cond_start};
 use crate::prefixes::prefix_start;
 use crate::updates::postfix_start;
 use wjs_base::OutOfMemory;
-use wjs_model::{Completion, Config, Form, Frame, State};
+use wjs_model::{Completion, Config, Form, Frame};
 use wjs_moves::{finish, node_of};
 use wjs_operators::binary_start;
 use wjs_store::WorldStore;
@@ -24,11 +23,9 @@ pub fn operator_start<S: WorldStore>(
     config: &mut Config<S>,
     frame: Frame,
 ) -> Result<(), OutOfMemory>
-    requires running { config.old.state ≡ State.Running }
-    requires base { Base S.meaning config.old }
-    requires there { IsThere S.meaning config.old frame }
+    requires runs { Runs S.meaning config.old frame }
     requires form { frame.form ≡ Form.Expr }
-    ensures { let t = config.new.heap.texts in let env = env_in S.meaning config.old t frame in OnOk result (Follows S.meaning (operator_of (node_in t (node_now S.meaning config.old frame)) env) config.old config.new) }
+    ensures { GoesOn S.meaning frame config.old config.new result (λ t env. operator_of (node_in t (node_now S.meaning config.old frame)) env) }
 {
     match node_of(config, &frame) {
         Some(Node::Postfix(target, operator)) => {

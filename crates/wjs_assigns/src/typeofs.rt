@@ -1,5 +1,5 @@
 //! `typeof` (ECMA-262, 3rd edition, section 11.4.3).
-ghost use Rattle.std.specs.Prelude.{◌≡◌, ◌≤◌, length, OnOk};
+ghost use Rattle.std.specs.Prelude.{◌≡◌, ◌≤◌, length};
 ghost use Rattle.wjs_base.specs.Text.{Table, longest};
 ghost use Rattle.wjs_content.specs.Objects.{Arena};
 ghost use Rattle.wjs_content.specs.Tables.{value_in, name_in};
@@ -9,14 +9,13 @@ ghost use Rattle.wjs_meaning.specs.Properties.{get_value};
 ghost use Rattle.wjs_meaning.specs.References as references;
 ghost use Rattle.wjs_model.specs.Contents.{holding_in, reference_in};
 ghost use Rattle.wjs_model.specs.Outside.{Sees};
-ghost use Rattle.wjs_model.specs.Soundness.{Base, IsThere, HasName, HasReference, HasValue};
+ghost use Rattle.wjs_model.specs.Soundness.{HasName, HasReference, HasValue};
 ghost use Rattle.wjs_model.specs.Waiting.{after_prefix};
-ghost use Rattle.wjs_moves.specs.Following.{Follows};
-ghost use Rattle.wjs_moves.specs.Parts.{env_in};
+ghost use Rattle.wjs_moves.specs.Handling.{Runs, IsRunning, GoesOn};
 
 use wjs_base::{Name, OutOfMemory, Value};
 use wjs_deeds::{get_value, intern, is_callable, value_of};
-use wjs_model::{Completion, Config, Frame, Reference, State};
+use wjs_model::{Completion, Config, Frame, Reference};
 use wjs_moves::finish;
 use wjs_store::WorldStore;
 use wjs_tree::PrefixOperator;
@@ -61,10 +60,9 @@ fn typeof_value<S: WorldStore>(
     frame: Frame,
     value: Value,
 ) -> Result<(), OutOfMemory>
-    requires running { config.old.state ≡ State.Running }
-    requires base { Base S.meaning config.old }
+    requires running { IsRunning S.meaning config.old }
     requires value { HasValue config.old value }
-    ensures { let t = config.new.heap.texts in OnOk result (Follows S.meaning (line.typeof_value (value_in t value)) config.old config.new) }
+    ensures { GoesOn S.meaning frame config.old config.new result (λ t env. line.typeof_value (value_in t value)) }
 {
     let units = type_name(config, value);
     let id = intern(config, units)?;
@@ -77,11 +75,9 @@ pub(crate) fn typeof_reference<S: WorldStore>(
     frame: Frame,
     reference: Reference,
 ) -> Result<(), OutOfMemory>
-    requires running { config.old.state ≡ State.Running }
-    requires base { Base S.meaning config.old }
-    requires there { IsThere S.meaning config.old frame }
+    requires runs { Runs S.meaning config.old frame }
     requires reference { HasReference config.old reference }
-    ensures { let t = config.new.heap.texts in let env = env_in S.meaning config.old t frame in OnOk result (Follows S.meaning (line.typeof_reference env (reference_in t reference)) config.old config.new) }
+    ensures { GoesOn S.meaning frame config.old config.new result (λ t env. line.typeof_reference env (reference_in t reference)) }
 {
     match reference {
         Reference::Global(name) => typeof_global(config, frame, name),
@@ -95,11 +91,9 @@ fn typeof_global<S: WorldStore>(
     frame: Frame,
     name: Name,
 ) -> Result<(), OutOfMemory>
-    requires running { config.old.state ≡ State.Running }
-    requires base { Base S.meaning config.old }
-    requires there { IsThere S.meaning config.old frame }
+    requires runs { Runs S.meaning config.old frame }
     requires name { HasName config.old name }
-    ensures { let t = config.new.heap.texts in let env = env_in S.meaning config.old t frame in OnOk result (Follows S.meaning (get_value env.global (name_in t name) env line.typeof_value) config.old config.new) }
+    ensures { GoesOn S.meaning frame config.old config.new result (λ t env. get_value env.global (name_in t name) env line.typeof_value) }
 {
     let global = config.global;
     let value = get_value(config, &frame, global, name)?;
@@ -112,11 +106,9 @@ fn typeof_found<S: WorldStore>(
     frame: Frame,
     reference: Reference,
 ) -> Result<(), OutOfMemory>
-    requires running { config.old.state ≡ State.Running }
-    requires base { Base S.meaning config.old }
-    requires there { IsThere S.meaning config.old frame }
+    requires runs { Runs S.meaning config.old frame }
     requires reference { HasReference config.old reference }
-    ensures { let t = config.new.heap.texts in let env = env_in S.meaning config.old t frame in OnOk result (Follows S.meaning (references.value_of (reference_in t reference) env line.typeof_value) config.old config.new) }
+    ensures { GoesOn S.meaning frame config.old config.new result (λ t env. references.value_of (reference_in t reference) env line.typeof_value) }
 {
     let answer = value_of(config, &frame, reference)?;
     match answer {
@@ -131,10 +123,10 @@ pub(crate) fn typeof_given<S: WorldStore>(
     frame: Frame,
     value: Value,
 ) -> Result<(), OutOfMemory>
-    requires running { config.old.state ≡ State.Running }
-    requires base { Base S.meaning config.old }
+    requires running { IsRunning S.meaning config.old }
     requires value { HasValue config.old value }
-    ensures { let t = config.new.heap.texts in let env = env_in S.meaning config.old t frame in OnOk result (Follows S.meaning (after_prefix PrefixOperator.Typeof frame.place (holding_in t frame.held) env (Gives (value_in t value))) config.old config.new) }
+    ensures { GoesOn S.meaning frame config.old config.new result (λ t env.
+        after_prefix PrefixOperator.Typeof frame.place (holding_in t frame.held) env (Gives (value_in t value))) }
 {
     if frame.place() == 1 {
         finish(config, frame, Completion::Gives(value))

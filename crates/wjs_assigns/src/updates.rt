@@ -1,5 +1,5 @@
 //! `++` and `--` (ECMA-262, 3rd edition, sections 11.3, 11.4.4 and 11.4.5).
-ghost use Rattle.std.specs.Prelude.{◌≡◌, Some, pos, OnOk};
+ghost use Rattle.std.specs.Prelude.{◌≡◌, Some, pos};
 ghost use Rattle.wjs_num.specs.Exact.{answer};
 ghost use Rattle.wjs_content.specs.Tables.{value_in};
 ghost use Rattle.wjs_meaning.specs.Conversions as conversions;
@@ -8,16 +8,15 @@ ghost use Rattle.wjs_meaning.specs.Errors as errors;
 ghost use Rattle.wjs_meaning.specs.Expressions as line;
 ghost use Rattle.wjs_meaning.specs.Expressions.{Post};
 ghost use Rattle.wjs_model.specs.Contents.{holding_in, reference_in, reference_held};
-ghost use Rattle.wjs_model.specs.Soundness.{Base, IsThere, HasValue, HasReference};
+ghost use Rattle.wjs_model.specs.Soundness.{HasValue, HasReference};
 ghost use Rattle.wjs_model.specs.Waiting.{after_update};
-ghost use Rattle.wjs_moves.specs.Parts.{env_in, node_now};
-ghost use Rattle.wjs_moves.specs.Following.{Follows};
 ghost use Rattle.wjs_assigns.specs.Updating.{Updates, fix_of};
+ghost use Rattle.wjs_moves.specs.Handling.{Runs, IsExpr, GoesOn};
 
 use wjs_base::{OutOfMemory, Value, Whole};
 use wjs_deeds::value_of;
 use wjs_lines::{held_reference, is_object, store_and_give, throw, to_number};
-use wjs_model::{Completion, Config, Conversion, Form, Frame, Held, Reference, State, Trouble};
+use wjs_model::{Completion, Config, Conversion, Frame, Held, Reference, Trouble};
 use wjs_moves::{Part, convert, enter, finish, hold};
 use wjs_num::{NumFault, add, sub};
 use wjs_store::WorldStore;
@@ -37,12 +36,9 @@ pub(crate) fn postfix_start<S: WorldStore>(
     target: NodeId,
     operator: UpdateOperator,
 ) -> Result<(), OutOfMemory>
-    requires running { config.old.state ≡ State.Running }
-    requires base { Base S.meaning config.old }
-    requires there { IsThere S.meaning config.old frame }
-    requires form { frame.form ≡ Form.Expr }
-    requires node { node_now S.meaning config.old frame ≡ Node.Postfix target operator }
-    ensures { let t = config.new.heap.texts in let env = env_in S.meaning config.old t frame in OnOk result (Follows S.meaning (line.update_target Post operator target.0 env) config.old config.new) }
+    requires runs { Runs S.meaning config.old frame }
+    requires node { IsExpr S.meaning config.old frame (Node.Postfix target operator) }
+    ensures { GoesOn S.meaning frame config.old config.new result (λ t env. line.update_target Post operator target.0 env) }
 {
     let _operator = operator;
     enter(config, frame, 1, Part::Target(target))
@@ -57,13 +53,10 @@ pub(crate) fn postfix_reference<S: WorldStore>(
     operator: UpdateOperator,
     reference: Reference,
 ) -> Result<(), OutOfMemory>
-    requires running { config.old.state ≡ State.Running }
-    requires base { Base S.meaning config.old }
-    requires there { IsThere S.meaning config.old frame }
-    requires form { frame.form ≡ Form.Expr }
-    requires node { node_now S.meaning config.old frame ≡ Node.Postfix target operator }
+    requires runs { Runs S.meaning config.old frame }
+    requires node { IsExpr S.meaning config.old frame (Node.Postfix target operator) }
     requires reference { HasReference config.old reference }
-    ensures { let t = config.new.heap.texts in let env = env_in S.meaning config.old t frame in OnOk result (Follows S.meaning (line.update_reference Post operator env (reference_in t reference)) config.old config.new) }
+    ensures { GoesOn S.meaning frame config.old config.new result (λ t env. line.update_reference Post operator env (reference_in t reference)) }
 {
     let _target = target;
     update_reference(config, frame, Fix::Post, operator, reference)
@@ -78,12 +71,10 @@ pub(crate) fn update_reference<S: WorldStore>(
     operator: UpdateOperator,
     reference: Reference,
 ) -> Result<(), OutOfMemory>
-    requires running { config.old.state ≡ State.Running }
-    requires base { Base S.meaning config.old }
-    requires there { IsThere S.meaning config.old frame }
+    requires runs { Runs S.meaning config.old frame }
     requires updates { Updates config.old.units.items frame fix operator }
     requires reference { HasReference config.old reference }
-    ensures { let t = config.new.heap.texts in let env = env_in S.meaning config.old t frame in OnOk result (Follows S.meaning (line.update_reference (fix_of fix) operator env (reference_in t reference)) config.old config.new) }
+    ensures { GoesOn S.meaning frame config.old config.new result (λ t env. line.update_reference (fix_of fix) operator env (reference_in t reference)) }
 {
     let answer = value_of(config, &frame, reference)?;
     match answer {
@@ -102,13 +93,12 @@ fn update_value<S: WorldStore>(
     reference: Reference,
     value: Value,
 ) -> Result<(), OutOfMemory>
-    requires running { config.old.state ≡ State.Running }
-    requires base { Base S.meaning config.old }
-    requires there { IsThere S.meaning config.old frame }
+    requires runs { Runs S.meaning config.old frame }
     requires updates { Updates config.old.units.items frame fix operator }
     requires reference { HasReference config.old reference }
     requires value { HasValue config.old value }
-    ensures { let t = config.new.heap.texts in let env = env_in S.meaning config.old t frame in OnOk result (Follows S.meaning (line.update_value (fix_of fix) operator env (reference_in t reference) (value_in t value)) config.old config.new) }
+    ensures { GoesOn S.meaning frame config.old config.new result (λ t env.
+        line.update_value (fix_of fix) operator env (reference_in t reference) (value_in t value)) }
 {
     if is_object(value) {
         update_object(config, frame, fix, operator, reference, value)
@@ -127,13 +117,12 @@ fn update_object<S: WorldStore>(
     reference: Reference,
     value: Value,
 ) -> Result<(), OutOfMemory>
-    requires running { config.old.state ≡ State.Running }
-    requires base { Base S.meaning config.old }
-    requires there { IsThere S.meaning config.old frame }
+    requires runs { Runs S.meaning config.old frame }
     requires updates { Updates config.old.units.items frame fix operator }
     requires reference { HasReference config.old reference }
     requires value { HasValue config.old value }
-    ensures { let t = config.new.heap.texts in let env = env_in S.meaning config.old t frame in OnOk result (Follows S.meaning (Sub (conversions.to_number (value_in t value) env) (then_number (line.update_number (fix_of fix) operator env (reference_in t reference)))) config.old config.new) }
+    ensures { GoesOn S.meaning frame config.old config.new result (λ t env.
+        Sub (conversions.to_number (value_in t value) env) (then_number (line.update_number (fix_of fix) operator env (reference_in t reference)))) }
 {
     let _fix = (fix, operator);
     let mut frame = frame;
@@ -149,11 +138,10 @@ pub(crate) fn update_given<S: WorldStore>(
     operator: UpdateOperator,
     value: Value,
 ) -> Result<(), OutOfMemory>
-    requires running { config.old.state ≡ State.Running }
-    requires base { Base S.meaning config.old }
-    requires there { IsThere S.meaning config.old frame }
+    requires runs { Runs S.meaning config.old frame }
     requires value { HasValue config.old value }
-    ensures { let t = config.new.heap.texts in let env = env_in S.meaning config.old t frame in OnOk result (Follows S.meaning (after_update (fix_of fix) operator frame.place (holding_in t frame.held) env (Gives (value_in t value))) config.old config.new) }
+    ensures { GoesOn S.meaning frame config.old config.new result (λ t env.
+        after_update (fix_of fix) operator frame.place (holding_in t frame.held) env (Gives (value_in t value))) }
 {
     if frame.place() == 1 {
         return finish(config, frame, Completion::Gives(value));
@@ -172,10 +160,9 @@ fn update_held<S: WorldStore>(
     operator: UpdateOperator,
     number: Whole,
 ) -> Result<(), OutOfMemory>
-    requires running { config.old.state ≡ State.Running }
-    requires base { Base S.meaning config.old }
-    requires there { IsThere S.meaning config.old frame }
-    ensures { let t = config.new.heap.texts in let env = env_in S.meaning config.old t frame in OnOk result (Follows S.meaning (line.update_number (fix_of fix) operator env (reference_in t (reference_held frame.held)) number.number) config.old config.new) }
+    requires runs { Runs S.meaning config.old frame }
+    ensures { GoesOn S.meaning frame config.old config.new result (λ t env.
+        line.update_number (fix_of fix) operator env (reference_in t (reference_held frame.held)) number.number) }
 {
     let reference = held_reference(config, &frame);
     update_number(config, frame, fix, operator, reference, number)
@@ -191,11 +178,10 @@ fn update_number<S: WorldStore>(
     reference: Reference,
     number: Whole,
 ) -> Result<(), OutOfMemory>
-    requires running { config.old.state ≡ State.Running }
-    requires base { Base S.meaning config.old }
-    requires there { IsThere S.meaning config.old frame }
+    requires runs { Runs S.meaning config.old frame }
     requires reference { HasReference config.old reference }
-    ensures { let t = config.new.heap.texts in let env = env_in S.meaning config.old t frame in OnOk result (Follows S.meaning (line.update_number (fix_of fix) operator env (reference_in t reference) number.number) config.old config.new) }
+    ensures { GoesOn S.meaning frame config.old config.new result (λ t env.
+        line.update_number (fix_of fix) operator env (reference_in t reference) number.number) }
 {
     match updated(operator, number) {
         Ok(new) => {

@@ -1,4 +1,6 @@
 pub mod Decimals
-mod Tables
+mod Finding
+mod Hashes
+mod Standing
 pub mod TextLaws
 mod Transcoding

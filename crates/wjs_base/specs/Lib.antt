@@ -1,6 +1,9 @@
+pub mod Hash
+pub mod Keys
 pub mod Order
 pub mod Range
 pub mod Same
+pub mod Spans
 pub mod Spelling
 pub mod Text
 pub mod Unicode

@@ -1,7 +1,10 @@
 //! Values, names, slots and texts: what every crate of the interpreter speaks of.
 #![tactic(auto)]
 
+mod buffers;
+mod hash;
 mod ids;
+mod keys;
 mod list;
 mod number;
 mod spelling;

@@ -32,6 +32,7 @@ module _ {S : Type 0} (meaning : S → Meaning) where
   inner_keeps t goal env go old new frames outer inner = record {
     stays = outer.stays;
     cost = outer.cost;
+    free = outer.free;
     left = outer.left;
     alive = outer.alive;
     kept = λ v a h n. ap (seen (tells meaning old)) (sym (inner_same (run_in meaning t old) goal env go (frames_in meaning t old) (state_in meaning t v old) (outer.cost + n))) ∙ outer.kept v a h n;

@@ -1,17 +1,17 @@
 //! Blocks (section 12.1).
-ghost use Rattle.std.specs.Prelude.{◌≡◌, drop, slice_get, OnOk};
+ghost use Rattle.std.specs.Prelude.{◌≡◌, drop, slice_get};
 ghost use Rattle.wjs_meaning.specs.Deeds.{then_normal};
 ghost use Rattle.wjs_meaning.specs.Reading.{node_in};
 ghost use Rattle.wjs_meaning.specs.Statements.{block_from};
 ghost use Rattle.wjs_model.specs.Contents.{completion_in};
-ghost use Rattle.wjs_model.specs.Soundness.{Base, IsThere, HasCompletion};
-ghost use Rattle.wjs_moves.specs.Parts.{env_in, node_now};
-ghost use Rattle.wjs_moves.specs.Following.{Follows};
+ghost use Rattle.wjs_model.specs.Soundness.{HasCompletion};
+ghost use Rattle.wjs_moves.specs.Parts.{node_now};
 ghost use Rattle.wjs_lines.specs.Lists.{block_items, statements_in};
+ghost use Rattle.wjs_moves.specs.Handling.{Runs, GoesOn};
 
 use wjs_base::OutOfMemory;
 use wjs_lines::place_after;
-use wjs_model::{Completion, Config, Form, Frame, State};
+use wjs_model::{Completion, Config, Form, Frame};
 use wjs_moves::{Part, enter, finish, node_of};
 use wjs_store::WorldStore;
 use wjs_tree::{Node, NodeId};
@@ -32,11 +32,10 @@ pub fn block<S: WorldStore>(
     frame: Frame,
     at: u32,
 ) -> Result<(), OutOfMemory>
-    requires running { config.old.state ≡ State.Running }
-    requires base { Base S.meaning config.old }
-    requires there { IsThere S.meaning config.old frame }
+    requires runs { Runs S.meaning config.old frame }
     requires form { frame.form ≡ Form.Stmt }
-    ensures { let t = config.new.heap.texts in let env = env_in S.meaning config.old t frame in OnOk result (Follows S.meaning (block_from (drop at (block_items (node_in t (node_now S.meaning config.old frame)))) env) config.old config.new) }
+    ensures { GoesOn S.meaning frame config.old config.new result (λ t env.
+        block_from (drop at (block_items (node_in t (node_now S.meaning config.old frame)))) env) }
 {
     match statement_at(config, &frame, at) {
         Some(statement) => {
@@ -53,12 +52,11 @@ pub fn block_next<S: WorldStore>(
     frame: Frame,
     completion: Completion,
 ) -> Result<(), OutOfMemory>
-    requires running { config.old.state ≡ State.Running }
-    requires base { Base S.meaning config.old }
-    requires there { IsThere S.meaning config.old frame }
+    requires runs { Runs S.meaning config.old frame }
     requires form { frame.form ≡ Form.Stmt }
     requires completion { HasCompletion config.old completion }
-    ensures { let t = config.new.heap.texts in let env = env_in S.meaning config.old t frame in OnOk result (Follows S.meaning (then_normal (block_from (drop frame.place (block_items (node_in t (node_now S.meaning config.old frame)))) env) (completion_in t completion)) config.old config.new) }
+    ensures { GoesOn S.meaning frame config.old config.new result (λ t env.
+        then_normal (block_from (drop frame.place (block_items (node_in t (node_now S.meaning config.old frame)))) env) (completion_in t completion)) }
 {
     match completion {
         Completion::Normal => {

@@ -21,7 +21,8 @@ pub(crate) struct Case {
 
 /// The first clause with an expression from one of a number on.
 pub(crate) fn case_from(clauses: &[Clause], from: usize) -> Option<Case>
-    ensures goes { (t : Table) (v : Value) (env : Env) → let all = map (clause_in t) clauses.now in switch_cases v all (drop from all) env ≡ case_goes v all result env }
+    ensures goes { (t : Table) (v : Value) (env : Env) → let all = map (clause_in t) clauses.now in
+        switch_cases v all (drop from all) env ≡ case_goes v all result env }
     ensures is { IfSome result (λ c. option_and_then (λ x. x.test) (slice_get clauses.now c.at) ≡ Some c.test) }
 {
     for at in from..clauses.len() {

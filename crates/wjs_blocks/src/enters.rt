@@ -1,15 +1,15 @@
 //! Parts that are entered elsewhere than where the frame is run.
-ghost use Rattle.std.specs.Prelude.{◌≡◌, [], Some, IfOk, OnOk};
+ghost use Rattle.std.specs.Prelude.{◌≡◌, Some, IfOk};
 ghost use Rattle.wjs_arena.specs.Entries.{scope_of};
 ghost use Rattle.wjs_meaning.specs.Deeds.{Eval, Ret};
-ghost use Rattle.wjs_model.specs.Soundness.{Base, IsThere, HasObject, HasWorld, StandsHere};
+ghost use Rattle.wjs_model.specs.Soundness.{HasObject, HasWorld, StandsHere};
 ghost use Rattle.wjs_model.specs.Standing.{Stands, IsShown};
-ghost use Rattle.wjs_moves.specs.Parts.{env_in, then_at, goal_of, node_of};
-ghost use Rattle.wjs_moves.specs.Following.{Follows};
+ghost use Rattle.wjs_moves.specs.Parts.{then_at, goal_of, node_of};
+ghost use Rattle.wjs_moves.specs.Handling.{Runs, GoesOn};
 
 use std::alloc::Global;
 use wjs_base::{ObjId, OutOfMemory, WorldId};
-use wjs_model::{Activation, Config, Frame, Items, State};
+use wjs_model::{Activation, Config, Frame, Items};
 use wjs_moves::{Part, enter_last, wait};
 use wjs_store::WorldStore;
 
@@ -39,13 +39,12 @@ pub(crate) fn enter_in<S: WorldStore>(
     scope: ObjId,
     part: Part,
 ) -> Result<(), OutOfMemory>
-    requires running { config.old.state ≡ State.Running }
-    requires base { Base S.meaning config.old }
-    requires there { IsThere S.meaning config.old frame }
+    requires runs { Runs S.meaning config.old frame }
     requires scope { HasObject config.old scope }
     requires outer { scope_of config.old.heap.arena scope ≡ Some frame.scope }
     requires part { Stands config.old.units.items config.old.heap.arena frame.tree (node_of part) scope 0 }
-    ensures { let t = config.new.heap.texts in let env = env_in S.meaning config.old t frame in OnOk result (Follows S.meaning (Eval (goal_of part) (record env { scope = scope }) (then_at S.meaning config.old frame place t env)) config.old config.new) }
+    ensures { GoesOn S.meaning frame config.old config.new result (λ t env.
+        Eval (goal_of part) (record env { scope = scope }) (then_at S.meaning config.old frame place t env)) }
 {
     let alloc = config.heap.arena.allocator();
     let inner = like(alloc, &frame, scope, config.frames.nothing_held())?;
@@ -60,13 +59,11 @@ pub(crate) fn enter_within<S: WorldStore>(
     world: WorldId,
     part: Part,
 ) -> Result<(), OutOfMemory>
-    requires running { config.old.state ≡ State.Running }
-    requires base { Base S.meaning config.old }
-    requires there { IsThere S.meaning config.old frame }
+    requires runs { Runs S.meaning config.old frame }
     requires world { HasWorld S.meaning config.old world }
     requires shown { IsShown config.old.heap.arena world }
     requires part { StandsHere config.old frame (node_of part) }
-    ensures { let t = config.new.heap.texts in let env = env_in S.meaning config.old t frame in OnOk result (Follows S.meaning (Eval (goal_of part) (record env { world = world }) Ret) config.old config.new) }
+    ensures { GoesOn S.meaning frame config.old config.new result (λ t env. Eval (goal_of part) (record env { world = world }) Ret) }
 {
     let mut frame = frame;
     frame.set_world(world);

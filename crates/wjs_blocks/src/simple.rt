@@ -1,18 +1,17 @@
 //! Statements of one expression (sections 12.4, 12.5, 12.9 and 12.13).
-ghost use Rattle.std.specs.Prelude.{◌≡◌, IfSome, OnOk};
+ghost use Rattle.std.specs.Prelude.{IfSome};
 ghost use Rattle.wjs_content.specs.Tables.{value_in};
 ghost use Rattle.wjs_meaning.specs.Trees.{Return};
 ghost use Rattle.wjs_meaning.specs.Deeds.{then_value};
 ghost use Rattle.wjs_meaning.specs.Reading.{number};
 ghost use Rattle.wjs_meaning.specs.Statements.{stmt_of, expr_done, if_test, else_of, return_value, throw_value};
 ghost use Rattle.wjs_model.specs.Contents.{completion_in};
-ghost use Rattle.wjs_model.specs.Soundness.{Base, IsThere, HasValue, HasCompletion, StandsHere};
-ghost use Rattle.wjs_moves.specs.Parts.{env_in, node_now};
-ghost use Rattle.wjs_moves.specs.Following.{Follows};
+ghost use Rattle.wjs_model.specs.Soundness.{HasValue, HasCompletion, StandsHere};
+ghost use Rattle.wjs_moves.specs.Handling.{Runs, IsStmt, GoesOn};
 
 use wjs_base::{OutOfMemory, Value};
 use wjs_lines::to_boolean;
-use wjs_model::{Completion, Config, Form, Frame, State};
+use wjs_model::{Completion, Config, Frame};
 use wjs_moves::{Part, enter, enter_last, finish};
 use wjs_store::WorldStore;
 use wjs_tree::{End, Node, NodeId};
@@ -23,11 +22,9 @@ pub fn expr_next<S: WorldStore>(
     frame: Frame,
     completion: Completion,
 ) -> Result<(), OutOfMemory>
-    requires running { config.old.state ≡ State.Running }
-    requires base { Base S.meaning config.old }
-    requires there { IsThere S.meaning config.old frame }
+    requires runs { Runs S.meaning config.old frame }
     requires completion { HasCompletion config.old completion }
-    ensures { let t = config.new.heap.texts in let env = env_in S.meaning config.old t frame in OnOk result (Follows S.meaning (then_value expr_done (completion_in t completion)) config.old config.new) }
+    ensures { GoesOn S.meaning frame config.old config.new result (λ t env. then_value expr_done (completion_in t completion)) }
 {
     match completion {
         Completion::Gives(_) => finish(config, frame, Completion::Normal),
@@ -43,13 +40,11 @@ pub fn if_next<S: WorldStore>(
     other: Option<NodeId>,
     completion: Completion,
 ) -> Result<(), OutOfMemory>
-    requires running { config.old.state ≡ State.Running }
-    requires base { Base S.meaning config.old }
-    requires there { IsThere S.meaning config.old frame }
+    requires runs { Runs S.meaning config.old frame }
     requires yes { StandsHere config.old frame s }
     requires no { IfSome other (StandsHere config.old frame) }
     requires completion { HasCompletion config.old completion }
-    ensures { let t = config.new.heap.texts in let env = env_in S.meaning config.old t frame in OnOk result (Follows S.meaning (then_value (if_test s.0 (number other) env) (completion_in t completion)) config.old config.new) }
+    ensures { GoesOn S.meaning frame config.old config.new result (λ t env. then_value (if_test s.0 (number other) env) (completion_in t completion)) }
 {
     match completion {
         Completion::Gives(value) => if_test(config, frame, s, other, value),
@@ -65,13 +60,11 @@ fn if_test<S: WorldStore>(
     other: Option<NodeId>,
     value: Value,
 ) -> Result<(), OutOfMemory>
-    requires running { config.old.state ≡ State.Running }
-    requires base { Base S.meaning config.old }
-    requires there { IsThere S.meaning config.old frame }
+    requires runs { Runs S.meaning config.old frame }
     requires yes { StandsHere config.old frame s }
     requires no { IfSome other (StandsHere config.old frame) }
     requires value { HasValue config.old value }
-    ensures { let t = config.new.heap.texts in let env = env_in S.meaning config.old t frame in OnOk result (Follows S.meaning (if_test s.0 (number other) env (value_in t value)) config.old config.new) }
+    ensures { GoesOn S.meaning frame config.old config.new result (λ t env. if_test s.0 (number other) env (value_in t value)) }
 {
     if to_boolean(config, value) {
         enter_last(config, frame, Part::Stmt(s))
@@ -86,11 +79,9 @@ fn else_start<S: WorldStore>(
     frame: Frame,
     other: Option<NodeId>,
 ) -> Result<(), OutOfMemory>
-    requires running { config.old.state ≡ State.Running }
-    requires base { Base S.meaning config.old }
-    requires there { IsThere S.meaning config.old frame }
+    requires runs { Runs S.meaning config.old frame }
     requires no { IfSome other (StandsHere config.old frame) }
-    ensures { let t = config.new.heap.texts in let env = env_in S.meaning config.old t frame in OnOk result (Follows S.meaning (else_of (number other) env) config.old config.new) }
+    ensures { GoesOn S.meaning frame config.old config.new result (λ t env. else_of (number other) env) }
 {
     match other {
         Some(s) => enter_last(config, frame, Part::Stmt(s)),
@@ -105,12 +96,9 @@ pub fn return_start<S: WorldStore>(
     e: Option<NodeId>,
     end: End,
 ) -> Result<(), OutOfMemory>
-    requires running { config.old.state ≡ State.Running }
-    requires base { Base S.meaning config.old }
-    requires there { IsThere S.meaning config.old frame }
-    requires form { frame.form ≡ Form.Stmt }
-    requires node { node_now S.meaning config.old frame ≡ Node.Return e end }
-    ensures { let t = config.new.heap.texts in let env = env_in S.meaning config.old t frame in OnOk result (Follows S.meaning (stmt_of frame.node.0 (Return (number e)) env) config.old config.new) }
+    requires runs { Runs S.meaning config.old frame }
+    requires node { IsStmt S.meaning config.old frame (Node.Return e end) }
+    ensures { GoesOn S.meaning frame config.old config.new result (λ t env. stmt_of frame.node.0 (Return (number e)) env) }
 {
     match e {
         Some(e) => enter(config, frame, 1, Part::Expr(e)),
@@ -124,11 +112,9 @@ pub fn return_next<S: WorldStore>(
     frame: Frame,
     completion: Completion,
 ) -> Result<(), OutOfMemory>
-    requires running { config.old.state ≡ State.Running }
-    requires base { Base S.meaning config.old }
-    requires there { IsThere S.meaning config.old frame }
+    requires runs { Runs S.meaning config.old frame }
     requires completion { HasCompletion config.old completion }
-    ensures { let t = config.new.heap.texts in let env = env_in S.meaning config.old t frame in OnOk result (Follows S.meaning (then_value return_value (completion_in t completion)) config.old config.new) }
+    ensures { GoesOn S.meaning frame config.old config.new result (λ t env. then_value return_value (completion_in t completion)) }
 {
     match completion {
         Completion::Gives(value) => finish(config, frame, Completion::Returns(value)),
@@ -142,11 +128,9 @@ pub fn throw_next<S: WorldStore>(
     frame: Frame,
     completion: Completion,
 ) -> Result<(), OutOfMemory>
-    requires running { config.old.state ≡ State.Running }
-    requires base { Base S.meaning config.old }
-    requires there { IsThere S.meaning config.old frame }
+    requires runs { Runs S.meaning config.old frame }
     requires completion { HasCompletion config.old completion }
-    ensures { let t = config.new.heap.texts in let env = env_in S.meaning config.old t frame in OnOk result (Follows S.meaning (then_value throw_value (completion_in t completion)) config.old config.new) }
+    ensures { GoesOn S.meaning frame config.old config.new result (λ t env. then_value throw_value (completion_in t completion)) }
 {
     match completion {
         Completion::Gives(value) => finish(config, frame, Completion::Throws(value)),

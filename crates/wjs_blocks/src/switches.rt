@@ -1,23 +1,23 @@
 //! The statement `switch` (section 12.11). While a case is compared its value is held, and the place is two more than the case's
 //! number; then nothing is held, and the place is two more than the statement's number among those of the clauses.
-ghost use Rattle.std.specs.Prelude.{◌≡◌, ◌-◌, [], drop, OnOk};
+ghost use Rattle.std.specs.Prelude.{◌≡◌, ◌-◌, [], drop};
 ghost use Rattle.wjs_content.specs.Tables.{value_in};
 ghost use Rattle.wjs_meaning.specs.Deeds.{then_value};
 ghost use Rattle.wjs_meaning.specs.Reading.{node_in};
 ghost use Rattle.wjs_meaning.specs.Statements.{statements_of, switch_next, switch_from, switch_cases, switch_value};
 ghost use Rattle.wjs_model.specs.Contents.{completion_in, holding_in};
 ghost use Rattle.wjs_model.specs.Waiting.{after_case, after_switch};
-ghost use Rattle.wjs_model.specs.Soundness.{Base, IsThere, HasValue, HasCompletion};
-ghost use Rattle.wjs_moves.specs.Parts.{env_in, node_now};
-ghost use Rattle.wjs_moves.specs.Following.{Follows};
+ghost use Rattle.wjs_model.specs.Soundness.{HasValue, HasCompletion};
+ghost use Rattle.wjs_moves.specs.Parts.{node_now};
 ghost use Rattle.wjs_lines.specs.Lists.{clauses_of, clauses_in};
 ghost use Rattle.wjs_blocks.specs.Switches.{IsSwitch};
+ghost use Rattle.wjs_moves.specs.Handling.{Runs, GoesOn};
 
 use crate::clauses::{case_from, default_of, statement_at, statements_before};
 use crate::held::take_earliest;
 use wjs_base::{OutOfMemory, Value};
 use wjs_lines::{place_after, place_at, strictly_equal};
-use wjs_model::{Completion, Config, Form, Frame, Held, State};
+use wjs_model::{Completion, Config, Form, Frame, Held};
 use wjs_moves::{Part, enter, finish, hold, node_of};
 use wjs_store::WorldStore;
 use wjs_tree::{Clause, Node};
@@ -38,13 +38,12 @@ fn statements_from<S: WorldStore>(
     frame: Frame,
     at: u32,
 ) -> Result<(), OutOfMemory>
-    requires running { config.old.state ≡ State.Running }
-    requires base { Base S.meaning config.old }
-    requires there { IsThere S.meaning config.old frame }
+    requires runs { Runs S.meaning config.old frame }
     requires form { frame.form ≡ Form.Stmt }
     requires node { IsSwitch (node_now S.meaning config.old frame) }
     requires held { frame.held ≡ [] }
-    ensures { let t = config.new.heap.texts in let env = env_in S.meaning config.old t frame in OnOk result (Follows S.meaning (switch_from (drop at (statements_of (clauses_of (node_in t (node_now S.meaning config.old frame))))) env) config.old config.new) }
+    ensures { GoesOn S.meaning frame config.old config.new result (λ t env.
+        switch_from (drop at (statements_of (clauses_of (node_in t (node_now S.meaning config.old frame))))) env) }
 {
     match statement_at(clauses_of(config, &frame), at) {
         Some(statement) => {
@@ -61,13 +60,12 @@ fn clauses_from<S: WorldStore>(
     frame: Frame,
     clause: usize,
 ) -> Result<(), OutOfMemory>
-    requires running { config.old.state ≡ State.Running }
-    requires base { Base S.meaning config.old }
-    requires there { IsThere S.meaning config.old frame }
+    requires runs { Runs S.meaning config.old frame }
     requires form { frame.form ≡ Form.Stmt }
     requires node { IsSwitch (node_now S.meaning config.old frame) }
     requires held { frame.held ≡ [] }
-    ensures { let t = config.new.heap.texts in let env = env_in S.meaning config.old t frame in OnOk result (Follows S.meaning (switch_from (statements_of (drop clause (clauses_of (node_in t (node_now S.meaning config.old frame))))) env) config.old config.new) }
+    ensures { GoesOn S.meaning frame config.old config.new result (λ t env.
+        switch_from (statements_of (drop clause (clauses_of (node_in t (node_now S.meaning config.old frame))))) env) }
 {
     let at = statements_before(clauses_of(config, &frame), clause)?;
     statements_from(config, frame, at)
@@ -80,14 +78,13 @@ fn cases_from<S: WorldStore>(
     from: usize,
     value: Value,
 ) -> Result<(), OutOfMemory>
-    requires running { config.old.state ≡ State.Running }
-    requires base { Base S.meaning config.old }
-    requires there { IsThere S.meaning config.old frame }
+    requires runs { Runs S.meaning config.old frame }
     requires form { frame.form ≡ Form.Stmt }
     requires node { IsSwitch (node_now S.meaning config.old frame) }
     requires held { frame.held ≡ [] }
     requires value { HasValue config.old value }
-    ensures { let t = config.new.heap.texts in let env = env_in S.meaning config.old t frame in let all = clauses_of (node_in t (node_now S.meaning config.old frame)) in OnOk result (Follows S.meaning (switch_cases (value_in t value) all (drop from all) env) config.old config.new) }
+    ensures { GoesOn S.meaning frame config.old config.new result (λ t env.
+        let all = clauses_of (node_in t (node_now S.meaning config.old frame)) in switch_cases (value_in t value) all (drop from all) env) }
 {
     match case_from(clauses_of(config, &frame), from) {
         Some(case) => {
@@ -109,13 +106,12 @@ fn switch_value<S: WorldStore>(
     frame: Frame,
     value: Value,
 ) -> Result<(), OutOfMemory>
-    requires running { config.old.state ≡ State.Running }
-    requires base { Base S.meaning config.old }
-    requires there { IsThere S.meaning config.old frame }
+    requires runs { Runs S.meaning config.old frame }
     requires form { frame.form ≡ Form.Stmt }
     requires node { IsSwitch (node_now S.meaning config.old frame) }
     requires value { HasValue config.old value }
-    ensures { let t = config.new.heap.texts in let env = env_in S.meaning config.old t frame in OnOk result (Follows S.meaning (switch_value (clauses_of (node_in t (node_now S.meaning config.old frame))) env (value_in t value)) config.old config.new) }
+    ensures { GoesOn S.meaning frame config.old config.new result (λ t env.
+        switch_value (clauses_of (node_in t (node_now S.meaning config.old frame))) env (value_in t value)) }
 {
     let mut frame = frame;
     frame.set_held(config.frames.nothing_held());
@@ -129,15 +125,15 @@ fn case_value<S: WorldStore>(
     value: Value,
     other: Value,
 ) -> Result<(), OutOfMemory>
-    requires running { config.old.state ≡ State.Running }
-    requires base { Base S.meaning config.old }
-    requires there { IsThere S.meaning config.old frame }
+    requires runs { Runs S.meaning config.old frame }
     requires form { frame.form ≡ Form.Stmt }
     requires node { IsSwitch (node_now S.meaning config.old frame) }
     requires held { frame.held ≡ [] }
     requires value { HasValue config.old value }
     requires other { HasValue config.old other }
-    ensures { let t = config.new.heap.texts in let env = env_in S.meaning config.old t frame in let all = clauses_of (node_in t (node_now S.meaning config.old frame)) in OnOk result (Follows S.meaning (after_case (value_in t value) all (drop (frame.place - 2) all) env (value_in t other)) config.old config.new) }
+    ensures { GoesOn S.meaning frame config.old config.new result (λ t env.
+        let all = clauses_of (node_in t (node_now S.meaning config.old frame)) in
+        after_case (value_in t value) all (drop (frame.place - 2) all) env (value_in t other)) }
 {
     let at = frame.place().saturating_sub(2) as usize;
     if at >= clauses_of(config, &frame).len() {
@@ -155,14 +151,14 @@ fn statement_next<S: WorldStore>(
     frame: Frame,
     completion: Completion,
 ) -> Result<(), OutOfMemory>
-    requires running { config.old.state ≡ State.Running }
-    requires base { Base S.meaning config.old }
-    requires there { IsThere S.meaning config.old frame }
+    requires runs { Runs S.meaning config.old frame }
     requires form { frame.form ≡ Form.Stmt }
     requires node { IsSwitch (node_now S.meaning config.old frame) }
     requires held { frame.held ≡ [] }
     requires completion { HasCompletion config.old completion }
-    ensures { let t = config.new.heap.texts in let env = env_in S.meaning config.old t frame in OnOk result (Follows S.meaning (switch_next (switch_from (drop (frame.place - 1) (statements_of (clauses_of (node_in t (node_now S.meaning config.old frame))))) env) (completion_in t completion)) config.old config.new) }
+    ensures { GoesOn S.meaning frame config.old config.new result (λ t env.
+        switch_next (switch_from (drop (frame.place - 1) (statements_of (clauses_of (node_in t (node_now S.meaning config.old frame))))) env)
+        (completion_in t completion)) }
 {
     match completion {
         Completion::Normal => {
@@ -180,13 +176,13 @@ pub fn switch_next<S: WorldStore>(
     frame: Frame,
     completion: Completion,
 ) -> Result<(), OutOfMemory>
-    requires running { config.old.state ≡ State.Running }
-    requires base { Base S.meaning config.old }
-    requires there { IsThere S.meaning config.old frame }
+    requires runs { Runs S.meaning config.old frame }
     requires form { frame.form ≡ Form.Stmt }
     requires node { IsSwitch (node_now S.meaning config.old frame) }
     requires completion { HasCompletion config.old completion }
-    ensures { let t = config.new.heap.texts in let env = env_in S.meaning config.old t frame in OnOk result (Follows S.meaning (after_switch (clauses_of (node_in t (node_now S.meaning config.old frame))) frame.place (holding_in t frame.held).values env (completion_in t completion)) config.old config.new) }
+    ensures { GoesOn S.meaning frame config.old config.new result (λ t env.
+        after_switch (clauses_of (node_in t (node_now S.meaning config.old frame))) frame.place (holding_in t frame.held).values env
+        (completion_in t completion)) }
 {
     match frame.place() {
         1 => match completion {
@@ -203,14 +199,14 @@ fn part_next<S: WorldStore>(
     frame: Frame,
     completion: Completion,
 ) -> Result<(), OutOfMemory>
-    requires running { config.old.state ≡ State.Running }
-    requires base { Base S.meaning config.old }
-    requires there { IsThere S.meaning config.old frame }
+    requires runs { Runs S.meaning config.old frame }
     requires form { frame.form ≡ Form.Stmt }
     requires place { ¬ (frame.place ≡ 1) }
     requires node { IsSwitch (node_now S.meaning config.old frame) }
     requires completion { HasCompletion config.old completion }
-    ensures { let t = config.new.heap.texts in let env = env_in S.meaning config.old t frame in OnOk result (Follows S.meaning (after_switch (clauses_of (node_in t (node_now S.meaning config.old frame))) frame.place (holding_in t frame.held).values env (completion_in t completion)) config.old config.new) }
+    ensures { GoesOn S.meaning frame config.old config.new result (λ t env.
+        after_switch (clauses_of (node_in t (node_now S.meaning config.old frame))) frame.place (holding_in t frame.held).values env
+        (completion_in t completion)) }
 {
     let mut frame = frame;
     match take_earliest(config, &mut frame) {
@@ -226,15 +222,15 @@ fn case_next<S: WorldStore>(
     value: Value,
     completion: Completion,
 ) -> Result<(), OutOfMemory>
-    requires running { config.old.state ≡ State.Running }
-    requires base { Base S.meaning config.old }
-    requires there { IsThere S.meaning config.old frame }
+    requires runs { Runs S.meaning config.old frame }
     requires form { frame.form ≡ Form.Stmt }
     requires node { IsSwitch (node_now S.meaning config.old frame) }
     requires held { frame.held ≡ [] }
     requires value { HasValue config.old value }
     requires completion { HasCompletion config.old completion }
-    ensures { let t = config.new.heap.texts in let env = env_in S.meaning config.old t frame in let all = clauses_of (node_in t (node_now S.meaning config.old frame)) in OnOk result (Follows S.meaning (then_value (after_case (value_in t value) all (drop (frame.place - 2) all) env) (completion_in t completion)) config.old config.new) }
+    ensures { GoesOn S.meaning frame config.old config.new result (λ t env.
+        let all = clauses_of (node_in t (node_now S.meaning config.old frame)) in
+        then_value (after_case (value_in t value) all (drop (frame.place - 2) all) env) (completion_in t completion)) }
 {
     match completion {
         Completion::Gives(other) => case_value(config, frame, value, other),

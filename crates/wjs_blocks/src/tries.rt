@@ -1,20 +1,19 @@
 //! The statement `try` (section 12.14). Its places: 1 is behind the block, 2 the handler, 3 the `finally`.
-ghost use Rattle.std.specs.Prelude.{◌≡◌, Some, OnOk};
+ghost use Rattle.std.specs.Prelude.{Some};
 ghost use Rattle.std.specs.Option.{option_map};
 ghost use Rattle.wjs_base.specs.Text.{Has};
 ghost use Rattle.wjs_content.specs.Tables.{text_in, value_in};
 ghost use Rattle.wjs_meaning.specs.Reading.{number, handler_in};
 ghost use Rattle.wjs_meaning.specs.Statements.{try_block, try_catch, try_finally, finally_done};
 ghost use Rattle.wjs_model.specs.Contents.{completion_in, holding_in};
-ghost use Rattle.wjs_model.specs.Soundness.{Base, IsThere, HasValue, HasCompletion};
+ghost use Rattle.wjs_model.specs.Soundness.{HasValue, HasCompletion};
 ghost use Rattle.wjs_model.specs.Waiting.{after_try};
-ghost use Rattle.wjs_moves.specs.Parts.{env_in, node_now};
-ghost use Rattle.wjs_moves.specs.Following.{Follows};
+ghost use Rattle.wjs_moves.specs.Handling.{Runs, IsStmt, GoesOn};
 
 use crate::enters::enter_in;
 use wjs_base::{OutOfMemory, Value};
 use wjs_deeds::{create_scope, name_of, write};
-use wjs_model::{Completion, Config, Form, Frame, Held, State};
+use wjs_model::{Completion, Config, Frame, Held};
 use wjs_moves::{Part, enter, finish, hold};
 use wjs_store::WorldStore;
 use wjs_tree::{Handler, Node, NodeId};
@@ -28,13 +27,10 @@ fn finally_start<S: WorldStore>(
     f: Option<NodeId>,
     completion: Completion,
 ) -> Result<(), OutOfMemory>
-    requires running { config.old.state ≡ State.Running }
-    requires base { Base S.meaning config.old }
-    requires there { IsThere S.meaning config.old frame }
-    requires form { frame.form ≡ Form.Stmt }
-    requires node { node_now S.meaning config.old frame ≡ Node.Try b handler f }
+    requires runs { Runs S.meaning config.old frame }
+    requires node { IsStmt S.meaning config.old frame (Node.Try b handler f) }
     requires completion { HasCompletion config.old completion }
-    ensures { let t = config.new.heap.texts in let env = env_in S.meaning config.old t frame in OnOk result (Follows S.meaning (try_finally (number f) env (completion_in t completion)) config.old config.new) }
+    ensures { GoesOn S.meaning frame config.old config.new result (λ t env. try_finally (number f) env (completion_in t completion)) }
 {
     match f {
         Some(s) => {
@@ -52,11 +48,9 @@ fn finally_next<S: WorldStore>(
     frame: Frame,
     completion: Completion,
 ) -> Result<(), OutOfMemory>
-    requires running { config.old.state ≡ State.Running }
-    requires base { Base S.meaning config.old }
-    requires there { IsThere S.meaning config.old frame }
+    requires runs { Runs S.meaning config.old frame }
     requires completion { HasCompletion config.old completion }
-    ensures { let t = config.new.heap.texts in let env = env_in S.meaning config.old t frame in OnOk result (Follows S.meaning (finally_done (holding_in t frame.held).earlier (completion_in t completion)) config.old config.new) }
+    ensures { GoesOn S.meaning frame config.old config.new result (λ t env. finally_done (holding_in t frame.held).earlier (completion_in t completion)) }
 {
     match completion {
         Completion::Normal => {
@@ -76,13 +70,11 @@ fn block_next<S: WorldStore>(
     f: Option<NodeId>,
     completion: Completion,
 ) -> Result<(), OutOfMemory>
-    requires running { config.old.state ≡ State.Running }
-    requires base { Base S.meaning config.old }
-    requires there { IsThere S.meaning config.old frame }
-    requires form { frame.form ≡ Form.Stmt }
-    requires node { node_now S.meaning config.old frame ≡ Node.Try b handler f }
+    requires runs { Runs S.meaning config.old frame }
+    requires node { IsStmt S.meaning config.old frame (Node.Try b handler f) }
     requires completion { HasCompletion config.old completion }
-    ensures { let t = config.new.heap.texts in let env = env_in S.meaning config.old t frame in OnOk result (Follows S.meaning (try_block (option_map (handler_in t) handler) (number f) env (completion_in t completion)) config.old config.new) }
+    ensures { GoesOn S.meaning frame config.old config.new result (λ t env.
+        try_block (option_map (handler_in t) handler) (number f) env (completion_in t completion)) }
 {
     match (completion, handler) {
         (Completion::Throws(value), Some(caught)) => { catch(config, frame, b, caught, f, value) }
@@ -99,14 +91,12 @@ fn catch<S: WorldStore>(
     f: Option<NodeId>,
     value: Value,
 ) -> Result<(), OutOfMemory>
-    requires running { config.old.state ≡ State.Running }
-    requires base { Base S.meaning config.old }
-    requires there { IsThere S.meaning config.old frame }
-    requires form { frame.form ≡ Form.Stmt }
-    requires node { node_now S.meaning config.old frame ≡ Node.Try b (Some handler) f }
+    requires runs { Runs S.meaning config.old frame }
+    requires node { IsStmt S.meaning config.old frame (Node.Try b (Some handler) f) }
     requires name { Has config.old.heap.texts handler.name }
     requires value { HasValue config.old value }
-    ensures { let t = config.new.heap.texts in let env = env_in S.meaning config.old t frame in OnOk result (Follows S.meaning (try_catch (text_in t handler.name) handler.block.0 (number f) env (value_in t value)) config.old config.new) }
+    ensures { GoesOn S.meaning frame config.old config.new result (λ t env.
+        try_catch (text_in t handler.name) handler.block.0 (number f) env (value_in t value)) }
 {
     let scope = create_scope(config, frame.scope())?;
     let name = name_of(config, handler.name);
@@ -123,13 +113,11 @@ pub fn try_next<S: WorldStore>(
     f: Option<NodeId>,
     completion: Completion,
 ) -> Result<(), OutOfMemory>
-    requires running { config.old.state ≡ State.Running }
-    requires base { Base S.meaning config.old }
-    requires there { IsThere S.meaning config.old frame }
-    requires form { frame.form ≡ Form.Stmt }
-    requires node { node_now S.meaning config.old frame ≡ Node.Try b handler f }
+    requires runs { Runs S.meaning config.old frame }
+    requires node { IsStmt S.meaning config.old frame (Node.Try b handler f) }
     requires completion { HasCompletion config.old completion }
-    ensures { let t = config.new.heap.texts in let env = env_in S.meaning config.old t frame in OnOk result (Follows S.meaning (after_try (option_map (handler_in t) handler) (number f) frame.place (holding_in t frame.held) env (completion_in t completion)) config.old config.new) }
+    ensures { GoesOn S.meaning frame config.old config.new result (λ t env.
+        after_try (option_map (handler_in t) handler) (number f) frame.place (holding_in t frame.held) env (completion_in t completion)) }
 {
     match frame.place() {
         1 => block_next(config, frame, b, handler, f, completion),

@@ -28,7 +28,8 @@ pub fn make_array<S: WorldStore>(
     requires base { Base S.meaning config.old }
     requires there { IsThere S.meaning config.old frame.now }
     requires values { All (HasValue config.old) values.now }
-    ensures does { IfOk result (λ o. Does S.meaning (λ t. line.make_array (map (value_in t) values.now) (env_in S.meaning config.old t frame.now)) (λ t. o) config.old config.new) }
+    ensures does { IfOk result (λ o. Does S.meaning (λ t. line.make_array (map (value_in t) values.now) (env_in S.meaning config.old t frame.now))
+        (λ t. o) config.old config.new) }
     ensures later { OnOk result (Later S.meaning config.old config.new) }
     ensures found { IfOk result (λ o. HasObject config.new o) }
 {
@@ -50,7 +51,8 @@ pub fn write_elements<S: WorldStore>(
     requires there { IsThere S.meaning config.old frame.now }
     requires object { HasObject config.old object }
     requires values { All (HasValue config.old) values.now }
-    ensures does { OnOk result (DoesFirst S.meaning (λ t. write_all frame.now.world (line.elements_from object 0 (map (value_in t) values.now))) config.old config.new) }
+    ensures does { OnOk result (DoesFirst S.meaning
+        (λ t. write_all frame.now.world (line.elements_from object 0 (map (value_in t) values.now))) config.old config.new) }
     ensures later { OnOk result (Later S.meaning config.old config.new) }
 {
     let mut index = 0;
@@ -73,7 +75,8 @@ fn write_element<S: WorldStore>(
     requires there { IsThere S.meaning config.old frame.now }
     requires object { HasObject config.old object }
     requires value { HasValue config.old value }
-    ensures does { OnOk result (DoesFirst S.meaning (λ t act. Do (Write frame.now.world (slot object (index_name index)) (Some (value_in t value))) (λ done. act)) config.old config.new) }
+    ensures does { OnOk result (DoesFirst S.meaning
+        (λ t act. Do (Write frame.now.world (slot object (index_name index)) (Some (value_in t value))) (λ done. act)) config.old config.new) }
     ensures later { OnOk result (Later S.meaning config.old config.new) }
 {
     if index > GREATEST_INDEX {

@@ -17,7 +17,8 @@ use wjs_tree::{Node, NodeId};
 
 /// A node of the frame's tree; none where there is none, which the meaning takes for an empty statement.
 fn node_at<'a, S: WorldStore>(config: &'a Config<S>, frame: &Frame, id: NodeId) -> Option<&'a Node>
-    ensures { MatchOption result (node_among config.now.units.items frame.now.tree id ≡ Node.Empty) (λ node. node_among config.now.units.items frame.now.tree id ≡ node.now) }
+    ensures { MatchOption result (node_among config.now.units.items frame.now.tree id ≡ Node.Empty)
+        (λ node. node_among config.now.units.items frame.now.tree id ≡ node.now) }
 {
     match config.units.get(frame.tree() as usize) {
         Some(unit) => unit.node(id),

@@ -1,5 +1,5 @@
 //! Calls (ECMA-262, 3rd edition, sections 10.2.3, 11.2.3 and 13.2.1).
-ghost use Rattle.std.specs.Prelude.{◌≡◌, IfOk, OnOk};
+ghost use Rattle.std.specs.Prelude.{◌≡◌, IfOk};
 ghost use Rattle.wjs_content.specs.Tables.{value_in};
 ghost use Rattle.wjs_meaning.specs.Calls as line;
 ghost use Rattle.wjs_meaning.specs.Deeds.{Sub};
@@ -7,9 +7,9 @@ ghost use Rattle.wjs_meaning.specs.Expressions as expressions;
 ghost use Rattle.wjs_model.specs.Contents.{holding_in};
 ghost use Rattle.wjs_calls.specs.Callees.{script_call, native_call};
 ghost use Rattle.wjs_model.specs.Rest as begins;
-ghost use Rattle.wjs_model.specs.Soundness.{Base, IsThere, HasObject, HasValue, HasItems};
-ghost use Rattle.wjs_moves.specs.Parts.{env_in, then_at};
-ghost use Rattle.wjs_moves.specs.Following.{Follows};
+ghost use Rattle.wjs_model.specs.Soundness.{HasObject, HasValue, HasItems};
+ghost use Rattle.wjs_moves.specs.Parts.{then_at};
+ghost use Rattle.wjs_moves.specs.Handling.{Runs, GoesOn};
 
 use crate::enters::{enter_body, enter_native};
 use std::alloc::Global;
@@ -17,7 +17,7 @@ use wjs_arena::{Code, Native};
 use wjs_base::{ObjId, OutOfMemory, Value};
 use wjs_deeds::{code_of, function_of};
 use wjs_lines::{held_callee, this_or_global, throw, to_object};
-use wjs_model::{Activation, Completion, Config, Form, Frame, Items, Phase, State, Trouble};
+use wjs_model::{Activation, Completion, Config, Form, Frame, Items, Phase, Trouble};
 use wjs_moves::{finish, wait};
 use wjs_store::WorldStore;
 
@@ -29,12 +29,10 @@ pub fn call<S: WorldStore>(
     function: ObjId,
     this: Value,
 ) -> Result<(), OutOfMemory>
-    requires running { config.old.state ≡ State.Running }
-    requires base { Base S.meaning config.old }
-    requires there { IsThere S.meaning config.old frame }
+    requires runs { Runs S.meaning config.old frame }
     requires function { HasObject config.old function }
     requires this { HasValue config.old this }
-    ensures { let t = config.new.heap.texts in OnOk result (Follows S.meaning (line.call function (value_in t this) (holding_in t frame.held).values (env_in S.meaning config.old t frame)) config.old config.new) }
+    ensures { GoesOn S.meaning frame config.old config.new result (λ t env. line.call function (value_in t this) (holding_in t frame.held).values env) }
 {
     match code_of(config, function) {
         Code::None => throw(config, frame, Trouble::NotAFunction),
@@ -51,12 +49,10 @@ fn call_script<S: WorldStore>(
     function: ObjId,
     this: Value,
 ) -> Result<(), OutOfMemory>
-    requires running { config.old.state ≡ State.Running }
-    requires base { Base S.meaning config.old }
-    requires there { IsThere S.meaning config.old frame }
+    requires runs { Runs S.meaning config.old frame }
     requires function { HasObject config.old function }
     requires this { HasValue config.old this }
-    ensures { let t = config.new.heap.texts in OnOk result (Follows S.meaning (script_call function (value_in t this) (holding_in t frame.held).values (env_in S.meaning config.old t frame)) config.old config.new) }
+    ensures { GoesOn S.meaning frame config.old config.new result (λ t env. script_call function (value_in t this) (holding_in t frame.held).values env) }
 {
     let this = this_or_global(config, &frame, this);
     let answer = to_object(config, &frame, this)?;
@@ -73,11 +69,9 @@ fn call_native<S: WorldStore>(
     native: Native,
     this: Value,
 ) -> Result<(), OutOfMemory>
-    requires running { config.old.state ≡ State.Running }
-    requires base { Base S.meaning config.old }
-    requires there { IsThere S.meaning config.old frame }
+    requires runs { Runs S.meaning config.old frame }
     requires this { HasValue config.old this }
-    ensures { let t = config.new.heap.texts in OnOk result (Follows S.meaning (native_call native (value_in t this) (holding_in t frame.held).values (env_in S.meaning config.old t frame)) config.old config.new) }
+    ensures { GoesOn S.meaning frame config.old config.new result (λ t env. native_call native (value_in t this) (holding_in t frame.held).values env) }
 {
     let this = this_or_global(config, &frame, this);
     enter_native(config, frame, native, this)
@@ -85,10 +79,9 @@ fn call_native<S: WorldStore>(
 
 /// Calls what the frame holds as its callee, where that is an object; another value ends normally.
 pub fn call_if<S: WorldStore>(config: &mut Config<S>, frame: Frame) -> Result<(), OutOfMemory>
-    requires running { config.old.state ≡ State.Running }
-    requires base { Base S.meaning config.old }
-    requires there { IsThere S.meaning config.old frame }
-    ensures { let t = config.new.heap.texts in let held = holding_in t frame.held in OnOk result (Follows S.meaning (begins.call_if held.callee.0 held.callee.1 held.values (env_in S.meaning config.old t frame)) config.old config.new) }
+    requires runs { Runs S.meaning config.old frame }
+    ensures { GoesOn S.meaning frame config.old config.new result (λ t env.
+        let held = holding_in t frame.held in begins.call_if held.callee.0 held.callee.1 held.values env) }
 {
     let (callee, this) = held_callee(config, &frame);
     match callee {
@@ -105,12 +98,11 @@ pub fn call_value<S: WorldStore>(
     callee: Value,
     this: Value,
 ) -> Result<(), OutOfMemory>
-    requires running { config.old.state ≡ State.Running }
-    requires base { Base S.meaning config.old }
-    requires there { IsThere S.meaning config.old frame }
+    requires runs { Runs S.meaning config.old frame }
     requires callee { HasValue config.old callee }
     requires this { HasValue config.old this }
-    ensures { let t = config.new.heap.texts in OnOk result (Follows S.meaning (expressions.call_values (value_in t callee) (value_in t this) (env_in S.meaning config.old t frame) (holding_in t frame.held).values) config.old config.new) }
+    ensures { GoesOn S.meaning frame config.old config.new result (λ t env.
+        expressions.call_values (value_in t callee) (value_in t this) env (holding_in t frame.held).values) }
 {
     match function_of(config, callee) {
         Some(function) => call(config, frame, function, this),
@@ -127,13 +119,12 @@ pub fn call_below<S: WorldStore>(
     this: Value,
     items: Items,
 ) -> Result<(), OutOfMemory>
-    requires running { config.old.state ≡ State.Running }
-    requires base { Base S.meaning config.old }
-    requires there { IsThere S.meaning config.old frame }
+    requires runs { Runs S.meaning config.old frame }
     requires function { HasObject config.old function }
     requires this { HasValue config.old this }
     requires items { HasItems config.old items }
-    ensures { let t = config.new.heap.texts in let env = env_in S.meaning config.old t frame in OnOk result (Follows S.meaning (Sub (line.call function (value_in t this) (holding_in t items).values env) (then_at S.meaning config.old frame place t env)) config.old config.new) }
+    ensures { GoesOn S.meaning frame config.old config.new result (λ t env.
+        Sub (line.call function (value_in t this) (holding_in t items).values env) (then_at S.meaning config.old frame place t env)) }
 {
     let alloc = config.heap.arena.allocator();
     let above = frame_above(alloc, &frame, items)?;

@@ -1,15 +1,14 @@
 //! The entry of functions, in the place of the frame that was taken off: the values that it holds are the arguments.
-ghost use Rattle.std.specs.Prelude.{◌≡◌, OnOk, true, false};
+ghost use Rattle.std.specs.Prelude.{true, false};
 ghost use Rattle.wjs_content.specs.Tables.{value_in};
 ghost use Rattle.wjs_meaning.specs.Deeds.{Ret, Eval, AtBody, AtNative};
 ghost use Rattle.wjs_model.specs.Contents.{holding_in};
-ghost use Rattle.wjs_model.specs.Soundness.{Base, IsThere, HasObject, HasValue};
-ghost use Rattle.wjs_moves.specs.Parts.{env_in};
-ghost use Rattle.wjs_moves.specs.Following.{Follows};
+ghost use Rattle.wjs_model.specs.Soundness.{HasObject, HasValue};
+ghost use Rattle.wjs_moves.specs.Handling.{Runs, GoesOn};
 
 use wjs_arena::Native;
 use wjs_base::{ObjId, OutOfMemory, Value};
-use wjs_model::{Config, Form, Frame, Held, State};
+use wjs_model::{Config, Form, Frame, Held};
 use wjs_moves::{due_later, hold};
 use wjs_store::WorldStore;
 
@@ -20,12 +19,11 @@ pub fn enter_body<S: WorldStore>(
     function: ObjId,
     this: Value,
 ) -> Result<(), OutOfMemory>
-    requires running { config.old.state ≡ State.Running }
-    requires base { Base S.meaning config.old }
-    requires there { IsThere S.meaning config.old frame }
+    requires runs { Runs S.meaning config.old frame }
     requires function { HasObject config.old function }
     requires this { HasValue config.old this }
-    ensures { let t = config.new.heap.texts in OnOk result (Follows S.meaning (Eval (AtBody function (holding_in t frame.held).values) (record (env_in S.meaning config.old t frame) { this = value_in t this }) Ret) config.old config.new) }
+    ensures { GoesOn S.meaning frame config.old config.new result (λ t env.
+        Eval (AtBody function (holding_in t frame.held).values) (record env { this = value_in t this }) Ret) }
 {
     let mut frame = frame;
     hold(&mut frame, Held::Callee(Value::Object(function), this))?;
@@ -40,11 +38,10 @@ pub fn enter_native<S: WorldStore>(
     native: Native,
     this: Value,
 ) -> Result<(), OutOfMemory>
-    requires running { config.old.state ≡ State.Running }
-    requires base { Base S.meaning config.old }
-    requires there { IsThere S.meaning config.old frame }
+    requires runs { Runs S.meaning config.old frame }
     requires this { HasValue config.old this }
-    ensures { let t = config.new.heap.texts in OnOk result (Follows S.meaning (Eval (AtNative native false (holding_in t frame.held).values) (record (env_in S.meaning config.old t frame) { this = value_in t this }) Ret) config.old config.new) }
+    ensures { GoesOn S.meaning frame config.old config.new result (λ t env.
+        Eval (AtNative native false (holding_in t frame.held).values) (record env { this = value_in t this }) Ret) }
 {
     let mut frame = frame;
     hold(&mut frame, Held::Callee(Value::Undefined, this))?;
@@ -58,10 +55,9 @@ pub fn enter_constructor<S: WorldStore>(
     frame: Frame,
     native: Native,
 ) -> Result<(), OutOfMemory>
-    requires running { config.old.state ≡ State.Running }
-    requires base { Base S.meaning config.old }
-    requires there { IsThere S.meaning config.old frame }
-    ensures { let t = config.new.heap.texts in OnOk result (Follows S.meaning (Eval (AtNative native true (holding_in t frame.held).values) (record (env_in S.meaning config.old t frame) { this = value_in t Value.Undefined }) Ret) config.old config.new) }
+    requires runs { Runs S.meaning config.old frame }
+    ensures { GoesOn S.meaning frame config.old config.new result (λ t env.
+        Eval (AtNative native true (holding_in t frame.held).values) (record env { this = value_in t Value.Undefined }) Ret) }
 {
     let mut frame = frame;
     hold(&mut frame, Held::ByNew)?;

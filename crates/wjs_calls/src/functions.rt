@@ -34,7 +34,8 @@ pub fn make_function_in<S: WorldStore>(
     requires there { IsThere S.meaning config.old frame.now }
     requires scope { HasObject config.old scope }
     requires stands { IsFunction config.old.units.items config.old.heap.arena frame.now.tree body scope 0 }
-    ensures does { IfOk result (λ o. Does S.meaning (λ t. line.make_function_in body.0 scope (env_in S.meaning config.old t frame.now)) (λ t. o) config.old config.new) }
+    ensures does { IfOk result (λ o. Does S.meaning (λ t. line.make_function_in body.0 scope (env_in S.meaning config.old t frame.now))
+        (λ t. o) config.old config.new) }
     ensures later { OnOk result (Later S.meaning config.old config.new) }
     ensures found { IfOk result (λ o. HasObject config.new o) }
 {
@@ -54,7 +55,8 @@ pub fn make_function<S: WorldStore>(
     requires there { IsThere S.meaning config.old frame.now }
     requires name { HasText config.old.heap.texts name }
     requires stands { StandsNamed config.old.units.items config.old.heap.arena frame.now.tree body frame.now.scope name }
-    ensures does { IfOk result (λ o. Does S.meaning (λ t. line.make_function body.0 (option_map (text_in t) name) (env_in S.meaning config.old t frame.now)) (λ t. o) config.old config.new) }
+    ensures does { IfOk result (λ o. Does S.meaning (λ t. line.make_function body.0 (option_map (text_in t) name) (env_in S.meaning config.old t frame.now))
+        (λ t. o) config.old config.new) }
     ensures later { OnOk result (Later S.meaning config.old config.new) }
     ensures found { IfOk result (λ o. HasObject config.new o) }
 {
@@ -75,7 +77,8 @@ fn make_named<S: WorldStore>(
     requires there { IsThere S.meaning config.old frame.now }
     requires name { Has config.old.heap.texts name }
     requires stands { StandsNamed config.old.units.items config.old.heap.arena frame.now.tree body frame.now.scope (Some name) }
-    ensures does { IfOk result (λ o. Does S.meaning (λ t. line.make_function body.0 (Some (text_in t name)) (env_in S.meaning config.old t frame.now)) (λ t. o) config.old config.new) }
+    ensures does { IfOk result (λ o. Does S.meaning (λ t. line.make_function body.0 (Some (text_in t name)) (env_in S.meaning config.old t frame.now))
+        (λ t. o) config.old config.new) }
     ensures later { OnOk result (Later S.meaning config.old config.new) }
     ensures found { IfOk result (λ o. HasObject config.new o) }
 {
@@ -120,7 +123,8 @@ pub fn declare_functions<S: WorldStore>(
     requires there { IsThere S.meaning config.old frame.now }
     requires holder { HasObject config.old holder }
     requires stand { All (λ i. IsFunction config.old.units.items config.old.heap.arena frame.now.tree i frame.now.scope 0) functions.now }
-    ensures does { OnOk result (DoesFirst S.meaning (λ t. line.declare_functions (numbers functions.now) holder (env_in S.meaning config.old t frame.now)) config.old config.new) }
+    ensures does { OnOk result (DoesFirst S.meaning
+        (λ t. line.declare_functions (numbers functions.now) holder (env_in S.meaning config.old t frame.now)) config.old config.new) }
     ensures later { OnOk result (Later S.meaning config.old config.new) }
 {
     for function in functions {
@@ -161,7 +165,8 @@ fn declare_as<S: WorldStore>(
     requires holder { HasObject config.old holder }
     requires made { HasObject config.old made }
     requires name { HasText config.old.heap.texts name }
-    ensures does { OnOk result (DoesFirst S.meaning (λ t. declared_as (option_map (text_in t) name) holder made (env_in S.meaning config.old t frame.now)) config.old config.new) }
+    ensures does { OnOk result (DoesFirst S.meaning
+        (λ t. declared_as (option_map (text_in t) name) holder made (env_in S.meaning config.old t frame.now)) config.old config.new) }
     ensures later { OnOk result (Later S.meaning config.old config.new) }
 {
     match name {

@@ -19,7 +19,7 @@ ghost use Rattle.wjs_moves.specs.Following.{Later};
 use crate::arrays::whole_value;
 use crate::bodies::formals_count;
 use std::alloc::Global;
-use wjs_arena::{Class, Code, Flags, Object, Under};
+use wjs_arena::{Class, Code, Flags, Listed, Object};
 use wjs_base::{Name, NodeId as Body, ObjId, OutOfMemory, Value};
 use wjs_deeds::{Known, builtin, create, known_name, object_of, one_fixed};
 use wjs_model::{Config, Frame};
@@ -64,7 +64,8 @@ pub(crate) fn function_object<S: WorldStore>(
     requires prototype { HasName config.now names.prototype }
     requires length_text { (t : Table) → Grows config.now.heap.texts t → name_in t names.length ≡ length_name }
     requires prototype_text { (t : Table) → Grows config.now.heap.texts t → name_in t names.prototype ≡ prototype_name }
-    ensures is { IfOk result (λ x. (t : Table) → Grows config.now.heap.texts t → object_in t x ≡ line.function_object frame.now.tree body.0 (length (formals_of (node_here (env_in S.meaning config.now t frame.now) body.0))) scope) }
+    ensures is { IfOk result (λ x. (t : Table) → Grows config.now.heap.texts t →
+        object_in t x ≡ line.function_object frame.now.tree body.0 (length (formals_of (node_here (env_in S.meaning config.now t frame.now) body.0))) scope) }
     ensures prototype { IfOk result (λ x. x.prototype ≡ Some function_prototype) }
     ensures scope { IfOk result (λ x. x.scope ≡ Some scope) }
     ensures code { IfOk result (λ x. x.code ≡ Code.Script frame.now.tree (record { 0 = body.0 })) }
@@ -102,7 +103,10 @@ pub(crate) fn create_function<S: WorldStore>(
     requires base { Base S.meaning config.old }
     requires scope { HasObject config.old scope }
     requires stands { IsFunction config.old.units.items config.old.heap.arena frame.now.tree body scope 0 }
-    ensures does { IfOk result (λ o. Does S.meaning (λ t go. Do (Create config.old.owner (line.function_object frame.now.tree body.0 (length (formals_of (node_here (env_in S.meaning config.old t frame.now) body.0))) scope)) go) (λ t. o) config.old config.new) }
+    ensures does { IfOk result (λ o. Does S.meaning
+        (λ t go. Do (Create config.old.owner
+        (line.function_object frame.now.tree body.0 (length (formals_of (node_here (env_in S.meaning config.old t frame.now) body.0))) scope)) go)
+        (λ t. o) config.old config.new) }
     ensures later { OnOk result (Later S.meaning config.old config.new) }
     ensures found { IfOk result (λ o. HasObject config.new o) }
 {
@@ -132,12 +136,14 @@ pub(crate) fn create_prototype<S: WorldStore>(config: &mut Config<S>) -> Result<
 }
 
 /// The attributes of one name.
-fn one_flag(alloc: Global, name: Name, flag: Flags) -> Result<Under<Flags>, OutOfMemory>
+fn one_flag(alloc: Global, name: Name, flag: Flags) -> Result<Listed, OutOfMemory>
     ensures { IfOk result (λ under. under ≡ (name, flag) ∷ []) }
 {
-    let mut flags = Vec::new(alloc);
+    let Ok(mut flags) = Vec::with_capacity(alloc, 1) else {
+        return Err(OutOfMemory);
+    };
     match flags.push((name, flag)) {
-        Ok(()) => Ok(Under::from_vec(flags)),
+        Ok(()) => Ok(Listed::from_vec(flags)),
         Err(_) => Err(OutOfMemory),
     }
 }

@@ -31,7 +31,8 @@ pub(crate) fn create_named<S: WorldStore>(
     requires there { IsThere S.meaning config.old frame.now }
     requires text { Has config.old.heap.texts id }
     requires stands { StandsNamed config.old.units.items config.old.heap.arena frame.now.tree body frame.now.scope (Some id) }
-    ensures does { IfOk result (λ o. Does S.meaning (λ t. named_made body.0 (text_in t id) (env_in S.meaning config.old t frame.now)) (λ t. o) config.old config.new) }
+    ensures does { IfOk result (λ o. Does S.meaning (λ t. named_made body.0 (text_in t id) (env_in S.meaning config.old t frame.now))
+        (λ t. o) config.old config.new) }
     ensures later { OnOk result (Later S.meaning config.old config.new) }
     ensures found { IfOk result (λ o. HasObject config.new o) }
 {

@@ -1,16 +1,15 @@
 //! `new` (ECMA-262, 3rd edition, sections 11.2.2 and 13.2.2).
-ghost use Rattle.std.specs.Prelude.{◌≡◌, OnOk, true, Some};
-ghost use Rattle.wjs_base.specs.Text.{Table};
+ghost use Rattle.std.specs.Prelude.{◌≡◌, true};
 ghost use Rattle.wjs_content.specs.Names.{prototype_name};
 ghost use Rattle.wjs_content.specs.Tables.{value_in, arena_in};
 ghost use Rattle.wjs_content.specs.Objects.{object_at};
 ghost use Rattle.wjs_meaning.specs.Properties.{get_value};
 ghost use Rattle.wjs_meaning.specs.Constructions as line;
 ghost use Rattle.wjs_model.specs.Contents.{holding_in};
-ghost use Rattle.wjs_model.specs.Soundness.{Base, IsThere, HasObject, HasValue};
-ghost use Rattle.wjs_moves.specs.Parts.{env_in, node_now};
-ghost use Rattle.wjs_moves.specs.Following.{Follows};
+ghost use Rattle.wjs_model.specs.Soundness.{HasObject, HasValue};
+ghost use Rattle.wjs_moves.specs.Parts.{node_now};
 ghost use Rattle.wjs_calls.specs.Callees.{is_new};
+ghost use Rattle.wjs_moves.specs.Handling.{Runs, GoesOn};
 
 use crate::calls::call_below;
 use crate::enters::enter_constructor;
@@ -18,7 +17,7 @@ use wjs_arena::{Class, Code, Native};
 use wjs_base::{ObjId, OutOfMemory, Value};
 use wjs_deeds::{Known, builtin, code_of, create, function_of, get_known, object_of};
 use wjs_lines::throw;
-use wjs_model::{Config, Form, Frame, Held, State, Trouble};
+use wjs_model::{Config, Form, Frame, Held, Trouble};
 use wjs_moves::hold;
 use wjs_store::WorldStore;
 
@@ -29,13 +28,11 @@ pub fn construct<S: WorldStore>(
     frame: Frame,
     callee: Value,
 ) -> Result<(), OutOfMemory>
-    requires running { config.old.state ≡ State.Running }
-    requires base { Base S.meaning config.old }
-    requires there { IsThere S.meaning config.old frame }
+    requires runs { Runs S.meaning config.old frame }
     requires form { frame.form ≡ Form.Expr }
     requires node { is_new (node_now S.meaning config.old frame) ≡ true }
     requires callee { HasValue config.old callee }
-    ensures { let t = config.new.heap.texts in OnOk result (Follows S.meaning (line.construct (value_in t callee) (env_in S.meaning config.old t frame) (holding_in t frame.held).values) config.old config.new) }
+    ensures { GoesOn S.meaning frame config.old config.new result (λ t env. line.construct (value_in t callee) env (holding_in t frame.held).values) }
 {
     match function_of(config, callee) {
         None => throw(config, frame, Trouble::NotAConstructor),
@@ -48,13 +45,12 @@ fn construct_function<S: WorldStore>(
     frame: Frame,
     function: ObjId,
 ) -> Result<(), OutOfMemory>
-    requires running { config.old.state ≡ State.Running }
-    requires base { Base S.meaning config.old }
-    requires there { IsThere S.meaning config.old frame }
+    requires runs { Runs S.meaning config.old frame }
     requires form { frame.form ≡ Form.Expr }
     requires node { is_new (node_now S.meaning config.old frame) ≡ true }
     requires function { HasObject config.old function }
-    ensures { let t = config.new.heap.texts in OnOk result (Follows S.meaning (line.new_code (object_at (arena_in t config.old.heap.arena) function).code function (holding_in t frame.held).values (env_in S.meaning config.old t frame)) config.old config.new) }
+    ensures { GoesOn S.meaning frame config.old config.new result (λ t env.
+        line.new_code (object_at (arena_in t config.old.heap.arena) function).code function (holding_in t frame.held).values env) }
 {
     match code_of(config, function) {
         Code::None => throw(config, frame, Trouble::NotAConstructor),
@@ -68,10 +64,9 @@ fn construct_native<S: WorldStore>(
     frame: Frame,
     native: Native,
 ) -> Result<(), OutOfMemory>
-    requires running { config.old.state ≡ State.Running }
-    requires base { Base S.meaning config.old }
-    requires there { IsThere S.meaning config.old frame }
-    ensures { let t = config.new.heap.texts in (function : ObjId) → OnOk result (Follows S.meaning (line.new_code (Code.Native native) function (holding_in t frame.held).values (env_in S.meaning config.old t frame)) config.old config.new) }
+    requires runs { Runs S.meaning config.old frame }
+    ensures { (function : ObjId) → GoesOn S.meaning frame config.old config.new result (λ t env.
+        line.new_code (Code.Native native) function (holding_in t frame.held).values env) }
 {
     if is_constructor(native) {
         enter_constructor(config, frame, native)
@@ -86,13 +81,12 @@ fn construct_script<S: WorldStore>(
     frame: Frame,
     function: ObjId,
 ) -> Result<(), OutOfMemory>
-    requires running { config.old.state ≡ State.Running }
-    requires base { Base S.meaning config.old }
-    requires there { IsThere S.meaning config.old frame }
+    requires runs { Runs S.meaning config.old frame }
     requires form { frame.form ≡ Form.Expr }
     requires node { is_new (node_now S.meaning config.old frame) ≡ true }
     requires function { HasObject config.old function }
-    ensures { let t = config.new.heap.texts in let env = env_in S.meaning config.old t frame in OnOk result (Follows S.meaning (get_value function prototype_name env (line.new_prototype function (holding_in t frame.held).values env)) config.old config.new) }
+    ensures { GoesOn S.meaning frame config.old config.new result (λ t env.
+        get_value function prototype_name env (line.new_prototype function (holding_in t frame.held).values env)) }
 {
     let found = get_known(config, &frame, function, Known::Prototype)?;
     match found {
@@ -111,14 +105,12 @@ fn construct_on<S: WorldStore>(
     function: ObjId,
     prototype: ObjId,
 ) -> Result<(), OutOfMemory>
-    requires running { config.old.state ≡ State.Running }
-    requires base { Base S.meaning config.old }
-    requires there { IsThere S.meaning config.old frame }
+    requires runs { Runs S.meaning config.old frame }
     requires form { frame.form ≡ Form.Expr }
     requires node { is_new (node_now S.meaning config.old frame) ≡ true }
     requires function { HasObject config.old function }
     requires prototype { HasObject config.old prototype }
-    ensures { let t = config.new.heap.texts in OnOk result (Follows S.meaning (line.new_on prototype function (holding_in t frame.held).values (env_in S.meaning config.old t frame)) config.old config.new) }
+    ensures { GoesOn S.meaning frame config.old config.new result (λ t env. line.new_on prototype function (holding_in t frame.held).values env) }
 {
     let alloc = config.heap.arena.allocator();
     let object = create(config, object_of(alloc, Class::Plain, Some(prototype)))?;

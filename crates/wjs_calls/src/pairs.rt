@@ -36,7 +36,10 @@ pub(crate) fn create_pair<S: WorldStore>(
     requires second_near { NamesNear config.old.apart.items second }
     requires second_world { second.world ≡ None }
     requires second_code { StandsSecond config.old.units.items config.old.heap.arena config.old.owner first second }
-    ensures does { IfOk result (λ o. (one : Table → Internals) (two : Table → ObjId → Internals) → ((t : Table) → Grows config.old.heap.texts t → object_in t first ≡ one t) → ((t : Table) → Grows config.old.heap.texts t → object_in t second ≡ two t (next_number config.old.heap.arena config.old.owner)) → Does S.meaning (λ t go. Do (Create config.old.owner (one t)) (λ s. Do (Create config.old.owner (two t s)) go)) (λ t. o) config.old config.new) }
+    ensures does { IfOk result (λ o. (one : Table → Internals) (two : Table → ObjId → Internals) →
+        ((t : Table) → Grows config.old.heap.texts t → object_in t first ≡ one t) →
+        ((t : Table) → Grows config.old.heap.texts t → object_in t second ≡ two t (next_number config.old.heap.arena config.old.owner)) →
+        Does S.meaning (λ t go. Do (Create config.old.owner (one t)) (λ s. Do (Create config.old.owner (two t s)) go)) (λ t. o) config.old config.new) }
     ensures later { OnOk result (Later S.meaning config.old config.new) }
     ensures found { IfOk result (λ o. HasObject config.new o) }
 {

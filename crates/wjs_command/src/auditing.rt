@@ -1,7 +1,7 @@
 //! A log's bytes, audited.
 ghost use Rattle.std.specs.Prelude.{[], codes};
 ghost use Rattle.std.specs.String.{string_bytes};
-ghost use Rattle.wjs_io.specs.Streams.{stream};
+ghost use Rattle.wjs_io.specs.Streams.{over};
 ghost use Rattle.wjs_start.specs.First.{IsNew};
 ghost use Rattle.wjs_command.specs.declared.status.Status.TheVariants as statuses;
 ghost use Rattle.wjs_command.specs.Table.{line};
@@ -25,7 +25,7 @@ pub fn audit<S: WorldStore + Drop, O: Sink>(
     out: &mut O,
 ) -> Result<Report, Stop>
     requires new { IsNew (S.meaning store) }
-    ensures { Comes (OfLog bytes.now) (stream (O.held out.old) (O.held out.new) (O.faults out.old) (O.faults out.new)) result }
+    ensures { Comes (OfLog bytes.now) (over O.seen out.old out.new) result }
 {
     match judge_log(alloc, store, bytes) {
         Ok(()) => agree(alloc, out),
@@ -35,7 +35,7 @@ pub fn audit<S: WorldStore + Drop, O: Sink>(
 
 /// Says that the log is right.
 fn agree<O: Sink>(alloc: Global, out: &mut O) -> Result<Report, Stop>
-    ensures { Delivers (record { out = line (codes "yes"); err = []; status = statuses.Done }) (stream (O.held out.old) (O.held out.new) (O.faults out.old) (O.faults out.new)) result }
+    ensures { Delivers (record { out = line (codes "yes"); err = []; status = statuses.Done }) (over O.seen out.old out.new) result }
 {
     match write_or_stop(b"yes\n", out) {
         Ok(()) => Ok(done(alloc)),

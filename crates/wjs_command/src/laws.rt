@@ -13,7 +13,8 @@ use wjs_programs::one_program;
 
 /// Where no count of faults rose, a run ends with all that is due, or memory ran out.
 pub fn completeness()
-    ensures { (words : List (List ℕ)) (bytes : List ℕ) (source out err : Stream) (status : Status) → EndsBy words bytes source out err status → IsComplete words bytes source out err status }
+    ensures { (words : List (List ℕ)) (bytes : List ℕ) (source out err : Stream) (status : Status) → EndsBy words bytes source out err status →
+        IsComplete words bytes source out err status }
 {}
 
 /// For words without a fault at most one thing is due: one list of bytes on out, one on err, one status, and one number of

@@ -1,7 +1,7 @@
 //! The run of a script whose log is written.
 ghost use Rattle.std.specs.Prelude.{◌≡◌};
 ghost use Rattle.wjs_base.specs.Text.{IsTable};
-ghost use Rattle.wjs_io.specs.Streams.{stream};
+ghost use Rattle.wjs_io.specs.Streams.{over};
 ghost use Rattle.wjs_logs.specs.Telling.{logged};
 ghost use Rattle.wjs_meaning.specs.Builtins.{first_world};
 ghost use Rattle.wjs_meaning.specs.Deeds.{St};
@@ -37,7 +37,7 @@ pub fn log_script<S: WorldStore + Drop, O: Sink>(
     requires table { IsTable texts }
     requires script { KnowsUnit texts script }
     requires places { PlacesUnit texts script }
-    ensures { Comes (IsLogRun texts script steps) (stream (O.held out.old) (O.held out.new) (O.faults out.old) (O.faults out.new)) result }
+    ensures { Comes (IsLogRun texts script steps) (over O.seen out.old out.new) result }
 {
     match begin(alloc, Logged::new(alloc, store), texts, script, steps) {
         Ok(config) => log_whole(alloc, config, out),
@@ -53,7 +53,7 @@ fn log_whole<S: WorldStore + Drop, O: Sink>(
 ) -> Result<Report, Stop>
     requires sound { Sound (logged S.meaning) config }
     requires first { config.world ≡ first_world }
-    ensures { (r : Meant × St) → RunIs (logged S.meaning) config r → Comes (LogsRun r) (stream (O.held out.old) (O.held out.new) (O.faults out.old) (O.faults out.new)) result }
+    ensures { (r : Meant × St) → RunIs (logged S.meaning) config r → Comes (LogsRun r) (over O.seen out.old out.new) result }
 {
     let mut config = config;
     let mut nobody = Unheard;
@@ -76,7 +76,7 @@ fn conclude_log<S: WorldStore + Drop, O: Sink>(
     requires sound { Sound (logged S.meaning) config }
     requires first { config.world ≡ first_world }
     requires thrown { HasThrown config ending }
-    ensures { (r : Meant × St) → IsEndOf (logged S.meaning) config ending r → HasLogged config r → Comes (LogsRun r) (stream (O.held out.old) (O.held out.new) (O.faults out.old) (O.faults out.new)) result }
+    ensures { (r : Meant × St) → IsEndOf (logged S.meaning) config ending r → HasLogged config r → Comes (LogsRun r) (over O.seen out.old out.new) result }
 {
     match spell_store(alloc, &config.heap.store, &config.heap.texts) {
         Ok(log) => write_and_tell(alloc, config, ending, log.as_slice(), out),
@@ -95,7 +95,8 @@ fn write_and_tell<S: WorldStore + Drop, O: Sink>(
     requires sound { Sound S.meaning config }
     requires first { config.world ≡ first_world }
     requires thrown { HasThrown config ending }
-    ensures { (r : Meant × St) → IsEndOf S.meaning config ending r → Delivers (record { out = bytes.now; err = line_of_end r.0 r.1; status = status_of_end r.0 }) (stream (O.held out.old) (O.held out.new) (O.faults out.old) (O.faults out.new)) result }
+    ensures { (r : Meant × St) → IsEndOf S.meaning config ending r →
+        Delivers (record { out = bytes.now; err = line_of_end r.0 r.1; status = status_of_end r.0 }) (over O.seen out.old out.new) result }
 {
     match write_or_stop(bytes, out) {
         Ok(()) => {}

@@ -1,6 +1,6 @@
 //! The bytes of a script, checked, run or logged, those of several, played, or those of a log, audited.
 ghost use Rattle.std.specs.Prelude.{◌≡◌, ◌≢◌, ◌≤◌, [], codes, length};
-ghost use Rattle.wjs_io.specs.Streams.{stream};
+ghost use Rattle.wjs_io.specs.Streams.{over};
 ghost use Rattle.wjs_start.specs.First.{IsNew};
 ghost use Rattle.wjs_command.specs.declared.status.Status.TheVariants as statuses;
 ghost use Rattle.wjs_command.specs.Table.{line};
@@ -31,11 +31,10 @@ pub fn perform<O: Sink>(
     requires within { length bytes.now ≤ most_of options.mode }
     requires steps { options.mode ≡ Mode.Play → 1 ≤ options.steps }
     requires turn { options.mode ≡ Mode.Play → 1 ≤ options.turn }
-    ensures told { Comes (IsTold options bytes.now) (stream (O.held out.old) (O.held out.new) (O.faults out.old) (O.faults out.new)) result }
+    ensures told { Comes (IsTold options bytes.now) (over O.seen out.old out.new) result }
 
     // What a play wrote is what its scripts print alone.
-    ensures alone { options.mode ≡ Mode.Play → ComesAlone (PlayedAlone options.steps bytes.now)
-        (stream (O.held out.old) (O.held out.new) (O.faults out.old) (O.faults out.new)) result }
+    ensures alone { options.mode ≡ Mode.Play → ComesAlone (PlayedAlone options.steps bytes.now) (over O.seen out.old out.new) result }
 {
     match options.mode {
         Mode::Play => play_parts(alloc, bytes, options.steps, options.turn, out),
@@ -52,7 +51,7 @@ fn perform_one<O: Sink>(
 ) -> Result<Report, Stop>
     requires mode { options.mode ≢ Mode.Play }
     requires within { length bytes.now ≤ most_of options.mode }
-    ensures { Comes (IsTold options bytes.now) (stream (O.held out.old) (O.held out.new) (O.faults out.old) (O.faults out.new)) result }
+    ensures { Comes (IsTold options bytes.now) (over O.seen out.old out.new) result }
 {
     match Overlay::new(alloc) {
         Ok(store) => perform_in(alloc, store, options, bytes, out),
@@ -71,7 +70,7 @@ pub fn perform_in<S: WorldStore + Drop, O: Sink>(
     requires new { IsNew (S.meaning store) }
     requires mode { options.mode ≢ Mode.Play }
     requires within { length bytes.now ≤ most_of options.mode }
-    ensures { Comes (IsTold options bytes.now) (stream (O.held out.old) (O.held out.new) (O.faults out.old) (O.faults out.new)) result }
+    ensures { Comes (IsTold options bytes.now) (over O.seen out.old out.new) result }
 {
     match options.mode {
         Mode::Audit => audit(alloc, store, bytes, out),
@@ -91,7 +90,7 @@ fn perform_script<S: WorldStore + Drop, O: Sink>(
     requires mode { options.mode ≢ Mode.Audit }
     requires script { options.mode ≢ Mode.Play }
     requires within { length bytes.now ≤ most_of options.mode }
-    ensures { Comes (owed_in options.mode options.steps options.turn bytes.now) (stream (O.held out.old) (O.held out.new) (O.faults out.old) (O.faults out.new)) result }
+    ensures { Comes (owed_in options.mode options.steps options.turn bytes.now) (over O.seen out.old out.new) result }
 {
     let mut texts = match Texts::new(alloc) {
         Ok(texts) => texts,
@@ -123,7 +122,7 @@ fn refuse_or_stop(alloc: Global, fault: LoadFault) -> Result<Report, Stop>
 
 /// Says that the bytes are a script.
 fn accept<O: Sink>(alloc: Global, out: &mut O) -> Result<Report, Stop>
-    ensures { Delivers (record { out = line (codes "ok"); err = []; status = statuses.Done }) (stream (O.held out.old) (O.held out.new) (O.faults out.old) (O.faults out.new)) result }
+    ensures { Delivers (record { out = line (codes "ok"); err = []; status = statuses.Done }) (over O.seen out.old out.new) result }
 {
     match write_or_stop(b"ok\n", out) {
         Ok(()) => Ok(done(alloc)),

@@ -1,7 +1,7 @@
 //! A play of the scripts that bytes are divided into.
 ghost use Rattle.std.specs.Prelude.{◌≡◌, ◌≤◌, ◌^◌, All, length, map};
 ghost use Rattle.wjs_base.specs.Text.{IsTable};
-ghost use Rattle.wjs_io.specs.Streams.{stream};
+ghost use Rattle.wjs_io.specs.Streams.{over};
 ghost use Rattle.wjs_model.specs.Texts.{KnowsUnit, PlacesUnit};
 ghost use Rattle.wjs_model.specs.Units.{unit_in};
 ghost use Rattle.wjs_command.specs.Plays.{IsPlayed, OfPlay, RanAlone, PlayedAlone};
@@ -30,8 +30,8 @@ pub fn play_parts<O: Sink>(
     requires within { length bytes.now ≤ 2 ^ 24 }
     requires budget { 1 ≤ budget }
     requires turn { 1 ≤ turn }
-    ensures told { Comes (OfPlay budget turn bytes.now) (stream (O.held out.old) (O.held out.new) (O.faults out.old) (O.faults out.new)) result }
-    ensures alone { ComesAlone (PlayedAlone budget bytes.now) (stream (O.held out.old) (O.held out.new) (O.faults out.old) (O.faults out.new)) result }
+    ensures told { Comes (OfPlay budget turn bytes.now) (over O.seen out.old out.new) result }
+    ensures alone { ComesAlone (PlayedAlone budget bytes.now) (over O.seen out.old out.new) result }
 {
     let mut texts = match Texts::new(alloc) {
         Ok(texts) => texts,
@@ -58,10 +58,8 @@ fn play_units<O: Sink>(
     requires few { length parts.items ≤ 1000 }
     requires budget { 1 ≤ budget }
     requires turn { 1 ≤ turn }
-    ensures told { Comes (IsPlayed budget turn (map (unit_in texts) parts.items))
-        (stream (O.held out.old) (O.held out.new) (O.faults out.old) (O.faults out.new)) result }
-    ensures alone { ComesAlone (RanAlone budget (map (unit_in texts) parts.items))
-        (stream (O.held out.old) (O.held out.new) (O.faults out.old) (O.faults out.new)) result }
+    ensures told { Comes (IsPlayed budget turn (map (unit_in texts) parts.items)) (over O.seen out.old out.new) result }
+    ensures alone { ComesAlone (RanAlone budget (map (unit_in texts) parts.items)) (over O.seen out.old out.new) result }
 {
     let mut texts = texts;
     let library = match library(alloc, &mut texts) {

@@ -2,7 +2,7 @@
 ghost use Rattle.std.specs.Prelude.{◌≡◌, ◌≤◌, [], IfOk};
 ghost use Rattle.wjs_base.specs.Text.{IsTable};
 ghost use Rattle.wjs_store.specs.Meaning.{worlds};
-ghost use Rattle.wjs_io.specs.Streams.{stream};
+ghost use Rattle.wjs_io.specs.Streams.{over};
 ghost use Rattle.wjs_content.specs.Worlds.{worlds_in, KnowsWorlds};
 ghost use Rattle.wjs_meaning.specs.Builtins.{first_world};
 ghost use Rattle.wjs_meaning.specs.Deeds.{St};
@@ -42,7 +42,7 @@ pub fn run_script<S: WorldStore + Drop, O: Sink>(
     requires table { IsTable texts }
     requires script { KnowsUnit texts script }
     requires places { PlacesUnit texts script }
-    ensures { Comes (IsRunOf texts script steps mode) (stream (O.held out.old) (O.held out.new) (O.faults out.old) (O.faults out.new)) result }
+    ensures { Comes (IsRunOf texts script steps mode) (over O.seen out.old out.new) result }
 {
     match begin(alloc, store, texts, script, steps) {
         Ok(config) => run_whole(alloc, config, mode, out),
@@ -78,7 +78,7 @@ fn run_whole<S: WorldStore + Drop, O: Sink>(
 ) -> Result<Report, Stop>
     requires sound { Sound S.meaning config }
     requires first { config.world ≡ first_world }
-    ensures { (r : Meant × St) → RunIs S.meaning config r → Delivers (told_by_run mode r) (stream (O.held out.old) (O.held out.new) (O.faults out.old) (O.faults out.new)) result }
+    ensures { (r : Meant × St) → RunIs S.meaning config r → Delivers (told_by_run mode r) (over O.seen out.old out.new) result }
 {
     let mut config = config;
     let ending = run(&mut config, out);
@@ -110,7 +110,8 @@ fn conclude<S: WorldStore + Drop, O: Sink>(
     requires sound { Sound S.meaning config }
     requires first { config.world ≡ first_world }
     requires thrown { HasThrown config ending }
-    ensures { (r : Meant × St) → IsEndOf S.meaning config ending r → Delivers (record { out = behind_output mode r.1; err = line_of_end r.0 r.1; status = status_of_end r.0 }) (stream (O.held out.old) (O.held out.new) (O.faults out.old) (O.faults out.new)) result }
+    ensures { (r : Meant × St) → IsEndOf S.meaning config ending r →
+        Delivers (record { out = behind_output mode r.1; err = line_of_end r.0 r.1; status = status_of_end r.0 }) (over O.seen out.old out.new) result }
 {
     match write_behind(alloc, &config, mode, out) {
         Ok(()) => {}
@@ -130,7 +131,8 @@ fn write_behind<S: WorldStore, O: Sink>(
     out: &mut O,
 ) -> Result<(), Stop>
     requires sound { Sound S.meaning config.now }
-    ensures { (st : St) → st.full ≡ worlds_in config.now.heap.texts (worlds (S.meaning config.now.heap.store)) → Writes (behind_output mode st) (stream (O.held out.old) (O.held out.new) (O.faults out.old) (O.faults out.new)) result }
+    ensures { (st : St) → st.full ≡ worlds_in config.now.heap.texts (worlds (S.meaning config.now.heap.store)) →
+        Writes (behind_output mode st) (over O.seen out.old out.new) result }
 {
     match mode {
         Mode::Tree => write_worlds(alloc, config, out),
@@ -145,7 +147,7 @@ fn write_worlds<S: WorldStore, O: Sink>(
     out: &mut O,
 ) -> Result<(), Stop>
     requires sound { Sound S.meaning config.now }
-    ensures { Writes (lines_of (worlds_in config.now.heap.texts (worlds (S.meaning config.now.heap.store)))) (stream (O.held out.old) (O.held out.new) (O.faults out.old) (O.faults out.new)) result }
+    ensures { Writes (lines_of (worlds_in config.now.heap.texts (worlds (S.meaning config.now.heap.store)))) (over O.seen out.old out.new) result }
 {
     match world_lines(alloc, &config.heap.store) {
         Ok(lines) => write_or_stop(lines.as_slice(), out),
@@ -155,7 +157,7 @@ fn write_worlds<S: WorldStore, O: Sink>(
 
 /// Writes bytes in pieces.
 pub fn write_or_stop<O: Sink>(bytes: &[u8], out: &mut O) -> Result<(), Stop>
-    ensures { Writes bytes.now (stream (O.held out.old) (O.held out.new) (O.faults out.old) (O.faults out.new)) result }
+    ensures { Writes bytes.now (over O.seen out.old out.new) result }
 {
     match write_pieces(out, bytes) {
         Ok(()) => Ok(()),
@@ -202,7 +204,8 @@ fn tell_thrown<S: WorldStore + Drop>(
     requires sound { Sound S.meaning config }
     requires first { config.world ≡ first_world }
     requires thrown { HasThrown config (Ending.Threw value) }
-    ensures { IfOk result (λ report. (r : Meant × St) → IsEndOf S.meaning config (Ending.Threw value) r → IsReport (status_of_end r.0) (line_of_end r.0 r.1) report) }
+    ensures { IfOk result
+        (λ report. (r : Meant × St) → IsEndOf S.meaning config (Ending.Threw value) r → IsReport (status_of_end r.0) (line_of_end r.0 r.1) report) }
 {
     let mut config = config;
     let text = show_thrown(&mut config, value)?;

@@ -1,7 +1,7 @@
 //! The work of the program, from its words and the bytes of its source to what it writes.
 ghost use Rattle.std.specs.Prelude.{◌≡◌, ◌≢◌, ◌≤◌, map, Ok, Err};
 ghost use Rattle.std.specs.String.{string_bytes};
-ghost use Rattle.wjs_io.specs.Streams.{stream};
+ghost use Rattle.wjs_io.specs.Streams.{over};
 ghost use Rattle.wjs_gen.specs.Script.{script};
 ghost use Rattle.wjs_command.specs.Due.{most_of, IsTold};
 ghost use Rattle.wjs_command.specs.Attempt.{Attempts, Serves, Comes, Reports, Finishes};
@@ -31,7 +31,7 @@ fn generate<O: Sink>(alloc: Global, options: Options, out: &mut O) -> Result<Rep
     requires mode { options.mode ≡ Mode.Gen }
     requires least { 1 ≤ options.number }
     requires greatest { options.number ≤ 50000 }
-    ensures { Comes (IsTold options (script options.number)) (stream (O.held out.old) (O.held out.new) (O.faults out.old) (O.faults out.new)) result }
+    ensures { Comes (IsTold options (script options.number)) (over O.seen out.old out.new) result }
 {
     match script_of(alloc, options.number) {
         Ok(bytes) => perform(alloc, options, bytes.as_slice(), out),
@@ -49,9 +49,7 @@ fn read<S: Source, O: Sink>(
     requires mode { options.mode ≢ Mode.Gen }
     requires steps { 1 ≤ options.steps }
     requires turn { 1 ≤ options.turn }
-    ensures { Serves options
-        (stream (S.left source.old) (S.left source.new) (S.faults source.old) (S.faults source.new))
-        (stream (O.held out.old) (O.held out.new) (O.faults out.old) (O.faults out.new)) result }
+    ensures { Serves options (over S.seen source.old source.new) (over O.seen out.old out.new) result }
 {
     match read_all(alloc, source, most_bytes(options.mode)) {
         Ok(bytes) => perform(alloc, options, bytes.as_slice(), out),
@@ -73,9 +71,7 @@ fn obey<S: Source, O: Sink>(
     requires greatest { options.number ≤ 50000 }
     requires steps { 1 ≤ options.steps }
     requires turn { 1 ≤ options.turn }
-    ensures { Serves options
-        (stream (S.left source.old) (S.left source.new) (S.faults source.old) (S.faults source.new))
-        (stream (O.held out.old) (O.held out.new) (O.faults out.old) (O.faults out.new)) result }
+    ensures { Serves options (over S.seen source.old source.new) (over O.seen out.old out.new) result }
 {
     match options.mode {
         Mode::Gen => generate(alloc, options, out),
@@ -90,9 +86,7 @@ fn attempt<S: Source, O: Sink>(
     source: &mut S,
     out: &mut O,
 ) -> Result<Report, Stop>
-    ensures { Attempts (map string_bytes words.now)
-        (stream (S.left source.old) (S.left source.new) (S.faults source.old) (S.faults source.new))
-        (stream (O.held out.old) (O.held out.new) (O.faults out.old) (O.faults out.new)) result }
+    ensures { Attempts (map string_bytes words.now) (over S.seen source.old source.new) (over O.seen out.old out.new) result }
 {
     match options(alloc, words) {
         Ok(options) => obey(alloc, options, source, out),
@@ -106,7 +100,7 @@ fn attempt<S: Source, O: Sink>(
 
 /// Writes the line of a status, or fails.
 fn report<E: Sink>(err: &mut E, line: &[u8], status: Status) -> Status
-    ensures { Reports (stream (E.held err.old) (E.held err.new) (E.faults err.old) (E.faults err.new)) line.now status result }
+    ensures { Reports (over E.seen err.old err.new) line.now status result }
 {
     match write_all_of(err, line) {
         Ok(()) => status,
@@ -116,7 +110,7 @@ fn report<E: Sink>(err: &mut E, line: &[u8], status: Status) -> Status
 
 /// Writes the line that says why the work ended, where there is one, and gives the status.
 fn explain<E: Sink>(err: &mut E, stop: Stop) -> Status
-    ensures { Finishes (stream (E.held err.old) (E.held err.new) (E.faults err.old) (E.faults err.new)) (Err stop) result }
+    ensures { Finishes (over E.seen err.old err.new) (Err stop) result }
 {
     match stop {
         Stop::ReadFault => report(err, b"read failed\n", Status::ReadFault),
@@ -130,7 +124,7 @@ fn explain<E: Sink>(err: &mut E, stop: Stop) -> Status
 
 /// Writes what is due on errors, and gives the status.
 fn finish<E: Sink>(err: &mut E, outcome: Result<Report, Stop>) -> Status
-    ensures { Finishes (stream (E.held err.old) (E.held err.new) (E.faults err.old) (E.faults err.new)) outcome result }
+    ensures { Finishes (over E.seen err.old err.new) outcome result }
 {
     match outcome {
         Ok(told) => report(err, told.line.as_slice(), told.status),
@@ -153,16 +147,11 @@ pub fn command<S: Source, O: Sink, E: Sink>(
     err: &mut E,
 ) -> Status
     // For the words and the bytes that the source had, the run ends by the table, and a play wrote what its scripts print alone.
-    ensures ends { Ends (map string_bytes words.now)
-        (stream (S.left source.old) (S.left source.new) (S.faults source.old) (S.faults source.new))
-        (stream (O.held out.old) (O.held out.new) (O.faults out.old) (O.faults out.new))
-        (stream (E.held err.old) (E.held err.new) (E.faults err.old) (E.faults err.new)) result }
+    ensures ends { Ends (map string_bytes words.now) (over S.seen source.old source.new) (over O.seen out.old out.new) (over E.seen err.old err.new) result }
 
     // What is said of the causes without the bytes.
     ensures causes { Causes (map string_bytes words.now)
-        (stream (S.left source.old) (S.left source.new) (S.faults source.old) (S.faults source.new))
-        (stream (O.held out.old) (O.held out.new) (O.faults out.old) (O.faults out.new))
-        (stream (E.held err.old) (E.held err.new) (E.faults err.old) (E.faults err.new)) result }
+        (over S.seen source.old source.new) (over O.seen out.old out.new) (over E.seen err.old err.new) result }
 {
     let outcome = attempt(alloc, words, source, out);
     finish(err, outcome)

@@ -1,6 +1,6 @@
 -- Deeds one after another.
 use Rattle.std.proofs.Common.{◌≡◌, sym, subst}
-use Rattle.std.specs.Prelude.{Result, Ok, Err, IfOk, OnOk, map as each}
+use Rattle.std.specs.Prelude.{Result, Ok, Err, IfOk, OnOk}
 use Rattle.std.proofs.lemmas.Result.{on_ok_weaker}
 use Rattle.wjs_base.specs.Text.{Table, Grows}
 use Rattle.wjs_store.specs.Meaning.{Meaning}
@@ -10,21 +10,16 @@ use Rattle.wjs_content.specs.Values.{Value, Object}
 use Rattle.wjs_meaning.specs.Deeds.{Env, Act, Ret, Do, Create, Throws}
 use Rattle.wjs_model.specs.declared.config.Config.{Config}
 use Rattle.wjs_model.specs.declared.frame.Activation.{Activation as Frame}
-use Rattle.wjs_model.specs.Units.{unit_in}
-use Rattle.wjs_model.specs.Contents.{env_of, frame_in}
 use Rattle.wjs_moves.specs.Doing.{Does, Fails, DoesFirst, FailsFirst}
 use Rattle.wjs_moves.specs.Following.{Follows, Later}
 use Rattle.wjs_moves.specs.Parts.{env_in}
+pub use Rattle.wjs_moves.proofs.Handling.{env_later}
 
 -- throws the error that was made
 abbrev pub throwing : ObjId → Act
 throwing o = Ret (Throws (Object o))
 
 module _ {S : Type 0} (meaning : S → Meaning) where
-  -- where frames are run stays
-  pub env_later : (old new : Config S) (t : Table) (f : Frame) → Later meaning old new → env_in meaning new t f ≡ env_in meaning old t f
-  env_later old new t f l = λ i. env_of (record { trees = each (unit_in t) (l.units i).items; global = l.global i; owner = l.owner i }) (frame_in t f)
-
   -- in one shape: what is followed of one is followed of the other
   pub by_follows : {A : Type 0} (deeds : Table → (A → Act) → Act) (answer : Table → A) (old mid : Config S) → ((go : A → Act) (later : Config S) → Grows mid.heap.texts later.heap.texts → Follows meaning (go (answer later.heap.texts)) mid later → Follows meaning (deeds later.heap.texts go) old later)
       → Does meaning deeds answer old mid
@@ -86,7 +81,8 @@ module _ {S : Type 0} (meaning : S → Meaning) where
   does_with f said shown deeds answer old mid new n l d = record {
     by = λ go later r h.
         let t = later.heap.texts in
-        n.by (λ x. deeds t x (env_in meaning old t f) go) later r (subst (λ e. OnOk r (Follows meaning (deeds t (shown t) e go) mid later)) (env_later old mid t f l) (d.by go later r h));
+        n.by (λ x. deeds t x (env_in meaning old t f) go) later r (subst (λ e. OnOk r (Follows meaning (deeds t (shown t) e go) mid later))
+        (env_later meaning old mid t f l) (d.by go later r h));
   }
 
   -- two steps without a deed

@@ -80,6 +80,7 @@ module _ {S : Type 0} (meaning : S → Meaning) where
         record {
           stays = stays_twice old mid later ran.stays k.stays;
           cost = k.cost;
+          free = k.free;
           left = ap (λ (c : Config S). c.left) (sym ran.same) ∙ k.left;
           alive = k.alive;
           kept = λ v a h n.

@@ -50,7 +50,8 @@ pub fn create_undefined<S: WorldStore>(
 ) -> Result<ObjId, OutOfMemory>
     requires base { Base S.meaning config.old }
     requires name { HasName config.old name }
-    ensures does { IfOk result (λ o. Does S.meaning (λ t go. Do (Create config.old.owner (error_of Trouble.NotDefined (name_in t name))) go) (λ t. o) config.old config.new) }
+    ensures does { IfOk result
+        (λ o. Does S.meaning (λ t go. Do (Create config.old.owner (error_of Trouble.NotDefined (name_in t name))) go) (λ t. o) config.old config.new) }
     ensures later { OnOk result (Later S.meaning config.old config.new) }
     ensures found { IfOk result (λ o. HasObject config.new o) }
 {
@@ -70,7 +71,8 @@ fn create_with<S: WorldStore>(
 ) -> Result<ObjId, OutOfMemory>
     requires base { Base S.meaning config.old }
     requires short { length message.now ≤ longest }
-    ensures does { IfOk result (λ o. (name : Table → Units) → ((t : Table) → Grows config.old.heap.texts t → message.now ≡ message_of trouble (name t)) → Does S.meaning (λ t go. Do (Create config.old.owner (error_of trouble (name t))) go) (λ t. o) config.old config.new) }
+    ensures does { IfOk result (λ o. (name : Table → Units) → ((t : Table) → Grows config.old.heap.texts t → message.now ≡ message_of trouble (name t)) →
+        Does S.meaning (λ t go. Do (Create config.old.owner (error_of trouble (name t))) go) (λ t. o) config.old config.new) }
     ensures later { OnOk result (Later S.meaning config.old config.new) }
     ensures found { IfOk result (λ o. HasObject config.new o) }
 {
@@ -90,10 +92,12 @@ fn fixed_of_fault<S: WorldStore>(
 ) -> Result<Under<Value>, OutOfMemory>
     requires base { Base S.meaning config.old }
     requires short { length message.now ≤ longest }
-    ensures does { IfOk result (λ fixed. Does S.meaning (λ t go. go ((message_name, String message.now) ∷ fixed_name trouble)) (λ t. under_in t (value_in t) fixed) config.old config.new) }
+    ensures does { IfOk result (λ fixed. Does S.meaning (λ t go. go ((message_name, String message.now) ∷ fixed_name trouble))
+        (λ t. under_in t (value_in t) fixed) config.old config.new) }
     ensures later { OnOk result (Later S.meaning config.old config.new) }
     ensures found { IfOk result (λ fixed. Holds (λ e. HasName config.new e.0 × HasValue config.new e.1) fixed) }
-    ensures is { IfOk result (λ fixed. (t : Table) → Grows config.new.heap.texts t → under_in t (value_in t) fixed ≡ (message_name, String message.now) ∷ fixed_name trouble) }
+    ensures is { IfOk result
+        (λ fixed. (t : Table) → Grows config.new.heap.texts t → under_in t (value_in t) fixed ≡ (message_name, String message.now) ∷ fixed_name trouble) }
 {
     let first = text_under(config, Known::Message, message)?;
     match trouble {

@@ -132,7 +132,8 @@ pub fn get_known<S: WorldStore>(
     requires base { Base S.meaning config.old }
     requires there { IsThere S.meaning config.old frame.now }
     requires object { HasObject config.old object }
-    ensures does { IfOk result (λ value. Does S.meaning (λ t. line.get_value object (text_of name) (env_in S.meaning config.old t frame.now)) (λ t. value_in t value) config.old config.new) }
+    ensures does { IfOk result (λ value. Does S.meaning (λ t. line.get_value object (text_of name) (env_in S.meaning config.old t frame.now))
+        (λ t. value_in t value) config.old config.new) }
     ensures later { OnOk result (Later S.meaning config.old config.new) }
     ensures found { IfOk result (λ value. HasValue config.new value) }
 {
@@ -152,7 +153,8 @@ pub fn write_known<S: WorldStore>(
     requires there { IsThere S.meaning config.old frame.now }
     requires object { HasObject config.old object }
     requires value { HasValue config.old value }
-    ensures does { IfOk result (λ _. Does S.meaning (λ t go. Do (Write frame.now.world (slot object (text_of name)) (Some (value_in t value))) go) (λ t. nothing) config.old config.new) }
+    ensures does { IfOk result (λ _. Does S.meaning (λ t go. Do (Write frame.now.world (slot object (text_of name)) (Some (value_in t value))) go)
+        (λ t. nothing) config.old config.new) }
     ensures later { OnOk result (Later S.meaning config.old config.new) }
 {
     let name = known_name(config, name)?;

@@ -32,6 +32,6 @@ pub use output::emit;
 pub use properties::{delete, get, get_value, has, put, visits};
 pub use references::{local_value, reference_at, store, value_of};
 pub use slots::{read, read_content, write};
-pub use texts::{intern, name_of, text_of, units_of};
+pub use texts::{extend, intern, name_of, text_of, units_of};
 pub use values::{length_value, member_value};
 pub use worlds::{commit, create_world_object, has_world, sprout, world_of};

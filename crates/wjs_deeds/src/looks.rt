@@ -28,7 +28,7 @@ pub fn code_of<S: WorldStore>(config: &Config<S>, object: ObjId) -> Code
     ensures is { (t : Table) (arena : Arena) → Sees S.meaning config.now t arena → (objects.object_at arena object).code ≡ result }
     ensures entry { (e : Entry) → map.get config.now.heap.arena object ≡ Some e → e.object.code ≡ result }
 {
-    config.heap.arena.object(object).code
+    config.heap.arena.code(object)
 }
 
 /// The class of an object.
@@ -37,7 +37,7 @@ pub fn class_of<S: WorldStore>(config: &Config<S>, object: ObjId) -> Class
     ensures does { Does S.meaning (λ t go. Do Look (λ arena. go (objects.object_at arena object).class)) (λ t. result) config.now config.now }
     ensures is { (t : Table) (arena : Arena) → Sees S.meaning config.now t arena → (objects.object_at arena object).class ≡ result }
 {
-    config.heap.arena.object(object).class
+    config.heap.arena.class(object)
 }
 
 /// The prototype of an object.
@@ -48,7 +48,7 @@ pub fn prototype_of<S: WorldStore>(config: &Config<S>, object: ObjId) -> Option<
     ensures is { (t : Table) (arena : Arena) → Sees S.meaning config.now t arena → (objects.object_at arena object).prototype ≡ result }
     ensures found { IfSome result (λ prototype. HasObject config.now prototype) }
 {
-    config.heap.arena.object(object).prototype
+    config.heap.arena.prototype(object)
 }
 
 /// The scope of a function, or the next scope outwards.
@@ -61,7 +61,7 @@ pub fn scope_of<S: WorldStore>(config: &Config<S>, object: ObjId) -> Option<ObjI
     ensures found { IfSome result (λ scope. HasObject config.now scope) }
     ensures entry { (e : Entry) → map.get config.now.heap.arena object ≡ Some e → e.object.scope ≡ result }
 {
-    config.heap.arena.object(object).scope
+    config.heap.arena.scope(object)
 }
 
 /// The world for which an object stands, if there is one.
@@ -71,7 +71,7 @@ pub fn world_for<S: WorldStore>(config: &Config<S>, object: ObjId) -> Option<Wor
     ensures is { (t : Table) (arena : Arena) → Sees S.meaning config.now t arena → (objects.object_at arena object).world ≡ result }
     ensures shown { IfSome result (λ world. IsShown config.now.heap.arena world) }
 {
-    config.heap.arena.object(object).world
+    config.heap.arena.world(object)
 }
 
 /// What a wrapper holds, and undefined of another object.
@@ -82,7 +82,7 @@ pub fn primitive_of<S: WorldStore>(config: &Config<S>, object: ObjId) -> Value
     ensures is { (t : Table) (arena : Arena) → Sees S.meaning config.now t arena → (objects.object_at arena object).primitive ≡ value_in t result }
     ensures found { HasValue config.now result }
 {
-    config.heap.arena.object(object).primitive
+    config.heap.arena.primitive(object)
 }
 
 /// Whether the object is a function.
@@ -91,7 +91,7 @@ pub fn is_callable<S: WorldStore>(config: &Config<S>, object: ObjId) -> bool
     ensures does { Does S.meaning (λ t go. Do Look (λ arena. go (objects.is_callable arena object))) (λ t. result) config.now config.now }
     ensures is { (t : Table) (arena : Arena) → Sees S.meaning config.now t arena → objects.is_callable arena object ≡ result }
 {
-    has_code(config.heap.arena.object(object).code)
+    has_code(config.heap.arena.code(object))
 }
 
 /// Whether there is code.
@@ -139,7 +139,7 @@ pub fn is_array<S: WorldStore>(config: &Config<S>, object: ObjId) -> bool
     ensures does { Does S.meaning (λ t go. Do Look (λ arena. go (objects.is_array arena object))) (λ t. result) config.now config.now }
     ensures is { (t : Table) (arena : Arena) → Sees S.meaning config.now t arena → objects.is_array arena object ≡ result }
 {
-    is_array_class(config.heap.arena.object(object).class)
+    is_array_class(config.heap.arena.class(object))
 }
 
 /// Whether it is the class of Arrays.
@@ -158,8 +158,10 @@ pub fn fixed<S: WorldStore>(config: &Config<S>, object: ObjId, name: Name) -> Op
     requires base { Base S.meaning config.now }
     requires object { HasObject config.now object }
     requires name { HasName config.now name }
-    ensures does { Does S.meaning (λ t go. Do Look (λ arena. go (objects.fixed arena object (name_in t name)))) (λ t. option_map (value_in t) result) config.now config.now }
-    ensures is { (t : Table) → Grows config.now.heap.texts t → (arena : Arena) → Sees S.meaning config.now t arena → objects.fixed arena object (name_in t name) ≡ option_map (value_in t) result }
+    ensures does { Does S.meaning (λ t go. Do Look (λ arena. go (objects.fixed arena object (name_in t name))))
+        (λ t. option_map (value_in t) result) config.now config.now }
+    ensures is { (t : Table) → Grows config.now.heap.texts t → (arena : Arena) → Sees S.meaning config.now t arena →
+        objects.fixed arena object (name_in t name) ≡ option_map (value_in t) result }
     ensures found { IfSome result (λ value. HasValue config.now value) }
 {
     config.heap.arena.fixed(object, name)
@@ -171,7 +173,8 @@ pub fn is_hidden<S: WorldStore>(config: &Config<S>, object: ObjId, name: Name) -
     requires object { HasObject config.now object }
     requires name { HasName config.now name }
     ensures does { Does S.meaning (λ t go. Do Look (λ arena. go (objects.is_hidden arena object (name_in t name)))) (λ t. result) config.now config.now }
-    ensures is { (t : Table) → Grows config.now.heap.texts t → (arena : Arena) → Sees S.meaning config.now t arena → objects.is_hidden arena object (name_in t name) ≡ result }
+    ensures is { (t : Table) → Grows config.now.heap.texts t → (arena : Arena) → Sees S.meaning config.now t arena →
+        objects.is_hidden arena object (name_in t name) ≡ result }
 {
     config.heap.arena.flags(object, name).hidden
 }

@@ -21,7 +21,7 @@ use crate::known::{Known, known_name};
 use crate::texts::units_of;
 use crate::values::length_value;
 use std::alloc::Global;
-use wjs_arena::{Class, Code, Flags, Object, Under};
+use wjs_arena::{Class, Code, Flags, Listed, Object, Under};
 use wjs_base::{Name, ObjId, OutOfMemory, TextId, Value};
 use wjs_model::Config;
 use wjs_store::WorldStore;
@@ -39,7 +39,17 @@ pub fn builtin<S: WorldStore>(config: &Config<S>, serial: u64) -> ObjId
 
 /// An object of a class on a prototype, with nothing else.
 pub fn object_of(alloc: Global, class: Class, prototype: Option<ObjId>) -> Object
-    ensures { result ≡ record { class = class; prototype = prototype; scope = None; code = Code.None; primitive = Value.Undefined; world = None; fixed = []; flags = []; all_kept = false } }
+    ensures { result ≡ record {
+      class = class;
+      prototype = prototype;
+      scope = None;
+      code = Code.None;
+      primitive = Value.Undefined;
+      world = None;
+      fixed = [];
+      flags = [];
+      all_kept = false;
+    } }
 {
     Object {
         class,
@@ -49,7 +59,7 @@ pub fn object_of(alloc: Global, class: Class, prototype: Option<ObjId>) -> Objec
         primitive: Value::Undefined,
         world: None,
         fixed: Under::new(alloc),
-        flags: Under::new(alloc),
+        flags: Listed::new(alloc),
         all_kept: false,
     }
 }
@@ -66,7 +76,8 @@ pub fn create<S: WorldStore>(config: &mut Config<S>, object: Object) -> Result<O
     requires world { object.world ≡ None }
     requires code { FunctionStands config.old.units.items config.old.heap.arena object.code object.scope }
     ensures does { IfOk result (λ o. Does S.meaning (λ t go. Do (Create config.old.owner (object_in t object)) go) (λ t. o) config.old config.new) }
-    ensures makes { IfOk result (λ o. (internals : Table → Internals) → ((t : Table) → Grows config.old.heap.texts t → object_in t object ≡ internals t) → Does S.meaning (λ t go. Do (Create config.old.owner (internals t)) go) (λ t. o) config.old config.new) }
+    ensures makes { IfOk result (λ o. (internals : Table → Internals) → ((t : Table) → Grows config.old.heap.texts t → object_in t object ≡ internals t) →
+        Does S.meaning (λ t go. Do (Create config.old.owner (internals t)) go) (λ t. o) config.old config.new) }
     ensures later { OnOk result (Later S.meaning config.old config.new) }
     ensures found { IfOk result (λ o. HasObject config.new o) }
     ensures outer { IfOk result (λ o. scope_of config.new.heap.arena o ≡ object.scope) }
@@ -103,16 +114,18 @@ pub fn create_array<S: WorldStore>(config: &mut Config<S>) -> Result<ObjId, OutO
 }
 
 /// A name that is hidden and kept.
-fn hidden_kept(alloc: Global, name: Name) -> Result<Under<Flags>, OutOfMemory>
+fn hidden_kept(alloc: Global, name: Name) -> Result<Listed, OutOfMemory>
     ensures { IfOk result (λ under. under ≡ (name, record { hidden = true; kept = true }) ∷ []) }
 {
-    let mut flags = Vec::new(alloc);
+    let Ok(mut flags) = Vec::with_capacity(alloc, 1) else {
+        return Err(OutOfMemory);
+    };
     let attributes = Flags {
         hidden: true,
         kept: true,
     };
     match flags.push((name, attributes)) {
-        Ok(()) => Ok(Under::from_vec(flags)),
+        Ok(()) => Ok(Listed::from_vec(flags)),
         Err(_) => Err(OutOfMemory),
     }
 }
@@ -144,7 +157,8 @@ pub fn create_wrapper<S: WorldStore>(
     requires base { Base S.meaning config.old }
     requires value { HasValue config.old value }
     requires primitive { (t : Table) → is_primitive (value_in t value) ≡ true }
-    ensures does { IfOk result (λ o. Does S.meaning (λ t go. Do (Create config.old.owner (first.wrapper_of (value_in t value))) go) (λ t. o) config.old config.new) }
+    ensures does { IfOk result
+        (λ o. Does S.meaning (λ t go. Do (Create config.old.owner (first.wrapper_of (value_in t value))) go) (λ t. o) config.old config.new) }
     ensures later { OnOk result (Later S.meaning config.old config.new) }
     ensures found { IfOk result (λ o. HasObject config.new o) }
 {
@@ -166,7 +180,9 @@ fn create_plain_wrapper<S: WorldStore>(
     requires base { Base S.meaning config.old }
     requires value { HasValue config.old value }
     requires prototype { prototype < 14 }
-    ensures does { IfOk result (λ o. Does S.meaning (λ t go. Do (Create config.old.owner (record (content.object_of class (Some (first.builtin prototype))) { primitive = value_in t value })) go) (λ t. o) config.old config.new) }
+    ensures does { IfOk result (λ o. Does S.meaning
+        (λ t go. Do (Create config.old.owner (record (content.object_of class (Some (first.builtin prototype))) { primitive = value_in t value })) go)
+        (λ t. o) config.old config.new) }
     ensures later { OnOk result (Later S.meaning config.old config.new) }
     ensures found { IfOk result (λ o. HasObject config.new o) }
 {
@@ -184,7 +200,8 @@ fn create_text_wrapper<S: WorldStore>(
 ) -> Result<ObjId, OutOfMemory>
     requires base { Base S.meaning config.old }
     requires text { Has config.old.heap.texts id }
-    ensures does { IfOk result (λ o. Does S.meaning (λ t go. Do (Create config.old.owner (first.wrapper_of (String (text_in t id)))) go) (λ t. o) config.old config.new) }
+    ensures does { IfOk result
+        (λ o. Does S.meaning (λ t go. Do (Create config.old.owner (first.wrapper_of (String (text_in t id)))) go) (λ t. o) config.old config.new) }
     ensures later { OnOk result (Later S.meaning config.old config.new) }
     ensures found { IfOk result (λ o. HasObject config.new o) }
 {
@@ -202,7 +219,9 @@ fn create_text_wrapper<S: WorldStore>(
 pub fn one_fixed(alloc: Global, name: Name, value: Value) -> Result<Under<Value>, OutOfMemory>
     ensures { IfOk result (λ under. under ≡ (name, value) ∷ []) }
 {
-    let mut fixed = Vec::new(alloc);
+    let Ok(mut fixed) = Vec::with_capacity(alloc, 1) else {
+        return Err(OutOfMemory);
+    };
     match fixed.push((name, value)) {
         Ok(()) => Ok(Under::from_vec(fixed)),
         Err(_) => Err(OutOfMemory),
@@ -217,7 +236,9 @@ pub fn two_fixed(
 ) -> Result<Under<Value>, OutOfMemory>
     ensures { IfOk result (λ under. under ≡ first ∷ second ∷ []) }
 {
-    let mut fixed = Vec::new(alloc);
+    let Ok(mut fixed) = Vec::with_capacity(alloc, 2) else {
+        return Err(OutOfMemory);
+    };
     if fixed.push(first).is_err() {
         return Err(OutOfMemory);
     }

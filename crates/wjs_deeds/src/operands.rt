@@ -30,7 +30,8 @@ pub fn operand_completion<S: WorldStore>(
     requires base { Base S.meaning config.old }
     requires there { IsThere S.meaning config.old frame.now }
     requires operand { HasOperand config.old operand }
-    ensures does { IfOk result (λ completion. Does S.meaning (λ t. with_operand (operand_in t operand) (env_in S.meaning config.old t frame.now)) (λ t. completion_in t completion) config.old config.new) }
+    ensures does { IfOk result (λ completion. Does S.meaning (λ t. with_operand (operand_in t operand) (env_in S.meaning config.old t frame.now))
+        (λ t. completion_in t completion) config.old config.new) }
     ensures later { OnOk result (Later S.meaning config.old config.new) }
     ensures found { IfOk result (λ completion. HasCompletion config.new completion) }
 {
@@ -54,7 +55,8 @@ fn name_completion<S: WorldStore>(
     requires base { Base S.meaning config.old }
     requires there { IsThere S.meaning config.old frame.now }
     requires text { Has config.old.heap.texts id }
-    ensures does { IfOk result (λ completion. Does S.meaning (λ t. named (place_in place) (text_in t id) (env_in S.meaning config.old t frame.now)) (λ t. completion_in t completion) config.old config.new) }
+    ensures does { IfOk result (λ completion. Does S.meaning (λ t. named (place_in place) (text_in t id) (env_in S.meaning config.old t frame.now))
+        (λ t. completion_in t completion) config.old config.new) }
     ensures later { OnOk result (Later S.meaning config.old config.new) }
     ensures found { IfOk result (λ completion. HasCompletion config.new completion) }
 {
@@ -81,7 +83,8 @@ fn local_completion<S: WorldStore>(
     requires there { IsThere S.meaning config.old frame.now }
     requires scope { HasObject config.old scope }
     requires name { HasName config.old name }
-    ensures does { IfOk result (λ completion. Does S.meaning (λ t. evaluated (Local scope (name_in t name)) (env_in S.meaning config.old t frame.now)) (λ t. completion_in t completion) config.old config.new) }
+    ensures does { IfOk result (λ completion. Does S.meaning (λ t. evaluated (Local scope (name_in t name)) (env_in S.meaning config.old t frame.now))
+        (λ t. completion_in t completion) config.old config.new) }
     ensures later { OnOk result (Later S.meaning config.old config.new) }
     ensures found { IfOk result (λ completion. HasCompletion config.new completion) }
 {
@@ -99,7 +102,8 @@ fn global_completion<S: WorldStore>(
     requires base { Base S.meaning config.old }
     requires there { IsThere S.meaning config.old frame.now }
     requires name { HasName config.old name }
-    ensures does { IfOk result (λ completion. Does S.meaning (λ t. evaluated (Global (name_in t name)) (env_in S.meaning config.old t frame.now)) (λ t. completion_in t completion) config.old config.new) }
+    ensures does { IfOk result (λ completion. Does S.meaning (λ t. evaluated (Global (name_in t name)) (env_in S.meaning config.old t frame.now))
+        (λ t. completion_in t completion) config.old config.new) }
     ensures later { OnOk result (Later S.meaning config.old config.new) }
     ensures found { IfOk result (λ completion. HasCompletion config.new completion) }
 {

@@ -28,7 +28,8 @@ pub fn get<S: WorldStore>(
     requires there { IsThere S.meaning config.old frame.now }
     requires object { HasObject config.old object }
     requires name { HasName config.old name }
-    ensures does { IfOk result (λ found. Does S.meaning (λ t. line.get object (name_in t name) (env_in S.meaning config.old t frame.now)) (λ t. content_in t found) config.old config.new) }
+    ensures does { IfOk result (λ found. Does S.meaning (λ t. line.get object (name_in t name) (env_in S.meaning config.old t frame.now))
+        (λ t. content_in t found) config.old config.new) }
     ensures later { OnOk result (Later S.meaning config.old config.new) }
     ensures found { IfOk result (λ found. HasContent config.new found) }
 {
@@ -48,7 +49,8 @@ pub fn get_value<S: WorldStore>(
     requires there { IsThere S.meaning config.old frame.now }
     requires object { HasObject config.old object }
     requires name { HasName config.old name }
-    ensures does { IfOk result (λ value. Does S.meaning (λ t. line.get_value object (name_in t name) (env_in S.meaning config.old t frame.now)) (λ t. value_in t value) config.old config.new) }
+    ensures does { IfOk result (λ value. Does S.meaning (λ t. line.get_value object (name_in t name) (env_in S.meaning config.old t frame.now))
+        (λ t. value_in t value) config.old config.new) }
     ensures later { OnOk result (Later S.meaning config.old config.new) }
     ensures found { IfOk result (λ value. HasValue config.new value) }
 {
@@ -70,7 +72,8 @@ pub fn has<S: WorldStore>(
     requires there { IsThere S.meaning config.old frame.now }
     requires object { HasObject config.old object }
     requires name { HasName config.old name }
-    ensures does { IfOk result (λ answer. Does S.meaning (λ t. line.has object (name_in t name) (env_in S.meaning config.old t frame.now)) (λ t. answer) config.old config.new) }
+    ensures does { IfOk result
+        (λ answer. Does S.meaning (λ t. line.has object (name_in t name) (env_in S.meaning config.old t frame.now)) (λ t. answer) config.old config.new) }
     ensures later { OnOk result (Later S.meaning config.old config.new) }
 {
     let answer = wjs_props::has(&mut config.heap, frame.world(), object, name)?;
@@ -91,7 +94,8 @@ pub fn put<S: WorldStore>(
     requires object { HasObject config.old object }
     requires name { HasName config.old name }
     requires value { HasValue config.old value }
-    ensures does { IfOk result (λ answer. Does S.meaning (λ t. line.put object (name_in t name) (value_in t value) (env_in S.meaning config.old t frame.now)) (λ t. answer) config.old config.new) }
+    ensures does { IfOk result (λ answer. Does S.meaning (λ t. line.put object (name_in t name) (value_in t value) (env_in S.meaning config.old t frame.now))
+        (λ t. answer) config.old config.new) }
     ensures later { OnOk result (Later S.meaning config.old config.new) }
 {
     let answer = wjs_props::put(&mut config.heap, frame.world(), object, name, value)?;
@@ -109,7 +113,8 @@ pub fn delete<S: WorldStore>(
     requires there { IsThere S.meaning config.old frame.now }
     requires object { HasObject config.old object }
     requires name { HasName config.old name }
-    ensures does { IfOk result (λ answer. Does S.meaning (λ t. line.delete object (name_in t name) (env_in S.meaning config.old t frame.now)) (λ t. answer) config.old config.new) }
+    ensures does { IfOk result
+        (λ answer. Does S.meaning (λ t. line.delete object (name_in t name) (env_in S.meaning config.old t frame.now)) (λ t. answer) config.old config.new) }
     ensures later { OnOk result (Later S.meaning config.old config.new) }
 {
     let answer = wjs_props::delete(&mut config.heap, frame.world(), object, name)?;
@@ -125,7 +130,8 @@ pub fn visits<S: WorldStore>(
     requires base { Base S.meaning config.old }
     requires there { IsThere S.meaning config.old frame.now }
     requires object { HasObject config.old object }
-    ensures does { IfOk result (λ visits. Does S.meaning (λ t. line.visits object (env_in S.meaning config.old t frame.now)) (λ t. visits_in t visits) config.old config.new) }
+    ensures does { IfOk result
+        (λ visits. Does S.meaning (λ t. line.visits object (env_in S.meaning config.old t frame.now)) (λ t. visits_in t visits) config.old config.new) }
     ensures later { OnOk result (Later S.meaning config.old config.new) }
     ensures found { IfOk result (λ visits. Holds (HasVisit config.new) visits) }
 {

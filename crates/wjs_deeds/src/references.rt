@@ -36,7 +36,8 @@ pub fn reference_at<S: WorldStore>(
     requires base { Base S.meaning config.now }
     requires there { IsThere S.meaning config.now frame.now }
     requires text { Has config.now.heap.texts id }
-    ensures does { Does S.meaning (λ t. line.reference_at (place_in place) (text_in t id) (env_in S.meaning config.now t frame.now)) (λ t. reference_in t result) config.now config.now }
+    ensures does { Does S.meaning (λ t. line.reference_at (place_in place) (text_in t id) (env_in S.meaning config.now t frame.now))
+        (λ t. reference_in t result) config.now config.now }
     ensures found { HasReference config.now result }
 {
     let name = name_of(config, id);
@@ -56,7 +57,11 @@ pub fn value_of<S: WorldStore>(
     requires base { Base S.meaning config.old }
     requires there { IsThere S.meaning config.old frame.now }
     requires reference { HasReference config.old reference }
-    ensures does { IfOk result (λ answer. MatchResult answer (λ value. Does S.meaning (λ t. line.value_of (reference_in t reference) (env_in S.meaning config.old t frame.now)) (λ t. value_in t value) config.old config.new) (λ error. Fails S.meaning (λ t. line.value_of (reference_in t reference) (env_in S.meaning config.old t frame.now)) (λ t. value_in t error) config.old config.new)) }
+    ensures does { IfOk result (λ answer. MatchResult answer
+        (λ value. Does S.meaning (λ t. line.value_of (reference_in t reference) (env_in S.meaning config.old t frame.now))
+        (λ t. value_in t value) config.old config.new)
+        (λ error. Fails S.meaning (λ t. line.value_of (reference_in t reference) (env_in S.meaning config.old t frame.now))
+        (λ t. value_in t error) config.old config.new)) }
     ensures later { OnOk result (Later S.meaning config.old config.new) }
     ensures found { IfOk result (λ answer. MatchResult answer (λ value. HasValue config.new value) (λ error. HasValue config.new error)) }
 {
@@ -85,7 +90,8 @@ pub fn local_value<S: WorldStore>(
     requires there { IsThere S.meaning config.old frame.now }
     requires scope { HasObject config.old scope }
     requires name { HasName config.old name }
-    ensures does { IfOk result (λ value. Does S.meaning (λ t. line.value_of (Local scope (name_in t name)) (env_in S.meaning config.old t frame.now)) (λ t. value_in t value) config.old config.new) }
+    ensures does { IfOk result (λ value. Does S.meaning (λ t. line.value_of (Local scope (name_in t name)) (env_in S.meaning config.old t frame.now))
+        (λ t. value_in t value) config.old config.new) }
     ensures later { OnOk result (Later S.meaning config.old config.new) }
     ensures found { IfOk result (λ value. HasValue config.new value) }
 {
@@ -105,7 +111,11 @@ fn global_value<S: WorldStore>(
     requires base { Base S.meaning config.old }
     requires there { IsThere S.meaning config.old frame.now }
     requires name { HasName config.old name }
-    ensures does { IfOk result (λ answer. MatchResult answer (λ value. Does S.meaning (λ t. line.value_of (Global (name_in t name)) (env_in S.meaning config.old t frame.now)) (λ t. value_in t value) config.old config.new) (λ error. Fails S.meaning (λ t. line.value_of (Global (name_in t name)) (env_in S.meaning config.old t frame.now)) (λ t. value_in t error) config.old config.new)) }
+    ensures does { IfOk result (λ answer. MatchResult answer
+        (λ value. Does S.meaning (λ t. line.value_of (Global (name_in t name)) (env_in S.meaning config.old t frame.now))
+        (λ t. value_in t value) config.old config.new)
+        (λ error. Fails S.meaning (λ t. line.value_of (Global (name_in t name)) (env_in S.meaning config.old t frame.now))
+        (λ t. value_in t error) config.old config.new)) }
     ensures later { OnOk result (Later S.meaning config.old config.new) }
     ensures found { IfOk result (λ answer. MatchResult answer (λ value. HasValue config.new value) (λ error. HasValue config.new error)) }
 {
@@ -132,7 +142,11 @@ pub fn store<S: WorldStore>(
     requires there { IsThere S.meaning config.old frame.now }
     requires reference { HasReference config.old reference }
     requires value { HasValue config.old value }
-    ensures does { IfOk result (λ answer. MatchResult answer (λ _. DoesFirst S.meaning (λ t. line.store (reference_in t reference) (value_in t value) (env_in S.meaning config.old t frame.now)) config.old config.new) (λ error. FailsFirst S.meaning (λ t. line.store (reference_in t reference) (value_in t value) (env_in S.meaning config.old t frame.now)) (λ t. value_in t error) config.old config.new)) }
+    ensures does { IfOk result (λ answer. MatchResult answer
+        (λ _. DoesFirst S.meaning
+        (λ t. line.store (reference_in t reference) (value_in t value) (env_in S.meaning config.old t frame.now)) config.old config.new)
+        (λ error. FailsFirst S.meaning (λ t. line.store (reference_in t reference) (value_in t value) (env_in S.meaning config.old t frame.now))
+        (λ t. value_in t error) config.old config.new)) }
     ensures later { OnOk result (Later S.meaning config.old config.new) }
     ensures found { IfOk result (λ answer. MatchResult answer (λ _. Unit {0}) (λ error. HasValue config.new error)) }
 {
@@ -163,7 +177,12 @@ fn store_member<S: WorldStore>(
     requires object { HasValue config.old base }
     requires name { HasName config.old name }
     requires value { HasValue config.old value }
-    ensures does { IfOk result (λ answer. MatchResult answer (λ _. DoesFirst S.meaning (λ t. line.store (Member (value_in t base) (name_in t name)) (value_in t value) (env_in S.meaning config.old t frame.now)) config.old config.new) (λ error. FailsFirst S.meaning (λ t. line.store (Member (value_in t base) (name_in t name)) (value_in t value) (env_in S.meaning config.old t frame.now)) (λ t. value_in t error) config.old config.new)) }
+    ensures does { IfOk result (λ answer. MatchResult answer
+        (λ _. DoesFirst S.meaning
+        (λ t. line.store (Member (value_in t base) (name_in t name)) (value_in t value) (env_in S.meaning config.old t frame.now)) config.old config.new)
+        (λ error. FailsFirst S.meaning
+        (λ t. line.store (Member (value_in t base) (name_in t name)) (value_in t value) (env_in S.meaning config.old t frame.now))
+        (λ t. value_in t error) config.old config.new)) }
     ensures later { OnOk result (Later S.meaning config.old config.new) }
     ensures found { IfOk result (λ answer. MatchResult answer (λ _. Unit {0}) (λ error. HasValue config.new error)) }
 {
@@ -187,7 +206,8 @@ fn store_local<S: WorldStore>(
     requires scope { HasObject config.old scope }
     requires name { HasName config.old name }
     requires value { HasValue config.old value }
-    ensures does { OnOk result (DoesFirst S.meaning (λ t. line.store (Local scope (name_in t name)) (value_in t value) (env_in S.meaning config.old t frame.now)) config.old config.new) }
+    ensures does { OnOk result (DoesFirst S.meaning
+        (λ t. line.store (Local scope (name_in t name)) (value_in t value) (env_in S.meaning config.old t frame.now)) config.old config.new) }
     ensures later { OnOk result (Later S.meaning config.old config.new) }
 {
     match fixed(config, scope, name) {
@@ -210,7 +230,12 @@ fn store_property<S: WorldStore>(
     requires object { HasObject config.old object }
     requires name { HasName config.old name }
     requires value { HasValue config.old value }
-    ensures does { IfOk result (λ answer. MatchResult answer (λ _. DoesFirst S.meaning (λ t. line.store (Member (Object object) (name_in t name)) (value_in t value) (env_in S.meaning config.old t frame.now)) config.old config.new) (λ error. FailsFirst S.meaning (λ t. line.store (Member (Object object) (name_in t name)) (value_in t value) (env_in S.meaning config.old t frame.now)) (λ t. value_in t error) config.old config.new)) }
+    ensures does { IfOk result (λ answer. MatchResult answer
+        (λ _. DoesFirst S.meaning
+        (λ t. line.store (Member (Object object) (name_in t name)) (value_in t value) (env_in S.meaning config.old t frame.now)) config.old config.new)
+        (λ error. FailsFirst S.meaning
+        (λ t. line.store (Member (Object object) (name_in t name)) (value_in t value) (env_in S.meaning config.old t frame.now))
+        (λ t. value_in t error) config.old config.new)) }
     ensures later { OnOk result (Later S.meaning config.old config.new) }
     ensures found { IfOk result (λ answer. MatchResult answer (λ _. Unit {0}) (λ error. HasValue config.new error)) }
 {

@@ -25,7 +25,8 @@ pub fn read_content<S: WorldStore>(
     requires there { IsThere S.meaning config.old frame.now }
     requires object { HasObject config.old object }
     requires name { HasName config.old name }
-    ensures does { IfOk result (λ found. Does S.meaning (λ t go. Do (Read frame.now.world (slot object (name_in t name))) go) (λ t. content_in t found) config.old config.new) }
+    ensures does { IfOk result
+        (λ found. Does S.meaning (λ t go. Do (Read frame.now.world (slot object (name_in t name))) go) (λ t. content_in t found) config.old config.new) }
     ensures later { OnOk result (Later S.meaning config.old config.new) }
     ensures found { IfOk result (λ found. HasContent config.new found) }
 {
@@ -45,7 +46,9 @@ pub fn read<S: WorldStore>(
     requires there { IsThere S.meaning config.old frame.now }
     requires object { HasObject config.old object }
     requires name { HasName config.old name }
-    ensures does { IfOk result (λ value. Does S.meaning (λ t go. Do (Read frame.now.world (slot object (name_in t name))) (λ found. go (value_or_undefined found))) (λ t. value_in t value) config.old config.new) }
+    ensures does { IfOk result
+        (λ value. Does S.meaning (λ t go. Do (Read frame.now.world (slot object (name_in t name))) (λ found. go (value_or_undefined found)))
+        (λ t. value_in t value) config.old config.new) }
     ensures later { OnOk result (Later S.meaning config.old config.new) }
     ensures found { IfOk result (λ value. HasValue config.new value) }
 {
@@ -70,7 +73,8 @@ pub fn write<S: WorldStore>(
     requires object { HasObject config.old object }
     requires name { HasName config.old name }
     requires value { HasValue config.old value }
-    ensures does { IfOk result (λ _. Does S.meaning (λ t go. Do (Write frame.now.world (slot object (name_in t name)) (Some (value_in t value))) go) (λ t. nothing) config.old config.new) }
+    ensures does { IfOk result (λ _. Does S.meaning (λ t go. Do (Write frame.now.world (slot object (name_in t name)) (Some (value_in t value))) go)
+        (λ t. nothing) config.old config.new) }
     ensures later { OnOk result (Later S.meaning config.old config.new) }
 {
     wjs_props::write(

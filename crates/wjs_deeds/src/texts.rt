@@ -1,5 +1,5 @@
 //! Texts and names.
-ghost use Rattle.std.specs.Prelude.{◌≡◌, ◌≤◌, length, IfOk, OnOk};
+ghost use Rattle.std.specs.Prelude.{◌≡◌, ◌+◌, ◌≤◌, ◌++◌, length, IfOk, OnOk};
 ghost use Rattle.wjs_base.specs.Text.{Table, Grows, Has, longest};
 ghost use Rattle.wjs_content.specs.Tables.{text_in, name_in};
 ghost use Rattle.wjs_model.specs.Soundness.{Base, HasName};
@@ -20,6 +20,26 @@ pub fn intern<S: WorldStore>(config: &mut Config<S>, units: &[u16]) -> Result<Te
     ensures text { IfOk result (λ id. (t : Table) → Grows config.new.heap.texts t → text_in t id ≡ units.now) }
 {
     match config.heap.texts.intern(units) {
+        Ok(id) => Ok(id),
+        Err(_) => Err(OutOfMemory),
+    }
+}
+
+/// The number of the text that has the units of `front` and then these, which is put last where it is new. No deed is done.
+pub fn extend<S: WorldStore>(
+    config: &mut Config<S>,
+    front: TextId,
+    back: &[u16],
+) -> Result<TextId, OutOfMemory>
+    requires base { Base S.meaning config.old }
+    requires front { Has config.old.heap.texts front }
+    requires short { length (text_in config.old.heap.texts front) + length back.now ≤ longest }
+    ensures does { IfOk result (λ id. Does S.meaning (λ t go. go (text_in t front ++ back.now)) (λ t. text_in t id) config.old config.new) }
+    ensures later { OnOk result (Later S.meaning config.old config.new) }
+    ensures found { IfOk result (λ id. Has config.new.heap.texts id) }
+    ensures text { IfOk result (λ id. (t : Table) → Grows config.new.heap.texts t → text_in t id ≡ text_in t front ++ back.now) }
+{
+    match config.heap.texts.extend(front, back) {
         Ok(id) => Ok(id),
         Err(_) => Err(OutOfMemory),
     }

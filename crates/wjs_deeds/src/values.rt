@@ -38,7 +38,8 @@ pub fn member_value<S: WorldStore>(
     requires there { IsThere S.meaning config.old frame.now }
     requires value { HasValue config.old base }
     requires name { HasName config.old name }
-    ensures does { IfOk result (λ value. Does S.meaning (λ t. line.member_value (value_in t base) (name_in t name) (env_in S.meaning config.old t frame.now)) (λ t. value_in t value) config.old config.new) }
+    ensures does { IfOk result (λ value. Does S.meaning (λ t. line.member_value (value_in t base) (name_in t name) (env_in S.meaning config.old t frame.now))
+        (λ t. value_in t value) config.old config.new) }
     ensures later { OnOk result (Later S.meaning config.old config.new) }
     ensures found { IfOk result (λ value. HasValue config.new value) }
 {
@@ -63,7 +64,8 @@ fn text_member<S: WorldStore>(
     requires there { IsThere S.meaning config.old frame.now }
     requires text { Has config.old.heap.texts id }
     requires name { HasName config.old name }
-    ensures does { IfOk result (λ value. Does S.meaning (λ t. line.text_member (text_in t id) (name_in t name) (env_in S.meaning config.old t frame.now)) (λ t. value_in t value) config.old config.new) }
+    ensures does { IfOk result (λ value. Does S.meaning (λ t. line.text_member (text_in t id) (name_in t name) (env_in S.meaning config.old t frame.now))
+        (λ t. value_in t value) config.old config.new) }
     ensures later { OnOk result (Later S.meaning config.old config.new) }
     ensures found { IfOk result (λ value. HasValue config.new value) }
 {

@@ -96,7 +96,10 @@ pub fn world_of<S: WorldStore>(
     requires base { Base S.meaning config.old }
     requires there { IsThere S.meaning config.old frame.now }
     requires value { HasValue config.old value }
-    ensures does { IfOk result (λ answer. MatchResult answer (λ world. Does S.meaning (λ t. line.world_of (value_in t value) (env_in S.meaning config.old t frame.now)) (λ t. world) config.old config.new) (λ error. Fails S.meaning (λ t. line.world_of (value_in t value) (env_in S.meaning config.old t frame.now)) (λ t. value_in t error) config.old config.new)) }
+    ensures does { IfOk result (λ answer. MatchResult answer
+        (λ world. Does S.meaning (λ t. line.world_of (value_in t value) (env_in S.meaning config.old t frame.now)) (λ t. world) config.old config.new)
+        (λ error. Fails S.meaning (λ t. line.world_of (value_in t value) (env_in S.meaning config.old t frame.now))
+        (λ t. value_in t error) config.old config.new)) }
     ensures later { OnOk result (Later S.meaning config.old config.new) }
     ensures found { IfOk result (λ answer. MatchResult answer (λ world. HasWorld S.meaning config.new world) (λ error. HasValue config.new error)) }
     ensures shown { IfOk result (λ answer. MatchResult answer (λ world. IsShown config.new.heap.arena world) (λ error. Unit {0})) }

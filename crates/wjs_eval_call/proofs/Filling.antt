@@ -25,7 +25,8 @@ use Rattle.wjs_meaning.specs.Deeds.{Env, Act, Do, Write, write_all}
 use Rattle.wjs_meaning.specs.Functions.{arguments_object, hidden_indices, formal_slots, declare_variables}
 use Rattle.wjs_deeds.proofs.Making.{bare, flagged_named}
 use Rattle.wjs_calls.proofs.Elements.{left_here}
-use Rattle.wjs_eval_call.specs.Filling.{undefined_slots, hidden_from, variable_declared}
+use Rattle.wjs_arena.specs.Hidden.{hidden_from}
+use Rattle.wjs_eval_call.specs.Filling.{undefined_slots, variable_declared}
 
 -- ---- Arguments objects
 

@@ -1,10 +1,6 @@
 -- The scope of a call is filled, before the body runs (ECMA-262, 3rd edition, section 10.2.3).
-use Rattle.std.specs.Prelude.{ℕ, zero, suc, ◌+◌, List, [], ◌∷◌, ◌++◌, map as each, None, Some}
+use Rattle.std.specs.Prelude.{ℕ, List, [], ◌∷◌, ◌++◌, map as each, None, Some}
 use Rattle.wjs_base.specs.declared.ids.ObjId.{ObjId}
-use Rattle.wjs_base.specs.declared.values.Name.{Name}
-use Rattle.wjs_base.specs.declared.values.Name.TheVariants as names
-use Rattle.wjs_arena.specs.declared.object.Flags.{Flags}
-use Rattle.wjs_content.specs.Objects.{hidden_flags}
 use Rattle.wjs_content.specs.Values.{Text, Value, Undefined, Object}
 use Rattle.wjs_content.specs.Names.{Slot, slot, arguments_name}
 use Rattle.wjs_meaning.specs.Deeds.{Env, Act, Do, Create, Read, Write, write_all}
@@ -14,11 +10,6 @@ use Rattle.wjs_meaning.specs.Declarations.{Declared}
 -- the variables of a scope, as undefined
 abbrev pub undefined_slots : ObjId → List Text → List (Slot × Value)
 undefined_slots s names = each (λ name. (slot s name, Undefined)) names
-
--- so many indices from one on are hidden
-abbrev pub hidden_from : ℕ → ℕ → List (Name × Flags)
-hidden_from i zero = []
-hidden_from i (suc n) = (names.Index i, hidden_flags) ∷ hidden_from (i + 1) n
 
 -- what is written to a scope: `arguments`, the formals, the functions, and the other variables
 abbrev pub scope_filled : List Text → List ℕ → List Text → ObjId → ObjId → List Value → Env → Act → Act

@@ -15,10 +15,11 @@ ghost use Rattle.wjs_model.specs.Soundness.{Base, IsThere, HasName, HasObject, H
 ghost use Rattle.wjs_moves.specs.Doing.{Does, DoesFirst};
 ghost use Rattle.wjs_moves.specs.Parts.{env_in};
 ghost use Rattle.wjs_moves.specs.Following.{Later};
-ghost use Rattle.wjs_eval_call.specs.Filling.{arguments_written, undefined_slots, hidden_from};
+ghost use Rattle.wjs_arena.specs.Hidden.{hidden_from};
+ghost use Rattle.wjs_eval_call.specs.Filling.{arguments_written, undefined_slots};
 
 use std::alloc::Global;
-use wjs_arena::{Class, Flags, Under};
+use wjs_arena::{Class, Flags, Listed};
 use wjs_base::{Name, ObjId, OutOfMemory, TextId, Value};
 use wjs_calls::{declare_functions, whole_value, write_elements};
 use wjs_declared::Declared;
@@ -31,6 +32,9 @@ use wjs_tree::NodeId;
 
 /// The greatest array index (section 15.4).
 const GREATEST_INDEX: usize = 4_294_967_294;
+
+/// How many array indices there are.
+const MOST_INDICES: usize = 4_294_967_295;
 
 /// An Arguments object, and the names of two of its slots.
 #[derive(Clone, Copy)]
@@ -46,7 +50,8 @@ fn create_arguments<S: WorldStore>(
     values: &[Value],
 ) -> Result<Arguments, OutOfMemory>
     requires base { Base S.meaning config.old }
-    ensures does { IfOk result (λ made. Does S.meaning (λ t go. Do (Create config.old.owner (line.arguments_object (map (value_in t) values.now))) go) (λ t. made.object) config.old config.new) }
+    ensures does { IfOk result (λ made. Does S.meaning (λ t go. Do (Create config.old.owner (line.arguments_object (map (value_in t) values.now))) go)
+        (λ t. made.object) config.old config.new) }
     ensures later { OnOk result (Later S.meaning config.old config.new) }
     ensures found { IfOk result (λ made. HasObject config.new made.object) }
     ensures callee { IfOk result (λ made. HasName config.new made.callee) }
@@ -89,17 +94,38 @@ fn hidden_flags(
     callee: Name,
     length: Name,
     count: usize,
-) -> Result<Under<Flags>, OutOfMemory>
-    ensures small { IfOk result (λ under. count ≤ 4294967295) }
-    ensures is { IfOk result (λ under. under ≡ (callee, hidden_flags) ∷ (length, hidden_flags) ∷ hidden_from 0 count) }
+) -> Result<Listed, OutOfMemory>
+    ensures small { IfOk result (λ listed. count ≤ 4294967295) }
+    ensures is { IfOk result (λ listed. listed ≡ (callee, hidden_flags) ∷ (length, hidden_flags) ∷ hidden_from 0 count) }
 {
-    let mut flags = Vec::new(alloc);
+    if count > MOST_INDICES {
+        return Err(OutOfMemory);
+    }
+    match Listed::of_arguments(callee, length, count as u32) {
+        Some(listed) => Ok(listed),
+        None => long_flags(alloc, callee, length, count),
+    }
+}
+
+/// `hidden_flags` written out.
+fn long_flags(
+    alloc: Global,
+    callee: Name,
+    length: Name,
+    count: usize,
+) -> Result<Listed, OutOfMemory>
+    ensures small { IfOk result (λ listed. count ≤ 4294967295) }
+    ensures is { IfOk result (λ listed. listed ≡ (callee, hidden_flags) ∷ (length, hidden_flags) ∷ hidden_from 0 count) }
+{
+    let Ok(mut flags) = Vec::with_capacity(alloc, count.saturating_add(2)) else {
+        return Err(OutOfMemory);
+    };
     push_hidden(&mut flags, callee)?;
     push_hidden(&mut flags, length)?;
     for index in 0..count {
         push_hidden_index(&mut flags, index)?;
     }
-    Ok(Under::from_vec(flags))
+    Ok(Listed::from_vec(flags))
 }
 
 fn push_hidden_index(flags: &mut Vec<(Name, Flags)>, index: usize) -> Result<(), OutOfMemory>
@@ -138,7 +164,8 @@ fn write_formals<S: WorldStore>(
     requires scope { HasObject config.old scope }
     requires formals { All (Has config.old.heap.texts) formals.now }
     requires values { All (HasValue config.old) values.now }
-    ensures does { OnOk result (DoesFirst S.meaning (λ t. write_all frame.now.world (line.formal_slots scope (map (text_in t) formals.now) (map (value_in t) values.now))) config.old config.new) }
+    ensures does { OnOk result (DoesFirst S.meaning
+        (λ t. write_all frame.now.world (line.formal_slots scope (map (text_in t) formals.now) (map (value_in t) values.now))) config.old config.new) }
     ensures later { OnOk result (Later S.meaning config.old config.new) }
 {
     for (i, formal) in formals.iter().enumerate() {
@@ -170,7 +197,8 @@ fn write_undefined<S: WorldStore>(
     requires there { IsThere S.meaning config.old frame.now }
     requires scope { HasObject config.old scope }
     requires names { All (Has config.old.heap.texts) names.now }
-    ensures does { OnOk result (DoesFirst S.meaning (λ t. write_all frame.now.world (undefined_slots scope (map (text_in t) names.now))) config.old config.new) }
+    ensures does { OnOk result (DoesFirst S.meaning
+        (λ t. write_all frame.now.world (undefined_slots scope (map (text_in t) names.now))) config.old config.new) }
     ensures later { OnOk result (Later S.meaning config.old config.new) }
 {
     for name in names {
@@ -192,7 +220,8 @@ fn write_variable<S: WorldStore>(
     requires object { HasObject config.old object }
     requires text { Has config.old.heap.texts id }
     requires value { HasValue config.old value }
-    ensures does { OnOk result (DoesFirst S.meaning (λ t act. Do (Write frame.now.world (slot object (text_in t id)) (Some (value_in t value))) (λ done. act)) config.old config.new) }
+    ensures does { OnOk result (DoesFirst S.meaning
+        (λ t act. Do (Write frame.now.world (slot object (text_in t id)) (Some (value_in t value))) (λ done. act)) config.old config.new) }
     ensures later { OnOk result (Later S.meaning config.old config.new) }
 {
     let name = name_of(config, id);
@@ -216,7 +245,8 @@ fn write_arguments<S: WorldStore>(
     requires length_text { (t : Table) → Grows config.old.heap.texts t → name_in t arguments.length ≡ length_name }
     requires function { HasObject config.old function }
     requires values { All (HasValue config.old) values.now }
-    ensures does { OnOk result (DoesFirst S.meaning (λ t. write_all frame.now.world (line.arguments_slots arguments.object function (map (value_in t) values.now))) config.old config.new) }
+    ensures does { OnOk result (DoesFirst S.meaning
+        (λ t. write_all frame.now.world (line.arguments_slots arguments.object function (map (value_in t) values.now))) config.old config.new) }
     ensures later { OnOk result (Later S.meaning config.old config.new) }
 {
     let object = arguments.object;
@@ -248,7 +278,9 @@ pub(crate) fn fill_scope<S: WorldStore>(
     requires others { All (Has config.old.heap.texts) others.now }
     requires values { All (HasValue config.old) values.now }
     requires stand { All (λ i. IsFunction config.old.units.items config.old.heap.arena frame.now.tree i frame.now.scope 0) declared.now.functions }
-    ensures does { OnOk result (DoesFirst S.meaning (λ t. arguments_written (map (text_in t) declared.now.formals) (numbers declared.now.functions) (map (text_in t) others.now) function (map (value_in t) values.now) (env_in S.meaning config.old t frame.now)) config.old config.new) }
+    ensures does { OnOk result (DoesFirst S.meaning
+        (λ t. arguments_written (map (text_in t) declared.now.formals) (numbers declared.now.functions) (map (text_in t) others.now) function
+        (map (value_in t) values.now) (env_in S.meaning config.old t frame.now)) config.old config.new) }
     ensures later { OnOk result (Later S.meaning config.old config.new) }
 {
     let scope = frame.scope();

@@ -1,23 +1,21 @@
 //! The bodies of functions (ECMA-262, 3rd edition, sections 10.2.3 and 13.2.1).
-ghost use Rattle.std.specs.Prelude.{◌≡◌, OnOk, drop, Some, true};
+ghost use Rattle.std.specs.Prelude.{◌≡◌, drop, Some, true};
 ghost use Rattle.std.specs.FinMap as map;
 ghost use Rattle.wjs_base.specs.Text.{Table};
 ghost use Rattle.wjs_arena.specs.Entries.{Entry};
 ghost use Rattle.wjs_content.specs.Objects.{object_at};
 ghost use Rattle.wjs_content.specs.Tables.{arena_in};
-ghost use Rattle.wjs_meaning.specs.Deeds.{node_here};
 ghost use Rattle.wjs_meaning.specs.Trees.{elements_of};
 ghost use Rattle.wjs_meaning.specs.Functions as line;
-ghost use Rattle.wjs_meaning.specs.Declarations.{declared_by};
 ghost use Rattle.wjs_meaning.specs.Reading.{node_in};
 ghost use Rattle.wjs_model.specs.Contents.{completion_in, holding_in, begun_held};
 ghost use Rattle.wjs_model.specs.Rest as begins;
 ghost use Rattle.wjs_model.specs.Waiting as waits;
-ghost use Rattle.wjs_model.specs.Soundness.{Base, IsThere, HasObject, HasCompletion};
+ghost use Rattle.wjs_model.specs.Soundness.{HasObject, HasCompletion};
 ghost use Rattle.wjs_model.specs.Standing.{IsFunction};
-ghost use Rattle.wjs_moves.specs.Parts.{env_in, node_now};
-ghost use Rattle.wjs_moves.specs.Following.{Follows};
+ghost use Rattle.wjs_moves.specs.Parts.{node_now};
 ghost use Rattle.wjs_eval_call.specs.Elements.{Begins};
+ghost use Rattle.wjs_moves.specs.Handling.{Runs, GoesOn};
 
 use crate::arguments::fill_scope;
 use crate::declarations::declared_at;
@@ -28,7 +26,7 @@ use wjs_arena::Code;
 use wjs_base::{NodeId as Body, ObjId, OutOfMemory, Value};
 use wjs_deeds::{code_of, create_scope, scope_of};
 use wjs_lines::{held_callee, place_after, throw};
-use wjs_model::{Completion, Config, Form, Frame, Held, State, Trouble};
+use wjs_model::{Completion, Config, Form, Frame, Held, Trouble};
 use wjs_moves::{Part, enter, finish, hold};
 use wjs_store::WorldStore;
 use wjs_tree::NodeId;
@@ -38,11 +36,10 @@ pub(crate) fn begin_body<S: WorldStore>(
     config: &mut Config<S>,
     frame: Frame,
 ) -> Result<(), OutOfMemory>
-    requires running { config.old.state ≡ State.Running }
-    requires base { Base S.meaning config.old }
-    requires there { IsThere S.meaning config.old frame }
+    requires runs { Runs S.meaning config.old frame }
     requires form { frame.form ≡ Form.Body }
-    ensures { let t = config.new.heap.texts in let held = holding_in t frame.held in OnOk result (Follows S.meaning (begins.body_if held.callee.0 held.values (env_in S.meaning config.old t frame)) config.old config.new) }
+    ensures { GoesOn S.meaning frame config.old config.new result (λ t env.
+        let held = holding_in t frame.held in begins.body_if held.callee.0 held.values env) }
 {
     let (callee, _) = held_callee(config, &frame);
     match callee {
@@ -57,12 +54,10 @@ fn begin_function<S: WorldStore>(
     frame: Frame,
     function: ObjId,
 ) -> Result<(), OutOfMemory>
-    requires running { config.old.state ≡ State.Running }
-    requires base { Base S.meaning config.old }
-    requires there { IsThere S.meaning config.old frame }
+    requires runs { Runs S.meaning config.old frame }
     requires form { frame.form ≡ Form.Body }
     requires function { HasObject config.old function }
-    ensures { let t = config.new.heap.texts in OnOk result (Follows S.meaning (line.body_of function (holding_in t frame.held).values (env_in S.meaning config.old t frame)) config.old config.new) }
+    ensures { GoesOn S.meaning frame config.old config.new result (λ t env. line.body_of function (holding_in t frame.held).values env) }
 {
     match code_of(config, function) {
         Code::None => throw(config, frame, Trouble::NotAFunction),
@@ -79,13 +74,12 @@ fn begin_script<S: WorldStore>(
     tree: u32,
     node: Body,
 ) -> Result<(), OutOfMemory>
-    requires running { config.old.state ≡ State.Running }
-    requires base { Base S.meaning config.old }
-    requires there { IsThere S.meaning config.old frame }
+    requires runs { Runs S.meaning config.old frame }
     requires form { frame.form ≡ Form.Body }
     requires function { HasObject config.old function }
     requires code { (e : Entry) → map.get config.old.heap.arena function ≡ Some e → e.object.code ≡ Code.Script tree node }
-    ensures { let t = config.new.heap.texts in OnOk result (Follows S.meaning (line.body_code (Code.Script tree node) (object_at (arena_in t config.old.heap.arena) function).scope function (holding_in t frame.held).values (env_in S.meaning config.old t frame)) config.old config.new) }
+    ensures { GoesOn S.meaning frame config.old config.new result (λ t env.
+        line.body_code (Code.Script tree node) (object_at (arena_in t config.old.heap.arena) function).scope function (holding_in t frame.held).values env) }
 {
     match scope_of(config, function) {
         None => throw(config, frame, Trouble::NotAFunction),
@@ -102,14 +96,13 @@ fn begin_scope<S: WorldStore>(
     node: NodeId,
     scope: ObjId,
 ) -> Result<(), OutOfMemory>
-    requires running { config.old.state ≡ State.Running }
-    requires base { Base S.meaning config.old }
-    requires there { IsThere S.meaning config.old frame }
+    requires runs { Runs S.meaning config.old frame }
     requires form { frame.form ≡ Form.Body }
     requires function { HasObject config.old function }
     requires scope { HasObject config.old scope }
     requires stands { IsFunction config.old.units.items config.old.heap.arena tree node scope 0 }
-    ensures { let t = config.new.heap.texts in OnOk result (Follows S.meaning (line.body_scopes node.0 scope function (holding_in t frame.held).values (record (env_in S.meaning config.old t frame) { tree = tree })) config.old config.new) }
+    ensures { GoesOn S.meaning frame config.old config.new result (λ t env.
+        line.body_scopes node.0 scope function (holding_in t frame.held).values (record env { tree = tree })) }
 {
     let alloc = config.heap.arena.allocator();
     let values = frame.values(alloc)?;
@@ -137,12 +130,11 @@ pub(crate) fn after_body<S: WorldStore>(
     frame: Frame,
     completion: Completion,
 ) -> Result<(), OutOfMemory>
-    requires running { config.old.state ≡ State.Running }
-    requires base { Base S.meaning config.old }
-    requires there { IsThere S.meaning config.old frame }
+    requires runs { Runs S.meaning config.old frame }
     requires form { frame.form ≡ Form.Body }
     requires completion { HasCompletion config.old completion }
-    ensures { let t = config.new.heap.texts in OnOk result (Follows S.meaning (waits.after_body_of (holding_in t frame.held).begun frame.place (node_in t (node_now S.meaning config.old frame)) (env_in S.meaning config.old t frame) (completion_in t completion)) config.old config.new) }
+    ensures { GoesOn S.meaning frame config.old config.new result (λ t env.
+        waits.after_body_of (holding_in t frame.held).begun frame.place (node_in t (node_now S.meaning config.old frame)) env (completion_in t completion)) }
 {
     if frame.begun() {
         after_element(config, frame, completion)
@@ -157,13 +149,12 @@ fn after_element<S: WorldStore>(
     frame: Frame,
     completion: Completion,
 ) -> Result<(), OutOfMemory>
-    requires running { config.old.state ≡ State.Running }
-    requires base { Base S.meaning config.old }
-    requires there { IsThere S.meaning config.old frame }
+    requires runs { Runs S.meaning config.old frame }
     requires form { frame.form ≡ Form.Body }
     requires begun { begun_held frame.held ≡ true }
     requires completion { HasCompletion config.old completion }
-    ensures { let t = config.new.heap.texts in let env = env_in S.meaning config.old t frame in OnOk result (Follows S.meaning (line.body_next (line.body_from (drop frame.place (elements_of (node_in t (node_now S.meaning config.old frame)))) env) (completion_in t completion)) config.old config.new) }
+    ensures { GoesOn S.meaning frame config.old config.new result (λ t env.
+        line.body_next (line.body_from (drop frame.place (elements_of (node_in t (node_now S.meaning config.old frame)))) env) (completion_in t completion)) }
 {
     match completion {
         Completion::Normal => {
@@ -182,12 +173,11 @@ fn run_body<S: WorldStore>(
     frame: Frame,
     from: u32,
 ) -> Result<(), OutOfMemory>
-    requires running { config.old.state ≡ State.Running }
-    requires base { Base S.meaning config.old }
-    requires there { IsThere S.meaning config.old frame }
+    requires runs { Runs S.meaning config.old frame }
     requires form { frame.form ≡ Form.Body }
     requires begun { begun_held frame.held ≡ true }
-    ensures { let t = config.new.heap.texts in let env = env_in S.meaning config.old t frame in OnOk result (Follows S.meaning (line.body_from (drop from (elements_of (node_in t (node_now S.meaning config.old frame)))) env) config.old config.new) }
+    ensures { GoesOn S.meaning frame config.old config.new result (λ t env.
+        line.body_from (drop from (elements_of (node_in t (node_now S.meaning config.old frame)))) env) }
 {
     match element_at(config, &frame, from) {
         None => finish(config, frame, Completion::Gives(Value::Undefined)),
@@ -202,13 +192,12 @@ fn enter_element<S: WorldStore>(
     from: u32,
     element: NodeId,
 ) -> Result<(), OutOfMemory>
-    requires running { config.old.state ≡ State.Running }
-    requires base { Base S.meaning config.old }
-    requires there { IsThere S.meaning config.old frame }
+    requires runs { Runs S.meaning config.old frame }
     requires form { frame.form ≡ Form.Body }
     requires begun { begun_held frame.held ≡ true }
     requires element { (t : Table) → Begins (elements_of (node_in t (node_now S.meaning config.old frame))) from (Some element) }
-    ensures { let t = config.new.heap.texts in let env = env_in S.meaning config.old t frame in OnOk result (Follows S.meaning (line.body_from (drop from (elements_of (node_in t (node_now S.meaning config.old frame)))) env) config.old config.new) }
+    ensures { GoesOn S.meaning frame config.old config.new result (λ t env.
+        line.body_from (drop from (elements_of (node_in t (node_now S.meaning config.old frame)))) env) }
 {
     let next = place_after(from, 1)?;
     enter(config, frame, next, Part::Stmt(element))

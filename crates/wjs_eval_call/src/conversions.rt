@@ -1,21 +1,21 @@
 //! Conversions of values (ECMA-262, 3rd edition, section 9).
-ghost use Rattle.std.specs.Prelude.{◌≡◌, OnOk, true};
+ghost use Rattle.std.specs.Prelude.{◌≡◌, true};
 ghost use Rattle.wjs_content.specs.Tables.{value_in};
 ghost use Rattle.wjs_meaning.specs.Deeds.{Sub, Gives};
 ghost use Rattle.wjs_meaning.specs.Conversions as line;
 ghost use Rattle.wjs_model.specs.Contents.{completion_in, value_held, holding_in};
 ghost use Rattle.wjs_model.specs.Rest as begins;
 ghost use Rattle.wjs_model.specs.Waiting as waits;
-ghost use Rattle.wjs_model.specs.Soundness.{Base, IsThere, HasValue, HasCompletion};
-ghost use Rattle.wjs_moves.specs.Parts.{env_in, then_at};
-ghost use Rattle.wjs_moves.specs.Following.{Follows};
+ghost use Rattle.wjs_model.specs.Soundness.{HasValue, HasCompletion};
+ghost use Rattle.wjs_moves.specs.Parts.{then_at};
 ghost use Rattle.wjs_eval_call.specs.Primitives.{hint_of, is_primitive_first};
+ghost use Rattle.wjs_moves.specs.Handling.{Runs, GoesOn};
 
 use crate::methods::{after_method, try_first};
 use crate::values::{integer_of, text_of};
 use wjs_base::{OutOfMemory, Value};
 use wjs_lines::{held_value, to_number};
-use wjs_model::{Completion, Config, Conversion, Form, Frame, State};
+use wjs_model::{Completion, Config, Conversion, Form, Frame};
 use wjs_moves::{convert, finish};
 use wjs_store::WorldStore;
 
@@ -25,11 +25,9 @@ pub(crate) fn begin_conversion<S: WorldStore>(
     frame: Frame,
     conversion: Conversion,
 ) -> Result<(), OutOfMemory>
-    requires running { config.old.state ≡ State.Running }
-    requires base { Base S.meaning config.old }
-    requires there { IsThere S.meaning config.old frame }
+    requires runs { Runs S.meaning config.old frame }
     requires form { frame.form ≡ Form.Convert conversion }
-    ensures { let t = config.new.heap.texts in OnOk result (Follows S.meaning (begins.begin_conversion conversion (value_in t (value_held frame.held)) (env_in S.meaning config.old t frame)) config.old config.new) }
+    ensures { GoesOn S.meaning frame config.old config.new result (λ t env. begins.begin_conversion conversion (value_in t (value_held frame.held)) env) }
 {
     match conversion {
         Conversion::TextFirst => to_primitive(config, frame, conversion),
@@ -46,12 +44,10 @@ fn to_primitive<S: WorldStore>(
     frame: Frame,
     conversion: Conversion,
 ) -> Result<(), OutOfMemory>
-    requires running { config.old.state ≡ State.Running }
-    requires base { Base S.meaning config.old }
-    requires there { IsThere S.meaning config.old frame }
+    requires runs { Runs S.meaning config.old frame }
     requires form { frame.form ≡ Form.Convert conversion }
     requires first { is_primitive_first conversion ≡ true }
-    ensures { let t = config.new.heap.texts in OnOk result (Follows S.meaning (line.to_primitive (hint_of conversion) (value_in t (value_held frame.held)) (env_in S.meaning config.old t frame)) config.old config.new) }
+    ensures { GoesOn S.meaning frame config.old config.new result (λ t env. line.to_primitive (hint_of conversion) (value_in t (value_held frame.held)) env) }
 {
     let value = held_value(config, &frame);
     match value {
@@ -66,11 +62,10 @@ fn primitive_below<S: WorldStore>(
     frame: Frame,
     first: Conversion,
 ) -> Result<(), OutOfMemory>
-    requires running { config.old.state ≡ State.Running }
-    requires base { Base S.meaning config.old }
-    requires there { IsThere S.meaning config.old frame }
+    requires runs { Runs S.meaning config.old frame }
     requires first { is_primitive_first first ≡ true }
-    ensures { let t = config.new.heap.texts in let env = env_in S.meaning config.old t frame in OnOk result (Follows S.meaning (Sub (line.to_primitive (hint_of first) (value_in t (value_held frame.held)) env) (then_at S.meaning config.old frame 1 t env)) config.old config.new) }
+    ensures { GoesOn S.meaning frame config.old config.new result (λ t env.
+        Sub (line.to_primitive (hint_of first) (value_in t (value_held frame.held)) env) (then_at S.meaning config.old frame 1 t env)) }
 {
     let value = held_value(config, &frame);
     convert(config, frame, 1, first, value)
@@ -83,12 +78,11 @@ pub(crate) fn after_conversion<S: WorldStore>(
     conversion: Conversion,
     completion: Completion,
 ) -> Result<(), OutOfMemory>
-    requires running { config.old.state ≡ State.Running }
-    requires base { Base S.meaning config.old }
-    requires there { IsThere S.meaning config.old frame }
+    requires runs { Runs S.meaning config.old frame }
     requires form { frame.form ≡ Form.Convert conversion }
     requires completion { HasCompletion config.old completion }
-    ensures { let t = config.new.heap.texts in OnOk result (Follows S.meaning (waits.after_conversion conversion frame.place (holding_in t frame.held) (env_in S.meaning config.old t frame) (completion_in t completion)) config.old config.new) }
+    ensures { GoesOn S.meaning frame config.old config.new result (λ t env.
+        waits.after_conversion conversion frame.place (holding_in t frame.held) env (completion_in t completion)) }
 {
     match completion {
         Completion::Gives(value) => converted(config, frame, conversion, value),
@@ -103,12 +97,11 @@ fn converted<S: WorldStore>(
     conversion: Conversion,
     value: Value,
 ) -> Result<(), OutOfMemory>
-    requires running { config.old.state ≡ State.Running }
-    requires base { Base S.meaning config.old }
-    requires there { IsThere S.meaning config.old frame }
+    requires runs { Runs S.meaning config.old frame }
     requires form { frame.form ≡ Form.Convert conversion }
     requires value { HasValue config.old value }
-    ensures { let t = config.new.heap.texts in OnOk result (Follows S.meaning (waits.after_conversion conversion frame.place (holding_in t frame.held) (env_in S.meaning config.old t frame) (Gives (value_in t value))) config.old config.new) }
+    ensures { GoesOn S.meaning frame config.old config.new result (λ t env.
+        waits.after_conversion conversion frame.place (holding_in t frame.held) env (Gives (value_in t value))) }
 {
     match conversion {
         Conversion::TextFirst => after_method(config, frame, conversion, value),

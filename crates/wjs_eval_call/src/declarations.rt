@@ -29,10 +29,15 @@ pub(crate) fn declared_at<S: WorldStore>(
     frame: &Frame,
 ) -> Result<Declared, OutOfMemory>
     requires { Base S.meaning config.now }
-    ensures formals { IfOk result (λ d. (t : Table) → map (text_in t) d.formals ≡ (declared_by (tree_here (env_in S.meaning config.now t frame.now)) frame.now.node.0).formals) }
-    ensures functions { IfOk result (λ d. (t : Table) → numbers d.functions ≡ (declared_by (tree_here (env_in S.meaning config.now t frame.now)) frame.now.node.0).functions) }
-    ensures nodes { IfOk result (λ d. (u : Program) → slice_get config.now.units.items frame.now.tree ≡ Some u → d.functions ≡ functions_among u.program.nodes (elements_at u.program.nodes frame.now.node.0)) }
-    ensures variables { IfOk result (λ d. (t : Table) → IsTable t → Grows config.now.heap.texts t → map (text_in t) d.variables ≡ (declared_by (tree_here (env_in S.meaning config.now t frame.now)) frame.now.node.0).vars) }
+    ensures formals { IfOk result (λ d. (t : Table) →
+        map (text_in t) d.formals ≡ (declared_by (tree_here (env_in S.meaning config.now t frame.now)) frame.now.node.0).formals) }
+    ensures functions { IfOk result
+        (λ d. (t : Table) → numbers d.functions ≡ (declared_by (tree_here (env_in S.meaning config.now t frame.now)) frame.now.node.0).functions) }
+    ensures nodes { IfOk result (λ d. (u : Program) → slice_get config.now.units.items frame.now.tree ≡ Some u →
+        d.functions ≡ functions_among u.program.nodes (elements_at u.program.nodes frame.now.node.0)) }
+    ensures variables { IfOk result
+        (λ d. (t : Table) → IsTable t → Grows config.now.heap.texts t →
+        map (text_in t) d.variables ≡ (declared_by (tree_here (env_in S.meaning config.now t frame.now)) frame.now.node.0).vars) }
     ensures formals_found { IfOk result (λ d. All (Has config.now.heap.texts) d.formals) }
     ensures variables_found { IfOk result (λ d. All (Has config.now.heap.texts) d.variables) }
 {
@@ -64,7 +69,9 @@ pub(crate) fn declare_program<S: WorldStore>(
     requires base { Base S.meaning config.old }
     requires there { IsThere S.meaning config.old frame.now }
     requires body { (u : Program) → slice_get config.old.units.items frame.now.tree ≡ Some u → frame.now.node ≡ u.program.body }
-    ensures does { OnOk result (DoesFirst S.meaning (λ t. program_filled (declared_by (tree_here (env_in S.meaning config.old t frame.now)) frame.now.node.0) (env_in S.meaning config.old t frame.now)) config.old config.new) }
+    ensures does { OnOk result (DoesFirst S.meaning
+        (λ t. program_filled (declared_by (tree_here (env_in S.meaning config.old t frame.now)) frame.now.node.0)
+        (env_in S.meaning config.old t frame.now)) config.old config.new) }
     ensures later { OnOk result (Later S.meaning config.old config.new) }
 {
     let declared = declared_at(config, frame)?;
@@ -82,7 +89,8 @@ fn declare_variables<S: WorldStore>(
     requires base { Base S.meaning config.old }
     requires there { IsThere S.meaning config.old frame.now }
     requires names { All (Has config.old.heap.texts) names.now }
-    ensures does { OnOk result (DoesFirst S.meaning (λ t. line.declare_variables (map (text_in t) names.now) (env_in S.meaning config.old t frame.now)) config.old config.new) }
+    ensures does { OnOk result (DoesFirst S.meaning
+        (λ t. line.declare_variables (map (text_in t) names.now) (env_in S.meaning config.old t frame.now)) config.old config.new) }
     ensures later { OnOk result (Later S.meaning config.old config.new) }
 {
     for name in names {

@@ -1,24 +1,24 @@
 //! The methods by which an object is made a primitive (ECMA-262, 3rd edition, section 8.6.2.6).
-ghost use Rattle.std.specs.Prelude.{◌≡◌, OnOk, true, []};
+ghost use Rattle.std.specs.Prelude.{◌≡◌, true, []};
 ghost use Rattle.wjs_content.specs.Tables.{value_in};
 ghost use Rattle.wjs_content.specs.Values.{Object};
 ghost use Rattle.wjs_meaning.specs.Deeds.{Sub};
 ghost use Rattle.wjs_meaning.specs.Calls.{call};
 ghost use Rattle.wjs_meaning.specs.Conversions as line;
 ghost use Rattle.wjs_meaning.specs.Errors as errors;
-ghost use Rattle.wjs_model.specs.Contents.{value_held, holding_in};
+ghost use Rattle.wjs_model.specs.Contents.{value_held};
 ghost use Rattle.wjs_model.specs.Waiting as waits;
-ghost use Rattle.wjs_model.specs.Soundness.{Base, IsThere, HasObject, HasValue};
-ghost use Rattle.wjs_moves.specs.Parts.{env_in, then_at};
-ghost use Rattle.wjs_moves.specs.Following.{Follows};
+ghost use Rattle.wjs_model.specs.Soundness.{HasObject, HasValue};
+ghost use Rattle.wjs_moves.specs.Parts.{then_at};
 ghost use Rattle.wjs_deeds.specs.Known.{text_of};
 ghost use Rattle.wjs_eval_call.specs.Primitives.{hint_of, is_primitive_first};
+ghost use Rattle.wjs_moves.specs.Handling.{Runs, GoesOn};
 
 use wjs_base::{ObjId, OutOfMemory, Value};
 use wjs_calls::call_below;
 use wjs_deeds::{Known, function_of, get_known};
 use wjs_lines::{held_value, throw};
-use wjs_model::{Completion, Config, Conversion, Form, Frame, State, Trouble};
+use wjs_model::{Completion, Config, Conversion, Form, Frame, Trouble};
 use wjs_moves::finish;
 use wjs_store::WorldStore;
 
@@ -29,14 +29,12 @@ pub(crate) fn try_first<S: WorldStore>(
     conversion: Conversion,
     object: ObjId,
 ) -> Result<(), OutOfMemory>
-    requires running { config.old.state ≡ State.Running }
-    requires base { Base S.meaning config.old }
-    requires there { IsThere S.meaning config.old frame }
+    requires runs { Runs S.meaning config.old frame }
     requires form { frame.form ≡ Form.Convert conversion }
     requires first { is_primitive_first conversion ≡ true }
     requires value { value_held frame.held ≡ Value.Object object }
     requires object { HasObject config.old object }
-    ensures { let t = config.new.heap.texts in OnOk result (Follows S.meaning (line.to_primitive (hint_of conversion) (Object object) (env_in S.meaning config.old t frame)) config.old config.new) }
+    ensures { GoesOn S.meaning frame config.old config.new result (λ t env. line.to_primitive (hint_of conversion) (Object object) env) }
 {
     let method = get_known(config, &frame, object, first_method(conversion))?;
     match function_of(config, method) {
@@ -52,14 +50,13 @@ fn try_second<S: WorldStore>(
     conversion: Conversion,
     object: ObjId,
 ) -> Result<(), OutOfMemory>
-    requires running { config.old.state ≡ State.Running }
-    requires base { Base S.meaning config.old }
-    requires there { IsThere S.meaning config.old frame }
+    requires runs { Runs S.meaning config.old frame }
     requires form { frame.form ≡ Form.Convert conversion }
     requires first { is_primitive_first conversion ≡ true }
     requires value { value_held frame.held ≡ Value.Object object }
     requires object { HasObject config.old object }
-    ensures { let t = config.new.heap.texts in let env = env_in S.meaning config.old t frame in OnOk result (Follows S.meaning (line.try_method (line.second_method (hint_of conversion)) object env (errors.throw Trouble.NoPrimitiveValue env)) config.old config.new) }
+    ensures { GoesOn S.meaning frame config.old config.new result (λ t env.
+        line.try_method (line.second_method (hint_of conversion)) object env (errors.throw Trouble.NoPrimitiveValue env)) }
 {
     let method = get_known(config, &frame, object, second_method(conversion))?;
     match function_of(config, method) {
@@ -76,12 +73,11 @@ fn call_method<S: WorldStore>(
     function: ObjId,
     object: ObjId,
 ) -> Result<(), OutOfMemory>
-    requires running { config.old.state ≡ State.Running }
-    requires base { Base S.meaning config.old }
-    requires there { IsThere S.meaning config.old frame }
+    requires runs { Runs S.meaning config.old frame }
     requires function { HasObject config.old function }
     requires object { HasObject config.old object }
-    ensures { let t = config.new.heap.texts in let env = env_in S.meaning config.old t frame in OnOk result (Follows S.meaning (Sub (call function (Object object) [] env) (then_at S.meaning config.old frame place t env)) config.old config.new) }
+    ensures { GoesOn S.meaning frame config.old config.new result (λ t env.
+        Sub (call function (Object object) [] env) (then_at S.meaning config.old frame place t env)) }
 {
     let nothing = config.frames.nothing_held();
     call_below(
@@ -101,13 +97,12 @@ pub(crate) fn after_method<S: WorldStore>(
     conversion: Conversion,
     value: Value,
 ) -> Result<(), OutOfMemory>
-    requires running { config.old.state ≡ State.Running }
-    requires base { Base S.meaning config.old }
-    requires there { IsThere S.meaning config.old frame }
+    requires runs { Runs S.meaning config.old frame }
     requires form { frame.form ≡ Form.Convert conversion }
     requires first { is_primitive_first conversion ≡ true }
     requires value { HasValue config.old value }
-    ensures { let t = config.new.heap.texts in OnOk result (Follows S.meaning (waits.after_method (hint_of conversion) (value_in t (value_held frame.held)) frame.place (env_in S.meaning config.old t frame) (value_in t value)) config.old config.new) }
+    ensures { GoesOn S.meaning frame config.old config.new result (λ t env.
+        waits.after_method (hint_of conversion) (value_in t (value_held frame.held)) frame.place env (value_in t value)) }
 {
     let Value::Object(_) = value else {
         return finish(config, frame, Completion::Gives(value));

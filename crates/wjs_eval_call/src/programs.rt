@@ -1,21 +1,21 @@
 //! The bodies of programs (ECMA-262, 3rd edition, sections 10.2.1 and 14).
-ghost use Rattle.std.specs.Prelude.{◌≡◌, OnOk, drop, false, Some};
+ghost use Rattle.std.specs.Prelude.{◌≡◌, drop, false, Some};
 ghost use Rattle.wjs_base.specs.Text.{Table};
 ghost use Rattle.wjs_meaning.specs.Deeds.{Eval, AtProgram, Ret, then_normal};
 ghost use Rattle.wjs_meaning.specs.Functions as line;
 ghost use Rattle.wjs_meaning.specs.Reading.{node_in};
 ghost use Rattle.wjs_model.specs.Contents.{completion_in, holding_in, begun_held};
 ghost use Rattle.wjs_model.specs.Waiting as waits;
-ghost use Rattle.wjs_model.specs.Soundness.{Base, IsThere, HasCompletion};
-ghost use Rattle.wjs_moves.specs.Parts.{env_in, node_now};
-ghost use Rattle.wjs_moves.specs.Following.{Follows};
+ghost use Rattle.wjs_model.specs.Soundness.{HasCompletion};
+ghost use Rattle.wjs_moves.specs.Parts.{node_now};
 ghost use Rattle.wjs_eval_call.specs.Elements.{Begins};
+ghost use Rattle.wjs_moves.specs.Handling.{Runs, GoesOn};
 
 use crate::declarations::{declare_program, program_body};
 use crate::elements::program_element_at;
 use wjs_base::OutOfMemory;
 use wjs_lines::place_after;
-use wjs_model::{Completion, Config, Form, Frame, State};
+use wjs_model::{Completion, Config, Form, Frame};
 use wjs_moves::{Part, due_later, enter, finish};
 use wjs_store::WorldStore;
 use wjs_tree::NodeId;
@@ -25,11 +25,9 @@ pub(crate) fn begin_program<S: WorldStore>(
     config: &mut Config<S>,
     frame: Frame,
 ) -> Result<(), OutOfMemory>
-    requires running { config.old.state ≡ State.Running }
-    requires base { Base S.meaning config.old }
-    requires there { IsThere S.meaning config.old frame }
+    requires runs { Runs S.meaning config.old frame }
     requires form { frame.form ≡ Form.Body }
-    ensures { let t = config.new.heap.texts in OnOk result (Follows S.meaning (line.program_of (env_in S.meaning config.old t frame)) config.old config.new) }
+    ensures { GoesOn S.meaning frame config.old config.new result (λ t env. line.program_of env) }
 {
     let mut frame = frame;
     let body = program_body(config, &frame);
@@ -46,13 +44,12 @@ pub(crate) fn after_program<S: WorldStore>(
     frame: Frame,
     completion: Completion,
 ) -> Result<(), OutOfMemory>
-    requires running { config.old.state ≡ State.Running }
-    requires base { Base S.meaning config.old }
-    requires there { IsThere S.meaning config.old frame }
+    requires runs { Runs S.meaning config.old frame }
     requires form { frame.form ≡ Form.Body }
     requires begun { begun_held frame.held ≡ false }
     requires completion { HasCompletion config.old completion }
-    ensures { let t = config.new.heap.texts in OnOk result (Follows S.meaning (waits.after_body_of (holding_in t frame.held).begun frame.place (node_in t (node_now S.meaning config.old frame)) (env_in S.meaning config.old t frame) (completion_in t completion)) config.old config.new) }
+    ensures { GoesOn S.meaning frame config.old config.new result (λ t env.
+        waits.after_body_of (holding_in t frame.held).begun frame.place (node_in t (node_now S.meaning config.old frame)) env (completion_in t completion)) }
 {
     if frame.place() == 0 {
         next_program(config, frame, completion)
@@ -67,13 +64,13 @@ fn after_element<S: WorldStore>(
     frame: Frame,
     completion: Completion,
 ) -> Result<(), OutOfMemory>
-    requires running { config.old.state ≡ State.Running }
-    requires base { Base S.meaning config.old }
-    requires there { IsThere S.meaning config.old frame }
+    requires runs { Runs S.meaning config.old frame }
     requires form { frame.form ≡ Form.Body }
     requires begun { begun_held frame.held ≡ false }
     requires completion { HasCompletion config.old completion }
-    ensures { let t = config.new.heap.texts in OnOk result (Follows S.meaning (then_normal (line.program_from (drop frame.place (waits.program_elements (node_in t (node_now S.meaning config.old frame)))) (env_in S.meaning config.old t frame)) (completion_in t completion)) config.old config.new) }
+    ensures { GoesOn S.meaning frame config.old config.new result (λ t env.
+        then_normal (line.program_from (drop frame.place (waits.program_elements (node_in t (node_now S.meaning config.old frame)))) env)
+        (completion_in t completion)) }
 {
     match completion {
         Completion::Normal => {
@@ -90,12 +87,10 @@ fn next_program<S: WorldStore>(
     frame: Frame,
     completion: Completion,
 ) -> Result<(), OutOfMemory>
-    requires running { config.old.state ≡ State.Running }
-    requires base { Base S.meaning config.old }
-    requires there { IsThere S.meaning config.old frame }
+    requires runs { Runs S.meaning config.old frame }
     requires form { frame.form ≡ Form.Body }
     requires completion { HasCompletion config.old completion }
-    ensures { let t = config.new.heap.texts in OnOk result (Follows S.meaning (waits.next_program (env_in S.meaning config.old t frame) (completion_in t completion)) config.old config.new) }
+    ensures { GoesOn S.meaning frame config.old config.new result (λ t env. waits.next_program env (completion_in t completion)) }
 {
     match completion {
         Completion::Throws(_) => finish(config, frame, completion),
@@ -105,11 +100,9 @@ fn next_program<S: WorldStore>(
 
 /// The program's body is entered, in the place of the frame that was taken off.
 fn enter_program<S: WorldStore>(config: &mut Config<S>, frame: Frame) -> Result<(), OutOfMemory>
-    requires running { config.old.state ≡ State.Running }
-    requires base { Base S.meaning config.old }
-    requires there { IsThere S.meaning config.old frame }
+    requires runs { Runs S.meaning config.old frame }
     requires form { frame.form ≡ Form.Body }
-    ensures { let t = config.new.heap.texts in OnOk result (Follows S.meaning (Eval AtProgram (env_in S.meaning config.old t frame) Ret) config.old config.new) }
+    ensures { GoesOn S.meaning frame config.old config.new result (λ t env. Eval AtProgram env Ret) }
 {
     let mut frame = frame;
     frame.set_held(config.frames.nothing_held());
@@ -122,12 +115,11 @@ fn run_program<S: WorldStore>(
     frame: Frame,
     from: u32,
 ) -> Result<(), OutOfMemory>
-    requires running { config.old.state ≡ State.Running }
-    requires base { Base S.meaning config.old }
-    requires there { IsThere S.meaning config.old frame }
+    requires runs { Runs S.meaning config.old frame }
     requires form { frame.form ≡ Form.Body }
     requires begun { begun_held frame.held ≡ false }
-    ensures { let t = config.new.heap.texts in let env = env_in S.meaning config.old t frame in OnOk result (Follows S.meaning (line.program_from (drop from (waits.program_elements (node_in t (node_now S.meaning config.old frame)))) env) config.old config.new) }
+    ensures { GoesOn S.meaning frame config.old config.new result (λ t env.
+        line.program_from (drop from (waits.program_elements (node_in t (node_now S.meaning config.old frame)))) env) }
 {
     match program_element_at(config, &frame, from) {
         None => finish(config, frame, Completion::Normal),
@@ -142,13 +134,12 @@ fn enter_element<S: WorldStore>(
     from: u32,
     element: NodeId,
 ) -> Result<(), OutOfMemory>
-    requires running { config.old.state ≡ State.Running }
-    requires base { Base S.meaning config.old }
-    requires there { IsThere S.meaning config.old frame }
+    requires runs { Runs S.meaning config.old frame }
     requires form { frame.form ≡ Form.Body }
     requires begun { begun_held frame.held ≡ false }
     requires element { (t : Table) → Begins (waits.program_elements (node_in t (node_now S.meaning config.old frame))) from (Some element) }
-    ensures { let t = config.new.heap.texts in let env = env_in S.meaning config.old t frame in OnOk result (Follows S.meaning (line.program_from (drop from (waits.program_elements (node_in t (node_now S.meaning config.old frame)))) env) config.old config.new) }
+    ensures { GoesOn S.meaning frame config.old config.new result (λ t env.
+        line.program_from (drop from (waits.program_elements (node_in t (node_now S.meaning config.old frame)))) env) }
 {
     let next = place_after(from, 1)?;
     enter(config, frame, next, Part::Stmt(element))

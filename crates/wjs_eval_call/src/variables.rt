@@ -31,7 +31,10 @@ pub(crate) fn other_variables<S: WorldStore>(
     requires base { Base S.meaning config.now }
     requires formals { All (Has config.now.heap.texts) declared.now.formals }
     requires variables { All (Has config.now.heap.texts) declared.now.variables }
-    ensures is { IfOk result (λ others. (t : Table) → IsTable t → Grows config.now.heap.texts t → map (text_in t) others.items ≡ filter (λ name. not (has_text (arguments_name ∷ map (text_in t) declared.now.formals ++ function_names (env_in S.meaning config.now t frame.now) (numbers declared.now.functions)) name)) (map (text_in t) declared.now.variables)) }
+    ensures is { IfOk result (λ others. (t : Table) → IsTable t → Grows config.now.heap.texts t →
+        map (text_in t) others.items ≡ filter
+        (λ name. not (has_text (arguments_name ∷ map (text_in t) declared.now.formals ++ function_names (env_in S.meaning config.now t frame.now)
+        (numbers declared.now.functions)) name)) (map (text_in t) declared.now.variables)) }
     ensures found { IfOk result (λ others. All (Has config.now.heap.texts) others.items) }
 {
     if declared.variables.as_slice().is_empty() {
@@ -49,7 +52,10 @@ fn others_among<S: WorldStore>(
     requires base { Base S.meaning config.now }
     requires formals { All (Has config.now.heap.texts) declared.now.formals }
     requires variables { All (Has config.now.heap.texts) declared.now.variables }
-    ensures is { IfOk result (λ others. (t : Table) → IsTable t → Grows config.now.heap.texts t → map (text_in t) others.items ≡ filter (λ name. not (has_text (arguments_name ∷ map (text_in t) declared.now.formals ++ function_names (env_in S.meaning config.now t frame.now) (numbers declared.now.functions)) name)) (map (text_in t) declared.now.variables)) }
+    ensures is { IfOk result (λ others. (t : Table) → IsTable t → Grows config.now.heap.texts t →
+        map (text_in t) others.items ≡ filter
+        (λ name. not (has_text (arguments_name ∷ map (text_in t) declared.now.formals ++ function_names (env_in S.meaning config.now t frame.now)
+        (numbers declared.now.functions)) name)) (map (text_in t) declared.now.variables)) }
     ensures found { IfOk result (λ others. All (Has config.now.heap.texts) others.items) }
 {
     let taken = taken_names(config, frame, declared)?;
@@ -68,7 +74,8 @@ fn push_other<S: WorldStore>(
     others: &mut Vec<TextId>,
 ) -> Result<(), OutOfMemory>
     requires text { Has config.now.heap.texts name }
-    ensures is { OnOk result ((t : Table) → IsTable t → Grows config.now.heap.texts t → (seen : List Text) → Takes t seen taken.now → map (text_in t) others.new.items ≡ map (text_in t) others.old.items ++ filter (λ x. not (has_text (arguments_name ∷ seen) x)) (text_in t name ∷ [])) }
+    ensures is { OnOk result ((t : Table) → IsTable t → Grows config.now.heap.texts t → (seen : List Text) → Takes t seen taken.now →
+        map (text_in t) others.new.items ≡ map (text_in t) others.old.items ++ filter (λ x. not (has_text (arguments_name ∷ seen) x)) (text_in t name ∷ [])) }
     ensures found { OnOk result (All (Has config.now.heap.texts) others.old.items → All (Has config.now.heap.texts) others.new.items) }
 {
     if is_arguments(config, name) || taken.contains(name) {
@@ -96,7 +103,8 @@ fn taken_names<S: WorldStore>(
 ) -> Result<Taken, OutOfMemory>
     requires base { Base S.meaning config.now }
     requires formals { All (Has config.now.heap.texts) declared.now.formals }
-    ensures { IfOk result (λ taken. (t : Table) → IsTable t → Grows config.now.heap.texts t → Takes t (map (text_in t) declared.now.formals ++ function_names (env_in S.meaning config.now t frame.now) (numbers declared.now.functions)) taken) }
+    ensures { IfOk result (λ taken. (t : Table) → IsTable t → Grows config.now.heap.texts t →
+        Takes t (map (text_in t) declared.now.formals ++ function_names (env_in S.meaning config.now t frame.now) (numbers declared.now.functions)) taken) }
 {
     let mut taken = Taken::new(config.heap.arena.allocator());
     take_formals(config, declared.formals.as_slice(), &mut taken)?;
@@ -131,7 +139,8 @@ fn take_function<S: WorldStore>(
     taken: &mut Taken,
 ) -> Result<(), OutOfMemory>
     requires base { Base S.meaning config.now }
-    ensures { OnOk result ((t : Table) → IsTable t → Grows config.now.heap.texts t → (seen : List Text) → Takes t seen taken.old → Takes t (seen ++ function_names (env_in S.meaning config.now t frame.now) (function.0 ∷ [])) taken.new) }
+    ensures { OnOk result ((t : Table) → IsTable t → Grows config.now.heap.texts t → (seen : List Text) → Takes t seen taken.old →
+        Takes t (seen ++ function_names (env_in S.meaning config.now t frame.now) (function.0 ∷ [])) taken.new) }
 {
     match own_name(config, frame, function) {
         None => Ok(()),

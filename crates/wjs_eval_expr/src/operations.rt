@@ -1,17 +1,16 @@
 //! The operation of an assignment with an operator (ECMA-262, 3rd edition, section 11.13.2), in a frame of its own.
-ghost use Rattle.std.specs.Prelude.{◌≡◌, Some, OnOk, slice_index_or};
+ghost use Rattle.std.specs.Prelude.{◌≡◌, Some, slice_index_or};
 ghost use Rattle.wjs_meaning.specs.NativesOfObjects.{value_at};
 ghost use Rattle.wjs_meaning.specs.Operators as line;
 ghost use Rattle.wjs_meaning.specs.Reading.{node_in};
 ghost use Rattle.wjs_model.specs.Contents.{holding_in};
 ghost use Rattle.wjs_model.specs.Rest.{begin_operation, operate_if};
-ghost use Rattle.wjs_model.specs.Soundness.{Base, IsThere};
-ghost use Rattle.wjs_moves.specs.Following.{Follows};
-ghost use Rattle.wjs_moves.specs.Parts.{env_in, node_now};
+ghost use Rattle.wjs_moves.specs.Parts.{node_now};
 ghost use Rattle.wjs_tree.specs.Operators.{compound};
+ghost use Rattle.wjs_moves.specs.Handling.{Runs, IsExpr, GoesOn};
 
 use wjs_base::{OutOfMemory, Value};
-use wjs_model::{Completion, Config, Form, Frame, State};
+use wjs_model::{Completion, Config, Form, Frame};
 use wjs_moves::{finish, node_of};
 use wjs_operators::operate;
 use wjs_store::WorldStore;
@@ -22,11 +21,10 @@ pub(crate) fn operation_start<S: WorldStore>(
     config: &mut Config<S>,
     frame: Frame,
 ) -> Result<(), OutOfMemory>
-    requires running { config.old.state ≡ State.Running }
-    requires base { Base S.meaning config.old }
-    requires there { IsThere S.meaning config.old frame }
+    requires runs { Runs S.meaning config.old frame }
     requires form { frame.form ≡ Form.Expr }
-    ensures { let t = config.new.heap.texts in let env = env_in S.meaning config.old t frame in OnOk result (Follows S.meaning (begin_operation (node_in t (node_now S.meaning config.old frame)) (holding_in t frame.held).values env) config.old config.new) }
+    ensures { GoesOn S.meaning frame config.old config.new result (λ t env.
+        begin_operation (node_in t (node_now S.meaning config.old frame)) (holding_in t frame.held).values env) }
 {
     match node_of(config, &frame) {
         Some(Node::Assign(target, sign, right)) => {
@@ -45,12 +43,10 @@ fn operation_of<S: WorldStore>(
     sign: AssignOperator,
     right: NodeId,
 ) -> Result<(), OutOfMemory>
-    requires running { config.old.state ≡ State.Running }
-    requires base { Base S.meaning config.old }
-    requires there { IsThere S.meaning config.old frame }
-    requires form { frame.form ≡ Form.Expr }
-    requires node { node_now S.meaning config.old frame ≡ Node.Assign target sign right }
-    ensures { let t = config.new.heap.texts in let env = env_in S.meaning config.old t frame in let values = (holding_in t frame.held).values in OnOk result (Follows S.meaning (operate_if (compound sign) (value_at values 0) (value_at values 1) env) config.old config.new) }
+    requires runs { Runs S.meaning config.old frame }
+    requires node { IsExpr S.meaning config.old frame (Node.Assign target sign right) }
+    ensures { GoesOn S.meaning frame config.old config.new result (λ t env.
+        let values = (holding_in t frame.held).values in operate_if (compound sign) (value_at values 0) (value_at values 1) env) }
 {
     match sign.compound() {
         Some(operator) => operate_held(config, frame, target, sign, right, operator),
@@ -67,13 +63,11 @@ fn operate_held<S: WorldStore>(
     right: NodeId,
     operator: BinaryOperator,
 ) -> Result<(), OutOfMemory>
-    requires running { config.old.state ≡ State.Running }
-    requires base { Base S.meaning config.old }
-    requires there { IsThere S.meaning config.old frame }
-    requires form { frame.form ≡ Form.Expr }
-    requires node { node_now S.meaning config.old frame ≡ Node.Assign target sign right }
+    requires runs { Runs S.meaning config.old frame }
+    requires node { IsExpr S.meaning config.old frame (Node.Assign target sign right) }
     requires operator { compound sign ≡ Some operator }
-    ensures { let t = config.new.heap.texts in let env = env_in S.meaning config.old t frame in let values = (holding_in t frame.held).values in OnOk result (Follows S.meaning (line.operate operator (value_at values 0) (value_at values 1) env) config.old config.new) }
+    ensures { GoesOn S.meaning frame config.old config.new result (λ t env.
+        let values = (holding_in t frame.held).values in line.operate operator (value_at values 0) (value_at values 1) env) }
 {
     let (_target, _sign, _right) = (target, sign, right);
     let values = frame.values(config.heap.arena.allocator())?;

@@ -1,20 +1,20 @@
 //! What expressions and targets do with the completion that they waited for (ECMA-262, 3rd edition, section 11).
-ghost use Rattle.std.specs.Prelude.{◌≡◌, true, OnOk};
+ghost use Rattle.std.specs.Prelude.{◌≡◌, true};
 ghost use Rattle.wjs_meaning.specs.Reading.{node_in};
 ghost use Rattle.wjs_model.specs.Contents.{completion_in, holding_in};
 ghost use Rattle.wjs_content.specs.Tables.{value_in};
 ghost use Rattle.wjs_meaning.specs.Deeds.{Gives};
-ghost use Rattle.wjs_model.specs.Soundness.{Base, IsThere, HasCompletion, HasValue};
-ghost use Rattle.wjs_moves.specs.Following.{Follows};
-ghost use Rattle.wjs_moves.specs.Parts.{env_in, node_now};
+ghost use Rattle.wjs_model.specs.Soundness.{HasCompletion, HasValue};
+ghost use Rattle.wjs_moves.specs.Parts.{node_now};
 ghost use Rattle.wjs_members.specs.Taking.{taken, takes_from};
 ghost use Rattle.wjs_eval_expr.specs.Links.{after_member, after_part};
+ghost use Rattle.wjs_moves.specs.Handling.{Runs, GoesOn};
 
 use wjs_assigns::{operator_given, operator_value};
 use wjs_base::{OutOfMemory, Value};
 use wjs_literals::{array_given, call_given, new_given, object_given};
 use wjs_members::{at_given, dot_given};
-use wjs_model::{Completion, Config, Form, Frame, State};
+use wjs_model::{Completion, Config, Form, Frame};
 use wjs_moves::node_of;
 use wjs_store::WorldStore;
 use wjs_tree::Node;
@@ -26,12 +26,12 @@ pub(crate) fn value_given<S: WorldStore>(
     frame: Frame,
     value: Value,
 ) -> Result<(), OutOfMemory>
-    requires running { config.old.state ≡ State.Running }
-    requires base { Base S.meaning config.old }
-    requires there { IsThere S.meaning config.old frame }
+    requires runs { Runs S.meaning config.old frame }
     requires form { takes_from frame.form ≡ true }
     requires value { HasValue config.old value }
-    ensures { let t = config.new.heap.texts in let env = env_in S.meaning config.old t frame in OnOk result (Follows S.meaning (after_member (node_in t (node_now S.meaning config.old frame)) frame.place (holding_in t frame.held) env (taken frame.form env) (Gives (value_in t value))) config.old config.new) }
+    ensures { GoesOn S.meaning frame config.old config.new result (λ t env.
+        after_member (node_in t (node_now S.meaning config.old frame)) frame.place (holding_in t frame.held) env (taken frame.form env)
+        (Gives (value_in t value))) }
 {
     match node_of(config, &frame) {
         Some(
@@ -52,12 +52,12 @@ pub(crate) fn member_given<S: WorldStore>(
     frame: Frame,
     completion: Completion,
 ) -> Result<(), OutOfMemory>
-    requires running { config.old.state ≡ State.Running }
-    requires base { Base S.meaning config.old }
-    requires there { IsThere S.meaning config.old frame }
+    requires runs { Runs S.meaning config.old frame }
     requires form { takes_from frame.form ≡ true }
     requires completion { HasCompletion config.old completion }
-    ensures { let t = config.new.heap.texts in let env = env_in S.meaning config.old t frame in OnOk result (Follows S.meaning (after_member (node_in t (node_now S.meaning config.old frame)) frame.place (holding_in t frame.held) env (taken frame.form env) (completion_in t completion)) config.old config.new) }
+    ensures { GoesOn S.meaning frame config.old config.new result (λ t env.
+        after_member (node_in t (node_now S.meaning config.old frame)) frame.place (holding_in t frame.held) env (taken frame.form env)
+        (completion_in t completion)) }
 {
     match node_of(config, &frame) {
         Some(Node::Dot(base, name)) => {
@@ -87,12 +87,11 @@ fn part_given<S: WorldStore>(
     frame: Frame,
     completion: Completion,
 ) -> Result<(), OutOfMemory>
-    requires running { config.old.state ≡ State.Running }
-    requires base { Base S.meaning config.old }
-    requires there { IsThere S.meaning config.old frame }
+    requires runs { Runs S.meaning config.old frame }
     requires form { frame.form ≡ Form.Expr }
     requires completion { HasCompletion config.old completion }
-    ensures { let t = config.new.heap.texts in let env = env_in S.meaning config.old t frame in OnOk result (Follows S.meaning (after_part (node_in t (node_now S.meaning config.old frame)) frame.place (holding_in t frame.held) env (completion_in t completion)) config.old config.new) }
+    ensures { GoesOn S.meaning frame config.old config.new result (λ t env.
+        after_part (node_in t (node_now S.meaning config.old frame)) frame.place (holding_in t frame.held) env (completion_in t completion)) }
 {
     match node_of(config, &frame) {
         Some(Node::ArrayLit(_, _)) => array_given(config, frame, completion),

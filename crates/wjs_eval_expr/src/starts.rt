@@ -1,13 +1,12 @@
 //! What an expression begins with (ECMA-262, 3rd edition, section 11).
-ghost use Rattle.std.specs.Prelude.{◌≡◌, OnOk};
+ghost use Rattle.std.specs.Prelude.{◌≡◌};
 ghost use Rattle.wjs_meaning.specs.Expressions.{expr_of};
 ghost use Rattle.wjs_meaning.specs.Reading.{node_in};
 ghost use Rattle.wjs_model.specs.Contents.{holding_in};
 ghost use Rattle.wjs_model.specs.Rest.{begin_expr};
-ghost use Rattle.wjs_model.specs.Soundness.{Base, IsThere};
-ghost use Rattle.wjs_moves.specs.Following.{Follows};
-ghost use Rattle.wjs_moves.specs.Parts.{env_in, node_now};
+ghost use Rattle.wjs_moves.specs.Parts.{node_now};
 ghost use Rattle.wjs_eval_expr.specs.Links.{primary_of, member_of};
+ghost use Rattle.wjs_moves.specs.Handling.{Runs, GoesOn};
 
 use crate::operations::operation_start;
 use wjs_assigns::operator_start;
@@ -16,7 +15,7 @@ use wjs_literals::{
     array_start, call_start, function_start, new_start, object_start, text, this, this_world,
 };
 use wjs_members::{at_start, dot_start, name_value};
-use wjs_model::{Completion, Config, Form, Frame, State};
+use wjs_model::{Completion, Config, Form, Frame};
 use wjs_moves::{Part, enter_last, finish, node_of};
 use wjs_store::WorldStore;
 use wjs_tree::Node;
@@ -26,11 +25,10 @@ pub(crate) fn expr_begin<S: WorldStore>(
     config: &mut Config<S>,
     frame: Frame,
 ) -> Result<(), OutOfMemory>
-    requires running { config.old.state ≡ State.Running }
-    requires base { Base S.meaning config.old }
-    requires there { IsThere S.meaning config.old frame }
+    requires runs { Runs S.meaning config.old frame }
     requires form { frame.form ≡ Form.Expr }
-    ensures { let t = config.new.heap.texts in let env = env_in S.meaning config.old t frame in OnOk result (Follows S.meaning (begin_expr (node_in t (node_now S.meaning config.old frame)) frame.node.0 frame.place (holding_in t frame.held) env) config.old config.new) }
+    ensures { GoesOn S.meaning frame config.old config.new result (λ t env.
+        begin_expr (node_in t (node_now S.meaning config.old frame)) frame.node.0 frame.place (holding_in t frame.held) env) }
 {
     match frame.place() {
         0 => expr_start(config, frame),
@@ -40,22 +38,18 @@ pub(crate) fn expr_begin<S: WorldStore>(
 
 /// An expression at its entry.
 fn expr_start<S: WorldStore>(config: &mut Config<S>, frame: Frame) -> Result<(), OutOfMemory>
-    requires running { config.old.state ≡ State.Running }
-    requires base { Base S.meaning config.old }
-    requires there { IsThere S.meaning config.old frame }
+    requires runs { Runs S.meaning config.old frame }
     requires form { frame.form ≡ Form.Expr }
-    ensures { let t = config.new.heap.texts in let env = env_in S.meaning config.old t frame in OnOk result (Follows S.meaning (expr_of frame.node.0 (node_in t (node_now S.meaning config.old frame)) env) config.old config.new) }
+    ensures { GoesOn S.meaning frame config.old config.new result (λ t env. expr_of frame.node.0 (node_in t (node_now S.meaning config.old frame)) env) }
 {
     primary_start(config, frame)
 }
 
 /// A name, `this`, `thisWorld`, parentheses or a literal of a primitive.
 fn primary_start<S: WorldStore>(config: &mut Config<S>, frame: Frame) -> Result<(), OutOfMemory>
-    requires running { config.old.state ≡ State.Running }
-    requires base { Base S.meaning config.old }
-    requires there { IsThere S.meaning config.old frame }
+    requires runs { Runs S.meaning config.old frame }
     requires form { frame.form ≡ Form.Expr }
-    ensures { let t = config.new.heap.texts in let env = env_in S.meaning config.old t frame in OnOk result (Follows S.meaning (primary_of frame.node.0 (node_in t (node_now S.meaning config.old frame)) env) config.old config.new) }
+    ensures { GoesOn S.meaning frame config.old config.new result (λ t env. primary_of frame.node.0 (node_in t (node_now S.meaning config.old frame)) env) }
 {
     match node_of(config, &frame) {
         Some(Node::Name(id)) => {
@@ -87,11 +81,9 @@ fn primary_start<S: WorldStore>(config: &mut Config<S>, frame: Frame) -> Result<
 
 /// A member, a call, `new`, or a literal of an array, an object or a function.
 fn member_start<S: WorldStore>(config: &mut Config<S>, frame: Frame) -> Result<(), OutOfMemory>
-    requires running { config.old.state ≡ State.Running }
-    requires base { Base S.meaning config.old }
-    requires there { IsThere S.meaning config.old frame }
+    requires runs { Runs S.meaning config.old frame }
     requires form { frame.form ≡ Form.Expr }
-    ensures { let t = config.new.heap.texts in let env = env_in S.meaning config.old t frame in OnOk result (Follows S.meaning (member_of frame.node.0 (node_in t (node_now S.meaning config.old frame)) env) config.old config.new) }
+    ensures { GoesOn S.meaning frame config.old config.new result (λ t env. member_of frame.node.0 (node_in t (node_now S.meaning config.old frame)) env) }
 {
     match node_of(config, &frame) {
         Some(Node::ArrayLit(_, _)) => array_start(config, frame),

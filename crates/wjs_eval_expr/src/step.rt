@@ -1,18 +1,18 @@
 //! A turn of an expression or a target.
 ghost use Rattle.std.specs.Prelude.{◌≡◌, OnOk};
 ghost use Rattle.wjs_model.specs.Contents.{completion_in};
-ghost use Rattle.wjs_model.specs.Soundness.{Base, Sound, IsThere, HasCompletion};
+ghost use Rattle.wjs_model.specs.Soundness.{Sound, HasCompletion};
 ghost use Rattle.wjs_model.specs.Turns.{turn_of, turn_of_form};
-ghost use Rattle.wjs_moves.specs.Parts.{env_in, begins_at, then_at};
-ghost use Rattle.wjs_moves.specs.Following.{Follows};
+ghost use Rattle.wjs_moves.specs.Parts.{begins_at, then_at};
 ghost use Rattle.wjs_moves.specs.Taking.{Turns};
+ghost use Rattle.wjs_moves.specs.Handling.{Runs, GoesOn};
 
 use crate::resumes::{member_given, value_given};
 use crate::starts::expr_begin;
 use wjs_base::OutOfMemory;
 use wjs_deeds::operand_completion;
 use wjs_members::target_start;
-use wjs_model::{Completion, Config, Form, Frame, State, Turn};
+use wjs_model::{Completion, Config, Form, Frame, Turn};
 use wjs_moves::{Top, take_top};
 use wjs_store::WorldStore;
 
@@ -40,11 +40,9 @@ pub fn step_expr<S: WorldStore>(config: &mut Config<S>) -> Result<(), OutOfMemor
 /// The frame begins.
 #[inline(always)]
 fn begin<S: WorldStore>(config: &mut Config<S>, frame: Frame) -> Result<(), OutOfMemory>
-    requires running { config.old.state ≡ State.Running }
-    requires base { Base S.meaning config.old }
-    requires there { IsThere S.meaning config.old frame }
+    requires runs { Runs S.meaning config.old frame }
     requires turn { turn_of_form frame.form ≡ Turn.Expr }
-    ensures { let t = config.new.heap.texts in OnOk result (Follows S.meaning (begins_at S.meaning config.old frame frame.place t (env_in S.meaning config.old t frame)) config.old config.new) }
+    ensures { GoesOn S.meaning frame config.old config.new result (begins_at S.meaning config.old frame frame.place) }
 {
     match frame.form() {
         Form::Target => target_start(config, frame),
@@ -59,12 +57,10 @@ fn resume<S: WorldStore>(
     frame: Frame,
     completion: Completion,
 ) -> Result<(), OutOfMemory>
-    requires running { config.old.state ≡ State.Running }
-    requires base { Base S.meaning config.old }
-    requires there { IsThere S.meaning config.old frame }
+    requires runs { Runs S.meaning config.old frame }
     requires completion { HasCompletion config.old completion }
     requires turn { turn_of_form frame.form ≡ Turn.Expr }
-    ensures { let t = config.new.heap.texts in OnOk result (Follows S.meaning (then_at S.meaning config.old frame frame.place t (env_in S.meaning config.old t frame) (completion_in t completion)) config.old config.new) }
+    ensures { GoesOn S.meaning frame config.old config.new result (λ t env. then_at S.meaning config.old frame frame.place t env (completion_in t completion)) }
 {
     match completion {
         Completion::Gives(value) => value_given(config, frame, value),

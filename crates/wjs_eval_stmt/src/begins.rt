@@ -1,28 +1,26 @@
 //! Statements at their entry, and loops at their next turn.
-ghost use Rattle.std.specs.Prelude.{◌≡◌, OnOk};
+ghost use Rattle.std.specs.Prelude.{◌≡◌};
 ghost use Rattle.wjs_meaning.specs.Reading.{node_in};
 ghost use Rattle.wjs_meaning.specs.Statements.{stmt_of, again_of};
 ghost use Rattle.wjs_model.specs.Rest.{begin_stmt, begin_variables};
-ghost use Rattle.wjs_model.specs.Soundness.{Base, IsThere};
-ghost use Rattle.wjs_moves.specs.Parts.{env_in, node_now};
-ghost use Rattle.wjs_moves.specs.Following.{Follows};
+ghost use Rattle.wjs_moves.specs.Parts.{node_now};
 ghost use Rattle.wjs_eval_stmt.specs.Forms.{loop_of, jump_of};
+ghost use Rattle.wjs_moves.specs.Handling.{Runs, GoesOn};
 
 use wjs_base::OutOfMemory;
 use wjs_blocks::{block, return_start};
 use wjs_loops::{expr_turn, for_again, for_from, for_variables, stmt_turn, variables_from};
-use wjs_model::{Completion, Config, Form, Frame, State};
+use wjs_model::{Completion, Config, Form, Frame};
 use wjs_moves::{Part, enter, finish, node_of};
 use wjs_store::WorldStore;
 use wjs_tree::{ForInit, Node};
 
 /// What a statement's frame begins with at its place.
 pub(crate) fn begin<S: WorldStore>(config: &mut Config<S>, frame: Frame) -> Result<(), OutOfMemory>
-    requires running { config.old.state ≡ State.Running }
-    requires base { Base S.meaning config.old }
-    requires there { IsThere S.meaning config.old frame }
+    requires runs { Runs S.meaning config.old frame }
     requires form { frame.form ≡ Form.Stmt }
-    ensures { let t = config.new.heap.texts in let env = env_in S.meaning config.old t frame in OnOk result (Follows S.meaning (begin_stmt (node_in t (node_now S.meaning config.old frame)) frame.node.0 frame.place env) config.old config.new) }
+    ensures { GoesOn S.meaning frame config.old config.new result (λ t env.
+        begin_stmt (node_in t (node_now S.meaning config.old frame)) frame.node.0 frame.place env) }
 {
     match frame.place() {
         0 => start(config, frame),
@@ -33,11 +31,9 @@ pub(crate) fn begin<S: WorldStore>(config: &mut Config<S>, frame: Frame) -> Resu
 
 /// A statement at its entry.
 fn start<S: WorldStore>(config: &mut Config<S>, frame: Frame) -> Result<(), OutOfMemory>
-    requires running { config.old.state ≡ State.Running }
-    requires base { Base S.meaning config.old }
-    requires there { IsThere S.meaning config.old frame }
+    requires runs { Runs S.meaning config.old frame }
     requires form { frame.form ≡ Form.Stmt }
-    ensures { let t = config.new.heap.texts in let env = env_in S.meaning config.old t frame in OnOk result (Follows S.meaning (stmt_of frame.node.0 (node_in t (node_now S.meaning config.old frame)) env) config.old config.new) }
+    ensures { GoesOn S.meaning frame config.old config.new result (λ t env. stmt_of frame.node.0 (node_in t (node_now S.meaning config.old frame)) env) }
 {
     match node_of(config, &frame) {
         Some(Node::Block(_)) => block(config, frame, 0),
@@ -59,11 +55,9 @@ fn start<S: WorldStore>(config: &mut Config<S>, frame: Frame) -> Result<(), OutO
 
 /// The loops, and then the others.
 fn start_loop<S: WorldStore>(config: &mut Config<S>, frame: Frame) -> Result<(), OutOfMemory>
-    requires running { config.old.state ≡ State.Running }
-    requires base { Base S.meaning config.old }
-    requires there { IsThere S.meaning config.old frame }
+    requires runs { Runs S.meaning config.old frame }
     requires form { frame.form ≡ Form.Stmt }
-    ensures { let t = config.new.heap.texts in let env = env_in S.meaning config.old t frame in OnOk result (Follows S.meaning (loop_of frame.node.0 (node_in t (node_now S.meaning config.old frame)) env) config.old config.new) }
+    ensures { GoesOn S.meaning frame config.old config.new result (λ t env. loop_of frame.node.0 (node_in t (node_now S.meaning config.old frame)) env) }
 {
     match node_of(config, &frame) {
         Some(Node::DoWhile(s, _, _)) => {
@@ -92,11 +86,9 @@ fn start_loop<S: WorldStore>(config: &mut Config<S>, frame: Frame) -> Result<(),
 
 /// Jumps, labels and `try`; `;` and a function that is declared already do nothing.
 fn start_jump<S: WorldStore>(config: &mut Config<S>, frame: Frame) -> Result<(), OutOfMemory>
-    requires running { config.old.state ≡ State.Running }
-    requires base { Base S.meaning config.old }
-    requires there { IsThere S.meaning config.old frame }
+    requires runs { Runs S.meaning config.old frame }
     requires form { frame.form ≡ Form.Stmt }
-    ensures { let t = config.new.heap.texts in let env = env_in S.meaning config.old t frame in OnOk result (Follows S.meaning (jump_of frame.node.0 (node_in t (node_now S.meaning config.old frame)) env) config.old config.new) }
+    ensures { GoesOn S.meaning frame config.old config.new result (λ t env. jump_of frame.node.0 (node_in t (node_now S.meaning config.old frame)) env) }
 {
     match node_of(config, &frame) {
         Some(Node::Continue(label, _)) => {
@@ -121,11 +113,9 @@ fn start_jump<S: WorldStore>(config: &mut Config<S>, frame: Frame) -> Result<(),
 
 /// A loop at its next turn.
 fn again<S: WorldStore>(config: &mut Config<S>, frame: Frame) -> Result<(), OutOfMemory>
-    requires running { config.old.state ≡ State.Running }
-    requires base { Base S.meaning config.old }
-    requires there { IsThere S.meaning config.old frame }
+    requires runs { Runs S.meaning config.old frame }
     requires form { frame.form ≡ Form.Stmt }
-    ensures { let t = config.new.heap.texts in let env = env_in S.meaning config.old t frame in OnOk result (Follows S.meaning (again_of frame.node.0 (node_in t (node_now S.meaning config.old frame)) env) config.old config.new) }
+    ensures { GoesOn S.meaning frame config.old config.new result (λ t env. again_of frame.node.0 (node_in t (node_now S.meaning config.old frame)) env) }
 {
     match node_of(config, &frame) {
         Some(Node::While(e, _)) => {
@@ -146,11 +136,10 @@ fn again<S: WorldStore>(config: &mut Config<S>, frame: Frame) -> Result<(), OutO
 
 /// The `var`s of a `for`.
 fn begin_variables<S: WorldStore>(config: &mut Config<S>, frame: Frame) -> Result<(), OutOfMemory>
-    requires running { config.old.state ≡ State.Running }
-    requires base { Base S.meaning config.old }
-    requires there { IsThere S.meaning config.old frame }
+    requires runs { Runs S.meaning config.old frame }
     requires form { frame.form ≡ Form.Stmt }
-    ensures { let t = config.new.heap.texts in let env = env_in S.meaning config.old t frame in OnOk result (Follows S.meaning (begin_variables frame.node.0 (node_in t (node_now S.meaning config.old frame)) env) config.old config.new) }
+    ensures { GoesOn S.meaning frame config.old config.new result (λ t env.
+        begin_variables frame.node.0 (node_in t (node_now S.meaning config.old frame)) env) }
 {
     match node_of(config, &frame) {
         Some(Node::For(_, _, _, _)) => variables_from(config, frame, 0),

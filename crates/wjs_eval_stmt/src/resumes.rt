@@ -1,19 +1,19 @@
 //! Statements that go on with the completion that they waited for.
-ghost use Rattle.std.specs.Prelude.{◌≡◌, OnOk};
+ghost use Rattle.std.specs.Prelude.{◌≡◌};
 ghost use Rattle.wjs_meaning.specs.Reading.{node_in};
 ghost use Rattle.wjs_model.specs.Contents.{completion_in, holding_in};
 ghost use Rattle.wjs_model.specs.Waiting.{after_stmt};
-ghost use Rattle.wjs_model.specs.Soundness.{Base, IsThere, HasCompletion};
-ghost use Rattle.wjs_moves.specs.Parts.{env_in, node_now};
-ghost use Rattle.wjs_moves.specs.Following.{Follows};
+ghost use Rattle.wjs_model.specs.Soundness.{HasCompletion};
+ghost use Rattle.wjs_moves.specs.Parts.{node_now};
 ghost use Rattle.wjs_eval_stmt.specs.Forms.{after_loop, after_jump};
+ghost use Rattle.wjs_moves.specs.Handling.{Runs, GoesOn};
 
 use wjs_base::OutOfMemory;
 use wjs_blocks::{
     block_next, expr_next, if_next, return_next, switch_next, throw_next, try_next, within_next,
 };
 use wjs_loops::{do_next, for_next, label_next, variable_next, while_next};
-use wjs_model::{Completion, Config, Form, Frame, State};
+use wjs_model::{Completion, Config, Form, Frame};
 use wjs_moves::{finish, node_of};
 use wjs_store::WorldStore;
 use wjs_tree::Node;
@@ -26,12 +26,11 @@ pub(crate) fn resume<S: WorldStore>(
     frame: Frame,
     completion: Completion,
 ) -> Result<(), OutOfMemory>
-    requires running { config.old.state ≡ State.Running }
-    requires base { Base S.meaning config.old }
-    requires there { IsThere S.meaning config.old frame }
+    requires runs { Runs S.meaning config.old frame }
     requires form { frame.form ≡ Form.Stmt }
     requires completion { HasCompletion config.old completion }
-    ensures { let t = config.new.heap.texts in let env = env_in S.meaning config.old t frame in OnOk result (Follows S.meaning (after_stmt frame.node.0 (node_in t (node_now S.meaning config.old frame)) frame.place (holding_in t frame.held) env (completion_in t completion)) config.old config.new) }
+    ensures { GoesOn S.meaning frame config.old config.new result (λ t env.
+        after_stmt frame.node.0 (node_in t (node_now S.meaning config.old frame)) frame.place (holding_in t frame.held) env (completion_in t completion)) }
 {
     match node_of(config, &frame) {
         Some(Node::Block(_)) => block_next(config, frame, completion),
@@ -56,12 +55,11 @@ fn resume_loop<S: WorldStore>(
     frame: Frame,
     completion: Completion,
 ) -> Result<(), OutOfMemory>
-    requires running { config.old.state ≡ State.Running }
-    requires base { Base S.meaning config.old }
-    requires there { IsThere S.meaning config.old frame }
+    requires runs { Runs S.meaning config.old frame }
     requires form { frame.form ≡ Form.Stmt }
     requires completion { HasCompletion config.old completion }
-    ensures { let t = config.new.heap.texts in let env = env_in S.meaning config.old t frame in OnOk result (Follows S.meaning (after_loop frame.node.0 (node_in t (node_now S.meaning config.old frame)) frame.place (holding_in t frame.held) env (completion_in t completion)) config.old config.new) }
+    ensures { GoesOn S.meaning frame config.old config.new result (λ t env.
+        after_loop frame.node.0 (node_in t (node_now S.meaning config.old frame)) frame.place (holding_in t frame.held) env (completion_in t completion)) }
 {
     match node_of(config, &frame) {
         Some(Node::While(e, s)) => {
@@ -94,12 +92,11 @@ fn resume_jump<S: WorldStore>(
     frame: Frame,
     completion: Completion,
 ) -> Result<(), OutOfMemory>
-    requires running { config.old.state ≡ State.Running }
-    requires base { Base S.meaning config.old }
-    requires there { IsThere S.meaning config.old frame }
+    requires runs { Runs S.meaning config.old frame }
     requires form { frame.form ≡ Form.Stmt }
     requires completion { HasCompletion config.old completion }
-    ensures { let t = config.new.heap.texts in let env = env_in S.meaning config.old t frame in OnOk result (Follows S.meaning (after_jump frame.node.0 (node_in t (node_now S.meaning config.old frame)) frame.place (holding_in t frame.held) env (completion_in t completion)) config.old config.new) }
+    ensures { GoesOn S.meaning frame config.old config.new result (λ t env.
+        after_jump frame.node.0 (node_in t (node_now S.meaning config.old frame)) frame.place (holding_in t frame.held) env (completion_in t completion)) }
 {
     match node_of(config, &frame) {
         Some(Node::Label(name, _)) => {

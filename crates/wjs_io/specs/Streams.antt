@@ -1,33 +1,44 @@
--- A source or a sink over a call: what it had and has, and its count of faults.
+-- A source or a sink over a call: what is seen of it before and after.
 use Rattle.std.specs.Prelude.{◌≡◌, ℕ, ◌<◌, List, ◌++◌, Option, IfSome, length}
 use Rattle.std.specs.Io.KnownBytes.{Appends}
 use Rattle.wjs_io.specs.Faults.{Rises}
 
--- a source or a sink over a call: the bytes that it has left or holds, where it tells them, and its count of faults
-pub record Stream : Type 0 where
-  pub before : Option (List ℕ)
-  pub after : Option (List ℕ)
-  pub faults_before : ℕ
-  pub faults_after : ℕ
+-- what is seen of a source or a sink: the bytes that it has left or holds, where it tells them, and how often it has failed, up to 2^64 - 1
+pub record Seen : Type 0 where
+  pub bytes : Option (List ℕ)
+  pub faults : ℕ
 
+-- a source or a sink over a call
+pub record Stream : Type 0 where
+  pub before : Seen
+  pub after : Seen
+
+-- of what shows so much of itself
+abbrev pub over : {T : Type 0} → (T → Seen) → T → T → Stream
+over seen old new = record { before = seen old; after = seen new }
+
+-- of these bytes, and these counts of faults
 abbrev pub stream : Option (List ℕ) → Option (List ℕ) → ℕ → ℕ → Stream
-stream before after faults_before faults_after = record { before = before; after = after; faults_before = faults_before; faults_after = faults_after }
+stream before after faults_before faults_after = record {
+  before = record { bytes = before; faults = faults_before };
+  after = record { bytes = after; faults = faults_after };
+}
 
 -- its faults rose in the call
 abbrev pub Failed : Stream → Type 0
-Failed s = Rises s.faults_before s.faults_after
+Failed s = Rises s.before.faults s.after.faults
 
 -- these bytes were left in the source
 abbrev pub Had : Stream → List ℕ → Type 0
-Had s bytes = IfSome s.before (λ left. left ≡ bytes)
+Had s bytes = IfSome s.before.bytes (λ left. left ≡ bytes)
 
 -- the source gave exactly these bytes
 abbrev pub Gave : Stream → List ℕ → Type 0
-Gave s bytes = IfSome s.before (λ had. IfSome s.after (λ left. had ≡ bytes ++ left))
+Gave s bytes = IfSome s.before.bytes (λ had. IfSome s.after.bytes (λ left. had ≡ bytes ++ left))
 
 -- the sink got exactly these bytes
 abbrev pub Got : Stream → List ℕ → Type 0
-Got s bytes = Appends s.before s.after bytes
+Got s bytes = Appends s.before.bytes s.after.bytes bytes
 
 -- the sink got a prefix of these bytes
 pub record GotPrefix (s : Stream) (bytes : List ℕ) : Type 0 where

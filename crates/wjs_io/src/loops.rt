@@ -54,10 +54,10 @@ fn zeros(alloc: Global, len: usize) -> Result<Vec<u8>, AllocError>
 fn read_piece<S: Source>(source: &mut S, buffer: &mut [u8], room: u64) -> Result<usize, Failed>
     requires { 0 < length buffer.old }
     ensures bound { IfOk result (λ n. n ≤ min (length buffer.new) (room + 1)) }
-    ensures taken { IfOk result (λ n. Consumes (S.left source.old) (S.left source.new) (take n buffer.new)) }
-    ensures end { IfOk result (λ n. n ≡ 0 → IsAtEnd (S.left source.new)) }
-    ensures kept { OnErr result (Keeps (S.left source.old) (S.left source.new)) }
-    ensures cause { HasCause (S.faults source.old) (S.faults source.new) result }
+    ensures taken { IfOk result (λ n. Consumes (S.seen source.old).bytes (S.seen source.new).bytes (take n buffer.new)) }
+    ensures end { IfOk result (λ n. n ≡ 0 → IsAtEnd (S.seen source.new).bytes) }
+    ensures kept { OnErr result (Keeps (S.seen source.old).bytes (S.seen source.new).bytes) }
+    ensures cause { HasCause (S.seen source.old).faults (S.seen source.new).faults result }
 {
     let asked = room.min(buffer.len() as u64 - 1) as usize + 1;
     source.read(&mut buffer[..asked])
@@ -69,15 +69,15 @@ fn read_piece<S: Source>(source: &mut S, buffer: &mut [u8], room: u64) -> Result
 /// `Failed` comes only where the source's count of faults rose.
 pub fn read_all<S: Source>(alloc: Global, source: &mut S, limit: u64) -> Result<Vec<u8>, ReadFault>
     // All that was left, which is within the limit.
-    ensures all { IfOk result (λ bytes. IfSome (S.left source.old) (λ left. bytes.items ≡ left)) }
-    ensures end { OnOk result (IsAtEnd (S.left source.new)) }
+    ensures all { IfOk result (λ bytes. IfSome (S.seen source.old).bytes (λ left. bytes.items ≡ left)) }
+    ensures end { OnOk result (IsAtEnd (S.seen source.new).bytes) }
     ensures within { IfOk result (λ bytes. length bytes.items ≤ limit) }
 
     // At a fault the bytes that were read are gone: past the limit by one, or within it.
-    ensures stops { IfErr result (StopsAfter limit (S.left source.old) (S.left source.new)) }
+    ensures stops { IfErr result (StopsAfter limit (S.seen source.old).bytes (S.seen source.new).bytes) }
 
-    ensures failed { IsErrOf result ReadFault.Failed → Rises (S.faults source.old) (S.faults source.new) }
-    ensures never_falls { S.faults source.old ≤ S.faults source.new }
+    ensures failed { IsErrOf result ReadFault.Failed → Rises (S.seen source.old).faults (S.seen source.new).faults }
+    ensures never_falls { (S.seen source.old).faults ≤ (S.seen source.new).faults }
 {
     let mut buffer = zeros(alloc, PIECE)?;
     let mut bytes = Vec::new(alloc);
@@ -98,11 +98,11 @@ pub fn read_all<S: Source>(alloc: Global, source: &mut S, limit: u64) -> Result<
 ///
 /// For no bytes it makes no call.
 pub fn write_all_of<O: Sink>(sink: &mut O, bytes: &[u8]) -> Result<(), Stopped>
-    ensures ok { OnOk result (Appends (O.held sink.old) (O.held sink.new) bytes.now) }
+    ensures ok { OnOk result (Appends (O.seen sink.old).bytes (O.seen sink.new).bytes bytes.now) }
     ensures few { IfErr result (λ stopped. stopped.gone < length bytes.now) }
-    ensures gone { IfErr result (λ stopped. Appends (O.held sink.old) (O.held sink.new) (take stopped.gone bytes.now)) }
+    ensures gone { IfErr result (λ stopped. Appends (O.seen sink.old).bytes (O.seen sink.new).bytes (take stopped.gone bytes.now)) }
 
-    ensures cause { HasCause (O.faults sink.old) (O.faults sink.new) result }
+    ensures cause { HasCause (O.seen sink.old).faults (O.seen sink.new).faults result }
     ensures no_call { bytes.now ≡ [] → IsOk result × (sink.new ≡ sink.old) }
 {
     let mut gone = 0;

@@ -1,5 +1,6 @@
 // A source and a sink in memory, for tests: pieces are as small as is wanted, and named calls fail.
-ghost use Rattle.std.specs.Prelude.{◌≡◌, ◌≤◌, ◌<◌, ◌-◌, ◌⊎◌, ◌↔◌, [], length, drop, min, vec_len, vec_capacity, Some, IsErr, IsTrue, IfOk, OnErr, is_ok, if◌then◌else◌};
+ghost use Rattle.std.specs.Prelude.{◌≡◌, ◌≤◌, ◌<◌, ◌-◌, ◌⊎◌, ◌↔◌, [], length, drop, min, vec_len, vec_capacity, if◌then◌else◌};
+ghost use Rattle.std.specs.Prelude.{Some, IsErr, IsTrue, IfOk, is_ok};
 ghost use Rattle.std.specs.Io.KnownBytes.{ReadConsumes, WriteAppends};
 ghost use Rattle.wjs_io.specs.Calls.{Calls, NextFails, called, failed, no_calls};
 ghost use Rattle.wjs_io.specs.Faults.{HasCause, one_more};
@@ -88,9 +89,7 @@ impl MemSource {
 }
 
 impl Source for MemSource {
-    ghost left = { λ s. Some s.left };
-
-    ghost faults = { λ s. s.calls.faults };
+    ghost seen = { λ s. record { bytes = Some s.left; faults = s.calls.faults } };
 
     fn read(&mut self, buf: &mut [u8]) -> Result<usize, Failed>
         // As of every source.
@@ -161,9 +160,7 @@ impl MemSink {
 }
 
 impl Sink for MemSink {
-    ghost held = { λ s. Some s.held };
-
-    ghost faults = { λ s. s.calls.faults };
+    ghost seen = { λ s. record { bytes = Some s.held; faults = s.calls.faults } };
 
     fn write(&mut self, bytes: &[u8]) -> Result<usize, Failed>
         // As of every sink.

@@ -11,9 +11,7 @@ use crate::traits::{Failed, Sink};
 pub struct Unheard;
 
 impl Sink for Unheard {
-    ghost held = { λ _. None };
-
-    ghost faults = { λ _. 0 };
+    ghost seen = { λ _. record { bytes = None; faults = 0 } };
 
     fn write(&mut self, bytes: &[u8]) -> Result<usize, Failed>
         // As of every sink.

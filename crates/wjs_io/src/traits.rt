@@ -1,7 +1,8 @@
 // What gives bytes and what takes them.
-ghost use Rattle.std.specs.Prelude.{◌≡◌, ◌≤◌, ◌<◌, ℕ, List, Option, length, IfOk};
+ghost use Rattle.std.specs.Prelude.{◌≡◌, ◌≤◌, ◌<◌, length, IfOk};
 ghost use Rattle.std.specs.Io.KnownBytes.{ReadConsumes, WriteAppends};
 ghost use Rattle.wjs_io.specs.Faults.{HasCause};
+ghost use Rattle.wjs_io.specs.Streams.{Seen};
 
 /// A read or a write that failed. The source or the sink has counted it.
 #[derive(Clone, Copy, Debug, PartialEq, Eq)]
@@ -9,11 +10,9 @@ pub struct Failed;
 
 /// What gives bytes, in pieces.
 pub trait Source {
-    /// The bytes that are left to be read, where the source tells them.
-    ghost left: { Self → Option (List ℕ) };
-
-    /// How often it has failed, up to 2^64 - 1. A new source has failed 0 times.
-    ghost faults: { Self → ℕ };
+    /// What is seen of it: the bytes that are left to be read, where the source tells them, and how often it has failed. A new
+    /// source has failed 0 times.
+    ghost seen: { Self → Seen };
 
     /// Reads at most `buf.len()` bytes into the front of `buf`, and returns how many. It is 0 for a
     /// buffer with room only where no byte is left.
@@ -21,17 +20,15 @@ pub trait Source {
     /// Fails only where the count of faults rose, and takes nothing then.
     fn read(&mut self, buf: &mut [u8]) -> Result<usize, Failed>
         ensures bound { IfOk result (λ n. n ≤ length buf.new) }
-        ensures bytes { ReadConsumes (left self.old) (left self.new) result buf.new }
-        ensures cause { HasCause (faults self.old) (faults self.new) result };
+        ensures bytes { ReadConsumes (seen self.old).bytes (seen self.new).bytes result buf.new }
+        ensures cause { HasCause (seen self.old).faults (seen self.new).faults result };
 }
 
 /// What takes bytes, in pieces.
 pub trait Sink {
-    /// The bytes that it holds, where the sink tells them.
-    ghost held: { Self → Option (List ℕ) };
-
-    /// How often it has failed, up to 2^64 - 1. A new sink has failed 0 times.
-    ghost faults: { Self → ℕ };
+    /// What is seen of it: the bytes that it holds, where the sink tells them, and how often it has failed. A new sink has
+    /// failed 0 times.
+    ghost seen: { Self → Seen };
 
     /// Appends some of the first bytes, at least one where there is one, and returns how many.
     ///
@@ -39,6 +36,6 @@ pub trait Sink {
     fn write(&mut self, bytes: &[u8]) -> Result<usize, Failed>
         ensures bound { IfOk result (λ n. n ≤ length bytes.now) }
         ensures progress { IfOk result (λ n. 0 < length bytes.now → 0 < n) }
-        ensures bytes { WriteAppends (held self.old) (held self.new) result bytes.now }
-        ensures cause { HasCause (faults self.old) (faults self.new) result };
+        ensures bytes { WriteAppends (seen self.old).bytes (seen self.new).bytes result bytes.now }
+        ensures cause { HasCause (seen self.old).faults (seen self.new).faults result };
 }

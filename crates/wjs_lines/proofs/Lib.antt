@@ -3,3 +3,4 @@ pub mod Following
 pub mod Knowing
 pub mod Parts
 pub mod Indices
+pub mod Extending

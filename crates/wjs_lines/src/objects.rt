@@ -22,7 +22,10 @@ pub fn to_object<S: WorldStore>(
 ) -> Result<Result<ObjId, Value>, OutOfMemory>
     requires base { Base S.meaning config.old }
     requires value { HasValue config.old value }
-    ensures does { IfOk result (λ answer. MatchResult answer (λ o. Does S.meaning (λ t. made.to_object (value_in t value) (env_in S.meaning config.old t frame.now)) (λ t. o) config.old config.new) (λ error. Fails S.meaning (λ t. made.to_object (value_in t value) (env_in S.meaning config.old t frame.now)) (λ t. value_in t error) config.old config.new)) }
+    ensures does { IfOk result (λ answer. MatchResult answer
+        (λ o. Does S.meaning (λ t. made.to_object (value_in t value) (env_in S.meaning config.old t frame.now)) (λ t. o) config.old config.new)
+        (λ error. Fails S.meaning (λ t. made.to_object (value_in t value) (env_in S.meaning config.old t frame.now))
+        (λ t. value_in t error) config.old config.new)) }
     ensures later { OnOk result (Later S.meaning config.old config.new) }
     ensures found { IfOk result (λ answer. MatchResult answer (λ o. HasObject config.new o) (λ error. HasValue config.new error)) }
 {

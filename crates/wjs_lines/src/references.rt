@@ -1,17 +1,15 @@
 //! The ends of lines with a reference (ECMA-262, 3rd edition, section 8.7): its value, or a store to it and then a value.
-ghost use Rattle.std.specs.Prelude.{◌≡◌, OnOk};
 ghost use Rattle.wjs_content.specs.Tables.{value_in};
 ghost use Rattle.wjs_meaning.specs.Deeds.{give};
 ghost use Rattle.wjs_meaning.specs.Expressions as line;
 ghost use Rattle.wjs_meaning.specs.References as references;
 ghost use Rattle.wjs_model.specs.Contents.{reference_in};
-ghost use Rattle.wjs_model.specs.Soundness.{Base, IsThere, HasValue, HasReference};
-ghost use Rattle.wjs_moves.specs.Parts.{env_in};
-ghost use Rattle.wjs_moves.specs.Following.{Follows};
+ghost use Rattle.wjs_model.specs.Soundness.{HasValue, HasReference};
+ghost use Rattle.wjs_moves.specs.Handling.{Runs, GoesOn};
 
 use wjs_base::{OutOfMemory, Value};
 use wjs_deeds::{store, value_of};
-use wjs_model::{Completion, Config, Frame, Reference, State};
+use wjs_model::{Completion, Config, Frame, Reference};
 use wjs_moves::finish;
 use wjs_store::WorldStore;
 
@@ -22,11 +20,9 @@ pub fn give_value_of<S: WorldStore>(
     frame: Frame,
     reference: Reference,
 ) -> Result<(), OutOfMemory>
-    requires running { config.old.state ≡ State.Running }
-    requires base { Base S.meaning config.old }
-    requires there { IsThere S.meaning config.old frame }
+    requires runs { Runs S.meaning config.old frame }
     requires reference { HasReference config.old reference }
-    ensures { let t = config.new.heap.texts in let env = env_in S.meaning config.old t frame in OnOk result (Follows S.meaning (line.give_value_of env (reference_in t reference)) config.old config.new) }
+    ensures { GoesOn S.meaning frame config.old config.new result (λ t env. line.give_value_of env (reference_in t reference)) }
 {
     let answer = value_of(config, &frame, reference)?;
     match answer {
@@ -44,13 +40,12 @@ pub fn store_and_give<S: WorldStore>(
     value: Value,
     given: Value,
 ) -> Result<(), OutOfMemory>
-    requires running { config.old.state ≡ State.Running }
-    requires base { Base S.meaning config.old }
-    requires there { IsThere S.meaning config.old frame }
+    requires runs { Runs S.meaning config.old frame }
     requires reference { HasReference config.old reference }
     requires value { HasValue config.old value }
     requires given { HasValue config.old given }
-    ensures { let t = config.new.heap.texts in let env = env_in S.meaning config.old t frame in OnOk result (Follows S.meaning (references.store (reference_in t reference) (value_in t value) env (give (value_in t given))) config.old config.new) }
+    ensures { GoesOn S.meaning frame config.old config.new result (λ t env.
+        references.store (reference_in t reference) (value_in t value) env (give (value_in t given))) }
 {
     let answer = store(config, &frame, reference, value)?;
     match answer {

@@ -1,20 +1,20 @@
 //! Texts of primitives (ECMA-262, 3rd edition, section 9.8), and names of members by value.
 ghost use Rattle.std.specs.Prelude.{◌≡◌, ◌≤◌, ◌++◌, IfOk, OnOk, MatchOption};
-ghost use Rattle.wjs_base.specs.Text.{Table, Grows};
-ghost use Rattle.wjs_content.specs.Tables.{value_in, name_in};
+ghost use Rattle.wjs_base.specs.Text.{Table, Grows, Has};
+ghost use Rattle.wjs_content.specs.Tables.{text_in, value_in, name_in};
 ghost use Rattle.wjs_base.specs.Spelling.{greatest_index};
 ghost use Rattle.wjs_content.specs.Names.{index_name};
 ghost use Rattle.wjs_content.specs.Conversions.{primitive_text};
 ghost use Rattle.wjs_meaning.specs.Errors as errors;
-ghost use Rattle.wjs_model.specs.Soundness.{Base, IsThere, HasValue, HasName};
+ghost use Rattle.wjs_model.specs.Soundness.{Base, HasValue, HasName};
 ghost use Rattle.wjs_moves.specs.Doing.{Does};
-ghost use Rattle.wjs_moves.specs.Following.{Follows, Later};
-ghost use Rattle.wjs_moves.specs.Parts.{env_in};
+ghost use Rattle.wjs_moves.specs.Following.{Later};
+ghost use Rattle.wjs_moves.specs.Handling.{IsRunning, Runs, GoesOn};
 
-use crate::ends::give_text;
-use wjs_base::{LONGEST_TEXT, Name, OutOfMemory, Value};
+use crate::ends::{give_extended, give_text};
+use wjs_base::{LONGEST_TEXT, Name, OutOfMemory, TextId, Value};
 use wjs_deeds::{intern, name_of, units_of};
-use wjs_model::{Config, Frame, State};
+use wjs_model::{Config, Frame};
 use wjs_num::write_radix;
 use wjs_store::WorldStore;
 
@@ -60,19 +60,54 @@ fn push_units(units: &mut Vec<u16>, more: &[u16]) -> Result<(), OutOfMemory>
     }
 }
 
-/// The texts of two primitives, one behind the other.
+/// The texts of two primitives, one behind the other. Where the left one is a text, only the right one is copied.
 pub fn join<S: WorldStore>(
     config: &mut Config<S>,
     frame: Frame,
     left: Value,
     right: Value,
 ) -> Result<(), OutOfMemory>
-    requires running { config.old.state ≡ State.Running }
-    requires base { Base S.meaning config.old }
-    requires there { IsThere S.meaning config.old frame }
+    requires runs { Runs S.meaning config.old frame }
     requires left { HasValue config.old left }
     requires right { HasValue config.old right }
-    ensures { let t = config.new.heap.texts in let env = env_in S.meaning config.old t frame in OnOk result (Follows S.meaning (errors.give_text (primitive_text (value_in t left) ++ primitive_text (value_in t right)) env) config.old config.new) }
+    ensures { GoesOn S.meaning frame config.old config.new result (λ t env.
+        errors.give_text (primitive_text (value_in t left) ++ primitive_text (value_in t right)) env) }
+{
+    match left {
+        Value::Text(front) => join_behind(config, frame, front, right),
+        _ => join_both(config, frame, left, right),
+    }
+}
+
+/// A text with that of a primitive behind it.
+fn join_behind<S: WorldStore>(
+    config: &mut Config<S>,
+    frame: Frame,
+    front: TextId,
+    right: Value,
+) -> Result<(), OutOfMemory>
+    requires running { IsRunning S.meaning config.old }
+    requires front { Has config.old.heap.texts front }
+    requires right { HasValue config.old right }
+    ensures { GoesOn S.meaning frame config.old config.new result (λ t env. errors.give_text (text_in t front ++ primitive_text (value_in t right)) env) }
+{
+    let mut units = Vec::new(config.heap.arena.allocator());
+    push_text(config, &mut units, right)?;
+    give_extended(config, frame, front, units.as_slice())
+}
+
+/// The texts of two primitives, both copied.
+fn join_both<S: WorldStore>(
+    config: &mut Config<S>,
+    frame: Frame,
+    left: Value,
+    right: Value,
+) -> Result<(), OutOfMemory>
+    requires running { IsRunning S.meaning config.old }
+    requires left { HasValue config.old left }
+    requires right { HasValue config.old right }
+    ensures { GoesOn S.meaning frame config.old config.new result (λ t env.
+        errors.give_text (primitive_text (value_in t left) ++ primitive_text (value_in t right)) env) }
 {
     let mut units = Vec::new(config.heap.arena.allocator());
     push_text(config, &mut units, left)?;

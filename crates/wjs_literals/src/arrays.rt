@@ -1,22 +1,22 @@
 //! Literals of arrays (ECMA-262, 3rd edition, section 11.1.4): the items from left to right, and then the length.
-ghost use Rattle.std.specs.Prelude.{◌≡◌, ◌-◌, ◌≤◌, true, [], OnOk, map as each, drop, slice_get};
+ghost use Rattle.std.specs.Prelude.{◌≡◌, ◌-◌, true, [], map as each, drop, slice_get};
 ghost use Rattle.wjs_content.specs.Tables.{value_in};
 ghost use Rattle.wjs_meaning.specs.Deeds.{Do, Create, then_value};
 ghost use Rattle.wjs_meaning.specs.Expressions as line;
 ghost use Rattle.wjs_meaning.specs.NewObjects.{array_object};
 ghost use Rattle.wjs_meaning.specs.Reading.{number};
 ghost use Rattle.wjs_model.specs.Contents.{holding_in, completion_in, value_held};
-ghost use Rattle.wjs_model.specs.Soundness.{Base, IsThere, HasCompletion, HasObject, HasValue};
+ghost use Rattle.wjs_model.specs.Soundness.{HasCompletion, HasObject, HasValue};
 ghost use Rattle.wjs_model.specs.Waiting as after;
-ghost use Rattle.wjs_moves.specs.Following.{Follows};
-ghost use Rattle.wjs_moves.specs.Parts.{env_in, node_now};
+ghost use Rattle.wjs_moves.specs.Parts.{node_now};
 ghost use Rattle.wjs_literals.specs.Parts.{items_of, is_array, Skips};
+ghost use Rattle.wjs_moves.specs.Handling.{Runs, GoesOn};
 
 use wjs_base::{Name, ObjId, OutOfMemory, Value};
 use wjs_calls::whole_value;
 use wjs_deeds::{Known, create_array, write, write_known};
 use wjs_lines::{held_value, place_after, place_at};
-use wjs_model::{Completion, Config, Form, Frame, Held, State};
+use wjs_model::{Completion, Config, Form, Frame, Held};
 use wjs_moves::{Part, enter, finish, hold, node_of};
 use wjs_store::WorldStore;
 use wjs_tree::{Node, NodeId};
@@ -32,12 +32,11 @@ pub(crate) enum Next {
 
 /// An array literal: the array is made and held, and the first item is entered.
 pub fn array_start<S: WorldStore>(config: &mut Config<S>, frame: Frame) -> Result<(), OutOfMemory>
-    requires running { config.old.state ≡ State.Running }
-    requires base { Base S.meaning config.old }
-    requires there { IsThere S.meaning config.old frame }
+    requires runs { Runs S.meaning config.old frame }
     requires form { frame.form ≡ Form.Expr }
     requires node { is_array (node_now S.meaning config.old frame) ≡ true }
-    ensures { let t = config.new.heap.texts in let env = env_in S.meaning config.old t frame in OnOk result (Follows S.meaning (Do (Create env.owner array_object) (λ o. line.array_from (each number (items_of (node_now S.meaning config.old frame))) 0 o env)) config.old config.new) }
+    ensures { GoesOn S.meaning frame config.old config.new result (λ t env.
+        Do (Create env.owner array_object) (λ o. line.array_from (each number (items_of (node_now S.meaning config.old frame))) 0 o env)) }
 {
     let array = create_array(config)?;
     let mut frame = frame;
@@ -51,13 +50,13 @@ pub fn array_given<S: WorldStore>(
     frame: Frame,
     completion: Completion,
 ) -> Result<(), OutOfMemory>
-    requires running { config.old.state ≡ State.Running }
-    requires base { Base S.meaning config.old }
-    requires there { IsThere S.meaning config.old frame }
+    requires runs { Runs S.meaning config.old frame }
     requires form { frame.form ≡ Form.Expr }
     requires node { is_array (node_now S.meaning config.old frame) ≡ true }
     requires completion { HasCompletion config.old completion }
-    ensures { let t = config.new.heap.texts in let env = env_in S.meaning config.old t frame in OnOk result (Follows S.meaning (then_value (after.array_item (each number (items_of (node_now S.meaning config.old frame))) (frame.place - 1) (holding_in t frame.held) env) (completion_in t completion)) config.old config.new) }
+    ensures { GoesOn S.meaning frame config.old config.new result (λ t env.
+        then_value (after.array_item (each number (items_of (node_now S.meaning config.old frame))) (frame.place - 1) (holding_in t frame.held) env)
+        (completion_in t completion)) }
 {
     match completion {
         Completion::Gives(value) => array_item(config, frame, value),
@@ -71,13 +70,12 @@ fn array_item<S: WorldStore>(
     frame: Frame,
     value: Value,
 ) -> Result<(), OutOfMemory>
-    requires running { config.old.state ≡ State.Running }
-    requires base { Base S.meaning config.old }
-    requires there { IsThere S.meaning config.old frame }
+    requires runs { Runs S.meaning config.old frame }
     requires form { frame.form ≡ Form.Expr }
     requires node { is_array (node_now S.meaning config.old frame) ≡ true }
     requires value { HasValue config.old value }
-    ensures { let t = config.new.heap.texts in let env = env_in S.meaning config.old t frame in OnOk result (Follows S.meaning (after.array_item (each number (items_of (node_now S.meaning config.old frame))) (frame.place - 1) (holding_in t frame.held) env (value_in t value)) config.old config.new) }
+    ensures { GoesOn S.meaning frame config.old config.new result (λ t env.
+        after.array_item (each number (items_of (node_now S.meaning config.old frame))) (frame.place - 1) (holding_in t frame.held) env (value_in t value)) }
 {
     let array = held_value(config, &frame);
     match array {
@@ -93,15 +91,14 @@ fn array_write<S: WorldStore>(
     array: ObjId,
     value: Value,
 ) -> Result<(), OutOfMemory>
-    requires running { config.old.state ≡ State.Running }
-    requires base { Base S.meaning config.old }
-    requires there { IsThere S.meaning config.old frame }
+    requires runs { Runs S.meaning config.old frame }
     requires form { frame.form ≡ Form.Expr }
     requires node { is_array (node_now S.meaning config.old frame) ≡ true }
     requires array { HasObject config.old array }
     requires held { value_held frame.held ≡ Value.Object array }
     requires value { HasValue config.old value }
-    ensures { let t = config.new.heap.texts in let env = env_in S.meaning config.old t frame in OnOk result (Follows S.meaning (after.array_item (each number (items_of (node_now S.meaning config.old frame))) (frame.place - 1) (holding_in t frame.held) env (value_in t value)) config.old config.new) }
+    ensures { GoesOn S.meaning frame config.old config.new result (λ t env.
+        after.array_item (each number (items_of (node_now S.meaning config.old frame))) (frame.place - 1) (holding_in t frame.held) env (value_in t value)) }
 {
     let at = frame.place().saturating_sub(1);
     let next = place_after(at, 1)?;
@@ -116,14 +113,13 @@ fn array_next<S: WorldStore>(
     array: ObjId,
     from: u32,
 ) -> Result<(), OutOfMemory>
-    requires running { config.old.state ≡ State.Running }
-    requires base { Base S.meaning config.old }
-    requires there { IsThere S.meaning config.old frame }
+    requires runs { Runs S.meaning config.old frame }
     requires form { frame.form ≡ Form.Expr }
     requires node { is_array (node_now S.meaning config.old frame) ≡ true }
     requires array { HasObject config.old array }
     requires held { value_held frame.held ≡ Value.Object array }
-    ensures { let t = config.new.heap.texts in let env = env_in S.meaning config.old t frame in OnOk result (Follows S.meaning (line.array_from (drop from (each number (items_of (node_now S.meaning config.old frame)))) from array env) config.old config.new) }
+    ensures { GoesOn S.meaning frame config.old config.new result (λ t env.
+        line.array_from (drop from (each number (items_of (node_now S.meaning config.old frame)))) from array env) }
 {
     match next_item(config, &frame, from) {
         Next::Item(at, node) => {
@@ -141,11 +137,9 @@ fn array_end<S: WorldStore>(
     array: ObjId,
     length: usize,
 ) -> Result<(), OutOfMemory>
-    requires running { config.old.state ≡ State.Running }
-    requires base { Base S.meaning config.old }
-    requires there { IsThere S.meaning config.old frame }
+    requires runs { Runs S.meaning config.old frame }
     requires array { HasObject config.old array }
-    ensures { let t = config.new.heap.texts in let env = env_in S.meaning config.old t frame in OnOk result (Follows S.meaning (line.array_from [] length array env) config.old config.new) }
+    ensures { GoesOn S.meaning frame config.old config.new result (λ t env. line.array_from [] length array env) }
 {
     let value = whole_value(length)?;
     write_known(config, &frame, array, Known::Length, value)?;

@@ -1,5 +1,5 @@
 //! Calls (ECMA-262, 3rd edition, section 11.2.3): the callee, and then the arguments from left to right.
-ghost use Rattle.std.specs.Prelude.{◌≡◌, ◌-◌, true, Some, OnOk, drop};
+ghost use Rattle.std.specs.Prelude.{◌≡◌, ◌-◌, true, Some, drop};
 ghost use Rattle.wjs_content.specs.Tables.{value_in};
 ghost use Rattle.wjs_content.specs.Values.{Undefined};
 ghost use Rattle.wjs_base.specs.Text.{Table};
@@ -8,11 +8,11 @@ ghost use Rattle.wjs_meaning.specs.Expressions as line;
 ghost use Rattle.wjs_meaning.specs.Reading.{numbers};
 ghost use Rattle.wjs_model.specs.Contents.{completion_in, holding_in, reference_in};
 ghost use Rattle.wjs_model.specs.Waiting as after;
-ghost use Rattle.wjs_model.specs.Soundness.{Base, IsThere, HasCompletion, HasReference, HasValue};
-ghost use Rattle.wjs_moves.specs.Following.{Follows};
-ghost use Rattle.wjs_moves.specs.Parts.{env_in, node_now};
+ghost use Rattle.wjs_model.specs.Soundness.{HasCompletion, HasReference, HasValue};
+ghost use Rattle.wjs_moves.specs.Parts.{node_now};
 ghost use Rattle.wjs_literals.specs.Arguments.{arguments_of, callee_in, is_call};
 ghost use Rattle.wjs_literals.specs.After.{after_call};
+ghost use Rattle.wjs_moves.specs.Handling.{Runs, GoesOn};
 
 use crate::arguments::argument;
 use wjs_base::{OutOfMemory, Value};
@@ -20,7 +20,7 @@ use wjs_calls::call_value;
 use wjs_deeds::value_of;
 use wjs_lines::{held_callee, place_after};
 use wjs_members::is_target;
-use wjs_model::{Completion, Config, Form, Frame, Held, Reference, State};
+use wjs_model::{Completion, Config, Form, Frame, Held, Reference};
 use wjs_moves::{Part, enter, finish, hold};
 use wjs_store::WorldStore;
 use wjs_tree::NodeId;
@@ -31,13 +31,13 @@ pub fn call_start<S: WorldStore>(
     frame: Frame,
     callee: NodeId,
 ) -> Result<(), OutOfMemory>
-    requires running { config.old.state ≡ State.Running }
-    requires base { Base S.meaning config.old }
-    requires there { IsThere S.meaning config.old frame }
+    requires runs { Runs S.meaning config.old frame }
     requires form { frame.form ≡ Form.Expr }
     requires node { is_call (node_now S.meaning config.old frame) ≡ true }
     requires callee { callee_in (node_now S.meaning config.old frame) ≡ Some callee }
-    ensures { let t = config.new.heap.texts in let env = env_in S.meaning config.old t frame in let args = numbers (arguments_of (node_now S.meaning config.old frame)) in OnOk result (Follows S.meaning (line.operand callee.0 env (line.call_reference args env) (line.call_callee args Undefined env)) config.old config.new) }
+    ensures { GoesOn S.meaning frame config.old config.new result (λ t env.
+        let args = numbers (arguments_of (node_now S.meaning config.old frame)) in
+        line.operand callee.0 env (line.call_reference args env) (line.call_callee args Undefined env)) }
 {
     if is_target(config, &frame, callee) {
         enter(config, frame, 1, Part::Target(callee))
@@ -52,13 +52,12 @@ pub fn call_given<S: WorldStore>(
     frame: Frame,
     completion: Completion,
 ) -> Result<(), OutOfMemory>
-    requires running { config.old.state ≡ State.Running }
-    requires base { Base S.meaning config.old }
-    requires there { IsThere S.meaning config.old frame }
+    requires runs { Runs S.meaning config.old frame }
     requires form { frame.form ≡ Form.Expr }
     requires node { is_call (node_now S.meaning config.old frame) ≡ true }
     requires completion { HasCompletion config.old completion }
-    ensures { let t = config.new.heap.texts in let env = env_in S.meaning config.old t frame in OnOk result (Follows S.meaning (after_call (numbers (arguments_of (node_now S.meaning config.old frame))) frame.place (holding_in t frame.held) env (completion_in t completion)) config.old config.new) }
+    ensures { GoesOn S.meaning frame config.old config.new result (λ t env.
+        after_call (numbers (arguments_of (node_now S.meaning config.old frame))) frame.place (holding_in t frame.held) env (completion_in t completion)) }
 {
     match completion {
         Completion::Refers(reference) => call_target(config, frame, reference),
@@ -73,13 +72,13 @@ fn call_target<S: WorldStore>(
     frame: Frame,
     reference: Reference,
 ) -> Result<(), OutOfMemory>
-    requires running { config.old.state ≡ State.Running }
-    requires base { Base S.meaning config.old }
-    requires there { IsThere S.meaning config.old frame }
+    requires runs { Runs S.meaning config.old frame }
     requires form { frame.form ≡ Form.Expr }
     requires node { is_call (node_now S.meaning config.old frame) ≡ true }
     requires reference { HasReference config.old reference }
-    ensures { let t = config.new.heap.texts in let env = env_in S.meaning config.old t frame in OnOk result (Follows S.meaning (after_call (numbers (arguments_of (node_now S.meaning config.old frame))) frame.place (holding_in t frame.held) env (Refers (reference_in t reference))) config.old config.new) }
+    ensures { GoesOn S.meaning frame config.old config.new result (λ t env.
+        after_call (numbers (arguments_of (node_now S.meaning config.old frame))) frame.place (holding_in t frame.held) env
+        (Refers (reference_in t reference))) }
 {
     match frame.place() {
         1 => call_reference(config, frame, reference),
@@ -93,13 +92,12 @@ fn call_part<S: WorldStore>(
     frame: Frame,
     value: Value,
 ) -> Result<(), OutOfMemory>
-    requires running { config.old.state ≡ State.Running }
-    requires base { Base S.meaning config.old }
-    requires there { IsThere S.meaning config.old frame }
+    requires runs { Runs S.meaning config.old frame }
     requires form { frame.form ≡ Form.Expr }
     requires node { is_call (node_now S.meaning config.old frame) ≡ true }
     requires value { HasValue config.old value }
-    ensures { let t = config.new.heap.texts in let env = env_in S.meaning config.old t frame in OnOk result (Follows S.meaning (after_call (numbers (arguments_of (node_now S.meaning config.old frame))) frame.place (holding_in t frame.held) env (Gives (value_in t value))) config.old config.new) }
+    ensures { GoesOn S.meaning frame config.old config.new result (λ t env.
+        after_call (numbers (arguments_of (node_now S.meaning config.old frame))) frame.place (holding_in t frame.held) env (Gives (value_in t value))) }
 {
     match frame.place() {
         1 => finish(config, frame, Completion::Gives(value)),
@@ -114,13 +112,12 @@ fn call_reference<S: WorldStore>(
     frame: Frame,
     reference: Reference,
 ) -> Result<(), OutOfMemory>
-    requires running { config.old.state ≡ State.Running }
-    requires base { Base S.meaning config.old }
-    requires there { IsThere S.meaning config.old frame }
+    requires runs { Runs S.meaning config.old frame }
     requires form { frame.form ≡ Form.Expr }
     requires node { is_call (node_now S.meaning config.old frame) ≡ true }
     requires reference { HasReference config.old reference }
-    ensures { let t = config.new.heap.texts in let env = env_in S.meaning config.old t frame in OnOk result (Follows S.meaning (line.call_reference (numbers (arguments_of (node_now S.meaning config.old frame))) env (reference_in t reference)) config.old config.new) }
+    ensures { GoesOn S.meaning frame config.old config.new result (λ t env.
+        line.call_reference (numbers (arguments_of (node_now S.meaning config.old frame))) env (reference_in t reference)) }
 {
     let answer = value_of(config, &frame, reference)?;
     match answer {
@@ -152,14 +149,13 @@ fn call_callee<S: WorldStore>(
     callee: Value,
     this: Value,
 ) -> Result<(), OutOfMemory>
-    requires running { config.old.state ≡ State.Running }
-    requires base { Base S.meaning config.old }
-    requires there { IsThere S.meaning config.old frame }
+    requires runs { Runs S.meaning config.old frame }
     requires form { frame.form ≡ Form.Expr }
     requires node { is_call (node_now S.meaning config.old frame) ≡ true }
     requires callee { HasValue config.old callee }
     requires this { HasValue config.old this }
-    ensures { let t = config.new.heap.texts in let env = env_in S.meaning config.old t frame in OnOk result (Follows S.meaning (line.call_callee (numbers (arguments_of (node_now S.meaning config.old frame))) (value_in t this) env (value_in t callee)) config.old config.new) }
+    ensures { GoesOn S.meaning frame config.old config.new result (λ t env.
+        line.call_callee (numbers (arguments_of (node_now S.meaning config.old frame))) (value_in t this) env (value_in t callee)) }
 {
     let mut frame = frame;
     frame.set_held(config.frames.nothing_held());
@@ -173,13 +169,12 @@ fn call_argument<S: WorldStore>(
     frame: Frame,
     value: Value,
 ) -> Result<(), OutOfMemory>
-    requires running { config.old.state ≡ State.Running }
-    requires base { Base S.meaning config.old }
-    requires there { IsThere S.meaning config.old frame }
+    requires runs { Runs S.meaning config.old frame }
     requires form { frame.form ≡ Form.Expr }
     requires node { is_call (node_now S.meaning config.old frame) ≡ true }
     requires value { HasValue config.old value }
-    ensures { let t = config.new.heap.texts in let env = env_in S.meaning config.old t frame in OnOk result (Follows S.meaning (after.call_argument (numbers (arguments_of (node_now S.meaning config.old frame))) (frame.place - 3) (holding_in t frame.held) env (value_in t value)) config.old config.new) }
+    ensures { GoesOn S.meaning frame config.old config.new result (λ t env.
+        after.call_argument (numbers (arguments_of (node_now S.meaning config.old frame))) (frame.place - 3) (holding_in t frame.held) env (value_in t value)) }
 {
     let at = frame.place().saturating_sub(3);
     let next = place_after(at, 1)?;
@@ -194,12 +189,12 @@ fn call_next<S: WorldStore>(
     frame: Frame,
     at: u32,
 ) -> Result<(), OutOfMemory>
-    requires running { config.old.state ≡ State.Running }
-    requires base { Base S.meaning config.old }
-    requires there { IsThere S.meaning config.old frame }
+    requires runs { Runs S.meaning config.old frame }
     requires form { frame.form ≡ Form.Expr }
     requires node { is_call (node_now S.meaning config.old frame) ≡ true }
-    ensures { let t = config.new.heap.texts in let env = env_in S.meaning config.old t frame in OnOk result (Follows S.meaning (let held = holding_in t frame.held in line.values_from (drop at (numbers (arguments_of (node_now S.meaning config.old frame)))) held.values env (line.call_values held.callee.0 held.callee.1 env)) config.old config.new) }
+    ensures { GoesOn S.meaning frame config.old config.new result (λ t env.
+        let held = holding_in t frame.held in line.values_from (drop at (numbers (arguments_of (node_now S.meaning config.old frame)))) held.values env
+        (line.call_values held.callee.0 held.callee.1 env)) }
 {
     match argument(config, &frame, at as usize) {
         Some(next) => {
@@ -212,10 +207,9 @@ fn call_next<S: WorldStore>(
 
 /// The call of what is held, with the values that are held.
 fn call_held<S: WorldStore>(config: &mut Config<S>, frame: Frame) -> Result<(), OutOfMemory>
-    requires running { config.old.state ≡ State.Running }
-    requires base { Base S.meaning config.old }
-    requires there { IsThere S.meaning config.old frame }
-    ensures { let t = config.new.heap.texts in let env = env_in S.meaning config.old t frame in OnOk result (Follows S.meaning (let held = holding_in t frame.held in line.call_values held.callee.0 held.callee.1 env held.values) config.old config.new) }
+    requires runs { Runs S.meaning config.old frame }
+    ensures { GoesOn S.meaning frame config.old config.new result (λ t env.
+        let held = holding_in t frame.held in line.call_values held.callee.0 held.callee.1 env held.values) }
 {
     let (callee, this) = held_callee(config, &frame);
     call_value(config, frame, callee, this)

@@ -1,18 +1,15 @@
 //! Function expressions (ECMA-262, 3rd edition, section 13).
-ghost use Rattle.std.specs.Prelude.{◌≡◌, OnOk};
 ghost use Rattle.wjs_content.specs.Values.{Object};
 ghost use Rattle.wjs_meaning.specs.Deeds.{give};
 ghost use Rattle.wjs_meaning.specs.Functions as line;
 ghost use Rattle.wjs_meaning.specs.Reading.{label_in};
 ghost use Rattle.wjs_model.specs.Texts.{HasText};
-ghost use Rattle.wjs_model.specs.Soundness.{Base, IsThere};
-ghost use Rattle.wjs_moves.specs.Following.{Follows};
-ghost use Rattle.wjs_moves.specs.Parts.{env_in};
 ghost use Rattle.wjs_calls.specs.Standing.{StandsNamed};
+ghost use Rattle.wjs_moves.specs.Handling.{Runs, GoesOn};
 
 use wjs_base::{OutOfMemory, TextId, Value};
 use wjs_calls::make_function;
-use wjs_model::{Completion, Config, Frame, State};
+use wjs_model::{Completion, Config, Frame};
 use wjs_moves::finish;
 use wjs_store::WorldStore;
 
@@ -22,12 +19,10 @@ pub fn function_start<S: WorldStore>(
     frame: Frame,
     name: Option<TextId>,
 ) -> Result<(), OutOfMemory>
-    requires running { config.old.state ≡ State.Running }
-    requires base { Base S.meaning config.old }
-    requires there { IsThere S.meaning config.old frame }
+    requires runs { Runs S.meaning config.old frame }
     requires name { HasText config.old.heap.texts name }
     requires stands { StandsNamed config.old.units.items config.old.heap.arena frame.tree frame.node frame.scope name }
-    ensures { let t = config.new.heap.texts in let env = env_in S.meaning config.old t frame in OnOk result (Follows S.meaning (line.make_function frame.node.0 (label_in t name) env (λ f. give (Object f))) config.old config.new) }
+    ensures { GoesOn S.meaning frame config.old config.new result (λ t env. line.make_function frame.node.0 (label_in t name) env (λ f. give (Object f))) }
 {
     let function = make_function(config, &frame, frame.node(), name)?;
     finish(config, frame, Completion::Gives(Value::Object(function)))

@@ -1,18 +1,18 @@
 //! Literals of texts (ECMA-262, 3rd edition, section 7.8.4), `this` (section 11.1.1) and `thisWorld` ("Worlds: Controlling the
 //! Scope of Side Effects", ECOOP 2011).
-ghost use Rattle.std.specs.Prelude.{◌≡◌, IfSome, OnOk};
+ghost use Rattle.std.specs.Prelude.{◌≡◌, IfSome};
 ghost use Rattle.wjs_content.specs.Objects as objects;
 ghost use Rattle.wjs_content.specs.Tables.{text_in};
 ghost use Rattle.wjs_content.specs.Values.{String};
 ghost use Rattle.wjs_meaning.specs.Deeds.{Do, Look, give};
 ghost use Rattle.wjs_meaning.specs.Expressions as line;
-ghost use Rattle.wjs_model.specs.Soundness.{Base, IsThere, HasObject};
-ghost use Rattle.wjs_moves.specs.Parts.{env_in, node_now};
-ghost use Rattle.wjs_moves.specs.Following.{Follows};
+ghost use Rattle.wjs_model.specs.Soundness.{HasObject};
+ghost use Rattle.wjs_moves.specs.Parts.{node_now};
+ghost use Rattle.wjs_moves.specs.Handling.{Runs, IsRunning, GoesOn};
 
 use wjs_base::{ObjId, OutOfMemory, TextId, Value};
 use wjs_deeds::world_object;
-use wjs_model::{Completion, Config, Frame, State};
+use wjs_model::{Completion, Config, Frame};
 use wjs_moves::finish;
 use wjs_store::WorldStore;
 use wjs_tree::Node;
@@ -23,20 +23,17 @@ pub fn text<S: WorldStore>(
     frame: Frame,
     id: TextId,
 ) -> Result<(), OutOfMemory>
-    requires running { config.old.state ≡ State.Running }
-    requires base { Base S.meaning config.old }
+    requires running { IsRunning S.meaning config.old }
     requires node { node_now S.meaning config.old frame ≡ Node.Text id }
-    ensures { let t = config.new.heap.texts in OnOk result (Follows S.meaning (give (String (text_in t id))) config.old config.new) }
+    ensures { GoesOn S.meaning frame config.old config.new result (λ t env. give (String (text_in t id))) }
 {
     finish(config, frame, Completion::Gives(Value::Text(id)))
 }
 
 /// `this`.
 pub fn this<S: WorldStore>(config: &mut Config<S>, frame: Frame) -> Result<(), OutOfMemory>
-    requires running { config.old.state ≡ State.Running }
-    requires base { Base S.meaning config.old }
-    requires there { IsThere S.meaning config.old frame }
-    ensures { let t = config.new.heap.texts in let env = env_in S.meaning config.old t frame in OnOk result (Follows S.meaning (give env.this) config.old config.new) }
+    requires runs { Runs S.meaning config.old frame }
+    ensures { GoesOn S.meaning frame config.old config.new result (λ t env. give env.this) }
 {
     let this = frame.this();
     finish(config, frame, Completion::Gives(this))
@@ -44,10 +41,8 @@ pub fn this<S: WorldStore>(config: &mut Config<S>, frame: Frame) -> Result<(), O
 
 /// `thisWorld`: the object of the frame's world.
 pub fn this_world<S: WorldStore>(config: &mut Config<S>, frame: Frame) -> Result<(), OutOfMemory>
-    requires running { config.old.state ≡ State.Running }
-    requires base { Base S.meaning config.old }
-    requires there { IsThere S.meaning config.old frame }
-    ensures { let t = config.new.heap.texts in let env = env_in S.meaning config.old t frame in OnOk result (Follows S.meaning (Do Look (λ arena. line.give_world (objects.world_object arena env.world))) config.old config.new) }
+    requires runs { Runs S.meaning config.old frame }
+    ensures { GoesOn S.meaning frame config.old config.new result (λ t env. Do Look (λ arena. line.give_world (objects.world_object arena env.world))) }
 {
     let found = world_object(config, frame.world());
     give_world(config, frame, found)
@@ -59,10 +54,9 @@ fn give_world<S: WorldStore>(
     frame: Frame,
     object: Option<ObjId>,
 ) -> Result<(), OutOfMemory>
-    requires running { config.old.state ≡ State.Running }
-    requires base { Base S.meaning config.old }
+    requires running { IsRunning S.meaning config.old }
     requires found { IfSome object (λ o. HasObject config.old o) }
-    ensures { OnOk result (Follows S.meaning (line.give_world object) config.old config.new) }
+    ensures { GoesOn S.meaning frame config.old config.new result (λ t env. line.give_world object) }
 {
     match object {
         Some(object) => finish(config, frame, Completion::Gives(Value::Object(object))),

@@ -1,5 +1,5 @@
 //! `new` (ECMA-262, 3rd edition, section 11.2.2): the callee, and then the arguments from left to right.
-ghost use Rattle.std.specs.Prelude.{◌≡◌, ◌-◌, true, Some, OnOk, drop};
+ghost use Rattle.std.specs.Prelude.{◌≡◌, ◌-◌, true, Some, drop};
 ghost use Rattle.wjs_content.specs.Tables.{value_in};
 ghost use Rattle.wjs_meaning.specs.Constructions.{construct, new_result};
 ghost use Rattle.wjs_meaning.specs.Deeds.{Eval, AtExpr, Gives, then_value};
@@ -7,16 +7,16 @@ ghost use Rattle.wjs_meaning.specs.Expressions as line;
 ghost use Rattle.wjs_meaning.specs.Reading.{numbers};
 ghost use Rattle.wjs_model.specs.Contents.{completion_in, holding_in, value_held};
 ghost use Rattle.wjs_model.specs.Waiting as after;
-ghost use Rattle.wjs_model.specs.Soundness.{Base, IsThere, HasCompletion, HasObject, HasValue};
-ghost use Rattle.wjs_moves.specs.Following.{Follows};
-ghost use Rattle.wjs_moves.specs.Parts.{env_in, node_now};
+ghost use Rattle.wjs_model.specs.Soundness.{HasCompletion, HasObject, HasValue};
+ghost use Rattle.wjs_moves.specs.Parts.{node_now};
 ghost use Rattle.wjs_calls.specs.Callees.{is_new};
 ghost use Rattle.wjs_literals.specs.Arguments.{arguments_of, callee_in};
+ghost use Rattle.wjs_moves.specs.Handling.{Runs, IsRunning, GoesOn};
 
 use crate::arguments::argument;
 use wjs_base::{ObjId, OutOfMemory, Value};
 use wjs_lines::{held_callee, held_value, place_after};
-use wjs_model::{Completion, Config, Form, Frame, Held, State};
+use wjs_model::{Completion, Config, Form, Frame, Held};
 use wjs_moves::{Part, enter, finish, hold};
 use wjs_store::WorldStore;
 use wjs_tree::NodeId;
@@ -27,13 +27,12 @@ pub fn new_start<S: WorldStore>(
     frame: Frame,
     callee: NodeId,
 ) -> Result<(), OutOfMemory>
-    requires running { config.old.state ≡ State.Running }
-    requires base { Base S.meaning config.old }
-    requires there { IsThere S.meaning config.old frame }
+    requires runs { Runs S.meaning config.old frame }
     requires form { frame.form ≡ Form.Expr }
     requires node { is_new (node_now S.meaning config.old frame) ≡ true }
     requires callee { callee_in (node_now S.meaning config.old frame) ≡ Some callee }
-    ensures { let t = config.new.heap.texts in let env = env_in S.meaning config.old t frame in OnOk result (Follows S.meaning (Eval (AtExpr callee.0) env (then_value (line.new_callee (numbers (arguments_of (node_now S.meaning config.old frame))) env))) config.old config.new) }
+    ensures { GoesOn S.meaning frame config.old config.new result (λ t env.
+        Eval (AtExpr callee.0) env (then_value (line.new_callee (numbers (arguments_of (node_now S.meaning config.old frame))) env))) }
 {
     enter(config, frame, 1, Part::Expr(callee))
 }
@@ -44,13 +43,12 @@ pub fn new_given<S: WorldStore>(
     frame: Frame,
     completion: Completion,
 ) -> Result<(), OutOfMemory>
-    requires running { config.old.state ≡ State.Running }
-    requires base { Base S.meaning config.old }
-    requires there { IsThere S.meaning config.old frame }
+    requires runs { Runs S.meaning config.old frame }
     requires form { frame.form ≡ Form.Expr }
     requires node { is_new (node_now S.meaning config.old frame) ≡ true }
     requires completion { HasCompletion config.old completion }
-    ensures { let t = config.new.heap.texts in let env = env_in S.meaning config.old t frame in OnOk result (Follows S.meaning (after.after_new (numbers (arguments_of (node_now S.meaning config.old frame))) frame.place (holding_in t frame.held) env (completion_in t completion)) config.old config.new) }
+    ensures { GoesOn S.meaning frame config.old config.new result (λ t env.
+        after.after_new (numbers (arguments_of (node_now S.meaning config.old frame))) frame.place (holding_in t frame.held) env (completion_in t completion)) }
 {
     match completion {
         Completion::Gives(value) => new_part(config, frame, value),
@@ -64,13 +62,12 @@ fn new_part<S: WorldStore>(
     frame: Frame,
     value: Value,
 ) -> Result<(), OutOfMemory>
-    requires running { config.old.state ≡ State.Running }
-    requires base { Base S.meaning config.old }
-    requires there { IsThere S.meaning config.old frame }
+    requires runs { Runs S.meaning config.old frame }
     requires form { frame.form ≡ Form.Expr }
     requires node { is_new (node_now S.meaning config.old frame) ≡ true }
     requires value { HasValue config.old value }
-    ensures { let t = config.new.heap.texts in let env = env_in S.meaning config.old t frame in OnOk result (Follows S.meaning (after.after_new (numbers (arguments_of (node_now S.meaning config.old frame))) frame.place (holding_in t frame.held) env (Gives (value_in t value))) config.old config.new) }
+    ensures { GoesOn S.meaning frame config.old config.new result (λ t env.
+        after.after_new (numbers (arguments_of (node_now S.meaning config.old frame))) frame.place (holding_in t frame.held) env (Gives (value_in t value))) }
 {
     match frame.place() {
         1 => new_callee(config, frame, value),
@@ -85,13 +82,12 @@ fn new_callee<S: WorldStore>(
     frame: Frame,
     callee: Value,
 ) -> Result<(), OutOfMemory>
-    requires running { config.old.state ≡ State.Running }
-    requires base { Base S.meaning config.old }
-    requires there { IsThere S.meaning config.old frame }
+    requires runs { Runs S.meaning config.old frame }
     requires form { frame.form ≡ Form.Expr }
     requires node { is_new (node_now S.meaning config.old frame) ≡ true }
     requires callee { HasValue config.old callee }
-    ensures { let t = config.new.heap.texts in let env = env_in S.meaning config.old t frame in OnOk result (Follows S.meaning (line.new_callee (numbers (arguments_of (node_now S.meaning config.old frame))) env (value_in t callee)) config.old config.new) }
+    ensures { GoesOn S.meaning frame config.old config.new result (λ t env.
+        line.new_callee (numbers (arguments_of (node_now S.meaning config.old frame))) env (value_in t callee)) }
 {
     let mut frame = frame;
     frame.set_held(config.frames.nothing_held());
@@ -105,13 +101,12 @@ fn new_argument<S: WorldStore>(
     frame: Frame,
     value: Value,
 ) -> Result<(), OutOfMemory>
-    requires running { config.old.state ≡ State.Running }
-    requires base { Base S.meaning config.old }
-    requires there { IsThere S.meaning config.old frame }
+    requires runs { Runs S.meaning config.old frame }
     requires form { frame.form ≡ Form.Expr }
     requires node { is_new (node_now S.meaning config.old frame) ≡ true }
     requires value { HasValue config.old value }
-    ensures { let t = config.new.heap.texts in let env = env_in S.meaning config.old t frame in OnOk result (Follows S.meaning (after.new_argument (numbers (arguments_of (node_now S.meaning config.old frame))) (frame.place - 3) (holding_in t frame.held) env (value_in t value)) config.old config.new) }
+    ensures { GoesOn S.meaning frame config.old config.new result (λ t env.
+        after.new_argument (numbers (arguments_of (node_now S.meaning config.old frame))) (frame.place - 3) (holding_in t frame.held) env (value_in t value)) }
 {
     let at = frame.place().saturating_sub(3);
     let next = place_after(at, 1)?;
@@ -122,12 +117,12 @@ fn new_argument<S: WorldStore>(
 
 /// The argument of a number is entered; after the last one comes the construction.
 fn new_next<S: WorldStore>(config: &mut Config<S>, frame: Frame, at: u32) -> Result<(), OutOfMemory>
-    requires running { config.old.state ≡ State.Running }
-    requires base { Base S.meaning config.old }
-    requires there { IsThere S.meaning config.old frame }
+    requires runs { Runs S.meaning config.old frame }
     requires form { frame.form ≡ Form.Expr }
     requires node { is_new (node_now S.meaning config.old frame) ≡ true }
-    ensures { let t = config.new.heap.texts in let env = env_in S.meaning config.old t frame in OnOk result (Follows S.meaning (let held = holding_in t frame.held in line.values_from (drop at (numbers (arguments_of (node_now S.meaning config.old frame)))) held.values env (construct held.callee.0 env)) config.old config.new) }
+    ensures { GoesOn S.meaning frame config.old config.new result (λ t env.
+        let held = holding_in t frame.held in
+        line.values_from (drop at (numbers (arguments_of (node_now S.meaning config.old frame)))) held.values env (construct held.callee.0 env)) }
 {
     match argument(config, &frame, at as usize) {
         Some(next) => {
@@ -140,12 +135,10 @@ fn new_next<S: WorldStore>(config: &mut Config<S>, frame: Frame, at: u32) -> Res
 
 /// The construction by what is held, with the values that are held.
 fn new_held<S: WorldStore>(config: &mut Config<S>, frame: Frame) -> Result<(), OutOfMemory>
-    requires running { config.old.state ≡ State.Running }
-    requires base { Base S.meaning config.old }
-    requires there { IsThere S.meaning config.old frame }
+    requires runs { Runs S.meaning config.old frame }
     requires form { frame.form ≡ Form.Expr }
     requires node { is_new (node_now S.meaning config.old frame) ≡ true }
-    ensures { let t = config.new.heap.texts in let env = env_in S.meaning config.old t frame in OnOk result (Follows S.meaning (let held = holding_in t frame.held in construct held.callee.0 env held.values) config.old config.new) }
+    ensures { GoesOn S.meaning frame config.old config.new result (λ t env. let held = holding_in t frame.held in construct held.callee.0 env held.values) }
 {
     let (callee, _this) = held_callee(config, &frame);
     wjs_calls::construct(config, frame, callee)
@@ -157,11 +150,9 @@ fn new_made<S: WorldStore>(
     frame: Frame,
     value: Value,
 ) -> Result<(), OutOfMemory>
-    requires running { config.old.state ≡ State.Running }
-    requires base { Base S.meaning config.old }
-    requires there { IsThere S.meaning config.old frame }
+    requires runs { Runs S.meaning config.old frame }
     requires value { HasValue config.old value }
-    ensures { let t = config.new.heap.texts in OnOk result (Follows S.meaning (after.new_made (value_in t (value_held frame.held)) (value_in t value)) config.old config.new) }
+    ensures { GoesOn S.meaning frame config.old config.new result (λ t env. after.new_made (value_in t (value_held frame.held)) (value_in t value)) }
 {
     match held_value(config, &frame) {
         Value::Object(object) => new_result(config, frame, object, value),
@@ -176,11 +167,10 @@ fn new_result<S: WorldStore>(
     object: ObjId,
     value: Value,
 ) -> Result<(), OutOfMemory>
-    requires running { config.old.state ≡ State.Running }
-    requires base { Base S.meaning config.old }
+    requires running { IsRunning S.meaning config.old }
     requires object { HasObject config.old object }
     requires value { HasValue config.old value }
-    ensures { let t = config.new.heap.texts in OnOk result (Follows S.meaning (new_result object (value_in t value)) config.old config.new) }
+    ensures { GoesOn S.meaning frame config.old config.new result (λ t env. new_result object (value_in t value)) }
 {
     match value {
         Value::Object(_) => finish(config, frame, Completion::Gives(value)),

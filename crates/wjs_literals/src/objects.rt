@@ -1,5 +1,5 @@
 //! Literals of objects (ECMA-262, 3rd edition, section 11.1.5): the values from left to right, each written under its key.
-ghost use Rattle.std.specs.Prelude.{◌≡◌, ◌+◌, ◌-◌, true, Some, OnOk, map as each, drop, slice_get};
+ghost use Rattle.std.specs.Prelude.{◌≡◌, ◌+◌, ◌-◌, true, Some, map as each, drop, slice_get};
 ghost use Rattle.wjs_content.specs.Names.{slot};
 ghost use Rattle.wjs_content.specs.Tables.{value_in};
 ghost use Rattle.wjs_meaning.specs.Deeds.{Do, Create, Write, then_value};
@@ -8,29 +8,28 @@ ghost use Rattle.wjs_meaning.specs.NewObjects.{plain_object};
 ghost use Rattle.wjs_meaning.specs.Reading.{pair_in, key_in};
 ghost use Rattle.wjs_model.specs.Contents.{holding_in, completion_in, value_held};
 ghost use Rattle.wjs_model.specs.Texts.{KnowsKey};
-ghost use Rattle.wjs_model.specs.Soundness.{Base, IsThere, HasCompletion, HasObject, HasValue};
+ghost use Rattle.wjs_model.specs.Soundness.{HasCompletion, HasObject, HasValue};
 ghost use Rattle.wjs_model.specs.Waiting as after;
-ghost use Rattle.wjs_moves.specs.Following.{Follows};
-ghost use Rattle.wjs_moves.specs.Parts.{env_in, node_now};
+ghost use Rattle.wjs_moves.specs.Parts.{node_now};
 ghost use Rattle.wjs_literals.specs.Parts.{properties_of, is_object};
+ghost use Rattle.wjs_moves.specs.Handling.{Runs, GoesOn};
 
 use wjs_base::{ObjId, OutOfMemory, Value};
 use wjs_deeds::{create_plain, write};
 use wjs_lines::{held_value, place_after};
 use wjs_members::name_of_key;
-use wjs_model::{Completion, Config, Form, Frame, Held, State};
+use wjs_model::{Completion, Config, Form, Frame, Held};
 use wjs_moves::{Part, enter, finish, hold, node_of};
 use wjs_store::WorldStore;
 use wjs_tree::{Node, Property, PropertyKey};
 
 /// An object literal: the object is made and held, and the first value is entered.
 pub fn object_start<S: WorldStore>(config: &mut Config<S>, frame: Frame) -> Result<(), OutOfMemory>
-    requires running { config.old.state ≡ State.Running }
-    requires base { Base S.meaning config.old }
-    requires there { IsThere S.meaning config.old frame }
+    requires runs { Runs S.meaning config.old frame }
     requires form { frame.form ≡ Form.Expr }
     requires node { is_object (node_now S.meaning config.old frame) ≡ true }
-    ensures { let t = config.new.heap.texts in let env = env_in S.meaning config.old t frame in OnOk result (Follows S.meaning (Do (Create env.owner plain_object) (λ o. line.object_from (each (pair_in t) (properties_of (node_now S.meaning config.old frame))) o env)) config.old config.new) }
+    ensures { GoesOn S.meaning frame config.old config.new result (λ t env.
+        Do (Create env.owner plain_object) (λ o. line.object_from (each (pair_in t) (properties_of (node_now S.meaning config.old frame))) o env)) }
 {
     let object = create_plain(config)?;
     let mut frame = frame;
@@ -44,13 +43,13 @@ pub fn object_given<S: WorldStore>(
     frame: Frame,
     completion: Completion,
 ) -> Result<(), OutOfMemory>
-    requires running { config.old.state ≡ State.Running }
-    requires base { Base S.meaning config.old }
-    requires there { IsThere S.meaning config.old frame }
+    requires runs { Runs S.meaning config.old frame }
     requires form { frame.form ≡ Form.Expr }
     requires node { is_object (node_now S.meaning config.old frame) ≡ true }
     requires completion { HasCompletion config.old completion }
-    ensures { let t = config.new.heap.texts in let env = env_in S.meaning config.old t frame in OnOk result (Follows S.meaning (then_value (after.object_item (each (pair_in t) (properties_of (node_now S.meaning config.old frame))) (frame.place - 1) (holding_in t frame.held) env) (completion_in t completion)) config.old config.new) }
+    ensures { GoesOn S.meaning frame config.old config.new result (λ t env.
+        then_value (after.object_item (each (pair_in t) (properties_of (node_now S.meaning config.old frame))) (frame.place - 1)
+        (holding_in t frame.held) env) (completion_in t completion)) }
 {
     match completion {
         Completion::Gives(value) => object_item(config, frame, value),
@@ -64,13 +63,13 @@ fn object_item<S: WorldStore>(
     frame: Frame,
     value: Value,
 ) -> Result<(), OutOfMemory>
-    requires running { config.old.state ≡ State.Running }
-    requires base { Base S.meaning config.old }
-    requires there { IsThere S.meaning config.old frame }
+    requires runs { Runs S.meaning config.old frame }
     requires form { frame.form ≡ Form.Expr }
     requires node { is_object (node_now S.meaning config.old frame) ≡ true }
     requires value { HasValue config.old value }
-    ensures { let t = config.new.heap.texts in let env = env_in S.meaning config.old t frame in OnOk result (Follows S.meaning (after.object_item (each (pair_in t) (properties_of (node_now S.meaning config.old frame))) (frame.place - 1) (holding_in t frame.held) env (value_in t value)) config.old config.new) }
+    ensures { GoesOn S.meaning frame config.old config.new result (λ t env.
+        after.object_item (each (pair_in t) (properties_of (node_now S.meaning config.old frame))) (frame.place - 1) (holding_in t frame.held) env
+        (value_in t value)) }
 {
     let object = held_value(config, &frame);
     match object {
@@ -86,15 +85,15 @@ fn object_value<S: WorldStore>(
     object: ObjId,
     value: Value,
 ) -> Result<(), OutOfMemory>
-    requires running { config.old.state ≡ State.Running }
-    requires base { Base S.meaning config.old }
-    requires there { IsThere S.meaning config.old frame }
+    requires runs { Runs S.meaning config.old frame }
     requires form { frame.form ≡ Form.Expr }
     requires node { is_object (node_now S.meaning config.old frame) ≡ true }
     requires object { HasObject config.old object }
     requires held { value_held frame.held ≡ Value.Object object }
     requires value { HasValue config.old value }
-    ensures { let t = config.new.heap.texts in let env = env_in S.meaning config.old t frame in OnOk result (Follows S.meaning (after.object_item (each (pair_in t) (properties_of (node_now S.meaning config.old frame))) (frame.place - 1) (holding_in t frame.held) env (value_in t value)) config.old config.new) }
+    ensures { GoesOn S.meaning frame config.old config.new result (λ t env.
+        after.object_item (each (pair_in t) (properties_of (node_now S.meaning config.old frame))) (frame.place - 1) (holding_in t frame.held) env
+        (value_in t value)) }
 {
     let at = frame.place().saturating_sub(1);
     match property(config, &frame, at as usize) {
@@ -112,16 +111,16 @@ fn object_write<S: WorldStore>(
     key: PropertyKey,
     value: Value,
 ) -> Result<(), OutOfMemory>
-    requires running { config.old.state ≡ State.Running }
-    requires base { Base S.meaning config.old }
-    requires there { IsThere S.meaning config.old frame }
+    requires runs { Runs S.meaning config.old frame }
     requires form { frame.form ≡ Form.Expr }
     requires node { is_object (node_now S.meaning config.old frame) ≡ true }
     requires object { HasObject config.old object }
     requires held { value_held frame.held ≡ Value.Object object }
     requires key { KnowsKey config.old.heap.texts key }
     requires value { HasValue config.old value }
-    ensures { let t = config.new.heap.texts in let env = env_in S.meaning config.old t frame in OnOk result (Follows S.meaning (Do (Write env.world (slot object (line.key_name (key_in t key))) (Some (value_in t value))) (λ done. line.object_from (drop (at + 1) (each (pair_in t) (properties_of (node_now S.meaning config.old frame)))) object env)) config.old config.new) }
+    ensures { GoesOn S.meaning frame config.old config.new result (λ t env.
+        Do (Write env.world (slot object (line.key_name (key_in t key))) (Some (value_in t value)))
+        (λ done. line.object_from (drop (at + 1) (each (pair_in t) (properties_of (node_now S.meaning config.old frame)))) object env)) }
 {
     let next = place_after(at, 1)?;
     let name = name_of_key(config, key)?;
@@ -136,14 +135,13 @@ fn object_next<S: WorldStore>(
     object: ObjId,
     at: u32,
 ) -> Result<(), OutOfMemory>
-    requires running { config.old.state ≡ State.Running }
-    requires base { Base S.meaning config.old }
-    requires there { IsThere S.meaning config.old frame }
+    requires runs { Runs S.meaning config.old frame }
     requires form { frame.form ≡ Form.Expr }
     requires node { is_object (node_now S.meaning config.old frame) ≡ true }
     requires object { HasObject config.old object }
     requires held { value_held frame.held ≡ Value.Object object }
-    ensures { let t = config.new.heap.texts in let env = env_in S.meaning config.old t frame in OnOk result (Follows S.meaning (line.object_from (drop at (each (pair_in t) (properties_of (node_now S.meaning config.old frame)))) object env) config.old config.new) }
+    ensures { GoesOn S.meaning frame config.old config.new result (λ t env.
+        line.object_from (drop at (each (pair_in t) (properties_of (node_now S.meaning config.old frame)))) object env) }
 {
     match property(config, &frame, at as usize) {
         Some(property) => {

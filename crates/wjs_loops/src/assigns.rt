@@ -27,7 +27,12 @@ pub fn assign<S: WorldStore>(
     requires there { IsThere S.meaning config.old frame.now }
     requires name { Has config.old.heap.texts name }
     requires value { HasValue config.old value }
-    ensures does { IfOk result (λ answer. MatchResult answer (λ _. DoesFirst S.meaning (λ t act. line.reference_at (place_in place) (text_in t name) (env_in S.meaning config.old t frame.now) (λ r. line.store r (value_in t value) (env_in S.meaning config.old t frame.now) act)) config.old config.new) (λ error. FailsFirst S.meaning (λ t act. line.reference_at (place_in place) (text_in t name) (env_in S.meaning config.old t frame.now) (λ r. line.store r (value_in t value) (env_in S.meaning config.old t frame.now) act)) (λ t. value_in t error) config.old config.new)) }
+    ensures does { IfOk result (λ answer. MatchResult answer
+        (λ _. DoesFirst S.meaning (λ t act. line.reference_at (place_in place) (text_in t name) (env_in S.meaning config.old t frame.now)
+        (λ r. line.store r (value_in t value) (env_in S.meaning config.old t frame.now) act)) config.old config.new)
+        (λ error. FailsFirst S.meaning
+        (λ t act. line.reference_at (place_in place) (text_in t name) (env_in S.meaning config.old t frame.now)
+        (λ r. line.store r (value_in t value) (env_in S.meaning config.old t frame.now) act)) (λ t. value_in t error) config.old config.new)) }
     ensures later { OnOk result (Later S.meaning config.old config.new) }
     ensures found { IfOk result (λ answer. MatchResult answer (λ _. Unit {0}) (λ error. HasValue config.new error)) }
 {

@@ -29,7 +29,8 @@ pub fn after_body<S: WorldStore>(
 ) -> AfterBody
     requires base { Base S.meaning config.now }
     requires completion { HasCompletion config.now completion }
-    ensures means { (t : Table) → Grows config.now.heap.texts t → (again : Act) → after_body frame.now.node.0 (env_in S.meaning config.now t frame.now) again (completion_in t completion) ≡ goes_on t result again }
+    ensures means { (t : Table) → Grows config.now.heap.texts t → (again : Act) →
+        after_body frame.now.node.0 (env_in S.meaning config.now t frame.now) again (completion_in t completion) ≡ goes_on t result again }
     ensures there { Leaves config.now result }
 {
     match completion {

@@ -18,7 +18,8 @@ pub(crate) struct Initialiser {
 
 /// The first variable with an initialiser from one of a number on.
 pub(crate) fn initialiser_from(declarators: &[Declarator], from: usize) -> Option<Initialiser>
-    ensures goes { (t : Table) (here : ℕ) (env : Env) → let all = map (variable_in t) declarators.now in vars_from here from (drop from all) env ≡ initialiser_goes here all result env }
+    ensures goes { (t : Table) (here : ℕ) (env : Env) → let all = map (variable_in t) declarators.now in
+        vars_from here from (drop from all) env ≡ initialiser_goes here all result env }
     ensures within { IfSome result (λ x. x.at < length declarators.now) }
     ensures is { IfSome result (λ x. option_and_then (λ d. d.value) (slice_get declarators.now x.at) ≡ Some x.value) }
 {

@@ -1,6 +1,6 @@
 //! The loop `for` (section 12.6.3). Its places: 1 is behind the test, 2 the body, 3 the update, 4 the first expression and 5 the
 //! `var`s, which a frame of their own runs.
-ghost use Rattle.std.specs.Prelude.{◌≡◌, OnOk};
+ghost use Rattle.std.specs.Prelude.{◌≡◌};
 ghost use Rattle.wjs_content.specs.Tables.{value_in};
 ghost use Rattle.wjs_meaning.specs.Deeds.{Sub, then_normal, then_value};
 ghost use Rattle.wjs_meaning.specs.Reading.{node_in, number};
@@ -9,17 +9,17 @@ ghost use Rattle.wjs_meaning.specs.Statements.{turn_from};
 ghost use Rattle.wjs_model.specs.Contents.{completion_in, holding_in};
 ghost use Rattle.wjs_model.specs.Rest.{begin_variables};
 ghost use Rattle.wjs_model.specs.Waiting.{after_stmt};
-ghost use Rattle.wjs_model.specs.Soundness.{Base, IsThere, HasValue, HasCompletion};
-ghost use Rattle.wjs_moves.specs.Parts.{env_in, node_now};
-ghost use Rattle.wjs_moves.specs.Following.{Follows};
+ghost use Rattle.wjs_model.specs.Soundness.{HasValue, HasCompletion};
+ghost use Rattle.wjs_moves.specs.Parts.{node_now};
 ghost use Rattle.wjs_loops.specs.Fors.{IsFor};
+ghost use Rattle.wjs_moves.specs.Handling.{Runs, GoesOn};
 
 use crate::bodies::{AfterBody, after_body};
 use crate::turns::{expr_turn, stmt_turn};
 use crate::variables::variable_next;
 use wjs_base::{OutOfMemory, Value};
 use wjs_lines::to_boolean;
-use wjs_model::{Completion, Config, Form, Frame, State};
+use wjs_model::{Completion, Config, Form, Frame};
 use wjs_moves::{Part, enter, enter_last, finish, nest};
 use wjs_store::WorldStore;
 use wjs_tree::NodeId;
@@ -32,12 +32,10 @@ pub fn for_from<S: WorldStore>(
     u: Option<NodeId>,
     s: NodeId,
 ) -> Result<(), OutOfMemory>
-    requires running { config.old.state ≡ State.Running }
-    requires base { Base S.meaning config.old }
-    requires there { IsThere S.meaning config.old frame }
+    requires runs { Runs S.meaning config.old frame }
     requires form { frame.form ≡ Form.Stmt }
     requires node { IsFor (node_now S.meaning config.old frame) t u s }
-    ensures { let texts = config.new.heap.texts in let env = env_in S.meaning config.old texts frame in OnOk result (Follows S.meaning (loop_from frame.node.0 (number t) (number u) s.0 env) config.old config.new) }
+    ensures { GoesOn S.meaning frame config.old config.new result (λ texts env. loop_from frame.node.0 (number t) (number u) s.0 env) }
 {
     match t {
         Some(e) => enter(config, frame, 1, Part::Expr(e)),
@@ -53,12 +51,10 @@ pub fn for_again<S: WorldStore>(
     u: Option<NodeId>,
     s: NodeId,
 ) -> Result<(), OutOfMemory>
-    requires running { config.old.state ≡ State.Running }
-    requires base { Base S.meaning config.old }
-    requires there { IsThere S.meaning config.old frame }
+    requires runs { Runs S.meaning config.old frame }
     requires form { frame.form ≡ Form.Stmt }
     requires node { IsFor (node_now S.meaning config.old frame) t u s }
-    ensures { let texts = config.new.heap.texts in let env = env_in S.meaning config.old texts frame in OnOk result (Follows S.meaning (turn_from frame.node.0 (number t) (number u) s.0 env) config.old config.new) }
+    ensures { GoesOn S.meaning frame config.old config.new result (λ texts env. turn_from frame.node.0 (number t) (number u) s.0 env) }
 {
     match t {
         Some(e) => expr_turn(config, frame, 1, e),
@@ -74,12 +70,12 @@ pub fn for_variables<S: WorldStore>(
     u: Option<NodeId>,
     s: NodeId,
 ) -> Result<(), OutOfMemory>
-    requires running { config.old.state ≡ State.Running }
-    requires base { Base S.meaning config.old }
-    requires there { IsThere S.meaning config.old frame }
+    requires runs { Runs S.meaning config.old frame }
     requires form { frame.form ≡ Form.Stmt }
     requires node { IsFor (node_now S.meaning config.old frame) t u s }
-    ensures { let texts = config.new.heap.texts in let env = env_in S.meaning config.old texts frame in OnOk result (Follows S.meaning (Sub (begin_variables frame.node.0 (node_in texts (node_now S.meaning config.old frame)) env) (then_normal (loop_from frame.node.0 (number t) (number u) s.0 env))) config.old config.new) }
+    ensures { GoesOn S.meaning frame config.old config.new result (λ texts env.
+        Sub (begin_variables frame.node.0 (node_in texts (node_now S.meaning config.old frame)) env)
+        (then_normal (loop_from frame.node.0 (number t) (number u) s.0 env))) }
 {
     let held = config.frames.nothing_held();
     let node = frame.node();
@@ -95,13 +91,11 @@ fn for_test<S: WorldStore>(
     s: NodeId,
     value: Value,
 ) -> Result<(), OutOfMemory>
-    requires running { config.old.state ≡ State.Running }
-    requires base { Base S.meaning config.old }
-    requires there { IsThere S.meaning config.old frame }
+    requires runs { Runs S.meaning config.old frame }
     requires form { frame.form ≡ Form.Stmt }
     requires node { IsFor (node_now S.meaning config.old frame) t u s }
     requires value { HasValue config.old value }
-    ensures { let texts = config.new.heap.texts in let env = env_in S.meaning config.old texts frame in OnOk result (Follows S.meaning (loop_test frame.node.0 (number u) s.0 env (value_in texts value)) config.old config.new) }
+    ensures { GoesOn S.meaning frame config.old config.new result (λ texts env. loop_test frame.node.0 (number u) s.0 env (value_in texts value)) }
 {
     if to_boolean(config, value) {
         enter(config, frame, 2, Part::Stmt(s))
@@ -119,13 +113,11 @@ fn for_body<S: WorldStore>(
     s: NodeId,
     completion: Completion,
 ) -> Result<(), OutOfMemory>
-    requires running { config.old.state ≡ State.Running }
-    requires base { Base S.meaning config.old }
-    requires there { IsThere S.meaning config.old frame }
+    requires runs { Runs S.meaning config.old frame }
     requires form { frame.form ≡ Form.Stmt }
     requires node { IsFor (node_now S.meaning config.old frame) t u s }
     requires completion { HasCompletion config.old completion }
-    ensures { let texts = config.new.heap.texts in let env = env_in S.meaning config.old texts frame in OnOk result (Follows S.meaning (loop_body frame.node.0 (number u) env (completion_in texts completion)) config.old config.new) }
+    ensures { GoesOn S.meaning frame config.old config.new result (λ texts env. loop_body frame.node.0 (number u) env (completion_in texts completion)) }
 {
     match after_body(config, &frame, completion) {
         AfterBody::Again => for_update(config, frame, t, u, s),
@@ -141,12 +133,10 @@ fn for_update<S: WorldStore>(
     u: Option<NodeId>,
     s: NodeId,
 ) -> Result<(), OutOfMemory>
-    requires running { config.old.state ≡ State.Running }
-    requires base { Base S.meaning config.old }
-    requires there { IsThere S.meaning config.old frame }
+    requires runs { Runs S.meaning config.old frame }
     requires form { frame.form ≡ Form.Stmt }
     requires node { IsFor (node_now S.meaning config.old frame) t u s }
-    ensures { let texts = config.new.heap.texts in let env = env_in S.meaning config.old texts frame in OnOk result (Follows S.meaning (loop_update frame.node.0 (number u) env) config.old config.new) }
+    ensures { GoesOn S.meaning frame config.old config.new result (λ texts env. loop_update frame.node.0 (number u) env) }
 {
     match u {
         Some(e) => enter(config, frame, 3, Part::Expr(e)),
@@ -166,13 +156,13 @@ pub fn for_next<S: WorldStore>(
     s: NodeId,
     completion: Completion,
 ) -> Result<(), OutOfMemory>
-    requires running { config.old.state ≡ State.Running }
-    requires base { Base S.meaning config.old }
-    requires there { IsThere S.meaning config.old frame }
+    requires runs { Runs S.meaning config.old frame }
     requires form { frame.form ≡ Form.Stmt }
     requires node { IsFor (node_now S.meaning config.old frame) t u s }
     requires completion { HasCompletion config.old completion }
-    ensures { let texts = config.new.heap.texts in let env = env_in S.meaning config.old texts frame in OnOk result (Follows S.meaning (after_stmt frame.node.0 (node_in texts (node_now S.meaning config.old frame)) frame.place (holding_in texts frame.held) env (completion_in texts completion)) config.old config.new) }
+    ensures { GoesOn S.meaning frame config.old config.new result (λ texts env.
+        after_stmt frame.node.0 (node_in texts (node_now S.meaning config.old frame)) frame.place (holding_in texts frame.held) env
+        (completion_in texts completion)) }
 {
     match frame.place() {
         1 => for_tested(config, frame, t, u, s, completion),
@@ -196,13 +186,12 @@ fn for_tested<S: WorldStore>(
     s: NodeId,
     completion: Completion,
 ) -> Result<(), OutOfMemory>
-    requires running { config.old.state ≡ State.Running }
-    requires base { Base S.meaning config.old }
-    requires there { IsThere S.meaning config.old frame }
+    requires runs { Runs S.meaning config.old frame }
     requires form { frame.form ≡ Form.Stmt }
     requires node { IsFor (node_now S.meaning config.old frame) t u s }
     requires completion { HasCompletion config.old completion }
-    ensures { let texts = config.new.heap.texts in let env = env_in S.meaning config.old texts frame in OnOk result (Follows S.meaning (then_value (loop_test frame.node.0 (number u) s.0 env) (completion_in texts completion)) config.old config.new) }
+    ensures { GoesOn S.meaning frame config.old config.new result (λ texts env.
+        then_value (loop_test frame.node.0 (number u) s.0 env) (completion_in texts completion)) }
 {
     match completion {
         Completion::Gives(value) => for_test(config, frame, t, u, s, value),
@@ -216,11 +205,9 @@ fn for_updated<S: WorldStore>(
     frame: Frame,
     completion: Completion,
 ) -> Result<(), OutOfMemory>
-    requires running { config.old.state ≡ State.Running }
-    requires base { Base S.meaning config.old }
-    requires there { IsThere S.meaning config.old frame }
+    requires runs { Runs S.meaning config.old frame }
     requires completion { HasCompletion config.old completion }
-    ensures { let texts = config.new.heap.texts in let env = env_in S.meaning config.old texts frame in OnOk result (Follows S.meaning (then_value (loop_updated frame.node.0 env) (completion_in texts completion)) config.old config.new) }
+    ensures { GoesOn S.meaning frame config.old config.new result (λ texts env. then_value (loop_updated frame.node.0 env) (completion_in texts completion)) }
 {
     match completion {
         Completion::Gives(_) => {
@@ -240,13 +227,12 @@ fn for_started<S: WorldStore>(
     s: NodeId,
     completion: Completion,
 ) -> Result<(), OutOfMemory>
-    requires running { config.old.state ≡ State.Running }
-    requires base { Base S.meaning config.old }
-    requires there { IsThere S.meaning config.old frame }
+    requires runs { Runs S.meaning config.old frame }
     requires form { frame.form ≡ Form.Stmt }
     requires node { IsFor (node_now S.meaning config.old frame) t u s }
     requires completion { HasCompletion config.old completion }
-    ensures { let texts = config.new.heap.texts in let env = env_in S.meaning config.old texts frame in OnOk result (Follows S.meaning (then_value (for_started frame.node.0 (number t) (number u) s.0 env) (completion_in texts completion)) config.old config.new) }
+    ensures { GoesOn S.meaning frame config.old config.new result (λ texts env.
+        then_value (for_started frame.node.0 (number t) (number u) s.0 env) (completion_in texts completion)) }
 {
     match completion {
         Completion::Gives(_) => for_from(config, frame, t, u, s),
@@ -263,13 +249,12 @@ fn for_declared<S: WorldStore>(
     s: NodeId,
     completion: Completion,
 ) -> Result<(), OutOfMemory>
-    requires running { config.old.state ≡ State.Running }
-    requires base { Base S.meaning config.old }
-    requires there { IsThere S.meaning config.old frame }
+    requires runs { Runs S.meaning config.old frame }
     requires form { frame.form ≡ Form.Stmt }
     requires node { IsFor (node_now S.meaning config.old frame) t u s }
     requires completion { HasCompletion config.old completion }
-    ensures { let texts = config.new.heap.texts in let env = env_in S.meaning config.old texts frame in OnOk result (Follows S.meaning (then_normal (loop_from frame.node.0 (number t) (number u) s.0 env) (completion_in texts completion)) config.old config.new) }
+    ensures { GoesOn S.meaning frame config.old config.new result (λ texts env.
+        then_normal (loop_from frame.node.0 (number t) (number u) s.0 env) (completion_in texts completion)) }
 {
     match completion {
         Completion::Normal => for_from(config, frame, t, u, s),

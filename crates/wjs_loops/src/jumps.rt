@@ -1,15 +1,14 @@
 //! Labels, and the jumps that name them (section 12.12).
-ghost use Rattle.std.specs.Prelude.{◌≡◌, OnOk};
 ghost use Rattle.wjs_base.specs.Text.{Has};
 ghost use Rattle.wjs_content.specs.Tables.{text_in};
 ghost use Rattle.wjs_meaning.specs.Statements.{label_done};
 ghost use Rattle.wjs_model.specs.Contents.{completion_in};
-ghost use Rattle.wjs_model.specs.Soundness.{Base, IsThere, HasCompletion};
-ghost use Rattle.wjs_moves.specs.Following.{Follows};
+ghost use Rattle.wjs_model.specs.Soundness.{HasCompletion};
+ghost use Rattle.wjs_moves.specs.Handling.{Runs, GoesOn};
 
 use crate::labels::same_label;
 use wjs_base::{OutOfMemory, TextId};
-use wjs_model::{Completion, Config, Frame, State};
+use wjs_model::{Completion, Config, Frame};
 use wjs_moves::finish;
 use wjs_store::WorldStore;
 
@@ -20,12 +19,10 @@ pub fn label_next<S: WorldStore>(
     name: TextId,
     completion: Completion,
 ) -> Result<(), OutOfMemory>
-    requires running { config.old.state ≡ State.Running }
-    requires base { Base S.meaning config.old }
-    requires there { IsThere S.meaning config.old frame }
+    requires runs { Runs S.meaning config.old frame }
     requires name { Has config.old.heap.texts name }
     requires completion { HasCompletion config.old completion }
-    ensures { let t = config.new.heap.texts in OnOk result (Follows S.meaning (label_done (text_in t name) (completion_in t completion)) config.old config.new) }
+    ensures { GoesOn S.meaning frame config.old config.new result (λ t env. label_done (text_in t name) (completion_in t completion)) }
 {
     match completion {
         Completion::Breaks(Some(label)) => {

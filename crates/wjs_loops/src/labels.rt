@@ -31,7 +31,8 @@ pub(crate) fn same_label(texts: &Texts, a: TextId, b: TextId) -> bool
 pub(crate) fn has_label<S: WorldStore>(config: &Config<S>, frame: &Frame, label: TextId) -> bool
     requires base { Base S.meaning config.now }
     requires label { Has config.now.heap.texts label }
-    ensures { (t : Table) → Grows config.now.heap.texts t → has_text (labels (tree_here (env_in S.meaning config.now t frame.now)) frame.now.node.0) (text_in t label) ≡ result }
+    ensures { (t : Table) → Grows config.now.heap.texts t →
+        has_text (labels (tree_here (env_in S.meaning config.now t frame.now)) frame.now.node.0) (text_in t label) ≡ result }
 {
     match config.units.get(frame.tree() as usize) {
         Some(unit) => is_label(&config.heap.texts, unit, frame.node(), label),

@@ -1,14 +1,13 @@
 //! The turns of loops: what a turn enters is entered by the turn's own step.
-ghost use Rattle.std.specs.Prelude.{◌≡◌, OnOk};
 ghost use Rattle.wjs_meaning.specs.Deeds.{Sub};
 ghost use Rattle.wjs_meaning.specs.Expressions.{expr_at};
 ghost use Rattle.wjs_meaning.specs.Statements.{stmt_at};
-ghost use Rattle.wjs_model.specs.Soundness.{Base, IsThere, StandsHere};
-ghost use Rattle.wjs_moves.specs.Parts.{env_in, then_at};
-ghost use Rattle.wjs_moves.specs.Following.{Follows};
+ghost use Rattle.wjs_model.specs.Soundness.{StandsHere};
+ghost use Rattle.wjs_moves.specs.Parts.{then_at};
+ghost use Rattle.wjs_moves.specs.Handling.{Runs, GoesOn};
 
 use wjs_base::OutOfMemory;
-use wjs_model::{Config, Form, Frame, State};
+use wjs_model::{Config, Form, Frame};
 use wjs_moves::nest;
 use wjs_store::WorldStore;
 use wjs_tree::NodeId;
@@ -20,11 +19,9 @@ pub fn expr_turn<S: WorldStore>(
     place: u32,
     e: NodeId,
 ) -> Result<(), OutOfMemory>
-    requires running { config.old.state ≡ State.Running }
-    requires base { Base S.meaning config.old }
-    requires there { IsThere S.meaning config.old frame }
+    requires runs { Runs S.meaning config.old frame }
     requires part { StandsHere config.old frame e }
-    ensures { let t = config.new.heap.texts in let env = env_in S.meaning config.old t frame in OnOk result (Follows S.meaning (Sub (expr_at e.0 env) (then_at S.meaning config.old frame place t env)) config.old config.new) }
+    ensures { GoesOn S.meaning frame config.old config.new result (λ t env. Sub (expr_at e.0 env) (then_at S.meaning config.old frame place t env)) }
 {
     let held = config.frames.nothing_held();
     nest(config, frame, place, Form::Expr, e, 0, held)
@@ -37,11 +34,9 @@ pub fn stmt_turn<S: WorldStore>(
     place: u32,
     s: NodeId,
 ) -> Result<(), OutOfMemory>
-    requires running { config.old.state ≡ State.Running }
-    requires base { Base S.meaning config.old }
-    requires there { IsThere S.meaning config.old frame }
+    requires runs { Runs S.meaning config.old frame }
     requires part { StandsHere config.old frame s }
-    ensures { let t = config.new.heap.texts in let env = env_in S.meaning config.old t frame in OnOk result (Follows S.meaning (Sub (stmt_at s.0 env) (then_at S.meaning config.old frame place t env)) config.old config.new) }
+    ensures { GoesOn S.meaning frame config.old config.new result (λ t env. Sub (stmt_at s.0 env) (then_at S.meaning config.old frame place t env)) }
 {
     let held = config.frames.nothing_held();
     nest(config, frame, place, Form::Stmt, s, 0, held)

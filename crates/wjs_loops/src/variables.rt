@@ -1,6 +1,6 @@
 //! Variables with initialisers, of a `var` and of a `for` (sections 12.2 and 12.6.3). The place behind an initialiser is that of the
 //! first, which is 1 in a `var` and 6 in a `for`, and the number of the variable.
-ghost use Rattle.std.specs.Prelude.{◌≡◌, ◌<◌, ◌+◌, ◌^◌, length, drop, slice_get, IfSome, OnOk};
+ghost use Rattle.std.specs.Prelude.{◌≡◌, ◌<◌, ◌+◌, ◌^◌, length, drop, slice_get, IfSome};
 ghost use Rattle.std.specs.Option.{option_map};
 ghost use Rattle.wjs_base.specs.Text.{Table, Has};
 ghost use Rattle.wjs_scope.specs.Places.{placed_names};
@@ -10,18 +10,18 @@ ghost use Rattle.wjs_meaning.specs.Deeds.{tree_here, then_value};
 ghost use Rattle.wjs_meaning.specs.Reading.{node_in};
 ghost use Rattle.wjs_meaning.specs.Statements.{vars_from};
 ghost use Rattle.wjs_model.specs.Contents.{completion_in};
-ghost use Rattle.wjs_model.specs.Soundness.{Base, IsThere, HasValue, HasCompletion};
+ghost use Rattle.wjs_model.specs.Soundness.{Base, HasValue, HasCompletion};
 ghost use Rattle.wjs_model.specs.Units.{place_in};
 ghost use Rattle.wjs_model.specs.Waiting.{after_variable, store_variable};
 ghost use Rattle.wjs_moves.specs.Parts.{env_in, node_now};
-ghost use Rattle.wjs_moves.specs.Following.{Follows};
 ghost use Rattle.wjs_loops.specs.Variables.{declarators_in, variables_in, first_place};
+ghost use Rattle.wjs_moves.specs.Handling.{Runs, GoesOn};
 
 use crate::assigns::assign;
 use crate::declarators::initialiser_from;
 use wjs_base::{OutOfMemory, TextId, Value};
 use wjs_lines::place_at;
-use wjs_model::{Completion, Config, Form, Frame, State};
+use wjs_model::{Completion, Config, Form, Frame};
 use wjs_moves::{Part, enter, finish, node_of};
 use wjs_scope::Place;
 use wjs_store::WorldStore;
@@ -75,11 +75,10 @@ pub fn variables_from<S: WorldStore>(
     frame: Frame,
     from: usize,
 ) -> Result<(), OutOfMemory>
-    requires running { config.old.state ≡ State.Running }
-    requires base { Base S.meaning config.old }
-    requires there { IsThere S.meaning config.old frame }
+    requires runs { Runs S.meaning config.old frame }
     requires form { frame.form ≡ Form.Stmt }
-    ensures { let t = config.new.heap.texts in let env = env_in S.meaning config.old t frame in OnOk result (Follows S.meaning (vars_from frame.node.0 from (drop from (variables_in (node_in t (node_now S.meaning config.old frame)))) env) config.old config.new) }
+    ensures { GoesOn S.meaning frame config.old config.new result (λ t env.
+        vars_from frame.node.0 from (drop from (variables_in (node_in t (node_now S.meaning config.old frame)))) env) }
 {
     match initialiser_from(declarators_of(config, &frame), from) {
         Some(initialiser) => {
@@ -98,12 +97,11 @@ pub fn variable_next<S: WorldStore>(
     at: usize,
     completion: Completion,
 ) -> Result<(), OutOfMemory>
-    requires running { config.old.state ≡ State.Running }
-    requires base { Base S.meaning config.old }
-    requires there { IsThere S.meaning config.old frame }
+    requires runs { Runs S.meaning config.old frame }
     requires form { frame.form ≡ Form.Stmt }
     requires completion { HasCompletion config.old completion }
-    ensures { let t = config.new.heap.texts in let env = env_in S.meaning config.old t frame in OnOk result (Follows S.meaning (then_value (after_variable frame.node.0 (variables_in (node_in t (node_now S.meaning config.old frame))) at env) (completion_in t completion)) config.old config.new) }
+    ensures { GoesOn S.meaning frame config.old config.new result (λ t env.
+        then_value (after_variable frame.node.0 (variables_in (node_in t (node_now S.meaning config.old frame))) at env) (completion_in t completion)) }
 {
     match completion {
         Completion::Gives(value) => variable_value(config, frame, at, value),
@@ -118,12 +116,11 @@ fn variable_value<S: WorldStore>(
     at: usize,
     value: Value,
 ) -> Result<(), OutOfMemory>
-    requires running { config.old.state ≡ State.Running }
-    requires base { Base S.meaning config.old }
-    requires there { IsThere S.meaning config.old frame }
+    requires runs { Runs S.meaning config.old frame }
     requires form { frame.form ≡ Form.Stmt }
     requires value { HasValue config.old value }
-    ensures { let t = config.new.heap.texts in let env = env_in S.meaning config.old t frame in OnOk result (Follows S.meaning (store_variable frame.node.0 (drop at (variables_in (node_in t (node_now S.meaning config.old frame)))) at env (value_in t value)) config.old config.new) }
+    ensures { GoesOn S.meaning frame config.old config.new result (λ t env.
+        store_variable frame.node.0 (drop at (variables_in (node_in t (node_now S.meaning config.old frame)))) at env (value_in t value)) }
 {
     match name_at(config, &frame, at) {
         Some(name) => {

@@ -1,18 +1,17 @@
 //! The loops `while` and `do` (sections 12.6.1 and 12.6.2).
-ghost use Rattle.std.specs.Prelude.{◌≡◌, None, OnOk};
+ghost use Rattle.std.specs.Prelude.{None};
 ghost use Rattle.wjs_content.specs.Tables.{value_in};
 ghost use Rattle.wjs_meaning.specs.Trees.{While, DoWhile};
 ghost use Rattle.wjs_meaning.specs.Loops.{loop_body, loop_test, do_body, do_test};
 ghost use Rattle.wjs_model.specs.Contents.{completion_in, holding_in};
 ghost use Rattle.wjs_model.specs.Waiting.{after_stmt};
-ghost use Rattle.wjs_model.specs.Soundness.{Base, IsThere, HasValue, HasCompletion};
-ghost use Rattle.wjs_moves.specs.Parts.{env_in, node_now};
-ghost use Rattle.wjs_moves.specs.Following.{Follows};
+ghost use Rattle.wjs_model.specs.Soundness.{HasValue, HasCompletion};
+ghost use Rattle.wjs_moves.specs.Handling.{Runs, IsStmt, GoesOn};
 
 use crate::bodies::{AfterBody, after_body};
 use wjs_base::{OutOfMemory, Value};
 use wjs_lines::to_boolean;
-use wjs_model::{Completion, Config, Form, Frame, State};
+use wjs_model::{Completion, Config, Frame};
 use wjs_moves::{Part, enter, enter_last, finish};
 use wjs_store::WorldStore;
 use wjs_tree::{End, Node, NodeId};
@@ -25,13 +24,10 @@ fn while_test<S: WorldStore>(
     s: NodeId,
     value: Value,
 ) -> Result<(), OutOfMemory>
-    requires running { config.old.state ≡ State.Running }
-    requires base { Base S.meaning config.old }
-    requires there { IsThere S.meaning config.old frame }
-    requires form { frame.form ≡ Form.Stmt }
-    requires node { node_now S.meaning config.old frame ≡ Node.While e s }
+    requires runs { Runs S.meaning config.old frame }
+    requires node { IsStmt S.meaning config.old frame (Node.While e s) }
     requires value { HasValue config.old value }
-    ensures { let t = config.new.heap.texts in let env = env_in S.meaning config.old t frame in OnOk result (Follows S.meaning (loop_test frame.node.0 None s.0 env (value_in t value)) config.old config.new) }
+    ensures { GoesOn S.meaning frame config.old config.new result (λ t env. loop_test frame.node.0 None s.0 env (value_in t value)) }
 {
     if to_boolean(config, value) {
         enter(config, frame, 2, Part::Stmt(s))
@@ -46,11 +42,9 @@ fn while_body<S: WorldStore>(
     frame: Frame,
     completion: Completion,
 ) -> Result<(), OutOfMemory>
-    requires running { config.old.state ≡ State.Running }
-    requires base { Base S.meaning config.old }
-    requires there { IsThere S.meaning config.old frame }
+    requires runs { Runs S.meaning config.old frame }
     requires completion { HasCompletion config.old completion }
-    ensures { let t = config.new.heap.texts in let env = env_in S.meaning config.old t frame in OnOk result (Follows S.meaning (loop_body frame.node.0 None env (completion_in t completion)) config.old config.new) }
+    ensures { GoesOn S.meaning frame config.old config.new result (λ t env. loop_body frame.node.0 None env (completion_in t completion)) }
 {
     match after_body(config, &frame, completion) {
         AfterBody::Again => {
@@ -69,13 +63,11 @@ pub fn while_next<S: WorldStore>(
     s: NodeId,
     completion: Completion,
 ) -> Result<(), OutOfMemory>
-    requires running { config.old.state ≡ State.Running }
-    requires base { Base S.meaning config.old }
-    requires there { IsThere S.meaning config.old frame }
-    requires form { frame.form ≡ Form.Stmt }
-    requires node { node_now S.meaning config.old frame ≡ Node.While e s }
+    requires runs { Runs S.meaning config.old frame }
+    requires node { IsStmt S.meaning config.old frame (Node.While e s) }
     requires completion { HasCompletion config.old completion }
-    ensures { let t = config.new.heap.texts in let env = env_in S.meaning config.old t frame in OnOk result (Follows S.meaning (after_stmt frame.node.0 (While e.0 s.0) frame.place (holding_in t frame.held) env (completion_in t completion)) config.old config.new) }
+    ensures { GoesOn S.meaning frame config.old config.new result (λ t env.
+        after_stmt frame.node.0 (While e.0 s.0) frame.place (holding_in t frame.held) env (completion_in t completion)) }
 {
     match frame.place() {
         1 => match completion {
@@ -95,13 +87,10 @@ fn do_body<S: WorldStore>(
     end: End,
     completion: Completion,
 ) -> Result<(), OutOfMemory>
-    requires running { config.old.state ≡ State.Running }
-    requires base { Base S.meaning config.old }
-    requires there { IsThere S.meaning config.old frame }
-    requires form { frame.form ≡ Form.Stmt }
-    requires node { node_now S.meaning config.old frame ≡ Node.DoWhile s e end }
+    requires runs { Runs S.meaning config.old frame }
+    requires node { IsStmt S.meaning config.old frame (Node.DoWhile s e end) }
     requires completion { HasCompletion config.old completion }
-    ensures { let t = config.new.heap.texts in let env = env_in S.meaning config.old t frame in OnOk result (Follows S.meaning (do_body frame.node.0 e.0 env (completion_in t completion)) config.old config.new) }
+    ensures { GoesOn S.meaning frame config.old config.new result (λ t env. do_body frame.node.0 e.0 env (completion_in t completion)) }
 {
     match after_body(config, &frame, completion) {
         AfterBody::Again => enter(config, frame, 2, Part::Expr(e)),
@@ -115,11 +104,9 @@ fn do_test<S: WorldStore>(
     frame: Frame,
     value: Value,
 ) -> Result<(), OutOfMemory>
-    requires running { config.old.state ≡ State.Running }
-    requires base { Base S.meaning config.old }
-    requires there { IsThere S.meaning config.old frame }
+    requires runs { Runs S.meaning config.old frame }
     requires value { HasValue config.old value }
-    ensures { let t = config.new.heap.texts in let env = env_in S.meaning config.old t frame in OnOk result (Follows S.meaning (do_test frame.node.0 env (value_in t value)) config.old config.new) }
+    ensures { GoesOn S.meaning frame config.old config.new result (λ t env. do_test frame.node.0 env (value_in t value)) }
 {
     if to_boolean(config, value) {
         let node = frame.node();
@@ -138,13 +125,11 @@ pub fn do_next<S: WorldStore>(
     end: End,
     completion: Completion,
 ) -> Result<(), OutOfMemory>
-    requires running { config.old.state ≡ State.Running }
-    requires base { Base S.meaning config.old }
-    requires there { IsThere S.meaning config.old frame }
-    requires form { frame.form ≡ Form.Stmt }
-    requires node { node_now S.meaning config.old frame ≡ Node.DoWhile s e end }
+    requires runs { Runs S.meaning config.old frame }
+    requires node { IsStmt S.meaning config.old frame (Node.DoWhile s e end) }
     requires completion { HasCompletion config.old completion }
-    ensures { let t = config.new.heap.texts in let env = env_in S.meaning config.old t frame in OnOk result (Follows S.meaning (after_stmt frame.node.0 (DoWhile s.0 e.0) frame.place (holding_in t frame.held) env (completion_in t completion)) config.old config.new) }
+    ensures { GoesOn S.meaning frame config.old config.new result (λ t env.
+        after_stmt frame.node.0 (DoWhile s.0 e.0) frame.place (holding_in t frame.held) env (completion_in t completion)) }
 {
     match frame.place() {
         1 => do_body(config, frame, s, e, end, completion),

@@ -1,6 +1,6 @@
 //! Output that is pending goes out in full pieces.
 ghost use Rattle.std.specs.Prelude.{◌≡◌, ◌≤◌, ◌<◌, OnOk, OnErr, length, drop};
-ghost use Rattle.wjs_io.specs.Streams.{stream, Stops};
+ghost use Rattle.wjs_io.specs.Streams.{over, Stops};
 ghost use Rattle.wjs_machine.specs.Flushing.{Flushes, FlushesAll};
 
 use wjs_io::{Failed, PIECE, Sink, write_pieces};
@@ -12,9 +12,9 @@ pub(crate) fn flush<S: WorldStore, O: Sink>(
     config: &mut Config<S>,
     out: &mut O,
 ) -> Result<(), Failed>
-    ensures ok { OnOk result (Flushes (stream (O.held out.old) (O.held out.new) (O.faults out.old) (O.faults out.new)) config.old config.new) }
-    ensures err { OnErr result (Stops (stream (O.held out.old) (O.held out.new) (O.faults out.old) (O.faults out.new)) config.old.pending.items) }
-    ensures never_falls { O.faults out.old ≤ O.faults out.new }
+    ensures ok { OnOk result (Flushes (over O.seen out.old out.new) config.old config.new) }
+    ensures err { OnErr result (Stops (over O.seen out.old out.new) config.old.pending.items) }
+    ensures never_falls { (O.seen out.old).faults ≤ (O.seen out.new).faults }
 {
     if config.pending.len() < PIECE {
         return Ok(());
@@ -24,9 +24,9 @@ pub(crate) fn flush<S: WorldStore, O: Sink>(
 
 /// Writes all full pieces that are pending.
 fn write_whole<S: WorldStore, O: Sink>(config: &mut Config<S>, out: &mut O) -> Result<(), Failed>
-    ensures ok { OnOk result (Flushes (stream (O.held out.old) (O.held out.new) (O.faults out.old) (O.faults out.new)) config.old config.new) }
-    ensures err { OnErr result (Stops (stream (O.held out.old) (O.held out.new) (O.faults out.old) (O.faults out.new)) config.old.pending.items) }
-    ensures never_falls { O.faults out.old ≤ O.faults out.new }
+    ensures ok { OnOk result (Flushes (over O.seen out.old out.new) config.old config.new) }
+    ensures err { OnErr result (Stops (over O.seen out.old out.new) config.old.pending.items) }
+    ensures never_falls { (O.seen out.old).faults ≤ (O.seen out.new).faults }
 {
     let whole = config.pending.len() - config.pending.len() % PIECE;
     let (front, _behind) = config.pending.split_at(whole);
@@ -54,9 +54,9 @@ pub(crate) fn flush_all<S: WorldStore, O: Sink>(
     config: &mut Config<S>,
     out: &mut O,
 ) -> Result<(), Failed>
-    ensures ok { OnOk result (FlushesAll (stream (O.held out.old) (O.held out.new) (O.faults out.old) (O.faults out.new)) config.old config.new) }
-    ensures err { OnErr result (Stops (stream (O.held out.old) (O.held out.new) (O.faults out.old) (O.faults out.new)) config.old.pending.items) }
-    ensures never_falls { O.faults out.old ≤ O.faults out.new }
+    ensures ok { OnOk result (FlushesAll (over O.seen out.old out.new) config.old config.new) }
+    ensures err { OnErr result (Stops (over O.seen out.old out.new) config.old.pending.items) }
+    ensures never_falls { (O.seen out.old).faults ≤ (O.seen out.new).faults }
 {
     write_pieces(out, config.pending.as_slice())?;
     config.pending.clear();

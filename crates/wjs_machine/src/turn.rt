@@ -1,6 +1,6 @@
 //! One turn of a configuration, and its output.
 ghost use Rattle.std.specs.Prelude.{◌≡◌, ◌≤◌, OnOk, IfErr};
-ghost use Rattle.wjs_io.specs.Streams.{stream};
+ghost use Rattle.wjs_io.specs.Streams.{over};
 ghost use Rattle.wjs_model.specs.Soundness.{Sound};
 ghost use Rattle.wjs_moves.specs.Taking.{Turns};
 ghost use Rattle.wjs_machine.specs.Runs.{Advances, Halts};
@@ -26,9 +26,9 @@ use wjs_store::WorldStore;
 pub fn advance<S: WorldStore, O: Sink>(config: &mut Config<S>, out: &mut O) -> Result<(), Halt>
     requires running { config.old.state ≡ State.Running }
     requires sound { Sound S.meaning config.old }
-    ensures ok { OnOk result (Advances S.meaning (stream (O.held out.old) (O.held out.new) (O.faults out.old) (O.faults out.new)) config.old config.new) }
-    ensures err { IfErr result (Halts S.meaning (stream (O.held out.old) (O.held out.new) (O.faults out.old) (O.faults out.new)) config.old) }
-    ensures never_falls { O.faults out.old ≤ O.faults out.new }
+    ensures ok { OnOk result (Advances S.meaning (over O.seen out.old out.new) config.old config.new) }
+    ensures err { IfErr result (Halts S.meaning (over O.seen out.old out.new) config.old) }
+    ensures never_falls { (O.seen out.old).faults ≤ (O.seen out.new).faults }
 {
     match step(config) {
         Ok(()) => {}

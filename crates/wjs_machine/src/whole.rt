@@ -1,6 +1,6 @@
 //! The run of a configuration to its end.
 ghost use Rattle.std.specs.Prelude.{◌≡◌, ◌≤◌, true, false, OnOk, IfErr};
-ghost use Rattle.wjs_io.specs.Streams.{stream};
+ghost use Rattle.wjs_io.specs.Streams.{over};
 ghost use Rattle.wjs_model.specs.Soundness.{Sound};
 ghost use Rattle.wjs_machine.specs.Runs.{RunsTo, Reaches, ReachesStep, HaltsAfter, ending_of};
 
@@ -18,8 +18,8 @@ use wjs_store::WorldStore;
 /// count of faults rose in this call, with a front of the output written; OutOfMemory where memory ran out.
 pub fn run<S: WorldStore, O: Sink>(config: &mut Config<S>, out: &mut O) -> Ending
     requires sound { Sound S.meaning config.old }
-    ensures ends { RunsTo S.meaning (stream (O.held out.old) (O.held out.new) (O.faults out.old) (O.faults out.new)) config.old config.new result }
-    ensures never_falls { O.faults out.old ≤ O.faults out.new }
+    ensures ends { RunsTo S.meaning (over O.seen out.old out.new) config.old config.new result }
+    ensures never_falls { (O.seen out.old).faults ≤ (O.seen out.new).faults }
 {
     match run_turns(config, out) {
         Ok(()) => finish(config, out),
@@ -31,10 +31,10 @@ pub fn run<S: WorldStore, O: Sink>(config: &mut Config<S>, out: &mut O) -> Endin
 /// Takes turns to the end.
 fn run_turns<S: WorldStore, O: Sink>(config: &mut Config<S>, out: &mut O) -> Result<(), Halt>
     requires sound { Sound S.meaning config.old }
-    ensures ok { OnOk result (Reaches S.meaning (stream (O.held out.old) (O.held out.new) (O.faults out.old) (O.faults out.new)) config.old config.new) }
+    ensures ok { OnOk result (Reaches S.meaning (over O.seen out.old out.new) config.old config.new) }
     ensures ended { OnOk result (¬ (config.new.state ≡ State.Running)) }
-    ensures err { IfErr result (HaltsAfter S.meaning (stream (O.held out.old) (O.held out.new) (O.faults out.old) (O.faults out.new)) config.old) }
-    ensures never_falls { O.faults out.old ≤ O.faults out.new }
+    ensures err { IfErr result (HaltsAfter S.meaning (over O.seen out.old out.new) config.old) }
+    ensures never_falls { (O.seen out.old).faults ≤ (O.seen out.new).faults }
 {
     while goes_on(config.state) {
         match run_to_step(config, out) {
@@ -50,9 +50,9 @@ fn run_turns<S: WorldStore, O: Sink>(config: &mut Config<S>, out: &mut O) -> Res
 fn run_to_step<S: WorldStore, O: Sink>(config: &mut Config<S>, out: &mut O) -> Result<(), Halt>
     requires running { config.old.state ≡ State.Running }
     requires sound { Sound S.meaning config.old }
-    ensures ok { OnOk result (ReachesStep S.meaning (stream (O.held out.old) (O.held out.new) (O.faults out.old) (O.faults out.new)) config.old config.new) }
-    ensures err { IfErr result (HaltsAfter S.meaning (stream (O.held out.old) (O.held out.new) (O.faults out.old) (O.faults out.new)) config.old) }
-    ensures never_falls { O.faults out.old ≤ O.faults out.new }
+    ensures ok { OnOk result (ReachesStep S.meaning (over O.seen out.old out.new) config.old config.new) }
+    ensures err { IfErr result (HaltsAfter S.meaning (over O.seen out.old out.new) config.old) }
+    ensures never_falls { (O.seen out.old).faults ≤ (O.seen out.new).faults }
 {
     let left = config.left;
     while goes_on(config.state) && config.left == left {
@@ -68,8 +68,8 @@ fn run_to_step<S: WorldStore, O: Sink>(config: &mut Config<S>, out: &mut O) -> R
 fn finish<S: WorldStore, O: Sink>(config: &mut Config<S>, out: &mut O) -> Ending
     requires sound { Sound S.meaning config.old }
     requires ended { ¬ (config.old.state ≡ State.Running) }
-    ensures ends { RunsTo S.meaning (stream (O.held out.old) (O.held out.new) (O.faults out.old) (O.faults out.new)) config.old config.new result }
-    ensures never_falls { O.faults out.old ≤ O.faults out.new }
+    ensures ends { RunsTo S.meaning (over O.seen out.old out.new) config.old config.new result }
+    ensures never_falls { (O.seen out.old).faults ≤ (O.seen out.new).faults }
 {
     match flush_all(config, out) {
         Ok(()) => ending(config.state),

@@ -21,5 +21,5 @@ pub fn world_of_object<S: WorldStore>(config: &Config<S>, object: ObjId) -> Opti
     requires object { HasObject config.now object }
     ensures { IfSome result (λ world. world.owner ≡ object.owner) }
 {
-    config.heap.arena.object(object).world
+    config.heap.arena.world(object)
 }

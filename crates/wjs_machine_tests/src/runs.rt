@@ -43,7 +43,9 @@ pub fn run_program<S: WorldStore + Drop>(
     requires script { KnowsUnit texts script }
     requires library_places { IfSome library (PlacesUnit texts) }
     requires script_places { PlacesUnit texts script }
-    ensures { IfOk result (λ config. told_by_store S.meaning config ≡ told_of_run (S.meaning store).told (machine (option_map (unit_in texts) library) (unit_in texts script) budget)) }
+    ensures { IfOk result
+        (λ config. told_by_store S.meaning config ≡ told_of_run (S.meaning store).told
+        (machine (option_map (unit_in texts) library) (unit_in texts script) budget)) }
 {
     let mut config = start(alloc, texts, store, library, script, budget)?;
     match run_unheard(&mut config) {

@@ -1,5 +1,5 @@
 //! Members by name and by value (ECMA-262, 3rd edition, section 11.2.1), for their value and as targets.
-ghost use Rattle.std.specs.Prelude.{◌≡◌, true, OnOk};
+ghost use Rattle.std.specs.Prelude.{◌≡◌, true};
 ghost use Rattle.wjs_base.specs.Text.{Has};
 ghost use Rattle.wjs_content.specs.Tables.{value_in, text_in, name_in};
 ghost use Rattle.wjs_content.specs.Conversions.{primitive_text};
@@ -11,16 +11,16 @@ ghost use Rattle.wjs_meaning.specs.Reading.{spelt_in};
 ghost use Rattle.wjs_model.specs.Contents.{completion_in, holding_in, value_held};
 ghost use Rattle.wjs_model.specs.Texts.{KnowsSpelt};
 ghost use Rattle.wjs_model.specs.Waiting as after;
-ghost use Rattle.wjs_model.specs.Soundness.{Base, IsThere, HasCompletion, HasName, HasValue};
-ghost use Rattle.wjs_moves.specs.Following.{Follows};
-ghost use Rattle.wjs_moves.specs.Parts.{env_in, node_now};
+ghost use Rattle.wjs_model.specs.Soundness.{HasCompletion, HasName, HasValue};
+ghost use Rattle.wjs_moves.specs.Parts.{node_now};
 ghost use Rattle.wjs_members.specs.Taking.{taken, takes_from};
+ghost use Rattle.wjs_moves.specs.Handling.{Runs, GoesOn};
 
 use crate::keys::spelt_name;
 use wjs_base::{Name, OutOfMemory, TextId, Value};
 use wjs_deeds::name_of;
 use wjs_lines::{give_value_of, held_value, is_nullish, is_object, name_of_value, throw};
-use wjs_model::{Completion, Config, Conversion, Form, Frame, Held, Reference, State, Trouble};
+use wjs_model::{Completion, Config, Conversion, Form, Frame, Held, Reference, Trouble};
 use wjs_moves::{Part, convert, enter, finish, hold};
 use wjs_store::WorldStore;
 use wjs_tree::{Node, NodeId, Spelt};
@@ -32,12 +32,11 @@ pub fn dot_start<S: WorldStore>(
     base: NodeId,
     name: Spelt,
 ) -> Result<(), OutOfMemory>
-    requires running { config.old.state ≡ State.Running }
-    requires base { Base S.meaning config.old }
-    requires there { IsThere S.meaning config.old frame }
+    requires runs { Runs S.meaning config.old frame }
     requires form { takes_from frame.form ≡ true }
     requires node { node_now S.meaning config.old frame ≡ Node.Dot base name }
-    ensures { let t = config.new.heap.texts in let env = env_in S.meaning config.old t frame in OnOk result (Follows S.meaning (Eval (AtExpr base.0) env (then_value (line.dot_base (spelt_in t name) env (taken frame.form env)))) config.old config.new) }
+    ensures { GoesOn S.meaning frame config.old config.new result (λ t env.
+        Eval (AtExpr base.0) env (then_value (line.dot_base (spelt_in t name) env (taken frame.form env)))) }
 {
     enter(config, frame, 1, Part::Expr(base))
 }
@@ -49,12 +48,11 @@ pub fn at_start<S: WorldStore>(
     base: NodeId,
     index: NodeId,
 ) -> Result<(), OutOfMemory>
-    requires running { config.old.state ≡ State.Running }
-    requires base { Base S.meaning config.old }
-    requires there { IsThere S.meaning config.old frame }
+    requires runs { Runs S.meaning config.old frame }
     requires form { takes_from frame.form ≡ true }
     requires node { node_now S.meaning config.old frame ≡ Node.At base index }
-    ensures { let t = config.new.heap.texts in let env = env_in S.meaning config.old t frame in OnOk result (Follows S.meaning (Eval (AtExpr base.0) env (then_value (line.at_base index.0 env (taken frame.form env)))) config.old config.new) }
+    ensures { GoesOn S.meaning frame config.old config.new result (λ t env.
+        Eval (AtExpr base.0) env (then_value (line.at_base index.0 env (taken frame.form env)))) }
 {
     enter(config, frame, 1, Part::Expr(base))
 }
@@ -67,13 +65,11 @@ fn at_base<S: WorldStore>(
     index: NodeId,
     value: Value,
 ) -> Result<(), OutOfMemory>
-    requires running { config.old.state ≡ State.Running }
-    requires base { Base S.meaning config.old }
-    requires there { IsThere S.meaning config.old frame }
+    requires runs { Runs S.meaning config.old frame }
     requires form { takes_from frame.form ≡ true }
     requires node { node_now S.meaning config.old frame ≡ Node.At base index }
     requires value { HasValue config.old value }
-    ensures { let t = config.new.heap.texts in let env = env_in S.meaning config.old t frame in OnOk result (Follows S.meaning (line.at_base index.0 env (taken frame.form env) (value_in t value)) config.old config.new) }
+    ensures { GoesOn S.meaning frame config.old config.new result (λ t env. line.at_base index.0 env (taken frame.form env) (value_in t value)) }
 {
     let mut frame = frame;
     hold(&mut frame, Held::Value(value))?;
@@ -87,12 +83,10 @@ fn dot_base<S: WorldStore>(
     name: Spelt,
     base: Value,
 ) -> Result<(), OutOfMemory>
-    requires running { config.old.state ≡ State.Running }
-    requires base { Base S.meaning config.old }
-    requires there { IsThere S.meaning config.old frame }
+    requires runs { Runs S.meaning config.old frame }
     requires name { KnowsSpelt config.old.heap.texts name }
     requires value { HasValue config.old base }
-    ensures { let t = config.new.heap.texts in let env = env_in S.meaning config.old t frame in OnOk result (Follows S.meaning (line.dot_base (spelt_in t name) env (taken frame.form env) (value_in t base)) config.old config.new) }
+    ensures { GoesOn S.meaning frame config.old config.new result (λ t env. line.dot_base (spelt_in t name) env (taken frame.form env) (value_in t base)) }
 {
     if is_nullish(base) {
         throw(config, frame, Trouble::NotAnObject)
@@ -108,12 +102,10 @@ fn dot_member<S: WorldStore>(
     spelt: Spelt,
     base: Value,
 ) -> Result<(), OutOfMemory>
-    requires running { config.old.state ≡ State.Running }
-    requires base { Base S.meaning config.old }
-    requires there { IsThere S.meaning config.old frame }
+    requires runs { Runs S.meaning config.old frame }
     requires name { KnowsSpelt config.old.heap.texts spelt }
     requires value { HasValue config.old base }
-    ensures { let t = config.new.heap.texts in let env = env_in S.meaning config.old t frame in OnOk result (Follows S.meaning (taken frame.form env (deed.Member (value_in t base) (spelt_in t spelt))) config.old config.new) }
+    ensures { GoesOn S.meaning frame config.old config.new result (λ t env. taken frame.form env (deed.Member (value_in t base) (spelt_in t spelt))) }
 {
     let name = spelt_name(config, spelt)?;
     take(config, frame, base, name)
@@ -126,12 +118,10 @@ fn take<S: WorldStore>(
     base: Value,
     name: Name,
 ) -> Result<(), OutOfMemory>
-    requires running { config.old.state ≡ State.Running }
-    requires base { Base S.meaning config.old }
-    requires there { IsThere S.meaning config.old frame }
+    requires runs { Runs S.meaning config.old frame }
     requires value { HasValue config.old base }
     requires name { HasName config.old name }
-    ensures { let t = config.new.heap.texts in let env = env_in S.meaning config.old t frame in OnOk result (Follows S.meaning (taken frame.form env (deed.Member (value_in t base) (name_in t name))) config.old config.new) }
+    ensures { GoesOn S.meaning frame config.old config.new result (λ t env. taken frame.form env (deed.Member (value_in t base) (name_in t name))) }
 {
     let reference = Reference::Member(base, name);
     match frame.form() {
@@ -148,13 +138,12 @@ fn at_index<S: WorldStore>(
     index: NodeId,
     value: Value,
 ) -> Result<(), OutOfMemory>
-    requires running { config.old.state ≡ State.Running }
-    requires base { Base S.meaning config.old }
-    requires there { IsThere S.meaning config.old frame }
+    requires runs { Runs S.meaning config.old frame }
     requires form { takes_from frame.form ≡ true }
     requires node { node_now S.meaning config.old frame ≡ Node.At base index }
     requires value { HasValue config.old value }
-    ensures { let t = config.new.heap.texts in let env = env_in S.meaning config.old t frame in OnOk result (Follows S.meaning (line.at_index (value_in t (value_held frame.held)) env (taken frame.form env) (value_in t value)) config.old config.new) }
+    ensures { GoesOn S.meaning frame config.old config.new result (λ t env.
+        line.at_index (value_in t (value_held frame.held)) env (taken frame.form env) (value_in t value)) }
 {
     if is_nullish(held_value(config, &frame)) {
         throw(config, frame, Trouble::NotAnObject)
@@ -171,13 +160,12 @@ fn at_name<S: WorldStore>(
     index: NodeId,
     value: Value,
 ) -> Result<(), OutOfMemory>
-    requires running { config.old.state ≡ State.Running }
-    requires base { Base S.meaning config.old }
-    requires there { IsThere S.meaning config.old frame }
+    requires runs { Runs S.meaning config.old frame }
     requires form { takes_from frame.form ≡ true }
     requires node { node_now S.meaning config.old frame ≡ Node.At base index }
     requires value { HasValue config.old value }
-    ensures { let t = config.new.heap.texts in let env = env_in S.meaning config.old t frame in OnOk result (Follows S.meaning (Sub (to_text (value_in t value) env) (then_text (line.at_name (value_in t (value_held frame.held)) (taken frame.form env)))) config.old config.new) }
+    ensures { GoesOn S.meaning frame config.old config.new result (λ t env.
+        Sub (to_text (value_in t value) env) (then_text (line.at_name (value_in t (value_held frame.held)) (taken frame.form env)))) }
 {
     if is_object(value) {
         convert(config, frame, 3, Conversion::Text, value)
@@ -192,11 +180,10 @@ fn at_primitive<S: WorldStore>(
     frame: Frame,
     value: Value,
 ) -> Result<(), OutOfMemory>
-    requires running { config.old.state ≡ State.Running }
-    requires base { Base S.meaning config.old }
-    requires there { IsThere S.meaning config.old frame }
+    requires runs { Runs S.meaning config.old frame }
     requires value { HasValue config.old value }
-    ensures { let t = config.new.heap.texts in let env = env_in S.meaning config.old t frame in OnOk result (Follows S.meaning (line.at_name (value_in t (value_held frame.held)) (taken frame.form env) (primitive_text (value_in t value))) config.old config.new) }
+    ensures { GoesOn S.meaning frame config.old config.new result (λ t env.
+        line.at_name (value_in t (value_held frame.held)) (taken frame.form env) (primitive_text (value_in t value))) }
 {
     let name = name_of_value(config, value)?;
     take_held(config, frame, name)
@@ -208,11 +195,10 @@ fn take_held<S: WorldStore>(
     frame: Frame,
     name: Name,
 ) -> Result<(), OutOfMemory>
-    requires running { config.old.state ≡ State.Running }
-    requires base { Base S.meaning config.old }
-    requires there { IsThere S.meaning config.old frame }
+    requires runs { Runs S.meaning config.old frame }
     requires name { HasName config.old name }
-    ensures { let t = config.new.heap.texts in let env = env_in S.meaning config.old t frame in OnOk result (Follows S.meaning (line.at_name (value_in t (value_held frame.held)) (taken frame.form env) (name_in t name)) config.old config.new) }
+    ensures { GoesOn S.meaning frame config.old config.new result (λ t env.
+        line.at_name (value_in t (value_held frame.held)) (taken frame.form env) (name_in t name)) }
 {
     let base = held_value(config, &frame);
     take(config, frame, base, name)
@@ -224,11 +210,10 @@ fn at_text<S: WorldStore>(
     frame: Frame,
     text: TextId,
 ) -> Result<(), OutOfMemory>
-    requires running { config.old.state ≡ State.Running }
-    requires base { Base S.meaning config.old }
-    requires there { IsThere S.meaning config.old frame }
+    requires runs { Runs S.meaning config.old frame }
     requires text { Has config.old.heap.texts text }
-    ensures { let t = config.new.heap.texts in let env = env_in S.meaning config.old t frame in OnOk result (Follows S.meaning (line.at_name (value_in t (value_held frame.held)) (taken frame.form env) (text_in t text)) config.old config.new) }
+    ensures { GoesOn S.meaning frame config.old config.new result (λ t env.
+        line.at_name (value_in t (value_held frame.held)) (taken frame.form env) (text_in t text)) }
 {
     let name = name_of(config, text);
     take_held(config, frame, name)
@@ -242,12 +227,11 @@ pub fn dot_given<S: WorldStore>(
     name: Spelt,
     completion: Completion,
 ) -> Result<(), OutOfMemory>
-    requires running { config.old.state ≡ State.Running }
-    requires base { Base S.meaning config.old }
-    requires there { IsThere S.meaning config.old frame }
+    requires runs { Runs S.meaning config.old frame }
     requires node { node_now S.meaning config.old frame ≡ Node.Dot base name }
     requires completion { HasCompletion config.old completion }
-    ensures { let t = config.new.heap.texts in let env = env_in S.meaning config.old t frame in OnOk result (Follows S.meaning (then_value (line.dot_base (spelt_in t name) env (taken frame.form env)) (completion_in t completion)) config.old config.new) }
+    ensures { GoesOn S.meaning frame config.old config.new result (λ t env.
+        then_value (line.dot_base (spelt_in t name) env (taken frame.form env)) (completion_in t completion)) }
 {
     let _base = base;
     match completion {
@@ -264,13 +248,12 @@ pub fn at_given<S: WorldStore>(
     index: NodeId,
     completion: Completion,
 ) -> Result<(), OutOfMemory>
-    requires running { config.old.state ≡ State.Running }
-    requires base { Base S.meaning config.old }
-    requires there { IsThere S.meaning config.old frame }
+    requires runs { Runs S.meaning config.old frame }
     requires form { takes_from frame.form ≡ true }
     requires node { node_now S.meaning config.old frame ≡ Node.At base index }
     requires completion { HasCompletion config.old completion }
-    ensures { let t = config.new.heap.texts in let env = env_in S.meaning config.old t frame in OnOk result (Follows S.meaning (after.after_at index.0 frame.place (holding_in t frame.held) env (taken frame.form env) (completion_in t completion)) config.old config.new) }
+    ensures { GoesOn S.meaning frame config.old config.new result (λ t env.
+        after.after_at index.0 frame.place (holding_in t frame.held) env (taken frame.form env) (completion_in t completion)) }
 {
     match completion {
         Completion::Gives(value) => at_value(config, frame, base, index, value),
@@ -286,13 +269,12 @@ fn at_value<S: WorldStore>(
     index: NodeId,
     value: Value,
 ) -> Result<(), OutOfMemory>
-    requires running { config.old.state ≡ State.Running }
-    requires base { Base S.meaning config.old }
-    requires there { IsThere S.meaning config.old frame }
+    requires runs { Runs S.meaning config.old frame }
     requires form { takes_from frame.form ≡ true }
     requires node { node_now S.meaning config.old frame ≡ Node.At base index }
     requires value { HasValue config.old value }
-    ensures { let t = config.new.heap.texts in let env = env_in S.meaning config.old t frame in OnOk result (Follows S.meaning (after.after_at index.0 frame.place (holding_in t frame.held) env (taken frame.form env) (Gives (value_in t value))) config.old config.new) }
+    ensures { GoesOn S.meaning frame config.old config.new result (λ t env.
+        after.after_at index.0 frame.place (holding_in t frame.held) env (taken frame.form env) (Gives (value_in t value))) }
 {
     match (frame.place(), value) {
         (1, _) => at_base(config, frame, base, index, value),

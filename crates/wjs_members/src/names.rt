@@ -1,5 +1,5 @@
 //! Names, for their value and as targets (ECMA-262, 3rd edition, sections 10.1.4 and 11.1.2).
-ghost use Rattle.std.specs.Prelude.{◌≡◌, ◌<◌, length, OnOk};
+ghost use Rattle.std.specs.Prelude.{◌≡◌, ◌<◌, length};
 ghost use Rattle.wjs_base.specs.Text.{Table};
 ghost use Rattle.wjs_scope.specs.Places.{placed_names};
 ghost use Rattle.wjs_content.specs.Tables.{text_in};
@@ -8,14 +8,13 @@ ghost use Rattle.wjs_meaning.specs.Expressions as line;
 ghost use Rattle.wjs_meaning.specs.Trees.{Name, name_place};
 ghost use Rattle.wjs_model.specs.Units.{place_in};
 ghost use Rattle.wjs_model.specs.Waiting.{refer};
-ghost use Rattle.wjs_model.specs.Soundness.{Base, IsThere};
-ghost use Rattle.wjs_moves.specs.Following.{Follows};
 ghost use Rattle.wjs_moves.specs.Parts.{env_in, node_now};
+ghost use Rattle.wjs_moves.specs.Handling.{Runs, GoesOn};
 
 use wjs_base::{OutOfMemory, TextId};
 use wjs_deeds::reference_at;
 use wjs_lines::give_value_of;
-use wjs_model::{Completion, Config, Frame, State};
+use wjs_model::{Completion, Config, Frame};
 use wjs_moves::{finish, place_at};
 use wjs_scope::Place;
 use wjs_store::WorldStore;
@@ -35,11 +34,9 @@ pub fn name_value<S: WorldStore>(
     frame: Frame,
     id: TextId,
 ) -> Result<(), OutOfMemory>
-    requires running { config.old.state ≡ State.Running }
-    requires base { Base S.meaning config.old }
-    requires there { IsThere S.meaning config.old frame }
+    requires runs { Runs S.meaning config.old frame }
     requires node { node_now S.meaning config.old frame ≡ Node.Name id }
-    ensures { let t = config.new.heap.texts in let env = env_in S.meaning config.old t frame in OnOk result (Follows S.meaning (line.reference_of frame.node.0 (Name (text_in t id)) env (line.give_value_of env)) config.old config.new) }
+    ensures { GoesOn S.meaning frame config.old config.new result (λ t env. line.reference_of frame.node.0 (Name (text_in t id)) env (line.give_value_of env)) }
 {
     let place = place_of(config, &frame);
     let reference = reference_at(config, &frame, place, id);
@@ -52,11 +49,9 @@ pub fn name_target<S: WorldStore>(
     frame: Frame,
     id: TextId,
 ) -> Result<(), OutOfMemory>
-    requires running { config.old.state ≡ State.Running }
-    requires base { Base S.meaning config.old }
-    requires there { IsThere S.meaning config.old frame }
+    requires runs { Runs S.meaning config.old frame }
     requires node { node_now S.meaning config.old frame ≡ Node.Name id }
-    ensures { let t = config.new.heap.texts in let env = env_in S.meaning config.old t frame in OnOk result (Follows S.meaning (line.reference_of frame.node.0 (Name (text_in t id)) env refer) config.old config.new) }
+    ensures { GoesOn S.meaning frame config.old config.new result (λ t env. line.reference_of frame.node.0 (Name (text_in t id)) env refer) }
 {
     let place = place_of(config, &frame);
     let reference = reference_at(config, &frame, place, id);

@@ -1,20 +1,19 @@
 //! Targets (ECMA-262, 3rd edition, section 8.7): which expressions are targets - a name, a member, or a target in parentheses -
 //! and what a target begins with.
-ghost use Rattle.std.specs.Prelude.{◌≡◌, MatchOption, OnOk};
+ghost use Rattle.std.specs.Prelude.{◌≡◌, MatchOption};
 ghost use Rattle.wjs_base.specs.Text.{Table};
 ghost use Rattle.wjs_meaning.specs.Deeds.{tree_here};
 ghost use Rattle.wjs_meaning.specs.Expressions as line;
 ghost use Rattle.wjs_meaning.specs.Reading.{node_in};
 ghost use Rattle.wjs_meaning.specs.Trees as trees;
-ghost use Rattle.wjs_model.specs.Soundness.{Base, IsThere};
-ghost use Rattle.wjs_moves.specs.Following.{Follows};
 ghost use Rattle.wjs_moves.specs.Parts.{env_in, node_among, node_now};
 ghost use Rattle.wjs_members.specs.Targets.{target_form};
+ghost use Rattle.wjs_moves.specs.Handling.{Runs, GoesOn};
 
 use crate::members::{at_start, dot_start};
 use crate::names::name_target;
 use wjs_base::OutOfMemory;
-use wjs_model::{Completion, Config, Form, Frame, State};
+use wjs_model::{Completion, Config, Form, Frame};
 use wjs_moves::{Part, enter_last, finish, node_of};
 use wjs_store::WorldStore;
 use wjs_tree::{Node, NodeId};
@@ -22,11 +21,9 @@ use wjs_tree::{Node, NodeId};
 /// What a target begins with: a name gives its reference, a member enters its base, parentheses their target (section 11.1.6). No
 /// other form is a target.
 pub fn target_start<S: WorldStore>(config: &mut Config<S>, frame: Frame) -> Result<(), OutOfMemory>
-    requires running { config.old.state ≡ State.Running }
-    requires base { Base S.meaning config.old }
-    requires there { IsThere S.meaning config.old frame }
+    requires runs { Runs S.meaning config.old frame }
     requires form { frame.form ≡ Form.Target }
-    ensures { let t = config.new.heap.texts in let env = env_in S.meaning config.old t frame in OnOk result (Follows S.meaning (line.target_of frame.node.0 (node_in t (node_now S.meaning config.old frame)) env) config.old config.new) }
+    ensures { GoesOn S.meaning frame config.old config.new result (λ t env. line.target_of frame.node.0 (node_in t (node_now S.meaning config.old frame)) env) }
 {
     match node_of(config, &frame) {
         Some(Node::Name(id)) => {
@@ -105,7 +102,8 @@ fn node_at<'a, S: WorldStore>(
     frame: &Frame,
     node: NodeId,
 ) -> Option<&'a Node>
-    ensures { MatchOption result (node_among config.now.units.items frame.now.tree node ≡ Node.Empty) (λ found. node_among config.now.units.items frame.now.tree node ≡ found.now) }
+    ensures { MatchOption result (node_among config.now.units.items frame.now.tree node ≡ Node.Empty)
+        (λ found. node_among config.now.units.items frame.now.tree node ≡ found.now) }
 {
     match config.units.get(frame.tree() as usize) {
         Some(unit) => unit.node(node),

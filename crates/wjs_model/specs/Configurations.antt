@@ -109,6 +109,8 @@ module _ {S : Type 0} (meaning : S → Meaning) where
     pub some : 0 < steps
     pub left : old.left ≡ steps + new.left
     pub kept : RestIs old new (λ n. steps + n)
+    -- with fewer steps left the run would have been at its end
+    pub paid : let t = new.heap.texts in (v : Outside) → Admits meaning new v → Knows meaning old v → (m : ℕ) → m < steps → (rest t v old m).0 ≡ StepsSpent
     pub knows : StaysKnown old new
     pub alive : ¬ (new.state ≡ states.StepsSpent)
 

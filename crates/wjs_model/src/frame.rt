@@ -129,7 +129,7 @@ impl Items {
         ensures ok { OnOk result (self.new ≡ item ∷ self.old) }
         ensures err { OnErr result (self.new ≡ self.old) }
     {
-        match self.list.push(item) {
+        match push_last(&mut self.list, item) {
             Ok(()) => Ok(()),
             Err(_) => Err(OutOfMemory),
         }
@@ -154,6 +154,32 @@ impl Items {
         ensures { self.new ≡ [] }
     {
         self.list.clear();
+    }
+}
+
+/// Puts an item last; after a refusal the list is as it was.
+fn push_last(list: &mut Vec<Held>, item: Held) -> Result<(), OutOfMemory>
+    ensures ok { OnOk result (list.new.items ≡ list.old.items ++ item ∷ []) }
+    ensures err { OnErr result (list.new.items ≡ list.old.items) }
+{
+    make_room(list)?;
+    match list.push(item) {
+        Ok(()) => Ok(()),
+        Err(_) => Err(OutOfMemory),
+    }
+}
+
+/// Takes room for one item where there is none. A list that is pushed to takes room for four, and a frame of a native that waits for
+/// a conversion holds one, while as many may wait as there are steps.
+fn make_room(list: &mut Vec<Held>) -> Result<(), OutOfMemory>
+    ensures { list.new.items ≡ list.old.items }
+{
+    if !list.is_empty() {
+        return Ok(());
+    }
+    match list.reserve_exact(1) {
+        Ok(()) => Ok(()),
+        Err(_) => Err(OutOfMemory),
     }
 }
 

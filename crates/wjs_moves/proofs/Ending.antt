@@ -75,6 +75,7 @@ module _ {S : Type 0} (meaning : S → Meaning) where
       record {
         stays = stays_framed meaning old frames state;
         cost = 0;
+        free = refl;
         left = sym (none_taken old.left);
         alive = λ e. alive_ended c (sym es ∙ e);
         kept = λ v a k n.

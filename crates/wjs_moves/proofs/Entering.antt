@@ -142,6 +142,7 @@ module _ {S : Type 0} (meaning : S → Meaning) where
         record {
           stays = record { units = s.units; global = s.global; world = s.world; owner = s.owner; apart = s.apart; texts = s.texts; objects = s.objects; made = s.made; own = s.own; around = s.around; narrows = s.narrows };
           cost = k.cost;
+          free = k.free;
           left = k.left;
           alive = k.alive;
           kept = λ v a h n.

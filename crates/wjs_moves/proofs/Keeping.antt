@@ -64,6 +64,7 @@ module _ {S : Type 0} (meaning : S → Meaning) where
       record {
         stays = stays_framed old frames old.state;
         cost = 0;
+        free = refl;
         left = sym (none_taken old.left);
         alive = not_spent old.state er;
         kept = λ v a k n.

@@ -5,6 +5,7 @@ pub mod Sounding
 pub mod Ending
 pub mod OperandLines
 pub mod Entering
+pub mod Handling
 pub mod Taking
 pub mod Moving
 pub mod Parting

@@ -66,7 +66,7 @@ on_ok (Err x) f h = tt
 
 module _ {S : Type 0} (meaning : S → Meaning) where
   none_fewer : (t : Table) (act : Act) (old new : Config S) → Keeps meaning t 1 act old new → Keeps meaning t 0 act old new
-  none_fewer t act old new k = record { stays = k.stays; cost = k.cost; left = k.left; alive = k.alive; kept = k.kept; knows = k.knows; falls = λ none v a h. fewer _ _ (k.falls none v a h) }
+  none_fewer t act old new k = record { stays = k.stays; cost = k.cost; free = k.free; left = k.left; alive = k.alive; kept = k.kept; knows = k.knows; falls = λ none v a h. fewer _ _ (k.falls none v a h) }
 
   body_due : (p : Part) (units : List Program) (arena : Objects) (tree : ℕ) (node : NodeId) (scope : ObjId) → BodyStands units arena (form_of p) false tree node scope
   body_due (part.Expr e) units arena tree node scope = tt

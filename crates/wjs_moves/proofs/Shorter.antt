@@ -81,6 +81,7 @@ module _ {S : Type 0} (meaning : S → Meaning) where
         keeps = record {
           stays = f.keeps.stays;
           cost = f.keeps.cost;
+          free = f.keeps.free;
           left = f.keeps.left;
           alive = f.keeps.alive;
           kept = λ v a k n. ap (λ o. seen (tells meaning old) (run_next (then_do o (under run fs Ends)) (λ st' n'. (Done, st')))) (h.same (state_in meaning t v old) (f.keeps.cost + n)) ∙ f.keeps.kept v a k n;
@@ -108,6 +109,7 @@ module _ {S : Type 0} (meaning : S → Meaning) where
         keeps = record {
           stays = f.keeps.stays;
           cost = f.keeps.cost;
+          free = f.keeps.free;
           left = f.keeps.left;
           alive = f.keeps.alive;
           kept = λ v a k n. ap (λ q. seen (tells meaning old) (rest_with run q fs (state_in meaning t v old) (f.keeps.cost + n))) (seen_as v a) ∙ f.keeps.kept v a k n;

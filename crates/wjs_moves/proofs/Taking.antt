@@ -1,5 +1,5 @@
 -- The frame on top is taken off.
-use Rattle.std.proofs.Common.{◌≡◌, ℕ, zero, suc, ◌+◌, ◌<◌, ◌≤◌, List, [], ◌∷◌, ◌++◌, true, false, Option, None, Some, refl, sym, ap, ◌∙◌, subst, arith}
+use Rattle.std.proofs.Common.{◌≡◌, ℕ, zero, suc, ◌+◌, ◌<◌, ◌≤◌, List, [], ◌∷◌, ◌++◌, Bool, true, false, Option, None, Some, refl, sym, ap, ◌∙◌, subst, arith}
 use Rattle.std.specs.Prelude.{map as each, option_map, is_some, unwrap_or, Result, Ok, Err, OnOk}
 use Rattle.std.proofs.lemmas.List.Elements.{All-nil, All-same}
 use Rattle.wjs_base.specs.declared.ids.OutOfMemory.{OutOfMemory}
@@ -24,7 +24,7 @@ use Rattle.wjs_model.proofs.Tops.{last-snoc}
 use Rattle.wjs_model.specs.Contents.{Frame, Run, Moment, frame_in, moment_in, completion_in, operand_in}
 use Rattle.wjs_model.specs.Operands.{with_operand}
 use Rattle.wjs_model.specs.Rest.{act_at, rest_of, rest_top, turns_of, turns_over, turns_at}
-use Rattle.wjs_model.specs.Configurations.{seen, tells, run_in, state_in, frames_in, rest_by, turns_by, rest, Stays, RestIs, Turned, quietly, by_step, stopped}
+use Rattle.wjs_model.specs.Configurations.{seen, tells, run_in, state_in, frames_in, rest_by, turns_by, rest, Stays, RestIs, Turned, quietly, by_step, stopped, Quiet}
 use Rattle.wjs_moves.specs.Keeping.{rest_with}
 use Rattle.wjs_moves.specs.Following.{Follows}
 use Rattle.wjs_moves.specs.Parts.{env_in, then_at, begins_at}
@@ -37,9 +37,6 @@ use Rattle.wjs_moves.proofs.Keeping.{none_taken, stays_framed}
 
 falls_below : (x y k : ℕ) → k ≡ y → x + 1 ≤ y → x < k
 falls_below x y k e h = omega (arith, e, h)
-
-some_steps : (k m : ℕ) → k ≡ suc m → 0 < k
-some_steps k m e = omega (arith, e)
 
 one_more : (k n : ℕ) → suc k + n ≡ suc (k + n)
 one_more k n = omega arith
@@ -100,6 +97,14 @@ pub seen_spent : (t : Table) (told : Option (List (PlainAct × PlainReply))) (e 
 seen_spent t None e full arena out = refl
 seen_spent t (Some told) e full arena out = refl
 
+-- whether a store tells its actions or not, the ending is the same
+spent_either : (b : Bool) (st : St) → (seen b (StepsSpent, st)).0 ≡ StepsSpent
+spent_either true st = refl
+spent_either false st = refl
+
+none_below : (m cost : ℕ) → cost ≡ 0 → m < suc cost → m ≡ 0
+none_below m cost e l = omega (arith, e, l)
+
 given_there : {S : Type 0} (c : Config S) (p : Phase) → HasPhase c p → HasCompletion c (given_of p)
 given_there c (phases.Given e) h = h
 given_there c (phases.Entering o) h = tt
@@ -137,7 +142,7 @@ module _ {S : Type 0} (meaning : S → Meaning) where
   -- a frame goes on with no step
   quiet_turn : (old : Config S) (fs : List NumberedFrame) (f : NumberedFrame) (act : Table → Act) (p : Phase) → old.state ≡ states.Running → old.frames ≡ fs ++ f ∷ [] → f.phase ≡ p → is_due (Some p) ≡ false → ((t : Table) → act_at (run_in meaning t old) (frame_in t f) (moment_in t p) ≡ act t)
       → (later : Config S) → Follows meaning (act later.heap.texts) (record old { frames = fs }) later → Turns meaning old later
-  quiet_turn old fs f act p er eo ep hp ea later k = record { turned = by_cost k.keeps.cost refl; sound = k.sound }
+  quiet_turn old fs f act p er eo ep hp ea later k = record { turned = quietly quiet; sound = k.sound }
     where
       stays : Stays meaning old later
       stays = stays_after old later fs old.left k.keeps.stays
@@ -149,36 +154,25 @@ module _ {S : Type 0} (meaning : S → Meaning) where
           ap (seen (tells meaning old)) (rest_taken t old fs f (moment_in t p) (state_in meaning t v old) m er eo (ap (moment_in t) ep) ∙ ap (λ d. rest_with (run_in meaning t old) d (each (frame_in t) fs) (state_in meaning t v old) m) (ea t))
           ∙ k.keeps.kept v a h n
 
-      by_cost : (cost : ℕ) → k.keeps.cost ≡ cost → Turned meaning old later
-      by_cost zero e = quietly (record {
+      quiet : Quiet meaning old later
+      quiet = record {
         stays = stays;
-        left = sym (k.keeps.left ∙ ap (λ m. m + later.left) e ∙ none_taken later.left);
-        kept = λ v a h n. ap (rest meaning later.heap.texts v old) (sym (ap (λ m. m + n) e ∙ none_taken n)) ∙ kept v a h n;
+        left = sym (k.keeps.left ∙ ap (λ m. m + later.left) k.keeps.free ∙ none_taken later.left);
+        kept = λ v a h n. ap (rest meaning later.heap.texts v old) (sym (ap (λ m. m + n) k.keeps.free ∙ none_taken n)) ∙ kept v a h n;
         knows = k.keeps.knows;
         falls = λ v a h.
             let t = later.heap.texts in
             let run = run_in meaning t old in
             let st = state_in meaning t v old in
-            falls_below _ _ _ (turns_taken t old fs f (moment_in t p) st er eo (ap (moment_in t) ep) ∙ turns_not_due t run (each (frame_in t) fs) (frame_in t f) p st hp ∙ ap (λ d. suc (turns_over run d (each (frame_in t) fs) st)) (ea t)) (k.keeps.falls e v a h);
+            falls_below _ _ _ (turns_taken t old fs f (moment_in t p) st er eo (ap (moment_in t) ep) ∙ turns_not_due t run (each (frame_in t) fs) (frame_in t f) p st hp ∙ ap (λ d. suc (turns_over run d (each (frame_in t) fs) st)) (ea t)) (k.keeps.falls k.keeps.free v a h);
         alive = k.keeps.alive;
-      })
-      by_cost (suc more) e = by_step (record {
-        stays = stays;
-        steps = k.keeps.cost;
-        some = some_steps _ _ e;
-        left = k.keeps.left;
-        kept = kept;
-        knows = k.keeps.knows;
-        alive = k.keeps.alive;
-      })
+      }
 
   takes_now : (old : Config S) (fs : List NumberedFrame) (f : NumberedFrame) (line : Table → Env → Act) (p : Phase) → old.state ≡ states.Running → Base meaning old → old.frames ≡ fs ++ f ∷ [] → f.phase ≡ p → is_due (Some p) ≡ false → ((t : Table) → act_at (run_in meaning t old) (frame_in t f) (moment_in t p) ≡ line t (env_in meaning old t f))
       → TakesOff meaning f line old (record old { frames = fs })
   takes_now old fs f line p er b eo ep hp ea = record {
     taken = ap last eo ∙ last-snoc fs f;
-    running = er;
-    base = taken_base old fs f old.left b eo;
-    there = taken_there old fs f old.left b eo;
+    runs = record { running = record { state = er; base = taken_base old fs f old.left b eo }; there = taken_there old fs f old.left b eo };
     by = λ later r k. on_ok r (λ h. quiet_turn old fs f (λ t. line t (env_in meaning old t f)) p er eo ep hp ea later h) k;
   }
 
@@ -211,6 +205,12 @@ module _ {S : Type 0} (meaning : S → Meaning) where
           ap (rest meaning t v old) (one_more k.keeps.cost n)
           ∙ ap (seen (tells meaning old)) (rest_taken t old fs f (moment_in t p) st (suc m) er eo (ap (moment_in t) ep) ∙ ap (λ d. rest_with (run_in meaning t old) d (each (frame_in t) fs) st (suc m)) (ea t))
           ∙ k.keeps.kept v a h n;
+      paid = λ v a h m l.
+          let t = later.heap.texts in
+          let st = state_in meaning t v old in
+          ap (λ i. (rest meaning t v old i).0) (none_below m k.keeps.cost k.keeps.free l)
+          ∙ ap (λ r. (seen (tells meaning old) r).0) (rest_taken t old fs f (moment_in t p) st 0 er eo (ap (moment_in t) ep) ∙ ap (λ d. rest_with (run_in meaning t old) d (each (frame_in t) fs) st 0) (ea t))
+          ∙ spent_either (tells meaning old) st;
       knows = k.keeps.knows;
       alive = k.keeps.alive;
     });
@@ -221,9 +221,7 @@ module _ {S : Type 0} (meaning : S → Meaning) where
       → TakesOff meaning f line old (record old { frames = fs; left = left })
   takes_step old fs f left line p er b eo ep el ea = record {
     taken = ap last eo ∙ last-snoc fs f;
-    running = er;
-    base = taken_base old fs f left b eo;
-    there = taken_there old fs f left b eo;
+    runs = record { running = record { state = er; base = taken_base old fs f left b eo }; there = taken_there old fs f left b eo };
     by = λ later r k. on_ok r (λ h. step_turn old fs f left (λ t. line t (env_in meaning old t f)) p er eo ep el ea later h) k;
   }
 

@@ -2,6 +2,7 @@ pub mod Parts
 pub mod Operands
 pub mod Keeping
 pub mod Following
+pub mod Handling
 pub mod Taking
 pub mod Doing
 pub mod Nesting

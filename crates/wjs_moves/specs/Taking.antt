@@ -5,7 +5,6 @@ use Rattle.wjs_base.specs.Text.{Table}
 use Rattle.wjs_store.specs.Meaning.{Meaning}
 use Rattle.wjs_meaning.specs.Deeds.{Env, Act}
 use Rattle.wjs_model.specs.declared.config.Config.{Config}
-use Rattle.wjs_model.specs.declared.config.State.TheVariants as states
 use Rattle.wjs_model.specs.declared.frame.Activation.{Activation as Frame}
 use Rattle.wjs_model.specs.declared.frame.Phase.{Phase}
 use Rattle.wjs_model.specs.declared.frame.Phase.TheVariants as phases
@@ -14,11 +13,11 @@ use Rattle.wjs_model.specs.Begun.{given_of}
 use Rattle.wjs_model.specs.Contents.{completion_in, operand_in}
 use Rattle.wjs_model.specs.Operands.{with_operand}
 use Rattle.wjs_model.specs.Configurations.{Turned}
-use Rattle.wjs_model.specs.Soundness.{HasCompletion, HasOperand, IsThere, Base, Sound}
+use Rattle.wjs_model.specs.Soundness.{HasCompletion, HasOperand, Sound}
 use Rattle.wjs_moves.specs.declared.take.Top.{Top}
 use Rattle.wjs_moves.specs.declared.take.Top.TheVariants as top
-use Rattle.wjs_moves.specs.Parts.{env_in, begins_at, then_at}
-use Rattle.wjs_moves.specs.Following.{Follows}
+use Rattle.wjs_moves.specs.Parts.{begins_at, then_at}
+use Rattle.wjs_moves.specs.Handling.{Runs, GoesOn}
 
 -- whether a step is due
 abbrev pub is_due : Option Phase → Bool
@@ -35,14 +34,13 @@ module _ {S : Type 0} (meaning : S → Meaning) where
   -- the frame on top is off; what follows of its line above the others is a turn of the old one
   pub record TakesOff (f : Frame) (line : Table → Env → Act) (old mid : Config S) : Type 0 where
     pub taken : last old.frames ≡ Some f
-    pub running : mid.state ≡ states.Running
-    pub base : Base meaning mid
-    pub there : IsThere meaning mid f
-    pub by : (later : Config S) (r : Result (Unit {0}) OutOfMemory) → OnOk r (Follows meaning (line later.heap.texts (env_in meaning mid later.heap.texts f)) mid later) → OnOk r (Turns old later)
+    pub runs : Runs meaning mid f
+    pub by : (later : Config S) (r : Result (Unit {0}) OutOfMemory) → GoesOn meaning f mid later r line → OnOk r (Turns old later)
 
   -- the turn is over for want of steps, or a frame is off with what it does next
   abbrev pub Takes : Config S → Top → Config S → Type 0
   Takes old top.Stops new = Turns old new
   Takes old (top.Begins f) new = TakesOff f (begins_at meaning new f f.place) old new
   Takes old (top.Enters f o) new = TakesOff f (λ t env. with_operand (operand_in t o) env (then_at meaning new f f.place t env)) old new × HasOperand new o
-  Takes old (top.Given f) new = TakesOff f (λ t env. then_at meaning new f f.place t env (completion_in t (given_of f.phase))) old new × HasCompletion new (given_of f.phase)
+  Takes old (top.Given f) new = TakesOff f (λ t env.
+      then_at meaning new f f.place t env (completion_in t (given_of f.phase))) old new × HasCompletion new (given_of f.phase)

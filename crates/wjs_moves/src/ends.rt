@@ -1,12 +1,10 @@
 //! The end of a node.
-ghost use Rattle.std.specs.Prelude.{◌≡◌, OnOk};
+ghost use Rattle.std.specs.Prelude.{◌≡◌};
 ghost use Rattle.wjs_meaning.specs.Deeds.{Ret};
 ghost use Rattle.wjs_model.specs.Contents.{completion_in};
-ghost use Rattle.wjs_model.specs.Soundness.{Base, HasCompletion};
+ghost use Rattle.wjs_model.specs.Soundness.{HasCompletion};
 ghost use Rattle.wjs_moves.specs.Parts.{ended};
-ghost use Rattle.wjs_base.specs.Text.{Table};
-ghost use Rattle.wjs_moves.specs.Parts.{env_in};
-ghost use Rattle.wjs_moves.specs.Following.{Follows};
+ghost use Rattle.wjs_moves.specs.Handling.{IsRunning, GoesOn};
 
 use wjs_base::OutOfMemory;
 use wjs_model::{Completion, Config, Frame, State};
@@ -19,10 +17,9 @@ pub fn finish<S: WorldStore>(
     frame: Frame,
     completion: Completion,
 ) -> Result<(), OutOfMemory>
-    requires running { config.old.state ≡ State.Running }
-    requires base { Base S.meaning config.old }
+    requires running { IsRunning S.meaning config.old }
     requires completion { HasCompletion config.old completion }
-    ensures { let t = config.new.heap.texts in let env = env_in S.meaning config.old t frame in OnOk result (Follows S.meaning (Ret (completion_in t completion)) config.old config.new) }
+    ensures { GoesOn S.meaning frame config.old config.new result (λ t env. Ret (completion_in t completion)) }
 {
     if config.frames.give(frame, completion) {
         return Ok(());

@@ -1,17 +1,14 @@
 //! The entry of parts.
-ghost use Rattle.std.specs.Prelude.{◌≡◌, ◌++◌, ◌∷◌, [], OnOk};
 ghost use Rattle.wjs_meaning.specs.Deeds.{Ret, Eval};
-ghost use Rattle.wjs_model.specs.Soundness.{Base, IsThere, StandsHere};
-ghost use Rattle.wjs_moves.specs.Parts.{goal_of, node_of, then_at, due_frame};
-ghost use Rattle.wjs_base.specs.Text.{Table};
-ghost use Rattle.wjs_moves.specs.Parts.{env_in};
-ghost use Rattle.wjs_moves.specs.Following.{Follows};
+ghost use Rattle.wjs_model.specs.Soundness.{StandsHere};
+ghost use Rattle.wjs_moves.specs.Parts.{goal_of, node_of, then_at};
 ghost use Rattle.wjs_moves.specs.Operands.{IsOperand};
+ghost use Rattle.wjs_moves.specs.Handling.{Runs, GoesOn};
 
 use crate::operands::operand_of;
 use crate::place::{Part, waiting_at};
 use wjs_base::OutOfMemory;
-use wjs_model::{Config, Frame, Operand, Phase, State};
+use wjs_model::{Config, Frame, Operand, Phase};
 use wjs_store::WorldStore;
 
 /// The frame waits at a place for a part, which is entered where the frame is run.
@@ -22,11 +19,9 @@ pub fn enter<S: WorldStore>(
     place: u32,
     part: Part,
 ) -> Result<(), OutOfMemory>
-    requires running { config.old.state ≡ State.Running }
-    requires base { Base S.meaning config.old }
-    requires there { IsThere S.meaning config.old frame }
+    requires runs { Runs S.meaning config.old frame }
     requires part { StandsHere config.old frame (node_of part) }
-    ensures { let t = config.new.heap.texts in let env = env_in S.meaning config.old t frame in OnOk result (Follows S.meaning (Eval (goal_of part) env (then_at S.meaning config.old frame place t env)) config.old config.new) }
+    ensures { GoesOn S.meaning frame config.old config.new result (λ t env. Eval (goal_of part) env (then_at S.meaning config.old frame place t env)) }
 {
     match operand_of(config, &frame, part) {
         Some(operand) => enter_operand(config, frame, place, part, operand),
@@ -43,11 +38,9 @@ fn enter_operand<S: WorldStore>(
     part: Part,
     operand: Operand,
 ) -> Result<(), OutOfMemory>
-    requires running { config.old.state ≡ State.Running }
-    requires base { Base S.meaning config.old }
-    requires there { IsThere S.meaning config.old frame }
+    requires runs { Runs S.meaning config.old frame }
     requires operand { IsOperand S.meaning config.old frame part operand }
-    ensures { let t = config.new.heap.texts in let env = env_in S.meaning config.old t frame in OnOk result (Follows S.meaning (Eval (goal_of part) env (then_at S.meaning config.old frame place t env)) config.old config.new) }
+    ensures { GoesOn S.meaning frame config.old config.new result (λ t env. Eval (goal_of part) env (then_at S.meaning config.old frame place t env)) }
 {
     let _part = part;
     let mut frame = frame;
@@ -64,11 +57,9 @@ fn enter_above<S: WorldStore>(
     place: u32,
     part: Part,
 ) -> Result<(), OutOfMemory>
-    requires running { config.old.state ≡ State.Running }
-    requires base { Base S.meaning config.old }
-    requires there { IsThere S.meaning config.old frame }
+    requires runs { Runs S.meaning config.old frame }
     requires part { StandsHere config.old frame (node_of part) }
-    ensures { let t = config.new.heap.texts in let env = env_in S.meaning config.old t frame in OnOk result (Follows S.meaning (Eval (goal_of part) env (then_at S.meaning config.old frame place t env)) config.old config.new) }
+    ensures { GoesOn S.meaning frame config.old config.new result (λ t env. Eval (goal_of part) env (then_at S.meaning config.old frame place t env)) }
 {
     let waiting = waiting_at(frame, place);
     config
@@ -84,11 +75,9 @@ pub fn enter_last<S: WorldStore>(
     frame: Frame,
     part: Part,
 ) -> Result<(), OutOfMemory>
-    requires running { config.old.state ≡ State.Running }
-    requires base { Base S.meaning config.old }
-    requires there { IsThere S.meaning config.old frame }
+    requires runs { Runs S.meaning config.old frame }
     requires part { StandsHere config.old frame (node_of part) }
-    ensures { let t = config.new.heap.texts in let env = env_in S.meaning config.old t frame in OnOk result (Follows S.meaning (Eval (goal_of part) env Ret) config.old config.new) }
+    ensures { GoesOn S.meaning frame config.old config.new result (λ t env. Eval (goal_of part) env Ret) }
 {
     let mut frame = frame;
     frame.begin(part.form(), part.node(), part.place());

@@ -37,7 +37,8 @@ pub(crate) fn node_among<S: WorldStore>(
 /// Where the name of this number among a node's own is found, in the tree that a frame runs.
 #[inline(always)]
 pub fn place_at<S: WorldStore>(config: &Config<S>, frame: &Frame, node: NodeId, at: usize) -> Place
-    ensures { at < length (placed_names (node_among config.now.units.items frame.now.tree node)) → (t : Table) → name_place (tree_here (env_in S.meaning config.now t frame.now)) node.0 at ≡ place_in result }
+    ensures { at < length (placed_names (node_among config.now.units.items frame.now.tree node)) → (t : Table) →
+        name_place (tree_here (env_in S.meaning config.now t frame.now)) node.0 at ≡ place_in result }
 {
     match config.units.get(frame.tree() as usize) {
         Some(unit) => unit.place(node, at),

@@ -4,15 +4,16 @@ ghost use Rattle.wjs_meaning.specs.Deeds.{Sub, Tick};
 ghost use Rattle.wjs_meaning.specs.Reading.{node_in};
 ghost use Rattle.wjs_model.specs.Contents.{begun_held, holding_in};
 ghost use Rattle.wjs_model.specs.Rest.{begin_form};
-ghost use Rattle.wjs_model.specs.Soundness.{Base, IsThere, HasItems, StandsHere};
+ghost use Rattle.wjs_model.specs.Soundness.{HasItems, StandsHere};
 ghost use Rattle.wjs_model.specs.Standing.{BodyStands};
 ghost use Rattle.wjs_moves.specs.Parts.{env_in, then_at, begins_at, node_among};
-ghost use Rattle.wjs_moves.specs.Following.{Follows, Later};
+ghost use Rattle.wjs_moves.specs.Following.{Later};
 ghost use Rattle.wjs_moves.specs.Nesting.{Nests};
+ghost use Rattle.wjs_moves.specs.Handling.{Runs, GoesOn};
 
 use crate::place::waiting_at;
 use wjs_base::OutOfMemory;
-use wjs_model::{Config, Form, Frame, Items, Phase, State};
+use wjs_model::{Config, Form, Frame, Items, Phase};
 use wjs_store::WorldStore;
 use wjs_tree::NodeId;
 
@@ -22,10 +23,9 @@ pub fn wait<S: WorldStore>(
     frame: Frame,
     place: u32,
 ) -> Result<(), OutOfMemory>
-    requires running { config.old.state ≡ State.Running }
-    requires base { Base S.meaning config.old }
-    requires there { IsThere S.meaning config.old frame }
-    ensures nests { OnOk result (Nests S.meaning (λ t. then_at S.meaning config.old frame place t (env_in S.meaning config.old t frame)) config.old config.new) }
+    requires runs { Runs S.meaning config.old frame }
+    ensures nests { OnOk result (Nests S.meaning (λ t.
+        then_at S.meaning config.old frame place t (env_in S.meaning config.old t frame)) config.old config.new) }
     ensures same { OnOk result (config.new ≡ record config.old { frames = config.new.frames }) }
     ensures later { OnOk result (Later S.meaning config.old config.new) }
 {
@@ -44,13 +44,13 @@ pub fn nest<S: WorldStore>(
     start: u32,
     held: Items,
 ) -> Result<(), OutOfMemory>
-    requires running { config.old.state ≡ State.Running }
-    requires base { Base S.meaning config.old }
-    requires there { IsThere S.meaning config.old frame }
+    requires runs { Runs S.meaning config.old frame }
     requires held { HasItems config.old held }
     requires node { StandsHere config.old frame node }
     requires body { BodyStands config.old.units.items config.old.heap.arena form (begun_held held) frame.tree node frame.scope }
-    ensures { let t = config.new.heap.texts in let env = env_in S.meaning config.old t frame in OnOk result (Follows S.meaning (Sub (begin_form (node_in t (node_among config.old.units.items frame.tree node)) form node.0 start (holding_in t held) env) (then_at S.meaning config.old frame place t env)) config.old config.new) }
+    ensures { GoesOn S.meaning frame config.old config.new result (λ t env.
+        Sub (begin_form (node_in t (node_among config.old.units.items frame.tree node)) form node.0 start (holding_in t held) env)
+        (then_at S.meaning config.old frame place t env)) }
 {
     let waiting = waiting_at(frame, place);
     config.frames.push_ready(waiting, form, node, start, held)?;
@@ -63,10 +63,8 @@ pub fn due_later<S: WorldStore>(
     frame: Frame,
     place: u32,
 ) -> Result<(), OutOfMemory>
-    requires running { config.old.state ≡ State.Running }
-    requires base { Base S.meaning config.old }
-    requires there { IsThere S.meaning config.old frame }
-    ensures { let t = config.new.heap.texts in OnOk result (Follows S.meaning (Tick (begins_at S.meaning config.old frame place t (env_in S.meaning config.old t frame))) config.old config.new) }
+    requires runs { Runs S.meaning config.old frame }
+    ensures { GoesOn S.meaning frame config.old config.new result (λ t env. Tick (begins_at S.meaning config.old frame place t env)) }
 {
     let mut frame = frame;
     frame.set_place(place, Phase::Due);

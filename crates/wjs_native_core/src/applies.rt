@@ -1,14 +1,13 @@
 //! `apply`: the elements of a list are read, one step each, and then the call is made (ECMA-262, 3rd edition, section 15.3.4.3).
-ghost use Rattle.std.specs.Prelude.{◌≡◌, ◌-◌, ◌<◌, OnOk, All, map};
+ghost use Rattle.std.specs.Prelude.{◌≡◌, ◌-◌, ◌<◌, All, map};
 ghost use Rattle.wjs_base.specs.Text.{Table, Grows};
 ghost use Rattle.wjs_content.specs.Tables.{value_in};
 ghost use Rattle.wjs_meaning.specs.NativesOfObjects as line;
 ghost use Rattle.wjs_model.specs.Contents.{holding_in, callee_held, elements_held};
 ghost use Rattle.wjs_model.specs.Rest.{begin_native};
-ghost use Rattle.wjs_model.specs.Soundness.{Base, IsThere, HasObject, HasValue};
-ghost use Rattle.wjs_moves.specs.Parts.{env_in};
-ghost use Rattle.wjs_moves.specs.Following.{Follows};
+ghost use Rattle.wjs_model.specs.Soundness.{Base, HasObject, HasValue};
 ghost use Rattle.wjs_native_core.specs.Owning.{apply_elements};
+ghost use Rattle.wjs_moves.specs.Handling.{Runs, GoesOn};
 
 use crate::items::{elements_for, hold_element};
 use wjs_arena::{Class, Native};
@@ -16,7 +15,7 @@ use wjs_base::{Name, ObjId, OutOfMemory, Value};
 use wjs_calls::call;
 use wjs_deeds::{Known, class_of, function_of, get_known, get_value};
 use wjs_lines::{held_callee, held_elements, throw, to_number};
-use wjs_model::{Completion, Config, Form, Frame, State, Trouble};
+use wjs_model::{Completion, Config, Form, Frame, Trouble};
 use wjs_moves::{due_later, finish};
 use wjs_natives::value_at;
 use wjs_num::to_uint32;
@@ -29,13 +28,11 @@ pub(crate) fn apply<S: WorldStore>(
     this: Value,
     args: &[Value],
 ) -> Result<(), OutOfMemory>
-    requires running { config.old.state ≡ State.Running }
-    requires base { Base S.meaning config.old }
-    requires there { IsThere S.meaning config.old frame }
+    requires runs { Runs S.meaning config.old frame }
     requires form { frame.form ≡ Form.Native Native.Apply }
     requires this { HasValue config.old this }
     requires args { All (HasValue config.old) args.now }
-    ensures { let t = config.new.heap.texts in OnOk result (Follows S.meaning (line.function_apply (value_in t this) (map (value_in t) args.now) (env_in S.meaning config.old t frame)) config.old config.new) }
+    ensures { GoesOn S.meaning frame config.old config.new result (λ t env. line.function_apply (value_in t this) (map (value_in t) args.now) env) }
 {
     match function_of(config, this) {
         Some(function) => {
@@ -59,14 +56,12 @@ fn apply_to<S: WorldStore>(
     this: Value,
     list: Value,
 ) -> Result<(), OutOfMemory>
-    requires running { config.old.state ≡ State.Running }
-    requires base { Base S.meaning config.old }
-    requires there { IsThere S.meaning config.old frame }
+    requires runs { Runs S.meaning config.old frame }
     requires form { frame.form ≡ Form.Native Native.Apply }
     requires function { HasObject config.old function }
     requires this { HasValue config.old this }
     requires list { HasValue config.old list }
-    ensures { let t = config.new.heap.texts in OnOk result (Follows S.meaning (line.apply_list function (value_in t this) (value_in t list) (env_in S.meaning config.old t frame)) config.old config.new) }
+    ensures { GoesOn S.meaning frame config.old config.new result (λ t env. line.apply_list function (value_in t this) (value_in t list) env) }
 {
     match list {
         Value::Undefined | Value::Null => {
@@ -88,14 +83,12 @@ fn apply_elements<S: WorldStore>(
     this: Value,
     object: ObjId,
 ) -> Result<(), OutOfMemory>
-    requires running { config.old.state ≡ State.Running }
-    requires base { Base S.meaning config.old }
-    requires there { IsThere S.meaning config.old frame }
+    requires runs { Runs S.meaning config.old frame }
     requires form { frame.form ≡ Form.Native Native.Apply }
     requires function { HasObject config.old function }
     requires this { HasValue config.old this }
     requires object { HasObject config.old object }
-    ensures { let t = config.new.heap.texts in OnOk result (Follows S.meaning (apply_elements function (value_in t this) object (env_in S.meaning config.old t frame)) config.old config.new) }
+    ensures { GoesOn S.meaning frame config.old config.new result (λ t env. apply_elements function (value_in t this) object env) }
 {
     if !is_list_class(class_of(config, object)) {
         return throw(config, frame, Trouble::NotAnObject);
@@ -133,14 +126,14 @@ fn apply_rest<S: WorldStore>(
     this: Value,
     read: u32,
 ) -> Result<(), OutOfMemory>
-    requires running { config.old.state ≡ State.Running }
-    requires base { Base S.meaning config.old }
-    requires there { IsThere S.meaning config.old frame }
+    requires runs { Runs S.meaning config.old frame }
     requires form { frame.form ≡ Form.Native Native.Apply }
     requires function { HasObject config.old function }
     requires this { HasValue config.old this }
     requires callee { callee_held frame.held ≡ (Value.Object function, this) }
-    ensures { let t = config.new.heap.texts in OnOk result (Follows S.meaning (let elements = elements_held frame.held in line.apply_from (elements.1 - read) read (holding_in t frame.held).values elements.0 function (value_in t this) (env_in S.meaning config.old t frame)) config.old config.new) }
+    ensures { GoesOn S.meaning frame config.old config.new result (λ t env.
+        let elements = elements_held frame.held in
+        line.apply_from (elements.1 - read) read (holding_in t frame.held).values elements.0 function (value_in t this) env) }
 {
     let (_, count) = frame.elements();
     if read < count {
@@ -155,12 +148,10 @@ pub(crate) fn apply_on<S: WorldStore>(
     config: &mut Config<S>,
     mut frame: Frame,
 ) -> Result<(), OutOfMemory>
-    requires running { config.old.state ≡ State.Running }
-    requires base { Base S.meaning config.old }
-    requires there { IsThere S.meaning config.old frame }
+    requires runs { Runs S.meaning config.old frame }
     requires form { frame.form ≡ Form.Native Native.Apply }
     requires place { 0 < frame.place }
-    ensures { let t = config.new.heap.texts in OnOk result (Follows S.meaning (begin_native Native.Apply frame.place (holding_in t frame.held) (env_in S.meaning config.old t frame)) config.old config.new) }
+    ensures { GoesOn S.meaning frame config.old config.new result (λ t env. begin_native Native.Apply frame.place (holding_in t frame.held) env) }
 {
     let (callee, this) = held_callee(config, &frame);
     let Value::Object(function) = callee else {

@@ -1,5 +1,5 @@
 //! The native functions of Array (ECMA-262, 3rd edition, section 15.4).
-ghost use Rattle.std.specs.Prelude.{◌≡◌, MatchOption, OnOk, All, map};
+ghost use Rattle.std.specs.Prelude.{◌≡◌, MatchOption, All, map};
 ghost use Rattle.wjs_base.specs.Text.{Table};
 ghost use Rattle.wjs_content.specs.Tables.{value_in};
 ghost use Rattle.wjs_content.specs.Values.{Number};
@@ -7,15 +7,14 @@ ghost use Rattle.wjs_content.specs.Properties as plans;
 ghost use Rattle.wjs_meaning.specs.Deeds.{Env};
 ghost use Rattle.wjs_meaning.specs.NativesOfObjects as line;
 ghost use Rattle.wjs_meaning.specs.NewObjects as made;
-ghost use Rattle.wjs_model.specs.Soundness.{Base, IsThere, HasValue};
-ghost use Rattle.wjs_moves.specs.Parts.{env_in};
-ghost use Rattle.wjs_moves.specs.Following.{Follows};
+ghost use Rattle.wjs_model.specs.Soundness.{HasValue};
+ghost use Rattle.wjs_moves.specs.Handling.{Runs, GoesOn};
 
 use wjs_base::{OutOfMemory, Value, Whole};
 use wjs_calls::{make_array, whole_value};
 use wjs_deeds::{Known, create_array, is_array, write_known};
 use wjs_lines::{give, throw};
-use wjs_model::{Config, Frame, State, Trouble};
+use wjs_model::{Config, Frame, Trouble};
 use wjs_natives::value_at;
 use wjs_store::WorldStore;
 
@@ -25,11 +24,9 @@ pub(crate) fn new_array<S: WorldStore>(
     frame: Frame,
     args: &[Value],
 ) -> Result<(), OutOfMemory>
-    requires running { config.old.state ≡ State.Running }
-    requires base { Base S.meaning config.old }
-    requires there { IsThere S.meaning config.old frame }
+    requires runs { Runs S.meaning config.old frame }
     requires args { All (HasValue config.old) args.now }
-    ensures { let t = config.new.heap.texts in OnOk result (Follows S.meaning (line.new_array (map (value_in t) args.now) (env_in S.meaning config.old t frame)) config.old config.new) }
+    ensures { GoesOn S.meaning frame config.old config.new result (λ t env. line.new_array (map (value_in t) args.now) env) }
 {
     match only_number(args) {
         Some(length) => array_of_length(config, frame, length),
@@ -39,7 +36,10 @@ pub(crate) fn new_array<S: WorldStore>(
 
 /// The number that is the only value.
 fn only_number(values: &[Value]) -> Option<Whole>
-    ensures { MatchOption result ((t : Table) (env : Env) → made.make_array (map (value_in t) values.now) env line.give_object ≡ line.new_array (map (value_in t) values.now) env) (λ length. (t : Table) (env : Env) → line.array_of_length (plans.length_of_value (Number length.number)) env ≡ line.new_array (map (value_in t) values.now) env) }
+    ensures { MatchOption result ((t : Table) (env : Env) →
+        made.make_array (map (value_in t) values.now) env line.give_object ≡ line.new_array (map (value_in t) values.now) env)
+        (λ length. (t : Table) (env : Env) →
+        line.array_of_length (plans.length_of_value (Number length.number)) env ≡ line.new_array (map (value_in t) values.now) env) }
 {
     let Value::Number(length) = value_at(values, 0) else {
         return None;
@@ -57,11 +57,9 @@ fn array_of<S: WorldStore>(
     frame: Frame,
     args: &[Value],
 ) -> Result<(), OutOfMemory>
-    requires running { config.old.state ≡ State.Running }
-    requires base { Base S.meaning config.old }
-    requires there { IsThere S.meaning config.old frame }
+    requires runs { Runs S.meaning config.old frame }
     requires args { All (HasValue config.old) args.now }
-    ensures { let t = config.new.heap.texts in OnOk result (Follows S.meaning (made.make_array (map (value_in t) args.now) (env_in S.meaning config.old t frame) line.give_object) config.old config.new) }
+    ensures { GoesOn S.meaning frame config.old config.new result (λ t env. made.make_array (map (value_in t) args.now) env line.give_object) }
 {
     let array = make_array(config, &frame, args)?;
     give(config, frame, Value::Object(array))
@@ -73,10 +71,8 @@ fn array_of_length<S: WorldStore>(
     frame: Frame,
     length: Whole,
 ) -> Result<(), OutOfMemory>
-    requires running { config.old.state ≡ State.Running }
-    requires base { Base S.meaning config.old }
-    requires there { IsThere S.meaning config.old frame }
-    ensures { let t = config.new.heap.texts in OnOk result (Follows S.meaning (line.array_of_length (plans.length_of_value (Number length.number)) (env_in S.meaning config.old t frame)) config.old config.new) }
+    requires runs { Runs S.meaning config.old frame }
+    ensures { GoesOn S.meaning frame config.old config.new result (λ t env. line.array_of_length (plans.length_of_value (Number length.number)) env) }
 {
     let Some(length) = length_of(length) else {
         return throw(config, frame, Trouble::InvalidArrayLength);
@@ -93,11 +89,9 @@ pub(crate) fn give_is_array<S: WorldStore>(
     frame: Frame,
     value: Value,
 ) -> Result<(), OutOfMemory>
-    requires running { config.old.state ≡ State.Running }
-    requires base { Base S.meaning config.old }
-    requires there { IsThere S.meaning config.old frame }
+    requires runs { Runs S.meaning config.old frame }
     requires value { HasValue config.old value }
-    ensures { let t = config.new.heap.texts in OnOk result (Follows S.meaning (line.array_is_array (value_in t value)) config.old config.new) }
+    ensures { GoesOn S.meaning frame config.old config.new result (λ t env. line.array_is_array (value_in t value)) }
 {
     match value {
         Value::Object(object) => {

@@ -16,8 +16,9 @@ ghost use Rattle.wjs_meaning.specs.Properties as properties;
 ghost use Rattle.wjs_model.specs.Soundness.{Base, IsThere, HasObject, HasValue, HasContent};
 ghost use Rattle.wjs_moves.specs.Doing.{Does};
 ghost use Rattle.wjs_moves.specs.Parts.{env_in};
-ghost use Rattle.wjs_moves.specs.Following.{Follows, Later};
+ghost use Rattle.wjs_moves.specs.Following.{Later};
 ghost use Rattle.wjs_native_core.specs.Owning.{thrown_object, found_text};
+ghost use Rattle.wjs_moves.specs.Handling.{Runs, GoesOn};
 
 use crate::classes::class_name;
 use wjs_arena::Class;
@@ -26,7 +27,7 @@ use wjs_deeds::{
     Known, builtin, class_of, create, get, intern, known_name, object_of, units_of, write_known,
 };
 use wjs_lines::{give, give_text, join};
-use wjs_model::{Config, Frame, State};
+use wjs_model::{Config, Frame};
 use wjs_store::WorldStore;
 use wjs_strings::fault_text;
 
@@ -37,12 +38,10 @@ pub(crate) fn new_error<S: WorldStore>(
     prototype: u64,
     message: Value,
 ) -> Result<(), OutOfMemory>
-    requires running { config.old.state ≡ State.Running }
-    requires base { Base S.meaning config.old }
-    requires there { IsThere S.meaning config.old frame }
+    requires runs { Runs S.meaning config.old frame }
     requires prototype { prototype < 14 }
     requires message { HasValue config.old message }
-    ensures { let t = config.new.heap.texts in OnOk result (Follows S.meaning (line.new_error (first.builtin prototype) (value_in t message) (env_in S.meaning config.old t frame)) config.old config.new) }
+    ensures { GoesOn S.meaning frame config.old config.new result (λ t env. line.new_error (first.builtin prototype) (value_in t message) env) }
 {
     let error = create_fault(config, prototype)?;
     if let Value::Text(_) = message {
@@ -55,7 +54,8 @@ pub(crate) fn new_error<S: WorldStore>(
 fn create_fault<S: WorldStore>(config: &mut Config<S>, prototype: u64) -> Result<ObjId, OutOfMemory>
     requires base { Base S.meaning config.old }
     requires prototype { prototype < 14 }
-    ensures does { IfOk result (λ o. Does S.meaning (λ t go. Do (Create config.old.owner (content.object_of class.Fault (Some (first.builtin prototype)))) go) (λ t. o) config.old config.new) }
+    ensures does { IfOk result (λ o. Does S.meaning (λ t go. Do (Create config.old.owner (content.object_of class.Fault (Some (first.builtin prototype)))) go)
+        (λ t. o) config.old config.new) }
     ensures later { OnOk result (Later S.meaning config.old config.new) }
     ensures found { IfOk result (λ o. HasObject config.new o) }
 {
@@ -70,11 +70,9 @@ pub(crate) fn give_error_text<S: WorldStore>(
     frame: Frame,
     this: Value,
 ) -> Result<(), OutOfMemory>
-    requires running { config.old.state ≡ State.Running }
-    requires base { Base S.meaning config.old }
-    requires there { IsThere S.meaning config.old frame }
+    requires runs { Runs S.meaning config.old frame }
     requires this { HasValue config.old this }
-    ensures { let t = config.new.heap.texts in OnOk result (Follows S.meaning (line.error_to_string (value_in t this) (env_in S.meaning config.old t frame)) config.old config.new) }
+    ensures { GoesOn S.meaning frame config.old config.new result (λ t env. line.error_to_string (value_in t this) env) }
 {
     match this {
         Value::Object(object) => give_object_text(config, frame, object),
@@ -88,11 +86,9 @@ fn give_primitive_text<S: WorldStore>(
     frame: Frame,
     value: Value,
 ) -> Result<(), OutOfMemory>
-    requires running { config.old.state ≡ State.Running }
-    requires base { Base S.meaning config.old }
-    requires there { IsThere S.meaning config.old frame }
+    requires runs { Runs S.meaning config.old frame }
     requires value { HasValue config.old value }
-    ensures { let t = config.new.heap.texts in OnOk result (Follows S.meaning (errors.give_text (primitive_text (value_in t value)) (env_in S.meaning config.old t frame)) config.old config.new) }
+    ensures { GoesOn S.meaning frame config.old config.new result (λ t env. errors.give_text (primitive_text (value_in t value)) env) }
 {
     let empty = intern(config, &[])?;
     join(config, frame, value, Value::Text(empty))
@@ -104,11 +100,9 @@ fn give_object_text<S: WorldStore>(
     frame: Frame,
     object: ObjId,
 ) -> Result<(), OutOfMemory>
-    requires running { config.old.state ≡ State.Running }
-    requires base { Base S.meaning config.old }
-    requires there { IsThere S.meaning config.old frame }
+    requires runs { Runs S.meaning config.old frame }
     requires object { HasObject config.old object }
-    ensures { let t = config.new.heap.texts in OnOk result (Follows S.meaning (thrown_object object (env_in S.meaning config.old t frame)) config.old config.new) }
+    ensures { GoesOn S.meaning frame config.old config.new result (λ t env. thrown_object object env) }
 {
     match class_of(config, object) {
         Class::Fault => give_fault_text(config, frame, object),
@@ -122,11 +116,9 @@ fn give_fault_text<S: WorldStore>(
     frame: Frame,
     object: ObjId,
 ) -> Result<(), OutOfMemory>
-    requires running { config.old.state ≡ State.Running }
-    requires base { Base S.meaning config.old }
-    requires there { IsThere S.meaning config.old frame }
+    requires runs { Runs S.meaning config.old frame }
     requires object { HasObject config.old object }
-    ensures { let t = config.new.heap.texts in OnOk result (Follows S.meaning (line.object_text class.Fault object (env_in S.meaning config.old t frame) (λ units. errors.give_text units (env_in S.meaning config.old t frame))) config.old config.new) }
+    ensures { GoesOn S.meaning frame config.old config.new result (λ t env. line.object_text class.Fault object env (λ units. errors.give_text units env)) }
 {
     let name = get_named(config, &frame, object, Known::Name)?;
     let message = get_named(config, &frame, object, Known::Message)?;
@@ -144,7 +136,8 @@ fn get_named<S: WorldStore>(
     requires base { Base S.meaning config.old }
     requires there { IsThere S.meaning config.old frame.now }
     requires object { HasObject config.old object }
-    ensures does { IfOk result (λ found. Does S.meaning (λ t. properties.get object (text_of name) (env_in S.meaning config.old t frame.now)) (λ t. content_in t found) config.old config.new) }
+    ensures does { IfOk result (λ found. Does S.meaning (λ t. properties.get object (text_of name) (env_in S.meaning config.old t frame.now))
+        (λ t. content_in t found) config.old config.new) }
     ensures later { OnOk result (Later S.meaning config.old config.new) }
     ensures found { IfOk result (λ found. HasContent config.new found) }
 {
@@ -176,7 +169,8 @@ fn units_under<S: WorldStore>(
 ) -> Result<Vec<u16>, OutOfMemory>
     requires name { Has config.now.heap.texts name }
     requires message { HasContent config.now message }
-    ensures { IfOk result (λ units. (t : Table) → Grows config.now.heap.texts t → line.fault_text (Some (String (text_in t name))) (content_in t message) ≡ units.items) }
+    ensures { IfOk result (λ units. (t : Table) → Grows config.now.heap.texts t →
+        line.fault_text (Some (String (text_in t name))) (content_in t message) ≡ units.items) }
 {
     let alloc = config.heap.arena.allocator();
     match text_found(config, message) {

@@ -1,12 +1,11 @@
 //! The native functions of Function (ECMA-262, 3rd edition, section 15.3).
-ghost use Rattle.std.specs.Prelude.{◌≡◌, OnOk, All, Some, map};
+ghost use Rattle.std.specs.Prelude.{All, Some, map};
 ghost use Rattle.wjs_content.specs.Tables.{value_in, arena_in};
 ghost use Rattle.wjs_meaning.specs.Expressions.{call_values};
 ghost use Rattle.wjs_meaning.specs.NativesOfObjects as line;
 ghost use Rattle.wjs_meaning.specs.Table.{row_of};
-ghost use Rattle.wjs_model.specs.Soundness.{Base, IsThere, HasObject, HasValue};
-ghost use Rattle.wjs_moves.specs.Parts.{env_in};
-ghost use Rattle.wjs_moves.specs.Following.{Follows};
+ghost use Rattle.wjs_model.specs.Soundness.{HasObject, HasValue};
+ghost use Rattle.wjs_moves.specs.Handling.{Runs, GoesOn};
 
 use crate::items::arguments_of;
 use crate::sources::source_of;
@@ -14,7 +13,7 @@ use wjs_base::{ObjId, OutOfMemory, Value};
 use wjs_calls::call_value;
 use wjs_deeds::{code_of, function_of};
 use wjs_lines::{give_text, throw};
-use wjs_model::{Config, Frame, State, Trouble};
+use wjs_model::{Config, Frame, Trouble};
 use wjs_store::WorldStore;
 
 /// `toString`: the name of the receiver, which must be a function (section 15.3.4.2).
@@ -23,11 +22,9 @@ pub(crate) fn give_source<S: WorldStore>(
     frame: Frame,
     this: Value,
 ) -> Result<(), OutOfMemory>
-    requires running { config.old.state ≡ State.Running }
-    requires base { Base S.meaning config.old }
-    requires there { IsThere S.meaning config.old frame }
+    requires runs { Runs S.meaning config.old frame }
     requires this { HasValue config.old this }
-    ensures { let t = config.new.heap.texts in OnOk result (Follows S.meaning (line.function_to_string (value_in t this) (λ k. (row_of k).name) (env_in S.meaning config.old t frame)) config.old config.new) }
+    ensures { GoesOn S.meaning frame config.old config.new result (λ t env. line.function_to_string (value_in t this) (λ k. (row_of k).name) env) }
 {
     match function_of(config, this) {
         Some(function) => give_source_of(config, frame, function),
@@ -41,11 +38,10 @@ fn give_source_of<S: WorldStore>(
     frame: Frame,
     function: ObjId,
 ) -> Result<(), OutOfMemory>
-    requires running { config.old.state ≡ State.Running }
-    requires base { Base S.meaning config.old }
-    requires there { IsThere S.meaning config.old frame }
+    requires runs { Runs S.meaning config.old frame }
     requires function { HasObject config.old function }
-    ensures { let t = config.new.heap.texts in OnOk result (Follows S.meaning (line.function_text (Some function) (arena_in t config.old.heap.arena) (λ k. (row_of k).name) (env_in S.meaning config.old t frame)) config.old config.new) }
+    ensures { GoesOn S.meaning frame config.old config.new result (λ t env.
+        line.function_text (Some function) (arena_in t config.old.heap.arena) (λ k. (row_of k).name) env) }
 {
     let units = source_of(config, &frame, code_of(config, function))?;
     give_text(config, frame, units.as_slice())
@@ -58,12 +54,10 @@ pub(crate) fn call_on<S: WorldStore>(
     this: Value,
     args: &[Value],
 ) -> Result<(), OutOfMemory>
-    requires running { config.old.state ≡ State.Running }
-    requires base { Base S.meaning config.old }
-    requires there { IsThere S.meaning config.old frame }
+    requires runs { Runs S.meaning config.old frame }
     requires this { HasValue config.old this }
     requires args { All (HasValue config.old) args.now }
-    ensures { let t = config.new.heap.texts in OnOk result (Follows S.meaning (line.function_call (value_in t this) (map (value_in t) args.now) (env_in S.meaning config.old t frame)) config.old config.new) }
+    ensures { GoesOn S.meaning frame config.old config.new result (λ t env. line.function_call (value_in t this) (map (value_in t) args.now) env) }
 {
     match args.split_first() {
         None => call_with(config, frame, this, Value::Undefined, &[]),
@@ -79,13 +73,11 @@ fn call_with<S: WorldStore>(
     this: Value,
     args: &[Value],
 ) -> Result<(), OutOfMemory>
-    requires running { config.old.state ≡ State.Running }
-    requires base { Base S.meaning config.old }
-    requires there { IsThere S.meaning config.old frame }
+    requires runs { Runs S.meaning config.old frame }
     requires callee { HasValue config.old callee }
     requires this { HasValue config.old this }
     requires args { All (HasValue config.old) args.now }
-    ensures { let t = config.new.heap.texts in OnOk result (Follows S.meaning (call_values (value_in t callee) (value_in t this) (env_in S.meaning config.old t frame) (map (value_in t) args.now)) config.old config.new) }
+    ensures { GoesOn S.meaning frame config.old config.new result (λ t env. call_values (value_in t callee) (value_in t this) env (map (value_in t) args.now)) }
 {
     frame.set_held(arguments_of(config, args)?);
     call_value(config, frame, callee, this)

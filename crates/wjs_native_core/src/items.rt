@@ -50,7 +50,8 @@ pub(crate) fn hold_element(
     function: ObjId,
     this: Value,
 ) -> Result<(), OutOfMemory>
-    ensures { OnOk result (frame.new ≡ record frame.old { held = Held.Callee (Value.Object function) this ∷ Held.Elements object count ∷ Held.Value value ∷ frame.old.held }) }
+    ensures { OnOk result (frame.new ≡
+        record frame.old { held = Held.Callee (Value.Object function) this ∷ Held.Elements object count ∷ Held.Value value ∷ frame.old.held }) }
 {
     frame.hold(Held::Value(value))?;
     frame.hold(Held::Elements(object, count))?;

@@ -5,18 +5,18 @@ ghost use Rattle.wjs_content.specs.Tables.{value_in, name_in, content_in};
 ghost use Rattle.wjs_content.specs.Values.{Object};
 ghost use Rattle.wjs_meaning.specs.NativesOfObjects as line;
 ghost use Rattle.wjs_meaning.specs.NewObjects as made;
-ghost use Rattle.wjs_model.specs.Soundness.{Base, IsThere, HasObject, HasName, HasValue};
+ghost use Rattle.wjs_model.specs.Soundness.{Base, HasObject, HasName, HasValue};
 ghost use Rattle.wjs_moves.specs.Doing.{Does};
-ghost use Rattle.wjs_moves.specs.Parts.{env_in};
-ghost use Rattle.wjs_moves.specs.Following.{Follows, Later};
+ghost use Rattle.wjs_moves.specs.Following.{Later};
 ghost use Rattle.wjs_native_core.specs.Owning.{class_shown, own_property};
+ghost use Rattle.wjs_moves.specs.Handling.{Runs, IsRunning, GoesOn};
 
 use crate::classes::class_name;
 use crate::ends::give_short;
 use wjs_base::{Content, Name, ObjId, OutOfMemory, Value};
 use wjs_deeds::{class_of, create_plain, fixed, intern, is_hidden, is_past, name_of, read_content};
 use wjs_lines::{give, to_object};
-use wjs_model::{Completion, Config, Frame, State};
+use wjs_model::{Completion, Config, Frame};
 use wjs_moves::finish;
 use wjs_natives::value_at;
 use wjs_store::WorldStore;
@@ -28,11 +28,9 @@ pub(crate) fn new_object<S: WorldStore>(
     frame: Frame,
     value: Value,
 ) -> Result<(), OutOfMemory>
-    requires running { config.old.state ≡ State.Running }
-    requires base { Base S.meaning config.old }
-    requires there { IsThere S.meaning config.old frame }
+    requires runs { Runs S.meaning config.old frame }
     requires value { HasValue config.old value }
-    ensures { let t = config.new.heap.texts in OnOk result (Follows S.meaning (line.new_object (value_in t value) (env_in S.meaning config.old t frame)) config.old config.new) }
+    ensures { GoesOn S.meaning frame config.old config.new result (λ t env. line.new_object (value_in t value) env) }
 {
     match value {
         Value::Undefined | Value::Null => {
@@ -49,11 +47,9 @@ pub(crate) fn as_object<S: WorldStore>(
     frame: Frame,
     value: Value,
 ) -> Result<(), OutOfMemory>
-    requires running { config.old.state ≡ State.Running }
-    requires base { Base S.meaning config.old }
-    requires there { IsThere S.meaning config.old frame }
+    requires runs { Runs S.meaning config.old frame }
     requires value { HasValue config.old value }
-    ensures { let t = config.new.heap.texts in OnOk result (Follows S.meaning (made.to_object (value_in t value) (env_in S.meaning config.old t frame) line.give_object) config.old config.new) }
+    ensures { GoesOn S.meaning frame config.old config.new result (λ t env. made.to_object (value_in t value) env line.give_object) }
 {
     match to_object(config, &frame, value)? {
         Ok(object) => give(config, frame, Value::Object(object)),
@@ -67,11 +63,9 @@ pub(crate) fn give_class<S: WorldStore>(
     frame: Frame,
     this: Value,
 ) -> Result<(), OutOfMemory>
-    requires running { config.old.state ≡ State.Running }
-    requires base { Base S.meaning config.old }
-    requires there { IsThere S.meaning config.old frame }
+    requires runs { Runs S.meaning config.old frame }
     requires this { HasValue config.old this }
-    ensures { let t = config.new.heap.texts in OnOk result (Follows S.meaning (line.object_to_string (value_in t this) (env_in S.meaning config.old t frame)) config.old config.new) }
+    ensures { GoesOn S.meaning frame config.old config.new result (λ t env. line.object_to_string (value_in t this) env) }
 {
     match to_object(config, &frame, this)? {
         Ok(object) => give_class_of(config, frame, object),
@@ -85,11 +79,9 @@ fn give_class_of<S: WorldStore>(
     frame: Frame,
     object: ObjId,
 ) -> Result<(), OutOfMemory>
-    requires running { config.old.state ≡ State.Running }
-    requires base { Base S.meaning config.old }
-    requires there { IsThere S.meaning config.old frame }
+    requires runs { Runs S.meaning config.old frame }
     requires object { HasObject config.old object }
-    ensures { let t = config.new.heap.texts in OnOk result (Follows S.meaning (class_shown object) config.old config.new) }
+    ensures { GoesOn S.meaning frame config.old config.new result (λ t env. class_shown object) }
 {
     let class = class_of(config, object);
     let alloc = config.heap.arena.allocator();
@@ -105,12 +97,11 @@ pub(crate) fn has_own<S: WorldStore>(
     this: Value,
     args: &[Value],
 ) -> Result<(), OutOfMemory>
-    requires running { config.old.state ≡ State.Running }
-    requires base { Base S.meaning config.old }
-    requires there { IsThere S.meaning config.old frame }
+    requires runs { Runs S.meaning config.old frame }
     requires this { HasValue config.old this }
     requires args { All (HasValue config.old) args.now }
-    ensures { let t = config.new.heap.texts in OnOk result (Follows S.meaning (line.has_own_property enumerable (value_in t this) (line.text_at (map (value_in t) args.now) 0) (env_in S.meaning config.old t frame)) config.old config.new) }
+    ensures { GoesOn S.meaning frame config.old config.new result (λ t env.
+        line.has_own_property enumerable (value_in t this) (line.text_at (map (value_in t) args.now) 0) env) }
 {
     let name = name_given(config, value_at(args, 0))?;
     match to_object(config, &frame, this)? {
@@ -127,12 +118,10 @@ fn give_own<S: WorldStore>(
     object: ObjId,
     name: Name,
 ) -> Result<(), OutOfMemory>
-    requires running { config.old.state ≡ State.Running }
-    requires base { Base S.meaning config.old }
-    requires there { IsThere S.meaning config.old frame }
+    requires runs { Runs S.meaning config.old frame }
     requires object { HasObject config.old object }
     requires name { HasName config.old name }
-    ensures { let t = config.new.heap.texts in OnOk result (Follows S.meaning (own_property enumerable object (name_in t name) (env_in S.meaning config.old t frame)) config.old config.new) }
+    ensures { GoesOn S.meaning frame config.old config.new result (λ t env. own_property enumerable object (name_in t name) env) }
 {
     if fixed(config, object, name).is_some() {
         return give(config, frame, Value::Bool(!enumerable));
@@ -175,12 +164,10 @@ pub(crate) fn is_prototype_of<S: WorldStore>(
     this: Value,
     value: Value,
 ) -> Result<(), OutOfMemory>
-    requires running { config.old.state ≡ State.Running }
-    requires base { Base S.meaning config.old }
-    requires there { IsThere S.meaning config.old frame }
+    requires runs { Runs S.meaning config.old frame }
     requires this { HasValue config.old this }
     requires value { HasValue config.old value }
-    ensures { let t = config.new.heap.texts in OnOk result (Follows S.meaning (line.is_prototype_of (value_in t this) (value_in t value)) config.old config.new) }
+    ensures { GoesOn S.meaning frame config.old config.new result (λ t env. line.is_prototype_of (value_in t this) (value_in t value)) }
 {
     match this {
         Value::Object(prototype) => give_past(config, frame, prototype, value),
@@ -195,10 +182,9 @@ fn give_past<S: WorldStore>(
     prototype: ObjId,
     value: Value,
 ) -> Result<(), OutOfMemory>
-    requires running { config.old.state ≡ State.Running }
-    requires base { Base S.meaning config.old }
+    requires running { IsRunning S.meaning config.old }
     requires value { HasValue config.old value }
-    ensures { let t = config.new.heap.texts in OnOk result (Follows S.meaning (line.is_prototype_of (Object prototype) (value_in t value)) config.old config.new) }
+    ensures { GoesOn S.meaning frame config.old config.new result (λ t env. line.is_prototype_of (Object prototype) (value_in t value)) }
 {
     match value {
         Value::Object(object) => {

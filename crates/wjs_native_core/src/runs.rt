@@ -1,13 +1,12 @@
 //! Which native function runs, after its conversions.
-ghost use Rattle.std.specs.Prelude.{◌≡◌, OnOk, All, map, true};
+ghost use Rattle.std.specs.Prelude.{◌≡◌, All, map, true};
 ghost use Rattle.wjs_content.specs.Tables.{value_in};
 ghost use Rattle.wjs_meaning.specs.Natives.{native_line, native_run};
 ghost use Rattle.wjs_model.specs.Contents.{new_held};
-ghost use Rattle.wjs_model.specs.Soundness.{Base, IsThere, HasValue};
+ghost use Rattle.wjs_model.specs.Soundness.{HasValue};
 ghost use Rattle.wjs_model.specs.Turns.{turn_of_native};
-ghost use Rattle.wjs_moves.specs.Parts.{env_in};
-ghost use Rattle.wjs_moves.specs.Following.{Follows};
 ghost use Rattle.wjs_native_core.specs.Groups.{is_error, is_made};
+ghost use Rattle.wjs_moves.specs.Handling.{Runs, GoesOn};
 
 use crate::applies::apply;
 use crate::arrays::{give_is_array, new_array};
@@ -18,7 +17,7 @@ use crate::worlds::{commit_to_parent, give_child};
 use wjs_arena::Native;
 use wjs_base::{OutOfMemory, Value};
 use wjs_lines::{give, throw};
-use wjs_model::{Completion, Config, Form, Frame, State, Trouble, Turn};
+use wjs_model::{Completion, Config, Form, Frame, Trouble, Turn};
 use wjs_moves::finish;
 use wjs_natives::value_at;
 use wjs_store::WorldStore;
@@ -30,13 +29,11 @@ pub(crate) fn run<S: WorldStore>(
     native: Native,
     values: &[Value],
 ) -> Result<(), OutOfMemory>
-    requires running { config.old.state ≡ State.Running }
-    requires base { Base S.meaning config.old }
-    requires there { IsThere S.meaning config.old frame }
+    requires runs { Runs S.meaning config.old frame }
     requires form { frame.form ≡ Form.Native native }
     requires turn { turn_of_native native ≡ Turn.CoreNative }
     requires values { All (HasValue config.old) values.now }
-    ensures { let t = config.new.heap.texts in OnOk result (Follows S.meaning (native_run native (new_held frame.held) (map (value_in t) values.now) (env_in S.meaning config.old t frame)) config.old config.new) }
+    ensures { GoesOn S.meaning frame config.old config.new result (λ t env. native_run native (new_held frame.held) (map (value_in t) values.now) env) }
 {
     match values.split_first() {
         None => finish(config, frame, Completion::Normal),
@@ -52,14 +49,13 @@ fn run_line<S: WorldStore>(
     this: Value,
     args: &[Value],
 ) -> Result<(), OutOfMemory>
-    requires running { config.old.state ≡ State.Running }
-    requires base { Base S.meaning config.old }
-    requires there { IsThere S.meaning config.old frame }
+    requires runs { Runs S.meaning config.old frame }
     requires form { frame.form ≡ Form.Native native }
     requires turn { turn_of_native native ≡ Turn.CoreNative }
     requires this { HasValue config.old this }
     requires args { All (HasValue config.old) args.now }
-    ensures { let t = config.new.heap.texts in OnOk result (Follows S.meaning (native_line native (new_held frame.held) (value_in t this) (map (value_in t) args.now) (env_in S.meaning config.old t frame)) config.old config.new) }
+    ensures { GoesOn S.meaning frame config.old config.new result (λ t env.
+        native_line native (new_held frame.held) (value_in t this) (map (value_in t) args.now) env) }
 {
     match native {
         Native::ObjectConstructor => new_object(config, frame, value_at(args, 0)),
@@ -82,13 +78,12 @@ fn run_error<S: WorldStore>(
     this: Value,
     args: &[Value],
 ) -> Result<(), OutOfMemory>
-    requires running { config.old.state ≡ State.Running }
-    requires base { Base S.meaning config.old }
-    requires there { IsThere S.meaning config.old frame }
+    requires runs { Runs S.meaning config.old frame }
     requires native { is_error native ≡ true }
     requires this { HasValue config.old this }
     requires args { All (HasValue config.old) args.now }
-    ensures { let t = config.new.heap.texts in OnOk result (Follows S.meaning (native_line native (new_held frame.held) (value_in t this) (map (value_in t) args.now) (env_in S.meaning config.old t frame)) config.old config.new) }
+    ensures { GoesOn S.meaning frame config.old config.new result (λ t env.
+        native_line native (new_held frame.held) (value_in t this) (map (value_in t) args.now) env) }
 {
     match native {
         Native::FunctionConstructor => throw(config, frame, Trouble::NoCodeFromText),
@@ -111,13 +106,12 @@ fn run_made<S: WorldStore>(
     this: Value,
     args: &[Value],
 ) -> Result<(), OutOfMemory>
-    requires running { config.old.state ≡ State.Running }
-    requires base { Base S.meaning config.old }
-    requires there { IsThere S.meaning config.old frame }
+    requires runs { Runs S.meaning config.old frame }
     requires native { is_made native ≡ true }
     requires this { HasValue config.old this }
     requires args { All (HasValue config.old) args.now }
-    ensures { let t = config.new.heap.texts in OnOk result (Follows S.meaning (native_line native (new_held frame.held) (value_in t this) (map (value_in t) args.now) (env_in S.meaning config.old t frame)) config.old config.new) }
+    ensures { GoesOn S.meaning frame config.old config.new result (λ t env.
+        native_line native (new_held frame.held) (value_in t this) (map (value_in t) args.now) env) }
 {
     match native {
         Native::WorldConstructor => throw(config, frame, Trouble::NotAConstructor),

@@ -31,7 +31,8 @@ pub(crate) fn source_of<S: WorldStore>(
     code: Code,
 ) -> Result<Vec<u16>, OutOfMemory>
     requires base { Base S.meaning config.now }
-    ensures { IfOk result (λ units. (t : Table) → Grows config.now.heap.texts t → codes "function " ++ line.code_name code (λ k. (row_of k).name) (env_in S.meaning config.now t frame.now) ++ codes "() { }" ≡ units.items) }
+    ensures { IfOk result (λ units. (t : Table) → Grows config.now.heap.texts t →
+        codes "function " ++ line.code_name code (λ k. (row_of k).name) (env_in S.meaning config.now t frame.now) ++ codes "() { }" ≡ units.items) }
 {
     let alloc = config.heap.arena.allocator();
     match code {
@@ -52,7 +53,8 @@ fn script_name<'a, S: WorldStore>(
     node: wjs_base::NodeId,
 ) -> &'a [u16]
     requires { Base S.meaning config.now }
-    ensures { (t : Table) → Grows config.now.heap.texts t → line.code_name (Code.Script tree node) (λ k. (row_of k).name) (env_in S.meaning config.now t frame.now) ≡ result.now }
+    ensures { (t : Table) → Grows config.now.heap.texts t →
+        line.code_name (Code.Script tree node) (λ k. (row_of k).name) (env_in S.meaning config.now t frame.now) ≡ result.now }
 {
     let _frame = frame;
     match name_at(config, tree, NodeId(node.0)) {

@@ -1,17 +1,15 @@
 //! The native functions of World ("Worlds: Controlling the Scope of Side Effects", ECOOP 2011, section 2).
-ghost use Rattle.std.specs.Prelude.{◌≡◌, OnOk};
 ghost use Rattle.wjs_content.specs.Tables.{value_in};
 ghost use Rattle.wjs_meaning.specs.Deeds as deed;
 ghost use Rattle.wjs_meaning.specs.NativesOfObjects as line;
 ghost use Rattle.wjs_meaning.specs.WorldValues.{world_object_of};
-ghost use Rattle.wjs_model.specs.Soundness.{Base, IsThere, HasValue, HasWorld};
-ghost use Rattle.wjs_moves.specs.Parts.{env_in};
-ghost use Rattle.wjs_moves.specs.Following.{Follows};
+ghost use Rattle.wjs_model.specs.Soundness.{HasValue, HasWorld};
+ghost use Rattle.wjs_moves.specs.Handling.{Runs, GoesOn};
 
 use wjs_base::{OutOfMemory, Value, WorldId};
 use wjs_deeds::{commit, create_world_object, sprout, world_of};
 use wjs_lines::{give, throw};
-use wjs_model::{Completion, Config, Frame, State, Trouble};
+use wjs_model::{Completion, Config, Frame, Trouble};
 use wjs_moves::finish;
 use wjs_store::{Verdict, WorldStore};
 
@@ -22,11 +20,9 @@ pub(crate) fn give_child<S: WorldStore>(
     strict: bool,
     this: Value,
 ) -> Result<(), OutOfMemory>
-    requires running { config.old.state ≡ State.Running }
-    requires base { Base S.meaning config.old }
-    requires there { IsThere S.meaning config.old frame }
+    requires runs { Runs S.meaning config.old frame }
     requires this { HasValue config.old this }
-    ensures { let t = config.new.heap.texts in OnOk result (Follows S.meaning (line.sprout strict (value_in t this) (env_in S.meaning config.old t frame)) config.old config.new) }
+    ensures { GoesOn S.meaning frame config.old config.new result (λ t env. line.sprout strict (value_in t this) env) }
 {
     match world_of(config, &frame, this)? {
         Ok(world) => sprout_of(config, frame, strict, world),
@@ -41,11 +37,10 @@ fn sprout_of<S: WorldStore>(
     strict: bool,
     world: WorldId,
 ) -> Result<(), OutOfMemory>
-    requires running { config.old.state ≡ State.Running }
-    requires base { Base S.meaning config.old }
-    requires there { IsThere S.meaning config.old frame }
+    requires runs { Runs S.meaning config.old frame }
     requires world { HasWorld S.meaning config.old world }
-    ensures { let t = config.new.heap.texts in OnOk result (Follows S.meaning (deed.Do (deed.Sprout world (env_in S.meaning config.old t frame).owner strict) (λ child. deed.Do (deed.Create (env_in S.meaning config.old t frame).owner (world_object_of child)) line.give_object)) config.old config.new) }
+    ensures { GoesOn S.meaning frame config.old config.new result (λ t env.
+        deed.Do (deed.Sprout world env.owner strict) (λ child. deed.Do (deed.Create env.owner (world_object_of child)) line.give_object)) }
 {
     let child = sprout(config, world, strict)?;
     let object = create_world_object(config, child)?;
@@ -58,11 +53,9 @@ pub(crate) fn commit_to_parent<S: WorldStore>(
     frame: Frame,
     this: Value,
 ) -> Result<(), OutOfMemory>
-    requires running { config.old.state ≡ State.Running }
-    requires base { Base S.meaning config.old }
-    requires there { IsThere S.meaning config.old frame }
+    requires runs { Runs S.meaning config.old frame }
     requires this { HasValue config.old this }
-    ensures { let t = config.new.heap.texts in OnOk result (Follows S.meaning (line.commit (value_in t this) (env_in S.meaning config.old t frame)) config.old config.new) }
+    ensures { GoesOn S.meaning frame config.old config.new result (λ t env. line.commit (value_in t this) env) }
 {
     match world_of(config, &frame, this)? {
         Ok(world) => commit_world(config, frame, world),
@@ -76,11 +69,9 @@ fn commit_world<S: WorldStore>(
     frame: Frame,
     world: WorldId,
 ) -> Result<(), OutOfMemory>
-    requires running { config.old.state ≡ State.Running }
-    requires base { Base S.meaning config.old }
-    requires there { IsThere S.meaning config.old frame }
+    requires runs { Runs S.meaning config.old frame }
     requires world { HasWorld S.meaning config.old world }
-    ensures { let t = config.new.heap.texts in OnOk result (Follows S.meaning (deed.Do (deed.Commit world) (line.commit_answer (env_in S.meaning config.old t frame))) config.old config.new) }
+    ensures { GoesOn S.meaning frame config.old config.new result (λ t env. deed.Do (deed.Commit world) (line.commit_answer env)) }
 {
     match commit(config, world)? {
         Verdict::Moved => give(config, frame, Value::Undefined),

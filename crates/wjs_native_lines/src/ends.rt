@@ -1,17 +1,15 @@
 //! How these native functions end.
-ghost use Rattle.std.specs.Prelude.{◌≡◌, ◌≤◌, OnOk, IfOk, length};
-ghost use Rattle.wjs_base.specs.Text.{Table, longest};
-ghost use Rattle.wjs_content.specs.Tables.{value_in};
+ghost use Rattle.std.specs.Prelude.{◌≡◌, ◌≤◌, IfOk, length};
+ghost use Rattle.wjs_base.specs.Text.{longest};
 ghost use Rattle.wjs_content.specs.Values.{String};
 ghost use Rattle.wjs_meaning.specs.Deeds as line;
-ghost use Rattle.wjs_model.specs.Soundness.{Base};
-ghost use Rattle.wjs_moves.specs.Following.{Follows};
+ghost use Rattle.wjs_moves.specs.Handling.{IsRunning, GoesOn};
 
 use std::alloc::Global;
 use wjs_base::{OutOfMemory, Value};
 use wjs_deeds::intern;
 use wjs_lines::give;
-use wjs_model::{Config, Frame, State};
+use wjs_model::{Config, Frame};
 use wjs_store::WorldStore;
 
 /// Ends with a text that is not too long.
@@ -20,10 +18,9 @@ pub(crate) fn give_short<S: WorldStore>(
     frame: Frame,
     units: &[u16],
 ) -> Result<(), OutOfMemory>
-    requires running { config.old.state ≡ State.Running }
-    requires base { Base S.meaning config.old }
+    requires running { IsRunning S.meaning config.old }
     requires short { length units.now ≤ longest }
-    ensures { OnOk result (Follows S.meaning (line.give (String units.now)) config.old config.new) }
+    ensures { GoesOn S.meaning frame config.old config.new result (λ t env. line.give (String units.now)) }
 {
     let id = intern(config, units)?;
     give(config, frame, Value::Text(id))

@@ -1,19 +1,18 @@
 //! The global functions (ECMA-262, 3rd edition, section 15.1.2).
-ghost use Rattle.std.specs.Prelude.{◌≡◌, OnOk, All, map, false};
+ghost use Rattle.std.specs.Prelude.{◌≡◌, All, map, false};
 ghost use Rattle.wjs_content.specs.Tables.{value_in};
 ghost use Rattle.wjs_num.specs.Bits.{int32};
 ghost use Rattle.wjs_num.specs.Exact.{answer};
 ghost use Rattle.wjs_num.specs.Numerals.{integer_of_text};
 ghost use Rattle.wjs_meaning.specs.Natives.{native_line};
-ghost use Rattle.wjs_model.specs.Soundness.{Base, HasValue};
-ghost use Rattle.wjs_moves.specs.Parts.{env_in};
-ghost use Rattle.wjs_moves.specs.Following.{Follows};
+ghost use Rattle.wjs_model.specs.Soundness.{HasValue};
+ghost use Rattle.wjs_moves.specs.Handling.{IsRunning, GoesOn};
 
 use wjs_arena::Native;
 use wjs_base::{OutOfMemory, Value, Whole};
 use wjs_deeds::emit;
 use wjs_lines::{give, give_result};
-use wjs_model::{Config, Frame, State};
+use wjs_model::{Config, Frame};
 use wjs_natives::{text_at, whole_at};
 use wjs_num::{NumFault, to_int32};
 use wjs_store::WorldStore;
@@ -26,10 +25,9 @@ pub fn print<S: WorldStore>(
     this: Value,
     args: &[Value],
 ) -> Result<(), OutOfMemory>
-    requires running { config.old.state ≡ State.Running }
-    requires base { Base S.meaning config.old }
+    requires running { IsRunning S.meaning config.old }
     requires args { All (HasValue config.old) args.now }
-    ensures { let t = config.new.heap.texts in OnOk result (Follows S.meaning (native_line Native.Print false (value_in t this) (map (value_in t) args.now) (env_in S.meaning config.old t frame)) config.old config.new) }
+    ensures { GoesOn S.meaning frame config.old config.new result (λ t env. native_line Native.Print false (value_in t this) (map (value_in t) args.now) env) }
 {
     let alloc = config.heap.arena.allocator();
     let bytes = line_of(alloc, text_at(config, args, 0))?;
@@ -44,10 +42,10 @@ pub fn parse_int<S: WorldStore>(
     this: Value,
     args: &[Value],
 ) -> Result<(), OutOfMemory>
-    requires running { config.old.state ≡ State.Running }
-    requires base { Base S.meaning config.old }
+    requires running { IsRunning S.meaning config.old }
     requires args { All (HasValue config.old) args.now }
-    ensures { let t = config.new.heap.texts in OnOk result (Follows S.meaning (native_line Native.ParseInt false (value_in t this) (map (value_in t) args.now) (env_in S.meaning config.old t frame)) config.old config.new) }
+    ensures { GoesOn S.meaning frame config.old config.new result (λ t env.
+        native_line Native.ParseInt false (value_in t this) (map (value_in t) args.now) env) }
 {
     let outcome = integer_of(text_at(config, args, 0), whole_at(args, 1));
     give_result(config, frame, outcome)
@@ -67,9 +65,8 @@ pub fn is_nan<S: WorldStore>(
     this: Value,
     args: &[Value],
 ) -> Result<(), OutOfMemory>
-    requires running { config.old.state ≡ State.Running }
-    requires base { Base S.meaning config.old }
-    ensures { let t = config.new.heap.texts in OnOk result (Follows S.meaning (native_line Native.IsNaN false (value_in t this) (map (value_in t) args.now) (env_in S.meaning config.old t frame)) config.old config.new) }
+    requires running { IsRunning S.meaning config.old }
+    ensures { GoesOn S.meaning frame config.old config.new result (λ t env. native_line Native.IsNaN false (value_in t this) (map (value_in t) args.now) env) }
 {
     let answer = whole_at(args, 0).get().is_none();
     give(config, frame, Value::Bool(answer))

@@ -1,16 +1,14 @@
 //! Math (ECMA-262, 3rd edition, section 15.8).
-ghost use Rattle.std.specs.Prelude.{◌≡◌, OnOk, All, map, [], false};
+ghost use Rattle.std.specs.Prelude.{map, false};
 ghost use Rattle.wjs_content.specs.Tables.{value_in};
 ghost use Rattle.wjs_content.specs.Values.{Undefined};
 ghost use Rattle.wjs_meaning.specs.Natives.{native_line};
-ghost use Rattle.wjs_model.specs.Soundness.{Base, HasValue};
-ghost use Rattle.wjs_moves.specs.Parts.{env_in};
-ghost use Rattle.wjs_moves.specs.Following.{Follows};
+ghost use Rattle.wjs_moves.specs.Handling.{IsRunning, GoesOn};
 
 use wjs_arena::Native;
 use wjs_base::{OutOfMemory, Value};
 use wjs_lines::{give, give_result, throw};
-use wjs_model::{Config, Frame, State, Trouble};
+use wjs_model::{Config, Frame, Trouble};
 use wjs_natives::whole_at;
 use wjs_num::pow;
 use wjs_store::WorldStore;
@@ -22,9 +20,8 @@ pub fn abs<S: WorldStore>(
     frame: Frame,
     args: &[Value],
 ) -> Result<(), OutOfMemory>
-    requires running { config.old.state ≡ State.Running }
-    requires base { Base S.meaning config.old }
-    ensures { let t = config.new.heap.texts in OnOk result (Follows S.meaning (native_line Native.Abs false Undefined (map (value_in t) args.now) (env_in S.meaning config.old t frame)) config.old config.new) }
+    requires running { IsRunning S.meaning config.old }
+    ensures { GoesOn S.meaning frame config.old config.new result (λ t env. native_line Native.Abs false Undefined (map (value_in t) args.now) env) }
 {
     give(config, frame, Value::Number(absolute(whole_at(args, 0))))
 }
@@ -35,9 +32,8 @@ pub fn whole<S: WorldStore>(
     frame: Frame,
     args: &[Value],
 ) -> Result<(), OutOfMemory>
-    requires running { config.old.state ≡ State.Running }
-    requires base { Base S.meaning config.old }
-    ensures { let t = config.new.heap.texts in OnOk result (Follows S.meaning (native_line Native.Floor false Undefined (map (value_in t) args.now) (env_in S.meaning config.old t frame)) config.old config.new) }
+    requires running { IsRunning S.meaning config.old }
+    ensures { GoesOn S.meaning frame config.old config.new result (λ t env. native_line Native.Floor false Undefined (map (value_in t) args.now) env) }
 {
     give(config, frame, Value::Number(whole_at(args, 0)))
 }
@@ -48,9 +44,8 @@ pub fn max<S: WorldStore>(
     frame: Frame,
     args: &[Value],
 ) -> Result<(), OutOfMemory>
-    requires running { config.old.state ≡ State.Running }
-    requires base { Base S.meaning config.old }
-    ensures { let t = config.new.heap.texts in OnOk result (Follows S.meaning (native_line Native.Max false Undefined (map (value_in t) args.now) (env_in S.meaning config.old t frame)) config.old config.new) }
+    requires running { IsRunning S.meaning config.old }
+    ensures { GoesOn S.meaning frame config.old config.new result (λ t env. native_line Native.Max false Undefined (map (value_in t) args.now) env) }
 {
     match args.split_first() {
         None => throw(config, frame, Trouble::OutOfRange),
@@ -64,9 +59,8 @@ pub fn min<S: WorldStore>(
     frame: Frame,
     args: &[Value],
 ) -> Result<(), OutOfMemory>
-    requires running { config.old.state ≡ State.Running }
-    requires base { Base S.meaning config.old }
-    ensures { let t = config.new.heap.texts in OnOk result (Follows S.meaning (native_line Native.Min false Undefined (map (value_in t) args.now) (env_in S.meaning config.old t frame)) config.old config.new) }
+    requires running { IsRunning S.meaning config.old }
+    ensures { GoesOn S.meaning frame config.old config.new result (λ t env. native_line Native.Min false Undefined (map (value_in t) args.now) env) }
 {
     match args.split_first() {
         None => throw(config, frame, Trouble::OutOfRange),
@@ -80,9 +74,8 @@ pub fn power<S: WorldStore>(
     frame: Frame,
     args: &[Value],
 ) -> Result<(), OutOfMemory>
-    requires running { config.old.state ≡ State.Running }
-    requires base { Base S.meaning config.old }
-    ensures { let t = config.new.heap.texts in OnOk result (Follows S.meaning (native_line Native.Pow false Undefined (map (value_in t) args.now) (env_in S.meaning config.old t frame)) config.old config.new) }
+    requires running { IsRunning S.meaning config.old }
+    ensures { GoesOn S.meaning frame config.old config.new result (λ t env. native_line Native.Pow false Undefined (map (value_in t) args.now) env) }
 {
     let outcome = pow(whole_at(args, 0), whole_at(args, 1));
     give_result(config, frame, outcome)

@@ -1,18 +1,17 @@
 //! Number and Boolean (ECMA-262, 3rd edition, sections 15.6 and 15.7).
-ghost use Rattle.std.specs.Prelude.{◌≡◌, OnOk, All, map, [], false};
+ghost use Rattle.std.specs.Prelude.{All, map, false};
 ghost use Rattle.wjs_content.specs.Tables.{value_in};
 ghost use Rattle.wjs_content.specs.Values.{Undefined};
 ghost use Rattle.wjs_meaning.specs.Natives.{native_line};
 ghost use Rattle.wjs_meaning.specs.NativesOfTexts as line;
-ghost use Rattle.wjs_model.specs.Soundness.{Base, HasValue};
-ghost use Rattle.wjs_moves.specs.Parts.{env_in};
-ghost use Rattle.wjs_moves.specs.Following.{Follows};
+ghost use Rattle.wjs_model.specs.Soundness.{HasValue};
+ghost use Rattle.wjs_moves.specs.Handling.{IsRunning, GoesOn};
 
 use crate::receivers::{primitive_value, wrapped};
 use wjs_arena::Native;
 use wjs_base::{OutOfMemory, Value, Whole};
 use wjs_lines::{give_text, throw, to_boolean};
-use wjs_model::{Config, Frame, State, Trouble};
+use wjs_model::{Config, Frame, Trouble};
 use wjs_natives::value_at;
 use wjs_num::write_radix;
 use wjs_store::WorldStore;
@@ -24,10 +23,10 @@ pub fn new_number<S: WorldStore>(
     by_new: bool,
     args: &[Value],
 ) -> Result<(), OutOfMemory>
-    requires running { config.old.state ≡ State.Running }
-    requires base { Base S.meaning config.old }
+    requires running { IsRunning S.meaning config.old }
     requires args { All (HasValue config.old) args.now }
-    ensures { let t = config.new.heap.texts in OnOk result (Follows S.meaning (native_line Native.NumberConstructor by_new Undefined (map (value_in t) args.now) (env_in S.meaning config.old t frame)) config.old config.new) }
+    ensures { GoesOn S.meaning frame config.old config.new result (λ t env.
+        native_line Native.NumberConstructor by_new Undefined (map (value_in t) args.now) env) }
 {
     match args.first() {
         None => wrapped(config, frame, by_new, Value::Number(Whole::new(0).unwrap())),
@@ -42,10 +41,10 @@ pub fn new_boolean<S: WorldStore>(
     by_new: bool,
     args: &[Value],
 ) -> Result<(), OutOfMemory>
-    requires running { config.old.state ≡ State.Running }
-    requires base { Base S.meaning config.old }
+    requires running { IsRunning S.meaning config.old }
     requires args { All (HasValue config.old) args.now }
-    ensures { let t = config.new.heap.texts in OnOk result (Follows S.meaning (native_line Native.BooleanConstructor by_new Undefined (map (value_in t) args.now) (env_in S.meaning config.old t frame)) config.old config.new) }
+    ensures { GoesOn S.meaning frame config.old config.new result (λ t env.
+        native_line Native.BooleanConstructor by_new Undefined (map (value_in t) args.now) env) }
 {
     let truth = to_boolean(config, value_at(args, 0));
     wrapped(config, frame, by_new, Value::Bool(truth))
@@ -58,10 +57,10 @@ pub fn number_text<S: WorldStore>(
     this: Value,
     args: &[Value],
 ) -> Result<(), OutOfMemory>
-    requires running { config.old.state ≡ State.Running }
-    requires base { Base S.meaning config.old }
+    requires running { IsRunning S.meaning config.old }
     requires this { HasValue config.old this }
-    ensures { let t = config.new.heap.texts in OnOk result (Follows S.meaning (native_line Native.NumberToString false (value_in t this) (map (value_in t) args.now) (env_in S.meaning config.old t frame)) config.old config.new) }
+    ensures { GoesOn S.meaning frame config.old config.new result (λ t env.
+        native_line Native.NumberToString false (value_in t this) (map (value_in t) args.now) env) }
 {
     match primitive_value(config, this) {
         Value::Number(number) => with_radix(config, frame, number, value_at(args, 0)),
@@ -76,9 +75,8 @@ fn with_radix<S: WorldStore>(
     number: Whole,
     radix: Value,
 ) -> Result<(), OutOfMemory>
-    requires running { config.old.state ≡ State.Running }
-    requires base { Base S.meaning config.old }
-    ensures { let t = config.new.heap.texts in OnOk result (Follows S.meaning (line.with_radix number.number (value_in t radix) (env_in S.meaning config.old t frame)) config.old config.new) }
+    requires running { IsRunning S.meaning config.old }
+    ensures { GoesOn S.meaning frame config.old config.new result (λ t env. line.with_radix number.number (value_in t radix) env) }
 {
     match radix {
         Value::Undefined => text_in_radix(config, frame, number, 10),
@@ -97,9 +95,8 @@ fn text_in_radix<S: WorldStore>(
     number: Whole,
     radix: i64,
 ) -> Result<(), OutOfMemory>
-    requires running { config.old.state ≡ State.Running }
-    requires base { Base S.meaning config.old }
-    ensures { let t = config.new.heap.texts in OnOk result (Follows S.meaning (line.text_in_radix number.number radix (env_in S.meaning config.old t frame)) config.old config.new) }
+    requires running { IsRunning S.meaning config.old }
+    ensures { GoesOn S.meaning frame config.old config.new result (λ t env. line.text_in_radix number.number radix env) }
 {
     if radix < 2 || radix > 36 {
         return throw(config, frame, Trouble::InvalidRadix);

@@ -1,20 +1,19 @@
 //! What stands at places of texts (ECMA-262, 3rd edition, section 15.5.4).
-ghost use Rattle.std.specs.Prelude.{◌≡◌, ◌≤◌, OnOk, IfOk, All, map, false};
+ghost use Rattle.std.specs.Prelude.{◌≡◌, ◌≤◌, IfOk, All, map, false};
 ghost use Rattle.wjs_content.specs.Tables.{value_in};
 ghost use Rattle.wjs_base.specs.Text.{Table};
 ghost use Rattle.wjs_content.specs.Values.{Number};
 ghost use Rattle.wjs_meaning.specs.Natives.{native_line};
 ghost use Rattle.wjs_meaning.specs.NativesOfTexts as line;
 ghost use Rattle.wjs_meaning.specs.Deeds.{give};
-ghost use Rattle.wjs_model.specs.Soundness.{Base, HasValue};
-ghost use Rattle.wjs_moves.specs.Parts.{env_in};
-ghost use Rattle.wjs_moves.specs.Following.{Follows};
+ghost use Rattle.wjs_model.specs.Soundness.{HasValue};
+ghost use Rattle.wjs_moves.specs.Handling.{IsRunning, GoesOn};
 
 use crate::ends::{copied, give_short};
 use wjs_arena::Native;
 use wjs_base::{OutOfMemory, Value, Whole};
 use wjs_lines::give;
-use wjs_model::{Config, Frame, State};
+use wjs_model::{Config, Frame};
 use wjs_natives::{text_at, text_of, value_at, whole_at};
 use wjs_store::WorldStore;
 use wjs_strings::{
@@ -28,10 +27,9 @@ pub fn char_at<S: WorldStore>(
     this: Value,
     args: &[Value],
 ) -> Result<(), OutOfMemory>
-    requires running { config.old.state ≡ State.Running }
-    requires base { Base S.meaning config.old }
+    requires running { IsRunning S.meaning config.old }
     requires this { HasValue config.old this }
-    ensures { let t = config.new.heap.texts in OnOk result (Follows S.meaning (native_line Native.CharAt false (value_in t this) (map (value_in t) args.now) (env_in S.meaning config.old t frame)) config.old config.new) }
+    ensures { GoesOn S.meaning frame config.old config.new result (λ t env. native_line Native.CharAt false (value_in t this) (map (value_in t) args.now) env) }
 {
     let unit = unit_at(text_of(config, this), whole_at(args, 0));
     give_unit(config, frame, unit)
@@ -43,9 +41,8 @@ fn give_unit<S: WorldStore>(
     frame: Frame,
     unit: Option<u16>,
 ) -> Result<(), OutOfMemory>
-    requires running { config.old.state ≡ State.Running }
-    requires base { Base S.meaning config.old }
-    ensures { OnOk result (Follows S.meaning (line.char_at unit) config.old config.new) }
+    requires running { IsRunning S.meaning config.old }
+    ensures { GoesOn S.meaning frame config.old config.new result (λ t env. line.char_at unit) }
 {
     match unit {
         None => give_short(config, frame, &[]),
@@ -60,10 +57,10 @@ pub fn char_code_at<S: WorldStore>(
     this: Value,
     args: &[Value],
 ) -> Result<(), OutOfMemory>
-    requires running { config.old.state ≡ State.Running }
-    requires base { Base S.meaning config.old }
+    requires running { IsRunning S.meaning config.old }
     requires this { HasValue config.old this }
-    ensures { let t = config.new.heap.texts in OnOk result (Follows S.meaning (native_line Native.CharCodeAt false (value_in t this) (map (value_in t) args.now) (env_in S.meaning config.old t frame)) config.old config.new) }
+    ensures { GoesOn S.meaning frame config.old config.new result (λ t env.
+        native_line Native.CharCodeAt false (value_in t this) (map (value_in t) args.now) env) }
 {
     let code = code_of(unit_at(text_of(config, this), whole_at(args, 0)));
     give(config, frame, Value::Number(code))
@@ -86,11 +83,11 @@ pub fn index_of<S: WorldStore>(
     this: Value,
     args: &[Value],
 ) -> Result<(), OutOfMemory>
-    requires running { config.old.state ≡ State.Running }
-    requires base { Base S.meaning config.old }
+    requires running { IsRunning S.meaning config.old }
     requires this { HasValue config.old this }
     requires args { All (HasValue config.old) args.now }
-    ensures { let t = config.new.heap.texts in OnOk result (Follows S.meaning (native_line Native.IndexOf false (value_in t this) (map (value_in t) args.now) (env_in S.meaning config.old t frame)) config.old config.new) }
+    ensures { GoesOn S.meaning frame config.old config.new result (λ t env.
+        native_line Native.IndexOf false (value_in t this) (map (value_in t) args.now) env) }
 {
     let alloc = config.heap.arena.allocator();
     let text = text_of(config, this);
@@ -107,11 +104,11 @@ pub fn last_index_of<S: WorldStore>(
     this: Value,
     args: &[Value],
 ) -> Result<(), OutOfMemory>
-    requires running { config.old.state ≡ State.Running }
-    requires base { Base S.meaning config.old }
+    requires running { IsRunning S.meaning config.old }
     requires this { HasValue config.old this }
     requires args { All (HasValue config.old) args.now }
-    ensures { let t = config.new.heap.texts in OnOk result (Follows S.meaning (native_line Native.LastIndexOf false (value_in t this) (map (value_in t) args.now) (env_in S.meaning config.old t frame)) config.old config.new) }
+    ensures { GoesOn S.meaning frame config.old config.new result (λ t env.
+        native_line Native.LastIndexOf false (value_in t this) (map (value_in t) args.now) env) }
 {
     let alloc = config.heap.arena.allocator();
     let text = text_of(config, this);
@@ -151,10 +148,10 @@ pub fn give_substring<S: WorldStore>(
     this: Value,
     args: &[Value],
 ) -> Result<(), OutOfMemory>
-    requires running { config.old.state ≡ State.Running }
-    requires base { Base S.meaning config.old }
+    requires running { IsRunning S.meaning config.old }
     requires this { HasValue config.old this }
-    ensures { let t = config.new.heap.texts in OnOk result (Follows S.meaning (native_line Native.Substring false (value_in t this) (map (value_in t) args.now) (env_in S.meaning config.old t frame)) config.old config.new) }
+    ensures { GoesOn S.meaning frame config.old config.new result (λ t env.
+        native_line Native.Substring false (value_in t this) (map (value_in t) args.now) env) }
 {
     let alloc = config.heap.arena.allocator();
     let text = text_of(config, this);
@@ -169,10 +166,9 @@ pub fn give_slice<S: WorldStore>(
     this: Value,
     args: &[Value],
 ) -> Result<(), OutOfMemory>
-    requires running { config.old.state ≡ State.Running }
-    requires base { Base S.meaning config.old }
+    requires running { IsRunning S.meaning config.old }
     requires this { HasValue config.old this }
-    ensures { let t = config.new.heap.texts in OnOk result (Follows S.meaning (native_line Native.Slice false (value_in t this) (map (value_in t) args.now) (env_in S.meaning config.old t frame)) config.old config.new) }
+    ensures { GoesOn S.meaning frame config.old config.new result (λ t env. native_line Native.Slice false (value_in t this) (map (value_in t) args.now) env) }
 {
     let alloc = config.heap.arena.allocator();
     let text = text_of(config, this);

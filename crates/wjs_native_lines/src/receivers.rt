@@ -1,9 +1,8 @@
 //! Receivers and wrappers of primitives (ECMA-262, 3rd edition, sections 15.5 to 15.7).
-ghost use Rattle.std.specs.Prelude.{◌≡◌, OnOk, IfOk, All, map, [], false, true, Some};
+ghost use Rattle.std.specs.Prelude.{OnOk, IfOk, [], false, true, Some};
 ghost use Rattle.wjs_content.specs.Tables.{value_in};
-ghost use Rattle.wjs_content.specs.Values.{Undefined, Boolean, String};
-ghost use Rattle.wjs_base.specs.Text.{Table};
-ghost use Rattle.wjs_content.specs.Conversions.{is_primitive, primitive_text};
+ghost use Rattle.wjs_content.specs.Values.{Boolean, String};
+ghost use Rattle.wjs_content.specs.Conversions.{primitive_text};
 ghost use Rattle.wjs_meaning.specs.Deeds.{Do, Create, give};
 ghost use Rattle.wjs_meaning.specs.Builtins as first;
 ghost use Rattle.wjs_content.specs.Objects as content;
@@ -12,15 +11,15 @@ ghost use Rattle.wjs_meaning.specs.NativesOfTexts as line;
 ghost use Rattle.wjs_moves.specs.Doing.{Does};
 ghost use Rattle.wjs_native_lines.specs.Receivers.{primitive_then};
 ghost use Rattle.wjs_model.specs.Soundness.{Base, HasObject, HasValue};
-ghost use Rattle.wjs_moves.specs.Parts.{env_in};
-ghost use Rattle.wjs_moves.specs.Following.{Follows, Later};
+ghost use Rattle.wjs_moves.specs.Following.{Later};
+ghost use Rattle.wjs_moves.specs.Handling.{IsRunning, GoesOn};
 
 use crate::ends::give_short;
 use wjs_arena::{Class, Native};
 use wjs_base::{ObjId, OutOfMemory, Value};
 use wjs_deeds::{builtin, create, create_wrapper, object_of, primitive_of};
 use wjs_lines::{give, throw};
-use wjs_model::{Config, Frame, State, Trouble};
+use wjs_model::{Config, Frame, Trouble};
 use wjs_store::WorldStore;
 
 /// `true` and `false`.
@@ -35,10 +34,9 @@ pub(crate) fn wrapped<S: WorldStore>(
     by_new: bool,
     value: Value,
 ) -> Result<(), OutOfMemory>
-    requires running { config.old.state ≡ State.Running }
-    requires base { Base S.meaning config.old }
+    requires running { IsRunning S.meaning config.old }
     requires value { HasValue config.old value }
-    ensures { let t = config.new.heap.texts in OnOk result (Follows S.meaning (line.wrapped by_new (value_in t value) (env_in S.meaning config.old t frame)) config.old config.new) }
+    ensures { GoesOn S.meaning frame config.old config.new result (λ t env. line.wrapped by_new (value_in t value) env) }
 {
     if by_new {
         let object = wrapper_of(config, value)?;
@@ -52,7 +50,8 @@ pub(crate) fn wrapped<S: WorldStore>(
 fn wrapper_of<S: WorldStore>(config: &mut Config<S>, value: Value) -> Result<ObjId, OutOfMemory>
     requires base { Base S.meaning config.old }
     requires value { HasValue config.old value }
-    ensures does { IfOk result (λ o. Does S.meaning (λ t go. Do (Create config.old.owner (first.wrapper_of (value_in t value))) go) (λ t. o) config.old config.new) }
+    ensures does { IfOk result (λ o. Does S.meaning (λ t go. Do (Create config.old.owner (first.wrapper_of (value_in t value))) go)
+        (λ t. o) config.old config.new) }
     ensures later { OnOk result (Later S.meaning config.old config.new) }
     ensures found { IfOk result (λ o. HasObject config.new o) }
 {
@@ -66,7 +65,9 @@ fn wrapper_of<S: WorldStore>(config: &mut Config<S>, value: Value) -> Result<Obj
 fn hold_object<S: WorldStore>(config: &mut Config<S>, value: Value) -> Result<ObjId, OutOfMemory>
     requires base { Base S.meaning config.old }
     requires value { HasValue config.old value }
-    ensures does { IfOk result (λ o. Does S.meaning (λ t go. Do (Create config.old.owner (record (content.object_of Class.Plain (Some (first.builtin 0))) { primitive = value_in t value })) go) (λ t. o) config.old config.new) }
+    ensures does { IfOk result (λ o. Does S.meaning
+        (λ t go. Do (Create config.old.owner (record (content.object_of Class.Plain (Some (first.builtin 0))) { primitive = value_in t value })) go)
+        (λ t. o) config.old config.new) }
     ensures later { OnOk result (Later S.meaning config.old config.new) }
     ensures found { IfOk result (λ o. HasObject config.new o) }
 {
@@ -96,10 +97,9 @@ pub fn own_text<S: WorldStore>(
     frame: Frame,
     this: Value,
 ) -> Result<(), OutOfMemory>
-    requires running { config.old.state ≡ State.Running }
-    requires base { Base S.meaning config.old }
+    requires running { IsRunning S.meaning config.old }
     requires this { HasValue config.old this }
-    ensures { let t = config.new.heap.texts in OnOk result (Follows S.meaning (native_line Native.StringToString false (value_in t this) [] (env_in S.meaning config.old t frame)) config.old config.new) }
+    ensures { GoesOn S.meaning frame config.old config.new result (λ t env. native_line Native.StringToString false (value_in t this) [] env) }
 {
     match primitive_value(config, this) {
         Value::Text(id) => give(config, frame, Value::Text(id)),
@@ -113,10 +113,9 @@ pub fn own_number<S: WorldStore>(
     frame: Frame,
     this: Value,
 ) -> Result<(), OutOfMemory>
-    requires running { config.old.state ≡ State.Running }
-    requires base { Base S.meaning config.old }
+    requires running { IsRunning S.meaning config.old }
     requires this { HasValue config.old this }
-    ensures { let t = config.new.heap.texts in OnOk result (Follows S.meaning (native_line Native.NumberValueOf false (value_in t this) [] (env_in S.meaning config.old t frame)) config.old config.new) }
+    ensures { GoesOn S.meaning frame config.old config.new result (λ t env. native_line Native.NumberValueOf false (value_in t this) [] env) }
 {
     match primitive_value(config, this) {
         Value::Number(number) => give(config, frame, Value::Number(number)),
@@ -130,10 +129,9 @@ pub fn own_truth<S: WorldStore>(
     frame: Frame,
     this: Value,
 ) -> Result<(), OutOfMemory>
-    requires running { config.old.state ≡ State.Running }
-    requires base { Base S.meaning config.old }
+    requires running { IsRunning S.meaning config.old }
     requires this { HasValue config.old this }
-    ensures { let t = config.new.heap.texts in OnOk result (Follows S.meaning (native_line Native.BooleanValueOf false (value_in t this) [] (env_in S.meaning config.old t frame)) config.old config.new) }
+    ensures { GoesOn S.meaning frame config.old config.new result (λ t env. native_line Native.BooleanValueOf false (value_in t this) [] env) }
 {
     match primitive_value(config, this) {
         Value::Bool(truth) => give(config, frame, Value::Bool(truth)),
@@ -147,10 +145,9 @@ pub fn truth_text<S: WorldStore>(
     frame: Frame,
     this: Value,
 ) -> Result<(), OutOfMemory>
-    requires running { config.old.state ≡ State.Running }
-    requires base { Base S.meaning config.old }
+    requires running { IsRunning S.meaning config.old }
     requires this { HasValue config.old this }
-    ensures { let t = config.new.heap.texts in OnOk result (Follows S.meaning (native_line Native.BooleanToString false (value_in t this) [] (env_in S.meaning config.old t frame)) config.old config.new) }
+    ensures { GoesOn S.meaning frame config.old config.new result (λ t env. native_line Native.BooleanToString false (value_in t this) [] env) }
 {
     match primitive_value(config, this) {
         Value::Bool(truth) => give_spelled(config, frame, truth),
@@ -164,9 +161,8 @@ fn give_spelled<S: WorldStore>(
     frame: Frame,
     truth: bool,
 ) -> Result<(), OutOfMemory>
-    requires running { config.old.state ≡ State.Running }
-    requires base { Base S.meaning config.old }
-    ensures { OnOk result (Follows S.meaning (give (String (primitive_text (Boolean truth)))) config.old config.new) }
+    requires running { IsRunning S.meaning config.old }
+    ensures { GoesOn S.meaning frame config.old config.new result (λ t env. give (String (primitive_text (Boolean truth)))) }
 {
     if truth {
         give_short(config, frame, &TRUE)

@@ -1,18 +1,18 @@
 //! `split` (ECMA-262, 3rd edition, section 15.5.4.14).
-ghost use Rattle.std.specs.Prelude.{◌≡◌, ◌++◌, ◌∷◌, OnOk, IfOk, All, map, false, []};
+ghost use Rattle.std.specs.Prelude.{◌≡◌, ◌∷◌, OnOk, IfOk, All, map, false, []};
 ghost use Rattle.wjs_base.specs.Text.{Table, Grows, Has};
 ghost use Rattle.wjs_content.specs.Tables.{value_in, text_in};
 ghost use Rattle.wjs_content.specs.Values.{String};
 ghost use Rattle.wjs_meaning.specs.Natives.{native_line};
 ghost use Rattle.wjs_meaning.specs.NativesOfObjects as values;
 ghost use Rattle.wjs_meaning.specs.NativesOfTexts as line;
-ghost use Rattle.wjs_model.specs.Soundness.{Base, IsThere, HasValue};
+ghost use Rattle.wjs_model.specs.Soundness.{Base, HasValue};
 ghost use Rattle.wjs_moves.specs.Doing.{Does};
-ghost use Rattle.wjs_moves.specs.Following.{Follows, Later};
-ghost use Rattle.wjs_moves.specs.Parts.{env_in};
+ghost use Rattle.wjs_moves.specs.Following.{Later};
 ghost use Rattle.wjs_heap.specs.Means.{nothing};
 ghost use Rattle.wjs_strings.specs.Pieces.{texts_of, up_to, has_room};
 ghost use Rattle.wjs_native_lines.specs.Limits.{limit_in};
+ghost use Rattle.wjs_moves.specs.Handling.{Runs, GoesOn};
 
 use crate::ends::copied;
 use std::alloc::Global;
@@ -21,7 +21,7 @@ use wjs_base::{OutOfMemory, TextId, Value};
 use wjs_calls::make_array;
 use wjs_deeds::intern;
 use wjs_lines::give;
-use wjs_model::{Config, Frame, State};
+use wjs_model::{Config, Frame};
 use wjs_natives::{text_of, value_at};
 use wjs_num::to_uint32;
 use wjs_store::WorldStore;
@@ -34,12 +34,10 @@ pub fn give_parts<S: WorldStore>(
     this: Value,
     args: &[Value],
 ) -> Result<(), OutOfMemory>
-    requires running { config.old.state ≡ State.Running }
-    requires base { Base S.meaning config.old }
-    requires there { IsThere S.meaning config.old frame }
+    requires runs { Runs S.meaning config.old frame }
     requires this { HasValue config.old this }
     requires args { All (HasValue config.old) args.now }
-    ensures { let t = config.new.heap.texts in OnOk result (Follows S.meaning (native_line Native.Split false (value_in t this) (map (value_in t) args.now) (env_in S.meaning config.old t frame)) config.old config.new) }
+    ensures { GoesOn S.meaning frame config.old config.new result (λ t env. native_line Native.Split false (value_in t this) (map (value_in t) args.now) env) }
 {
     let pieces = pieces_of(config, this, value_at(args, 0), limit_of(value_at(args, 1)))?;
     let parts = parts_of(config, this, pieces.as_slice())?;
@@ -66,7 +64,8 @@ fn pieces_of<S: WorldStore>(
 ) -> Result<Vec<Piece>, OutOfMemory>
     requires text { HasValue config.now text }
     requires separator { HasValue config.now separator }
-    ensures { IfOk result (λ pieces. (t : Table) → Grows config.now.heap.texts t → texts_of (values.text_of (value_in t text)) pieces.items ≡ up_to limit (line.parts_of (values.text_of (value_in t text)) (value_in t separator))) }
+    ensures { IfOk result (λ pieces. (t : Table) → Grows config.now.heap.texts t →
+        texts_of (values.text_of (value_in t text)) pieces.items ≡ up_to limit (line.parts_of (values.text_of (value_in t text)) (value_in t separator))) }
 {
     let alloc = config.heap.arena.allocator();
     let units = text_of(config, text);
@@ -115,7 +114,8 @@ fn parts_of<S: WorldStore>(
     ensures does { OnOk result (Does S.meaning (λ t go. go nothing) (λ t. nothing) config.old config.new) }
     ensures later { OnOk result (Later S.meaning config.old config.new) }
     ensures found { IfOk result (λ parts. All (HasValue config.new) parts.items) }
-    ensures parts { IfOk result (λ parts. (t : Table) → Grows config.new.heap.texts t → map (value_in t) parts.items ≡ texts_of (values.text_of (value_in t text)) pieces.now) }
+    ensures parts { IfOk result (λ parts. (t : Table) → Grows config.new.heap.texts t →
+        map (value_in t) parts.items ≡ texts_of (values.text_of (value_in t text)) pieces.now) }
 {
     let mut parts = Vec::new(config.heap.arena.allocator());
     for piece in pieces {
@@ -138,7 +138,8 @@ fn intern_piece<S: WorldStore>(
     ensures does { OnOk result (Does S.meaning (λ t go. go nothing) (λ t. nothing) config.old config.new) }
     ensures later { OnOk result (Later S.meaning config.old config.new) }
     ensures found { IfOk result (λ id. Has config.new.heap.texts id) }
-    ensures text { IfOk result (λ id. (t : Table) → Grows config.new.heap.texts t → text_in t id ≡ line.part_of (values.text_of (value_in t text)) piece.start piece.end) }
+    ensures text { IfOk result (λ id. (t : Table) → Grows config.new.heap.texts t →
+        text_in t id ≡ line.part_of (values.text_of (value_in t text)) piece.start piece.end) }
 {
     let alloc = config.heap.arena.allocator();
     let units = copied(

@@ -1,5 +1,5 @@
 //! Texts that are made of values (ECMA-262, 3rd edition, section 15.5).
-ghost use Rattle.std.specs.Prelude.{◌≡◌, ◌%◌, ◌∷◌, ◌++◌, OnOk, IfOk, All, map, [], false};
+ghost use Rattle.std.specs.Prelude.{◌≡◌, ◌%◌, ◌++◌, OnOk, IfOk, All, map, [], false};
 ghost use Rattle.wjs_content.specs.Tables.{value_in};
 ghost use Rattle.wjs_content.specs.Values.{Undefined, String};
 ghost use Rattle.wjs_base.specs.Text.{Table, Grows};
@@ -9,9 +9,8 @@ ghost use Rattle.wjs_meaning.specs.Errors as errors;
 ghost use Rattle.wjs_meaning.specs.Natives.{native_line};
 ghost use Rattle.wjs_meaning.specs.NativesOfObjects.{whole_of};
 ghost use Rattle.wjs_meaning.specs.NativesOfTexts as line;
-ghost use Rattle.wjs_model.specs.Soundness.{Base, HasValue};
-ghost use Rattle.wjs_moves.specs.Parts.{env_in};
-ghost use Rattle.wjs_moves.specs.Following.{Follows};
+ghost use Rattle.wjs_model.specs.Soundness.{HasValue};
+ghost use Rattle.wjs_moves.specs.Handling.{IsRunning, GoesOn};
 
 use crate::ends::copied;
 use crate::receivers::wrapped;
@@ -20,7 +19,7 @@ use wjs_arena::Native;
 use wjs_base::{LONGEST_TEXT, OutOfMemory, Value};
 use wjs_deeds::intern;
 use wjs_lines::give_text;
-use wjs_model::{Config, Frame, State};
+use wjs_model::{Config, Frame};
 use wjs_natives::{number_of, text_of, value_at};
 use wjs_store::WorldStore;
 use wjs_strings::code_unit;
@@ -32,10 +31,10 @@ pub fn new_string<S: WorldStore>(
     by_new: bool,
     args: &[Value],
 ) -> Result<(), OutOfMemory>
-    requires running { config.old.state ≡ State.Running }
-    requires base { Base S.meaning config.old }
+    requires running { IsRunning S.meaning config.old }
     requires args { All (HasValue config.old) args.now }
-    ensures { let t = config.new.heap.texts in OnOk result (Follows S.meaning (native_line Native.StringConstructor by_new Undefined (map (value_in t) args.now) (env_in S.meaning config.old t frame)) config.old config.new) }
+    ensures { GoesOn S.meaning frame config.old config.new result (λ t env.
+        native_line Native.StringConstructor by_new Undefined (map (value_in t) args.now) env) }
 {
     match value_at(args, 0) {
         Value::Text(id) => wrapped(config, frame, by_new, Value::Text(id)),
@@ -49,9 +48,8 @@ fn new_empty<S: WorldStore>(
     frame: Frame,
     by_new: bool,
 ) -> Result<(), OutOfMemory>
-    requires running { config.old.state ≡ State.Running }
-    requires base { Base S.meaning config.old }
-    ensures { let t = config.new.heap.texts in OnOk result (Follows S.meaning (line.wrapped by_new (String []) (env_in S.meaning config.old t frame)) config.old config.new) }
+    requires running { IsRunning S.meaning config.old }
+    ensures { GoesOn S.meaning frame config.old config.new result (λ t env. line.wrapped by_new (String []) env) }
 {
     let empty = intern(config, &[])?;
     wrapped(config, frame, by_new, Value::Text(empty))
@@ -63,9 +61,8 @@ pub fn from_char_code<S: WorldStore>(
     frame: Frame,
     args: &[Value],
 ) -> Result<(), OutOfMemory>
-    requires running { config.old.state ≡ State.Running }
-    requires base { Base S.meaning config.old }
-    ensures { let t = config.new.heap.texts in OnOk result (Follows S.meaning (native_line Native.FromCharCode false Undefined (map (value_in t) args.now) (env_in S.meaning config.old t frame)) config.old config.new) }
+    requires running { IsRunning S.meaning config.old }
+    ensures { GoesOn S.meaning frame config.old config.new result (λ t env. native_line Native.FromCharCode false Undefined (map (value_in t) args.now) env) }
 {
     let units = units_of_numbers(config.heap.arena.allocator(), args)?;
     give_text(config, frame, units.as_slice())
@@ -91,11 +88,10 @@ pub fn concat<S: WorldStore>(
     this: Value,
     args: &[Value],
 ) -> Result<(), OutOfMemory>
-    requires running { config.old.state ≡ State.Running }
-    requires base { Base S.meaning config.old }
+    requires running { IsRunning S.meaning config.old }
     requires this { HasValue config.old this }
     requires args { All (HasValue config.old) args.now }
-    ensures { let t = config.new.heap.texts in OnOk result (Follows S.meaning (native_line Native.Concat false (value_in t this) (map (value_in t) args.now) (env_in S.meaning config.old t frame)) config.old config.new) }
+    ensures { GoesOn S.meaning frame config.old config.new result (λ t env. native_line Native.Concat false (value_in t this) (map (value_in t) args.now) env) }
 {
     let mut units = copied(config.heap.arena.allocator(), text_of(config, this))?;
     join_texts(config, &mut units, args)?;
@@ -108,10 +104,9 @@ pub fn give_joined<S: WorldStore>(
     frame: Frame,
     values: &[Value],
 ) -> Result<(), OutOfMemory>
-    requires running { config.old.state ≡ State.Running }
-    requires base { Base S.meaning config.old }
+    requires running { IsRunning S.meaning config.old }
     requires values { All (HasValue config.old) values.now }
-    ensures { let t = config.new.heap.texts in OnOk result (Follows S.meaning (errors.give_text (line.joined (map (value_in t) values.now)) (env_in S.meaning config.old t frame)) config.old config.new) }
+    ensures { GoesOn S.meaning frame config.old config.new result (λ t env. errors.give_text (line.joined (map (value_in t) values.now)) env) }
 {
     let mut units = Vec::new(config.heap.arena.allocator());
     join_texts(config, &mut units, values)?;
@@ -125,7 +120,8 @@ fn join_texts<S: WorldStore>(
     values: &[Value],
 ) -> Result<(), OutOfMemory>
     requires { All (HasValue config.now) values.now }
-    ensures { OnOk result ((t : Table) → Grows config.now.heap.texts t → (env : Env) → errors.give_text units.new.items env ≡ errors.give_text (units.old.items ++ line.joined (map (value_in t) values.now)) env) }
+    ensures { OnOk result ((t : Table) → Grows config.now.heap.texts t → (env : Env) →
+        errors.give_text units.new.items env ≡ errors.give_text (units.old.items ++ line.joined (map (value_in t) values.now)) env) }
 {
     for value in values {
         if units.len() > LONGEST_TEXT {

@@ -5,15 +5,14 @@ ghost use Rattle.wjs_content.specs.Values.{Undefined};
 ghost use Rattle.wjs_meaning.specs.Natives.{native_line};
 ghost use Rattle.wjs_model.specs.Contents.{holding_in};
 ghost use Rattle.wjs_model.specs.Rest.{begin_native};
-ghost use Rattle.wjs_model.specs.Soundness.{Base, IsThere, HasValue};
-ghost use Rattle.wjs_moves.specs.Parts.{env_in};
-ghost use Rattle.wjs_moves.specs.Following.{Follows};
+ghost use Rattle.wjs_model.specs.Soundness.{HasValue};
+ghost use Rattle.wjs_moves.specs.Handling.{Runs, GoesOn};
 
 use wjs_arena::Native;
 use wjs_base::{Name, ObjId, OutOfMemory, Value};
 use wjs_deeds::read;
 use wjs_lines::{give_text, held_elements, held_value, throw};
-use wjs_model::{Config, Form, Frame, Held, State, Trouble};
+use wjs_model::{Config, Form, Frame, Held, Trouble};
 use wjs_moves::due_later;
 use wjs_native_lines::give_joined;
 use wjs_natives::{value_at, whole_at};
@@ -26,12 +25,10 @@ pub(crate) fn glue<S: WorldStore>(
     mut frame: Frame,
     args: &[Value],
 ) -> Result<(), OutOfMemory>
-    requires running { config.old.state ≡ State.Running }
-    requires base { Base S.meaning config.old }
-    requires there { IsThere S.meaning config.old frame }
+    requires runs { Runs S.meaning config.old frame }
     requires form { frame.form ≡ Form.Native Native.Glue }
     requires args { All (HasValue config.old) args.now }
-    ensures { let t = config.new.heap.texts in OnOk result (Follows S.meaning (native_line Native.Glue false Undefined (map (value_in t) args.now) (env_in S.meaning config.old t frame)) config.old config.new) }
+    ensures { GoesOn S.meaning frame config.old config.new result (λ t env. native_line Native.Glue false Undefined (map (value_in t) args.now) env) }
 {
     let Value::Object(object) = value_at(args, 0) else {
         return throw(config, frame, Trouble::NotAnObject);
@@ -63,12 +60,10 @@ pub(crate) fn glue_on<S: WorldStore>(
     config: &mut Config<S>,
     mut frame: Frame,
 ) -> Result<(), OutOfMemory>
-    requires running { config.old.state ≡ State.Running }
-    requires base { Base S.meaning config.old }
-    requires there { IsThere S.meaning config.old frame }
+    requires runs { Runs S.meaning config.old frame }
     requires form { frame.form ≡ Form.Native Native.Glue }
     requires place { 0 < frame.place }
-    ensures { let t = config.new.heap.texts in OnOk result (Follows S.meaning (begin_native Native.Glue frame.place (holding_in t frame.held) (env_in S.meaning config.old t frame)) config.old config.new) }
+    ensures { GoesOn S.meaning frame config.old config.new result (λ t env. begin_native Native.Glue frame.place (holding_in t frame.held) env) }
 {
     let separator = held_value(config, &frame);
     let (object, count) = held_elements(config, &frame);

@@ -1,18 +1,17 @@
 //! Which native function runs, after its conversions.
-ghost use Rattle.std.specs.Prelude.{◌≡◌, OnOk, All, map, true};
+ghost use Rattle.std.specs.Prelude.{◌≡◌, All, map, true};
 ghost use Rattle.wjs_content.specs.Tables.{value_in};
 ghost use Rattle.wjs_meaning.specs.Natives.{native_line, native_run};
 ghost use Rattle.wjs_model.specs.Contents.{new_held};
-ghost use Rattle.wjs_model.specs.Soundness.{Base, IsThere, HasValue};
+ghost use Rattle.wjs_model.specs.Soundness.{HasValue};
 ghost use Rattle.wjs_model.specs.Turns.{turn_of_native};
-ghost use Rattle.wjs_moves.specs.Parts.{env_in};
-ghost use Rattle.wjs_moves.specs.Following.{Follows};
 ghost use Rattle.wjs_native_text.specs.Groups.{is_placed, is_number, is_math};
+ghost use Rattle.wjs_moves.specs.Handling.{Runs, GoesOn};
 
 use crate::glue::glue;
 use wjs_arena::Native;
 use wjs_base::{OutOfMemory, Value};
-use wjs_model::{Completion, Config, Form, Frame, State, Turn};
+use wjs_model::{Completion, Config, Form, Frame, Turn};
 use wjs_moves::finish;
 use wjs_native_lines::{
     abs, char_at, char_code_at, concat, from_char_code, give_parts, give_slice, give_substring,
@@ -28,13 +27,11 @@ pub(crate) fn run<S: WorldStore>(
     native: Native,
     values: &[Value],
 ) -> Result<(), OutOfMemory>
-    requires running { config.old.state ≡ State.Running }
-    requires base { Base S.meaning config.old }
-    requires there { IsThere S.meaning config.old frame }
+    requires runs { Runs S.meaning config.old frame }
     requires form { frame.form ≡ Form.Native native }
     requires turn { turn_of_native native ≡ Turn.TextNative }
     requires values { All (HasValue config.old) values.now }
-    ensures { let t = config.new.heap.texts in OnOk result (Follows S.meaning (native_run native (new_held frame.held) (map (value_in t) values.now) (env_in S.meaning config.old t frame)) config.old config.new) }
+    ensures { GoesOn S.meaning frame config.old config.new result (λ t env. native_run native (new_held frame.held) (map (value_in t) values.now) env) }
 {
     match values.split_first() {
         None => finish(config, frame, Completion::Normal),
@@ -50,14 +47,13 @@ fn run_line<S: WorldStore>(
     this: Value,
     args: &[Value],
 ) -> Result<(), OutOfMemory>
-    requires running { config.old.state ≡ State.Running }
-    requires base { Base S.meaning config.old }
-    requires there { IsThere S.meaning config.old frame }
+    requires runs { Runs S.meaning config.old frame }
     requires form { frame.form ≡ Form.Native native }
     requires turn { turn_of_native native ≡ Turn.TextNative }
     requires this { HasValue config.old this }
     requires args { All (HasValue config.old) args.now }
-    ensures { let t = config.new.heap.texts in OnOk result (Follows S.meaning (native_line native (new_held frame.held) (value_in t this) (map (value_in t) args.now) (env_in S.meaning config.old t frame)) config.old config.new) }
+    ensures { GoesOn S.meaning frame config.old config.new result (λ t env.
+        native_line native (new_held frame.held) (value_in t this) (map (value_in t) args.now) env) }
 {
     match native {
         Native::Print => print(config, frame, this, args),
@@ -83,13 +79,12 @@ fn run_placed<S: WorldStore>(
     this: Value,
     args: &[Value],
 ) -> Result<(), OutOfMemory>
-    requires running { config.old.state ≡ State.Running }
-    requires base { Base S.meaning config.old }
-    requires there { IsThere S.meaning config.old frame }
+    requires runs { Runs S.meaning config.old frame }
     requires native { is_placed native ≡ true }
     requires this { HasValue config.old this }
     requires args { All (HasValue config.old) args.now }
-    ensures { let t = config.new.heap.texts in OnOk result (Follows S.meaning (native_line native (new_held frame.held) (value_in t this) (map (value_in t) args.now) (env_in S.meaning config.old t frame)) config.old config.new) }
+    ensures { GoesOn S.meaning frame config.old config.new result (λ t env.
+        native_line native (new_held frame.held) (value_in t this) (map (value_in t) args.now) env) }
 {
     match native {
         Native::CharAt => char_at(config, frame, this, args),
@@ -112,13 +107,12 @@ fn run_number<S: WorldStore>(
     this: Value,
     args: &[Value],
 ) -> Result<(), OutOfMemory>
-    requires running { config.old.state ≡ State.Running }
-    requires base { Base S.meaning config.old }
-    requires there { IsThere S.meaning config.old frame }
+    requires runs { Runs S.meaning config.old frame }
     requires native { is_number native ≡ true }
     requires this { HasValue config.old this }
     requires args { All (HasValue config.old) args.now }
-    ensures { let t = config.new.heap.texts in OnOk result (Follows S.meaning (native_line native (new_held frame.held) (value_in t this) (map (value_in t) args.now) (env_in S.meaning config.old t frame)) config.old config.new) }
+    ensures { GoesOn S.meaning frame config.old config.new result (λ t env.
+        native_line native (new_held frame.held) (value_in t this) (map (value_in t) args.now) env) }
 {
     match native {
         Native::NumberConstructor => {
@@ -145,13 +139,12 @@ fn run_math<S: WorldStore>(
     this: Value,
     args: &[Value],
 ) -> Result<(), OutOfMemory>
-    requires running { config.old.state ≡ State.Running }
-    requires base { Base S.meaning config.old }
-    requires there { IsThere S.meaning config.old frame }
+    requires runs { Runs S.meaning config.old frame }
     requires native { is_math native ≡ true }
     requires this { HasValue config.old this }
     requires args { All (HasValue config.old) args.now }
-    ensures { let t = config.new.heap.texts in OnOk result (Follows S.meaning (native_line native (new_held frame.held) (value_in t this) (map (value_in t) args.now) (env_in S.meaning config.old t frame)) config.old config.new) }
+    ensures { GoesOn S.meaning frame config.old config.new result (λ t env.
+        native_line native (new_held frame.held) (value_in t this) (map (value_in t) args.now) env) }
 {
     match native {
         Native::Abs => abs(config, frame, args),

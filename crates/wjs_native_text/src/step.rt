@@ -2,18 +2,18 @@
 ghost use Rattle.std.specs.Prelude.{◌≡◌, OnOk};
 ghost use Rattle.wjs_model.specs.Contents.{completion_in, holding_in};
 ghost use Rattle.wjs_model.specs.Rest.{begin_native};
-ghost use Rattle.wjs_model.specs.Soundness.{Base, Sound, IsThere, HasCompletion};
+ghost use Rattle.wjs_model.specs.Soundness.{Sound, HasCompletion};
 ghost use Rattle.wjs_model.specs.Turns.{turn_of, turn_of_form, turn_of_native};
-ghost use Rattle.wjs_moves.specs.Parts.{env_in, begins_at, then_at};
-ghost use Rattle.wjs_moves.specs.Following.{Follows};
+ghost use Rattle.wjs_moves.specs.Parts.{begins_at, then_at};
 ghost use Rattle.wjs_moves.specs.Taking.{Turns};
+ghost use Rattle.wjs_moves.specs.Handling.{Runs, GoesOn};
 
 use crate::glue::glue_on;
 use crate::runs::run;
 use wjs_arena::Native;
 use wjs_base::OutOfMemory;
 use wjs_deeds::operand_completion;
-use wjs_model::{Completion, Config, Form, Frame, State, Turn};
+use wjs_model::{Completion, Config, Form, Frame, Turn};
 use wjs_moves::{Top, finish, take_top};
 use wjs_natives::{Progress, begin, resume};
 use wjs_store::WorldStore;
@@ -40,11 +40,9 @@ pub fn step_text<S: WorldStore>(config: &mut Config<S>) -> Result<(), OutOfMemor
 
 /// The frame begins.
 fn begin_text<S: WorldStore>(config: &mut Config<S>, frame: Frame) -> Result<(), OutOfMemory>
-    requires running { config.old.state ≡ State.Running }
-    requires base { Base S.meaning config.old }
-    requires there { IsThere S.meaning config.old frame }
+    requires runs { Runs S.meaning config.old frame }
     requires turn { turn_of_form frame.form ≡ Turn.TextNative }
-    ensures { let t = config.new.heap.texts in OnOk result (Follows S.meaning (begins_at S.meaning config.old frame frame.place t (env_in S.meaning config.old t frame)) config.old config.new) }
+    ensures { GoesOn S.meaning frame config.old config.new result (begins_at S.meaning config.old frame frame.place) }
 {
     match frame.form() {
         Form::Native(native) => begin_at(config, frame, native),
@@ -58,12 +56,10 @@ fn begin_at<S: WorldStore>(
     frame: Frame,
     native: Native,
 ) -> Result<(), OutOfMemory>
-    requires running { config.old.state ≡ State.Running }
-    requires base { Base S.meaning config.old }
-    requires there { IsThere S.meaning config.old frame }
+    requires runs { Runs S.meaning config.old frame }
     requires form { frame.form ≡ Form.Native native }
     requires turn { turn_of_native native ≡ Turn.TextNative }
-    ensures { let t = config.new.heap.texts in OnOk result (Follows S.meaning (begin_native native frame.place (holding_in t frame.held) (env_in S.meaning config.old t frame)) config.old config.new) }
+    ensures { GoesOn S.meaning frame config.old config.new result (λ t env. begin_native native frame.place (holding_in t frame.held) env) }
 {
     if frame.place() > 0 {
         return match native {
@@ -83,12 +79,10 @@ fn resume_text<S: WorldStore>(
     frame: Frame,
     completion: Completion,
 ) -> Result<(), OutOfMemory>
-    requires running { config.old.state ≡ State.Running }
-    requires base { Base S.meaning config.old }
-    requires there { IsThere S.meaning config.old frame }
+    requires runs { Runs S.meaning config.old frame }
     requires completion { HasCompletion config.old completion }
     requires turn { turn_of_form frame.form ≡ Turn.TextNative }
-    ensures { let t = config.new.heap.texts in OnOk result (Follows S.meaning (then_at S.meaning config.old frame frame.place t (env_in S.meaning config.old t frame) (completion_in t completion)) config.old config.new) }
+    ensures { GoesOn S.meaning frame config.old config.new result (λ t env. then_at S.meaning config.old frame frame.place t env (completion_in t completion)) }
 {
     let Form::Native(native) = frame.form() else {
         unreachable!()

@@ -10,11 +10,12 @@ ghost use Rattle.wjs_moves.specs.Doing.{Does};
 ghost use Rattle.wjs_moves.specs.Shortening.{Shortens};
 ghost use Rattle.wjs_heap.specs.Means.{nothing};
 ghost use Rattle.wjs_model.specs.Contents.{new_held};
-ghost use Rattle.wjs_model.specs.Soundness.{Base, IsThere, HasValue};
+ghost use Rattle.wjs_model.specs.Soundness.{Base, HasValue};
 ghost use Rattle.wjs_moves.specs.Parts.{env_in};
-ghost use Rattle.wjs_moves.specs.Following.{Follows, Later};
+ghost use Rattle.wjs_moves.specs.Following.{Later};
 ghost use Rattle.wjs_natives.specs.Converting.{converting, placed, Progresses};
 ghost use Rattle.wjs_natives.specs.Kinds.{kind_in};
+ghost use Rattle.wjs_moves.specs.Handling.{Runs, GoesOn};
 
 use crate::arguments::value_at;
 use crate::items::items_of;
@@ -22,7 +23,7 @@ use crate::kinds::{Kind, conversion_of, kind_at};
 use crate::primitives::convert_primitive;
 use wjs_arena::Native;
 use wjs_base::{OutOfMemory, Value};
-use wjs_model::{Config, Conversion, Form, Frame, State};
+use wjs_model::{Config, Conversion, Form, Frame};
 use wjs_moves::convert;
 use wjs_store::WorldStore;
 
@@ -44,14 +45,14 @@ pub(crate) fn convert_rest<S: WorldStore>(
     given: usize,
     mut at: usize,
 ) -> Result<Progress, OutOfMemory>
-    requires running { config.old.state ≡ State.Running }
-    requires base { Base S.meaning config.old }
-    requires there { IsThere S.meaning config.old frame }
+    requires runs { Runs S.meaning config.old frame }
     requires form { frame.form ≡ Form.Native native }
     requires values { All (HasValue config.old) values.items }
     requires given { at < length values.items → length values.items ≡ given + 1 }
     requires short { given < 2 ^ 63 }
-    ensures { IfOk result (λ progress. Progresses S.meaning native frame (λ t. converting native (new_held frame.held) given (map (value_in t) values.items) at (env_in S.meaning config.old t frame)) progress config.old config.new) }
+    ensures { IfOk result (λ progress. Progresses S.meaning native frame
+        (λ t. converting native (new_held frame.held) given (map (value_in t) values.items) at
+        (env_in S.meaning config.old t frame)) progress config.old config.new) }
 {
     'values: while let Some(kind) = kind_at(native, given, at) {
         let value = value_at(&values, at);
@@ -79,7 +80,11 @@ fn convert_now<S: WorldStore>(
     ensures does { OnOk result (Does S.meaning (λ t go. go nothing) (λ t. nothing) config.old config.new) }
     ensures later { OnOk result (Later S.meaning config.old config.new) }
     ensures found { IfOk result (λ answer. IfOk answer (λ converted. HasValue config.new converted)) }
-    ensures converts { IfOk result (λ answer. MatchResult answer (λ converted. (t : Table) → Grows config.new.heap.texts t → (env : Env) → Shortens (convert (kind_in kind) (value_in t value) env) (give (value_in t converted))) (λ conversion. ((t : Table) (env : Env) → convert (kind_in kind) (value_in t value) env ≡ begin_conversion conversion (value_in t value) env) × ((t : Table) → is_object (value_in t value) ≡ true))) }
+    ensures converts { IfOk result
+        (λ answer. MatchResult answer (λ converted. (t : Table) → Grows config.new.heap.texts t → (env : Env) →
+        Shortens (convert (kind_in kind) (value_in t value) env) (give (value_in t converted)))
+        (λ conversion. ((t : Table) (env : Env) → convert (kind_in kind) (value_in t value) env ≡ begin_conversion conversion (value_in t value) env) ×
+        ((t : Table) → is_object (value_in t value) ≡ true))) }
 {
     let Some(conversion) = conversion_of(kind, value) else {
         return Ok(Ok(value));
@@ -115,13 +120,13 @@ fn wait_for<S: WorldStore>(
     at: usize,
     conversion: Conversion,
 ) -> Result<(), OutOfMemory>
-    requires running { config.old.state ≡ State.Running }
-    requires base { Base S.meaning config.old }
-    requires there { IsThere S.meaning config.old frame }
+    requires runs { Runs S.meaning config.old frame }
     requires form { frame.form ≡ Form.Native native }
     requires values { All (HasValue config.old) values.now }
     requires at { at < length values.now }
-    ensures { let t = config.new.heap.texts in let env = env_in S.meaning config.old t frame in OnOk result (Follows S.meaning (Sub (begin_conversion conversion (value_in t (slice_index_or values.now at Value.Undefined)) env) (then_value (λ v. converting native (new_held frame.held) (length values.now - 1) (placed (map (value_in t) values.now) at v) (at + 1) env))) config.old config.new) }
+    ensures { GoesOn S.meaning frame config.old config.new result (λ t env.
+        Sub (begin_conversion conversion (value_in t (slice_index_or values.now at Value.Undefined)) env)
+        (then_value (λ v. converting native (new_held frame.held) (length values.now - 1) (placed (map (value_in t) values.now) at v) (at + 1) env))) }
 {
     let Ok(place) = u32::try_from(at + 1) else {
         return Err(OutOfMemory);

@@ -137,7 +137,8 @@ fn kinds_of_any(native: Native) -> Kinds
 
 /// The conversion of a value; None where it stays as it is.
 pub(crate) fn conversion_of(kind: Kind, value: Value) -> Option<Conversion>
-    ensures { MatchOption result ((t : Table) (env : Env) → line.convert (kind_in kind) (value_in t value) env ≡ give (value_in t value)) (λ conversion. (t : Table) (env : Env) → line.convert (kind_in kind) (value_in t value) env ≡ begin_conversion conversion (value_in t value) env) }
+    ensures { MatchOption result ((t : Table) (env : Env) → line.convert (kind_in kind) (value_in t value) env ≡ give (value_in t value))
+        (λ conversion. (t : Table) (env : Env) → line.convert (kind_in kind) (value_in t value) env ≡ begin_conversion conversion (value_in t value) env) }
 {
     match kind {
         Kind::AsIs => None,

@@ -29,7 +29,9 @@ pub(crate) fn convert_primitive<S: WorldStore>(
     ensures does { OnOk result (Does S.meaning (λ t go. go nothing) (λ t. nothing) config.old config.new) }
     ensures later { OnOk result (Later S.meaning config.old config.new) }
     ensures found { IfOk result (λ converted. HasValue config.new converted) }
-    ensures converts { IfOk result (λ converted. (t : Table) → Grows config.new.heap.texts t → (env : Env) → Shortens (begin_conversion conversion (value_in t value) env) (give (value_in t converted))) }
+    ensures converts { IfOk result
+        (λ converted. (t : Table) → Grows config.new.heap.texts t → (env : Env) →
+        Shortens (begin_conversion conversion (value_in t value) env) (give (value_in t converted))) }
 {
     match conversion {
         Conversion::TextFirst | Conversion::NumberFirst => Ok(value),

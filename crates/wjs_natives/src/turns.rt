@@ -4,15 +4,16 @@ ghost use Rattle.wjs_content.specs.Tables.{value_in};
 ghost use Rattle.wjs_meaning.specs.Deeds.{then_value};
 ghost use Rattle.wjs_meaning.specs.Natives.{native_of};
 ghost use Rattle.wjs_model.specs.Contents.{completion_in, holding_in};
-ghost use Rattle.wjs_model.specs.Soundness.{Base, IsThere, HasValue, HasCompletion};
+ghost use Rattle.wjs_model.specs.Soundness.{HasValue, HasCompletion};
 ghost use Rattle.wjs_model.specs.Waiting.{after_argument};
 ghost use Rattle.wjs_moves.specs.Parts.{env_in};
 ghost use Rattle.wjs_natives.specs.Converting.{Progresses};
+ghost use Rattle.wjs_moves.specs.Handling.{Runs};
 
 use crate::conversions::{Progress, convert_rest, put};
 use wjs_arena::Native;
 use wjs_base::{OutOfMemory, Value};
-use wjs_model::{Completion, Config, Form, Frame, State};
+use wjs_model::{Completion, Config, Form, Frame};
 use wjs_moves::finish;
 use wjs_store::WorldStore;
 
@@ -22,11 +23,11 @@ pub fn begin<S: WorldStore>(
     frame: Frame,
     native: Native,
 ) -> Result<Progress, OutOfMemory>
-    requires running { config.old.state ≡ State.Running }
-    requires base { Base S.meaning config.old }
-    requires there { IsThere S.meaning config.old frame }
+    requires runs { Runs S.meaning config.old frame }
     requires form { frame.form ≡ Form.Native native }
-    ensures { IfOk result (λ progress. Progresses S.meaning native frame (λ t. native_of native (holding_in t frame.held).by_new (holding_in t frame.held).values (env_in S.meaning config.old t frame)) progress config.old config.new) }
+    ensures { IfOk result (λ progress. Progresses S.meaning native frame
+        (λ t. native_of native (holding_in t frame.held).by_new (holding_in t frame.held).values
+        (env_in S.meaning config.old t frame)) progress config.old config.new) }
 {
     let args = frame.values(config.heap.arena.allocator())?;
     let given = args.len();
@@ -51,12 +52,12 @@ pub fn resume<S: WorldStore>(
     native: Native,
     completion: Completion,
 ) -> Result<Progress, OutOfMemory>
-    requires running { config.old.state ≡ State.Running }
-    requires base { Base S.meaning config.old }
-    requires there { IsThere S.meaning config.old frame }
+    requires runs { Runs S.meaning config.old frame }
     requires form { frame.form ≡ Form.Native native }
     requires completion { HasCompletion config.old completion }
-    ensures { IfOk result (λ progress. Progresses S.meaning native frame (λ t. then_value (after_argument native (holding_in t frame.held) (frame.place - 1) (env_in S.meaning config.old t frame)) (completion_in t completion)) progress config.old config.new) }
+    ensures { IfOk result (λ progress. Progresses S.meaning native frame
+        (λ t. then_value (after_argument native (holding_in t frame.held) (frame.place - 1) (env_in S.meaning config.old t frame))
+        (completion_in t completion)) progress config.old config.new) }
 {
     let Completion::Gives(value) = completion else {
         finish(config, frame, completion)?;
@@ -72,12 +73,12 @@ fn resume_with<S: WorldStore>(
     native: Native,
     value: Value,
 ) -> Result<Progress, OutOfMemory>
-    requires running { config.old.state ≡ State.Running }
-    requires base { Base S.meaning config.old }
-    requires there { IsThere S.meaning config.old frame }
+    requires runs { Runs S.meaning config.old frame }
     requires form { frame.form ≡ Form.Native native }
     requires value { HasValue config.old value }
-    ensures { IfOk result (λ progress. Progresses S.meaning native frame (λ t. after_argument native (holding_in t frame.held) (frame.place - 1) (env_in S.meaning config.old t frame) (value_in t value)) progress config.old config.new) }
+    ensures { IfOk result (λ progress. Progresses S.meaning native frame
+        (λ t. after_argument native (holding_in t frame.held) (frame.place - 1) (env_in S.meaning config.old t frame)
+        (value_in t value)) progress config.old config.new) }
 {
     let mut values = frame.values(config.heap.arena.allocator())?;
     let given = values.len().saturating_sub(1);

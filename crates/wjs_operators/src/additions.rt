@@ -1,17 +1,15 @@
 //! `+` (ECMA-262, 3rd edition, section 11.6.1): a text on either side joins the texts of both.
-ghost use Rattle.std.specs.Prelude.{◌≡◌, OnOk};
 ghost use Rattle.wjs_content.specs.Tables.{value_in};
-ghost use Rattle.wjs_meaning.specs.Errors.{give_text, give_result};
+ghost use Rattle.wjs_meaning.specs.Errors.{give_result};
 ghost use Rattle.wjs_meaning.specs.Operators as line;
 ghost use Rattle.wjs_model.specs.Contents.{value_held};
-ghost use Rattle.wjs_model.specs.Soundness.{Base, IsThere, HasValue};
-ghost use Rattle.wjs_moves.specs.Parts.{env_in};
-ghost use Rattle.wjs_moves.specs.Following.{Follows};
+ghost use Rattle.wjs_model.specs.Soundness.{HasValue};
 ghost use Rattle.wjs_operators.specs.Operating.{Operates};
+ghost use Rattle.wjs_moves.specs.Handling.{Runs, GoesOn};
 
 use wjs_base::{OutOfMemory, Value};
 use wjs_lines::{are_primitives, give_result, held_value, is_text, join, to_number};
-use wjs_model::{Config, Conversion, Frame, Held, State};
+use wjs_model::{Config, Conversion, Frame, Held};
 use wjs_moves::{convert, hold};
 use wjs_store::WorldStore;
 use wjs_tree::BinaryOperator;
@@ -24,13 +22,11 @@ pub(crate) fn add<S: WorldStore>(
     left: Value,
     right: Value,
 ) -> Result<(), OutOfMemory>
-    requires running { config.old.state ≡ State.Running }
-    requires base { Base S.meaning config.old }
-    requires there { IsThere S.meaning config.old frame }
+    requires runs { Runs S.meaning config.old frame }
     requires operates { Operates S.meaning config.old frame BinaryOperator.Add }
     requires left { HasValue config.old left }
     requires right { HasValue config.old right }
-    ensures { let t = config.new.heap.texts in let env = env_in S.meaning config.old t frame in OnOk result (Follows S.meaning (line.add_values (value_in t left) (value_in t right) env) config.old config.new) }
+    ensures { GoesOn S.meaning frame config.old config.new result (λ t env. line.add_values (value_in t left) (value_in t right) env) }
 {
     if are_primitives(left, right) {
         added(config, frame, left, right)
@@ -46,13 +42,11 @@ fn add_objects<S: WorldStore>(
     left: Value,
     right: Value,
 ) -> Result<(), OutOfMemory>
-    requires running { config.old.state ≡ State.Running }
-    requires base { Base S.meaning config.old }
-    requires there { IsThere S.meaning config.old frame }
+    requires runs { Runs S.meaning config.old frame }
     requires operates { Operates S.meaning config.old frame BinaryOperator.Add }
     requires left { HasValue config.old left }
     requires right { HasValue config.old right }
-    ensures { let t = config.new.heap.texts in let env = env_in S.meaning config.old t frame in OnOk result (Follows S.meaning (line.add_values (value_in t left) (value_in t right) env) config.old config.new) }
+    ensures { GoesOn S.meaning frame config.old config.new result (λ t env. line.add_values (value_in t left) (value_in t right) env) }
 {
     let mut frame = frame;
     hold(&mut frame, Held::Value(right))?;
@@ -65,12 +59,10 @@ pub(crate) fn add_right<S: WorldStore>(
     frame: Frame,
     primitive: Value,
 ) -> Result<(), OutOfMemory>
-    requires running { config.old.state ≡ State.Running }
-    requires base { Base S.meaning config.old }
-    requires there { IsThere S.meaning config.old frame }
+    requires runs { Runs S.meaning config.old frame }
     requires operates { Operates S.meaning config.old frame BinaryOperator.Add }
     requires value { HasValue config.old primitive }
-    ensures { let t = config.new.heap.texts in let env = env_in S.meaning config.old t frame in OnOk result (Follows S.meaning (line.add_first (value_in t (value_held frame.held)) env (value_in t primitive)) config.old config.new) }
+    ensures { GoesOn S.meaning frame config.old config.new result (λ t env. line.add_first (value_in t (value_held frame.held)) env (value_in t primitive)) }
 {
     let right = held_value(config, &frame);
     let mut frame = frame;
@@ -86,12 +78,10 @@ pub(crate) fn added<S: WorldStore>(
     left: Value,
     right: Value,
 ) -> Result<(), OutOfMemory>
-    requires running { config.old.state ≡ State.Running }
-    requires base { Base S.meaning config.old }
-    requires there { IsThere S.meaning config.old frame }
+    requires runs { Runs S.meaning config.old frame }
     requires left { HasValue config.old left }
     requires right { HasValue config.old right }
-    ensures { let t = config.new.heap.texts in let env = env_in S.meaning config.old t frame in OnOk result (Follows S.meaning (line.add_second (value_in t left) env (value_in t right)) config.old config.new) }
+    ensures { GoesOn S.meaning frame config.old config.new result (λ t env. line.add_second (value_in t left) env (value_in t right)) }
 {
     if is_text(left) || is_text(right) {
         return join(config, frame, left, right);

@@ -1,17 +1,15 @@
 //! Operators between two operands (ECMA-262, 3rd edition, sections 11.5 to 11.11).
-ghost use Rattle.std.specs.Prelude.{◌≡◌, OnOk};
 ghost use Rattle.wjs_content.specs.Tables.{value_in};
 ghost use Rattle.wjs_meaning.specs.Deeds.{Eval, AtExpr, then_value};
 ghost use Rattle.wjs_meaning.specs.Expressions as line;
 ghost use Rattle.wjs_model.specs.Contents.{value_held};
-ghost use Rattle.wjs_model.specs.Soundness.{Base, IsThere, HasValue, StandsHere};
-ghost use Rattle.wjs_moves.specs.Parts.{env_in, node_now};
-ghost use Rattle.wjs_moves.specs.Following.{Follows};
+ghost use Rattle.wjs_model.specs.Soundness.{HasValue, StandsHere};
+ghost use Rattle.wjs_moves.specs.Handling.{Runs, IsExpr, GoesOn};
 
 use crate::operations::operate;
 use wjs_base::{OutOfMemory, Value};
 use wjs_lines::{held_value, to_boolean};
-use wjs_model::{Completion, Config, Form, Frame, Held, State};
+use wjs_model::{Completion, Config, Frame, Held};
 use wjs_moves::{Part, enter, enter_last, finish, hold};
 use wjs_store::WorldStore;
 use wjs_tree::{BinaryOperator, Node, NodeId};
@@ -24,12 +22,9 @@ pub fn binary_start<S: WorldStore>(
     operator: BinaryOperator,
     right: NodeId,
 ) -> Result<(), OutOfMemory>
-    requires running { config.old.state ≡ State.Running }
-    requires base { Base S.meaning config.old }
-    requires there { IsThere S.meaning config.old frame }
-    requires form { frame.form ≡ Form.Expr }
-    requires node { node_now S.meaning config.old frame ≡ Node.Binary left operator right }
-    ensures { let t = config.new.heap.texts in let env = env_in S.meaning config.old t frame in OnOk result (Follows S.meaning (Eval (AtExpr left.0) env (then_value (line.binary_left operator right.0 env))) config.old config.new) }
+    requires runs { Runs S.meaning config.old frame }
+    requires node { IsExpr S.meaning config.old frame (Node.Binary left operator right) }
+    ensures { GoesOn S.meaning frame config.old config.new result (λ t env. Eval (AtExpr left.0) env (then_value (line.binary_left operator right.0 env))) }
 {
     enter(config, frame, 1, Part::Expr(left))
 }
@@ -45,13 +40,10 @@ pub fn binary_left<S: WorldStore>(
     right: NodeId,
     value: Value,
 ) -> Result<(), OutOfMemory>
-    requires running { config.old.state ≡ State.Running }
-    requires base { Base S.meaning config.old }
-    requires there { IsThere S.meaning config.old frame }
-    requires form { frame.form ≡ Form.Expr }
-    requires node { node_now S.meaning config.old frame ≡ Node.Binary left operator right }
+    requires runs { Runs S.meaning config.old frame }
+    requires node { IsExpr S.meaning config.old frame (Node.Binary left operator right) }
     requires value { HasValue config.old value }
-    ensures { let t = config.new.heap.texts in let env = env_in S.meaning config.old t frame in OnOk result (Follows S.meaning (line.binary_left operator right.0 env (value_in t value)) config.old config.new) }
+    ensures { GoesOn S.meaning frame config.old config.new result (λ t env. line.binary_left operator right.0 env (value_in t value)) }
 {
     match operator {
         BinaryOperator::And => and_left(config, frame, right, value),
@@ -70,13 +62,11 @@ fn hold_left<S: WorldStore>(
     right: NodeId,
     value: Value,
 ) -> Result<(), OutOfMemory>
-    requires running { config.old.state ≡ State.Running }
-    requires base { Base S.meaning config.old }
-    requires there { IsThere S.meaning config.old frame }
-    requires form { frame.form ≡ Form.Expr }
-    requires node { node_now S.meaning config.old frame ≡ Node.Binary left operator right }
+    requires runs { Runs S.meaning config.old frame }
+    requires node { IsExpr S.meaning config.old frame (Node.Binary left operator right) }
     requires value { HasValue config.old value }
-    ensures { let t = config.new.heap.texts in let env = env_in S.meaning config.old t frame in OnOk result (Follows S.meaning (Eval (AtExpr right.0) env (then_value (line.binary_right operator (value_in t value) env))) config.old config.new) }
+    ensures { GoesOn S.meaning frame config.old config.new result (λ t env.
+        Eval (AtExpr right.0) env (then_value (line.binary_right operator (value_in t value) env))) }
 {
     let mut frame = frame;
     hold(&mut frame, Held::Value(value))?;
@@ -90,12 +80,10 @@ fn and_left<S: WorldStore>(
     right: NodeId,
     value: Value,
 ) -> Result<(), OutOfMemory>
-    requires running { config.old.state ≡ State.Running }
-    requires base { Base S.meaning config.old }
-    requires there { IsThere S.meaning config.old frame }
+    requires runs { Runs S.meaning config.old frame }
     requires part { StandsHere config.old frame right }
     requires value { HasValue config.old value }
-    ensures { let t = config.new.heap.texts in let env = env_in S.meaning config.old t frame in OnOk result (Follows S.meaning (line.and_left right.0 env (value_in t value)) config.old config.new) }
+    ensures { GoesOn S.meaning frame config.old config.new result (λ t env. line.and_left right.0 env (value_in t value)) }
 {
     if to_boolean(config, value) {
         enter_last(config, frame, Part::Expr(right))
@@ -111,12 +99,10 @@ fn or_left<S: WorldStore>(
     right: NodeId,
     value: Value,
 ) -> Result<(), OutOfMemory>
-    requires running { config.old.state ≡ State.Running }
-    requires base { Base S.meaning config.old }
-    requires there { IsThere S.meaning config.old frame }
+    requires runs { Runs S.meaning config.old frame }
     requires part { StandsHere config.old frame right }
     requires value { HasValue config.old value }
-    ensures { let t = config.new.heap.texts in let env = env_in S.meaning config.old t frame in OnOk result (Follows S.meaning (line.or_left right.0 env (value_in t value)) config.old config.new) }
+    ensures { GoesOn S.meaning frame config.old config.new result (λ t env. line.or_left right.0 env (value_in t value)) }
 {
     if to_boolean(config, value) {
         finish(config, frame, Completion::Gives(value))
@@ -135,13 +121,11 @@ pub fn binary_right<S: WorldStore>(
     right: NodeId,
     value: Value,
 ) -> Result<(), OutOfMemory>
-    requires running { config.old.state ≡ State.Running }
-    requires base { Base S.meaning config.old }
-    requires there { IsThere S.meaning config.old frame }
-    requires form { frame.form ≡ Form.Expr }
-    requires node { node_now S.meaning config.old frame ≡ Node.Binary left operator right }
+    requires runs { Runs S.meaning config.old frame }
+    requires node { IsExpr S.meaning config.old frame (Node.Binary left operator right) }
     requires value { HasValue config.old value }
-    ensures { let t = config.new.heap.texts in let env = env_in S.meaning config.old t frame in OnOk result (Follows S.meaning (line.binary_right operator (value_in t (value_held frame.held)) env (value_in t value)) config.old config.new) }
+    ensures { GoesOn S.meaning frame config.old config.new result (λ t env.
+        line.binary_right operator (value_in t (value_held frame.held)) env (value_in t value)) }
 {
     let (_left, _right) = (left, right);
     let first = held_value(config, &frame);

@@ -1,17 +1,16 @@
 //! Comparisons by order (ECMA-262, 3rd edition, sections 11.8.1 to 11.8.5).
-ghost use Rattle.std.specs.Prelude.{◌≡◌, true, false, not, option_map, unwrap_or, OnOk};
+ghost use Rattle.std.specs.Prelude.{◌≡◌, true, false, not, option_map, unwrap_or};
 ghost use Rattle.wjs_base.specs.Text.{Table, Grows};
 ghost use Rattle.wjs_content.specs.Tables.{value_in};
 ghost use Rattle.wjs_meaning.specs.Operators as line;
 ghost use Rattle.wjs_model.specs.Contents.{value_held};
-ghost use Rattle.wjs_model.specs.Soundness.{Base, IsThere, HasValue};
-ghost use Rattle.wjs_moves.specs.Parts.{env_in};
-ghost use Rattle.wjs_moves.specs.Following.{Follows};
+ghost use Rattle.wjs_model.specs.Soundness.{Base, HasValue};
 ghost use Rattle.wjs_operators.specs.Operating.{Operates, is_comparison};
+ghost use Rattle.wjs_moves.specs.Handling.{Runs, GoesOn};
 
 use wjs_base::{OutOfMemory, Value};
 use wjs_lines::{are_primitives, held_value, less_than};
-use wjs_model::{Completion, Config, Conversion, Frame, Held, State};
+use wjs_model::{Completion, Config, Conversion, Frame, Held};
 use wjs_moves::{convert, finish, hold};
 use wjs_store::WorldStore;
 use wjs_tree::BinaryOperator;
@@ -25,14 +24,12 @@ pub(crate) fn compare<S: WorldStore>(
     left: Value,
     right: Value,
 ) -> Result<(), OutOfMemory>
-    requires running { config.old.state ≡ State.Running }
-    requires base { Base S.meaning config.old }
-    requires there { IsThere S.meaning config.old frame }
+    requires runs { Runs S.meaning config.old frame }
     requires operates { Operates S.meaning config.old frame operator }
     requires comparison { is_comparison operator ≡ true }
     requires left { HasValue config.old left }
     requires right { HasValue config.old right }
-    ensures { let t = config.new.heap.texts in let env = env_in S.meaning config.old t frame in OnOk result (Follows S.meaning (line.compare_values operator (value_in t left) (value_in t right) env) config.old config.new) }
+    ensures { GoesOn S.meaning frame config.old config.new result (λ t env. line.compare_values operator (value_in t left) (value_in t right) env) }
 {
     if are_primitives(left, right) {
         compared(config, frame, operator, left, right)
@@ -49,14 +46,12 @@ fn compare_objects<S: WorldStore>(
     left: Value,
     right: Value,
 ) -> Result<(), OutOfMemory>
-    requires running { config.old.state ≡ State.Running }
-    requires base { Base S.meaning config.old }
-    requires there { IsThere S.meaning config.old frame }
+    requires runs { Runs S.meaning config.old frame }
     requires operates { Operates S.meaning config.old frame operator }
     requires comparison { is_comparison operator ≡ true }
     requires left { HasValue config.old left }
     requires right { HasValue config.old right }
-    ensures { let t = config.new.heap.texts in let env = env_in S.meaning config.old t frame in OnOk result (Follows S.meaning (line.compare_values operator (value_in t left) (value_in t right) env) config.old config.new) }
+    ensures { GoesOn S.meaning frame config.old config.new result (λ t env. line.compare_values operator (value_in t left) (value_in t right) env) }
 {
     let mut frame = frame;
     hold(&mut frame, Held::Value(right))?;
@@ -70,13 +65,12 @@ pub(crate) fn compare_right<S: WorldStore>(
     operator: BinaryOperator,
     primitive: Value,
 ) -> Result<(), OutOfMemory>
-    requires running { config.old.state ≡ State.Running }
-    requires base { Base S.meaning config.old }
-    requires there { IsThere S.meaning config.old frame }
+    requires runs { Runs S.meaning config.old frame }
     requires operates { Operates S.meaning config.old frame operator }
     requires comparison { is_comparison operator ≡ true }
     requires value { HasValue config.old primitive }
-    ensures { let t = config.new.heap.texts in let env = env_in S.meaning config.old t frame in OnOk result (Follows S.meaning (line.compare_first operator (value_in t (value_held frame.held)) env (value_in t primitive)) config.old config.new) }
+    ensures { GoesOn S.meaning frame config.old config.new result (λ t env.
+        line.compare_first operator (value_in t (value_held frame.held)) env (value_in t primitive)) }
 {
     let right = held_value(config, &frame);
     let mut frame = frame;
@@ -93,12 +87,10 @@ pub(crate) fn compared<S: WorldStore>(
     left: Value,
     right: Value,
 ) -> Result<(), OutOfMemory>
-    requires running { config.old.state ≡ State.Running }
-    requires base { Base S.meaning config.old }
-    requires there { IsThere S.meaning config.old frame }
+    requires runs { Runs S.meaning config.old frame }
     requires left { HasValue config.old left }
     requires right { HasValue config.old right }
-    ensures { let t = config.new.heap.texts in let env = env_in S.meaning config.old t frame in OnOk result (Follows S.meaning (line.compare_second operator (value_in t left) (value_in t right)) config.old config.new) }
+    ensures { GoesOn S.meaning frame config.old config.new result (λ t env. line.compare_second operator (value_in t left) (value_in t right)) }
 {
     let truth = is_so(config, operator, left, right);
     finish(config, frame, Completion::Gives(Value::Bool(truth)))

@@ -1,5 +1,5 @@
 //! Equality (ECMA-262, 3rd edition, section 11.9): an object against a primitive is converted while the frame waits.
-ghost use Rattle.std.specs.Prelude.{◌≡◌, true, false, OnOk};
+ghost use Rattle.std.specs.Prelude.{◌≡◌, true, false};
 ghost use Rattle.wjs_content.specs.Tables.{value_in};
 ghost use Rattle.wjs_base.specs.Text.{Table};
 ghost use Rattle.wjs_content.specs.Conversions as conversions;
@@ -7,14 +7,13 @@ ghost use Rattle.wjs_meaning.specs.Conversions.{HintNumber, to_primitive};
 ghost use Rattle.wjs_meaning.specs.Deeds.{Sub, then_value};
 ghost use Rattle.wjs_meaning.specs.Operators as line;
 ghost use Rattle.wjs_model.specs.Contents.{value_held};
-ghost use Rattle.wjs_model.specs.Soundness.{Base, IsThere, HasValue};
-ghost use Rattle.wjs_moves.specs.Parts.{env_in};
-ghost use Rattle.wjs_moves.specs.Following.{Follows};
+ghost use Rattle.wjs_model.specs.Soundness.{HasValue};
 ghost use Rattle.wjs_operators.specs.Operating.{Operates, equality, tells, equal_with};
+ghost use Rattle.wjs_moves.specs.Handling.{Runs, IsRunning, GoesOn};
 
 use wjs_base::{OutOfMemory, Value};
 use wjs_lines::{held_value, is_nullish, is_object, loosely_equal, strictly_equal};
-use wjs_model::{Completion, Config, Conversion, Frame, Held, State};
+use wjs_model::{Completion, Config, Conversion, Frame, Held};
 use wjs_moves::{convert, finish, hold};
 use wjs_store::WorldStore;
 use wjs_tree::BinaryOperator;
@@ -28,11 +27,10 @@ pub(crate) fn equal_strictly<S: WorldStore>(
     left: Value,
     right: Value,
 ) -> Result<(), OutOfMemory>
-    requires running { config.old.state ≡ State.Running }
-    requires base { Base S.meaning config.old }
+    requires running { IsRunning S.meaning config.old }
     requires left { HasValue config.old left }
     requires right { HasValue config.old right }
-    ensures { let t = config.new.heap.texts in OnOk result (Follows S.meaning (tells negated (conversions.strictly_equal (value_in t left) (value_in t right))) config.old config.new) }
+    ensures { GoesOn S.meaning frame config.old config.new result (λ t env. tells negated (conversions.strictly_equal (value_in t left) (value_in t right))) }
 {
     let equal = strictly_equal(config, left, right);
     tell(config, frame, negated, equal)
@@ -46,9 +44,8 @@ fn tell<S: WorldStore>(
     negated: bool,
     truth: bool,
 ) -> Result<(), OutOfMemory>
-    requires running { config.old.state ≡ State.Running }
-    requires base { Base S.meaning config.old }
-    ensures { let t = config.new.heap.texts in OnOk result (Follows S.meaning (tells negated truth) config.old config.new) }
+    requires running { IsRunning S.meaning config.old }
+    ensures { GoesOn S.meaning frame config.old config.new result (λ t env. tells negated truth) }
 {
     let told = if negated { !truth } else { truth };
     finish(config, frame, Completion::Gives(Value::Bool(told)))
@@ -63,13 +60,11 @@ pub(crate) fn equal<S: WorldStore>(
     left: Value,
     right: Value,
 ) -> Result<(), OutOfMemory>
-    requires running { config.old.state ≡ State.Running }
-    requires base { Base S.meaning config.old }
-    requires there { IsThere S.meaning config.old frame }
+    requires runs { Runs S.meaning config.old frame }
     requires operates { Operates S.meaning config.old frame (equality negated) }
     requires left { HasValue config.old left }
     requires right { HasValue config.old right }
-    ensures { let t = config.new.heap.texts in let env = env_in S.meaning config.old t frame in OnOk result (Follows S.meaning (line.equal_values (value_in t left) (value_in t right) env (tells negated)) config.old config.new) }
+    ensures { GoesOn S.meaning frame config.old config.new result (λ t env. line.equal_values (value_in t left) (value_in t right) env (tells negated)) }
 {
     if is_object(left) {
         object_equal(config, frame, negated, left, right)
@@ -86,14 +81,12 @@ fn object_equal<S: WorldStore>(
     left: Value,
     right: Value,
 ) -> Result<(), OutOfMemory>
-    requires running { config.old.state ≡ State.Running }
-    requires base { Base S.meaning config.old }
-    requires there { IsThere S.meaning config.old frame }
+    requires runs { Runs S.meaning config.old frame }
     requires operates { Operates S.meaning config.old frame (equality negated) }
     requires left { HasValue config.old left }
     requires right { HasValue config.old right }
     requires object { (t : Table) → conversions.is_object (value_in t left) ≡ true }
-    ensures { let t = config.new.heap.texts in let env = env_in S.meaning config.old t frame in OnOk result (Follows S.meaning (line.equal_values (value_in t left) (value_in t right) env (tells negated)) config.old config.new) }
+    ensures { GoesOn S.meaning frame config.old config.new result (λ t env. line.equal_values (value_in t left) (value_in t right) env (tells negated)) }
 {
     if is_object(right) {
         equal_strictly(config, frame, negated, left, right)
@@ -111,14 +104,12 @@ fn primitive_equal<S: WorldStore>(
     left: Value,
     right: Value,
 ) -> Result<(), OutOfMemory>
-    requires running { config.old.state ≡ State.Running }
-    requires base { Base S.meaning config.old }
-    requires there { IsThere S.meaning config.old frame }
+    requires runs { Runs S.meaning config.old frame }
     requires operates { Operates S.meaning config.old frame (equality negated) }
     requires left { HasValue config.old left }
     requires right { HasValue config.old right }
     requires primitive { (t : Table) → conversions.is_object (value_in t left) ≡ false }
-    ensures { let t = config.new.heap.texts in let env = env_in S.meaning config.old t frame in OnOk result (Follows S.meaning (line.equal_values (value_in t left) (value_in t right) env (tells negated)) config.old config.new) }
+    ensures { GoesOn S.meaning frame config.old config.new result (λ t env. line.equal_values (value_in t left) (value_in t right) env (tells negated)) }
 {
     if is_object(right) {
         equal_object(config, frame, negated, right, left)
@@ -136,11 +127,10 @@ fn equal_primitives<S: WorldStore>(
     left: Value,
     right: Value,
 ) -> Result<(), OutOfMemory>
-    requires running { config.old.state ≡ State.Running }
-    requires base { Base S.meaning config.old }
+    requires running { IsRunning S.meaning config.old }
     requires left { HasValue config.old left }
     requires right { HasValue config.old right }
-    ensures { let t = config.new.heap.texts in OnOk result (Follows S.meaning (tells negated (conversions.loosely_equal (value_in t left) (value_in t right))) config.old config.new) }
+    ensures { GoesOn S.meaning frame config.old config.new result (λ t env. tells negated (conversions.loosely_equal (value_in t left) (value_in t right))) }
 {
     let equal = loosely_equal(config, left, right);
     tell(config, frame, negated, equal)
@@ -154,13 +144,11 @@ fn equal_object<S: WorldStore>(
     object: Value,
     other: Value,
 ) -> Result<(), OutOfMemory>
-    requires running { config.old.state ≡ State.Running }
-    requires base { Base S.meaning config.old }
-    requires there { IsThere S.meaning config.old frame }
+    requires runs { Runs S.meaning config.old frame }
     requires operates { Operates S.meaning config.old frame (equality negated) }
     requires object { HasValue config.old object }
     requires other { HasValue config.old other }
-    ensures { let t = config.new.heap.texts in let env = env_in S.meaning config.old t frame in OnOk result (Follows S.meaning (equal_with (value_in t object) (value_in t other) env (tells negated)) config.old config.new) }
+    ensures { GoesOn S.meaning frame config.old config.new result (λ t env. equal_with (value_in t object) (value_in t other) env (tells negated)) }
 {
     if is_nullish(other) {
         tell(config, frame, negated, false)
@@ -177,13 +165,12 @@ fn equal_converted<S: WorldStore>(
     object: Value,
     other: Value,
 ) -> Result<(), OutOfMemory>
-    requires running { config.old.state ≡ State.Running }
-    requires base { Base S.meaning config.old }
-    requires there { IsThere S.meaning config.old frame }
+    requires runs { Runs S.meaning config.old frame }
     requires operates { Operates S.meaning config.old frame (equality negated) }
     requires object { HasValue config.old object }
     requires other { HasValue config.old other }
-    ensures { let t = config.new.heap.texts in let env = env_in S.meaning config.old t frame in OnOk result (Follows S.meaning (Sub (to_primitive HintNumber (value_in t object) env) (then_value (line.equal_primitive (value_in t other) (tells negated)))) config.old config.new) }
+    ensures { GoesOn S.meaning frame config.old config.new result (λ t env.
+        Sub (to_primitive HintNumber (value_in t object) env) (then_value (line.equal_primitive (value_in t other) (tells negated)))) }
 {
     let mut frame = frame;
     hold(&mut frame, Held::Value(other))?;
@@ -197,11 +184,10 @@ pub(crate) fn equal_after<S: WorldStore>(
     negated: bool,
     primitive: Value,
 ) -> Result<(), OutOfMemory>
-    requires running { config.old.state ≡ State.Running }
-    requires base { Base S.meaning config.old }
-    requires there { IsThere S.meaning config.old frame }
+    requires runs { Runs S.meaning config.old frame }
     requires value { HasValue config.old primitive }
-    ensures { let t = config.new.heap.texts in OnOk result (Follows S.meaning (line.equal_primitive (value_in t (value_held frame.held)) (tells negated) (value_in t primitive)) config.old config.new) }
+    ensures { GoesOn S.meaning frame config.old config.new result (λ t env.
+        line.equal_primitive (value_in t (value_held frame.held)) (tells negated) (value_in t primitive)) }
 {
     let other = held_value(config, &frame);
     equal_primitives(config, frame, negated, primitive, other)

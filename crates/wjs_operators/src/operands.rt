@@ -1,20 +1,19 @@
 //! Operators on two numbers (ECMA-262, 3rd edition, sections 11.5, 11.6.3, 11.7 and 11.10): primitives are converted at once,
 //! objects while the frame waits.
-ghost use Rattle.std.specs.Prelude.{◌≡◌, true, OnOk};
+ghost use Rattle.std.specs.Prelude.{◌≡◌, true};
 ghost use Rattle.wjs_num.specs.Exact.{answer};
 ghost use Rattle.wjs_base.specs.Text.{Table};
 ghost use Rattle.wjs_content.specs.Tables.{value_in};
 ghost use Rattle.wjs_meaning.specs.NativesOfObjects.{whole_of};
 ghost use Rattle.wjs_meaning.specs.Operators as line;
 ghost use Rattle.wjs_model.specs.Contents.{value_held};
-ghost use Rattle.wjs_model.specs.Soundness.{Base, IsThere, HasValue};
-ghost use Rattle.wjs_moves.specs.Parts.{env_in};
-ghost use Rattle.wjs_moves.specs.Following.{Follows};
+ghost use Rattle.wjs_model.specs.Soundness.{HasValue};
 ghost use Rattle.wjs_operators.specs.Operating.{Operates, is_arithmetic};
+ghost use Rattle.wjs_moves.specs.Handling.{Runs, IsRunning, GoesOn};
 
 use wjs_base::{OutOfMemory, Value, Whole};
 use wjs_lines::{are_primitives, give_result, held_value, to_number};
-use wjs_model::{Config, Conversion, Frame, Held, State};
+use wjs_model::{Config, Conversion, Frame, Held};
 use wjs_moves::{convert, hold};
 use wjs_num::{NumFault, add, bit_and, bit_or, bit_xor, div, mul, rem, shl, shr, sub, ushr};
 use wjs_store::WorldStore;
@@ -49,14 +48,12 @@ pub(crate) fn calculate<S: WorldStore>(
     left: Value,
     right: Value,
 ) -> Result<(), OutOfMemory>
-    requires running { config.old.state ≡ State.Running }
-    requires base { Base S.meaning config.old }
-    requires there { IsThere S.meaning config.old frame }
+    requires runs { Runs S.meaning config.old frame }
     requires operates { Operates S.meaning config.old frame operator }
     requires arithmetic { is_arithmetic operator ≡ true }
     requires left { HasValue config.old left }
     requires right { HasValue config.old right }
-    ensures { let t = config.new.heap.texts in let env = env_in S.meaning config.old t frame in OnOk result (Follows S.meaning (line.arithmetic_values operator (value_in t left) (value_in t right) env) config.old config.new) }
+    ensures { GoesOn S.meaning frame config.old config.new result (λ t env. line.arithmetic_values operator (value_in t left) (value_in t right) env) }
 {
     if are_primitives(left, right) {
         let x = to_number(config, left);
@@ -75,14 +72,12 @@ fn calculate_objects<S: WorldStore>(
     left: Value,
     right: Value,
 ) -> Result<(), OutOfMemory>
-    requires running { config.old.state ≡ State.Running }
-    requires base { Base S.meaning config.old }
-    requires there { IsThere S.meaning config.old frame }
+    requires runs { Runs S.meaning config.old frame }
     requires operates { Operates S.meaning config.old frame operator }
     requires arithmetic { is_arithmetic operator ≡ true }
     requires left { HasValue config.old left }
     requires right { HasValue config.old right }
-    ensures { let t = config.new.heap.texts in let env = env_in S.meaning config.old t frame in OnOk result (Follows S.meaning (line.arithmetic_values operator (value_in t left) (value_in t right) env) config.old config.new) }
+    ensures { GoesOn S.meaning frame config.old config.new result (λ t env. line.arithmetic_values operator (value_in t left) (value_in t right) env) }
 {
     let mut frame = frame;
     hold(&mut frame, Held::Value(right))?;
@@ -96,12 +91,11 @@ pub(crate) fn calculate_right<S: WorldStore>(
     operator: BinaryOperator,
     number: Whole,
 ) -> Result<(), OutOfMemory>
-    requires running { config.old.state ≡ State.Running }
-    requires base { Base S.meaning config.old }
-    requires there { IsThere S.meaning config.old frame }
+    requires runs { Runs S.meaning config.old frame }
     requires operates { Operates S.meaning config.old frame operator }
     requires arithmetic { is_arithmetic operator ≡ true }
-    ensures { let t = config.new.heap.texts in let env = env_in S.meaning config.old t frame in OnOk result (Follows S.meaning (line.arithmetic_first operator (value_in t (value_held frame.held)) env number.number) config.old config.new) }
+    ensures { GoesOn S.meaning frame config.old config.new result (λ t env.
+        line.arithmetic_first operator (value_in t (value_held frame.held)) env number.number) }
 {
     let right = held_value(config, &frame);
     let mut frame = frame;
@@ -118,9 +112,8 @@ pub(crate) fn calculated<S: WorldStore>(
     x: Whole,
     y: Whole,
 ) -> Result<(), OutOfMemory>
-    requires running { config.old.state ≡ State.Running }
-    requires base { Base S.meaning config.old }
-    ensures { let t = config.new.heap.texts in let env = env_in S.meaning config.old t frame in OnOk result (Follows S.meaning (line.arithmetic_second operator x.number env y.number) config.old config.new) }
+    requires running { IsRunning S.meaning config.old }
+    ensures { GoesOn S.meaning frame config.old config.new result (λ t env. line.arithmetic_second operator x.number env y.number) }
 {
     give_result(config, frame, arithmetic(operator, x, y))
 }

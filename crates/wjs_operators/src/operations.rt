@@ -1,16 +1,15 @@
 //! The operation of an operator on two values (ECMA-262, 3rd edition, sections 11.5 to 11.10), and what follows the
 //! conversions of its operands.
-ghost use Rattle.std.specs.Prelude.{◌≡◌, true, OnOk};
+ghost use Rattle.std.specs.Prelude.{◌≡◌, true};
 ghost use Rattle.wjs_content.specs.Tables.{value_in};
 ghost use Rattle.wjs_content.specs.Values.{Number};
 ghost use Rattle.wjs_meaning.specs.Deeds.{Gives};
 ghost use Rattle.wjs_meaning.specs.Operators as line;
 ghost use Rattle.wjs_model.specs.Contents.{holding_in};
 ghost use Rattle.wjs_model.specs.Waiting.{after_operand};
-ghost use Rattle.wjs_model.specs.Soundness.{Base, IsThere, HasValue};
-ghost use Rattle.wjs_moves.specs.Parts.{env_in};
-ghost use Rattle.wjs_moves.specs.Following.{Follows};
+ghost use Rattle.wjs_model.specs.Soundness.{HasValue};
 ghost use Rattle.wjs_operators.specs.Operating.{Operates, is_arithmetic, is_comparison};
+ghost use Rattle.wjs_moves.specs.Handling.{Runs, GoesOn};
 
 use crate::additions::{add, add_right, added};
 use crate::comparisons::{compare, compare_right, compared};
@@ -19,7 +18,7 @@ use crate::operands::{calculate, calculate_right, calculated, held_number};
 use crate::relations::{in_after, in_values, instance_values};
 use wjs_base::{OutOfMemory, Value, Whole};
 use wjs_lines::held_value;
-use wjs_model::{Completion, Config, Frame, State};
+use wjs_model::{Completion, Config, Frame};
 use wjs_moves::finish;
 use wjs_store::WorldStore;
 use wjs_tree::BinaryOperator;
@@ -34,13 +33,11 @@ pub fn operate<S: WorldStore>(
     left: Value,
     right: Value,
 ) -> Result<(), OutOfMemory>
-    requires running { config.old.state ≡ State.Running }
-    requires base { Base S.meaning config.old }
-    requires there { IsThere S.meaning config.old frame }
+    requires runs { Runs S.meaning config.old frame }
     requires operates { Operates S.meaning config.old frame operator }
     requires left { HasValue config.old left }
     requires right { HasValue config.old right }
-    ensures { let t = config.new.heap.texts in let env = env_in S.meaning config.old t frame in OnOk result (Follows S.meaning (line.operate operator (value_in t left) (value_in t right) env) config.old config.new) }
+    ensures { GoesOn S.meaning frame config.old config.new result (λ t env. line.operate operator (value_in t left) (value_in t right) env) }
 {
     match operator {
         BinaryOperator::Add => add(config, frame, left, right),
@@ -71,12 +68,11 @@ pub fn operand_after<S: WorldStore>(
     operator: BinaryOperator,
     value: Value,
 ) -> Result<(), OutOfMemory>
-    requires running { config.old.state ≡ State.Running }
-    requires base { Base S.meaning config.old }
-    requires there { IsThere S.meaning config.old frame }
+    requires runs { Runs S.meaning config.old frame }
     requires operates { Operates S.meaning config.old frame operator }
     requires value { HasValue config.old value }
-    ensures { let t = config.new.heap.texts in let env = env_in S.meaning config.old t frame in OnOk result (Follows S.meaning (after_operand operator frame.place (holding_in t frame.held) env (Gives (value_in t value))) config.old config.new) }
+    ensures { GoesOn S.meaning frame config.old config.new result (λ t env.
+        after_operand operator frame.place (holding_in t frame.held) env (Gives (value_in t value))) }
 {
     match operator {
         BinaryOperator::Add => add_after(config, frame, value),
@@ -102,12 +98,11 @@ fn add_after<S: WorldStore>(
     frame: Frame,
     value: Value,
 ) -> Result<(), OutOfMemory>
-    requires running { config.old.state ≡ State.Running }
-    requires base { Base S.meaning config.old }
-    requires there { IsThere S.meaning config.old frame }
+    requires runs { Runs S.meaning config.old frame }
     requires operates { Operates S.meaning config.old frame BinaryOperator.Add }
     requires value { HasValue config.old value }
-    ensures { let t = config.new.heap.texts in let env = env_in S.meaning config.old t frame in OnOk result (Follows S.meaning (after_operand BinaryOperator.Add frame.place (holding_in t frame.held) env (Gives (value_in t value))) config.old config.new) }
+    ensures { GoesOn S.meaning frame config.old config.new result (λ t env.
+        after_operand BinaryOperator.Add frame.place (holding_in t frame.held) env (Gives (value_in t value))) }
 {
     if frame.place() == 3 {
         return add_right(config, frame, value);
@@ -123,13 +118,12 @@ fn compare_after<S: WorldStore>(
     operator: BinaryOperator,
     value: Value,
 ) -> Result<(), OutOfMemory>
-    requires running { config.old.state ≡ State.Running }
-    requires base { Base S.meaning config.old }
-    requires there { IsThere S.meaning config.old frame }
+    requires runs { Runs S.meaning config.old frame }
     requires operates { Operates S.meaning config.old frame operator }
     requires comparison { is_comparison operator ≡ true }
     requires value { HasValue config.old value }
-    ensures { let t = config.new.heap.texts in let env = env_in S.meaning config.old t frame in OnOk result (Follows S.meaning (after_operand operator frame.place (holding_in t frame.held) env (Gives (value_in t value))) config.old config.new) }
+    ensures { GoesOn S.meaning frame config.old config.new result (λ t env.
+        after_operand operator frame.place (holding_in t frame.held) env (Gives (value_in t value))) }
 {
     if frame.place() == 3 {
         return compare_right(config, frame, operator, value);
@@ -144,11 +138,10 @@ fn in_after_value<S: WorldStore>(
     frame: Frame,
     value: Value,
 ) -> Result<(), OutOfMemory>
-    requires running { config.old.state ≡ State.Running }
-    requires base { Base S.meaning config.old }
-    requires there { IsThere S.meaning config.old frame }
+    requires runs { Runs S.meaning config.old frame }
     requires value { HasValue config.old value }
-    ensures { let t = config.new.heap.texts in let env = env_in S.meaning config.old t frame in OnOk result (Follows S.meaning (after_operand BinaryOperator.In frame.place (holding_in t frame.held) env (Gives (value_in t value))) config.old config.new) }
+    ensures { GoesOn S.meaning frame config.old config.new result (λ t env.
+        after_operand BinaryOperator.In frame.place (holding_in t frame.held) env (Gives (value_in t value))) }
 {
     match value {
         Value::Text(text) => in_after(config, frame, text),
@@ -163,13 +156,12 @@ fn calculate_after<S: WorldStore>(
     operator: BinaryOperator,
     value: Value,
 ) -> Result<(), OutOfMemory>
-    requires running { config.old.state ≡ State.Running }
-    requires base { Base S.meaning config.old }
-    requires there { IsThere S.meaning config.old frame }
+    requires runs { Runs S.meaning config.old frame }
     requires operates { Operates S.meaning config.old frame operator }
     requires arithmetic { is_arithmetic operator ≡ true }
     requires value { HasValue config.old value }
-    ensures { let t = config.new.heap.texts in let env = env_in S.meaning config.old t frame in OnOk result (Follows S.meaning (after_operand operator frame.place (holding_in t frame.held) env (Gives (value_in t value))) config.old config.new) }
+    ensures { GoesOn S.meaning frame config.old config.new result (λ t env.
+        after_operand operator frame.place (holding_in t frame.held) env (Gives (value_in t value))) }
 {
     match value {
         Value::Number(number) => calculate_number(config, frame, operator, number),
@@ -184,12 +176,11 @@ fn calculate_number<S: WorldStore>(
     operator: BinaryOperator,
     number: Whole,
 ) -> Result<(), OutOfMemory>
-    requires running { config.old.state ≡ State.Running }
-    requires base { Base S.meaning config.old }
-    requires there { IsThere S.meaning config.old frame }
+    requires runs { Runs S.meaning config.old frame }
     requires operates { Operates S.meaning config.old frame operator }
     requires arithmetic { is_arithmetic operator ≡ true }
-    ensures { let t = config.new.heap.texts in let env = env_in S.meaning config.old t frame in OnOk result (Follows S.meaning (after_operand operator frame.place (holding_in t frame.held) env (Gives (Number number.number))) config.old config.new) }
+    ensures { GoesOn S.meaning frame config.old config.new result (λ t env.
+        after_operand operator frame.place (holding_in t frame.held) env (Gives (Number number.number))) }
 {
     if frame.place() == 3 {
         return calculate_right(config, frame, operator, number);

@@ -1,5 +1,5 @@
 //! `in` and `instanceof` (ECMA-262, 3rd edition, sections 11.8.6, 11.8.7 and 15.3.5.3).
-ghost use Rattle.std.specs.Prelude.{◌≡◌, false, Some, OnOk};
+ghost use Rattle.std.specs.Prelude.{◌≡◌, false, Some};
 ghost use Rattle.wjs_content.specs.Names.{prototype_name};
 ghost use Rattle.wjs_content.specs.Objects.{is_past};
 ghost use Rattle.wjs_meaning.specs.Properties.{get_value};
@@ -7,19 +7,18 @@ ghost use Rattle.wjs_content.specs.Tables.{value_in, text_in, name_in};
 ghost use Rattle.wjs_meaning.specs.Operators as line;
 ghost use Rattle.wjs_model.specs.Waiting.{in_right};
 ghost use Rattle.wjs_model.specs.Contents.{value_held};
-ghost use Rattle.wjs_model.specs.Soundness.{Base, IsThere, HasObject, HasName, HasValue};
+ghost use Rattle.wjs_model.specs.Soundness.{HasObject, HasName, HasValue};
 ghost use Rattle.wjs_base.specs.Text.{Table, Has};
 ghost use Rattle.wjs_content.specs.Conversions.{is_object, primitive_text};
 ghost use Rattle.wjs_meaning.specs.Conversions.{to_text};
 ghost use Rattle.wjs_meaning.specs.Deeds.{Do, Look, Sub, then_text};
-ghost use Rattle.wjs_moves.specs.Parts.{env_in};
-ghost use Rattle.wjs_moves.specs.Following.{Follows};
 ghost use Rattle.wjs_operators.specs.Operating.{Operates};
+ghost use Rattle.wjs_moves.specs.Handling.{Runs, GoesOn};
 
 use wjs_base::{Name, ObjId, OutOfMemory, TextId, Value};
 use wjs_deeds::{Known, function_of, get_known, has, is_past, name_of};
 use wjs_lines::{held_value, is_object, name_of_value, throw};
-use wjs_model::{Completion, Config, Conversion, Frame, Held, State, Trouble};
+use wjs_model::{Completion, Config, Conversion, Frame, Held, Trouble};
 use wjs_moves::{convert, finish, hold};
 use wjs_store::WorldStore;
 use wjs_tree::BinaryOperator;
@@ -31,13 +30,11 @@ pub(crate) fn in_values<S: WorldStore>(
     left: Value,
     right: Value,
 ) -> Result<(), OutOfMemory>
-    requires running { config.old.state ≡ State.Running }
-    requires base { Base S.meaning config.old }
-    requires there { IsThere S.meaning config.old frame }
+    requires runs { Runs S.meaning config.old frame }
     requires operates { Operates S.meaning config.old frame BinaryOperator.In }
     requires left { HasValue config.old left }
     requires right { HasValue config.old right }
-    ensures { let t = config.new.heap.texts in let env = env_in S.meaning config.old t frame in OnOk result (Follows S.meaning (line.in_values (value_in t left) (value_in t right) env) config.old config.new) }
+    ensures { GoesOn S.meaning frame config.old config.new result (λ t env. line.in_values (value_in t left) (value_in t right) env) }
 {
     match right {
         Value::Object(object) => in_object(config, frame, left, object),
@@ -52,13 +49,11 @@ fn in_object<S: WorldStore>(
     left: Value,
     object: ObjId,
 ) -> Result<(), OutOfMemory>
-    requires running { config.old.state ≡ State.Running }
-    requires base { Base S.meaning config.old }
-    requires there { IsThere S.meaning config.old frame }
+    requires runs { Runs S.meaning config.old frame }
     requires operates { Operates S.meaning config.old frame BinaryOperator.In }
     requires left { HasValue config.old left }
     requires object { HasObject config.old object }
-    ensures { let t = config.new.heap.texts in let env = env_in S.meaning config.old t frame in OnOk result (Follows S.meaning (Sub (to_text (value_in t left) env) (then_text (line.in_name object env))) config.old config.new) }
+    ensures { GoesOn S.meaning frame config.old config.new result (λ t env. Sub (to_text (value_in t left) env) (then_text (line.in_name object env))) }
 {
     if is_object(left) {
         in_converted(config, frame, left, object)
@@ -74,13 +69,11 @@ fn in_converted<S: WorldStore>(
     left: Value,
     object: ObjId,
 ) -> Result<(), OutOfMemory>
-    requires running { config.old.state ≡ State.Running }
-    requires base { Base S.meaning config.old }
-    requires there { IsThere S.meaning config.old frame }
+    requires runs { Runs S.meaning config.old frame }
     requires operates { Operates S.meaning config.old frame BinaryOperator.In }
     requires left { HasValue config.old left }
     requires object { HasObject config.old object }
-    ensures { let t = config.new.heap.texts in let env = env_in S.meaning config.old t frame in OnOk result (Follows S.meaning (Sub (to_text (value_in t left) env) (then_text (line.in_name object env))) config.old config.new) }
+    ensures { GoesOn S.meaning frame config.old config.new result (λ t env. Sub (to_text (value_in t left) env) (then_text (line.in_name object env))) }
 {
     let mut frame = frame;
     hold(&mut frame, Held::Value(Value::Object(object)))?;
@@ -94,13 +87,11 @@ fn in_primitive<S: WorldStore>(
     left: Value,
     object: ObjId,
 ) -> Result<(), OutOfMemory>
-    requires running { config.old.state ≡ State.Running }
-    requires base { Base S.meaning config.old }
-    requires there { IsThere S.meaning config.old frame }
+    requires runs { Runs S.meaning config.old frame }
     requires left { HasValue config.old left }
     requires primitive { (t : Table) → is_object (value_in t left) ≡ false }
     requires object { HasObject config.old object }
-    ensures { let t = config.new.heap.texts in let env = env_in S.meaning config.old t frame in OnOk result (Follows S.meaning (line.in_name object env (primitive_text (value_in t left))) config.old config.new) }
+    ensures { GoesOn S.meaning frame config.old config.new result (λ t env. line.in_name object env (primitive_text (value_in t left))) }
 {
     let name = name_of_value(config, left)?;
     in_name(config, frame, object, name)
@@ -113,12 +104,10 @@ fn in_name<S: WorldStore>(
     object: ObjId,
     name: Name,
 ) -> Result<(), OutOfMemory>
-    requires running { config.old.state ≡ State.Running }
-    requires base { Base S.meaning config.old }
-    requires there { IsThere S.meaning config.old frame }
+    requires runs { Runs S.meaning config.old frame }
     requires object { HasObject config.old object }
     requires name { HasName config.old name }
-    ensures { let t = config.new.heap.texts in let env = env_in S.meaning config.old t frame in OnOk result (Follows S.meaning (line.in_name object env (name_in t name)) config.old config.new) }
+    ensures { GoesOn S.meaning frame config.old config.new result (λ t env. line.in_name object env (name_in t name)) }
 {
     let found = has(config, &frame, object, name)?;
     finish(config, frame, Completion::Gives(Value::Bool(found)))
@@ -130,11 +119,9 @@ pub(crate) fn in_after<S: WorldStore>(
     frame: Frame,
     text: TextId,
 ) -> Result<(), OutOfMemory>
-    requires running { config.old.state ≡ State.Running }
-    requires base { Base S.meaning config.old }
-    requires there { IsThere S.meaning config.old frame }
+    requires runs { Runs S.meaning config.old frame }
     requires text { Has config.old.heap.texts text }
-    ensures { let t = config.new.heap.texts in let env = env_in S.meaning config.old t frame in OnOk result (Follows S.meaning (in_right (value_in t (value_held frame.held)) env (text_in t text)) config.old config.new) }
+    ensures { GoesOn S.meaning frame config.old config.new result (λ t env. in_right (value_in t (value_held frame.held)) env (text_in t text)) }
 {
     match held_value(config, &frame) {
         Value::Object(object) => in_text(config, frame, object, text),
@@ -149,12 +136,10 @@ fn in_text<S: WorldStore>(
     object: ObjId,
     text: TextId,
 ) -> Result<(), OutOfMemory>
-    requires running { config.old.state ≡ State.Running }
-    requires base { Base S.meaning config.old }
-    requires there { IsThere S.meaning config.old frame }
+    requires runs { Runs S.meaning config.old frame }
     requires object { HasObject config.old object }
     requires text { Has config.old.heap.texts text }
-    ensures { let t = config.new.heap.texts in let env = env_in S.meaning config.old t frame in OnOk result (Follows S.meaning (line.in_name object env (text_in t text)) config.old config.new) }
+    ensures { GoesOn S.meaning frame config.old config.new result (λ t env. line.in_name object env (text_in t text)) }
 {
     let name = name_of(config, text);
     in_name(config, frame, object, name)
@@ -167,12 +152,10 @@ pub(crate) fn instance_values<S: WorldStore>(
     left: Value,
     right: Value,
 ) -> Result<(), OutOfMemory>
-    requires running { config.old.state ≡ State.Running }
-    requires base { Base S.meaning config.old }
-    requires there { IsThere S.meaning config.old frame }
+    requires runs { Runs S.meaning config.old frame }
     requires left { HasValue config.old left }
     requires right { HasValue config.old right }
-    ensures { let t = config.new.heap.texts in let env = env_in S.meaning config.old t frame in OnOk result (Follows S.meaning (line.instance_values (value_in t left) (value_in t right) env) config.old config.new) }
+    ensures { GoesOn S.meaning frame config.old config.new result (λ t env. line.instance_values (value_in t left) (value_in t right) env) }
 {
     match function_of(config, right) {
         Some(function) => instance_function(config, frame, left, function),
@@ -187,12 +170,10 @@ fn instance_function<S: WorldStore>(
     left: Value,
     function: ObjId,
 ) -> Result<(), OutOfMemory>
-    requires running { config.old.state ≡ State.Running }
-    requires base { Base S.meaning config.old }
-    requires there { IsThere S.meaning config.old frame }
+    requires runs { Runs S.meaning config.old frame }
     requires left { HasValue config.old left }
     requires function { HasObject config.old function }
-    ensures { let t = config.new.heap.texts in let env = env_in S.meaning config.old t frame in OnOk result (Follows S.meaning (line.instance_function (value_in t left) (Some function) env) config.old config.new) }
+    ensures { GoesOn S.meaning frame config.old config.new result (λ t env. line.instance_function (value_in t left) (Some function) env) }
 {
     match left {
         Value::Object(object) => instance_object(config, frame, object, function),
@@ -207,12 +188,10 @@ fn instance_object<S: WorldStore>(
     object: ObjId,
     function: ObjId,
 ) -> Result<(), OutOfMemory>
-    requires running { config.old.state ≡ State.Running }
-    requires base { Base S.meaning config.old }
-    requires there { IsThere S.meaning config.old frame }
+    requires runs { Runs S.meaning config.old frame }
     requires object { HasObject config.old object }
     requires function { HasObject config.old function }
-    ensures { let t = config.new.heap.texts in let env = env_in S.meaning config.old t frame in OnOk result (Follows S.meaning (get_value function prototype_name env (line.instance_prototype object env)) config.old config.new) }
+    ensures { GoesOn S.meaning frame config.old config.new result (λ t env. get_value function prototype_name env (line.instance_prototype object env)) }
 {
     let prototype = get_known(config, &frame, function, Known::Prototype)?;
     instance_prototype(config, frame, object, prototype)
@@ -225,12 +204,10 @@ fn instance_prototype<S: WorldStore>(
     object: ObjId,
     prototype: Value,
 ) -> Result<(), OutOfMemory>
-    requires running { config.old.state ≡ State.Running }
-    requires base { Base S.meaning config.old }
-    requires there { IsThere S.meaning config.old frame }
+    requires runs { Runs S.meaning config.old frame }
     requires object { HasObject config.old object }
     requires prototype { HasValue config.old prototype }
-    ensures { let t = config.new.heap.texts in let env = env_in S.meaning config.old t frame in OnOk result (Follows S.meaning (line.instance_prototype object env (value_in t prototype)) config.old config.new) }
+    ensures { GoesOn S.meaning frame config.old config.new result (λ t env. line.instance_prototype object env (value_in t prototype)) }
 {
     match prototype {
         Value::Object(prototype) => instance_told(config, frame, object, prototype),
@@ -245,12 +222,10 @@ fn instance_told<S: WorldStore>(
     object: ObjId,
     prototype: ObjId,
 ) -> Result<(), OutOfMemory>
-    requires running { config.old.state ≡ State.Running }
-    requires base { Base S.meaning config.old }
-    requires there { IsThere S.meaning config.old frame }
+    requires runs { Runs S.meaning config.old frame }
     requires object { HasObject config.old object }
     requires prototype { HasObject config.old prototype }
-    ensures { let t = config.new.heap.texts in OnOk result (Follows S.meaning (Do Look (λ arena. line.give_truth (is_past arena prototype object))) config.old config.new) }
+    ensures { GoesOn S.meaning frame config.old config.new result (λ t env. Do Look (λ arena. line.give_truth (is_past arena prototype object))) }
 {
     let past = is_past(config, prototype, object);
     finish(config, frame, Completion::Gives(Value::Bool(past)))

@@ -17,7 +17,8 @@ use wjs_tree::BinaryOperator;
 /// operation ends at once. None where a value is no number, or the operation makes none or throws.
 #[inline(always)]
 pub fn quick(operator: BinaryOperator, left: Value, right: Value) -> Option<Whole>
-    ensures { IfSome result (λ number. (t : Table) (env : Env) → Shortens (line.operate operator (value_in t left) (value_in t right) env) (give (Number number.number))) }
+    ensures { IfSome result (λ number. (t : Table) (env : Env) →
+        Shortens (line.operate operator (value_in t left) (value_in t right) env) (give (Number number.number))) }
 {
     let Value::Number(x) = left else {
         return None;
@@ -43,7 +44,8 @@ fn number_of(operator: BinaryOperator, x: Whole, y: Whole) -> Option<Whole>
 
 #[inline(always)]
 fn sum(x: Whole, y: Whole) -> Option<Whole>
-    ensures { IfSome result (λ number. (env : Env) → Shortens (line.operate BinaryOperator.Add (Number x.number) (Number y.number) env) (give (Number number.number))) }
+    ensures { IfSome result (λ number. (env : Env) →
+        Shortens (line.operate BinaryOperator.Add (Number x.number) (Number y.number) env) (give (Number number.number))) }
 {
     match add(x, y) {
         Ok(number) => Some(number),

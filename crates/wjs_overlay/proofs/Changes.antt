@@ -16,7 +16,7 @@ use Rattle.wjs_overlay.specs.Sparse.{place_of, Keeps, AreKept}
 use Rattle.wjs_overlay.proofs.Places.{some_is, no_none, place_head, place_tail, place_older, place_one, place_each, place_below, find_top, find_rest, slice_set_same, slice_set_other, slice_push_old, slice_push_new}
 
 -- what was mapped
-mapped : {A B : Type 0} (g : A → B) (o : Option A) (y : B) → option_map g o ≡ Some y → (x : A) × (o ≡ Some x) × (g x ≡ y)
+pub mapped : {A B : Type 0} (g : A → B) (o : Option A) (y : B) → option_map g o ≡ Some y → (x : A) × (o ≡ Some x) × (g x ≡ y)
 mapped g None y h = no_none y h
 mapped g (Some x) y h = (x, refl, some_is (g x) y h)
 

@@ -1,4 +1,5 @@
 pub mod Lists
+pub mod Packing
 pub mod Tables
 pub mod Shapes
 pub mod Places
@@ -29,3 +30,7 @@ pub mod Lefts
 pub mod Depths
 pub mod Moving
 pub mod Written
+pub mod Covering
+pub mod Touching
+pub mod Handing
+pub mod Passing

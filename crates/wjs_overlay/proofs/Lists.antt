@@ -1,13 +1,12 @@
 -- The list of a map's entries, seen as a finite map.
-use Rattle.std.proofs.Common.{◌≡◌, cond, List, [], ◌∷◌, Option, None, Some, refl, ap, sym, ◌∙◌, Bool, true, false, is_some}
+use Rattle.std.proofs.Common.{◌≡◌, cond, List, [], ◌∷◌, Option, None, Some, refl, ap, sym, ◌∙◌, Bool, true, false}
 use Rattle.std.specs.declared.cmp.Ordering.{Ordering}
 use Rattle.std.specs.Ordering.{eq_by_cmp}
 use Rattle.std.specs.Cmp.{IsTotalOrder, eq_by_cmp_equiv}
 use Rattle.std.specs.FinMap as map
 use Rattle.std.specs.FinMap.{IsAntisymmetric}
 use Rattle.std.specs.Map.{lookup, lookup_entry, lookup_key}
-use Rattle.std.specs.Option.{option_map, option_copied}
-use Rattle.std.specs.Borrow.{Bor}
+use Rattle.std.specs.Option.{option_map}
 use Rattle.std.specs.BTreeMap.{is_at}
 
 pub find_lookup : {K V : Type 0} (R : K → K → Ordering) (es : List (K × V)) (q : K) → map.find R q es ≡ lookup (is_at (R q)) es
@@ -28,10 +27,6 @@ module _ {K V : Type 0} {R : K → K → Ordering} (total : IsTotalOrder R) wher
     remove_list es fs k h = map.same_map total exact _ _ (λ q.
         get_list fs q ∙ h q ∙ ap (λ b. cond b None (lookup (is_at (R q)) es)) ((eq_by_cmp_equiv total).symm k q)
         ∙ sym (map.get-remove total (map.from_entries es) k q ∙ ap (cond (eq_by_cmp R q k) None) (get_list es q)))
-
-pub some_copied : {A : Type 0} (o : Option (Bor A)) → is_some o ≡ is_some (option_copied o)
-some_copied None = refl
-some_copied (Some x) = refl
 
 -- the key of the first entry that passes
 pub key_of_entry : {K V : Type 0} (p : K → Bool) (es : List (K × V)) → lookup_key p es ≡ option_map (λ (e : K × V). e.0) (lookup_entry p es)

@@ -10,6 +10,7 @@ use Rattle.wjs_store.specs.Naming.{plain}
 use Rattle.wjs_store.specs.State.{World, State, find_world, same_world, content_at}
 use Rattle.wjs_store.specs.Reached.{IsReached}
 use Rattle.wjs_store.specs.Shown.{content_of}
+use Rattle.wjs_store.proofs.States.{some_map}
 use Rattle.wjs_store.proofs.Writes.{by_bool, not_older}
 use Rattle.wjs_store.proofs.Commits.{local_find, inherits_find, parent_there}
 use Rattle.wjs_overlay.specs.declared.maps.Row.{Row}
@@ -21,11 +22,11 @@ use Rattle.wjs_overlay.proofs.Full.{row_none, closed_same, untouched, by_option}
 
 -- ---- depths
 
-depth_top : (x : World plain) (older : State plain) (w : WorldId) → same_world x.id w ≡ true → depth_of (x ∷ older) w ≡ option_map_or (λ p. depth_of older p + 1) x.parent 0
+pub depth_top : (x : World plain) (older : State plain) (w : WorldId) → same_world x.id w ≡ true → depth_of (x ∷ older) w ≡ option_map_or (λ p. depth_of older p + 1) x.parent 0
 unfolding depth_of
 depth_top x older w e = ap (λ b. cond b (option_map_or (λ p. depth_of older p + 1) x.parent 0) (depth_of older w)) e
 
-depth_rest : (x : World plain) (older : State plain) (w : WorldId) → same_world x.id w ≡ false → depth_of (x ∷ older) w ≡ depth_of older w
+pub depth_rest : (x : World plain) (older : State plain) (w : WorldId) → same_world x.id w ≡ false → depth_of (x ∷ older) w ≡ depth_of older w
 unfolding depth_of
 depth_rest x older w e = ap (λ b. cond b (option_map_or (λ p. depth_of older p + 1) x.parent 0) (depth_of older w)) e
 
@@ -108,3 +109,9 @@ pub below_at : (layers : List Layer) (at : Spot) → IsSparse layers → IsAt la
 below_at layers at h here =
     let l : at.place < length (full_of layers) = place_below (full_of layers) at.world at.place here in
     omega (arith, h.kept.many)
+
+-- a world that has a parent, by its layer
+pub above_some : (layers : List Layer) (h : IsSparse layers) (at : Spot) (here : IsAt layers at) (r : Layer) (s : slice_get layers at.place ≡ Some r) → ((x : World plain) → find_world (full_of layers) at.world ≡ Some x → is_some x.parent ≡ true) → is_some r.above ≡ true
+above_some layers h at here r s up =
+    let x = world_at layers h at here r s in
+    sym (ap is_some (keeps_at layers h at here r s).parent ∙ some_map (λ (a : Spot). a.world) r.above) ∙ up x.0 x.1

@@ -1,6 +1,7 @@
 -- The sizes of marks, from the rows.
 use Rattle.std.proofs.Common.{◌≡◌, ℕ, ◌+◌, ◌≤◌, Bool, true, false, cond, List, [], ◌∷◌, ◌++◌, length, Option, None, Some, is_some, filter, map as each, slice_get, refl, ap, sym, ◌∙◌, arith, suc, zero}
-use Rattle.std.specs.Option.{option_map, option_and_then}
+use Rattle.std.specs.Option.{option_map, option_and_then, is_none}
+use Rattle.std.proofs.lemmas.Bool.{true≢false}
 use Rattle.std.specs.FinMap as map
 use Rattle.std.specs.FinMap.{FinMap}
 use Rattle.wjs_base.specs.declared.values.Slot.{Slot}
@@ -16,6 +17,10 @@ use Rattle.wjs_overlay.specs.Marks.{reads_in, writes_in}
 use Rattle.wjs_overlay.specs.Sparse.{read_of, mark_of, full_of, Keeps, IsSparse, IsAt}
 use Rattle.wjs_overlay.proofs.Looks.{world_at, keeps_at}
 use Rattle.wjs_overlay.proofs.SettleLaws.{entry_is, mark_keys, row_there}
+
+pub not_none : {A : Type 0} (o : Option A) → is_none o ≡ false → is_some o ≡ true
+not_none None e = absurd (true≢false e)
+not_none (Some a) e = refl
 
 pub reads_push : (xs : List (Slot × Row)) (e : Slot × Row) → reads_in (xs ++ e ∷ []) ≡ reads_in xs + cond (is_some e.1.read) 1 0
 reads_push [] e = omega arith

@@ -11,13 +11,14 @@ use Rattle.wjs_base.specs.Order.{slot_total}
 use Rattle.wjs_store.specs.Naming.{plain}
 use Rattle.wjs_store.specs.Shown.{content_of}
 use Rattle.wjs_store.specs.State.{World, State, same_world, is_touched, read_in, after_read, put, content_at}
+use Rattle.wjs_store.proofs.Commits.{with_some}
 use Rattle.wjs_store.proofs.Keeps.{reached_read}
 use Rattle.wjs_store.proofs.Marks.{marks_read, marks_at}
 use Rattle.wjs_overlay.specs.declared.maps.Row.{Row}
 use Rattle.wjs_overlay.specs.declared.layer.Spot.{Spot}
 use Rattle.wjs_overlay.specs.declared.layer.Layer.{Layer}
 use Rattle.wjs_overlay.specs.declared.layer.Look.TheVariants.{Closed, Untouched}
-use Rattle.wjs_overlay.specs.Look.{Looked}
+use Rattle.wjs_overlay.specs.Look.{IsUntouched, Looked}
 use Rattle.wjs_overlay.specs.Sparse.{mark_of, full_of, Keeps, IsSparse, IsAt, StandFor}
 use Rattle.wjs_overlay.proofs.Full.{untouched, row_some, row_none, closed_same, by_option}
 use Rattle.wjs_overlay.proofs.Changes.{kept_set}
@@ -119,3 +120,7 @@ module _ (layers : List Layer) (h : IsSparse layers) (at : Spot) (here : IsAt la
         read_by (record r { rows = put r.rows q (Some row) }) refl
         (λ k. subst (Keeps (record r { rows = put r.rows q (Some row) })) (sym (ap (λ b. cond b (record x { first = map.insert x.first q (map.get x.copy q) }) x) open_q))
         (keeps_put r q (Some row) x (record x { first = map.insert x.first q (map.get x.copy q) }) k recorded))
+
+  -- also where the parent is not named
+  pub read_unseen : (found : Content) → IsUntouched r q → content_of found ≡ content_at (full_of layers) at.world q → StandFor (set layers at.place (record r { rows = put r.rows q (Some (record { read = Some found; now = found; written = false })) })) (after_read (full_of layers) at.world q)
+  read_unseen found e c = with_some r.above e.2 (λ a u. read_recorded a found (e.0, e.1, u) (c ∙ content_above layers h at here r s q a e.0 e.1 u))

@@ -1,5 +1,7 @@
 pub mod Codes
 pub mod Shape
+pub mod Kinds
+pub mod Shorts
 pub mod Tables
 pub mod Sparse
 pub mod Look
@@ -11,3 +13,5 @@ pub mod Check
 pub mod Store
 pub mod Sound
 pub mod Marks
+pub mod Covers
+pub mod Touched

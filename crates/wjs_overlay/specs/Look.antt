@@ -23,6 +23,10 @@ Looked r s Closed = (map.get r.rows s ≡ None) × (map.contains_key r.closed s.
 Looked r s (Untouched above) = (map.get r.rows s ≡ None) × (map.contains_key r.closed s.object ≡ false) × (r.above ≡ Some above)
 Looked r s Nowhere = (map.get r.rows s ≡ None) × (r.above ≡ None)
 
+-- a world with a parent has no row of the slot, and has not listed its object
+abbrev pub IsUntouched : Layer → Slot → Type 0
+IsUntouched r s = (map.get r.rows s ≡ None) × (map.contains_key r.closed s.object ≡ false) × (is_some r.above ≡ true)
+
 -- the world y is x but for one slot, where it is what the row says
 pub record Puts (r : Layer) (s : Slot) (o : Option Row) (x y : World plain) : Type 0 where
   pub id : y.id ≡ x.id

@@ -12,17 +12,18 @@ use Rattle.wjs_overlay.specs.declared.layer.Kept.{Kept}
 use Rattle.wjs_overlay.specs.declared.layer.Kept.TheVariants.{First, Under}
 use Rattle.wjs_overlay.specs.declared.layer.Layer.TheInside.{Inside}
 use Rattle.wjs_overlay.specs.Shape.{Shape}
+use Rattle.wjs_overlay.specs.Shorts.{row_first, row_in}
 
 -- the row of a slot that is present in the first world
 abbrev pub row_with : Value → Row
 row_with v = record { read = None; now = Present v; written = false }
 
-abbrev pub entry_with : Slot × Value → Slot × Row
-entry_with e = (e.0, row_with e.1)
+abbrev pub entry_by : {V : Type 0} → (V → Row) → Slot × V → Slot × Row
+entry_by f e = (e.0, f e.1)
 
--- the first world's values, each as a row
-unfoldable pub first_rows : FinMap slot_cmp Value → FinMap slot_cmp Row
-first_rows values = map.from_sorted (each entry_with (map.entries values))
+-- what is kept at each slot, as a row
+unfoldable pub rows_by : {V : Type 0} → (V → Row) → FinMap slot_cmp V → FinMap slot_cmp Row
+rows_by f m = map.from_sorted (each (entry_by f) (map.entries m))
 
 -- the first world has no parent
 abbrev pub above_in : Kept → Option Spot
@@ -30,8 +31,8 @@ above_in (First values) = None
 above_in (Under above rows) = Some above
 
 abbrev pub rows_in : Kept → FinMap slot_cmp Row
-rows_in (First values) = first_rows values
-rows_in (Under above rows) = rows
+rows_in (First values) = rows_by row_first values
+rows_in (Under above rows) = rows_by row_in rows
 
 abbrev pub shown : Inside → Shape
 shown a = record { id = a.id; above = above_in a.kept; strict = a.strict; rows = rows_in a.kept; closed = a.closed }

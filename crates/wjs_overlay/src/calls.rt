@@ -1,5 +1,7 @@
 //! The calls of the store on its layers.
-ghost use Rattle.std.specs.Prelude.{◌≡◌, ◌+◌, ◌*◌, ◌≤◌, OnOk, IfOk, length};
+ghost use Rattle.std.specs.Prelude.{◌≡◌, ◌+◌, ◌*◌, ◌≤◌, OnOk, IfOk, IfSome, length, slice_get};
+ghost use Rattle.wjs_overlay.specs.declared.layer.Layer.{Layer};
+ghost use Rattle.wjs_overlay.specs.Look.{IsUntouched};
 ghost use Rattle.wjs_store.specs.State.{content_at, slots_at, next_id, verdict_at, after_read, after_write, after_list, after_sprout, after_commit};
 ghost use Rattle.wjs_store.specs.Shown.{content_of, slots_of, verdict_of};
 ghost use Rattle.wjs_overlay.specs.Sparse.{IsSparse, IsAt, StandFor, full_of, depth_of};
@@ -33,6 +35,28 @@ pub fn read<L: Ledger>(
     ensures steps { steps.new ≤ steps.old + (2 * depth_of (full_of layers.old.items) world.world + 3) }
 {
     layers::read(layers.as_mut_slice(), world, slot, steps)
+}
+
+/// Reads a slot of an object that no world between a world and the first has touched.
+pub fn read_past<L: Ledger>(
+    layers: &mut Vec<Layer>,
+    world: Spot,
+    first: Spot,
+    slot: Slot,
+    steps: &mut Steps<L>,
+) -> Result<Content, OutOfMemory>
+    requires sparse { IsSparse layers.old.items }
+    requires there { IsAt layers.old.items world }
+    requires untouched { IfSome (slice_get layers.old.items world.place) (λ (r : Layer). IsUntouched r slot) }
+    requires first { IsAt layers.old.items first }
+    requires same { content_at (full_of layers.old.items) first.world slot ≡ content_at (full_of layers.old.items) world.world slot }
+    requires top { depth_of (full_of layers.old.items) first.world ≡ 0 }
+    ensures found { IfOk result (λ found. content_of found ≡ content_at (full_of layers.old.items) world.world slot) }
+    ensures after { OnOk result (StandFor layers.new.items (after_read (full_of layers.old.items) world.world slot)) }
+    ensures len { length layers.new.items ≡ length layers.old.items }
+    ensures steps { steps.new ≤ steps.old + 3 }
+{
+    layers::read_past(layers.as_mut_slice(), world, first, slot, steps)
 }
 
 /// Writes a slot in a world.

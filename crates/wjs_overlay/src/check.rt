@@ -61,6 +61,7 @@ fn fault_in_reads<L: Ledger>(
     requires sparse { IsSparse layers.now }
     requires there { IsAt layers.now world }
     requires parent { IsAt layers.now above }
+    requires up { (x : World plain) → find_world (full_of layers.now) world.world ≡ Some x → is_some x.parent ≡ true }
     ensures least { (x y : World plain) → find_world (full_of layers.now) world.world ≡ Some x → find_world (full_of layers.now) above.world ≡ Some y → IsLeast (differs x y) result }
     ensures steps { (x : World plain) → find_world (full_of layers.now) world.world ≡ Some x → is_some x.parent ≡ true → steps.new ≤ steps.old + (length (row_slots x) * (2 * depth_of (full_of layers.now) above.world + 3) + 1) }
 {

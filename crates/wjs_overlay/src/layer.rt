@@ -14,14 +14,17 @@ ghost use Rattle.wjs_overlay.specs.Moves.{handed, handed_rows, ReadsAgree, close
 ghost use Rattle.std.specs.Prelude.{true};
 ghost use Rattle.wjs_base.specs.declared.values.Slot.{Slot};
 
+use crate::compact::{ShortContent, ShortRow};
 use crate::maps::{ObjectSet, Row};
-use crate::values::{content_with, held, present, set_value, with_entry, with_row};
+use crate::values::{
+    content_with, full_entry, full_row, held, present, set_row, set_value, with_entry, with_row,
+};
 use std::alloc::Global;
 use std::marker::Model;
 use std::sync::ledger::Ledger;
-use wjs_base::{Content, Name, ObjId, OutOfMemory, Slot, Value, WorldId};
+use wjs_base::{Content, Name, ObjId, OutOfMemory, Slot, WorldId};
 use wjs_rows::Steps;
-use wjs_slots::Table;
+use wjs_slots::{Table, Walked, least_slot};
 
 /// A world by its number, and its place among the worlds.
 #[derive(Clone, Copy)]
@@ -32,13 +35,13 @@ pub struct Spot {
 
 /// What a world keeps of slots.
 ///
-/// Nearly all reads and writes are in the first world, and there a row says no more than its value.
+/// Nearly all reads and writes are in the first world, and there a row says no more than its value. Both are kept in few bytes.
 #[derive(Drop)]
 enum Kept {
     /// The first world's present slots.
-    First(Table<Value>),
+    First(Table<ShortContent>),
     /// What was touched in a world with this parent.
-    Under(Spot, Table<Row>),
+    Under(Spot, Walked<ShortRow>),
 }
 
 impl Kept {
@@ -53,7 +56,7 @@ impl Kept {
     {
         match self {
             Kept::First(values) => *values = Table::new(alloc),
-            Kept::Under(_, rows) => *rows = Table::new(alloc),
+            Kept::Under(_, rows) => *rows = Walked::new(alloc),
         }
     }
 }
@@ -95,6 +98,8 @@ impl Layer {
     ghost use Rattle.wjs_overlay.specs.declared.maps.Row.{Row};
     ghost use Rattle.wjs_overlay.specs.Look.{first_row_of};
     ghost use Rattle.wjs_overlay.specs.Moves.{cleared};
+    ghost use Rattle.wjs_overlay.specs.Marks.{reads_in, writes_in, has_written};
+    ghost use Rattle.std.specs.Option.{is_none};
 
     /// The first world, in which all slots are absent.
     pub fn first(alloc: Global, id: WorldId) -> Layer
@@ -115,7 +120,7 @@ impl Layer {
         Layer {
             id,
             strict,
-            kept: Kept::Under(above, Table::new(alloc)),
+            kept: Kept::Under(above, Walked::new(alloc)),
             closed: ObjectSet::new(alloc),
         }
     }
@@ -142,6 +147,19 @@ impl Layer {
         ensures { result ≡ self.now.strict }
     {
         self.strict
+    }
+
+    /// Whether it is the first world. No row of that has a mark.
+    pub fn is_first(&self) -> bool
+        ensures first { result ≡ is_none self.now.above }
+        ensures reads { result ≡ true → reads_in (map.entries self.now.rows) ≡ 0 }
+        ensures writes { result ≡ true → writes_in (map.entries self.now.rows) ≡ 0 }
+        ensures written { result ≡ true → (slot : Slot) → has_written self.now.rows slot ≡ false }
+    {
+        match &self.kept {
+            Kept::First(_) => true,
+            Kept::Under(_, _) => false,
+        }
     }
 
     /// The objects that were listed there.
@@ -183,7 +201,7 @@ impl Layer {
     {
         match &self.kept {
             Kept::First(values) => with_row(values.get(slot, steps)),
-            Kept::Under(_, rows) => rows.get(slot, steps).copied(),
+            Kept::Under(_, rows) => full_row(rows.get(slot, steps)),
         }
     }
 
@@ -197,25 +215,27 @@ impl Layer {
         }
     }
 
-    /// The least row at or after a slot; None exactly where there is none.
+    /// The least row of a world with a parent at or after a slot; None exactly where there is none.
     pub fn next_from<L: Ledger>(&self, slot: Slot, steps: &mut Steps<L>) -> Option<(Slot, Row)>
+        requires { is_some self.now.above ≡ true }
         ensures least { result ≡ lookup_entry (is_from slot_cmp slot) (map.entries self.now.rows) }
         ensures step { steps.new ≡ steps.old + 1 }
     {
         match &self.kept {
-            Kept::First(values) => with_entry(values.next_from(slot, steps)),
-            Kept::Under(_, rows) => rows.next_from(slot, steps),
+            Kept::First(_) => unreachable!(),
+            Kept::Under(_, rows) => full_entry(rows.next_from(slot, steps)),
         }
     }
 
-    /// The least row after a slot; None exactly where there is none.
+    /// The least row of a world with a parent after a slot; None exactly where there is none.
     pub fn next_after<L: Ledger>(&self, slot: Slot, steps: &mut Steps<L>) -> Option<(Slot, Row)>
+        requires { is_some self.now.above ≡ true }
         ensures least { result ≡ lookup_entry (is_after slot_cmp slot) (map.entries self.now.rows) }
         ensures step { steps.new ≡ steps.old + 1 }
     {
         match &self.kept {
-            Kept::First(values) => with_entry(values.next_after(slot, steps)),
-            Kept::Under(_, rows) => rows.next_after(slot, steps),
+            Kept::First(_) => unreachable!(),
+            Kept::Under(_, rows) => full_entry(rows.next_after(slot, steps)),
         }
     }
 
@@ -232,7 +252,7 @@ impl Layer {
     {
         match &self.kept {
             Kept::First(values) => with_entry(values.next_on(object, passed, steps)),
-            Kept::Under(_, rows) => rows.next_on(object, passed, steps),
+            Kept::Under(_, rows) => full_entry(rows.next_on(object, passed, steps)),
         }
     }
 
@@ -246,10 +266,16 @@ impl Layer {
         ensures all { IfOk result (λ all. all.items ≡ map.entries self.now.rows) }
         ensures steps { steps.new ≤ steps.old + (length (map.entries self.now.rows) + 1) }
     {
-        match &self.kept {
-            Kept::First(_) => unreachable!(),
-            Kept::Under(_, rows) => rows.entries(alloc, steps),
+        let mut all = Vec::new(alloc);
+        let mut next = self.next_from(least_slot(), steps);
+        'rows: while let Some(row) = next {
+            match all.push(row) {
+                Ok(()) => {}
+                Err(_) => return Err(OutOfMemory),
+            }
+            next = self.next_after(row.0, steps);
         }
+        Ok(all)
     }
 
     /// Sets a slot of the first world.
@@ -283,7 +309,7 @@ impl Layer {
     {
         match &mut self.kept {
             Kept::First(_) => unreachable!(),
-            Kept::Under(_, rows) => rows.set(slot, row, steps),
+            Kept::Under(_, rows) => set_row(rows, slot, row, steps),
         }
     }
 

@@ -14,7 +14,7 @@ ghost use Rattle.wjs_base.specs.declared.values.Slot.{Slot};
 ghost use Rattle.wjs_overlay.specs.declared.layer.Layer.{Layer};
 ghost use Rattle.wjs_overlay.specs.Cursor.{IsNextSlot, lesser_of, with_present};
 ghost use Rattle.wjs_overlay.specs.Work.{row_slots};
-ghost use Rattle.wjs_overlay.specs.Look.{Looked, read_after, first_row_of};
+ghost use Rattle.wjs_overlay.specs.Look.{IsUntouched, Looked, read_after, first_row_of};
 ghost use Rattle.wjs_overlay.specs.Sparse.{IsSparse, IsAt, StandFor, full_of, depth_of};
 
 use crate::layer::{Layer, Look, Spot, close_all, close_layer, hand_reads, look_past, next_row};
@@ -114,6 +114,34 @@ fn read_above<L: Ledger>(
         written: false,
     };
     put_row(layers, world, slot, row, steps)?;
+    Ok(found)
+}
+
+/// `read_above` of a slot that holds what it holds in the first world: only there it is looked up.
+pub fn read_past<L: Ledger>(
+    layers: &mut [Layer],
+    world: Spot,
+    first: Spot,
+    slot: Slot,
+    steps: &mut Steps<L>,
+) -> Result<Content, OutOfMemory>
+    requires sparse { IsSparse layers.old }
+    requires there { IsAt layers.old world }
+    requires untouched { IfSome (slice_get layers.old world.place) (λ (r : Layer). IsUntouched r slot) }
+    requires first { IsAt layers.old first }
+    requires same { content_at (full_of layers.old) first.world slot ≡ content_at (full_of layers.old) world.world slot }
+    requires top { depth_of (full_of layers.old) first.world ≡ 0 }
+    ensures found { IfOk result (λ found. content_of found ≡ content_at (full_of layers.old) world.world slot) }
+    ensures after { OnOk result (StandFor layers.new (after_read (full_of layers.old) world.world slot)) }
+    ensures steps { steps.new ≤ steps.old + 3 }
+{
+    let found = content(layers, first, slot, steps);
+    let recorded = Row {
+        read: Some(found),
+        now: found,
+        written: false,
+    };
+    put_row(layers, world, slot, recorded, steps)?;
     Ok(found)
 }
 

@@ -4,14 +4,17 @@
 //! in it. What it holds elsewhere is its parent's. The first world keeps its present slots.
 #![tactic(auto)]
 
+mod bounds;
 mod calls;
 mod check;
+mod compact;
 mod layer;
 mod layers;
 mod maps;
 mod marks;
 mod numbers;
 mod overlay;
+mod short;
 mod uncounted;
 mod values;
 

@@ -1,5 +1,5 @@
 //! The marks of a world: how many there are, and its written slots one after another.
-ghost use Rattle.std.specs.Prelude.{◌≡◌, ◌<◌, if◌then◌else◌};
+ghost use Rattle.std.specs.Prelude.{◌≡◌, ◌<◌, if◌then◌else◌, is_some, true};
 ghost use Rattle.std.specs.FinMap as map;
 ghost use Rattle.std.specs.Prelude.{◌&&◌};
 ghost use Rattle.std.specs.Map.{lookup_entry};
@@ -32,6 +32,26 @@ pub fn count_marks<L: Ledger>(layer: &Layer, blank: Blank) -> Counts
     ensures writes { result.writes ≡ writes_in (map.entries layer.now.rows) }
     ensures closed { result.closed ≡ map.len layer.now.closed }
 {
+    if layer.is_first() {
+        return Counts {
+            reads: 0,
+            writes: 0,
+            closed: layer.closed().len() as u64,
+        };
+    }
+    count_rows::<L>(layer, blank)
+}
+
+/// `count_marks` of a world with a parent.
+fn count_rows<L: Ledger>(layer: &Layer, blank: Blank) -> Counts
+    requires name { blank.name ≡ L.name }
+    requires parts { blank.parts ≡ L.parts }
+    requires some { 0 < blank.parts }
+    requires child { is_some layer.now.above ≡ true }
+    ensures reads { result.reads ≡ reads_in (map.entries layer.now.rows) }
+    ensures writes { result.writes ≡ writes_in (map.entries layer.now.rows) }
+    ensures closed { result.closed ≡ map.len layer.now.closed }
+{
     let mut steps = Steps::<L>::new(blank);
     let total = layer.len();
     let mut seen = 0usize;
@@ -52,12 +72,13 @@ pub fn count_marks<L: Ledger>(layer: &Layer, blank: Blank) -> Counts
     }
 }
 
-/// The least row after the slots that were passed.
+/// The least row after the slots that were passed, in a world with a parent.
 fn row_after<L: Ledger>(
     layer: &Layer,
     passed: Option<Slot>,
     steps: &mut Steps<L>,
 ) -> Option<(Slot, Row)>
+    requires { is_some layer.now.above ≡ true }
     ensures { result ≡ lookup_entry (to_come passed) (map.entries layer.now.rows) }
 {
     match passed {
@@ -71,6 +92,20 @@ pub fn next_written<L: Ledger>(layer: &Layer, after: Option<Slot>, blank: Blank)
     requires name { blank.name ≡ L.name }
     requires parts { blank.parts ≡ L.parts }
     requires some { 0 < blank.parts }
+    ensures { IsLeast (λ (s : Slot). has_written layer.now.rows s && to_come after s) result }
+{
+    if layer.is_first() {
+        return None;
+    }
+    next_marked::<L>(layer, after, blank)
+}
+
+/// `next_written` in a world with a parent.
+fn next_marked<L: Ledger>(layer: &Layer, after: Option<Slot>, blank: Blank) -> Option<Slot>
+    requires name { blank.name ≡ L.name }
+    requires parts { blank.parts ≡ L.parts }
+    requires some { 0 < blank.parts }
+    requires child { is_some layer.now.above ≡ true }
     ensures { IsLeast (λ (s : Slot). has_written layer.now.rows s && to_come after s) result }
 {
     let mut steps = Steps::<L>::new(blank);

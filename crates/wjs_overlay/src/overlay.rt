@@ -1,7 +1,9 @@
 //! The store of sparse worlds.
 ghost use Rattle.std.specs.Prelude.{◌≡◌, false, IfOk, IsTrue};
 ghost use Rattle.wjs_overlay.specs.Store.{IsStore, store_prop, first_id};
+ghost use Rattle.wjs_overlay.specs.Touched.{IsCovered, covered_prop};
 
+use crate::bounds::{Bound, covers, hand_up, reach};
 use crate::layer::{Layer, Spot};
 use crate::marks::count_marks;
 use crate::numbers::{Owners, Places};
@@ -23,8 +25,11 @@ pub struct Overlay {
     layers: Vec<Layer>,
     places: Places,
     owners: Owners,
+    /// Which objects each world but the first may have touched: of others it holds what the first world does.
+    bounds: Vec<Bound>,
     spent: bool,
     ghost kept: { spent ≡ false → IsStore layers.items places owners } by { store_prop spent layers.items places owners },
+    ghost covered: { spent ≡ false → IsCovered bounds.items layers.items } by { covered_prop spent bounds.items layers.items },
 }
 
 /// The number of the first world.
@@ -38,7 +43,9 @@ fn first_world() -> WorldId
 }
 
 impl Overlay {
-    ghost use Rattle.std.specs.Prelude.{◌≡◌, ◌+◌, ◌*◌, ◌≤◌, false, IfOk, IsTrue};
+    ghost use Rattle.std.specs.Prelude.{◌≡◌, ◌+◌, ◌*◌, ◌<◌, ◌≤◌, true, false, IfOk, IsTrue, Some};
+    ghost use Rattle.wjs_base.specs.declared.ids.WorldId.{WorldId};
+    ghost use Rattle.wjs_overlay.specs.Covers.{covers};
     ghost use Rattle.wjs_store.specs.Fixed.{fixed, begun, fresh};
     ghost use Rattle.wjs_store.specs.Meaning.{Answers, worlds};
     ghost use Rattle.wjs_store.specs.State.{has_world, read, write, list, sprout, commit, found, wrote, listed, sprouted, committed};
@@ -69,6 +76,7 @@ impl Overlay {
         let mut layers = Vec::new(alloc);
         let mut places = Places::new(alloc);
         let mut owners = Owners::new(alloc);
+        let bounds = Vec::new(alloc);
         places.insert(first, 0)?;
         owners.insert(first.owner, 1)?;
         if layers.push(Layer::first(alloc, first)).is_err() {
@@ -79,6 +87,7 @@ impl Overlay {
             layers,
             places,
             owners,
+            bounds,
             spent: false,
         })
     }
@@ -111,6 +120,32 @@ impl Overlay {
         self.places.get(world).unwrap()
     }
 
+    /// The first world.
+    fn first_spot(&self) -> Spot
+        requires { self.now.spent ≡ false }
+        ensures at { IsAt self.now.layers.items result }
+        ensures place { result.place ≡ 0 }
+    {
+        Spot {
+            world: self.layers[0].id(),
+            place: 0,
+        }
+    }
+
+    /// The place of a world's parent, where it has one: an earlier one.
+    fn place_above(&self, at: Spot) -> usize
+        requires live { self.now.spent ≡ false }
+        requires there { IsAt self.now.layers.items at }
+        ensures { (p : WorldId) → parent_of (full_of self.now.layers.items) at.world ≡ Some p → (place_of (full_of self.now.layers.items) p ≡ Some result) ×
+            (result < at.place) }
+    {
+        let layer = &self.layers[at.place];
+        match layer.above() {
+            None => 0,
+            Some(above) => above.place,
+        }
+    }
+
     /// `read`, in at most twice the depth and 3 steps.
     #[inline(always)]
     pub fn read_counted<L: Ledger>(
@@ -134,7 +169,7 @@ impl Overlay {
         }
     }
 
-    /// `read_counted` at a place, without the short way through the first world.
+    /// `read_counted` at a place, in a world with a parent.
     #[inline(never)]
     fn read_marked<L: Ledger>(
         &mut self,
@@ -144,7 +179,53 @@ impl Overlay {
     ) -> Result<Content, OutOfMemory>
         requires live { self.old.spent ≡ false }
         requires there { IsAt self.old.layers.items at }
-        ensures answers { Answers (⟦<Overlay as WorldStore>⟧.meaning self.old) (read at.world slot) (λ content. found (content_of content)) result (⟦<Overlay as WorldStore>⟧.meaning self.new) }
+        requires child { 0 < at.place }
+        ensures answers { Answers (⟦<Overlay as WorldStore>⟧.meaning self.old) (read at.world slot) (λ content. found (content_of content)) result
+            (⟦<Overlay as WorldStore>⟧.meaning self.new) }
+        ensures steps { steps.new ≤ steps.old + (2 * depth_of (full_of self.old.layers.items) at.world + 3) }
+    {
+        if covers(self.bounds.as_slice(), at.place, slot.object.serial) {
+            return self.read_touched(at, slot, steps);
+        }
+        self.read_past(at, slot, steps)
+    }
+
+    /// `read_marked` of an object that no world between this one and the first has touched, this one neither: none of these is
+    /// looked at.
+    fn read_past<L: Ledger>(
+        &mut self,
+        at: Spot,
+        slot: Slot,
+        steps: &mut Steps<L>,
+    ) -> Result<Content, OutOfMemory>
+        requires live { self.old.spent ≡ false }
+        requires there { IsAt self.old.layers.items at }
+        requires child { 0 < at.place }
+        requires past { covers self.old.bounds.items at.place slot.object.serial ≡ false }
+        ensures answers { Answers (⟦<Overlay as WorldStore>⟧.meaning self.old) (read at.world slot) (λ content. found (content_of content)) result
+            (⟦<Overlay as WorldStore>⟧.meaning self.new) }
+        ensures steps { steps.new ≤ steps.old + 3 }
+    {
+        let first = self.first_spot();
+        self.spent = true;
+        reach(&mut self.bounds, at.place, slot.object.serial)?;
+        let answer = calls::read_past(&mut self.layers, at, first, slot, steps)?;
+        self.spent = false;
+        Ok(answer)
+    }
+
+    /// `read_marked` of an object that may have been touched.
+    fn read_touched<L: Ledger>(
+        &mut self,
+        at: Spot,
+        slot: Slot,
+        steps: &mut Steps<L>,
+    ) -> Result<Content, OutOfMemory>
+        requires live { self.old.spent ≡ false }
+        requires there { IsAt self.old.layers.items at }
+        requires within { covers self.old.bounds.items at.place slot.object.serial ≡ true }
+        ensures answers { Answers (⟦<Overlay as WorldStore>⟧.meaning self.old) (read at.world slot) (λ content. found (content_of content)) result
+            (⟦<Overlay as WorldStore>⟧.meaning self.new) }
         ensures steps { steps.new ≤ steps.old + (2 * depth_of (full_of self.old.layers.items) at.world + 3) }
     {
         self.spent = true;
@@ -193,6 +274,7 @@ impl Overlay {
         }
         let at = self.spot(world);
         self.spent = true;
+        reach(&mut self.bounds, at.place, slot.object.serial)?;
         calls::write(&mut self.layers, at, slot, content, steps)?;
         self.spent = false;
         Ok(())
@@ -213,6 +295,7 @@ impl Overlay {
         }
         let at = self.spot(world);
         self.spent = true;
+        reach(&mut self.bounds, at.place, object.serial)?;
         let answer = calls::list(self.alloc, &mut self.layers, at, object, steps)?;
         self.spent = false;
         Ok(answer)
@@ -235,7 +318,9 @@ impl Overlay {
             return Err(OutOfMemory);
         }
         let at = self.spot(world);
+        let above = self.place_above(at);
         self.spent = true;
+        hand_up(&mut self.bounds, at.place, above)?;
         let answer = calls::commit(self.alloc, &mut self.layers, at, steps)?;
         self.spent = false;
         Ok(answer)

@@ -1,96 +1,131 @@
-//! The first world's values, each of which stands for the row of a present slot.
+//! What the tables of a world keep, as contents and rows.
 ghost use Rattle.std.specs.Prelude.{◌≡◌, ◌+◌, OnOk};
-ghost use Rattle.std.specs.Option.{option_map, option_copied};
+ghost use Rattle.std.specs.FinMap as map;
+ghost use Rattle.std.specs.Option.{option_map, option_and_then, option_copied};
 ghost use Rattle.wjs_store.specs.State.{put};
 ghost use Rattle.wjs_store.specs.Shown.{content_of};
 ghost use Rattle.wjs_overlay.specs.declared.maps.Row.{Row};
 ghost use Rattle.wjs_overlay.specs.Look.{first_row_of};
-ghost use Rattle.wjs_overlay.specs.Tables.{row_with, entry_with, first_rows};
+ghost use Rattle.wjs_overlay.specs.Shorts.{row_first, row_in};
+ghost use Rattle.wjs_overlay.specs.Sparse.{now_of};
+ghost use Rattle.wjs_overlay.specs.Tables.{entry_by, rows_by};
 
+use crate::compact::{ShortContent, ShortRow};
 use crate::maps::Row;
+use crate::short::short_value;
 use std::sync::ledger::Ledger;
-use wjs_base::{Content, OutOfMemory, Slot, Value};
+use wjs_base::{Content, OutOfMemory, Slot};
 use wjs_rows::Steps;
-use wjs_slots::Table;
+use wjs_slots::{Table, Walked};
 
-/// The row of a present slot.
-fn row_of(value: Value) -> Row
-    ensures { result ≡ row_with value }
+/// The row of a slot of the first world.
+fn row_of(value: &ShortContent) -> Row
+    ensures { result ≡ row_first value.now }
 {
     Row {
         read: None,
-        now: Content::Present(value),
+        now: value.content(),
         written: false,
     }
 }
 
-/// What a slot with this value, or with none, holds.
+/// What a slot of the first world holds.
 #[inline(always)]
-pub fn content_with(value: Option<&Value>) -> Content
-    ensures { content_of result ≡ option_copied value.entry }
+pub fn content_with(value: Option<&ShortContent>) -> Content
+    ensures { content_of result ≡ option_and_then now_of (option_map row_first (option_copied value.entry)) }
 {
     match value {
         None => Content::Absent,
-        Some(value) => Content::Present(*value),
+        Some(value) => value.content(),
     }
 }
 
-/// What the row of a slot with a value says that it holds.
-pub fn present(value: Option<&Value>) -> Option<Content>
-    ensures { result ≡ option_map (λ (row : Row). row.now) (option_map row_with (option_copied value.entry)) }
+/// What the row of a slot of the first world says that it holds.
+pub fn present(value: Option<&ShortContent>) -> Option<Content>
+    ensures { result ≡ option_map (λ (row : Row). row.now) (option_map row_first (option_copied value.entry)) }
 {
     match value {
         None => None,
-        Some(value) => Some(Content::Present(*value)),
+        Some(value) => Some(value.content()),
     }
 }
 
 /// What a row says that its slot holds.
-pub fn held(row: Option<&Row>) -> Option<Content>
-    ensures { result ≡ option_map (λ (row : Row). row.now) (option_copied row.entry) }
+pub fn held(row: Option<&ShortRow>) -> Option<Content>
+    ensures { result ≡ option_map (λ (row : Row). row.now) (option_map row_in (option_copied row.entry)) }
 {
     match row {
         None => None,
-        Some(row) => Some(row.now),
+        Some(row) => Some(row.held.content()),
     }
 }
 
-/// The row of a slot with a value.
-pub fn with_row(value: Option<&Value>) -> Option<Row>
-    ensures { result ≡ option_map row_with (option_copied value.entry) }
+/// The row of a slot of the first world.
+pub fn with_row(value: Option<&ShortContent>) -> Option<Row>
+    ensures { result ≡ option_map row_first (option_copied value.entry) }
 {
     match value {
         None => None,
-        Some(value) => Some(row_of(*value)),
+        Some(value) => Some(row_of(value)),
     }
 }
 
-/// An entry with the row in place of the value.
-pub fn with_entry(entry: Option<(Slot, Value)>) -> Option<(Slot, Row)>
-    ensures { result ≡ option_map entry_with entry }
+/// The row of a slot of a child world.
+pub fn full_row(row: Option<&ShortRow>) -> Option<Row>
+    ensures { result ≡ option_map row_in (option_copied row.entry) }
+{
+    match row {
+        None => None,
+        Some(row) => Some(row.row()),
+    }
+}
+
+/// An entry of the first world with its row.
+pub fn with_entry(entry: Option<(Slot, ShortContent)>) -> Option<(Slot, Row)>
+    ensures { result ≡ option_map (entry_by row_first) entry }
 {
     match entry {
         None => None,
-        Some((slot, value)) => Some((slot, row_of(value))),
+        Some((slot, value)) => Some((slot, row_of(&value))),
     }
 }
 
-/// Sets a slot: an absent one has no value.
+/// An entry of a child world with its row.
+pub fn full_entry(entry: Option<(Slot, ShortRow)>) -> Option<(Slot, Row)>
+    ensures { result ≡ option_map (entry_by row_in) entry }
+{
+    match entry {
+        None => None,
+        Some((slot, row)) => Some((slot, row.row())),
+    }
+}
+
+/// Sets a slot of the first world: an absent one is not kept.
 #[inline(always)]
 pub fn set_value<L: Ledger>(
-    values: &mut Table<Value>,
+    values: &mut Table<ShortContent>,
     slot: Slot,
     content: Content,
     steps: &mut Steps<L>,
 ) -> Result<(), OutOfMemory>
-    ensures ok { OnOk result (first_rows values.new ≡ put (first_rows values.old) slot (first_row_of content)) }
+    ensures ok { OnOk result (rows_by row_first values.new ≡ put (rows_by row_first values.old) slot (first_row_of content)) }
     ensures step { steps.new ≡ steps.old + 1 }
 {
     match content {
-        Content::Absent => {
-            values.remove(slot, steps);
-            Ok(())
-        }
-        Content::Present(value) => values.set(slot, value, steps),
+        Content::Absent => values.remove(slot, steps),
+        Content::Present(value) => values.set(slot, short_value(value, false), steps),
     }
+}
+
+/// Puts a row into a child world.
+pub fn set_row<L: Ledger>(
+    rows: &mut Walked<ShortRow>,
+    slot: Slot,
+    row: Row,
+    steps: &mut Steps<L>,
+) -> Result<(), OutOfMemory>
+    ensures ok { OnOk result (rows_by row_in rows.new ≡ map.insert (rows_by row_in rows.old) slot row) }
+    ensures step { steps.new ≡ steps.old + 1 }
+{
+    rows.set(slot, ShortRow::new(row), steps)
 }

@@ -57,7 +57,8 @@ pub fn start_parts<S: WorldStore + Drop>(
 
 /// The names that parts declare, one part after another.
 fn names_of_parts(alloc: Global, parts: &[Unit]) -> Result<Vec<TextId>, OutOfMemory>
-    ensures are { IfOk result (λ names. (t : Table) → IsTable t → All (KnowsUnit t) parts.now → map (text_in t) names.items ≡ part_names (map (unit_in t) parts.now)) }
+    ensures are { IfOk result
+        (λ names. (t : Table) → IsTable t → All (KnowsUnit t) parts.now → map (text_in t) names.items ≡ part_names (map (unit_in t) parts.now)) }
     ensures found { IfOk result (λ names. (t : Table) → All (KnowsUnit t) parts.now → All (Has t) names.items) }
 {
     let mut names = Vec::new(alloc);
@@ -69,7 +70,9 @@ fn names_of_parts(alloc: Global, parts: &[Unit]) -> Result<Vec<TextId>, OutOfMem
 
 /// Puts the names that a part declares last.
 fn add_names(alloc: Global, names: &mut Vec<TextId>, part: &Unit) -> Result<(), OutOfMemory>
-    ensures are { OnOk result ((t : Table) → IsTable t → KnowsUnit t part.now → map (text_in t) names.new.items ≡ map (text_in t) names.old.items ++ declared_names (unit_in t part.now ∷ []) 0) }
+    ensures are { OnOk result
+        ((t : Table) → IsTable t → KnowsUnit t part.now →
+        map (text_in t) names.new.items ≡ map (text_in t) names.old.items ++ declared_names (unit_in t part.now ∷ []) 0) }
     ensures found { OnOk result ((t : Table) → KnowsUnit t part.now → All (Has t) names.old.items → All (Has t) names.new.items) }
 {
     let more = script_names(alloc, part)?;

@@ -1,6 +1,6 @@
 -- The visits of a listing, object by object.
-use Rattle.std.proofs.Common.{◌≡◌, ℕ, ◌+◌, Bool, true, false, cond, not, ◌||◌, List, [], ◌∷◌, ◌++◌, Option, None, Some, Result, Ok, Err, refl, sym, ap, ◌∙◌, subst, filter, map as each, drop, IsTrue, append_assoc}
-use Rattle.std.specs.Prelude.{is_some, slice_get, IfSome, OnOk}
+use Rattle.std.proofs.Common.{◌≡◌, ℕ, ◌+◌, Bool, true, false, cond, not, ◌||◌, List, [], ◌∷◌, ◌++◌, Option, None, Some, refl, sym, ap, ◌∙◌, subst, filter, map as each, drop, IsTrue, append_assoc}
+use Rattle.std.specs.Prelude.{is_some, slice_get, IfSome}
 use Rattle.std.specs.BTreeSet.{BTreeSet}
 use Rattle.std.specs.List.{list_any}
 use Rattle.std.specs.Option.{option_map, option_map_or}
@@ -131,11 +131,3 @@ module _ (h : Parts) (heap : IsHeap h) (o : ObjId) (x : Object) (there : IsTrue 
     visited_are order k =
         visits_are t o (filter (λ n. not ((flags_in x n).hidden || is_in seen n)) order)
         ∙ ap (each (slot o)) (sym (filter_each (name_in t) (IsName h.texts) (λ n. not (is_hidden (arena_in t h.arena) o n || list_any (same_text n) (each (name_in t) passed))) (λ n. not ((flags_in x n).hidden || is_in seen n)) passes order k))
-
--- by the hidden names
-pub visits_alike : (o : ObjId) (p p' q : Name → Bool) → ((n : Name) → p n ≡ p' n) → (names : List Name) → visits_of o p q names ≡ visits_of o p' q names
-visits_alike o p p' q e names = λ i. visits_of o (λ n. e n i) q names
-
-pub visited_as : {E : Type 0} (r : Result (Unit {0}) E) (o : ObjId) (p p' q : Name → Bool) → ((n : Name) → p n ≡ p' n) → (names : List Name) (old new : List Visit) → OnOk r (new ≡ old ++ visits_of o p q names) → OnOk r (new ≡ old ++ visits_of o p' q names)
-visited_as (Ok u) o p p' q e names old new so = so ∙ ap (λ vs. old ++ vs) (visits_alike o p p' q e names)
-visited_as (Err u) o p p' q e names old new so = tt

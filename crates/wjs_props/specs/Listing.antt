@@ -1,12 +1,11 @@
 -- Sets of names, and the visits of one object, by the numbers of texts.
-use Rattle.std.specs.Prelude.{◌≡◌, Bool, not, ◌||◌, List, map as each, filter, Option, None, Some}
+use Rattle.std.specs.Prelude.{◌≡◌, Bool, not, ◌||◌, List, map as each, filter}
 use Rattle.std.specs.BTreeSet.{BTreeSet, contains}
 use Rattle.std.specs.List.{list_any}
 use Rattle.std.specs.Ordering.{eq_by_cmp}
 use Rattle.wjs_base.specs.declared.ids.ObjId.{ObjId}
 use Rattle.wjs_base.specs.declared.values.Name.{Name}
 use Rattle.wjs_base.specs.Order.{name_cmp}
-use Rattle.wjs_arena.specs.declared.object.Flags.{Flags}
 use Rattle.wjs_props.specs.declared.visits.Visit.{Visit}
 
 -- whether the name is in the set
@@ -24,11 +23,6 @@ names_under xs = each (λ x. x.0) xs
 -- the set got these names
 abbrev pub Adds : BTreeSet Name → BTreeSet Name → List Name → Type 0
 Adds old new names = (n : Name) → is_in new n ≡ (is_among names n || is_in old n)
-
--- hidden where the attributes say so, and as before where there are none
-abbrev pub hidden_or : Option Flags → Bool → Bool
-hidden_or (Some flags) before = flags.hidden
-hidden_or None before = before
 
 -- a visit of an object's name
 abbrev pub visit_of : ObjId → Name → Visit

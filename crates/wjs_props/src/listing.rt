@@ -3,7 +3,8 @@ ghost use Rattle.std.specs.Prelude.{◌≡◌, ◌++◌, ◌∷◌, ◌||◌, no
 ghost use Rattle.wjs_base.specs.declared.values.Name.{Name};
 ghost use Rattle.wjs_store.specs.State.{has_world};
 ghost use Rattle.wjs_store.specs.Meaning.{worlds};
-ghost use Rattle.wjs_arena.specs.Chains.{flags_in};
+ghost use Rattle.std.specs.FinMap as map;
+ghost use Rattle.wjs_arena.specs.Chains.{flags, object_in};
 ghost use Rattle.wjs_arena.specs.Entries.{has};
 ghost use Rattle.wjs_content.specs.Tables.{arena_in};
 ghost use Rattle.wjs_content.specs.Renamed.{Holds};
@@ -15,11 +16,10 @@ ghost use Rattle.wjs_props.specs.Visits.{visits_in, HasVisit};
 
 use crate::deeds::list;
 use crate::order::in_order;
-use crate::seen::{add_fixed, add_names, hidden_names};
+use crate::seen::{add_fixed, add_names};
 use crate::visits::{Visit, Visits};
-use std::alloc::Global;
 use std::collections::BTreeSet;
-use wjs_arena::Object;
+use wjs_arena::Arena;
 use wjs_base::{Name, Names, ObjId, OutOfMemory, WorldId};
 use wjs_heap::Heap;
 use wjs_store::WorldStore;
@@ -47,12 +47,11 @@ pub fn list_names<S: WorldStore>(
     'up: loop {
         let names = list(heap, world, at)?;
         let order = in_order(alloc, &heap.texts, &names)?;
-        let listed = heap.arena.object(at);
-        visit(alloc, listed, at, &order, &seen, &mut visits)?;
-        match listed.prototype {
+        visit_names(&heap.arena, at, &order, &seen, &mut visits)?;
+        match heap.arena.prototype(at) {
             None => return Ok(visits),
             Some(prototype) => {
-                see(listed, &order, &mut seen)?;
+                see(&heap.arena, at, &order, &mut seen)?;
                 at = prototype;
             }
         }
@@ -60,58 +59,53 @@ pub fn list_names<S: WorldStore>(
 }
 
 /// Visits the names of an object that are not hidden and not seen.
-fn visit(
-    alloc: Global,
-    object: &Object,
-    id: ObjId,
-    order: &Names,
-    seen: &BTreeSet<Name>,
-    visits: &mut Visits,
-) -> Result<(), OutOfMemory>
-    ensures { OnOk result (visits.new ≡ visits.old ++ visits_of id (λ n. (flags_in object.now n).hidden) (is_in seen.now) order.now) }
-{
-    let hidden = hidden_names(alloc, object)?;
-    visit_names(id, order, &hidden, seen, visits)
-}
-
-/// Visits the names that are in neither set.
 fn visit_names(
+    arena: &Arena,
     object: ObjId,
     order: &Names,
-    hidden: &BTreeSet<Name>,
     seen: &BTreeSet<Name>,
     visits: &mut Visits,
 ) -> Result<(), OutOfMemory>
-    ensures { OnOk result (visits.new ≡ visits.old ++ visits_of object (is_in hidden.now) (is_in seen.now) order.now) }
+    requires { IsTrue (has arena.now object) }
+    ensures { OnOk result (visits.new ≡ visits.old ++ visits_of object (λ n. (flags arena.now object n).hidden) (is_in seen.now) order.now) }
 {
     let mut place = 0;
     'names: while place < order.len() {
-        visit_name(object, order.at(place), hidden, seen, visits)?;
+        visit_name(arena, object, order.at(place), seen, visits)?;
         place += 1;
     }
     Ok(())
 }
 
-/// Visits the name, unless it is in one of the sets.
+/// Visits the name, unless it is hidden or seen.
 fn visit_name(
+    arena: &Arena,
     object: ObjId,
     name: Name,
-    hidden: &BTreeSet<Name>,
     seen: &BTreeSet<Name>,
     visits: &mut Visits,
 ) -> Result<(), OutOfMemory>
-    ensures { OnOk result (visits.new ≡ visits.old ++ visits_of object (is_in hidden.now) (is_in seen.now) (name ∷ [])) }
+    requires { IsTrue (has arena.now object) }
+    ensures { OnOk result (visits.new ≡ visits.old ++ visits_of object (λ n. (flags arena.now object n).hidden) (is_in seen.now) (name ∷ [])) }
 {
-    if hidden.contains(&name) || seen.contains(&name) {
+    if arena.flags(object, name).hidden || seen.contains(&name) {
         return Ok(());
     }
     visits.push(Visit { object, name })
 }
 
 /// Notes the names of an object that was listed, and those of its fixed properties.
-fn see(object: &Object, order: &Names, seen: &mut BTreeSet<Name>) -> Result<(), OutOfMemory>
-    ensures { OnOk result ((n : Name) → is_in seen.new n ≡ (is_among (names_under object.now.fixed) n || (is_among order.now n || is_in seen.old n))) }
+fn see(
+    arena: &Arena,
+    object: ObjId,
+    order: &Names,
+    seen: &mut BTreeSet<Name>,
+) -> Result<(), OutOfMemory>
+    requires { IsTrue (has arena.now object) }
+    ensures { OnOk result
+        ((n : Name) →
+        is_in seen.new n ≡ (is_among (names_under (object_in (map.get arena.now object)).fixed) n || (is_among order.now n || is_in seen.old n))) }
 {
     add_names(seen, order)?;
-    add_fixed(seen, object.fixed.as_slice())
+    add_fixed(seen, arena.fixed_of(object))
 }

@@ -40,7 +40,7 @@ pub fn get<S: WorldStore>(
         if let Content::Present(_) = found {
             return Ok(found);
         }
-        match heap.arena.object(at).prototype {
+        match heap.arena.prototype(at) {
             None => return Ok(Content::Absent),
             Some(prototype) => at = prototype,
         }
@@ -71,7 +71,7 @@ pub fn peek<S: WorldStore>(
         if let Content::Present(_) = found {
             return Some(found);
         }
-        match heap.arena.object(here).prototype {
+        match heap.arena.prototype(here) {
             None => return Some(Content::Absent),
             Some(prototype) => here = prototype,
         }

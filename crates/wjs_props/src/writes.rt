@@ -57,7 +57,7 @@ fn is_array(arena: &Arena, object: ObjId) -> bool
     requires { IsTrue (has arena.now object) }
     ensures { (t : Table) → is_array (arena_in t arena.now) object ≡ result }
 {
-    matches!(arena.object(object).class, Class::Array)
+    matches!(arena.class(object), Class::Array)
 }
 
 /// Takes a property away from the object, and says whether it is gone (ECMA-262, 3rd edition, section 8.6.2.5): a fixed one

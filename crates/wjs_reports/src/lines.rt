@@ -63,7 +63,8 @@ fn push_line<S: WorldStore>(text: &mut String, store: &S, world: WorldId) -> Res
 /// A store that is spent has no worlds to tell, and want of memory is answered.
 pub fn world_lines<S: WorldStore>(alloc: Global, store: &S) -> Result<Vec<u8>, OutOfMemory>
     ensures lines { IfOk result (λ bytes. bytes.items ≡ lines_of (worlds (S.meaning store.now))) }
-    ensures by_content { IfOk result (λ bytes. (t : Table) → KnowsWorlds t (worlds (S.meaning store.now)) → bytes.items ≡ lines_of (worlds_in t (worlds (S.meaning store.now)))) }
+    ensures by_content { IfOk result
+        (λ bytes. (t : Table) → KnowsWorlds t (worlds (S.meaning store.now)) → bytes.items ≡ lines_of (worlds_in t (worlds (S.meaning store.now)))) }
 {
     if store.is_spent() {
         return Err(OutOfMemory);

@@ -79,7 +79,9 @@ fn property<S: WorldStore>(
 ) -> Result<Content, OutOfMemory>
     requires base { Base S.meaning config.old }
     requires object { HasObject config.old object }
-    ensures gets { IfOk result (λ found. Performs config.old.world (λ t. plan.get (arena_in t config.old.heap.arena) object units.now) (λ t. content_in t found) (parts S.meaning config.old.heap) (parts S.meaning config.new.heap)) }
+    ensures gets { IfOk result
+        (λ found. Performs config.old.world (λ t. plan.get (arena_in t config.old.heap.arena) object units.now) (λ t. content_in t found)
+        (parts S.meaning config.old.heap) (parts S.meaning config.new.heap)) }
     ensures leaves { OnOk result (Leaves S.meaning config.old config.new) }
     ensures found { IfOk result (λ found. HasContent config.new.heap.texts config.new.heap.arena (content_of found)) }
 {
@@ -136,7 +138,9 @@ fn fault_units<S: WorldStore>(
 fn show_fault<S: WorldStore>(config: &mut Config<S>, object: ObjId) -> Result<Vec<u8>, OutOfMemory>
     requires base { Base S.meaning config.old }
     requires object { HasObject config.old object }
-    ensures shows { let t = config.old.heap.texts in IfOk result (λ bytes. bytes.items ≡ utf8_of (shown_fault (arena_in t config.old.heap.arena) (worlds_in t (worlds (S.meaning config.old.heap.store))) config.old.world object)) }
+    ensures shows { let t = config.old.heap.texts in
+        IfOk result (λ bytes. bytes.items ≡ utf8_of
+        (shown_fault (arena_in t config.old.heap.arena) (worlds_in t (worlds (S.meaning config.old.heap.store))) config.old.world object)) }
     ensures leaves { OnOk result (Leaves S.meaning config.old config.new) }
 {
     let name = property(config, object, &NAME)?;
@@ -149,10 +153,12 @@ fn show_fault<S: WorldStore>(config: &mut Config<S>, object: ObjId) -> Result<Ve
 fn show_object<S: WorldStore>(config: &mut Config<S>, object: ObjId) -> Result<Vec<u8>, OutOfMemory>
     requires base { Base S.meaning config.old }
     requires object { HasObject config.old object }
-    ensures shows { let t = config.old.heap.texts in IfOk result (λ bytes. bytes.items ≡ utf8_of (shown_object (arena_in t config.old.heap.arena) (worlds_in t (worlds (S.meaning config.old.heap.store))) config.old.world object)) }
+    ensures shows { let t = config.old.heap.texts in
+        IfOk result (λ bytes. bytes.items ≡ utf8_of
+        (shown_object (arena_in t config.old.heap.arena) (worlds_in t (worlds (S.meaning config.old.heap.store))) config.old.world object)) }
     ensures leaves { OnOk result (Leaves S.meaning config.old config.new) }
 {
-    let class = config.heap.arena.object(object).class;
+    let class = config.heap.arena.class(object);
     match class {
         Class::Fault => show_fault(config, object),
         _ => utf8_of_units(config.heap.arena.allocator(), class_name(class)),

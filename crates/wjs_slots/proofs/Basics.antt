@@ -1,11 +1,12 @@
 -- Cases, and facts of orders and tests.
-use Rattle.std.proofs.Common.{◌≡◌, Bool, true, false, ◌&&◌, not, T, Option, None, Some, Result, Ok, Err, OnOk, OnErr, IfOk, refl, ap, sym, ◌∙◌}
+use Rattle.std.proofs.Common.{◌≡◌, Bool, true, false, ◌&&◌, not, T, Option, None, Some, is_some, Result, Ok, Err, OnOk, OnErr, IfOk, refl, ap, sym, ◌∙◌}
 use Rattle.std.specs.declared.cmp.Ordering.{Ordering}
 use Rattle.std.specs.declared.cmp.Ordering.TheVariants.{Less, Equal, Greater}
 use Rattle.std.specs.Ordering.{is_lt, is_gt, is_eq, ordering_reverse, eq_by_cmp}
 use Rattle.std.specs.Cmp.{IsTotalOrder, tied_itself}
 use Rattle.std.specs.FinMap.{IsAntisymmetric}
-use Rattle.std.specs.Option.{option_or}
+use Rattle.std.specs.Borrow.{Bor}
+use Rattle.std.specs.Option.{option_or, option_copied}
 use Rattle.std.proofs.lemmas.Bool.{false≢true}
 
 pub by_bool : {P : Type 0} (b : Bool) → (b ≡ true → P) → (b ≡ false → P) → P
@@ -20,6 +21,10 @@ pub by_cmp : {P : Type 0} (o : Ordering) → (o ≡ Less → P) → (o ≡ Equal
 by_cmp Less f g h = f refl
 by_cmp Equal f g h = g refl
 by_cmp Greater f g h = h refl
+
+pub some_copied : {A : Type 0} (o : Option (Bor A)) → is_some o ≡ is_some (option_copied o)
+some_copied None = refl
+some_copied (Some x) = refl
 
 pub some_is : {A : Type 0} (a b : A) → Some a ≡ Some b → a ≡ b
 some_is a b h = cc
@@ -101,6 +106,10 @@ by_result (Err e) f g h k = g k
 pub on_ok : {T E A B : Type 0} (r : Result T E) → (A → B) → OnOk r A → OnOk r B
 on_ok (Ok t) f h = f h
 on_ok (Err e) f h = tt
+
+pub on_err : {T E A B : Type 0} (r : Result T E) → (A → B) → OnErr r A → OnErr r B
+on_err (Ok t) f h = tt
+on_err (Err e) f h = f h
 
 pub if_ok : {T E : Type 0} {A B : T → Type 0} (r : Result T E) → ((t : T) → A t → B t) → IfOk r A → IfOk r B
 if_ok (Ok t) f h = f t h

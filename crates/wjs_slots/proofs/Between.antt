@@ -1,5 +1,5 @@
 -- The rows of objects from one to another.
-use Rattle.std.proofs.Common.{◌≡◌, true, false, List, None, Some, is_some, refl, ap, sym, ◌∙◌, subst}
+use Rattle.std.proofs.Common.{◌≡◌, true, false, List, [], ◌∷◌, length, None, Some, is_some, refl, ap, sym, ◌∙◌, subst}
 use Rattle.std.specs.declared.cmp.Ordering.{Ordering}
 use Rattle.std.specs.declared.cmp.Ordering.TheVariants.{Less, Equal, Greater}
 use Rattle.std.specs.Ordering.{is_lt, is_le, ordering_then, ordering_reverse}
@@ -16,6 +16,11 @@ use Rattle.wjs_slots.specs.Lists.{IsInOrder}
 use Rattle.wjs_slots.proofs.Basics.{by_cmp, by_option}
 use Rattle.wjs_slots.proofs.Least.{first_on}
 use Rattle.wjs_slots.proofs.Walks.{first_name}
+
+-- where there are no rows
+pub find_nothing : {V : Type 0} (q : Slot) (far : List (Slot × V)) → length far ≡ 0 → find slot_cmp q far ≡ None
+find_nothing q [] e = refl
+find_nothing q (x ∷ far) e = cc
 
 abbrev start_of : ObjId → Slot
 start_of object = record { object = object; name = Index 0 }

@@ -1,5 +1,5 @@
 -- What the rows at the first indices and those at all other names have at a name.
-use Rattle.std.proofs.Common.{◌≡◌, ℕ, zero, suc, ◌+◌, ◌<◌, ◌≤◌, true, false, cond, ltb, List, [], ◌∷◌, ◌++◌, length, set, get_or, Option, None, Some, is_some, slice_get, refl, ap, sym, ◌∙◌, arith, ltb-true, ltb-false, lt-ltb}
+use Rattle.std.proofs.Common.{◌≡◌, ℕ, zero, suc, ◌+◌, ◌<◌, ◌≤◌, Bool, true, false, cond, ltb, List, [], ◌∷◌, ◌++◌, length, set, length-set, get_or, Option, None, Some, is_some, slice_get, refl, ap, sym, ◌∙◌, arith, ltb-true, ltb-false, lt-ltb}
 use Rattle.std.specs.Ordering.{is_eq, nat_cmp, eq_by_cmp}
 use Rattle.std.specs.FinMap as map
 use Rattle.std.specs.FinMap.{FinMap, find}
@@ -22,10 +22,10 @@ use Rattle.wjs_slots.proofs.Lists.{find_append}
 pub by_lt : {P : Type 0} (a b : ℕ) → (a < b → P) → (b ≤ a → P) → P
 by_lt a b f g = by_bool (ltb a b) (λ t. f (ltb-true a b t)) (λ t. g (ltb-false a b t))
 
-same_index : (a b : ℕ) → a ≡ b → eq_by_cmp name_cmp (Index a) (Index b) ≡ true
+pub same_index : (a b : ℕ) → a ≡ b → eq_by_cmp name_cmp (Index a) (Index b) ≡ true
 same_index a b e = grind (arith, nat_tests)
 
-other_index : (a b : ℕ) → (a ≡ b → ⊥) → eq_by_cmp name_cmp (Index a) (Index b) ≡ false
+pub other_index : (a b : ℕ) → (a ≡ b → ⊥) → eq_by_cmp name_cmp (Index a) (Index b) ≡ false
 other_index a b n = by_bool (is_eq (nat_cmp a b)) (λ t. absurd (n (grind (arith, nat_tests)))) (λ f. f)
 
 pub record IsIndex (n : ℕ) (name : Name) (i : ℕ) : Type 0 where
@@ -90,6 +90,14 @@ module _ {V : Type 0} where
   -- where there is no row among the others
   pub none_beside : (n : ℕ) (rest : List (Name × V)) (name : Name) (i : ℕ) → IsBeside n rest → index_in n name ≡ Some i → find name_cmp name rest ≡ None
   none_beside n rest name i beside h = let p = placed n name i h in ap (λ x. find name_cmp x rest) p.name_is ∙ beside.apart i p.below
+
+  pub get_index : (dense : List (Option V)) (rest : List (Name × V)) (name : Name) (i : ℕ) → IsBeside (length dense) rest → index_in (length dense) name ≡ Some i → map.get (all dense rest) name ≡ dense_value dense (Index i)
+  get_index dense rest name i beside h =
+      let p = placed (length dense) name i h in
+      get_all dense rest name
+      ∙ ap (option_or (dense_value dense name)) (none_beside (length dense) rest name i beside h)
+      ∙ or_none (dense_value dense name)
+      ∙ ap (dense_value dense) p.name_is
 
   pub get_held : (dense : List (Option V)) (rest : List (Name × V)) (name : Name) (i : ℕ) (d : Option V) → IsBeside (length dense) rest → index_in (length dense) name ≡ Some i → map.get (all dense rest) name ≡ get_or dense i d
   get_held dense rest name i d beside h =
@@ -188,3 +196,12 @@ module _ {V : Type 0} where
 
   pub removed : (old new : FinMap name_cmp V) (name : Name) → ((q : Name) → map.get new q ≡ cond (eq_by_cmp name_cmp q name) None (map.get old q)) → new ≡ map.remove old name
   removed old new name h = map.same_map name_total name_exact new (map.remove old name) (λ q. h q ∙ sym (map.get-remove name_total old name q))
+
+-- a value is put where there is one
+pub held_length : {V : Type 0} (dense new : List (Option V)) (place : ℕ) (v : V) (b : Bool) → new ≡ cond b (set dense place (Some v)) dense → length new ≡ length dense
+held_length dense new place v true e = ap length e ∙ length-set dense place (Some v)
+held_length dense new place v false e = ap length e
+
+pub held_replaced : {V : Type 0} (dense new : List (Option V)) (rest : List (Name × V)) (name : Name) (place : ℕ) (v : V) (b : Bool) → IsBeside (length dense) rest → index_in (length dense) name ≡ Some place → new ≡ cond b (set dense place (Some v)) dense → all new rest ≡ cond b (map.insert (all dense rest) name v) (all dense rest)
+held_replaced dense new rest name place v true beside at e = inserted (all dense rest) (all new rest) name v (place_changed dense new rest name place (Some v) beside at (λ q. ap (λ d. dense_value d q) e))
+held_replaced dense new rest name place v false beside at e = ap (λ d. all d rest) e

@@ -18,32 +18,21 @@ use Rattle.wjs_slots.proofs.Basics.{by_option}
 use Rattle.wjs_slots.proofs.Dense.{by_lt, all, get_all, value_there}
 use Rattle.wjs_slots.proofs.Least.{first_on, like, least_is, least_either}
 
-from_true : (a b : ℕ) → a ≤ b → is_le (nat_cmp a b) ≡ true
+pub from_true : (a b : ℕ) → a ≤ b → is_le (nat_cmp a b) ≡ true
 from_true a b h = grind (arith, nat_tests)
 
-true_from : (a b : ℕ) → is_le (nat_cmp a b) ≡ true → a ≤ b
+pub true_from : (a b : ℕ) → is_le (nat_cmp a b) ≡ true → a ≤ b
 true_from a b h = grind (arith, nat_tests)
 
 not_before : (a b : ℕ) → b ≤ a → is_lt (nat_cmp a b) ≡ false
 not_before a b h = grind (arith, nat_tests)
 
 module _ {V : Type 0} (dense : List (Option V)) where
-  no_less : (start i : ℕ) → ((j : ℕ) → start ≤ j → j < i → dense_value dense (Index j) ≡ None) → (q : Name) → is_from name_cmp (Index start) q ≡ true → is_some (dense_value dense q) ≡ true → is_lt (name_cmp q (Index i)) ≡ false
+  pub no_less : (start i : ℕ) → ((j : ℕ) → start ≤ j → j < i → dense_value dense (Index j) ≡ None) → (q : Name) → is_from name_cmp (Index start) q ≡ true → is_some (dense_value dense q) ≡ true → is_lt (name_cmp q (Index i)) ≡ false
   no_less start i before (Index j) y s = by_lt j i
       (λ l. absurd (false≢true (sym (ap is_some (before j (true_from start j y) l)) ∙ s)))
       (λ l. not_before j i l)
   no_less start i before (Text t) y s = refl
-
-  pub first_some : (start i : ℕ) (d : Option V) (v : V) → start ≤ i → i < length dense → get_or dense i d ≡ Some v → ((j : ℕ) → start ≤ j → j < i → dense_value dense (Index j) ≡ None)
-      → IsLeast name_cmp (dense_value dense) (is_from name_cmp (Index start)) (Some (Index i, v))
-  first_some start i d v from l is before = (from_true start i from, ap held_in (slice_get-get_or dense i d l) ∙ is, no_less start i before)
-
-  pub first_later : (start i : ℕ) (d : Option V) → i < length dense → get_or dense i d ≡ None → ((j : ℕ) → start ≤ j → j < i → dense_value dense (Index j) ≡ None) → (j : ℕ) → start ≤ j → j < i + 1 → dense_value dense (Index j) ≡ None
-  first_later start i d in_list is before j from l = by_lt j i (λ k. before j from k) (λ k. let e : j ≡ i = omega arith in ap (λ n. held_in (slice_get dense n)) e ∙ ap held_in (slice_get-get_or dense i d in_list) ∙ is)
-
-  pub first_none : (start i : ℕ) → length dense ≤ i → ((j : ℕ) → start ≤ j → j < i → dense_value dense (Index j) ≡ None) → (q : Name) → is_from name_cmp (Index start) q ≡ true → dense_value dense q ≡ None
-  first_none start i l before (Index j) y = by_lt j i (λ k. before j (true_from start j y) k) (λ k. ap held_in (slice_get_past dense j (omega arith)))
-  first_none start i l before (Text t) y = refl
 
   module _ (rest : List (Name × V)) (beside : IsBeside (length dense) rest) where
     rest_past : (k q : Name) → is_some (dense_value dense k) ≡ true → is_some (find name_cmp q rest) ≡ true → is_lt (name_cmp q k) ≡ false

@@ -1,22 +1,18 @@
 -- The two parts of a table together.
-use Rattle.std.proofs.Common.{◌≡◌, ℕ, ◌+◌, ◌<◌, ◌≤◌, Bool, true, false, cond, nat_le, List, [], ◌∷◌, length, Option, None, Some, refl, ap, sym, ◌∙◌, subst, arith}
+use Rattle.std.proofs.Common.{◌≡◌, ℕ, ◌+◌, ◌-◌, ◌<◌, ◌≤◌, ◌^◌, ◌==◌, Bool, true, false, cond, nat_le, List, [], ◌∷◌, length, Option, None, Some, refl, ap, sym, ◌∙◌, subst, arith, eqb-true}
 use Rattle.std.specs.Ordering.{is_le, ordering_then, nat_cmp, eq_by_cmp}
 use Rattle.std.specs.Cmp.{nat_cmp_total, tied_itself}
 use Rattle.std.specs.FinMap as map
 use Rattle.std.specs.FinMap.{FinMap, find}
-use Rattle.std.specs.Map.{lookup_entry}
-use Rattle.std.specs.Option.{option_or}
 use Rattle.std.proofs.lemmas.Bool.Decides.{nat_tests}
 use Rattle.wjs_base.specs.declared.ids.ObjId.{ObjId}
 use Rattle.wjs_base.specs.declared.values.Name.{Name}
 use Rattle.wjs_base.specs.declared.values.Slot.{Slot}
 use Rattle.wjs_base.specs.Order.{name_cmp, obj_cmp, slot_cmp, slot_total, slot_exact, name_total}
-use Rattle.wjs_slots.specs.Least.{IsLeast, lesser_entry}
-use Rattle.wjs_slots.specs.Near.{near_value, IsSplit}
+use Rattle.wjs_slots.specs.Near.{IsSplit}
 use Rattle.wjs_slots.proofs.Basics.{by_bool}
-use Rattle.wjs_slots.proofs.Least.{first_on, like, least_is, least_either}
 use Rattle.wjs_slots.proofs.Walks.{true_le}
-use Rattle.wjs_slots.proofs.Values.{placed_is, placed_at, near_there, table, get_table}
+use Rattle.wjs_slots.proofs.Values.{placed_is, placed_at, table}
 
 le_cmp : (a b : ℕ) → a ≤ b → is_le (nat_cmp a b) ≡ true
 le_cmp a b h = grind (arith, nat_tests)
@@ -27,41 +23,49 @@ false_lt a b h = grind (arith, nat_tests)
 le_object : (a b : ObjId) → a.owner ≡ b.owner → a.serial ≤ b.serial → is_le (obj_cmp a b) ≡ true
 le_object a b h l = ap (λ n. is_le (ordering_then (nat_cmp n b.owner) (nat_cmp a.serial b.serial))) h ∙ ap (λ c. is_le (ordering_then c (nat_cmp a.serial b.serial))) (tied_itself nat_cmp_total b.owner) ∙ le_cmp a.serial b.serial l
 
+-- some or none
+by_count : {P : Type 0} (n : ℕ) → (n ≡ 0 → P) → (0 < n → P) → P
+by_count n f g = by_bool (n == 0) (λ e. f (eqb-true n 0 e)) (λ e. g (grind (arith, nat_tests)))
+
 module _ {V : Type 0} where
-  -- the least row of both parts
-  pub next_of : (owner : ℕ) (ms : List (FinMap name_cmp V)) (far : List (Slot × V)) (p : Slot → Bool) (a b : Option (Slot × V)) → IsSplit owner (length ms) far
-      → IsLeast slot_cmp (near_value owner ms) p a → b ≡ lookup_entry p far → lesser_entry slot_cmp a b ≡ lookup_entry p (map.entries (table owner ms far))
-  next_of owner ms far p a b split near is =
-      least_is slot_total slot_exact p (table owner ms far) (lesser_entry slot_cmp a b)
-      (like slot_total slot_exact p (λ q. option_or (near_value owner ms q) (find slot_cmp q far)) (map.get (table owner ms far)) (lesser_entry slot_cmp a b) (get_table owner ms far)
-      (least_either slot_total slot_exact p (near_value owner ms) (λ q. find slot_cmp q far) a b
-      (λ q s. split.apart q (near_there owner ms q s))
-      near
-      (subst (IsLeast slot_cmp (λ q. find slot_cmp q far) p) (sym is) (first_on slot_total slot_exact p far split.ordered))))
+  -- an owner of no objects may be any, and begin anywhere
+  pub settled : (owner other first next : ℕ) (ms : List (FinMap name_cmp V)) (far : List (Slot × V)) → (0 < length ms → other ≡ owner) → (0 < length ms → next ≡ first) → table other next ms far ≡ table owner first ms far
+  settled owner other first next [] far h k = refl
+  settled owner other first next (m ∷ ms) far h k = ap (λ o. table o next (m ∷ ms) far) (h (omega arith)) ∙ ap (λ f. table owner f (m ∷ ms) far) (k (omega arith))
 
-  -- an owner of no objects may be any
-  pub settled : (owner other : ℕ) (ms : List (FinMap name_cmp V)) (far : List (Slot × V)) → (0 < length ms → other ≡ owner) → table other ms far ≡ table owner ms far
-  settled owner other [] far h = refl
-  settled owner other (m ∷ ms) far h = ap (λ o. table o (m ∷ ms) far) (h (omega arith))
-
-  pub split_settled : (owner other n : ℕ) (far : List (Slot × V)) → (0 < n → other ≡ owner) → IsSplit owner n far → IsSplit other n far
-  split_settled owner other n far h split = record {
-    apart = λ q at. let p = placed_is other n q.object q.object.serial at in let b = p.below in
-        split.apart q (placed_at owner n q.object (p.owner_is ∙ h (omega arith)) p.below);
+  pub split_settled : (owner other first next n : ℕ) (far : List (Slot × V)) → (0 < n → other ≡ owner) → (0 < n → next ≡ first) → (n ≡ 0 → next ≤ 2 ^ 64) → IsSplit owner first n far → IsSplit other next n far
+  split_settled owner other first next n far h k none split = record {
+    apart = λ q at.
+        let p = placed_is other next n q.object (q.object.serial - next) at in
+        let b = p.below in
+        let s = p.from in
+        let some : 0 < n = omega arith in
+        let e = k some in
+        let s' : first ≤ q.object.serial = omega arith in
+        let b' : q.object.serial - first < n = omega arith in
+        split.apart q (placed_at owner first n q.object (p.owner_is ∙ h some) s' b');
     ordered = split.ordered;
+    short = let l = split.short in by_count n (λ e. let s = none e in subst (λ z. next + z ≤ 2 ^ 64) (sym e) (omega arith)) (λ some. subst (λ f. f + n ≤ 2 ^ 64) (sym (k some)) l);
   }
 
   -- more objects are near where no far row is of any
-  pub split_grown : (owner n more : ℕ) (last : ObjId) (far : List (Slot × V)) → IsSplit owner n far → last.owner ≡ owner → more ≤ last.serial + 1
-      → ((q : Slot) → is_le (obj_cmp (record { owner = owner; serial = n }) q.object) ≡ true → is_le (obj_cmp q.object last) ≡ true → find slot_cmp q far ≡ None)
-      → IsSplit owner more far
-  split_grown owner n more last far split o l none = record {
-    apart = λ q at. let p = placed_is owner more q.object q.object.serial at in
+  pub split_grown : (owner first n more : ℕ) (last : ObjId) (far : List (Slot × V)) → IsSplit owner first n far → last.owner ≡ owner → last.serial < 2 ^ 64 → first + more ≤ last.serial + 1
+      → ((q : Slot) → is_le (obj_cmp (record { owner = owner; serial = first + n }) q.object) ≡ true → is_le (obj_cmp q.object last) ≡ true → find slot_cmp q far ≡ None)
+      → IsSplit owner first more far
+  split_grown owner first n more last far split o small l none = record {
+    apart = λ q at.
+        let p = placed_is owner first more q.object (q.object.serial - first) at in
         let b = p.below in
-        by_bool (nat_le n q.object.serial)
-        (λ t. none q (le_object (record { owner = owner; serial = n }) q.object (sym p.owner_is) (true_le n q.object.serial t)) (le_object q.object last (p.owner_is ∙ sym o) (omega arith)))
-        (λ f. split.apart q (placed_at owner n q.object p.owner_is (false_lt n q.object.serial f)));
+        let s = p.from in
+        let here : q.object.serial ≤ last.serial = omega arith in
+        by_bool (nat_le (first + n) q.object.serial)
+        (λ t. none q (le_object (record { owner = owner; serial = first + n }) q.object (sym p.owner_is) (true_le (first + n) q.object.serial t)) (le_object q.object last (p.owner_is ∙ sym o) here))
+        (λ f.
+        let c = false_lt (first + n) q.object.serial f in
+        let d : q.object.serial - first < n = omega arith in
+        split.apart q (placed_at owner first n q.object p.owner_is p.from d));
     ordered = split.ordered;
+    short = omega arith;
   }
 
 -- ---- one object's names

@@ -13,3 +13,6 @@ pub mod Halves
 pub mod Counts
 pub mod Entries
 pub mod OnObjects
+pub mod Rowing
+pub mod Starting
+pub mod Shorts

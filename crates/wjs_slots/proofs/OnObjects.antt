@@ -30,13 +30,13 @@ all_come = λ i name. first_name name i
 
 -- ---- slots of one object
 
-same_cmp : (a b : Slot) → a.object ≡ b.object → slot_cmp a b ≡ name_cmp a.name b.name
+pub same_cmp : (a b : Slot) → a.object ≡ b.object → slot_cmp a b ≡ name_cmp a.name b.name
 same_cmp a b e = ap (λ o. ordering_then (obj_cmp o b.object) (name_cmp a.name b.name)) e ∙ ap (λ c. ordering_then c (name_cmp a.name b.name)) (tied_itself obj_total b.object)
 
-on_is : (o : ObjId) (passed : Option Name) (q : Slot) → is_next_on o passed q ≡ true → (q.object ≡ o) × (comes_past passed q.name ≡ true)
+pub on_is : (o : ObjId) (passed : Option Name) (q : Slot) → is_next_on o passed q ≡ true → (q.object ≡ o) × (comes_past passed q.name ≡ true)
 on_is o passed q h = let b = and_parts (is_object q.object o) (comes_past passed q.name) h in ((object_Decides q.object o).0 b.0, b.1)
 
-on_from : (o : ObjId) (passed : Option Name) (q : Slot) → q.object ≡ o → comes_past passed q.name ≡ true → is_next_on o passed q ≡ true
+pub on_from : (o : ObjId) (passed : Option Name) (q : Slot) → q.object ≡ o → comes_past passed q.name ≡ true → is_next_on o passed q ≡ true
 on_from o passed q e h = ap (λ b. b && comes_past passed q.name) ((object_Decides q.object o).1 e) ∙ h
 
 -- they stand together
@@ -109,20 +109,20 @@ module _ {V : Type 0} (o : ObjId) where
 
 -- ---- both parts
 
-module _ {V : Type 0} (owner : ℕ) (ms : List (FinMap name_cmp V)) (far : List (Slot × V)) (o : ObjId) (passed : Option Name) where
-  pub near_next : (i : ℕ) (m : FinMap name_cmp V) → IsSplit owner (length ms) far → place_in owner (length ms) o ≡ Some i → m ≡ get_or ms i m
-      → option_map (row_on o) (lookup_entry (comes_past passed) (map.entries m)) ≡ lookup_entry (is_next_on o passed) (map.entries (table owner ms far))
+module _ {V : Type 0} (owner first : ℕ) (ms : List (FinMap name_cmp V)) (far : List (Slot × V)) (o : ObjId) (passed : Option Name) where
+  pub near_next : (i : ℕ) (m : FinMap name_cmp V) → IsSplit owner first (length ms) far → place_in owner first (length ms) o ≡ Some i → m ≡ get_or ms i m
+      → option_map (row_on o) (lookup_entry (comes_past passed) (map.entries m)) ≡ lookup_entry (is_next_on o passed) (map.entries (table owner first ms far))
   near_next i m split at is =
-      least_is slot_total slot_exact (is_next_on o passed) (table owner ms far) (option_map (row_on o) (lookup_entry (comes_past passed) (map.entries m)))
-      (near_least (map.get (table owner ms far)) o passed m
-      (λ q e. get_near owner ms far q i m split.apart (ap (place_in owner (length ms)) e ∙ at) ∙ ap (λ x. map.get x q.name) (sym is))
+      least_is slot_total slot_exact (is_next_on o passed) (table owner first ms far) (option_map (row_on o) (lookup_entry (comes_past passed) (map.entries m)))
+      (near_least (map.get (table owner first ms far)) o passed m
+      (λ q e. get_near owner first ms far q i m split.apart (ap (place_in owner first (length ms)) e ∙ at) ∙ ap (λ x. map.get x q.name) (sym is))
       (lookup_entry (comes_past passed) (map.entries m))
       (first_is name_total name_exact (comes_past passed) m))
 
-  pub far_next : IsSplit owner (length ms) far → place_in owner (length ms) o ≡ None → lookup_entry (is_next_on o passed) far ≡ lookup_entry (is_next_on o passed) (map.entries (table owner ms far))
+  pub far_next : IsSplit owner first (length ms) far → place_in owner first (length ms) o ≡ None → lookup_entry (is_next_on o passed) far ≡ lookup_entry (is_next_on o passed) (map.entries (table owner first ms far))
   far_next split none =
-      least_is slot_total slot_exact (is_next_on o passed) (table owner ms far) (lookup_entry (is_next_on o passed) far)
-      (far_least (map.get (table owner ms far)) o passed (λ q. find slot_cmp q far)
-      (λ q e. get_far owner ms far q (ap (place_in owner (length ms)) e ∙ none))
+      least_is slot_total slot_exact (is_next_on o passed) (table owner first ms far) (lookup_entry (is_next_on o passed) far)
+      (far_least (map.get (table owner first ms far)) o passed (λ q. find slot_cmp q far)
+      (λ q e. get_far owner first ms far q (ap (place_in owner first (length ms)) e ∙ none))
       (lookup_entry (is_next_on o passed) far)
       (first_on slot_total slot_exact (is_next_on o passed) far split.ordered))

@@ -20,6 +20,7 @@ use Rattle.wjs_slots.proofs.Lists.{first_after, none_below, all_without, below_t
 -- the key is at n
 pub record IsFoundAt {K V : Type 0} (R : K → K → Ordering) (k : K) (es : List (K × V)) (n : ℕ) : Type 0 where
   pub below : n < length es
+  pub key : (d : K × V) → (get_or es n d).0 ≡ k
   pub value : (d : K × V) → find R k es ≡ Some (get_or es n d).1
   pub puts : (v : V) → set es n (k, v) ≡ put R k v es
   pub removes : T (is_sorted R es) → remove es n ≡ without R k es
@@ -41,6 +42,7 @@ module _ {K V : Type 0} {R : K → K → Ordering} (total : IsTotalOrder R) (exa
   found_first : (e : K × V) (es : List (K × V)) → R k e.0 ≡ Equal → IsFoundAt R k (e ∷ es) 0
   found_first e es o = record {
     below = omega arith;
+    key = λ d. sym (exact k e.0 o);
     value = λ d. ap (λ c. cond (is_eq c) (Some e.1) (find R k es)) o;
     puts = λ v. ap (λ c. (c, v) ∷ es) (exact k e.0 o) ∙ sym (ap (λ c. by_order c ((k, v) ∷ e ∷ es) ((e.0, v) ∷ es) (e ∷ put R k v es)) o);
     removes = λ s. sym (ap (λ c. cond (not (is_eq c)) (e ∷ without R k es) (without R k es)) o ∙ all_without R k es (below_tied total k e.0 es o (left_true (below_all R e.0 es) (is_sorted R es) s)));
@@ -51,6 +53,7 @@ module _ {K V : Type 0} {R : K → K → Ordering} (total : IsTotalOrder R) (exa
   found_later : (e : K × V) (es : List (K × V)) (n : ℕ) → R k e.0 ≡ Greater → IsFoundAt R k es n → IsFoundAt R k (e ∷ es) (suc n)
   found_later e es n o f = record {
     below = let b = f.below in omega arith;
+    key = f.key;
     value = λ d. ap (λ c. cond (is_eq c) (Some e.1) (find R k es)) o ∙ f.value d;
     puts = λ v. ap (λ rest. e ∷ rest) (f.puts v) ∙ sym (ap (λ c. by_order c ((k, v) ∷ e ∷ es) ((e.0, v) ∷ es) (e ∷ put R k v es)) o);
     removes = λ s. ap (λ rest. e ∷ rest) (f.removes (right_true (below_all R e.0 es) (is_sorted R es) s)) ∙ sym (ap (λ c. cond (not (is_eq c)) (e ∷ without R k es) (without R k es)) o);
@@ -118,10 +121,10 @@ less_read R x (e ∷ es) (suc n) d h l = less_read R x es n d (right_true (is_lt
 
 module _ {K V : Type 0} {R : K → K → Ordering} (total : IsTotalOrder R) where
   -- what is at an entry is past those before it
-  past_tied : (k : K) (e : K × V) (es : List (K × V)) (n : ℕ) (d : K × V) → T (is_sorted R (e ∷ es)) → n < length es → R k (get_or es n d).0 ≡ Equal → R k e.0 ≡ Greater
+  pub past_tied : (k : K) (e : K × V) (es : List (K × V)) (n : ℕ) (d : K × V) → T (is_sorted R (e ∷ es)) → n < length es → R k (get_or es n d).0 ≡ Equal → R k e.0 ≡ Greater
   past_tied k e es n d h l o = total.congr k (get_or es n d).0 e.0 o ∙ reversed total e.0 (get_or es n d).0 (less_read R e.0 es n d (left_true (below_all R e.0 es) (is_sorted R es) h) l)
 
-  past_greater : (k : K) (e : K × V) (es : List (K × V)) (n : ℕ) (d : K × V) → T (is_sorted R (e ∷ es)) → n < length es → R k (get_or es n d).0 ≡ Greater → R k e.0 ≡ Greater
+  pub past_greater : (k : K) (e : K × V) (es : List (K × V)) (n : ℕ) (d : K × V) → T (is_sorted R (e ∷ es)) → n < length es → R k (get_or es n d).0 ≡ Greater → R k e.0 ≡ Greater
   past_greater k e es n d h l o = reversed total e.0 k (total.trans e.0 (get_or es n d).0 k (less_read R e.0 es n d (left_true (below_all R e.0 es) (is_sorted R es) h) l) (total.antisymm (get_or es n d).0 k ∙ ap ordering_reverse o))
 
   pub seek_at : (k : K) (i : ℕ) (es : List (K × V)) (n : ℕ) (d : K × V) → T (is_sorted R es) → n < length es → R k (get_or es n d).0 ≡ Equal → seek R k i es ≡ Ok (i + n)

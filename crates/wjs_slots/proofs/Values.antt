@@ -1,5 +1,5 @@
 -- What the two parts of a table have at a slot.
-use Rattle.std.proofs.Common.{◌≡◌, ℕ, zero, suc, ◌+◌, ◌<◌, ◌≤◌, Bool, true, false, cond, ◌&&◌, ◌==◌, ltb, List, [], ◌∷◌, ◌++◌, length, get_or, None, Some, is_some, slice_get, refl, ap, sym, ◌∙◌, arith, eqb-true, eq-eqb, ltb-true, ltb-false, lt-ltb}
+use Rattle.std.proofs.Common.{◌≡◌, ℕ, zero, suc, ◌+◌, ◌-◌, ◌<◌, ◌≤◌, nat_le, Bool, true, false, cond, ◌&&◌, ◌==◌, ltb, List, [], ◌∷◌, ◌++◌, length, get_or, None, Some, is_some, slice_get, refl, ap, sym, subst, ◌∙◌, arith, eqb-true, eq-eqb, ltb-true, ltb-false, lt-ltb}
 use Rattle.std.specs.declared.cmp.Ordering.{Ordering}
 use Rattle.std.specs.declared.cmp.Ordering.TheVariants.{Less, Equal, Greater}
 use Rattle.std.specs.Ordering.{is_eq, ordering_then, nat_cmp}
@@ -8,12 +8,13 @@ use Rattle.std.specs.FinMap as map
 use Rattle.std.specs.FinMap.{FinMap, find}
 use Rattle.std.specs.Option.{option_or}
 use Rattle.std.proofs.lemmas.Bool.{false≢true}
+use Rattle.std.proofs.lemmas.Bool.Decides.{nat_tests}
 use Rattle.std.proofs.lemmas.Option.{slice_get_past, slice_get-get_or}
 use Rattle.wjs_base.specs.declared.ids.ObjId.{ObjId}
 use Rattle.wjs_base.specs.declared.values.Name.{Name}
 use Rattle.wjs_base.specs.declared.values.Slot.{Slot}
 use Rattle.wjs_base.specs.Order.{name_cmp, obj_cmp, slot_cmp, obj_exact, slot_total}
-use Rattle.wjs_slots.specs.Near.{place_in, value_in, near_value, rows_at, near_rows, IsApart}
+use Rattle.wjs_slots.specs.Near.{place_in, value_in, held_at, near_value, rows_at, near_rows, IsApart}
 use Rattle.wjs_slots.proofs.Basics.{by_bool, by_option, some_is, no_none, equal_is, or_none}
 use Rattle.wjs_slots.proofs.Lists.{find_append}
 
@@ -32,51 +33,85 @@ not_then Greater b h = refl
 
 -- ---- places
 
-pub record IsPlaced (owner n : ℕ) (object : ObjId) (i : ℕ) : Type 0 where
+pub of_le : (a b : ℕ) → a ≤ b → nat_le a b ≡ true
+of_le a b h = grind (arith, nat_tests)
+
+pub le_of : (a b : ℕ) → nat_le a b ≡ true → a ≤ b
+le_of a b h = grind (arith, nat_tests)
+
+pub not_le : (a b : ℕ) → nat_le a b ≡ false → b < a
+not_le a b h = grind (arith, nat_tests)
+
+lt_not : (a b : ℕ) → b < a → nat_le a b ≡ false
+lt_not a b h = grind (arith, nat_tests)
+
+pub record IsPlaced (owner first n : ℕ) (object : ObjId) (i : ℕ) : Type 0 where
   pub owner_is : object.owner ≡ owner
-  pub below : object.serial < n
-  pub serial_is : i ≡ object.serial
+  pub from : first ≤ object.serial
+  pub below : i < n
+  pub serial_is : i ≡ object.serial - first
 
 both_of : (a b : Bool) → (a && b) ≡ true → (a ≡ true) × (b ≡ true)
 both_of true b h = (refl, h)
 both_of false b h = absurd (false≢true h)
 
-pub placed_is : (owner n : ℕ) (object : ObjId) (i : ℕ) → place_in owner n object ≡ Some i → IsPlaced owner n object i
-placed_is owner n object i h = by_bool ((object.owner == owner) && ltb object.serial n)
-    (λ t. let b = both_of (object.owner == owner) (ltb object.serial n) t in
+pub placed_is : (owner first n : ℕ) (object : ObjId) (i : ℕ) → place_in owner first n object ≡ Some i → IsPlaced owner first n object i
+placed_is owner first n object i h = by_bool ((object.owner == owner) && (nat_le first object.serial && ltb (object.serial - first) n))
+    (λ t.
+    let b = both_of (object.owner == owner) (nat_le first object.serial && ltb (object.serial - first) n) t in
+    let d = both_of (nat_le first object.serial) (ltb (object.serial - first) n) b.1 in
+    let l : object.serial - first < n = ltb-true (object.serial - first) n d.1 in
+    let e : i ≡ object.serial - first = sym (some_is (object.serial - first) i (sym (ap (λ c. cond c (Some (object.serial - first)) None) t) ∙ h)) in
     record {
       owner_is = eqb-true object.owner owner b.0;
-      below = ltb-true object.serial n b.1;
-      serial_is = sym (some_is object.serial i (sym (ap (λ c. cond c (Some object.serial) None) t) ∙ h));
+      from = le_of first object.serial d.0;
+      below = subst (λ k. k < n) (sym e) l;
+      serial_is = e;
     })
-    (λ f. no_none i (sym (ap (λ c. cond c (Some object.serial) None) f) ∙ h))
+    (λ f. no_none i (sym (ap (λ c. cond c (Some (object.serial - first)) None) f) ∙ h))
 
-pub placed_at : (owner n : ℕ) (object : ObjId) → object.owner ≡ owner → object.serial < n → place_in owner n object ≡ Some object.serial
-placed_at owner n object h l = ap (λ c. cond (c && ltb object.serial n) (Some object.serial) None) (eq-eqb object.owner owner h) ∙ ap (λ c. cond c (Some object.serial) None) (lt-ltb object.serial n l)
+pub placed_at : (owner first n : ℕ) (object : ObjId) → object.owner ≡ owner → first ≤ object.serial → object.serial - first < n → place_in owner first n object ≡ Some (object.serial - first)
+placed_at owner first n object h f l =
+    ap (λ c. cond (c && (nat_le first object.serial && ltb (object.serial - first) n)) (Some (object.serial - first)) None) (eq-eqb object.owner owner h)
+    ∙ ap (λ c. cond (c && ltb (object.serial - first) n) (Some (object.serial - first)) None) (of_le first object.serial f)
+    ∙ ap (λ c. cond c (Some (object.serial - first)) None) (lt-ltb (object.serial - first) n l)
 
-pub not_placed : (owner n : ℕ) (object : ObjId) → place_in owner n object ≡ None → object.owner ≡ owner → n ≤ object.serial
-not_placed owner n object h o = by_bool (ltb object.serial n)
-    (λ t. no_none object.serial (sym h ∙ placed_at owner n object o (ltb-true object.serial n t)))
-    (λ f. ltb-false object.serial n f)
+pub not_placed : (owner first n : ℕ) (object : ObjId) → place_in owner first n object ≡ None → object.owner ≡ owner → first ≤ object.serial → n ≤ object.serial - first
+not_placed owner first n object h o f = by_bool (ltb (object.serial - first) n)
+    (λ t. no_none (object.serial - first) (sym h ∙ placed_at owner first n object o f (ltb-true (object.serial - first) n t)))
+    (λ g. ltb-false (object.serial - first) n g)
 
 -- ---- values
 
 module _ {V : Type 0} where
-  pub near_present : (owner : ℕ) (ms : List (FinMap name_cmp V)) (q : Slot) → q.object.owner ≡ owner → near_value owner ms q ≡ value_in (slice_get ms q.object.serial) q.name
-  near_present owner ms q h = ap (λ b. cond b (value_in (slice_get ms q.object.serial) q.name) None) (eq-eqb q.object.owner owner h)
+  -- the rows at a serial number from the first on, and before it
+  pub held_is : (first : ℕ) (ms : List (FinMap name_cmp V)) (s i : ℕ) → first ≤ s → i ≡ s - first → held_at first ms s ≡ slice_get ms i
+  held_is first ms s i l e = ap (λ b. cond b (slice_get ms (s - first)) None) (of_le first s l) ∙ ap (slice_get ms) (sym e)
 
-  pub near_other : (owner : ℕ) (ms : List (FinMap name_cmp V)) (q : Slot) → (q.object.owner == owner) ≡ false → near_value owner ms q ≡ None
-  near_other owner ms q h = ap (λ b. cond b (value_in (slice_get ms q.object.serial) q.name) None) h
+  pub held_before : (first : ℕ) (ms : List (FinMap name_cmp V)) (s : ℕ) → s < first → held_at first ms s ≡ None
+  held_before first ms s l = ap (λ b. cond b (slice_get ms (s - first)) None) (lt_not first s l)
 
-  pub near_absent : (owner : ℕ) (ms : List (FinMap name_cmp V)) (q : Slot) → place_in owner (length ms) q.object ≡ None → near_value owner ms q ≡ None
-  near_absent owner ms q h = by_bool (q.object.owner == owner)
-      (λ t. let o = eqb-true q.object.owner owner t in near_present owner ms q o ∙ ap (λ m. value_in m q.name) (slice_get_past ms q.object.serial (not_placed owner (length ms) q.object h o)))
-      (λ f. near_other owner ms q f)
+  pub near_present : (owner first : ℕ) (ms : List (FinMap name_cmp V)) (q : Slot) → q.object.owner ≡ owner → near_value owner first ms q ≡ value_in (held_at first ms q.object.serial) q.name
+  near_present owner first ms q h = ap (λ b. cond b (value_in (held_at first ms q.object.serial) q.name) None) (eq-eqb q.object.owner owner h)
 
-  pub near_there : (owner : ℕ) (ms : List (FinMap name_cmp V)) (q : Slot) → is_some (near_value owner ms q) ≡ true → place_in owner (length ms) q.object ≡ Some q.object.serial
-  near_there owner ms q h = by_option (place_in owner (length ms) q.object)
-      (λ n. absurd (false≢true (sym (ap is_some (near_absent owner ms q n)) ∙ h)))
-      (λ i e. e ∙ ap Some (placed_is owner (length ms) q.object i e).serial_is)
+  pub near_other : (owner first : ℕ) (ms : List (FinMap name_cmp V)) (q : Slot) → (q.object.owner == owner) ≡ false → near_value owner first ms q ≡ None
+  near_other owner first ms q h = ap (λ b. cond b (value_in (held_at first ms q.object.serial) q.name) None) h
+
+  pub near_absent : (owner first : ℕ) (ms : List (FinMap name_cmp V)) (q : Slot) → place_in owner first (length ms) q.object ≡ None → near_value owner first ms q ≡ None
+  near_absent owner first ms q h = by_bool (q.object.owner == owner)
+      (λ t.
+      let o = eqb-true q.object.owner owner t in
+      let none : held_at first ms q.object.serial ≡ None = by_bool (nat_le first q.object.serial)
+      (λ y. let f = le_of first q.object.serial y in
+      held_is first ms q.object.serial (q.object.serial - first) f refl ∙ slice_get_past ms (q.object.serial - first) (not_placed owner first (length ms) q.object h o f))
+      (λ n. held_before first ms q.object.serial (not_le first q.object.serial n)) in
+      near_present owner first ms q o ∙ ap (λ m. value_in m q.name) none)
+      (λ f. near_other owner first ms q f)
+
+  pub near_there : (owner first : ℕ) (ms : List (FinMap name_cmp V)) (q : Slot) → is_some (near_value owner first ms q) ≡ true → place_in owner first (length ms) q.object ≡ Some (q.object.serial - first)
+  near_there owner first ms q h = by_option (place_in owner first (length ms) q.object)
+      (λ n. absurd (false≢true (sym (ap is_some (near_absent owner first ms q n)) ∙ h)))
+      (λ i e. e ∙ ap Some (placed_is owner first (length ms) q.object i e).serial_is)
 
   rows_same : (q : Slot) (o : ObjId) (es : List (Name × V)) → obj_cmp q.object o ≡ Equal → find slot_cmp q (rows_at o es) ≡ find name_cmp q.name es
   rows_same q o [] t = refl
@@ -115,33 +150,42 @@ module _ {V : Type 0} where
       omega arith)))
       ∙ found_near owner (i + 1) n ms q h (omega arith)
 
-  find_near : (owner : ℕ) (ms : List (FinMap name_cmp V)) (q : Slot) → find slot_cmp q (near_rows owner 0 ms) ≡ near_value owner ms q
-  find_near owner ms q = by_bool (q.object.owner == owner)
-      (λ t. let o = eqb-true q.object.owner owner t in found_near owner 0 q.object.serial ms q o (omega arith) ∙ sym (near_present owner ms q o))
-      (λ f. none_near owner 0 ms q (λ o. absurd (false≢true (sym f ∙ eq-eqb q.object.owner owner o))) ∙ sym (near_other owner ms q f))
+  find_near : (owner first : ℕ) (ms : List (FinMap name_cmp V)) (q : Slot) → find slot_cmp q (near_rows owner first ms) ≡ near_value owner first ms q
+  find_near owner first ms q = by_bool (q.object.owner == owner)
+      (λ t. let o = eqb-true q.object.owner owner t in
+      by_bool (nat_le first q.object.serial)
+      (λ y. let f = le_of first q.object.serial y in
+      found_near owner first (q.object.serial - first) ms q o (omega arith)
+      ∙ ap (λ m. value_in m q.name) (sym (held_is first ms q.object.serial (q.object.serial - first) f refl))
+      ∙ sym (near_present owner first ms q o))
+      (λ n. let l = not_le first q.object.serial n in
+      none_near owner first ms q (λ _. l)
+      ∙ ap (λ m. value_in m q.name) (sym (held_before first ms q.object.serial l))
+      ∙ sym (near_present owner first ms q o)))
+      (λ f. none_near owner first ms q (λ o. absurd (false≢true (sym f ∙ eq-eqb q.object.owner owner o))) ∙ sym (near_other owner first ms q f))
 
   -- all rows
-  abbrev pub table : ℕ → List (FinMap name_cmp V) → List (Slot × V) → FinMap slot_cmp V
-  table owner ms far = map.from_entries (near_rows owner 0 ms ++ far)
+  abbrev pub table : ℕ → ℕ → List (FinMap name_cmp V) → List (Slot × V) → FinMap slot_cmp V
+  table owner first ms far = map.from_entries (near_rows owner first ms ++ far)
 
-  pub get_table : (owner : ℕ) (ms : List (FinMap name_cmp V)) (far : List (Slot × V)) (q : Slot) → map.get (table owner ms far) q ≡ option_or (near_value owner ms q) (find slot_cmp q far)
-  get_table owner ms far q =
-      map.get-from_entries slot_total (near_rows owner 0 ms ++ far) q
-      ∙ find_append slot_cmp q (near_rows owner 0 ms) far
-      ∙ ap (λ o. option_or o (find slot_cmp q far)) (find_near owner ms q)
+  pub get_table : (owner first : ℕ) (ms : List (FinMap name_cmp V)) (far : List (Slot × V)) (q : Slot) → map.get (table owner first ms far) q ≡ option_or (near_value owner first ms q) (find slot_cmp q far)
+  get_table owner first ms far q =
+      map.get-from_entries slot_total (near_rows owner first ms ++ far) q
+      ∙ find_append slot_cmp q (near_rows owner first ms) far
+      ∙ ap (λ o. option_or o (find slot_cmp q far)) (find_near owner first ms q)
 
   -- where the object is near
-  pub get_near : (owner : ℕ) (ms : List (FinMap name_cmp V)) (far : List (Slot × V)) (q : Slot) (i : ℕ) (d : FinMap name_cmp V) → IsApart owner (length ms) far → place_in owner (length ms) q.object ≡ Some i → map.get (table owner ms far) q ≡ map.get (get_or ms i d) q.name
-  get_near owner ms far q i d apart h =
-      let p = placed_is owner (length ms) q.object i h in
-      let l : i < length ms = let b = p.below in let s = p.serial_is in omega arith in
-      get_table owner ms far q
-      ∙ ap (option_or (near_value owner ms q)) (apart q (placed_at owner (length ms) q.object p.owner_is p.below))
-      ∙ or_none (near_value owner ms q)
-      ∙ near_present owner ms q p.owner_is
-      ∙ ap (λ n. value_in (slice_get ms n) q.name) (sym p.serial_is)
-      ∙ ap (λ m. value_in m q.name) (slice_get-get_or ms i d l)
+  pub get_near : (owner first : ℕ) (ms : List (FinMap name_cmp V)) (far : List (Slot × V)) (q : Slot) (i : ℕ) (d : FinMap name_cmp V) → IsApart owner first (length ms) far → place_in owner first (length ms) q.object ≡ Some i
+      → map.get (table owner first ms far) q ≡ map.get (get_or ms i d) q.name
+  get_near owner first ms far q i d apart h =
+      let p = placed_is owner first (length ms) q.object i h in
+      get_table owner first ms far q
+      ∙ ap (option_or (near_value owner first ms q)) (apart q (h ∙ ap Some p.serial_is))
+      ∙ or_none (near_value owner first ms q)
+      ∙ near_present owner first ms q p.owner_is
+      ∙ ap (λ m. value_in m q.name) (held_is first ms q.object.serial i p.from p.serial_is)
+      ∙ ap (λ m. value_in m q.name) (slice_get-get_or ms i d p.below)
 
   -- where it isn't
-  pub get_far : (owner : ℕ) (ms : List (FinMap name_cmp V)) (far : List (Slot × V)) (q : Slot) → place_in owner (length ms) q.object ≡ None → map.get (table owner ms far) q ≡ find slot_cmp q far
-  get_far owner ms far q h = get_table owner ms far q ∙ ap (λ o. option_or o (find slot_cmp q far)) (near_absent owner ms q h)
+  pub get_far : (owner first : ℕ) (ms : List (FinMap name_cmp V)) (far : List (Slot × V)) (q : Slot) → place_in owner first (length ms) q.object ≡ None → map.get (table owner first ms far) q ≡ find slot_cmp q far
+  get_far owner first ms far q h = get_table owner first ms far q ∙ ap (λ o. option_or o (find slot_cmp q far)) (near_absent owner first ms q h)

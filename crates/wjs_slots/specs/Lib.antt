@@ -4,3 +4,6 @@ pub mod Dense
 pub mod Kept
 pub mod Near
 pub mod Least
+pub mod Rowed
+pub mod Starts
+pub mod ShortNames

@@ -1,5 +1,5 @@
--- The rows of the first objects of one owner, and those of all others.
-use Rattle.std.specs.Prelude.{◌≡◌, ℕ, ◌+◌, cond, ◌&&◌, ◌==◌, nat_lt, List, [], ◌∷◌, ◌++◌, map as each, Option, None, Some, slice_get}
+-- The rows of objects of one owner that follow each other, and those of all others.
+use Rattle.std.specs.Prelude.{◌≡◌, ℕ, ◌+◌, ◌-◌, ◌≤◌, ◌^◌, cond, ◌&&◌, ◌==◌, nat_le, nat_lt, List, [], ◌∷◌, ◌++◌, map as each, Option, None, Some, slice_get}
 use Rattle.std.specs.FinMap as map
 use Rattle.std.specs.FinMap.{FinMap, find}
 use Rattle.wjs_base.specs.declared.ids.ObjId.{ObjId}
@@ -8,18 +8,22 @@ use Rattle.wjs_base.specs.declared.values.Slot.{Slot}
 use Rattle.wjs_base.specs.Order.{name_cmp, slot_cmp}
 use Rattle.wjs_slots.specs.Lists.{IsInOrder}
 
--- the place of an object among the first n of an owner
-abbrev pub place_in : ℕ → ℕ → ObjId → Option ℕ
-place_in owner n object = cond ((object.owner == owner) && nat_lt object.serial n) (Some object.serial) None
+-- the place of an object among n of an owner's, from a serial number on
+abbrev pub place_in : ℕ → ℕ → ℕ → ObjId → Option ℕ
+place_in owner first n object = cond ((object.owner == owner) && (nat_le first object.serial && nat_lt (object.serial - first) n)) (Some (object.serial - first)) None
 
 -- the value at a name of an object, if the object is there
 abbrev pub value_in : {V : Type 0} → Option (FinMap name_cmp V) → Name → Option V
 value_in None name = None
 value_in (Some names) name = map.get names name
 
--- the value at a slot, where one owner's objects have these rows
-abbrev pub near_value : {V : Type 0} → ℕ → List (FinMap name_cmp V) → Slot → Option V
-near_value owner objects slot = cond (slot.object.owner == owner) (value_in (slice_get objects slot.object.serial) slot.name) None
+-- the rows of the object with a serial number, where these are an owner's from the first on
+abbrev pub held_at : {V : Type 0} → ℕ → List (FinMap name_cmp V) → ℕ → Option (FinMap name_cmp V)
+held_at first objects serial = cond (nat_le first serial) (slice_get objects (serial - first)) None
+
+-- the value at a slot, where one owner's objects have these rows from the first on
+abbrev pub near_value : {V : Type 0} → ℕ → ℕ → List (FinMap name_cmp V) → Slot → Option V
+near_value owner first objects slot = cond (slot.object.owner == owner) (value_in (held_at first objects slot.object.serial) slot.name) None
 
 -- the rows of one object with their slots
 abbrev pub rows_at : {V : Type 0} → ObjId → List (Name × V) → List (Slot × V)
@@ -30,11 +34,12 @@ abbrev pub near_rows : {V : Type 0} → ℕ → ℕ → List (FinMap name_cmp V)
 near_rows owner serial [] = []
 near_rows owner serial (names ∷ objects) = rows_at (record { owner = owner; serial = serial }) (map.entries names) ++ near_rows owner (serial + 1) objects
 
--- no row of the first n objects of the owner is among these
-abbrev pub IsApart : {V : Type 0} → ℕ → ℕ → List (Slot × V) → Type 0
-IsApart owner n far = (slot : Slot) → place_in owner n slot.object ≡ Some slot.object.serial → find slot_cmp slot far ≡ None
+-- no row of these objects is among these
+abbrev pub IsApart : {V : Type 0} → ℕ → ℕ → ℕ → List (Slot × V) → Type 0
+IsApart owner first n far = (slot : Slot) → place_in owner first n slot.object ≡ Some (slot.object.serial - first) → find slot_cmp slot far ≡ None
 
--- what holds of an owner's first n objects and the rows of all others
-pub record IsSplit {V : Type 0} (owner n : ℕ) (far : List (Slot × V)) : Type 0 where
-  pub apart : IsApart owner n far
+-- what holds of n objects of an owner, from the first on, and the rows of all others
+pub record IsSplit {V : Type 0} (owner first n : ℕ) (far : List (Slot × V)) : Type 0 where
+  pub apart : IsApart owner first n far
   pub ordered : IsInOrder slot_cmp far
+  pub short : first + n ≤ 2 ^ 64

@@ -1,5 +1,6 @@
 //! The rows of an object in a list, in the order of names.
-ghost use Rattle.std.specs.Prelude.{◌≡◌, not, ◌++◌, ◌∷◌, [], is_some, OnOk, OnErr, IfOk, MatchOption, None, Some, Ok, Err, IsTrue, length, cond, true, false, drop, slice_get, ◌≤◌};
+ghost use Rattle.std.specs.Prelude.{◌≡◌, not, ◌++◌, ◌∷◌, [], is_some, OnOk, OnErr, IfOk, IfSome, MatchOption, None, Some, Ok, Err, IsTrue, length, cond};
+ghost use Rattle.std.specs.Prelude.{true, false, drop, slice_get, ◌≤◌};
 ghost use Rattle.std.specs.Ordering.{is_gt, is_eq};
 ghost use Rattle.wjs_base.specs.declared.values.Name.{Name};
 ghost use Rattle.wjs_base.specs.declared.values.Name.TheVariants.{Text};
@@ -10,22 +11,20 @@ ghost use Rattle.wjs_base.specs.Order.{name_cmp};
 ghost use Rattle.wjs_rows.specs.Order.{is_from, is_after};
 ghost use Rattle.wjs_slots.specs.Lists.{IsInOrder, seek, without};
 
+use crate::short_name::ShortName;
 use wjs_base::{Name, OutOfMemory, TextId};
 
 /// Up to how many rows a list is gone through row by row: a longer one is halved instead.
 const SHORT_LIST: usize = 12;
 
-/// For how many rows a list has room first: the scope and the arguments of a short call have no more.
-const FIRST_ROWS: usize = 3;
-
 /// Where a name stands, or would stand where it isn't there.
 #[inline(always)]
-fn seek<V: Copy>(few: &[(Name, V)], name: Name) -> Result<usize, usize>
+fn seek<V: Copy>(few: &[(ShortName, V)], name: Name) -> Result<usize, usize>
     requires { IsInOrder name_cmp few.now }
     ensures { result ≡ seek name_cmp name 0 few.now }
 {
     let place = first_from(few, name);
-    if place < few.len() && few[place].0 == name {
+    if is_at(few, place, name) {
         Ok(place)
     } else {
         Err(place)
@@ -34,7 +33,7 @@ fn seek<V: Copy>(few: &[(Name, V)], name: Name) -> Result<usize, usize>
 
 /// The place of the first name that isn't less than a name, found by halving.
 #[inline(always)]
-fn first_from<V: Copy>(few: &[(Name, V)], name: Name) -> usize
+fn first_from<V: Copy>(few: &[(ShortName, V)], name: Name) -> usize
     requires { IsInOrder name_cmp few.now }
     ensures within { result ≤ length few.now }
     ensures before { seek name_cmp name 0 few.now ≡ seek name_cmp name result (drop result few.now) }
@@ -44,7 +43,7 @@ fn first_from<V: Copy>(few: &[(Name, V)], name: Name) -> usize
     let mut high = few.len();
     while low < high {
         let middle = low + (high - low) / 2;
-        if comes_after(name, few[middle].0) {
+        if few[middle].0.is_before(name) {
             low = middle + 1;
         } else {
             high = middle;
@@ -53,31 +52,18 @@ fn first_from<V: Copy>(few: &[(Name, V)], name: Name) -> usize
     low
 }
 
-/// Whether a name comes after another: `cmp` would put three cases in order.
-#[inline(always)]
-fn comes_after(name: Name, other: Name) -> bool
-    ensures { result ≡ is_gt (name_cmp name other) }
-{
-    match (name, other) {
-        (Name::Index(index), Name::Index(other)) => index > other,
-        (Name::Index(_), Name::Text(_)) => false,
-        (Name::Text(_), Name::Index(_)) => true,
-        (Name::Text(text), Name::Text(other)) => text.0 > other.0,
-    }
-}
-
 /// Whether a name comes after all that are there, as most new names do.
-fn goes_last<V: Copy>(few: &[(Name, V)], name: Name) -> bool
+fn goes_last<V: Copy>(few: &[(ShortName, V)], name: Name) -> bool
     requires { IsInOrder name_cmp few.now }
     ensures { IsTrue result → seek name_cmp name 0 few.now ≡ Err (length few.now) }
 {
     let count = few.len();
-    count == 0 || comes_after(name, few[count - 1].0)
+    count == 0 || few[count - 1].0.is_before(name)
 }
 
 /// Where a name stands; None where it isn't there.
 #[inline(always)]
-fn place_of<V: Copy>(few: &[(Name, V)], name: Name) -> Option<usize>
+fn place_of<V: Copy>(few: &[(ShortName, V)], name: Name) -> Option<usize>
     requires { IsInOrder name_cmp few.now }
     ensures { MatchOption result (find name_cmp name few.now ≡ None) (λ place. Ok place ≡ seek name_cmp name 0 few.now) }
 {
@@ -91,7 +77,7 @@ fn place_of<V: Copy>(few: &[(Name, V)], name: Name) -> Option<usize>
 
 /// `place_of` by halving.
 #[inline(never)]
-fn seek_name<V: Copy>(few: &[(Name, V)], name: Name) -> Option<usize>
+fn seek_name<V: Copy>(few: &[(ShortName, V)], name: Name) -> Option<usize>
     requires { IsInOrder name_cmp few.now }
     ensures { MatchOption result (find name_cmp name few.now ≡ None) (λ place. Ok place ≡ seek name_cmp name 0 few.now) }
 {
@@ -103,7 +89,7 @@ fn seek_name<V: Copy>(few: &[(Name, V)], name: Name) -> Option<usize>
 
 /// `seek_name` of a text: of which kind a name is need not be asked at each halving.
 #[inline(never)]
-fn seek_text<V: Copy>(few: &[(Name, V)], text: TextId) -> Option<usize>
+fn seek_text<V: Copy>(few: &[(ShortName, V)], text: TextId) -> Option<usize>
     requires { IsInOrder name_cmp few.now }
     ensures { MatchOption result (find name_cmp (Text text) few.now ≡ None) (λ place. Ok place ≡ seek name_cmp (Text text) 0 few.now) }
 {
@@ -115,40 +101,33 @@ fn seek_text<V: Copy>(few: &[(Name, V)], text: TextId) -> Option<usize>
 
 /// Whether a name stands at a place, as an index does in an array without holes.
 #[inline(always)]
-fn is_at<V: Copy>(few: &[(Name, V)], place: usize, name: Name) -> bool
+fn is_at<V: Copy>(few: &[(ShortName, V)], place: usize, name: Name) -> bool
     requires { IsInOrder name_cmp few.now }
-    ensures { IsTrue result → Ok place ≡ seek name_cmp name 0 few.now }
+    ensures here { IsTrue result → Ok place ≡ seek name_cmp name 0 few.now }
+    ensures other { result ≡ false → (row : Name × V) → slice_get few.now place ≡ Some row → is_eq (name_cmp name row.0) ≡ false }
 {
-    place < few.len() && few[place].0 == name
+    match few.get(place) {
+        None => false,
+        Some(row) => row.0.is_named(name),
+    }
 }
 
 /// Where a text stands; None where it isn't there.
-fn place_of_text<V: Copy>(few: &[(Name, V)], text: TextId) -> Option<usize>
+fn place_of_text<V: Copy>(few: &[(ShortName, V)], text: TextId) -> Option<usize>
     requires { IsInOrder name_cmp few.now }
     ensures { MatchOption result (find name_cmp (Text text) few.now ≡ None) (λ place. Ok place ≡ seek name_cmp (Text text) 0 few.now) }
 {
     for (place, row) in few.iter().enumerate() {
-        if is_text(row.0, text) {
+        if row.0.has(text) {
             return Some(place);
         }
     }
     None
 }
 
-/// Whether a name is this text.
-#[inline(always)]
-fn is_text(name: Name, text: TextId) -> bool
-    ensures { result ≡ is_eq (name_cmp (Text text) name) }
-{
-    match name {
-        Name::Index(_) => false,
-        Name::Text(other) => other.0 == text.0,
-    }
-}
-
 /// The value at a name.
 #[inline(always)]
-pub(crate) fn get<V: Copy>(few: &[(Name, V)], name: Name) -> Option<&V>
+pub(crate) fn get<V: Copy>(few: &[(ShortName, V)], name: Name) -> Option<&V>
     requires { IsInOrder name_cmp few.now }
     ensures { option_copied result ≡ find name_cmp name few.now }
 {
@@ -160,7 +139,7 @@ pub(crate) fn get<V: Copy>(few: &[(Name, V)], name: Name) -> Option<&V>
 
 /// Puts a value at a name that is there, and says whether it is: elsewhere the list stays as it is.
 #[inline(always)]
-pub(crate) fn replace<V: Copy>(few: &mut [(Name, V)], name: Name, value: V) -> bool
+pub(crate) fn replace<V: Copy>(few: &mut [(ShortName, V)], name: Name, value: V) -> bool
     requires { IsInOrder name_cmp few.old }
     ensures found { result ≡ is_some (find name_cmp name few.old) }
     ensures replaced { few.new ≡ cond result (put name_cmp name value few.old) few.old }
@@ -170,7 +149,8 @@ pub(crate) fn replace<V: Copy>(few: &mut [(Name, V)], name: Name, value: V) -> b
     }
     match place_of(few, name) {
         Some(place) => {
-            few[place] = (name, value);
+            let row = few[place];
+            few[place] = (row.0, value);
             true
         }
         None => false,
@@ -179,7 +159,7 @@ pub(crate) fn replace<V: Copy>(few: &mut [(Name, V)], name: Name, value: V) -> b
 
 /// Puts a value at a name, and says whether the name is new. After a refusal the list is as it was.
 pub(crate) fn set<V: Copy>(
-    few: &mut Vec<(Name, V)>,
+    few: &mut Vec<(ShortName, V)>,
     name: Name,
     value: V,
 ) -> Result<bool, OutOfMemory>
@@ -188,38 +168,59 @@ pub(crate) fn set<V: Copy>(
     ensures added { IfOk result (λ added. added ≡ not (is_some (find name_cmp name few.old.items))) }
     ensures err { OnErr result (few.new.items ≡ few.old.items) }
 {
+    let Some(row) = row_of(name, value) else {
+        return Err(OutOfMemory);
+    };
     if goes_last(few, name) {
-        return push(few, name, value);
+        return push(few, row);
     }
     match seek(few, name) {
         Ok(place) => {
-            few[place] = (name, value);
+            few[place] = row;
             Ok(false)
         }
-        Err(place) => match few.insert(place, (name, value)) {
+        Err(place) => match few.insert(place, row) {
             Ok(()) => Ok(true),
             Err(_) => Err(OutOfMemory),
         },
     }
 }
 
+/// A row of this name, where that can be kept in short.
+#[inline(always)]
+pub(crate) fn row_of<V: Copy>(name: Name, value: V) -> Option<(ShortName, V)>
+    ensures { IfSome result (λ row. row ≡ (name, value)) }
+{
+    match ShortName::new(name) {
+        None => None,
+        Some(short) => Some((short, value)),
+    }
+}
+
+/// A row with its name in full.
+pub(crate) fn named<V: Copy>(row: Option<(ShortName, V)>) -> Option<(Name, V)>
+    ensures { result ≡ row }
+{
+    match row {
+        None => None,
+        Some((short, value)) => Some((short.name(), value)),
+    }
+}
+
 /// Puts a row last. After a refusal the list is as it was.
-fn push<V: Copy>(few: &mut Vec<(Name, V)>, name: Name, value: V) -> Result<bool, OutOfMemory>
-    ensures ok { OnOk result (few.new.items ≡ few.old.items ++ (name, value) ∷ []) }
+fn push<V: Copy>(few: &mut Vec<(ShortName, V)>, row: (ShortName, V)) -> Result<bool, OutOfMemory>
+    ensures ok { OnOk result (few.new.items ≡ few.old.items ++ row ∷ []) }
     ensures added { IfOk result (λ added. added ≡ true) }
     ensures err { OnErr result (few.new.items ≡ few.old.items) }
 {
-    if few.is_empty() && few.reserve_exact(FIRST_ROWS).is_err() {
-        return Err(OutOfMemory);
-    }
-    match few.push((name, value)) {
+    match few.push(row) {
         Ok(()) => Ok(true),
         Err(_) => Err(OutOfMemory),
     }
 }
 
 /// Takes the row at a name out, and says whether there was one.
-pub(crate) fn remove<V: Copy>(few: &mut Vec<(Name, V)>, name: Name) -> bool
+pub(crate) fn remove<V: Copy>(few: &mut Vec<(ShortName, V)>, name: Name) -> bool
     requires { IsInOrder name_cmp few.old.items }
     ensures removed { few.new.items ≡ without name_cmp name few.old.items }
     ensures found { result ≡ is_some (find name_cmp name few.old.items) }
@@ -234,23 +235,23 @@ pub(crate) fn remove<V: Copy>(few: &mut Vec<(Name, V)>, name: Name) -> bool
 }
 
 /// The first row at or after a name.
-pub(crate) fn next_from<V: Copy>(few: &[(Name, V)], name: Name) -> Option<(Name, V)>
+pub(crate) fn next_from<V: Copy>(few: &[(ShortName, V)], name: Name) -> Option<(Name, V)>
     requires { IsInOrder name_cmp few.now }
     ensures { result ≡ lookup_entry (is_from name_cmp name) few.now }
 {
     match seek(few, name) {
-        Ok(place) => few.get(place).copied(),
-        Err(place) => few.get(place).copied(),
+        Ok(place) => named(few.get(place).copied()),
+        Err(place) => named(few.get(place).copied()),
     }
 }
 
 /// The first row after a name.
-pub(crate) fn next_after<V: Copy>(few: &[(Name, V)], name: Name) -> Option<(Name, V)>
+pub(crate) fn next_after<V: Copy>(few: &[(ShortName, V)], name: Name) -> Option<(Name, V)>
     requires { IsInOrder name_cmp few.now }
     ensures { result ≡ lookup_entry (is_after name_cmp name) few.now }
 {
     match seek(few, name) {
-        Ok(place) => few.get(place + 1).copied(),
-        Err(place) => few.get(place).copied(),
+        Ok(place) => named(few.get(place + 1).copied()),
+        Err(place) => named(few.get(place).copied()),
     }
 }

@@ -2,12 +2,17 @@
 #![tactic(auto)]
 
 mod few;
+mod held;
 mod kept;
 mod many;
 mod names;
 mod near;
 mod parts;
+mod short;
+mod short_name;
 mod table;
 mod tree;
+mod walked;
 
-pub use table::{Table, least_slot};
+pub use table::Table;
+pub use walked::{Walked, least_slot};

@@ -1,5 +1,5 @@
 //! The rows of an object with many, most of them at its first indices.
-ghost use Rattle.std.specs.Prelude.{◌≡◌, ◌-◌, ◌<◌, ◌≤◌, ◌^◌, ◌++◌, ◌∷◌, [], length, not, cond, true, OnOk, OnErr, IfOk, IsTrue, None, Some};
+ghost use Rattle.std.specs.Prelude.{◌≡◌, ◌≤◌, ◌^◌, length, not, cond, true, OnOk, OnErr, IfOk, IsTrue, None};
 ghost use Rattle.std.specs.Option.{option_copied};
 ghost use Rattle.std.specs.FinMap as map;
 ghost use Rattle.std.specs.FinMap.Entries.{find};
@@ -12,6 +12,8 @@ ghost use Rattle.wjs_slots.specs.Dense.{index_in, dense_value};
 ghost use Rattle.wjs_slots.specs.Least.{IsLeast};
 ghost use Rattle.wjs_slots.specs.Lists.{IsInOrder};
 
+use crate::held::Held;
+use crate::short_name::ShortName;
 use crate::tree;
 use std::alloc::Global;
 use std::collections::BTreeMap;
@@ -22,7 +24,7 @@ use wjs_base::{Name, OutOfMemory};
 /// they are found without a search, and the names in the tree stay few.
 #[derive(Drop)]
 pub(crate) struct Many<V> {
-    dense: Vec<Option<V>>,
+    dense: Held<V>,
     /// How many of the first indices have no row. Only where new rows go depends on it.
     holes: usize,
     rest: BTreeMap<Name, V>,
@@ -39,9 +41,9 @@ impl<V> Model for Many<V> {
 
     ghost coded = { map.code coded_name V.code };
 
-    ghost view = { λ m. map.from_entries (dense_rows 0 m.dense.items ++ m.rest.entries) };
+    ghost view = { λ m. map.from_entries (dense_rows 0 m.dense ++ m.rest.entries) };
 
-    ghost invariant = { λ m. IsBeside (length m.dense.items) m.rest.entries };
+    ghost invariant = { λ m. IsBeside (length m.dense) m.rest.entries };
 }
 
 impl<V: Copy> Many<V> {
@@ -50,21 +52,21 @@ impl<V: Copy> Many<V> {
         ensures { result ≡ map.empty }
     {
         Many {
-            dense: Vec::new(alloc),
+            dense: Held::new(alloc),
             holes: 0,
             rest: BTreeMap::new(alloc),
         }
     }
 
     /// The rows of a list: those at 0, 1, 2, .. that it begins with at these indices.
-    pub(crate) fn of_list(few: &[(Name, V)], alloc: Global) -> Result<Many<V>, OutOfMemory>
+    pub(crate) fn of_list(few: &[(ShortName, V)], alloc: Global) -> Result<Many<V>, OutOfMemory>
         requires { IsInOrder name_cmp few.now }
         ensures { IfOk result (λ many. map.entries many ≡ few.now) }
     {
         let mut many = Many::new(alloc);
         for place in 0..few.len() {
             let row = few[place];
-            many.set(row.0, row.1)?;
+            many.set(row.0.name(), row.1)?;
         }
         Ok(many)
     }
@@ -75,7 +77,7 @@ impl<V: Copy> Many<V> {
         ensures { option_copied result ≡ map.get self.now name }
     {
         match place_in(self.dense.len(), name) {
-            Some(place) => self.dense[place].as_ref(),
+            Some(place) => self.dense.value(place),
             None => tree::get(&self.rest, &name),
         }
     }
@@ -88,13 +90,7 @@ impl<V: Copy> Many<V> {
         ensures replaced { self.new ≡ cond result (map.insert self.old name value) self.old }
     {
         match place_in(self.dense.len(), name) {
-            Some(place) => {
-                if self.dense[place].is_none() {
-                    return false;
-                }
-                self.dense[place] = Some(value);
-                true
-            }
+            Some(place) => self.dense.replace(place, value),
             None => false,
         }
     }
@@ -107,36 +103,34 @@ impl<V: Copy> Many<V> {
     {
         match place_in(self.dense.len(), name) {
             Some(place) => {
-                let added = self.dense[place].is_none();
-                self.dense[place] = Some(value);
+                let added = self.dense.set(place, value)?;
                 self.holes = self.holes.saturating_sub(added as usize);
                 Ok(added)
             }
             None => {
                 if !self.is_hollow() && goes_next(self.dense.len(), &self.rest, name) {
-                    return push(&mut self.dense, value);
+                    return self.dense.push(value);
                 }
                 tree::set(&mut self.rest, name, value)
             }
         }
     }
 
-    /// Takes the row at a name out, and says whether there was one.
-    pub(crate) fn remove(&mut self, name: Name) -> bool
-        ensures removed { self.new ≡ map.remove self.old name }
-        ensures found { result ≡ map.contains_key self.old name }
+    /// Takes the row at a name out, and says whether there was one. After a refusal all is as it was.
+    pub(crate) fn remove(&mut self, name: Name) -> Result<bool, OutOfMemory>
+        ensures removed { OnOk result (self.new ≡ map.remove self.old name) }
+        ensures found { IfOk result (λ found. found ≡ map.contains_key self.old name) }
+        ensures err { OnErr result (self.new ≡ self.old) }
     {
         match place_in(self.dense.len(), name) {
             Some(place) => {
-                let found = self.dense[place].is_some();
-                self.dense[place] = None;
-                self.holes = self.holes.saturating_add(found as usize);
                 let count = self.dense.len();
-                trim(&mut self.dense);
-                self.holes = self.holes.saturating_sub(count - self.dense.len());
-                found
+                let found = self.dense.take(place)?;
+                let holes = self.holes.saturating_add(found as usize);
+                self.holes = holes.saturating_sub(count - self.dense.len());
+                Ok(found)
             }
-            None => tree::remove(&mut self.rest, &name),
+            None => Ok(tree::remove(&mut self.rest, &name)),
         }
     }
 
@@ -190,68 +184,24 @@ fn goes_next<V: Copy>(count: usize, rest: &BTreeMap<Name, V>, name: Name) -> boo
     }
 }
 
-/// Puts a value at the index past the first ones. After a refusal all is as it was.
-fn push<V: Copy>(dense: &mut Vec<Option<V>>, value: V) -> Result<bool, OutOfMemory>
-    ensures ok { OnOk result (dense.new.items ≡ dense.old.items ++ Some value ∷ []) }
-    ensures added { IfOk result (λ added. added ≡ true) }
-    ensures err { OnErr result (dense.new.items ≡ dense.old.items) }
-{
-    match dense.push(Some(value)) {
-        Ok(()) => Ok(true),
-        Err(_) => Err(OutOfMemory),
-    }
-}
-
-/// Takes holes off the end.
-fn trim<V: Copy>(dense: &mut Vec<Option<V>>)
-    ensures values { (name : Name) → dense_value dense.new.items name ≡ dense_value dense.old.items name }
-    ensures len { length dense.new.items ≤ length dense.old.items }
-{
-    while ends_in_hole(dense) {
-        let _ = dense.pop();
-    }
-}
-
-/// Whether the last place is a hole.
-fn ends_in_hole<V: Copy>(dense: &[Option<V>]) -> bool
-    ensures some { IsTrue result → 0 < length dense.now }
-    ensures hole { IsTrue result → dense_value dense.now (Index (length dense.now - 1)) ≡ None }
-{
-    let count = dense.len();
-    count > 0 && dense[count - 1].is_none()
-}
-
 /// The least row at the first indices that is at or after a name.
-fn dense_from<V: Copy>(dense: &[Option<V>], name: Name) -> Option<(Name, V)>
+fn dense_from<V: Copy>(dense: &Held<V>, name: Name) -> Option<(Name, V)>
     requires { length dense.now ≤ 2 ^ 32 }
     ensures { IsLeast name_cmp (dense_value dense.now) (is_from name_cmp name) result }
 {
     match name {
-        Name::Index(index) => first_from(dense, index as usize),
+        Name::Index(index) => dense.first_from(index as usize),
         Name::Text(_) => None,
     }
 }
 
 /// The least row at the first indices that is after a name.
-fn dense_after<V: Copy>(dense: &[Option<V>], name: Name) -> Option<(Name, V)>
+fn dense_after<V: Copy>(dense: &Held<V>, name: Name) -> Option<(Name, V)>
     requires { length dense.now ≤ 2 ^ 32 }
     ensures { IsLeast name_cmp (dense_value dense.now) (is_after name_cmp name) result }
 {
     match name {
-        Name::Index(index) => first_from(dense, index as usize + 1),
+        Name::Index(index) => dense.first_from(index as usize + 1),
         Name::Text(_) => None,
     }
-}
-
-/// The least row from a place on.
-fn first_from<V: Copy>(dense: &[Option<V>], start: usize) -> Option<(Name, V)>
-    requires { length dense.now ≤ 2 ^ 32 }
-    ensures { IsLeast name_cmp (dense_value dense.now) (is_from name_cmp (Index start)) result }
-{
-    for place in start..dense.len() {
-        if let Some(value) = dense[place] {
-            return Some((Name::Index(place as u32), value));
-        }
-    }
-    None
 }

@@ -37,12 +37,10 @@ impl<V> Model for Names<V> {
 
 impl<V: Copy> Names<V> {
     /// No rows.
-    pub(crate) fn new(alloc: Global) -> Names<V>
+    pub(crate) fn new() -> Names<V>
         ensures { result ≡ map.empty }
     {
-        Names {
-            kept: Kept::Few(Vec::new(alloc)),
-        }
+        Names { kept: Kept::Zero }
     }
 
     /// The value at a name.
@@ -63,10 +61,11 @@ impl<V: Copy> Names<V> {
         self.kept.set(name, value, alloc)
     }
 
-    /// Takes the row at a name out, and says whether there was one.
-    pub(crate) fn remove(&mut self, name: Name) -> bool
-        ensures removed { self.new ≡ map.remove self.old name }
-        ensures found { result ≡ map.contains_key self.old name }
+    /// Takes the row at a name out, and says whether there was one. After a refusal all is as it was.
+    pub(crate) fn remove(&mut self, name: Name) -> Result<bool, OutOfMemory>
+        ensures removed { OnOk result (self.new ≡ map.remove self.old name) }
+        ensures found { IfOk result (λ found. found ≡ map.contains_key self.old name) }
+        ensures err { OnErr result (self.new ≡ self.old) }
     {
         self.kept.remove(name)
     }

@@ -1,10 +1,7 @@
-//! The rows of the first objects of one owner.
-ghost use Rattle.std.specs.Prelude.{◌≡◌, ◌+◌, ◌-◌, ◌<◌, ◌≤◌, [], ◌++◌, length, replicate, IsTrue, nat_le};
+//! The rows of objects of one owner that follow each other.
+ghost use Rattle.std.specs.Prelude.{◌≡◌, ◌+◌, ◌-◌, ◌<◌, ◌≤◌, ◌^◌, [], ◌++◌, length, replicate, IsTrue};
 ghost use Rattle.std.specs.FinMap as map;
-ghost use Rattle.wjs_base.specs.Order.{slot_cmp};
-ghost use Rattle.wjs_rows.specs.Order.{is_from, is_after};
-ghost use Rattle.wjs_slots.specs.Least.{IsLeast, is_past};
-ghost use Rattle.wjs_slots.specs.Near.{place_in, near_value};
+ghost use Rattle.wjs_slots.specs.Near.{place_in};
 
 use crate::names::Names;
 use std::alloc::Global;
@@ -13,20 +10,35 @@ use wjs_base::{Name, ObjId, OutOfMemory, Slot};
 /// How far behind the last of these objects one may stand to be added.
 const LONGEST_GAP: u64 = 64;
 
-/// The rows of the first objects of one owner: each object's stand at its serial number.
+/// The rows of objects of one owner from a first on: each object's stand at its serial number less the first's.
 #[derive(Drop)]
 pub(crate) struct Near<V> {
     pub(crate) owner: u32,
+    pub(crate) first: u64,
     pub(crate) objects: Vec<Names<V>>,
 }
 
 impl<V: Copy> Near<V> {
     /// No objects.
     pub(crate) fn new(alloc: Global) -> Near<V>
-        ensures { result.objects.items ≡ [] }
+        ensures objects { result.objects.items ≡ [] }
+        ensures first { result.first ≡ 0 }
     {
         Near {
             owner: 0,
+            first: 0,
+            objects: Vec::new(alloc),
+        }
+    }
+
+    /// No objects, and none that is close behind: they begin only where they are settled.
+    pub(crate) fn later(alloc: Global) -> Near<V>
+        ensures objects { result.objects.items ≡ [] }
+        ensures first { result.first ≡ 18446744073709551615 }
+    {
+        Near {
+            owner: 0,
+            first: u64::MAX,
             objects: Vec::new(alloc),
         }
     }
@@ -34,114 +46,91 @@ impl<V: Copy> Near<V> {
     /// Where an object stands; None exactly where it isn't among these.
     #[inline(always)]
     pub(crate) fn place(&self, object: ObjId) -> Option<usize>
-        ensures { result ≡ place_in self.now.owner (length self.now.objects.items) object }
+        ensures { result ≡ place_in self.now.owner self.now.first (length self.now.objects.items) object }
     {
-        if object.owner == self.owner && object.serial < self.objects.len() as u64 {
-            Some(object.serial as usize)
+        if object.owner == self.owner
+            && (self.first <= object.serial
+                && object.serial - self.first < self.objects.len() as u64)
+        {
+            Some((object.serial - self.first) as usize)
         } else {
             None
         }
     }
 
-    /// The first object past these.
-    pub(crate) fn end(&self) -> ObjId
-        ensures { result ≡ record { owner = self.now.owner; serial = length self.now.objects.items } }
+    /// The first object past these, where an object stands behind them.
+    pub(crate) fn end(&self, object: ObjId) -> ObjId
+        requires behind { self.now.first + length self.now.objects.items ≤ object.serial }
+        ensures { result ≡ record { owner = self.now.owner; serial = self.now.first + length self.now.objects.items } }
     {
+        let _last = object.serial;
         ObjId {
             owner: self.owner,
-            serial: self.objects.len() as u64,
+            serial: self.first + self.objects.len() as u64,
         }
     }
 
     /// Whether an object stands close behind these, so that objects between take little memory.
     pub(crate) fn is_close(&self, object: ObjId) -> bool
         ensures owner { IsTrue result → object.owner ≡ self.now.owner }
-        ensures behind { IsTrue result → length self.now.objects.items ≤ object.serial }
+        ensures behind { IsTrue result → self.now.first + length self.now.objects.items ≤ object.serial }
+        ensures small { IsTrue result → object.serial < 2 ^ 64 }
     {
+        if object.owner != self.owner || object.serial < self.first {
+            return false;
+        }
+        let place = object.serial - self.first;
         let count = self.objects.len() as u64;
-        object.owner == self.owner && object.serial >= count && object.serial - count < LONGEST_GAP
+        place >= count && place - count < LONGEST_GAP
     }
 
-    /// Makes an owner the one whose objects these are, where there are none yet.
-    pub(crate) fn settle(&mut self, owner: u32)
+    /// Whether there are none.
+    pub(crate) fn is_empty(&self) -> bool {
+        self.objects.is_empty()
+    }
+
+    /// Makes an owner the one whose objects these are, from a serial number on, where there are none yet.
+    pub(crate) fn settle(&mut self, owner: u32, first: u64)
         ensures objects { self.new.objects.items ≡ self.old.objects.items }
         ensures owner { 0 < length self.old.objects.items → self.new.owner ≡ self.old.owner }
+        ensures first { 0 < length self.old.objects.items → self.new.first ≡ self.old.first }
+        ensures short { length self.old.objects.items ≡ 0 → self.new.first ≤ 2 ^ 64 }
     {
-        if self.objects.is_empty() {
-            self.owner = owner;
+        if !self.objects.is_empty() {
+            return;
         }
+        self.owner = owner;
+        self.first = first;
     }
 
     /// Adds objects without rows up to an object. After a refusal some may be added.
-    pub(crate) fn reach(&mut self, object: ObjId, alloc: Global) -> Result<(), OutOfMemory>
-        requires { length self.old.objects.items ≤ object.serial }
+    pub(crate) fn reach(&mut self, object: ObjId) -> Result<(), OutOfMemory>
+        requires { self.old.first + length self.old.objects.items ≤ object.serial }
         ensures owner { self.new.owner ≡ self.old.owner }
+        ensures first { self.new.first ≡ self.old.first }
         ensures same { self.new.objects.items ≡ self.old.objects.items ++ replicate (length self.new.objects.items - length self.old.objects.items) map.empty }
-        ensures reach { length self.new.objects.items ≤ object.serial + 1 }
+        ensures reach { self.new.first + length self.new.objects.items ≤ object.serial + 1 }
         ensures more { length self.old.objects.items ≤ length self.new.objects.items }
     {
-        while self.objects.len() as u64 <= object.serial {
-            match self.objects.push(Names::new(alloc)) {
+        self.reach_place(object.serial - self.first)
+    }
+
+    /// Adds objects without rows up to a place. After a refusal some may be added.
+    fn reach_place(&mut self, last: u64) -> Result<(), OutOfMemory>
+        requires { length self.old.objects.items ≤ last }
+        ensures owner { self.new.owner ≡ self.old.owner }
+        ensures first { self.new.first ≡ self.old.first }
+        ensures same { self.new.objects.items ≡ self.old.objects.items ++ replicate (length self.new.objects.items - length self.old.objects.items) map.empty }
+        ensures reach { length self.new.objects.items ≤ last + 1 }
+        ensures more { length self.old.objects.items ≤ length self.new.objects.items }
+    {
+        'more: while self.objects.len() as u64 <= last {
+            match self.objects.push(Names::new()) {
                 Ok(()) => {}
                 Err(_) => return Err(OutOfMemory),
             }
         }
         Ok(())
-    }
-
-    /// The least row at or after a slot.
-    pub(crate) fn next_from(&self, slot: Slot) -> Option<(Slot, V)>
-        ensures { IsLeast slot_cmp (near_value self.now.owner self.now.objects.items) (is_from slot_cmp slot) result }
-    {
-        match self.place(slot.object) {
-            None => self.next_object(slot.object),
-            Some(place) => match self.objects[place].next_from(slot.name) {
-                None => self.next_object(slot.object),
-                Some(row) => Some(row_at(slot.object, row)),
-            },
-        }
-    }
-
-    /// The least row after a slot.
-    pub(crate) fn next_after(&self, slot: Slot) -> Option<(Slot, V)>
-        ensures { IsLeast slot_cmp (near_value self.now.owner self.now.objects.items) (is_after slot_cmp slot) result }
-    {
-        match self.place(slot.object) {
-            None => self.next_object(slot.object),
-            Some(place) => match self.objects[place].next_after(slot.name) {
-                None => self.next_object(slot.object),
-                Some(row) => Some(row_at(slot.object, row)),
-            },
-        }
-    }
-
-    /// The least row of the objects after an object.
-    fn next_object(&self, object: ObjId) -> Option<(Slot, V)>
-        ensures { IsLeast slot_cmp (near_value self.now.owner self.now.objects.items) (is_past object) result }
-    {
-        if object.owner < self.owner {
-            return self.first(0);
-        }
-        if object.owner > self.owner || object.serial >= self.objects.len() as u64 {
-            return None;
-        }
-        self.first(object.serial as usize + 1)
-    }
-
-    /// The least row of the objects from a place on.
-    fn first(&self, start: usize) -> Option<(Slot, V)>
-        ensures { IsLeast slot_cmp (near_value self.now.owner self.now.objects.items) (λ slot. nat_le start slot.object.serial) result }
-    {
-        for place in start..self.objects.len() {
-            if let Some(row) = self.objects[place].next_from(Name::Index(0)) {
-                let object = ObjId {
-                    owner: self.owner,
-                    serial: place as u64,
-                };
-                return Some(row_at(object, row));
-            }
-        }
-        None
     }
 }
 

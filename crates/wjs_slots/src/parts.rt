@@ -1,4 +1,4 @@
-//! Rows by slot, in two parts: those of the first objects of one owner, and all others.
+//! Rows by slot, in two parts: those of objects of one owner that follow each other, and all others.
 ghost use Rattle.std.specs.Prelude.{◌≡◌, true, false, not, OnOk, OnErr, IfOk, None};
 ghost use Rattle.std.specs.Option.{option_copied, option_map};
 ghost use Rattle.std.specs.Ordering.{is_le};
@@ -7,8 +7,7 @@ ghost use Rattle.std.specs.FinMap.{find};
 ghost use Rattle.std.specs.Map.{lookup_entry};
 ghost use Rattle.wjs_base.specs.Order.{obj_cmp, slot_cmp};
 ghost use Rattle.wjs_base.specs.declared.values.Slot.{Slot};
-ghost use Rattle.wjs_rows.specs.Order.{is_from, is_after};
-ghost use Rattle.wjs_slots.specs.Least.{lesser_entry, is_next_on, row_on, entry_on};
+ghost use Rattle.wjs_slots.specs.Least.{is_next_on, row_on, entry_on};
 ghost use Rattle.wjs_slots.specs.Lists.{IsInOrder};
 
 use crate::near::{Near, row_at};
@@ -17,6 +16,17 @@ use std::alloc::Global;
 use std::collections::BTreeMap;
 use std::marker::Model;
 use wjs_base::{Name, ObjId, OutOfMemory, Slot};
+
+/// Where the near objects begin, as long as there are none.
+#[derive(Clone, Copy)]
+pub(crate) enum Start {
+    /// At the owner's first object.
+    First,
+    /// At the next object that is past all that have rows.
+    Next,
+    /// Nowhere yet.
+    Nowhere,
+}
 
 /// Rows by slot. No far row is of a near object.
 #[derive(Drop)]
@@ -37,9 +47,9 @@ impl<V> Model for Parts<V> {
 
     ghost coded = { map.code coded_slot V.code };
 
-    ghost view = { λ p. map.from_entries (near_rows p.near.owner 0 p.near.objects.items ++ p.far.entries) };
+    ghost view = { λ p. map.from_entries (near_rows p.near.owner p.near.first p.near.objects.items ++ p.far.entries) };
 
-    ghost invariant = { λ p. IsSplit p.near.owner (length p.near.objects.items) p.far.entries };
+    ghost invariant = { λ p. IsSplit p.near.owner p.near.first (length p.near.objects.items) p.far.entries };
 }
 
 impl<V: Copy> Parts<V> {
@@ -50,6 +60,17 @@ impl<V: Copy> Parts<V> {
         Parts {
             alloc,
             near: Near::new(alloc),
+            far: BTreeMap::new(alloc),
+        }
+    }
+
+    /// No rows, and no object that is to be near unless they begin at it.
+    pub(crate) fn later(alloc: Global) -> Parts<V>
+        ensures { result ≡ map.empty }
+    {
+        Parts {
+            alloc,
+            near: Near::later(alloc),
             far: BTreeMap::new(alloc),
         }
     }
@@ -67,12 +88,12 @@ impl<V: Copy> Parts<V> {
 
     /// Puts a value at a slot, and says whether the slot is new. After a refusal all is as it was.
     #[inline(always)]
-    pub(crate) fn set(&mut self, slot: Slot, value: V) -> Result<bool, OutOfMemory>
+    pub(crate) fn set(&mut self, slot: Slot, value: V, start: Start) -> Result<bool, OutOfMemory>
         ensures ok { OnOk result (self.new ≡ map.insert self.old slot value) }
         ensures added { IfOk result (λ added. added ≡ not (map.contains_key self.old slot)) }
         ensures err { OnErr result (self.new ≡ self.old) }
     {
-        self.reach(slot.object)?;
+        self.reach(slot.object, start)?;
         match self.near.place(slot.object) {
             Some(place) => {
                 let names = &mut self.near.objects[place];
@@ -82,35 +103,19 @@ impl<V: Copy> Parts<V> {
         }
     }
 
-    /// Takes the row at a slot out, and says whether there was one.
-    pub(crate) fn remove(&mut self, slot: Slot) -> bool
-        ensures removed { self.new ≡ map.remove self.old slot }
-        ensures found { result ≡ map.contains_key self.old slot }
+    /// Takes the row at a slot out, and says whether there was one. After a refusal all is as it was.
+    pub(crate) fn remove(&mut self, slot: Slot) -> Result<bool, OutOfMemory>
+        ensures removed { OnOk result (self.new ≡ map.remove self.old slot) }
+        ensures found { IfOk result (λ found. found ≡ map.contains_key self.old slot) }
+        ensures err { OnErr result (self.new ≡ self.old) }
     {
         match self.near.place(slot.object) {
             Some(place) => {
                 let names = &mut self.near.objects[place];
                 names.remove(slot.name)
             }
-            None => tree::remove(&mut self.far, &slot),
+            None => Ok(tree::remove(&mut self.far, &slot)),
         }
-    }
-
-    /// The least row at or after a slot.
-    pub(crate) fn next_from(&self, slot: Slot) -> Option<(Slot, V)>
-        ensures { result ≡ lookup_entry (is_from slot_cmp slot) (map.entries self.now) }
-    {
-        lesser(self.near.next_from(slot), tree::next_from(&self.far, &slot))
-    }
-
-    /// The least row after a slot.
-    pub(crate) fn next_after(&self, slot: Slot) -> Option<(Slot, V)>
-        ensures { result ≡ lookup_entry (is_after slot_cmp slot) (map.entries self.now) }
-    {
-        lesser(
-            self.near.next_after(slot),
-            tree::next_after(&self.far, &slot),
-        )
     }
 
     /// The least row of an object after the name that was passed, or the least of all that it has. No other object near is
@@ -126,12 +131,46 @@ impl<V: Copy> Parts<V> {
 
     /// Makes an object near where it can be.
     #[inline(always)]
-    fn reach(&mut self, object: ObjId) -> Result<(), OutOfMemory>
+    fn reach(&mut self, object: ObjId, start: Start) -> Result<(), OutOfMemory>
         ensures { self.new ≡ self.old }
     {
         match self.near.place(object) {
             Some(_) => Ok(()),
-            None => self.grow(object),
+            None => {
+                self.settle(object, start);
+                self.grow(object)
+            }
+        }
+    }
+
+    /// Lets the near objects begin, where there are none.
+    fn settle(&mut self, object: ObjId, start: Start)
+        ensures { self.new ≡ self.old }
+    {
+        match self.first_for(object, start) {
+            None => {}
+            Some(first) => self.near.settle(object.owner, first),
+        }
+    }
+
+    /// The serial number at which the near objects are to begin, if they are to.
+    fn first_for(&self, object: ObjId, start: Start) -> Option<u64> {
+        if !self.near.is_empty() {
+            return None;
+        }
+        match start {
+            Start::First => Some(0),
+            Start::Next => {
+                let last = ObjId {
+                    owner: object.owner,
+                    serial: u64::MAX,
+                };
+                if has_between(&self.far, object, last) {
+                    return None;
+                }
+                Some(object.serial)
+            }
+            Start::Nowhere => None,
         }
     }
 
@@ -140,14 +179,13 @@ impl<V: Copy> Parts<V> {
     fn grow(&mut self, object: ObjId) -> Result<(), OutOfMemory>
         ensures { self.new ≡ self.old }
     {
-        self.near.settle(object.owner);
         if !self.near.is_close(object) {
             return Ok(());
         }
-        if has_between(&self.far, self.near.end(), object) {
+        if has_between(&self.far, self.near.end(object), object) {
             return Ok(());
         }
-        self.near.reach(object, self.alloc)
+        self.near.reach(object)
     }
 }
 
@@ -156,6 +194,9 @@ fn has_between<V: Copy>(far: &BTreeMap<Slot, V>, first: ObjId, last: ObjId) -> b
     requires { IsInOrder slot_cmp far.now.entries }
     ensures { result ≡ false → (slot : Slot) → is_le (obj_cmp first slot.object) ≡ true → is_le (obj_cmp slot.object last) ≡ true → find slot_cmp slot far.now.entries ≡ None }
 {
+    if far.is_empty() {
+        return false;
+    }
     let start = Slot {
         object: first,
         name: Name::Index(0),
@@ -211,23 +252,6 @@ fn kept_on<V: Copy>(object: ObjId, entry: Option<(Slot, V)>) -> Option<(Slot, V)
                 Some((slot, value))
             } else {
                 None
-            }
-        }
-    }
-}
-
-/// The row with the lesser slot.
-fn lesser<V: Copy>(one: Option<(Slot, V)>, other: Option<(Slot, V)>) -> Option<(Slot, V)>
-    ensures { result ≡ lesser_entry slot_cmp one other }
-{
-    match (one, other) {
-        (None, other) => other,
-        (Some(one), None) => Some(one),
-        (Some(one), Some(other)) => {
-            if other.0 < one.0 {
-                Some(other)
-            } else {
-                Some(one)
             }
         }
     }

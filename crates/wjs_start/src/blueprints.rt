@@ -55,7 +55,17 @@ pub(crate) struct Blueprint {
 
 /// An object of a class on a prototype, with nothing else.
 fn plain(class: Class, prototype: Option<ObjId>) -> Blueprint
-    ensures { result ≡ record { class = class; prototype = prototype; code = Code.None; primitive = Primitive.Undefined; world = None; length = None; constructs = None; further = Further.Nothing } }
+    ensures { result ≡
+        record {
+          class = class;
+          prototype = prototype;
+          code = Code.None;
+          primitive = Primitive.Undefined;
+          world = None;
+          length = None;
+          constructs = None;
+          further = Further.Nothing;
+        } }
 {
     Blueprint {
         class,
@@ -71,7 +81,17 @@ fn plain(class: Class, prototype: Option<ObjId>) -> Blueprint
 
 /// An object on Object.prototype.
 fn on_object(class: Class) -> Blueprint
-    ensures { result ≡ record { class = class; prototype = Some object_prototype; code = Code.None; primitive = Primitive.Undefined; world = None; length = None; constructs = None; further = Further.Nothing } }
+    ensures { result ≡
+        record {
+          class = class;
+          prototype = Some object_prototype;
+          code = Code.None;
+          primitive = Primitive.Undefined;
+          world = None;
+          length = None;
+          constructs = None;
+          further = Further.Nothing;
+        } }
 {
     plain(class, Some(OBJECT_PROTOTYPE))
 }
@@ -139,7 +159,8 @@ fn native_blueprint(native: Native) -> Blueprint
 
 /// All first objects, in the order of their numbers.
 pub(crate) fn blueprints(alloc: Global) -> Result<Vec<Blueprint>, OutOfMemory>
-    ensures built { IfOk result (λ list. (declared : List Text) → built_from declared 0 list.items ≡ first_objects declared ++ native_objects table.first_native table.natives) }
+    ensures built { IfOk result
+        (λ list. (declared : List Text) → built_from declared 0 list.items ≡ first_objects declared ++ native_objects table.first_native table.natives) }
     ensures buildable { IfOk result (λ list. are_buildable 0 list.items ≡ true) }
     ensures many { IfOk result (λ list. length list.items ≡ 64) }
 {
@@ -152,7 +173,9 @@ pub(crate) fn blueprints(alloc: Global) -> Result<Vec<Blueprint>, OutOfMemory>
 
 fn push_natives(list: &mut Vec<Blueprint>, natives: &[Native]) -> Result<(), OutOfMemory>
     requires { 14 ≤ length list.old.items }
-    ensures built { OnOk result ((declared : List Text) → built_from declared 0 list.new.items ≡ built_from declared 0 list.old.items ++ native_objects (length list.old.items) natives.now) }
+    ensures built { OnOk result
+        ((declared : List Text) →
+        built_from declared 0 list.new.items ≡ built_from declared 0 list.old.items ++ native_objects (length list.old.items) natives.now) }
     ensures buildable { OnOk result (are_buildable 0 list.old.items ≡ true → are_buildable 0 list.new.items ≡ true) }
     ensures many { OnOk result (length list.new.items ≡ length list.old.items + length natives.now) }
 {

@@ -26,7 +26,8 @@ pub(crate) fn create_all<S: WorldStore>(
     requires building { Building (parts S.meaning heap.old) 0 }
     requires buildable { are_buildable 0 blueprints.now ≡ true }
     requires knows { (t : Table) → Grows heap.old.texts t → Knows t known.now }
-    ensures { OnOk result (Makes known.now (λ declared. built_from declared 0 blueprints.now) (length blueprints.now) (parts S.meaning heap.old) (parts S.meaning heap.new)) }
+    ensures { OnOk result
+        (Makes known.now (λ declared. built_from declared 0 blueprints.now) (length blueprints.now) (parts S.meaning heap.old) (parts S.meaning heap.new)) }
 {
     for (i, blueprint) in blueprints.iter().enumerate() {
         create_one(alloc, heap, known, i as u64, *blueprint)?;
@@ -45,7 +46,8 @@ fn create_one<S: WorldStore>(
     requires building { Building (parts S.meaning heap.old) number }
     requires buildable { is_buildable number blueprint ≡ true }
     requires knows { (t : Table) → Grows heap.old.texts t → Knows t known.now }
-    ensures { OnOk result (Makes known.now (λ declared. built declared (builtin number) blueprint ∷ []) (number + 1) (parts S.meaning heap.old) (parts S.meaning heap.new)) }
+    ensures { OnOk result
+        (Makes known.now (λ declared. built declared (builtin number) blueprint ∷ []) (number + 1) (parts S.meaning heap.old) (parts S.meaning heap.new)) }
 {
     let id = ObjId {
         owner: 0,

@@ -18,7 +18,7 @@ ghost use Rattle.wjs_start.specs.Known.{Knows, TellsNames, TellsPlaces, place_in
 use crate::blueprints::{Blueprint, Further, Primitive};
 use crate::known::{Known, Place, whole};
 use std::alloc::Global;
-use wjs_arena::{Flags, Object, Under};
+use wjs_arena::{Flags, Listed, Object, Under};
 use wjs_base::{Name, ObjId, OutOfMemory, Value};
 
 /// The object of a number.
@@ -28,7 +28,9 @@ pub(crate) fn build(
     number: ObjId,
     blueprint: Blueprint,
 ) -> Result<Object, OutOfMemory>
-    ensures built { IfOk result (λ x. (t : Table) (arena : Objects) → Knows t known.now → IsThere arena blueprint.constructs → IsBuilt t arena x (built (declared_in t known.now) number blueprint)) }
+    ensures built { IfOk result
+        (λ x. (t : Table) (arena : Objects) → Knows t known.now → IsThere arena blueprint.constructs →
+        IsBuilt t arena x (built (declared_in t known.now) number blueprint)) }
     ensures prototype { IfOk result (λ x. x.prototype ≡ blueprint.prototype) }
     ensures scope { IfOk result (λ x. x.scope ≡ None) }
     ensures world { IfOk result (λ x. x.world ≡ blueprint.world) }
@@ -44,7 +46,7 @@ pub(crate) fn build(
         primitive: primitive_of(known, blueprint.primitive),
         world: blueprint.world,
         fixed: Under::from_vec(fixed),
-        flags: Under::from_vec(flags),
+        flags: Listed::from_vec(flags),
         all_kept: false,
     })
 }
@@ -67,7 +69,9 @@ fn fixed_of(
     known: &Known,
     blueprint: Blueprint,
 ) -> Result<Vec<(Name, Value)>, OutOfMemory>
-    ensures { IfOk result (λ fixed. (t : Table) (arena : Objects) → Knows t known.now → IsThere arena blueprint.constructs → IsFixed t arena fixed.items (length_part blueprint.length ++ fixed_prototype blueprint.constructs)) }
+    ensures { IfOk result
+        (λ fixed. (t : Table) (arena : Objects) → Knows t known.now → IsThere arena blueprint.constructs →
+        IsFixed t arena fixed.items (length_part blueprint.length ++ fixed_prototype blueprint.constructs)) }
 {
     let mut fixed = Vec::new(alloc);
     add_length(&mut fixed, known, blueprint.length)?;
@@ -80,7 +84,9 @@ fn add_length(
     known: &Known,
     length: Option<u32>,
 ) -> Result<(), OutOfMemory>
-    ensures { OnOk result ((t : Table) (arena : Objects) (before : List (Text × content.Value)) → Knows t known.now → IsFixed t arena fixed.old.items before → IsFixed t arena fixed.new.items (before ++ length_part length)) }
+    ensures { OnOk result
+        ((t : Table) (arena : Objects) (before : List (Text × content.Value)) → Knows t known.now → IsFixed t arena fixed.old.items before →
+        IsFixed t arena fixed.new.items (before ++ length_part length)) }
 {
     let Some(length) = length else {
         return Ok(());
@@ -96,7 +102,9 @@ fn add_prototype(
     known: &Known,
     prototype: Option<ObjId>,
 ) -> Result<(), OutOfMemory>
-    ensures { OnOk result ((t : Table) (arena : Objects) (before : List (Text × content.Value)) → Knows t known.now → IsThere arena prototype → IsFixed t arena fixed.old.items before → IsFixed t arena fixed.new.items (before ++ fixed_prototype prototype)) }
+    ensures { OnOk result
+        ((t : Table) (arena : Objects) (before : List (Text × content.Value)) → Knows t known.now → IsThere arena prototype →
+        IsFixed t arena fixed.old.items before → IsFixed t arena fixed.new.items (before ++ fixed_prototype prototype)) }
 {
     let Some(prototype) = prototype else {
         return Ok(());
@@ -114,7 +122,9 @@ fn flags_of(
     object: ObjId,
     further: Further,
 ) -> Result<Vec<(Name, Flags)>, OutOfMemory>
-    ensures { IfOk result (λ flags. (t : Table) → Knows t known.now → IsFlagged t flags.items (flags_on object (keeping further (declared_in t known.now)) ++ further_flags further (declared_in t known.now))) }
+    ensures { IfOk result
+        (λ flags. (t : Table) → Knows t known.now →
+        IsFlagged t flags.items (flags_on object (keeping further (declared_in t known.now)) ++ further_flags further (declared_in t known.now))) }
 {
     let mut flags = slot_flags(
         alloc,
@@ -144,7 +154,9 @@ fn slot_flags(
     object: ObjId,
     keeping: &[Name],
 ) -> Result<Vec<(Name, Flags)>, OutOfMemory>
-    ensures { IfOk result (λ flags. (t : Table) → Holds (at.IsThere t) places.now → TellsPlaces t places.now → TellsNames t keeping.now → IsFlagged t flags.items (flags_among (map (place_in t) places.now) object (map (name_in t) keeping.now))) }
+    ensures { IfOk result
+        (λ flags. (t : Table) → Holds (at.IsThere t) places.now → TellsPlaces t places.now → TellsNames t keeping.now →
+        IsFlagged t flags.items (flags_among (map (place_in t) places.now) object (map (name_in t) keeping.now))) }
 {
     let mut flags = Vec::new(alloc);
     for place in places {
@@ -160,7 +172,10 @@ fn add_slot(
     object: ObjId,
     keeping: &[Name],
 ) -> Result<(), OutOfMemory>
-    ensures { OnOk result ((t : Table) (before : List (Text × Flags)) → at.IsThere t place → knows_name t place.slot.name ≡ true → TellsNames t keeping.now → IsFlagged t flags.old.items before → IsFlagged t flags.new.items (before ++ flags_among (place_in t place ∷ []) object (map (name_in t) keeping.now))) }
+    ensures { OnOk result
+        ((t : Table) (before : List (Text × Flags)) → at.IsThere t place → knows_name t place.slot.name ≡ true → TellsNames t keeping.now →
+        IsFlagged t flags.old.items before →
+        IsFlagged t flags.new.items (before ++ flags_among (place_in t place ∷ []) object (map (name_in t) keeping.now))) }
 {
     if !is_of(place, object) {
         return Ok(());
@@ -206,7 +221,9 @@ fn add_further(
     known: &Known,
     further: Further,
 ) -> Result<(), OutOfMemory>
-    ensures { OnOk result ((t : Table) (before : List (Text × Flags)) → Knows t known.now → IsFlagged t flags.old.items before → IsFlagged t flags.new.items (before ++ further_flags further (declared_in t known.now))) }
+    ensures { OnOk result
+        ((t : Table) (before : List (Text × Flags)) → Knows t known.now → IsFlagged t flags.old.items before →
+        IsFlagged t flags.new.items (before ++ further_flags further (declared_in t known.now))) }
 {
     match further {
         Further::Nothing => Ok(()),
@@ -231,7 +248,9 @@ fn add_names(
     names: &[Name],
     attributes: Flags,
 ) -> Result<(), OutOfMemory>
-    ensures { OnOk result ((t : Table) (before : List (Text × Flags)) (texts : List Text) → AreNamesOf t names.now texts → IsFlagged t flags.old.items before → IsFlagged t flags.new.items (before ++ map (λ name. (name, attributes)) texts)) }
+    ensures { OnOk result
+        ((t : Table) (before : List (Text × Flags)) (texts : List Text) → AreNamesOf t names.now texts → IsFlagged t flags.old.items before →
+        IsFlagged t flags.new.items (before ++ map (λ name. (name, attributes)) texts)) }
 {
     for name in names {
         let Ok(()) = flags.push((*name, attributes)) else {

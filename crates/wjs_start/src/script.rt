@@ -17,7 +17,8 @@ use wjs_tree::{Node, NodeId};
 
 /// The names of the functions that a script declares, and then those of its variables.
 pub fn script_names(alloc: Global, script: &Unit) -> Result<Vec<TextId>, OutOfMemory>
-    ensures are { IfOk result (λ names. (t : Table) → IsTable t → KnowsUnit t script.now → map (text_in t) names.items ≡ declared_by_tree (unit_in t script.now)) }
+    ensures are { IfOk result
+        (λ names. (t : Table) → IsTable t → KnowsUnit t script.now → map (text_in t) names.items ≡ declared_by_tree (unit_in t script.now)) }
     ensures found { IfOk result (λ names. (t : Table) → KnowsUnit t script.now → All (Has t) names.items) }
 {
     let declared = declared(alloc, script, script.program.body)?;
@@ -34,7 +35,8 @@ fn functions_named(
     script: &Unit,
     functions: &[NodeId],
 ) -> Result<Vec<TextId>, OutOfMemory>
-    ensures are { IfOk result (λ names. (t : Table) → map (text_in t) names.items ≡ filter_map (λ k. name_of (node_at (unit_in t script.now) k)) (numbers functions.now)) }
+    ensures are { IfOk result
+        (λ names. (t : Table) → map (text_in t) names.items ≡ filter_map (λ k. name_of (node_at (unit_in t script.now) k)) (numbers functions.now)) }
     ensures found { IfOk result (λ names. (t : Table) → KnowsUnit t script.now → All (Has t) names.items) }
 {
     let mut names = Vec::new(alloc);
@@ -46,7 +48,9 @@ fn functions_named(
 
 /// Puts the name of a function last, if it has one.
 fn add_name(names: &mut Vec<TextId>, script: &Unit, id: NodeId) -> Result<(), OutOfMemory>
-    ensures are { OnOk result ((t : Table) → map (text_in t) names.new.items ≡ map (text_in t) names.old.items ++ filter_map (λ k. name_of (node_at (unit_in t script.now) k)) (id.0 ∷ [])) }
+    ensures are { OnOk result
+        ((t : Table) →
+        map (text_in t) names.new.items ≡ map (text_in t) names.old.items ++ filter_map (λ k. name_of (node_at (unit_in t script.now) k)) (id.0 ∷ [])) }
     ensures found { OnOk result ((t : Table) → KnowsUnit t script.now → All (Has t) names.old.items → All (Has t) names.new.items) }
 {
     let Some(name) = name_at(script, id) else {

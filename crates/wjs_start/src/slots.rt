@@ -28,7 +28,8 @@ pub(crate) fn write_all<S: WorldStore>(
     requires world { IsTrue (has_world (worlds (S.meaning heap.old.store)) first_world) }
     requires there { Holds (IsThere heap.old.texts) places.now }
     requires within { are_within 64 (map (place_in heap.old.texts) places.now) ≡ true }
-    ensures { OnOk result (Performs first_world (λ t. writes_of (map (place_in t) places.now)) (λ t. nothing) (parts S.meaning heap.old) (parts S.meaning heap.new)) }
+    ensures { OnOk result
+        (Performs first_world (λ t. writes_of (map (place_in t) places.now)) (λ t. nothing) (parts S.meaning heap.old) (parts S.meaning heap.new)) }
 {
     let mut i = places.len();
     'back: while i > 0 {
@@ -43,7 +44,9 @@ fn write_place<S: WorldStore>(heap: &mut Heap<S>, place: Place) -> Result<(), Ou
     requires world { IsTrue (has_world (worlds (S.meaning heap.old.store)) first_world) }
     requires there { IsThere heap.old.texts place }
     requires within { is_within 64 (place_in heap.old.texts place) ≡ true }
-    ensures { OnOk result (Performs first_world (λ t. let p = place_in t place in Writes p.at (Some p.value) (Gives nothing)) (λ t. nothing) (parts S.meaning heap.old) (parts S.meaning heap.new)) }
+    ensures { OnOk result
+        (Performs first_world (λ t. let p = place_in t place in Writes p.at (Some p.value) (Gives nothing)) (λ t. nothing) (parts S.meaning heap.old)
+        (parts S.meaning heap.new)) }
 {
     write(heap, FIRST_WORLD, place.slot, Content::Present(place.value))
 }

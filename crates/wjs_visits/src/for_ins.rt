@@ -1,19 +1,19 @@
 //! The loop `for`-`in` (section 12.6.4). Its places: 1 is behind the object, 2 the target of a visit, 3 the body.
-ghost use Rattle.std.specs.Prelude.{◌≡◌, Some, OnOk};
+ghost use Rattle.std.specs.Prelude.{◌≡◌, Some};
 ghost use Rattle.wjs_content.specs.Tables.{text_in, name_in, value_in};
 ghost use Rattle.wjs_meaning.specs.Loops.{TargetNode, VarName, after_body, for_in_value, visits_from, visit_body};
 ghost use Rattle.wjs_model.specs.Contents.{completion_in, holding_in, reference_in};
-ghost use Rattle.wjs_model.specs.Soundness.{Base, IsThere, HasValue, HasReference, HasCompletion, HasSlot};
+ghost use Rattle.wjs_model.specs.Soundness.{HasValue, HasReference, HasCompletion, HasSlot};
 ghost use Rattle.wjs_model.specs.Waiting.{visit_taken, after_for_in};
-ghost use Rattle.wjs_moves.specs.Parts.{env_in, node_now};
-ghost use Rattle.wjs_moves.specs.Following.{Follows};
+ghost use Rattle.wjs_moves.specs.Parts.{node_now};
 ghost use Rattle.wjs_visits.specs.ForIns.{IsForIn, taker_in, visit_goes};
+ghost use Rattle.wjs_moves.specs.Handling.{Runs, IsStmt, GoesOn};
 
 use crate::visits::{hold_visits, next_present, next_visit};
 use wjs_base::{OutOfMemory, Slot, TextId, Value};
 use wjs_deeds::{store, text_of};
 use wjs_loops::{AfterBody, after_body, assign, place_of};
-use wjs_model::{Completion, Config, Form, Frame, Held, Reference, State};
+use wjs_model::{Completion, Config, Form, Frame, Held, Reference};
 use wjs_moves::{Part, enter, finish, hold};
 use wjs_store::WorldStore;
 use wjs_tree::{Node, NodeId};
@@ -34,13 +34,11 @@ pub fn for_in_next<S: WorldStore>(
     s: NodeId,
     completion: Completion,
 ) -> Result<(), OutOfMemory>
-    requires running { config.old.state ≡ State.Running }
-    requires base { Base S.meaning config.old }
-    requires there { IsThere S.meaning config.old frame }
-    requires form { frame.form ≡ Form.Stmt }
-    requires node { node_now S.meaning config.old frame ≡ Node.ForIn t e s }
+    requires runs { Runs S.meaning config.old frame }
+    requires node { IsStmt S.meaning config.old frame (Node.ForIn t e s) }
     requires completion { HasCompletion config.old completion }
-    ensures { let texts = config.new.heap.texts in let env = env_in S.meaning config.old texts frame in OnOk result (Follows S.meaning (after_for_in frame.node.0 (TargetNode t.0) s.0 frame.place (holding_in texts frame.held) env (completion_in texts completion)) config.old config.new) }
+    ensures { GoesOn S.meaning frame config.old config.new result (λ texts env.
+        after_for_in frame.node.0 (TargetNode t.0) s.0 frame.place (holding_in texts frame.held) env (completion_in texts completion)) }
 {
     next(config, frame, Taker::Target(t), s, completion)
 }
@@ -54,13 +52,11 @@ pub fn for_var_in_next<S: WorldStore>(
     s: NodeId,
     completion: Completion,
 ) -> Result<(), OutOfMemory>
-    requires running { config.old.state ≡ State.Running }
-    requires base { Base S.meaning config.old }
-    requires there { IsThere S.meaning config.old frame }
-    requires form { frame.form ≡ Form.Stmt }
-    requires node { node_now S.meaning config.old frame ≡ Node.ForVarIn name e s }
+    requires runs { Runs S.meaning config.old frame }
+    requires node { IsStmt S.meaning config.old frame (Node.ForVarIn name e s) }
     requires completion { HasCompletion config.old completion }
-    ensures { let texts = config.new.heap.texts in let env = env_in S.meaning config.old texts frame in OnOk result (Follows S.meaning (after_for_in frame.node.0 (VarName (text_in texts name)) s.0 frame.place (holding_in texts frame.held) env (completion_in texts completion)) config.old config.new) }
+    ensures { GoesOn S.meaning frame config.old config.new result (λ texts env.
+        after_for_in frame.node.0 (VarName (text_in texts name)) s.0 frame.place (holding_in texts frame.held) env (completion_in texts completion)) }
 {
     next(config, frame, Taker::Variable(name), s, completion)
 }
@@ -73,13 +69,12 @@ fn next<S: WorldStore>(
     s: NodeId,
     completion: Completion,
 ) -> Result<(), OutOfMemory>
-    requires running { config.old.state ≡ State.Running }
-    requires base { Base S.meaning config.old }
-    requires there { IsThere S.meaning config.old frame }
+    requires runs { Runs S.meaning config.old frame }
     requires form { frame.form ≡ Form.Stmt }
     requires node { IsForIn (node_now S.meaning config.old frame) taker s }
     requires completion { HasCompletion config.old completion }
-    ensures { let texts = config.new.heap.texts in let env = env_in S.meaning config.old texts frame in OnOk result (Follows S.meaning (after_for_in frame.node.0 (taker_in texts taker) s.0 frame.place (holding_in texts frame.held) env (completion_in texts completion)) config.old config.new) }
+    ensures { GoesOn S.meaning frame config.old config.new result (λ texts env.
+        after_for_in frame.node.0 (taker_in texts taker) s.0 frame.place (holding_in texts frame.held) env (completion_in texts completion)) }
 {
     match frame.place() {
         1 => match completion {
@@ -102,13 +97,13 @@ fn body_ended<S: WorldStore>(
     s: NodeId,
     completion: Completion,
 ) -> Result<(), OutOfMemory>
-    requires running { config.old.state ≡ State.Running }
-    requires base { Base S.meaning config.old }
-    requires there { IsThere S.meaning config.old frame }
+    requires runs { Runs S.meaning config.old frame }
     requires form { frame.form ≡ Form.Stmt }
     requires node { IsForIn (node_now S.meaning config.old frame) taker s }
     requires completion { HasCompletion config.old completion }
-    ensures { let texts = config.new.heap.texts in let env = env_in S.meaning config.old texts frame in OnOk result (Follows S.meaning (after_body frame.node.0 env (visits_from frame.node.0 (taker_in texts taker) s.0 (holding_in texts frame.held).visits env) (completion_in texts completion)) config.old config.new) }
+    ensures { GoesOn S.meaning frame config.old config.new result (λ texts env.
+        after_body frame.node.0 env (visits_from frame.node.0 (taker_in texts taker) s.0 (holding_in texts frame.held).visits env)
+        (completion_in texts completion)) }
 {
     match after_body(config, &frame, completion) {
         AfterBody::Again => visit_next(config, frame, taker, s),
@@ -124,13 +119,12 @@ fn over_value<S: WorldStore>(
     s: NodeId,
     value: Value,
 ) -> Result<(), OutOfMemory>
-    requires running { config.old.state ≡ State.Running }
-    requires base { Base S.meaning config.old }
-    requires there { IsThere S.meaning config.old frame }
+    requires runs { Runs S.meaning config.old frame }
     requires form { frame.form ≡ Form.Stmt }
     requires node { IsForIn (node_now S.meaning config.old frame) taker s }
     requires value { HasValue config.old value }
-    ensures { let texts = config.new.heap.texts in let env = env_in S.meaning config.old texts frame in OnOk result (Follows S.meaning (for_in_value frame.node.0 (taker_in texts taker) s.0 env (value_in texts value)) config.old config.new) }
+    ensures { GoesOn S.meaning frame config.old config.new result (λ texts env.
+        for_in_value frame.node.0 (taker_in texts taker) s.0 env (value_in texts value)) }
 {
     let mut frame = frame;
     match hold_visits(config, &mut frame, value)? {
@@ -146,12 +140,11 @@ fn visit_next<S: WorldStore>(
     taker: Taker,
     s: NodeId,
 ) -> Result<(), OutOfMemory>
-    requires running { config.old.state ≡ State.Running }
-    requires base { Base S.meaning config.old }
-    requires there { IsThere S.meaning config.old frame }
+    requires runs { Runs S.meaning config.old frame }
     requires form { frame.form ≡ Form.Stmt }
     requires node { IsForIn (node_now S.meaning config.old frame) taker s }
-    ensures { let texts = config.new.heap.texts in let env = env_in S.meaning config.old texts frame in OnOk result (Follows S.meaning (visits_from frame.node.0 (taker_in texts taker) s.0 (holding_in texts frame.held).visits env) config.old config.new) }
+    ensures { GoesOn S.meaning frame config.old config.new result (λ texts env.
+        visits_from frame.node.0 (taker_in texts taker) s.0 (holding_in texts frame.held).visits env) }
 {
     let mut frame = frame;
     match next_present(config, &mut frame)? {
@@ -168,13 +161,12 @@ fn visit<S: WorldStore>(
     s: NodeId,
     slot: Slot,
 ) -> Result<(), OutOfMemory>
-    requires running { config.old.state ≡ State.Running }
-    requires base { Base S.meaning config.old }
-    requires there { IsThere S.meaning config.old frame }
+    requires runs { Runs S.meaning config.old frame }
     requires form { frame.form ≡ Form.Stmt }
     requires node { IsForIn (node_now S.meaning config.old frame) taker s }
     requires slot { HasSlot config.old slot }
-    ensures { let texts = config.new.heap.texts in let env = env_in S.meaning config.old texts frame in OnOk result (Follows S.meaning (visit_goes frame.node.0 (taker_in texts taker) s.0 (Some (name_in texts slot.name)) (holding_in texts frame.held).visits env) config.old config.new) }
+    ensures { GoesOn S.meaning frame config.old config.new result (λ texts env.
+        visit_goes frame.node.0 (taker_in texts taker) s.0 (Some (name_in texts slot.name)) (holding_in texts frame.held).visits env) }
 {
     match taker {
         Taker::Target(target) => {
@@ -194,13 +186,12 @@ fn visit_variable<S: WorldStore>(
     s: NodeId,
     slot: Slot,
 ) -> Result<(), OutOfMemory>
-    requires running { config.old.state ≡ State.Running }
-    requires base { Base S.meaning config.old }
-    requires there { IsThere S.meaning config.old frame }
+    requires runs { Runs S.meaning config.old frame }
     requires form { frame.form ≡ Form.Stmt }
     requires node { IsForIn (node_now S.meaning config.old frame) (Taker.Variable name) s }
     requires slot { HasSlot config.old slot }
-    ensures { let texts = config.new.heap.texts in let env = env_in S.meaning config.old texts frame in OnOk result (Follows S.meaning (visit_goes frame.node.0 (VarName (text_in texts name)) s.0 (Some (name_in texts slot.name)) (holding_in texts frame.held).visits env) config.old config.new) }
+    ensures { GoesOn S.meaning frame config.old config.new result (λ texts env.
+        visit_goes frame.node.0 (VarName (text_in texts name)) s.0 (Some (name_in texts slot.name)) (holding_in texts frame.held).visits env) }
 {
     let place = place_of(config, &frame, 0);
     let id = text_of(config, slot.name)?;
@@ -218,13 +209,12 @@ fn visit_taken<S: WorldStore>(
     s: NodeId,
     reference: Reference,
 ) -> Result<(), OutOfMemory>
-    requires running { config.old.state ≡ State.Running }
-    requires base { Base S.meaning config.old }
-    requires there { IsThere S.meaning config.old frame }
+    requires runs { Runs S.meaning config.old frame }
     requires form { frame.form ≡ Form.Stmt }
     requires node { IsForIn (node_now S.meaning config.old frame) taker s }
     requires reference { HasReference config.old reference }
-    ensures { let texts = config.new.heap.texts in let env = env_in S.meaning config.old texts frame in OnOk result (Follows S.meaning (visit_taken frame.node.0 (taker_in texts taker) s.0 (holding_in texts frame.held).visits env (reference_in texts reference)) config.old config.new) }
+    ensures { GoesOn S.meaning frame config.old config.new result (λ texts env.
+        visit_taken frame.node.0 (taker_in texts taker) s.0 (holding_in texts frame.held).visits env (reference_in texts reference)) }
 {
     let mut frame = frame;
     match next_visit(config, &mut frame) {
@@ -242,14 +232,14 @@ fn visit_stored<S: WorldStore>(
     slot: Slot,
     reference: Reference,
 ) -> Result<(), OutOfMemory>
-    requires running { config.old.state ≡ State.Running }
-    requires base { Base S.meaning config.old }
-    requires there { IsThere S.meaning config.old frame }
+    requires runs { Runs S.meaning config.old frame }
     requires form { frame.form ≡ Form.Stmt }
     requires node { IsForIn (node_now S.meaning config.old frame) taker s }
     requires slot { HasSlot config.old slot }
     requires reference { HasReference config.old reference }
-    ensures { let texts = config.new.heap.texts in let env = env_in S.meaning config.old texts frame in OnOk result (Follows S.meaning (visit_body frame.node.0 s.0 (name_in texts slot.name) env (visits_from frame.node.0 (taker_in texts taker) s.0 (holding_in texts frame.held).visits env) (reference_in texts reference)) config.old config.new) }
+    ensures { GoesOn S.meaning frame config.old config.new result (λ texts env.
+        visit_body frame.node.0 s.0 (name_in texts slot.name) env
+        (visits_from frame.node.0 (taker_in texts taker) s.0 (holding_in texts frame.held).visits env) (reference_in texts reference)) }
 {
     let id = text_of(config, slot.name)?;
     match store(config, &frame, reference, Value::Text(id))? {

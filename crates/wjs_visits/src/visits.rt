@@ -50,7 +50,8 @@ fn is_present<S: WorldStore>(
     requires base { Base S.meaning config.old }
     requires there { IsThere S.meaning config.old frame.now }
     requires slot { HasSlot config.old slot }
-    ensures does { IfOk result (λ answer. Does S.meaning (λ t go. Do (Read frame.now.world (slot_in t slot)) (λ found. go (is_some found))) (λ t. answer) config.old config.new) }
+    ensures does { IfOk result (λ answer. Does S.meaning (λ t go. Do (Read frame.now.world (slot_in t slot)) (λ found. go (is_some found)))
+        (λ t. answer) config.old config.new) }
     ensures later { OnOk result (Later S.meaning config.old config.new) }
 {
     let found = read_content(config, frame, slot.object, slot.name)?;
@@ -68,7 +69,8 @@ pub(crate) fn next_present<S: WorldStore>(
     requires base { Base S.meaning config.old }
     requires there { IsThere S.meaning config.old frame.old }
     requires form { frame.old.form ≡ Form.Stmt }
-    ensures reaches { IfOk result (λ found. Reaches S.meaning (λ t. (holding_in t frame.old.held).visits) (λ t. (holding_in t frame.new.held).visits) (λ t. option_map (λ s. name_in t s.name) found) (λ t. env_in S.meaning config.old t frame.old) config.old config.new) }
+    ensures reaches { IfOk result (λ found. Reaches S.meaning (λ t. (holding_in t frame.old.held).visits) (λ t. (holding_in t frame.new.held).visits)
+        (λ t. option_map (λ s. name_in t s.name) found) (λ t. env_in S.meaning config.old t frame.old) config.old config.new) }
     ensures later { OnOk result (Later S.meaning config.old config.new) }
     ensures frame { OnOk result (frame.new ≡ record frame.old { held = frame.new.held }) }
     ensures there { OnOk result (IsThere S.meaning config.new frame.new) }
@@ -108,7 +110,10 @@ pub(crate) fn hold_visits<S: WorldStore>(
     requires there { IsThere S.meaning config.old frame.old }
     requires form { frame.old.form ≡ Form.Stmt }
     requires value { HasValue config.old value }
-    ensures lists { IfOk result (λ answer. MatchResult answer (λ _. Lists S.meaning (λ t. value_in t value) (λ t. (holding_in t frame.new.held).visits) (λ t. env_in S.meaning config.old t frame.old) config.old config.new) (λ error. Refuses S.meaning (λ t. value_in t value) (λ t. value_in t error) (λ t. env_in S.meaning config.old t frame.old) config.old config.new)) }
+    ensures lists { IfOk result (λ answer. MatchResult answer
+        (λ _. Lists S.meaning (λ t. value_in t value) (λ t. (holding_in t frame.new.held).visits)
+        (λ t. env_in S.meaning config.old t frame.old) config.old config.new)
+        (λ error. Refuses S.meaning (λ t. value_in t value) (λ t. value_in t error) (λ t. env_in S.meaning config.old t frame.old) config.old config.new)) }
     ensures later { OnOk result (Later S.meaning config.old config.new) }
     ensures frame { OnOk result (frame.new ≡ record frame.old { held = frame.new.held }) }
     ensures there { OnOk result (IsThere S.meaning config.new frame.new) }

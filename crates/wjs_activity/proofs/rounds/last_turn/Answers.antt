@@ -1,6 +1,6 @@
 use Rattle.std.proofs.Common.{◌∙◌, sym, ap, List}
 use Rattle.std.specs.Prelude.{slice_get}
-use Rattle.wjs_io.specs.Streams.{stream}
+use Rattle.wjs_io.specs.Streams.{over}
 use Rattle.wjs_props.proofs.Putting.{if_ok}
 use Rattle.wjs_activity.specs.declared.activities.Activity.{Activity}
 use Rattle.wjs_activity.proofs.AtPlace.{last_taken, last_left}
@@ -16,12 +16,11 @@ one_turn-requires-clause-some g c = c.requires.going.some
 
 pub returns-then-is_last-clause-ok : goal.returns-then-is_last-clause-ok
 returns-then-is_last-clause-ok g c =
-    let held = g.O.Sink.held in
-    let faults = g.O.Sink.faults in
+    let seen = g.O.Sink.seen in
     let first = c.args.out.now in
     let after = c.one_turn.new.out in
     if_ok c.one_turn.result _ _
-    (λ next h. last_taken c.args.rules (stream (held first) (held after) (faults first) (faults after)) c.args.place c.args.play next
+    (λ next h. last_taken c.args.rules (over seen first after) c.args.place c.args.play next
     (λ a at. sym (c.is_last.ensures a (ap (λ (l : List Activity). slice_get l c.args.place) c.as_slice.ensures.value ∙ at)) ∙ c.if-is_last.true) h)
     c.one_turn.ensures.ok
 
@@ -36,5 +35,5 @@ returns-then-is_last-clause-err g c =
 
 pub returns-clause-ok : goal.returns-clause-ok
 returns-clause-ok g c =
-    last_left c.args.rules (g.O.Sink.held c.args.out.now) (g.O.Sink.faults c.args.out.now) c.args.place c.args.play
+    last_left c.args.rules (g.O.Sink.seen c.args.out.now).bytes (g.O.Sink.seen c.args.out.now).faults c.args.place c.args.play
     (λ a at. sym (c.is_last.ensures a (ap (λ (l : List Activity). slice_get l c.args.place) c.as_slice.ensures.value ∙ at)) ∙ c.if-is_last.false)

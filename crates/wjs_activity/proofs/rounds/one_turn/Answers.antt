@@ -1,5 +1,5 @@
 use Rattle.std.proofs.Common.{sym, subst}
-use Rattle.wjs_io.specs.Streams.{stream}
+use Rattle.wjs_io.specs.Streams.{over}
 use Rattle.wjs_props.proofs.Putting.{if_ok}
 use Rattle.wjs_activity.specs.Rounds.{OneTurn, HaltsAt}
 use Rattle.wjs_activity.proofs.AtPlace.{one_turned, one_stopped, out_of_memory}
@@ -8,11 +8,10 @@ use Rattle.wjs_activity.proofs.rounds.one_turn.Goals as goal
 
 pub returns-in-Ok-clause-ok : goal.returns-in-Ok-clause-ok
 returns-in-Ok-clause-ok g c =
-    let held = g.O.Sink.held in
-    let faults = g.O.Sink.faults in
+    let seen = g.O.Sink.seen in
     let first = c.args.out.now in
     let after = c.written.new.out in
-    let s = stream (held first) (held after) (faults first) (faults after) in
+    let s = over seen first after in
     let r = c.in-Ok.turned in
     if_ok c.written.result _ _
     (λ next h. subst (OneTurn c.args.rules s c.args.place c.args.steps c.args.play) (sym h.0)
@@ -21,11 +20,10 @@ returns-in-Ok-clause-ok g c =
 
 pub returns-in-Ok-clause-err : goal.returns-in-Ok-clause-err
 returns-in-Ok-clause-err g c =
-    let held = g.O.Sink.held in
-    let faults = g.O.Sink.faults in
+    let seen = g.O.Sink.seen in
     let first = c.args.out.now in
     let after = c.written.new.out in
-    let s = stream (held first) (held after) (faults first) (faults after) in
+    let s = over seen first after in
     let r = c.in-Ok.turned in
     if_err c.written.result _ _
     (λ halt h. subst (HaltsAt c.args.rules s c.args.place c.args.steps c.args.play) (sym h.0)
@@ -33,4 +31,5 @@ returns-in-Ok-clause-err g c =
     c.written.ensures.err
 
 pub returns-in-Err-clause-err : goal.returns-in-Err-clause-err
-returns-in-Err-clause-err g c = out_of_memory c.args.rules (g.O.Sink.held c.args.out.now) (g.O.Sink.faults c.args.out.now) c.args.place c.args.steps c.args.play
+returns-in-Err-clause-err g c =
+    out_of_memory c.args.rules (g.O.Sink.seen c.args.out.now).bytes (g.O.Sink.seen c.args.out.now).faults c.args.place c.args.steps c.args.play

@@ -1,5 +1,5 @@
 use Rattle.std.proofs.Common.{◌+◌, ◌<◌, ◌≤◌, length, arith}
-use Rattle.wjs_io.specs.Streams.{stream}
+use Rattle.wjs_io.specs.Streams.{over}
 use Rattle.wjs_activity.specs.Rounds.{Is, by_turn, by_round, at_place}
 use Rattle.wjs_activity.proofs.Composed.{turns_none, turns_then, turns_so, halts_then, goes_on}
 use Rattle.wjs_activity.proofs.Rounded.{round_none, round_step, round_all, round_sooner}
@@ -10,7 +10,7 @@ pub loop-place-init : goal.loop-place-init
 loop-place-init g c =
     let first = c.args.out.now in
     record {
-      turns = turns_none c.args.rules (g.O.Sink.held first) (g.O.Sink.faults first) c.args.play
+      turns = turns_none c.args.rules (g.O.Sink.seen first).bytes (g.O.Sink.seen first).faults c.args.play
           (LeftIn c.args.rules.budget c.args.turn (length c.args.play.activities.items) 0)
           (λ library parts ends d ex. left_in_first c.args.rules.budget library parts c.args.turn c.args.play ends d ex);
       settled = c.requires.settled;
@@ -20,12 +20,10 @@ loop-place-init g c =
 
 pub turn_at-requires-clause-going : goal.turn_at-requires-clause-going
 turn_at-requires-clause-going g c =
-    let held = g.O.Sink.held in
-    let faults = g.O.Sink.faults in
+    let seen = g.O.Sink.seen in
     let first = c.args.out.now in
     let before = c.loop-place.out in
-    goes_on c.args.rules (stream (held first) (held before) (faults first)
-    (faults before)) _ c.args.play c.loop-place.current c.requires.going c.loop-place.invariant.turns
+    goes_on c.args.rules (over seen first before) _ c.args.play c.loop-place.current c.requires.going c.loop-place.invariant.turns
 
 pub turn_at-requires-clause-settled : goal.turn_at-requires-clause-settled
 turn_at-requires-clause-settled g c = c.loop-place.invariant.settled
@@ -37,15 +35,14 @@ turn_at-requires-clause-place g c =
 
 pub loop-place-preserved : goal.loop-place-preserved
 loop-place-preserved g c =
-    let held = g.O.Sink.held in
-    let faults = g.O.Sink.faults in
+    let seen = g.O.Sink.seen in
     let first = c.args.out.now in
     let before = c.loop-place.out in
     let after = c.turn_at.new.out in
     let inside : c.loop-place.place < length c.args.play.activities.items = omega (arith, c.loop-place-test.true) in
     record {
-      turns = turns_then c.args.rules (held first) (held before) (held after) (faults first) (faults before)
-          (faults after) c.args.play c.loop-place.current c.in-Ok.next
+      turns = turns_then c.args.rules (seen first).bytes (seen before).bytes (seen after).bytes (seen first).faults (seen before).faults
+          (seen after).faults c.args.play c.loop-place.current c.in-Ok.next
           (LeftIn c.args.rules.budget c.args.turn (length c.args.play.activities.items) c.loop-place.place)
           (Is (by_turn c.args.rules.budget (at_place c.loop-place.place c.args.turn)))
           (LeftIn c.args.rules.budget c.args.turn (length c.args.play.activities.items) (c.loop-place.place + 1))
@@ -60,13 +57,13 @@ loop-place-preserved g c =
 
 pub returns-in-Err-clause-err : goal.returns-in-Err-clause-err
 returns-in-Err-clause-err g c =
-    let held = g.O.Sink.held in
-    let faults = g.O.Sink.faults in
+    let seen = g.O.Sink.seen in
     let first = c.args.out.now in
     let before = c.loop-place.out in
     let after = c.turn_at.new.out in
     let inside : c.loop-place.place < length c.args.play.activities.items = omega (arith, c.loop-place-test.true) in
-    halts_then c.args.rules (held first) (held before) (held after) (faults first) (faults before) (faults after) c.args.play c.loop-place.current c.in-Err.halt
+    halts_then c.args.rules (seen first).bytes (seen before).bytes (seen after).bytes (seen first).faults (seen before).faults (seen after).faults c.args.play
+    c.loop-place.current c.in-Err.halt
     (LeftIn c.args.rules.budget c.args.turn (length c.args.play.activities.items) c.loop-place.place)
     (by_turn c.args.rules.budget (at_place c.loop-place.place c.args.turn)) (by_round c.args.rules.budget c.args.turn)
     (λ library parts ends d e left is. front_in_next c.args.rules.budget library parts c.args.turn
@@ -78,12 +75,11 @@ returns-in-Err-clause-never_falls g c = omega (arith, c.loop-place.invariant.nev
 
 pub returns-clause-ok : goal.returns-clause-ok
 returns-clause-ok g c =
-    let held = g.O.Sink.held in
-    let faults = g.O.Sink.faults in
+    let seen = g.O.Sink.seen in
     let first = c.args.out.now in
     let after = c.loop-place.out in
     let whole : length c.args.play.activities.items ≤ c.loop-place.place = omega (arith, c.loop-place-test.false) in
-    turns_so c.args.rules (stream (held first) (held after) (faults first) (faults after)) c.args.play c.loop-place.current
+    turns_so c.args.rules (over seen first after) c.args.play c.loop-place.current
     (LeftIn c.args.rules.budget c.args.turn (length c.args.play.activities.items) c.loop-place.place) (Is (by_round c.args.rules.budget c.args.turn))
     (λ library parts ends later d e was is left. left_in_none c.args.rules.budget library parts c.args.turn
     (length c.args.play.activities.items) c.loop-place.place whole d e left)

@@ -1,6 +1,6 @@
 use Rattle.std.proofs.Common.{◌≡◌, ◌+◌, ◌*◌, true, List, refl, arith, subst}
 use Rattle.std.specs.Prelude.{All}
-use Rattle.wjs_io.specs.Streams.{stream}
+use Rattle.wjs_io.specs.Streams.{over}
 use Rattle.wjs_activity.specs.declared.activities.Activity.{Activity}
 use Rattle.wjs_activity.specs.Rounds.{Is, Within, by_round, by_rounds}
 use Rattle.wjs_activity.proofs.Composed.{turns_none, turns_then, turns_so, halts_then, goes_on}
@@ -15,7 +15,7 @@ loop-alloc-init g c =
       turns = (
         3 * c.args.rules.budget + 1,
         within_all c.args.rules c.args.play c.requires.going,
-        turns_none c.args.rules (g.O.Sink.held first) (g.O.Sink.faults first) c.args.play
+        turns_none c.args.rules (g.O.Sink.seen first).bytes (g.O.Sink.seen first).faults c.args.play
             (LeftFor c.args.rules.budget c.args.turn (3 * c.args.rules.budget + 1)) (λ library parts ends d ex. refl),
       );
       settled = c.requires.settled;
@@ -24,12 +24,10 @@ loop-alloc-init g c =
 
 pub round-requires-clause-going : goal.round-requires-clause-going
 round-requires-clause-going g c =
-    let held = g.O.Sink.held in
-    let faults = g.O.Sink.faults in
+    let seen = g.O.Sink.seen in
     let first = c.args.out.now in
     let before = c.loop-alloc.out in
-    goes_on c.args.rules (stream (held first) (held before) (faults first)
-    (faults before)) _ c.args.play c.loop-alloc.current c.requires.going c.loop-alloc.invariant.turns.2
+    goes_on c.args.rules (over seen first before) _ c.args.play c.loop-alloc.current c.requires.going c.loop-alloc.invariant.turns.2
 
 pub round-requires-clause-settled : goal.round-requires-clause-settled
 round-requires-clause-settled g c = c.loop-alloc.invariant.settled
@@ -40,8 +38,7 @@ loop-alloc-smaller g c = c.in-Ok.ensures.less (subst (λ (l : List Activity). ¬
 
 pub loop-alloc-preserved : goal.loop-alloc-preserved
 loop-alloc-preserved g c =
-    let held = g.O.Sink.held in
-    let faults = g.O.Sink.faults in
+    let seen = g.O.Sink.seen in
     let first = c.args.out.now in
     let before = c.loop-alloc.out in
     let after = c.round.new.out in
@@ -54,8 +51,8 @@ loop-alloc-preserved g c =
         w.0,
         within_next c.args.rules.budget w.0 c.loop-alloc.current c.in-Ok.next
             (subst (λ k. Within c.args.rules.budget k c.loop-alloc.current.activities.items) w.1 h.1) c.in-Ok.ensures.sooner c.in-Ok.ensures.settled,
-        turns_then c.args.rules (held first) (held before) (held after) (faults first) (faults before)
-            (faults after) c.args.play c.loop-alloc.current c.in-Ok.next
+        turns_then c.args.rules (seen first).bytes (seen before).bytes (seen after).bytes (seen first).faults (seen before).faults
+            (seen after).faults c.args.play c.loop-alloc.current c.in-Ok.next
             (LeftFor c.args.rules.budget c.args.turn h.0) (Is (by_round c.args.rules.budget c.args.turn)) (LeftFor c.args.rules.budget c.args.turn w.0)
             (λ library parts ends d e g left is now. left_for_next c.args.rules.budget library parts c.args.turn c.loop-alloc.current ends e is on w.0 h.0 w.1
             d g left now)
@@ -67,8 +64,7 @@ loop-alloc-preserved g c =
 
 pub returns-in-Err-clause-err : goal.returns-in-Err-clause-err
 returns-in-Err-clause-err g c =
-    let held = g.O.Sink.held in
-    let faults = g.O.Sink.faults in
+    let seen = g.O.Sink.seen in
     let first = c.args.out.now in
     let before = c.loop-alloc.out in
     let after = c.round.new.out in
@@ -76,7 +72,8 @@ returns-in-Err-clause-err g c =
     (λ (l : List Activity). ¬ (All (λ (a : Activity). a.ended ≡ true) l)) c.as_slice.ensures.value (c.go_on.ensures.yes c.loop-alloc-test.true)) in
     let h = c.loop-alloc.invariant.turns in
     let w = some_left c.args.rules.budget h.0 c.loop-alloc.current.activities.items h.1 on in
-    halts_then c.args.rules (held first) (held before) (held after) (faults first) (faults before) (faults after) c.args.play c.loop-alloc.current c.in-Err.halt
+    halts_then c.args.rules (seen first).bytes (seen before).bytes (seen after).bytes (seen first).faults (seen before).faults (seen after).faults c.args.play
+    c.loop-alloc.current c.in-Err.halt
     (LeftFor c.args.rules.budget c.args.turn h.0) (by_round c.args.rules.budget c.args.turn) (by_rounds c.args.rules.budget c.args.turn)
     (λ library parts ends d e left is. front_for_next c.args.rules.budget library parts c.args.turn c.loop-alloc.current ends e is on w.0 h.0 w.1 d left)
     c.loop-alloc.invariant.never_falls h.2 c.in-Err.ensures.err
@@ -86,16 +83,15 @@ returns-in-Err-clause-never_falls g c = omega (arith, c.loop-alloc.invariant.nev
 
 pub returns-clause-ok : goal.returns-clause-ok
 returns-clause-ok g c =
-    let held = g.O.Sink.held in
-    let faults = g.O.Sink.faults in
+    let seen = g.O.Sink.seen in
     let first = c.args.out.now in
     let after = c.loop-alloc.out in
     let h = c.loop-alloc.invariant.turns in
-    let over = over_all c.loop-alloc.current.activities.items
+    let done = over_all c.loop-alloc.current.activities.items
     (subst (λ (l : List Activity). All (λ (a : Activity). a.ended ≡ true) l) c.as_slice.ensures.value (c.go_on.ensures.no c.loop-alloc-test.false)) in
-    turns_so c.args.rules (stream (held first) (held after) (faults first) (faults after)) c.args.play c.loop-alloc.current
+    turns_so c.args.rules (over seen first after) c.args.play c.loop-alloc.current
     (LeftFor c.args.rules.budget c.args.turn h.0) (Is (by_rounds c.args.rules.budget c.args.turn))
-    (λ library parts ends later d e was is left. left_for_none c.args.rules.budget library parts h.0 c.args.turn c.loop-alloc.current later d e is over left)
+    (λ library parts ends later d e was is left. left_for_none c.args.rules.budget library parts h.0 c.args.turn c.loop-alloc.current later d e is done left)
     h.2
 
 pub returns-clause-ended : goal.returns-clause-ended

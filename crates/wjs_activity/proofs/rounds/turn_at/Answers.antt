@@ -1,6 +1,6 @@
 use Rattle.std.proofs.Common.{◌∙◌, sym, ap, List, arith}
 use Rattle.std.specs.Prelude.{slice_get}
-use Rattle.wjs_io.specs.Streams.{stream}
+use Rattle.wjs_io.specs.Streams.{over}
 use Rattle.wjs_props.proofs.Putting.{if_ok}
 use Rattle.wjs_activity.specs.declared.activities.Activity.{Activity}
 use Rattle.wjs_activity.specs.Rounds.{Settled, LastTurn, LastHalts, TurnAt, TurnsTo, HaltsIn, Is, by_turn, at_place}
@@ -14,7 +14,7 @@ pub returns-then-has_ended-clause-ok : goal.returns-then-has_ended-clause-ok
 returns-then-has_ended-clause-ok g c =
     let w = there_at c.args.play.activities.items c.args.place c.requires.place in
     let over = sym (c.has_ended.ensures w.0 (ap (λ (l : List Activity). slice_get l c.args.place) c.as_slice.ensures.value ∙ w.1)) ∙ c.if-has_ended.true in
-    turns_none c.args.rules (g.O.Sink.held c.args.out.now) (g.O.Sink.faults c.args.out.now) c.args.play
+    turns_none c.args.rules (g.O.Sink.seen c.args.out.now).bytes (g.O.Sink.seen c.args.out.now).faults c.args.play
     (Is (by_turn c.args.rules.budget (at_place c.args.place c.args.steps)))
     (λ library parts ends d ex. ended_turn c.args.rules.budget c.args.play ends d ex library parts c.args.place c.args.steps w.0 w.1 over)
 
@@ -32,11 +32,10 @@ one_turn-requires-clause-there g c =
 
 pub last_turn-requires-clause-going : goal.last_turn-requires-clause-going
 last_turn-requires-clause-going g c =
-    let held = g.O.Sink.held in
-    let faults = g.O.Sink.faults in
+    let seen = g.O.Sink.seen in
     let first = c.args.out.now in
     let middle = c.one_turn.new.out in
-    goes_on c.args.rules (stream (held first) (held middle) (faults first) (faults middle)) _ c.args.play c.in-Ok.next c.requires.going c.in-Ok.ensures.ok.turns
+    goes_on c.args.rules (over seen first middle) _ c.args.play c.in-Ok.next c.requires.going c.in-Ok.ensures.ok.turns
 
 pub last_turn-requires-clause-place : goal.last_turn-requires-clause-place
 last_turn-requires-clause-place g c =
@@ -50,27 +49,24 @@ last_turn-requires-clause-due g c =
 
 pub returns-in-Ok-clause-ok : goal.returns-in-Ok-clause-ok
 returns-in-Ok-clause-ok g c =
-    let held = g.O.Sink.held in
-    let faults = g.O.Sink.faults in
+    let seen = g.O.Sink.seen in
     let first = c.args.out.now in
     let middle = c.one_turn.new.out in
     let after = c.last_turn.new.out in
     let w = there_at c.args.play.activities.items c.args.place c.requires.place in
-    if_ok c.last_turn.result (LastTurn c.args.rules (stream (held middle) (held after) (faults middle) (faults after)) c.args.place c.in-Ok.next)
-    (TurnsTo c.args.rules (stream (held first) (held after) (faults first) (faults after))
-    (Is (by_turn c.args.rules.budget (at_place c.args.place c.args.steps))) c.args.play)
-    (λ next l. turn_taken c.args.rules c.args.place c.args.steps c.args.play c.in-Ok.next w.0 w.1 (held first) (held middle) (held after) (faults first)
-    (faults middle) (faults after) c.in-Ok.ensures.ok next
+    if_ok c.last_turn.result (LastTurn c.args.rules (over seen middle after) c.args.place c.in-Ok.next)
+    (TurnsTo c.args.rules (over seen first after) (Is (by_turn c.args.rules.budget (at_place c.args.place c.args.steps))) c.args.play)
+    (λ next l. turn_taken c.args.rules c.args.place c.args.steps c.args.play c.in-Ok.next w.0 w.1 (seen first).bytes (seen middle).bytes (seen after).bytes
+    (seen first).faults (seen middle).faults (seen after).faults c.in-Ok.ensures.ok next
     (may_last c.args.rules.budget c.args.place c.args.play c.in-Ok.next w.0 c.in-Ok.ensures.ok.changes w.1) l)
     c.last_turn.ensures.ok
 
 pub returns-in-Ok-clause-settled : goal.returns-in-Ok-clause-settled
 returns-in-Ok-clause-settled g c =
-    let held = g.O.Sink.held in
-    let faults = g.O.Sink.faults in
+    let seen = g.O.Sink.seen in
     let middle = c.one_turn.new.out in
     let after = c.last_turn.new.out in
-    let s = stream (held middle) (held after) (faults middle) (faults after) in
+    let s = over seen middle after in
     let w = there_at c.args.play.activities.items c.args.place c.requires.place in
     if_ok c.last_turn.result (LastTurn c.args.rules s c.args.place c.in-Ok.next) (λ next. Settled next.activities.items)
     (λ next l. settled_at c.args.rules s c.args.place c.args.play c.in-Ok.next next w.0 w.1 c.in-Ok.ensures.ok.changes l c.requires.settled)
@@ -78,11 +74,10 @@ returns-in-Ok-clause-settled g c =
 
 pub returns-in-Ok-clause-changes : goal.returns-in-Ok-clause-changes
 returns-in-Ok-clause-changes g c =
-    let held = g.O.Sink.held in
-    let faults = g.O.Sink.faults in
+    let seen = g.O.Sink.seen in
     let middle = c.one_turn.new.out in
     let after = c.last_turn.new.out in
-    let s = stream (held middle) (held after) (faults middle) (faults after) in
+    let s = over seen middle after in
     let w = there_at c.args.play.activities.items c.args.place c.requires.place in
     if_ok c.last_turn.result (LastTurn c.args.rules s c.args.place c.in-Ok.next) (TurnAt c.args.rules.budget c.args.place c.args.play)
     (λ next l. turned_at c.args.rules s c.args.place c.args.play c.in-Ok.next next w.0 w.1 c.in-Ok.ensures.ok.changes l)
@@ -90,17 +85,15 @@ returns-in-Ok-clause-changes g c =
 
 pub returns-in-Ok-clause-err : goal.returns-in-Ok-clause-err
 returns-in-Ok-clause-err g c =
-    let held = g.O.Sink.held in
-    let faults = g.O.Sink.faults in
+    let seen = g.O.Sink.seen in
     let first = c.args.out.now in
     let middle = c.one_turn.new.out in
     let after = c.last_turn.new.out in
     let w = there_at c.args.play.activities.items c.args.place c.requires.place in
-    if_err c.last_turn.result (LastHalts c.args.rules (stream (held middle) (held after) (faults middle) (faults after)) c.args.place c.in-Ok.next)
-    (HaltsIn c.args.rules (stream (held first) (held after) (faults first) (faults after))
-    (by_turn c.args.rules.budget (at_place c.args.place c.args.steps)) c.args.play)
-    (λ halt h. last_stopped c.args.rules c.args.place c.args.steps c.args.play c.in-Ok.next w.0 w.1 (held first) (held middle) (held after) (faults first)
-    (faults middle) (faults after) c.in-Ok.ensures.ok halt c.one_turn.ensures.never_falls
+    if_err c.last_turn.result (LastHalts c.args.rules (over seen middle after) c.args.place c.in-Ok.next)
+    (HaltsIn c.args.rules (over seen first after) (by_turn c.args.rules.budget (at_place c.args.place c.args.steps)) c.args.play)
+    (λ halt h. last_stopped c.args.rules c.args.place c.args.steps c.args.play c.in-Ok.next w.0 w.1 (seen first).bytes (seen middle).bytes (seen after).bytes
+    (seen first).faults (seen middle).faults (seen after).faults c.in-Ok.ensures.ok halt c.one_turn.ensures.never_falls
     (may_last c.args.rules.budget c.args.place c.args.play c.in-Ok.next w.0 c.in-Ok.ensures.ok.changes w.1) h)
     c.last_turn.ensures.err
 
@@ -109,11 +102,10 @@ returns-in-Ok-clause-never_falls g c = omega (arith, c.one_turn.ensures.never_fa
 
 pub returns-in-Err-clause-err : goal.returns-in-Err-clause-err
 returns-in-Err-clause-err g c =
-    let held = g.O.Sink.held in
-    let faults = g.O.Sink.faults in
+    let seen = g.O.Sink.seen in
     let first = c.args.out.now in
     let after = c.one_turn.new.out in
     let w = there_at c.args.play.activities.items c.args.place c.requires.place in
     let on = sym (c.has_ended.ensures w.0 (ap (λ (l : List Activity). slice_get l c.args.place) c.as_slice.ensures.value ∙ w.1)) ∙ c.if-has_ended.false in
     turn_stopped c.args.rules c.args.place c.args.steps c.args.play c.args.play w.0 w.1
-    (stream (held first) (held after) (faults first) (faults after)) c.in-Err.halt on c.in-Err.ensures.err
+    (over seen first after) c.in-Err.halt on c.in-Err.ensures.err

@@ -33,4 +33,4 @@ pub returns-in-Err : goal.returns-in-Err
 returns-in-Err g c =
     let t = c.args.texts in
     none_begun_so (option_map (unit_in t) c.args.library) (each (unit_in t) c.args.parts.items) c.args.budget (each turn_in c.args.schedule.now) c.args.turn
-    (g.O.Sink.held c.args.out.now) (g.O.Sink.faults c.args.out.now)
+    (g.O.Sink.seen c.args.out.now).bytes (g.O.Sink.seen c.args.out.now).faults

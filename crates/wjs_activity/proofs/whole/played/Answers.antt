@@ -6,8 +6,8 @@ use Rattle.wjs_activity.proofs.whole.played.Goals as goal
 
 pub returns-then-is_spent : goal.returns-then-is_spent
 returns-then-is_spent g c = λ library parts first count is.
-    spent_so library parts c.args.rules.budget (each turn_in c.args.schedule.now) c.args.turn c.args.config (g.O.Sink.held c.args.out.now)
-    (g.O.Sink.faults c.args.out.now) is (c.is_spent.ensures.yes c.if-is_spent.true)
+    spent_so library parts c.args.rules.budget (each turn_in c.args.schedule.now) c.args.turn c.args.config (g.O.Sink.seen c.args.out.now).bytes
+    (g.O.Sink.seen c.args.out.now).faults is (c.is_spent.ensures.yes c.if-is_spent.true)
 
 pub begun-requires : goal.begun-requires
 begun-requires g c = c.requires.begin.is.works
@@ -29,4 +29,4 @@ returns-in-Ok g c = λ library parts first count is.
 
 pub returns-in-Err : goal.returns-in-Err
 returns-in-Err g c = λ library parts first count is. none_begun_so library parts c.args.rules.budget (each turn_in c.args.schedule.now) c.args.turn
-    (g.O.Sink.held c.args.out.now) (g.O.Sink.faults c.args.out.now)
+    (g.O.Sink.seen c.args.out.now).bytes (g.O.Sink.seen c.args.out.now).faults

@@ -4,4 +4,6 @@ use Rattle.wjs_moves.proofs.Parting.{stands_here}
 use Rattle.wjs_assigns.proofs.assigns.assign_start.Goals as goal
 
 pub enter-requires-clause-part : goal.enter-requires-clause-part
-enter-requires-clause-part g c = stands_here g.S.WorldStore.meaning c.args.config.now c.args.frame (nodes.Assign c.args.target c.args.sign c.args.right) c.args.target c.requires.there c.requires.node (inl refl)
+enter-requires-clause-part g c =
+    stands_here g.S.WorldStore.meaning c.args.config.now c.args.frame (nodes.Assign c.args.target c.args.sign c.args.right) c.args.target
+    c.requires.runs.there c.requires.node.node (inl refl)

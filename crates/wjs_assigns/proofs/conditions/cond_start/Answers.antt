@@ -4,4 +4,6 @@ use Rattle.wjs_moves.proofs.Parting.{stands_here}
 use Rattle.wjs_assigns.proofs.conditions.cond_start.Goals as goal
 
 pub enter-requires-clause-part : goal.enter-requires-clause-part
-enter-requires-clause-part g c = stands_here g.S.WorldStore.meaning c.args.config.now c.args.frame (nodes.Cond c.args.test c.args.yes c.args.no) c.args.test c.requires.there c.requires.node (inl refl)
+enter-requires-clause-part g c =
+    stands_here g.S.WorldStore.meaning c.args.config.now c.args.frame (nodes.Cond c.args.test c.args.yes c.args.no) c.args.test c.requires.runs.there
+    c.requires.node.node (inl refl)

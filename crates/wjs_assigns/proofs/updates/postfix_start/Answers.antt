@@ -5,7 +5,9 @@ use Rattle.wjs_moves.proofs.Parting.{stands_here}
 use Rattle.wjs_assigns.proofs.updates.postfix_start.Goals as goal
 
 pub enter-requires-clause-part : goal.enter-requires-clause-part
-enter-requires-clause-part g c = stands_here g.S.WorldStore.meaning c.args.config.now c.args.frame (nodes.Postfix c.args.target c.args.operator) c.args.target c.requires.there c.requires.node (inl refl)
+enter-requires-clause-part g c =
+    stands_here g.S.WorldStore.meaning c.args.config.now c.args.frame (nodes.Postfix c.args.target c.args.operator) c.args.target c.requires.runs.there
+    c.requires.node.node (inl refl)
 
 pub returns : goal.returns
-returns g c = follows_as _ _ _ _ _ _ (λ grows. rw (c.requires.form, c.requires.node) refl) c.enter.ensures
+returns g c = follows_as _ _ _ _ _ _ (λ grows. rw (c.requires.node.form, c.requires.node.node) refl) c.enter.ensures

@@ -21,4 +21,6 @@ returns-in-None g c =
     follows_as g.S.WorldStore.meaning _ _ _ _ c.finish.result (λ grows. block_end t c.args.frame.node.0 (holding_in t c.args.frame.held) env node c.args.at (sym c.statement_at.ensures ∙ c.in-None.is)) c.finish.ensures
 
 pub enter-requires-clause-part : goal.enter-requires-clause-part
-enter-requires-clause-part g c = statement_stands g.S.WorldStore.meaning c.args.config.now c.args.frame c.requires.there c.args.at c.in-Some.statement (sym c.statement_at.ensures ∙ c.in-Some.is)
+enter-requires-clause-part g c =
+    statement_stands g.S.WorldStore.meaning c.args.config.now c.args.frame c.requires.runs.there c.args.at c.in-Some.statement
+    (sym c.statement_at.ensures ∙ c.in-Some.is)

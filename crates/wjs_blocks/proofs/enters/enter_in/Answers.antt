@@ -6,6 +6,7 @@ use Rattle.wjs_moves.proofs.Parting.{stands_later}
 use Rattle.wjs_base.specs.Text.{Table}
 use Rattle.wjs_blocks.proofs.Inner.{scoped_follows}
 use Rattle.wjs_blocks.proofs.Standing.{inner_there}
+use Rattle.wjs_moves.proofs.Handling.{runs_over}
 use Rattle.wjs_blocks.proofs.enters.enter_in.Goals as goal
 
 pub returns : goal.returns
@@ -14,10 +15,12 @@ returns g c =
     let old = c.args.config.now in
     scoped_follows meaning (goal_of c.args.part) (λ (t : Table). then_at meaning old c.args.frame c.args.place t (env_in meaning old t c.args.frame)) old c.wait.new.config c.enter_last.new.config c.args.frame c.in_ok-inner.inner c.args.scope _ c.enter_last.result c.in_ok-wait.ensures.same c.in_ok-inner.ensures c.in_ok-wait.ensures.nests c.enter_last.ensures
 
-pub enter_last-requires-clause-there : goal.enter_last-requires-clause-there
-enter_last-requires-clause-there g c =
+pub enter_last-requires-clause-runs : goal.enter_last-requires-clause-runs
+enter_last-requires-clause-runs g c =
     let inner = c.in_ok-inner.inner in
-    c.in_ok-wait.ensures.later.frames inner (inner_there g.S.WorldStore.meaning c.args.config.now c.args.frame c.requires.there c.args.scope inner c.nothing_held.result c.requires.scope c.requires.outer c.nothing_held.ensures c.in_ok-inner.ensures)
+    runs_over _ _ _ _ _ c.requires.runs c.in_ok-wait.ensures.later
+    (c.in_ok-wait.ensures.later.frames inner (inner_there g.S.WorldStore.meaning c.args.config.now c.args.frame c.requires.runs.there c.args.scope inner
+    c.nothing_held.result c.requires.scope c.requires.outer c.nothing_held.ensures c.in_ok-inner.ensures))
 
 pub enter_last-requires-clause-part : goal.enter_last-requires-clause-part
 enter_last-requires-clause-part g c =

@@ -17,6 +17,7 @@ use Rattle.wjs_blocks.specs.Switches.{case_goes}
 use Rattle.wjs_lines.proofs.Following.{follows_as}
 use Rattle.wjs_blocks.proofs.Switching.{cases_same, case_enters, default_same}
 use Rattle.wjs_blocks.proofs.Standing.{case_stands, test_of, holding_value}
+use Rattle.wjs_moves.proofs.Handling.{runs_as}
 use Rattle.wjs_blocks.proofs.switches.cases_from.Goals as goal
 
 pub returns-in_ok-hold-in-Some : goal.returns-in_ok-hold-in-Some
@@ -53,8 +54,10 @@ returns-in-None g c =
     sym (ap (λ (l : List (Option ℕ × List ℕ)). switch_from (statements_of l) env) (default_same t node f.form f.node.0 env c.requires.form c.requires.node c.clauses_of-in-None.result.now c.default_of-clause.result c.clauses_of-in-None.ensures (c.default_of-clause.ensures t)))
     ∙ sym (cases_same t node f.form f.node.0 env c.requires.form c.requires.node c.clauses_of.result.now v c.args.from None c.clauses_of.ensures found)) c.clauses_from.ensures
 
-pub enter-requires-clause-there : goal.enter-requires-clause-there
-enter-requires-clause-there g c = holding_value g.S.WorldStore.meaning c.args.config.now c.args.frame c.requires.there c.hold.new.frame c.args.value c.requires.value c.in_ok-hold-in-Some.ensures
+pub enter-requires-clause-runs : goal.enter-requires-clause-runs
+enter-requires-clause-runs g c =
+    runs_as _ _ _ _ c.requires.runs (holding_value g.S.WorldStore.meaning c.args.config.now c.args.frame c.requires.runs.there c.hold.new.frame c.args.value
+    c.requires.value c.in_ok-hold-in-Some.ensures)
 
 pub enter-requires-clause-part : goal.enter-requires-clause-part
 enter-requires-clause-part g c =
@@ -63,4 +66,5 @@ enter-requires-clause-part g c =
     let Q : List Clause → Type 0 = λ cs. test_of (slice_get cs case.at) ≡ Some case.test in
     let R : Option Case → Type 0 = λ o. IfSome o (λ (x : Case). test_of (slice_get c.clauses_of.result.now x.at) ≡ Some x.test) in
     let found : Q (clauses_in (node_now g.S.WorldStore.meaning c.args.config.now c.args.frame)) = subst Q c.clauses_of.ensures (subst R c.in-Some.is c.case_from.ensures.is) in
-    subst P (sym c.in_ok-hold-in-Some.ensures) (case_stands g.S.WorldStore.meaning c.args.config.now c.args.frame c.requires.there case.at case.test c.requires.node found)
+    subst P (sym c.in_ok-hold-in-Some.ensures) (case_stands g.S.WorldStore.meaning c.args.config.now c.args.frame c.requires.runs.there case.at case.test
+    c.requires.node found)

@@ -13,6 +13,7 @@ use Rattle.wjs_lines.specs.Lists.{clauses_of}
 use Rattle.wjs_lines.proofs.Following.{follows_as}
 use Rattle.wjs_blocks.proofs.Switching.{place_statement, place_case, earliest_some, earliest_none}
 use Rattle.wjs_blocks.proofs.Standing.{holding_nothing}
+use Rattle.wjs_moves.proofs.Handling.{runs_as}
 use Rattle.wjs_blocks.proofs.switches.part_next.Goals as goal
 
 pub returns-in-Some : goal.returns-in-Some
@@ -38,8 +39,12 @@ returns-in-None g c =
     ap (λ (x : Frame). switch_next (switch_from (drop (x.place - 1) (statements_of (clauses_of (node_in t (node_now meaning old x))))) (env_in meaning old t x)) ended) {y = record f { held = [] }} c.take_earliest.ensures.held
     ∙ place_statement (clauses_of (node_in t (node_now meaning old f))) f.place (earliest_first (map (value_in t) (values_held f.held))) (env_in meaning old t f) ended c.requires.place (earliest_none (value_in t) (values_held f.held) (sym c.take_earliest.ensures.value ∙ c.in-None.is))) c.statement_next.ensures
 
-pub case_next-requires-clause-there : goal.case_next-requires-clause-there
-case_next-requires-clause-there g c = holding_nothing g.S.WorldStore.meaning c.args.config.now c.args.frame c.requires.there c.take_earliest.new.frame c.take_earliest.ensures.held
+pub case_next-requires-clause-runs : goal.case_next-requires-clause-runs
+case_next-requires-clause-runs g c =
+    runs_as _ _ _ _ c.requires.runs (holding_nothing g.S.WorldStore.meaning c.args.config.now c.args.frame c.requires.runs.there c.take_earliest.new.frame
+    c.take_earliest.ensures.held)
 
-pub statement_next-requires-clause-there : goal.statement_next-requires-clause-there
-statement_next-requires-clause-there g c = holding_nothing g.S.WorldStore.meaning c.args.config.now c.args.frame c.requires.there c.take_earliest.new.frame c.take_earliest.ensures.held
+pub statement_next-requires-clause-runs : goal.statement_next-requires-clause-runs
+statement_next-requires-clause-runs g c =
+    runs_as _ _ _ _ c.requires.runs (holding_nothing g.S.WorldStore.meaning c.args.config.now c.args.frame c.requires.runs.there c.take_earliest.new.frame
+    c.take_earliest.ensures.held)

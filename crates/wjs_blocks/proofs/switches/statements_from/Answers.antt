@@ -33,4 +33,4 @@ returns-in-None g c =
 pub enter-requires-clause-part : goal.enter-requires-clause-part
 enter-requires-clause-part g c =
     let listed = sym (ap (λ (cs : List Clause). slice_get (statements_of_clauses cs) c.args.at) c.clauses_of.ensures) ∙ sym c.statement_at.ensures ∙ c.in-Some.is in
-    clause_statement_stands g.S.WorldStore.meaning c.args.config.now c.args.frame c.requires.there c.args.at c.in-Some.statement c.requires.node listed
+    clause_statement_stands g.S.WorldStore.meaning c.args.config.now c.args.frame c.requires.runs.there c.args.at c.in-Some.statement c.requires.node listed

@@ -5,21 +5,28 @@ use Rattle.wjs_meaning.specs.NewObjects.{scope_object}
 use Rattle.wjs_moves.specs.Doing.{Does}
 use Rattle.wjs_model.proofs.Standing.{scope_kept}
 use Rattle.wjs_blocks.proofs.Catching.{catch_follows, caught_stands_later}
+use Rattle.wjs_moves.proofs.Handling.{runs_later}
 use Rattle.wjs_blocks.proofs.tries.catch.Goals as goal
 
 pub returns : goal.returns
 returns g c =
     catch_follows g.S.WorldStore.meaning c.args.config.now c.create_scope.new.config c.write.new.config c.enter_in.new.config c.args.frame c.args.b c.args.handler c.args.f c.args.value c.in_ok-scope.scope c.name_of-name.result c.enter_in.result
-    c.requires.form c.requires.node (subst (λ (s : ObjId). Does g.S.WorldStore.meaning (λ t go. Do (Create c.args.config.now.owner (scope_object s)) go) (λ t. c.in_ok-scope.scope) c.args.config.now c.create_scope.new.config) c.scope.ensures c.in_ok-scope.ensures.does) c.in_ok-scope.ensures.later c.name_of-name.ensures.name c.in_ok-write.ensures.does c.in_ok-write.ensures.later c.enter_in.ensures
+    c.requires.node.form c.requires.node.node
+    (subst (λ (s : ObjId). Does g.S.WorldStore.meaning (λ t go. Do (Create c.args.config.now.owner (scope_object s)) go) (λ t. c.in_ok-scope.scope)
+    c.args.config.now c.create_scope.new.config) c.scope.ensures c.in_ok-scope.ensures.does) c.in_ok-scope.ensures.later c.name_of-name.ensures.name
+    c.in_ok-write.ensures.does c.in_ok-write.ensures.later c.enter_in.ensures
 
 pub enter_in-requires-clause-outer : goal.enter_in-requires-clause-outer
 enter_in-requires-clause-outer g c = scope_kept c.create_scope.new.config.heap.arena c.write.new.config.heap.arena c.in_ok-write.ensures.later.arena c.in_ok-scope.scope c.args.frame.scope (c.in_ok-scope.ensures.outer ∙ ap Some c.scope.ensures)
 
 pub enter_in-requires-clause-part : goal.enter_in-requires-clause-part
-enter_in-requires-clause-part g c = caught_stands_later g.S.WorldStore.meaning c.args.config.now c.create_scope.new.config c.write.new.config c.args.frame c.args.b c.args.handler c.args.f c.in_ok-scope.scope c.requires.there c.requires.node c.in_ok-scope.ensures.later (c.in_ok-scope.ensures.outer ∙ ap Some c.scope.ensures) c.in_ok-write.ensures.later
+enter_in-requires-clause-part g c =
+    caught_stands_later g.S.WorldStore.meaning c.args.config.now c.create_scope.new.config c.write.new.config c.args.frame c.args.b c.args.handler c.args.f
+    c.in_ok-scope.scope c.requires.runs.there c.requires.node.node c.in_ok-scope.ensures.later (c.in_ok-scope.ensures.outer ∙ ap Some c.scope.ensures)
+    c.in_ok-write.ensures.later
 
 pub write-requires-clause-there : goal.write-requires-clause-there
-write-requires-clause-there g c = c.in_ok-scope.ensures.later.frames c.args.frame c.requires.there
+write-requires-clause-there g c = c.in_ok-scope.ensures.later.frames c.args.frame c.requires.runs.there
 
-pub enter_in-requires-clause-there : goal.enter_in-requires-clause-there
-enter_in-requires-clause-there g c = c.in_ok-write.ensures.later.frames c.args.frame (c.in_ok-scope.ensures.later.frames c.args.frame c.requires.there)
+pub enter_in-requires-clause-runs : goal.enter_in-requires-clause-runs
+enter_in-requires-clause-runs g c = runs_later _ _ _ _ (runs_later _ _ _ _ c.requires.runs c.in_ok-scope.ensures.later) c.in_ok-write.ensures.later

@@ -7,4 +7,4 @@ use Rattle.wjs_blocks.proofs.tries.finally_next.Goals as goal
 pub finish-requires-clause-completion : goal.finish-requires-clause-completion
 finish-requires-clause-completion g c =
     let P : Completion → Type 0 = λ e. HasCompletion c.args.config.now e in
-    subst P (sym c.earlier-earlier.ensures) (earlier_there c.args.config.now c.args.frame.held c.requires.there.held)
+    subst P (sym c.earlier-earlier.ensures) (earlier_there c.args.config.now c.args.frame.held c.requires.runs.there.held)

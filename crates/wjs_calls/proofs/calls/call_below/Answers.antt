@@ -12,16 +12,18 @@ use Rattle.wjs_model.specs.Soundness.{IsThere}
 use Rattle.wjs_moves.specs.Following.{Follows}
 use Rattle.wjs_moves.specs.Parts.{env_in}
 use Rattle.wjs_calls.proofs.Frames.{there_with}
+use Rattle.wjs_moves.proofs.Handling.{runs_over}
 use Rattle.wjs_calls.proofs.calls.call_below.Goals as goal
 
-pub call-requires-clause-there : goal.call-requires-clause-there
-call-requires-clause-there g c =
+pub call-requires-clause-runs : goal.call-requires-clause-runs
+call-requires-clause-runs g c =
     let m = g.S.WorldStore.meaning in
     let new = c.wait.new.config in
     let later = c.in_ok-wait.ensures.later in
     let f = c.args.frame in
-    let h = later.frames f c.requires.there in
-    subst (IsThere m new) (sym c.in_ok-above.ensures) (there_with m new f form.Call 0 phases.Ready f.this c.args.items h tt h.this (later.items c.args.items c.requires.items) tt)
+    let h = later.frames f c.requires.runs.there in
+    runs_over _ _ _ _ _ c.requires.runs later (subst (IsThere m new) (sym c.in_ok-above.ensures)
+    (there_with m new f form.Call 0 phases.Ready f.this c.args.items h tt h.this (later.items c.args.items c.requires.items) tt))
 
 -- the call is run where the frame is
 pub returns : goal.returns

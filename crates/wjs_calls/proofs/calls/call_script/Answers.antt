@@ -1,4 +1,5 @@
+use Rattle.wjs_moves.proofs.Handling.{runs_later}
 use Rattle.wjs_calls.proofs.calls.call_script.Goals as goal
 
-pub enter_body-requires-clause-there : goal.enter_body-requires-clause-there
-enter_body-requires-clause-there g c = c.in_ok-answer.ensures.later.frames c.args.frame c.requires.there
+pub enter_body-requires-clause-runs : goal.enter_body-requires-clause-runs
+enter_body-requires-clause-runs g c = runs_later _ _ _ _ c.requires.runs c.in_ok-answer.ensures.later

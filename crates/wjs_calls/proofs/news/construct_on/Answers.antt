@@ -24,6 +24,7 @@ use Rattle.wjs_calls.proofs.Frames.{there_with}
 use Rattle.wjs_calls.proofs.NewFrames.{new_waits}
 use Rattle.wjs_calls.proofs.Rows.{same_units}
 use Rattle.wjs_deeds.proofs.Making.{near_bare}
+use Rattle.wjs_moves.proofs.Handling.{runs_over}
 use Rattle.wjs_calls.proofs.news.construct_on.Goals as goal
 
 pub returns : goal.returns
@@ -49,20 +50,22 @@ returns g c =
 pub create-requires-clause-near : goal.create-requires-clause-near
 create-requires-clause-near g c = near_bare c.args.config.now.apart.items c.object_of.result class.Plain (Some c.args.prototype) c.object_of.ensures c.requires.prototype.1
 
-pub call_below-requires-clause-there : goal.call_below-requires-clause-there
-call_below-requires-clause-there g c =
+pub call_below-requires-clause-runs : goal.call_below-requires-clause-runs
+call_below-requires-clause-runs g c =
     let m = g.S.WorldStore.meaning in
     let mid = c.create.new.config in
     let f = c.args.frame in
     let made = c.in_ok-object.ensures in
-    let h = made.later.frames f c.requires.there in
+    let h = made.later.frames f c.requires.runs.there in
     let items = holds.Value (values.Object c.in_ok-object.object) ∷ c.nothing_held.result in
     let none = subst (λ (l : List Held). HasItems mid l) (sym c.nothing_held.ensures) tt in
     let body = subst (λ (k : Form). BodyStands mid.units.items mid.heap.arena k (begun_held items) f.tree f.node f.scope) (sym c.requires.form) tt in
     let is : c.hold.new.frame ≡ record f { held = items } = c.in_ok-hold.ensures ∙ ap (λ (q : Frame). record q { held = holds.Value (values.Object c.in_ok-object.object) ∷ q.held }) c.replace_held-arguments.ensures.new in
-    subst (IsThere m mid) (sym is) (there_with m mid f f.form f.place f.phase f.this items h h.phase h.this (made.found, none) body)
+    runs_over _ _ _ _ _ c.requires.runs made.later (subst (IsThere m mid) (sym is) (there_with m mid f f.form f.place f.phase f.this items h h.phase h.this
+    (made.found, none) body))
 
 pub call_below-requires-clause-items : goal.call_below-requires-clause-items
 call_below-requires-clause-items g c =
     let mid = c.create.new.config in
-    subst (λ (l : List Held). HasItems mid l) (sym c.replace_held-arguments.ensures.held) (c.in_ok-object.ensures.later.items c.args.frame.held c.requires.there.held)
+    subst (λ (l : List Held). HasItems mid l) (sym c.replace_held-arguments.ensures.held)
+    (c.in_ok-object.ensures.later.items c.args.frame.held c.requires.runs.there.held)

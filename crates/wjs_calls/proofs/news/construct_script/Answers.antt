@@ -10,6 +10,7 @@ use Rattle.wjs_moves.specs.Following.{Follows}
 use Rattle.wjs_moves.specs.Parts.{env_in}
 use Rattle.wjs_deeds.proofs.Composing.{env_later}
 use Rattle.wjs_calls.proofs.NewFrames.{plain_prototype}
+use Rattle.wjs_moves.proofs.Handling.{runs_later}
 use Rattle.wjs_calls.proofs.news.construct_script.Goals as goal
 
 pub returns-in-Object : goal.returns-in-Object
@@ -41,8 +42,8 @@ returns-in_default g c =
     let made : OnOk r (Follows m (new_on p f vs env) mid new) = subst (λ (e : Env). OnOk r (Follows m (new_on p f vs e) mid new)) (env_later m old mid t c.args.frame c.in_ok-found.ensures.later) c.construct_on-in_default.ensures in
     c.in_ok-found.ensures.does.by (new_prototype f vs env) new r (subst (λ (a : Act). OnOk r (Follows m a mid new)) (ap (λ (o : ObjId). new_on o f vs env) c.builtin-prototype.ensures.number ∙ sym (plain_prototype t c.in_ok-found.found f vs env c.in_default.not-Object)) made)
 
-pub construct_on-requires-clause-there : goal.construct_on-requires-clause-there
-construct_on-requires-clause-there g c = c.in_ok-found.ensures.later.frames c.args.frame c.requires.there
+pub construct_on-requires-clause-runs : goal.construct_on-requires-clause-runs
+construct_on-requires-clause-runs g c = runs_later _ _ _ _ c.requires.runs c.in_ok-found.ensures.later
 
-pub construct_on-requires-in_default-clause-there : goal.construct_on-requires-in_default-clause-there
-construct_on-requires-in_default-clause-there g c = c.in_ok-found.ensures.later.frames c.args.frame c.requires.there
+pub construct_on-requires-in_default-clause-runs : goal.construct_on-requires-in_default-clause-runs
+construct_on-requires-in_default-clause-runs g c = runs_later _ _ _ _ c.requires.runs c.in_ok-found.ensures.later

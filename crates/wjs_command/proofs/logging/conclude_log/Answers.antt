@@ -1,6 +1,6 @@
 use Rattle.std.proofs.Common.{List, subst}
 use Rattle.wjs_content.specs.Plans.{Told}
-use Rattle.wjs_io.specs.Streams.{stream}
+use Rattle.wjs_io.specs.Streams.{over}
 use Rattle.wjs_logs.specs.Telling.{Tells}
 use Rattle.wjs_command.proofs.Loggings.{not_marked, log_comes}
 use Rattle.wjs_command.proofs.logging.conclude_log.Goals as goal
@@ -15,7 +15,6 @@ spell_store-requires-clause-known g c = c.requires.sound.base.told
 
 pub returns-in-Ok : goal.returns-in-Ok
 returns-in-Ok g c = λ r is told.
-    let held = g.O.Sink.held in
-    let faults = g.O.Sink.faults in
-    log_comes c.in-Ok.log.items c.as_slice.result.now (stream (held c.args.out.now) (held c.write_and_tell.new.out) (faults c.args.out.now) (faults c.write_and_tell.new.out)) c.write_and_tell.result r
+    let seen = g.O.Sink.seen in
+    log_comes c.in-Ok.log.items c.as_slice.result.now (over seen c.args.out.now c.write_and_tell.new.out) c.write_and_tell.result r
     c.as_slice.ensures.value (subst (λ (ds : List Told). Tells c.in-Ok.log.items ds) told c.in-Ok.ensures) (c.write_and_tell.ensures r is)

@@ -1,4 +1,4 @@
-use Rattle.wjs_io.specs.Streams.{stream}
+use Rattle.wjs_io.specs.Streams.{over}
 use Rattle.wjs_command.proofs.Loggings.{logged_new, log_run}
 use Rattle.wjs_command.proofs.logging.log_script.Goals as goal
 
@@ -7,7 +7,6 @@ begin-requires-clause-new g c = logged_new g.S.WorldStore.meaning c.args.store c
 
 pub returns-in-Ok : goal.returns-in-Ok
 returns-in-Ok g c =
-    let held = g.O.Sink.held in
-    let faults = g.O.Sink.faults in
-    log_run g.S.WorldStore.meaning c.args.texts c.args.script c.args.steps c.in-Ok.config (stream (held c.args.out.now) (held c.log_whole.new.out) (faults c.args.out.now) (faults c.log_whole.new.out)) c.log_whole.result
+    let seen = g.O.Sink.seen in
+    log_run g.S.WorldStore.meaning c.args.texts c.args.script c.args.steps c.in-Ok.config (over seen c.args.out.now c.log_whole.new.out) c.log_whole.result
     c.in-Ok.ensures c.log_whole.ensures

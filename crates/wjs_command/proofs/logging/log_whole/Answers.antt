@@ -8,7 +8,8 @@ use Rattle.wjs_command.proofs.logging.log_whole.Goals as goal
 pub returns-in-Some : goal.returns-in-Some
 returns-in-Some g c = λ r is.
     let ran = c.run-ending in
-    log_stops g.S.WorldStore.meaning (g.O.Sink.held c.args.out.now) (g.O.Sink.faults c.args.out.now) c.args.config ran.new.config ran.result c.in-Some.stop (sym c.stop_of.ensures ∙ c.in-Some.is) ran.ensures.ends r
+    log_stops g.S.WorldStore.meaning (g.O.Sink.seen c.args.out.now).bytes (g.O.Sink.seen c.args.out.now).faults c.args.config ran.new.config ran.result
+    c.in-Some.stop (sym c.stop_of.ensures ∙ c.in-Some.is) ran.ensures.ends r
 
 pub returns-in-None : goal.returns-in-None
 returns-in-None g c = λ r is.

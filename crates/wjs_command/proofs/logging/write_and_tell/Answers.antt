@@ -1,4 +1,4 @@
-use Rattle.wjs_io.specs.Streams.{stream}
+use Rattle.wjs_io.specs.Streams.{over}
 use Rattle.wjs_command.specs.Table.{Told}
 use Rattle.wjs_command.specs.Runs.{line_of_end, status_of_end}
 use Rattle.wjs_command.proofs.Deliveries.{writes_stop}
@@ -6,7 +6,6 @@ use Rattle.wjs_command.proofs.logging.write_and_tell.Goals as goal
 
 pub returns-in-Err : goal.returns-in-Err
 returns-in-Err g c = λ r h.
-    let held = g.O.Sink.held in
-    let faults = g.O.Sink.faults in
+    let seen = g.O.Sink.seen in
     let told : Told = record { out = c.args.bytes.now; err = line_of_end r.0 r.1; status = status_of_end r.0 } in
-    writes_stop told (stream (held c.args.out.now) (held c.write_or_stop.new.out) (faults c.args.out.now) (faults c.write_or_stop.new.out)) c.in-Err.stop c.in-Err.ensures
+    writes_stop told (over seen c.args.out.now c.write_or_stop.new.out) c.in-Err.stop c.in-Err.ensures

@@ -1,4 +1,4 @@
-use Rattle.wjs_io.specs.Streams.{stream}
+use Rattle.wjs_io.specs.Streams.{over}
 use Rattle.wjs_command.specs.Due.{owed_in}
 use Rattle.wjs_command.specs.Plays.{OfPlay}
 use Rattle.wjs_command.proofs.Deliveries.{comes_as}
@@ -17,11 +17,10 @@ play_parts-requires-clause-turn g c = c.requires.turn c.in-Play.is
 
 pub returns-in-Play-clause-told : goal.returns-in-Play-clause-told
 returns-in-Play-clause-told g c =
-    let held = g.O.Sink.held in
-    let faults = g.O.Sink.faults in
+    let seen = g.O.Sink.seen in
     let options = c.args.options in
     let bytes = c.args.bytes.now in
-    let out = stream (held c.args.out.now) (held c.play_parts.new.out) (faults c.args.out.now) (faults c.play_parts.new.out) in
+    let out = over seen c.args.out.now c.play_parts.new.out in
     served_comes options bytes out c.play_parts.result c.requires.within
     (comes_as (OfPlay options.steps options.turn bytes) (owed_in options.mode options.steps options.turn bytes) out c.play_parts.result
     (λ told h. play_owed options.mode options.steps options.turn bytes told c.in-Play.is h) c.play_parts.ensures.told)

@@ -1,5 +1,5 @@
 use Rattle.std.proofs.Common.{[], codes, refl}
-use Rattle.wjs_io.specs.Streams.{stream}
+use Rattle.wjs_io.specs.Streams.{over}
 use Rattle.wjs_model.specs.Units.{unit_in}
 use Rattle.wjs_command.specs.declared.status.Status.TheVariants.{Done}
 use Rattle.wjs_command.specs.Table.{Told, line}
@@ -14,38 +14,37 @@ load-requires g c = most_script c.args.options.mode c.args.bytes.now c.requires.
 
 pub returns-in-Check : goal.returns-in-Check
 returns-in-Check g c =
-    let held = g.O.Sink.held in
-    let faults = g.O.Sink.faults in
+    let seen = g.O.Sink.seen in
     let told : Told = record { out = line (codes "ok"); err = []; status = Done } in
     let loaded = c.in-Ok-load in
-    check_comes c.args.options.mode c.args.options.steps c.args.options.turn c.args.bytes.now (stream (held c.args.out.now) (held c.accept.new.out) (faults c.args.out.now) (faults c.accept.new.out)) c.accept.result told
+    check_comes c.args.options.mode c.args.options.steps c.args.options.turn c.args.bytes.now (over seen c.args.out.now c.accept.new.out) c.accept.result told
     c.in-Check.is (reads (record { tree = unit_in c.load.new.texts loaded.script; spelled = loaded.ensures.ok; owed = refl })) c.accept.ensures
 
 pub returns-in-Log : goal.returns-in-Log
 returns-in-Log g c =
-    let held = g.O.Sink.held in
-    let faults = g.O.Sink.faults in
+    let seen = g.O.Sink.seen in
     let options = c.args.options in
     let bytes = c.args.bytes.now in
     let texts = c.load.new.texts in
     let loaded = c.in-Ok-load in
-    let out = stream (held c.args.out.now) (held c.log_script.new.out) (faults c.args.out.now) (faults c.log_script.new.out) in
+    let out = over seen c.args.out.now c.log_script.new.out in
     comes_as (IsLogRun texts loaded.script options.steps) (owed_in options.mode options.steps options.turn bytes) out c.log_script.result
     (log_told options bytes texts loaded.script c.in-Log.is loaded.ensures.ok)
     c.log_script.ensures
 
 pub returns-in_default : goal.returns-in_default
 returns-in_default g c =
-    let held = g.O.Sink.held in
-    let faults = g.O.Sink.faults in
+    let seen = g.O.Sink.seen in
     let options = c.args.options in
     let bytes = c.args.bytes.now in
     let texts = c.load.new.texts in
     let loaded = c.in-Ok-load in
-    let out = stream (held c.args.out.now) (held c.run_script.new.out) (faults c.args.out.now) (faults c.run_script.new.out) in
+    let out = over seen c.args.out.now c.run_script.new.out in
     comes_as (IsRunOf texts loaded.script options.steps options.mode) (owed_in options.mode options.steps options.turn bytes) out c.run_script.result
     (run_told options bytes texts loaded.script c.requires.mode c.requires.script c.in_default.not-Check c.in_default.not-Log loaded.ensures.ok)
     c.run_script.ensures
 
 pub returns-in-Err-load : goal.returns-in-Err-load
-returns-in-Err-load g c = fault_comes c.args.options c.args.bytes.now c.in-Err-load.fault c.refuse_or_stop.result (g.O.Sink.held c.args.out.now) (g.O.Sink.faults c.args.out.now) c.requires.mode c.requires.script c.in-Err-load.ensures.err c.refuse_or_stop.ensures
+returns-in-Err-load g c =
+    fault_comes c.args.options c.args.bytes.now c.in-Err-load.fault c.refuse_or_stop.result (g.O.Sink.seen c.args.out.now).bytes
+    (g.O.Sink.seen c.args.out.now).faults c.requires.mode c.requires.script c.in-Err-load.ensures.err c.refuse_or_stop.ensures

@@ -1,5 +1,5 @@
 use Rattle.std.proofs.Common.{map as each}
-use Rattle.wjs_io.specs.Streams.{stream}
+use Rattle.wjs_io.specs.Streams.{over}
 use Rattle.wjs_model.specs.Units.{unit_in}
 use Rattle.wjs_command.specs.Plays.{PlayedAlone}
 use Rattle.wjs_command.proofs.Played.{divided_comes, divided_alone, no_input_comes, no_input_alone}
@@ -7,31 +7,29 @@ use Rattle.wjs_command.proofs.playing.play_parts.Goals as goal
 
 pub returns-in-Ok-load_parts-clause-told : goal.returns-in-Ok-load_parts-clause-told
 returns-in-Ok-load_parts-clause-told g c =
-    let held = g.O.Sink.held in
-    let faults = g.O.Sink.faults in
+    let seen = g.O.Sink.seen in
     let loaded = c.in-Ok-load_parts in
-    let out = stream (held c.args.out.now) (held c.play_units.new.out) (faults c.args.out.now) (faults c.play_units.new.out) in
+    let out = over seen c.args.out.now c.play_units.new.out in
     let trees = each (unit_in c.load_parts.new.texts) loaded.parts.items in
     divided_comes c.args.bytes.now trees c.args.budget c.args.turn out c.play_units.result loaded.ensures.ok c.play_units.ensures.told
 
 pub returns-in-Ok-load_parts-clause-alone : goal.returns-in-Ok-load_parts-clause-alone
 returns-in-Ok-load_parts-clause-alone g c =
-    let held = g.O.Sink.held in
-    let faults = g.O.Sink.faults in
+    let seen = g.O.Sink.seen in
     let loaded = c.in-Ok-load_parts in
-    let out = stream (held c.args.out.now) (held c.play_units.new.out) (faults c.args.out.now) (faults c.play_units.new.out) in
+    let out = over seen c.args.out.now c.play_units.new.out in
     let trees = each (unit_in c.load_parts.new.texts) loaded.parts.items in
     divided_alone c.args.bytes.now trees c.args.budget c.args.turn out c.play_units.result loaded.ensures.ok c.play_units.ensures.alone
 
 pub returns-in-Err-load_parts-clause-told : goal.returns-in-Err-load_parts-clause-told
 returns-in-Err-load_parts-clause-told g c =
-    let held = g.O.Sink.held c.args.out.now in
-    let faults = g.O.Sink.faults c.args.out.now in
+    let held = (g.O.Sink.seen c.args.out.now).bytes in
+    let faults = (g.O.Sink.seen c.args.out.now).faults in
     let loaded = c.in-Err-load_parts in
     no_input_comes c.args.bytes.now loaded.fault c.args.budget c.args.turn held faults c.refuse_input.result loaded.ensures.err c.refuse_input.ensures
 
 pub returns-in-Err-load_parts-clause-alone : goal.returns-in-Err-load_parts-clause-alone
 returns-in-Err-load_parts-clause-alone g c =
-    let held = g.O.Sink.held c.args.out.now in
-    let faults = g.O.Sink.faults c.args.out.now in
+    let held = (g.O.Sink.seen c.args.out.now).bytes in
+    let faults = (g.O.Sink.seen c.args.out.now).faults in
     no_input_alone (PlayedAlone c.args.budget c.args.bytes.now) held faults c.refuse_input.result c.in-Err-load_parts.fault c.refuse_input.ensures

@@ -1,6 +1,6 @@
 use Rattle.std.proofs.Common.{map as each}
 use Rattle.std.specs.Option.{option_map}
-use Rattle.wjs_io.specs.Streams.{stream}
+use Rattle.wjs_io.specs.Streams.{over}
 use Rattle.wjs_model.specs.Units.{unit_in}
 use Rattle.wjs_model.proofs.Placed.{placed_stay}
 use Rattle.wjs_deeds.proofs.Staying.{units_stay}
@@ -15,11 +15,10 @@ play-end-requires-clause-part_places g c = placed_stay c.args.texts c.library.ne
 
 pub returns-clause-told : goal.returns-clause-told
 returns-clause-told g c =
-    let held = g.O.Sink.held in
-    let faults = g.O.Sink.faults in
+    let seen = g.O.Sink.seen in
     let t = c.library.new.texts in
     let units = c.args.parts.items in
-    let out = stream (held c.args.out.now) (held c.play-end.new.out) (faults c.args.out.now) (faults c.play-end.new.out) in
+    let out = over seen c.args.out.now c.play-end.new.out in
     let library = option_map (unit_in t) c.in-Ok.library in
     let known = each (unit_in c.args.texts) units in
     play_comes library (each (unit_in t) units) known c.args.budget c.args.turn out c.play-end.result c.tell_play.result
@@ -27,11 +26,10 @@ returns-clause-told g c =
 
 pub returns-clause-alone : goal.returns-clause-alone
 returns-clause-alone g c =
-    let held = g.O.Sink.held in
-    let faults = g.O.Sink.faults in
+    let seen = g.O.Sink.seen in
     let t = c.library.new.texts in
     let units = c.args.parts.items in
-    let out = stream (held c.args.out.now) (held c.play-end.new.out) (faults c.args.out.now) (faults c.play-end.new.out) in
+    let out = over seen c.args.out.now c.play-end.new.out in
     let library = option_map (unit_in t) c.in-Ok.library in
     let known = each (unit_in c.args.texts) units in
     play_alone library (each (unit_in t) units) known c.args.budget c.args.turn out c.play-end.result c.tell_play.result

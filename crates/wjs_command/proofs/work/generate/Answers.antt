@@ -1,5 +1,5 @@
 use Rattle.std.proofs.Common.{List, ℕ, subst, ◌∙◌}
-use Rattle.wjs_io.specs.Streams.{stream}
+use Rattle.wjs_io.specs.Streams.{over}
 use Rattle.wjs_command.specs.Due.{IsTold}
 use Rattle.wjs_command.specs.Attempt.{Comes}
 use Rattle.wjs_command.proofs.Attempts.{not_both}
@@ -14,7 +14,6 @@ perform-requires-clause-turn g c = λ is. absurd (not_both c.args.options.mode c
 
 pub returns-in-Ok : goal.returns-in-Ok
 returns-in-Ok g c =
-    let held = g.O.Sink.held in
-    let faults = g.O.Sink.faults in
-    let P : List ℕ → Type 0 = λ bytes. Comes (IsTold c.args.options bytes) (stream (held c.args.out.now) (held c.perform.new.out) (faults c.args.out.now) (faults c.perform.new.out)) c.perform.result in
+    let seen = g.O.Sink.seen in
+    let P : List ℕ → Type 0 = λ bytes. Comes (IsTold c.args.options bytes) (over seen c.args.out.now c.perform.new.out) c.perform.result in
     subst P (c.as_slice.ensures.value ∙ c.in-Ok.ensures.script) c.perform.ensures.told

@@ -1,8 +1,9 @@
-use Rattle.wjs_io.specs.Streams.{stream}
+use Rattle.wjs_io.specs.Streams.{over}
 use Rattle.wjs_command.proofs.Attempts.{serve_generated}
 use Rattle.wjs_command.proofs.work.obey.Goals as goal
 
 pub returns-in-Gen : goal.returns-in-Gen
 returns-in-Gen g c =
-    let out = stream (g.O.Sink.held c.args.out.now) (g.O.Sink.held c.generate.new.out) (g.O.Sink.faults c.args.out.now) (g.O.Sink.faults c.generate.new.out) in
-    serve_generated c.args.options (g.S.Source.left c.args.source.now) (g.S.Source.faults c.args.source.now) out c.generate.result c.in-Gen.is c.generate.ensures
+    let out = over g.O.Sink.seen c.args.out.now c.generate.new.out in
+    serve_generated c.args.options (g.S.Source.seen c.args.source.now).bytes (g.S.Source.seen c.args.source.now).faults out c.generate.result c.in-Gen.is
+    c.generate.ensures

@@ -32,6 +32,7 @@ use Rattle.wjs_eval_call.proofs.StandingBodies.{begun_there, begun_function, dec
 use Rattle.wjs_declared.specs.Names.{elements_at, functions_among}
 use Rattle.wjs_eval_call.specs.Filling.{arguments_written}
 use Rattle.wjs_eval_call.proofs.Beginning.{values_later, texts_later, earliest_each, others_of, body_filled}
+use Rattle.wjs_moves.proofs.Handling.{runs_over}
 use Rattle.wjs_eval_call.proofs.bodies.begin_scope.Goals as goal
 
 pub fill_scope-requires-clause-formals : goal.fill_scope-requires-clause-formals
@@ -47,14 +48,16 @@ pub fill_scope-requires-clause-values : goal.fill_scope-requires-clause-values
 fill_scope-requires-clause-values g c =
     let old = c.args.config.now in
     values_later g.S.WorldStore.meaning old c.create_scope.new.config c.in_ok-inner.ensures.later c.as_slice-2.result.now
-    (subst (λ (vs : List Value). All (HasValue old) vs) (sym (c.as_slice-2.ensures.value ∙ c.in_ok-values.ensures)) (values_there old c.args.frame.held c.requires.there.held))
+    (subst (λ (vs : List Value). All (HasValue old) vs) (sym (c.as_slice-2.ensures.value ∙ c.in_ok-values.ensures))
+    (values_there old c.args.frame.held c.requires.runs.there.held))
 
 pub fill_scope-requires-clause-there : goal.fill_scope-requires-clause-there
 fill_scope-requires-clause-there g c =
     let m = g.S.WorldStore.meaning in
     let mid = c.create_scope.new.config in
     let is : c.hold.new.frame ≡ record c.args.frame { tree = c.args.tree; node = c.args.node; scope = c.in_ok-inner.inner; held = holds.Begun ∷ c.args.frame.held } = c.in_ok-hold.ensures ∙ ap (λ (q : Frame). record q { held = holds.Begun ∷ q.held }) (c.set_scope.ensures ∙ ap (λ (q : Frame). record q { scope = c.in_ok-inner.inner }) c.set_node.ensures) in
-    subst (IsThere m mid) (sym is) (begun_there m c.args.config.now mid c.args.frame c.args.tree c.args.node c.args.scope c.in_ok-inner.inner c.in_ok-inner.ensures.later c.requires.there c.requires.form c.in_ok-inner.ensures.found c.in_ok-inner.ensures.outer c.requires.stands)
+    subst (IsThere m mid) (sym is) (begun_there m c.args.config.now mid c.args.frame c.args.tree c.args.node c.args.scope c.in_ok-inner.inner
+    c.in_ok-inner.ensures.later c.requires.runs.there c.requires.form c.in_ok-inner.ensures.found c.in_ok-inner.ensures.outer c.requires.stands)
 
 pub fill_scope-requires-clause-stand : goal.fill_scope-requires-clause-stand
 fill_scope-requires-clause-stand g c =
@@ -65,7 +68,8 @@ fill_scope-requires-clause-stand g c =
     let d = c.in_ok-declared.declared in
     let inner : Frame = record f { tree = c.args.tree; node = c.args.node; scope = c.in_ok-inner.inner; held = holds.Begun ∷ f.held } in
     let is : c.hold.new.frame ≡ record c.args.frame { tree = c.args.tree; node = c.args.node; scope = c.in_ok-inner.inner; held = holds.Begun ∷ c.args.frame.held } = c.in_ok-hold.ensures ∙ ap (λ (q : Frame). record q { held = holds.Begun ∷ q.held }) (c.set_scope.ensures ∙ ap (λ (q : Frame). record q { scope = c.in_ok-inner.inner }) c.set_node.ensures) in
-    let there = begun_there m old mid f c.args.tree c.args.node c.args.scope c.in_ok-inner.inner c.in_ok-inner.ensures.later c.requires.there c.requires.form c.in_ok-inner.ensures.found c.in_ok-inner.ensures.outer c.requires.stands in
+    let there = begun_there m old mid f c.args.tree c.args.node c.args.scope c.in_ok-inner.inner c.in_ok-inner.ensures.later c.requires.runs.there
+    c.requires.form c.in_ok-inner.ensures.found c.in_ok-inner.ensures.outer c.requires.stands in
     let s = begun_function m mid inner there c.requires.form refl in
     let nodes = subst (λ (q : Frame). (u : Program) → slice_get old.units.items q.tree ≡ Some u → d.functions ≡ functions_among u.program.nodes (elements_at u.program.nodes q.node.0)) c.set_node.ensures c.in_ok-declared.ensures.nodes in
     let found = s.stands.found in
@@ -79,13 +83,15 @@ run_body-requires-clause-form g c = ap (λ (h : Frame). h.form) c.in_ok-hold.ens
 pub run_body-requires-clause-begun : goal.run_body-requires-clause-begun
 run_body-requires-clause-begun g c = ap (λ (h : Frame). begun_held h.held) c.in_ok-hold.ensures
 
-pub run_body-requires-clause-there : goal.run_body-requires-clause-there
-run_body-requires-clause-there g c =
+pub run_body-requires-clause-runs : goal.run_body-requires-clause-runs
+run_body-requires-clause-runs g c =
     let m = g.S.WorldStore.meaning in
     let mid = c.create_scope.new.config in
     let is : c.hold.new.frame ≡ record c.args.frame { tree = c.args.tree; node = c.args.node; scope = c.in_ok-inner.inner; held = holds.Begun ∷ c.args.frame.held } = c.in_ok-hold.ensures ∙ ap (λ (q : Frame). record q { held = holds.Begun ∷ q.held }) (c.set_scope.ensures ∙ ap (λ (q : Frame). record q { scope = c.in_ok-inner.inner }) c.set_node.ensures) in
-    c.in_ok-fill_scope.ensures.later.frames c.hold.new.frame
-    (subst (IsThere m mid) (sym is) (begun_there m c.args.config.now mid c.args.frame c.args.tree c.args.node c.args.scope c.in_ok-inner.inner c.in_ok-inner.ensures.later c.requires.there c.requires.form c.in_ok-inner.ensures.found c.in_ok-inner.ensures.outer c.requires.stands))
+    let both = later_twice m c.args.config.now mid c.fill_scope.new.config c.in_ok-inner.ensures.later c.in_ok-fill_scope.ensures.later in
+    runs_over _ _ _ _ _ c.requires.runs both (c.in_ok-fill_scope.ensures.later.frames c.hold.new.frame
+    (subst (IsThere m mid) (sym is) (begun_there m c.args.config.now mid c.args.frame c.args.tree c.args.node c.args.scope c.in_ok-inner.inner
+    c.in_ok-inner.ensures.later c.requires.runs.there c.requires.form c.in_ok-inner.ensures.found c.in_ok-inner.ensures.outer c.requires.stands)))
 
 pub returns : goal.returns
 returns g c =

@@ -28,4 +28,6 @@ returns-in-Some g c =
     subst (λ (s : Option ObjId). OnOk c.begin_scope.result (Follows m (body_code (code.Script c.args.tree c.args.node) s c.args.function (holding_in t c.args.frame.held).values (env_in m old t c.args.frame)) old new)) (sym (c.in-Some.ensures.is t _ (plainly old.heap.arena t))) c.begin_scope.ensures
 
 pub begin_scope-requires-clause-stands : goal.begin_scope-requires-clause-stands
-begin_scope-requires-clause-stands g c = function_at g.S.WorldStore.meaning c.args.config.now c.args.function c.args.tree c.args.node c.in-Some.scope c.requires.base c.requires.function c.requires.code (λ (e : Entry) h. c.scope_of.ensures.entry e h ∙ c.in-Some.is)
+begin_scope-requires-clause-stands g c =
+    function_at g.S.WorldStore.meaning c.args.config.now c.args.function c.args.tree c.args.node c.in-Some.scope c.requires.runs.running.base
+    c.requires.function c.requires.code (λ (e : Entry) h. c.scope_of.ensures.entry e h ∙ c.in-Some.is)

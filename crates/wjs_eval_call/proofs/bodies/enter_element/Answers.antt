@@ -21,4 +21,6 @@ returns g c =
     c.enter.ensures
 
 pub enter-requires-clause-part : goal.enter-requires-clause-part
-enter-requires-clause-part g c = body_element g.S.WorldStore.meaning c.args.config.now c.args.frame c.args.from c.args.element c.requires.base c.requires.there c.requires.form c.requires.begun c.requires.element
+enter-requires-clause-part g c =
+    body_element g.S.WorldStore.meaning c.args.config.now c.args.frame c.args.from c.args.element c.requires.runs.running.base c.requires.runs.there
+    c.requires.form c.requires.begun c.requires.element

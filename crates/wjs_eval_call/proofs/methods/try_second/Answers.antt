@@ -15,6 +15,7 @@ use Rattle.wjs_deeds.specs.Known.{text_of}
 use Rattle.wjs_deeds.proofs.Composing.{env_later}
 use Rattle.wjs_eval_call.specs.Primitives.{hint_of}
 use Rattle.wjs_eval_call.proofs.Asking.{asked, waits_second}
+use Rattle.wjs_moves.proofs.Handling.{runs_later}
 use Rattle.wjs_eval_call.proofs.methods.try_second.Goals as goal
 
 pub returns-in-Some : goal.returns-in-Some
@@ -51,5 +52,5 @@ returns-in-None g c =
     let h : OnOk r (Follows m (otherwise (env_in m old t f)) mid new) = subst (λ (e : Env). OnOk r (Follows m (otherwise e) mid new)) (env_later m old mid t f c.in_ok-method.ensures.later) c.throw.ensures in
     asked m (text_of c.second_method.result) (second_method (hint_of k)) o (λ u. env_in m old u f) c.in_ok-method.method (otherwise (env_in m old t f)) None old mid new r c.in_ok-method.ensures.does c.second_method.ensures c.in-None.ensures.is h
 
-pub call_method-requires-clause-there : goal.call_method-requires-clause-there
-call_method-requires-clause-there g c = c.in_ok-method.ensures.later.frames c.args.frame c.requires.there
+pub call_method-requires-clause-runs : goal.call_method-requires-clause-runs
+call_method-requires-clause-runs g c = runs_later _ _ _ _ c.requires.runs c.in_ok-method.ensures.later

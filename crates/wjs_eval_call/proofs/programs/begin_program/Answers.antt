@@ -18,6 +18,7 @@ use Rattle.wjs_calls.proofs.FunctionNodes.{node_is}
 use Rattle.wjs_calls.proofs.Rows.{same_units}
 use Rattle.wjs_eval_call.specs.Filling.{program_filled}
 use Rattle.wjs_eval_call.proofs.StandingBodies.{at_body, body_is, same_elements}
+use Rattle.wjs_moves.proofs.Handling.{runs_over}
 use Rattle.wjs_eval_call.proofs.programs.begin_program.Goals as goal
 
 pub declare_program-requires-clause-there : goal.declare_program-requires-clause-there
@@ -25,15 +26,17 @@ declare_program-requires-clause-there g c =
     let m = g.S.WorldStore.meaning in
     let old = c.args.config.now in
     let is : c.set_held.new.self ≡ record c.args.frame { node = c.program_body-body.result; held = c.nothing_held.result } = c.set_held.ensures ∙ ap (λ (q : Frame). record q { held = c.nothing_held.result }) (c.set_node.ensures ∙ ap (λ (k : ℕ). record c.args.frame { tree = k; node = c.program_body-body.result }) c.tree-tree.ensures) in
-    subst (IsThere m old) (sym is) (subst (λ h. IsThere m old (record c.args.frame { node = c.program_body-body.result; held = h })) (sym c.nothing_held.ensures) (at_body m old c.args.frame c.program_body-body.result c.requires.there c.program_body-body.ensures.body))
+    subst (IsThere m old) (sym is) (subst (λ h. IsThere m old (record c.args.frame { node = c.program_body-body.result; held = h }))
+    (sym c.nothing_held.ensures) (at_body m old c.args.frame c.program_body-body.result c.requires.runs.there c.program_body-body.ensures.body))
 
-pub run_program-requires-clause-there : goal.run_program-requires-clause-there
-run_program-requires-clause-there g c =
+pub run_program-requires-clause-runs : goal.run_program-requires-clause-runs
+run_program-requires-clause-runs g c =
     let m = g.S.WorldStore.meaning in
     let old = c.args.config.now in
     let is : c.set_held.new.self ≡ record c.args.frame { node = c.program_body-body.result; held = c.nothing_held.result } = c.set_held.ensures ∙ ap (λ (q : Frame). record q { held = c.nothing_held.result }) (c.set_node.ensures ∙ ap (λ (k : ℕ). record c.args.frame { tree = k; node = c.program_body-body.result }) c.tree-tree.ensures) in
-    c.in_ok-declare_program.ensures.later.frames c.set_held.new.self
-    (subst (IsThere m old) (sym is) (subst (λ h. IsThere m old (record c.args.frame { node = c.program_body-body.result; held = h })) (sym c.nothing_held.ensures) (at_body m old c.args.frame c.program_body-body.result c.requires.there c.program_body-body.ensures.body)))
+    runs_over _ _ _ _ _ c.requires.runs c.in_ok-declare_program.ensures.later (c.in_ok-declare_program.ensures.later.frames c.set_held.new.self
+    (subst (IsThere m old) (sym is) (subst (λ h. IsThere m old (record c.args.frame { node = c.program_body-body.result; held = h }))
+    (sym c.nothing_held.ensures) (at_body m old c.args.frame c.program_body-body.result c.requires.runs.there c.program_body-body.ensures.body))))
 
 pub run_program-requires-clause-begun : goal.run_program-requires-clause-begun
 run_program-requires-clause-begun g c = ap (λ (q : Frame). begun_held q.held) c.set_held.ensures ∙ ap begun_held c.nothing_held.ensures
@@ -53,7 +56,7 @@ returns g c =
     let begun = λ (b : ℕ). program_declare b (declared_by (tree_here env) b) env in
     let same : node_now m mid at ≡ node_among old.units.items at.tree at.node = ap (λ (us : List Program). node_among us at.tree at.node) (same_units m old mid later) in
     let node = node_is t old.units.items at.tree at.node (node_now m mid at) (sym same) in
-    let body = body_is m old c.args.frame c.program_body-body.result c.requires.base c.requires.there c.program_body-body.ensures.body in
+    let body = body_is m old c.args.frame c.program_body-body.result c.requires.runs.running.base c.requires.runs.there c.program_body-body.ensures.body in
     let elements = same_elements t (node_now m mid at) body.0 (same ∙ body.1) in
     let run0 : OnOk r (Follows m (program_from (program_elements (node_in t (node_now m mid at))) env) mid new) = subst (λ (e : Env). OnOk r (Follows m (program_from (program_elements (node_in t (node_now m mid at))) e) mid new)) (env_later m old mid t at later)
     (subst (λ (q : Frame). OnOk r (Follows m (program_from (program_elements (node_in t (node_now m mid q))) (env_in m mid t q)) mid new)) is c.run_program.ensures) in

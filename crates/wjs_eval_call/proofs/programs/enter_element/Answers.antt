@@ -21,4 +21,5 @@ returns g c =
     c.enter.ensures
 
 pub enter-requires-clause-part : goal.enter-requires-clause-part
-enter-requires-clause-part g c = program_element g.S.WorldStore.meaning c.args.config.now c.args.frame c.args.from c.args.element c.requires.there c.requires.element
+enter-requires-clause-part g c =
+    program_element g.S.WorldStore.meaning c.args.config.now c.args.frame c.args.from c.args.element c.requires.runs.there c.requires.element

@@ -11,6 +11,7 @@ use Rattle.wjs_moves.specs.Parts.{env_in, node_now, begins_at}
 use Rattle.wjs_calls.proofs.Entered.{entered}
 use Rattle.wjs_eval_call.proofs.StandingBodies.{emptied}
 use Rattle.wjs_eval_call.proofs.Running.{program_begins}
+use Rattle.wjs_moves.proofs.Handling.{runs_as}
 use Rattle.wjs_eval_call.proofs.programs.enter_program.Goals as goal
 
 pub returns : goal.returns
@@ -27,5 +28,8 @@ returns g c =
     entered m AtProgram env old new c.due_later.result
     (subst (λ (a : Act). OnOk c.due_later.result (Follows m (Tick a) old new)) (program_begins t node f.form f.node.0 env c.requires.form) due)
 
-pub due_later-requires-clause-there : goal.due_later-requires-clause-there
-due_later-requires-clause-there g c = subst (IsThere g.S.WorldStore.meaning c.args.config.now) (sym c.set_held.ensures) (emptied g.S.WorldStore.meaning c.args.config.now c.args.frame c.nothing_held.result c.requires.there c.nothing_held.ensures)
+pub due_later-requires : goal.due_later-requires
+due_later-requires g c = record {
+  runs = runs_as _ _ _ _ c.requires.runs (subst (IsThere g.S.WorldStore.meaning c.args.config.now) (sym c.set_held.ensures)
+      (emptied g.S.WorldStore.meaning c.args.config.now c.args.frame c.nothing_held.result c.requires.runs.there c.nothing_held.ensures));
+}

@@ -7,7 +7,9 @@ use Rattle.wjs_literals.proofs.Standing.{function_stands}
 use Rattle.wjs_eval_expr.proofs.starts.member_start.Goals as goal
 
 pub function_start-requires-clause-stands : goal.function_start-requires-clause-stands
-function_start-requires-clause-stands g c = function_stands g.S.WorldStore.meaning c.args.config.now c.args.frame c.requires.there c.in-Some-Function.name _ _ (c.in-Some-Function.ensures ∙ c.in-Some-Function.field-0-is)
+function_start-requires-clause-stands g c =
+    function_stands g.S.WorldStore.meaning c.args.config.now c.args.frame c.requires.runs.there c.in-Some-Function.name _ _
+    (c.in-Some-Function.ensures ∙ c.in-Some-Function.field-0-is)
 
 pub returns-in-Some-At : goal.returns-in-Some-At
 returns-in-Some-At g c = follows_as _ _ _ _ _ _ (λ grows. at_begins _ _ _ c.args.frame.form c.in-Some-At.base c.in-Some-At.index _ c.requires.form (c.in-Some-At.ensures ∙ c.in-Some-At.field-0-is)) c.at_start.ensures

@@ -13,6 +13,7 @@ use Rattle.wjs_moves.specs.Following.{Follows}
 use Rattle.wjs_moves.specs.Parts.{env_in, node_among, node_now, then_at}
 use Rattle.wjs_deeds.proofs.Composing.{env_later}
 use Rattle.wjs_eval_stmt.proofs.Tops.{top_is}
+use Rattle.wjs_moves.proofs.Handling.{runs_later}
 use Rattle.wjs_eval_stmt.proofs.steps.step_stmt.Goals as goal
 
 pub returns-in-Begins : goal.returns-in-Begins
@@ -42,8 +43,8 @@ returns-in-Given g c =
     let given = subst (λ e. P form.Stmt e) c.completion-completion.ensures c.resume-in-Given.ensures in
     takes.by new c.resume-in-Given.result (subst (λ x. P x (given_of f.phase)) (sym (top_is old.state old.frames f c.requires.turn takes.taken)) given)
 
-pub resume-requires-clause-there : goal.resume-requires-clause-there
-resume-requires-clause-there g c = c.in_ok-completion-in-Enters.ensures.later.frames c.in-Enters.frame c.in-Enters.ensures.0.there
+pub resume-requires-clause-runs : goal.resume-requires-clause-runs
+resume-requires-clause-runs g c = runs_later _ _ _ _ c.in-Enters.ensures.0.runs c.in_ok-completion-in-Enters.ensures.later
 
 pub resume-requires-clause-form : goal.resume-requires-clause-form
 resume-requires-clause-form g c = top_is c.args.config.now.state c.args.config.now.frames c.in-Enters.frame c.requires.turn c.in-Enters.ensures.0.taken

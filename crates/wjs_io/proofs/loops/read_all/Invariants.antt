@@ -5,12 +5,12 @@ use Rattle.wjs_io.proofs.loops.read_all.Given as goal
 -- the bytes so far are those that the source lost, and they are within the limit
 abbrev pub invariant-loop-bytes : goal.invariant-loop-bytes
 invariant-loop-bytes g l =
-    let source = g.S.Source in
+    let seen = g.S.Source.seen in
     record {
       room : vec_len l.buffer ≡ 65536;
       within : vec_len l.bytes ≤ l.limit;
-      taken : Consumes (source.left l.initial.source) (source.left l.source) l.bytes.items;
-      never_falls : source.faults l.initial.source ≤ source.faults l.source;
+      taken : Consumes (seen l.initial.source).bytes (seen l.source).bytes l.bytes.items;
+      never_falls : (seen l.initial.source).faults ≤ (seen l.source).faults;
     }
 
 abbrev pub decreases-loop-bytes : goal.decreases-loop-bytes

@@ -5,11 +5,11 @@ use Rattle.wjs_io.proofs.loops.write_all_of.Given as goal
 -- the first bytes are gone, as many as counted, and the sink is as it was until the first of them
 abbrev pub invariant-loop-gone : goal.invariant-loop-gone
 invariant-loop-gone g l =
-    let sink = g.O.Sink in
+    let seen = g.O.Sink.seen in
     record {
       within : l.gone ≤ length l.bytes;
-      appended : Appends (sink.held l.initial.sink) (sink.held l.sink) (take l.gone l.bytes);
-      never_falls : sink.faults l.initial.sink ≤ sink.faults l.sink;
+      appended : Appends (seen l.initial.sink).bytes (seen l.sink).bytes (take l.gone l.bytes);
+      never_falls : (seen l.initial.sink).faults ≤ (seen l.sink).faults;
       untouched : l.gone ≡ 0 → l.sink ≡ l.initial.sink;
     }
 

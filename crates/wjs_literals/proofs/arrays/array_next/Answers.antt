@@ -6,7 +6,8 @@ use Rattle.wjs_literals.proofs.Standing.{item_stands}
 use Rattle.wjs_literals.proofs.arrays.array_next.Goals as goal
 
 pub enter-requires-clause-part : goal.enter-requires-clause-part
-enter-requires-clause-part g c = item_stands g.S.WorldStore.meaning c.args.config.now c.args.frame c.requires.there c.in-Item.at c.in-Item.node c.in-Item.ensures.0
+enter-requires-clause-part g c =
+    item_stands g.S.WorldStore.meaning c.args.config.now c.args.frame c.requires.runs.there c.in-Item.at c.in-Item.node c.in-Item.ensures.0
 
 pub returns-in_ok-place-in-Item : goal.returns-in_ok-place-in-Item
 returns-in_ok-place-in-Item g c =

@@ -9,10 +9,11 @@ use Rattle.wjs_lines.proofs.Following.{follows_as}
 use Rattle.wjs_literals.specs.Parts.{items_of}
 use Rattle.wjs_literals.proofs.Items.{array_writes}
 use Rattle.wjs_literals.proofs.Lines.{does_line}
+use Rattle.wjs_moves.proofs.Handling.{runs_later}
 use Rattle.wjs_literals.proofs.arrays.array_write.Goals as goal
 
-pub array_next-requires-clause-there : goal.array_next-requires-clause-there
-array_next-requires-clause-there g c = c.in_ok-write.ensures.later.frames c.args.frame c.requires.there
+pub array_next-requires-clause-runs : goal.array_next-requires-clause-runs
+array_next-requires-clause-runs g c = runs_later _ _ _ _ c.requires.runs c.in_ok-write.ensures.later
 
 pub array_next-requires-clause-node : goal.array_next-requires-clause-node
 array_next-requires-clause-node g c = rw c.in_ok-write.ensures.later.units c.requires.node

@@ -4,10 +4,11 @@ use Rattle.wjs_model.specs.Contents.{reference_in}
 use Rattle.wjs_moves.specs.Parts.{node_among}
 use Rattle.wjs_literals.specs.Arguments.{arguments_of}
 use Rattle.wjs_literals.proofs.Lines.{does_line}
+use Rattle.wjs_moves.proofs.Handling.{runs_later}
 use Rattle.wjs_literals.proofs.calls.call_reference.Goals as goal
 
-pub call_callee-requires-clause-there : goal.call_callee-requires-clause-there
-call_callee-requires-clause-there g c = c.in_ok-answer.ensures.later.frames c.args.frame c.requires.there
+pub call_callee-requires-clause-runs : goal.call_callee-requires-clause-runs
+call_callee-requires-clause-runs g c = runs_later _ _ _ _ c.requires.runs c.in_ok-answer.ensures.later
 
 pub call_callee-requires-clause-node : goal.call_callee-requires-clause-node
 call_callee-requires-clause-node g c = rw c.in_ok-answer.ensures.later.units c.requires.node

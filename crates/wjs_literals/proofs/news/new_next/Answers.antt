@@ -5,7 +5,8 @@ use Rattle.wjs_literals.proofs.Standing.{argument_stands}
 use Rattle.wjs_literals.proofs.news.new_next.Goals as goal
 
 pub enter-requires-clause-part : goal.enter-requires-clause-part
-enter-requires-clause-part g c = argument_stands g.S.WorldStore.meaning c.args.config.now c.args.frame c.requires.there c.args.at c.in-Some.next (sym c.in-Some.ensures)
+enter-requires-clause-part g c =
+    argument_stands g.S.WorldStore.meaning c.args.config.now c.args.frame c.requires.runs.there c.args.at c.in-Some.next (sym c.in-Some.ensures)
 
 pub returns-in_ok-place-in-Some : goal.returns-in_ok-place-in-Some
 returns-in_ok-place-in-Some g c = follows_as _ _ _ _ _ _ (λ grows. new_enters _ _ c.args.frame.form _ _ c.args.at _ _ _ c.requires.form c.requires.node c.in_ok-place-in-Some.ensures (sym c.in-Some.ensures)) c.enter.ensures

@@ -6,7 +6,8 @@ use Rattle.wjs_literals.proofs.Standing.{property_stands}
 use Rattle.wjs_literals.proofs.objects.object_next.Goals as goal
 
 pub enter-requires-clause-part : goal.enter-requires-clause-part
-enter-requires-clause-part g c = property_stands g.S.WorldStore.meaning c.args.config.now c.args.frame c.requires.there c.args.at c.in-Some.property (sym c.in-Some.ensures)
+enter-requires-clause-part g c =
+    property_stands g.S.WorldStore.meaning c.args.config.now c.args.frame c.requires.runs.there c.args.at c.in-Some.property (sym c.in-Some.ensures)
 
 pub returns-in_ok-place-in-Some : goal.returns-in_ok-place-in-Some
 returns-in_ok-place-in-Some g c =

@@ -6,7 +6,9 @@ use Rattle.wjs_literals.proofs.Items.{key_known, object_writes, object_lacks}
 use Rattle.wjs_literals.proofs.objects.object_value.Goals as goal
 
 pub object_write-requires-clause-key : goal.object_write-requires-clause-key
-object_write-requires-clause-key g c = key_known c.args.config.now.heap.texts c.args.config.now.units.items c.args.frame.tree c.args.frame.node c.saturating_sub-at.result c.in-Some.property c.requires.base.units (sym c.in-Some.ensures)
+object_write-requires-clause-key g c =
+    key_known c.args.config.now.heap.texts c.args.config.now.units.items c.args.frame.tree c.args.frame.node c.saturating_sub-at.result c.in-Some.property
+    c.requires.runs.running.base.units (sym c.in-Some.ensures)
 
 pub returns-in-Some : goal.returns-in-Some
 returns-in-Some g c =

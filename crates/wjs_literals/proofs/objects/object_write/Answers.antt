@@ -8,13 +8,14 @@ use Rattle.wjs_meaning.specs.Reading.{pair_in}
 use Rattle.wjs_moves.specs.Parts.{node_among}
 use Rattle.wjs_literals.specs.Parts.{properties_of}
 use Rattle.wjs_literals.proofs.Lines.{does_line}
+use Rattle.wjs_moves.proofs.Handling.{runs_later}
 use Rattle.wjs_literals.proofs.objects.object_write.Goals as goal
 
 pub write-requires-clause-there : goal.write-requires-clause-there
-write-requires-clause-there g c = c.in_ok-name.ensures.later.frames c.args.frame c.requires.there
+write-requires-clause-there g c = c.in_ok-name.ensures.later.frames c.args.frame c.requires.runs.there
 
-pub object_next-requires-clause-there : goal.object_next-requires-clause-there
-object_next-requires-clause-there g c = c.in_ok-write.ensures.later.frames c.args.frame (c.in_ok-name.ensures.later.frames c.args.frame c.requires.there)
+pub object_next-requires-clause-runs : goal.object_next-requires-clause-runs
+object_next-requires-clause-runs g c = runs_later _ _ _ _ (runs_later _ _ _ _ c.requires.runs c.in_ok-name.ensures.later) c.in_ok-write.ensures.later
 
 pub returns : goal.returns
 returns g c =

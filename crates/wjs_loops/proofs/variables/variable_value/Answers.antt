@@ -3,6 +3,7 @@ use Rattle.wjs_lines.proofs.Following.{follows_as}
 use Rattle.wjs_moves.specs.Parts.{node_now}
 use Rattle.wjs_loops.proofs.Declared.{variable_named, no_variable_stores}
 use Rattle.wjs_loops.proofs.Storing.{stored_follows, unstored_follows}
+use Rattle.wjs_moves.proofs.Handling.{runs_later}
 use Rattle.wjs_loops.proofs.variables.variable_value.Goals as goal
 
 pub place_of-place-requires : goal.place_of-place-requires
@@ -23,5 +24,5 @@ returns-in-None g c =
     let later = c.finish-in-None.new.config in
     follows_as g.S.WorldStore.meaning _ _ _ _ c.finish-in-None.result (λ grows. no_variable_stores later.heap.texts _ c.args.frame.node.0 _ c.args.at _ c.in-None.ensures.is) c.finish-in-None.ensures
 
-pub variables_from-requires-clause-there : goal.variables_from-requires-clause-there
-variables_from-requires-clause-there g c = c.in_ok-assign-in-Some.ensures.later.frames c.args.frame c.requires.there
+pub variables_from-requires-clause-runs : goal.variables_from-requires-clause-runs
+variables_from-requires-clause-runs g c = runs_later _ _ _ _ c.requires.runs c.in_ok-assign-in-Some.ensures.later

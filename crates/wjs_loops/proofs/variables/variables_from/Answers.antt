@@ -48,4 +48,4 @@ enter-requires-clause-part g c =
     let P : List Declarator → Type 0 = λ ds. value_of (slice_get ds x.at) ≡ Some x.value in
     let Q : Option Initialiser → Type 0 = λ o. IfSome o (λ (y : Initialiser). value_of (slice_get c.declarators_of.result.now y.at) ≡ Some y.value) in
     let found : P (declarators_in (node_now g.S.WorldStore.meaning c.args.config.now c.args.frame)) = subst P c.declarators_of.ensures (subst Q c.in-Some.is c.initialiser_from.ensures.is) in
-    initialiser_stands g.S.WorldStore.meaning c.args.config.now c.args.frame x.at x.value c.requires.there found
+    initialiser_stands g.S.WorldStore.meaning c.args.config.now c.args.frame x.at x.value c.requires.runs.there found

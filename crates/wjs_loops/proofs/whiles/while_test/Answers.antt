@@ -4,4 +4,6 @@ use Rattle.wjs_moves.proofs.Parting.{stands_here}
 use Rattle.wjs_loops.proofs.whiles.while_test.Goals as goal
 
 pub enter-requires-clause-part : goal.enter-requires-clause-part
-enter-requires-clause-part g c = stands_here g.S.WorldStore.meaning c.args.config.now c.args.frame (nodes.While c.args.e c.args.s) c.args.s c.requires.there c.requires.node (inr (inl refl))
+enter-requires-clause-part g c =
+    stands_here g.S.WorldStore.meaning c.args.config.now c.args.frame (nodes.While c.args.e c.args.s) c.args.s c.requires.runs.there c.requires.node.node
+    (inr (inl refl))

@@ -6,7 +6,9 @@ use Rattle.wjs_moves.proofs.Parting.{stands_here}
 use Rattle.wjs_members.proofs.members.at_start.Goals as goal
 
 pub enter-requires-clause-part : goal.enter-requires-clause-part
-enter-requires-clause-part g c = stands_here g.S.WorldStore.meaning c.args.config.now c.args.frame (nodes.At c.args.base c.args.index) c.args.base c.requires.there c.requires.node (inl refl)
+enter-requires-clause-part g c =
+    stands_here g.S.WorldStore.meaning c.args.config.now c.args.frame (nodes.At c.args.base c.args.index) c.args.base c.requires.runs.there c.requires.node
+    (inl refl)
 
 pub returns : goal.returns
 returns g c = follows_as _ _ _ _ _ _ (λ grows. rw (c.requires.node, base_waits _ _ c.args.frame.form _ _ _ c.requires.form) refl) c.enter.ensures

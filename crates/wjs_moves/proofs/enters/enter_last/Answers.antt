@@ -6,4 +6,13 @@ use Rattle.wjs_moves.proofs.enters.enter_last.Goals as goal
 
 pub returns : goal.returns
 returns g c =
-    follows_last g.S.WorldStore.meaning c.args.config.now c.args.frame c.args.part c.push.new.self c.requires.running c.requires.base c.requires.there c.requires.part (put_on _ _ _ _ c.in_ok-push.ensures.ok (c.begin.ensures ∙ (λ i. record c.args.frame { form = c.form.ensures i; node = c.node.ensures i; place = c.place.ensures i; phase = phases.Due; held = [] })))
+    follows_last g.S.WorldStore.meaning c.args.config.now c.args.frame c.args.part c.push.new.self c.requires.runs.running.state c.requires.runs.running.base
+    c.requires.runs.there c.requires.part
+    (put_on _ _ _ _ c.in_ok-push.ensures.ok
+    (c.begin.ensures ∙ (λ i. record c.args.frame {
+      form = c.form.ensures i;
+      node = c.node.ensures i;
+      place = c.place.ensures i;
+      phase = phases.Due;
+      held = [];
+    })))

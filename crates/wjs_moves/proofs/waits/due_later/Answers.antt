@@ -3,4 +3,6 @@ use Rattle.wjs_moves.proofs.Moving.{follows_due}
 use Rattle.wjs_moves.proofs.waits.due_later.Goals as goal
 
 pub returns : goal.returns
-returns g c = follows_due g.S.WorldStore.meaning c.args.config.now c.args.frame c.args.place c.push.new.self c.requires.running c.requires.base c.requires.there (put_on _ _ _ _ c.in_ok-push.ensures.ok c.set_place.ensures)
+returns g c =
+    follows_due g.S.WorldStore.meaning c.args.config.now c.args.frame c.args.place c.push.new.self c.requires.runs.running.state c.requires.runs.running.base
+    c.requires.runs.there (put_on _ _ _ _ c.in_ok-push.ensures.ok c.set_place.ensures)

@@ -6,4 +6,6 @@ pub returns-clause-nests : goal.returns-clause-nests
 returns-clause-nests g c = nests_waiting g.S.WorldStore.meaning c.args.config.now c.args.frame c.args.place c.push.new.self (put_on _ _ _ _ c.in_ok-push.ensures.ok c.waiting_at.ensures)
 
 pub returns-clause-later : goal.returns-clause-later
-returns-clause-later g c = later_waiting g.S.WorldStore.meaning c.args.config.now c.args.frame c.args.place c.push.new.self c.requires.base c.requires.there (put_on _ _ _ _ c.in_ok-push.ensures.ok c.waiting_at.ensures)
+returns-clause-later g c =
+    later_waiting g.S.WorldStore.meaning c.args.config.now c.args.frame c.args.place c.push.new.self c.requires.runs.running.base c.requires.runs.there
+    (put_on _ _ _ _ c.in_ok-push.ensures.ok c.waiting_at.ensures)

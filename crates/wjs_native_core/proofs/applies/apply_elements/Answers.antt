@@ -12,6 +12,7 @@ use Rattle.wjs_moves.proofs.Shorter.{follows_look}
 use Rattle.wjs_lines.proofs.Following.{follows_as, env_later}
 use Rattle.wjs_natives.proofs.Frames.{native_holds}
 use Rattle.wjs_native_core.proofs.Applying.{apply_starts, if_list}
+use Rattle.wjs_moves.proofs.Handling.{running_later}
 use Rattle.wjs_native_core.proofs.applies.apply_elements.Goals as goal
 
 pub returns-then-not-is_list_class : goal.returns-then-not-is_list_class
@@ -27,12 +28,17 @@ returns-then-not-is_list_class g c =
     (λ arena s. ap by (ap line.is_list_class (c.class_of.ensures.is t arena s) ∙ c.is_list_class.ensures ∙ (let no : c.is_list_class.result ≡ false = search rules in no)))
     c.throw.ensures
 
-pub apply_rest-requires-clause-there : goal.apply_rest-requires-clause-there
-apply_rest-requires-clause-there g c =
+pub apply_rest-requires-clause-runs : goal.apply_rest-requires-clause-runs
+apply_rest-requires-clause-runs g c =
     let mid = c.get_known.new.config in
     let later = c.in_ok-length.ensures.later in
     let held = subst (λ (l : List Held). HasItems mid l) (sym c.in_ok-elements_for.ensures) ((later.objects c.args.function c.requires.function, later.values c.args.this c.requires.this), (later.objects c.args.object c.requires.object, tt)) in
-    rw c.set_held.ensures (native_holds g.S.WorldStore.meaning mid c.args.frame c.in_ok-elements_for.field-0 (later.frames c.args.frame c.requires.there) held native.Apply c.requires.form)
+    record {
+      running = running_later _ _ _ c.requires.runs.running later;
+      there = rw c.set_held.ensures
+          (native_holds g.S.WorldStore.meaning mid c.args.frame c.in_ok-elements_for.field-0 (later.frames c.args.frame c.requires.runs.there) held native.Apply
+          c.requires.form);
+    }
 
 pub returns : goal.returns
 returns g c =

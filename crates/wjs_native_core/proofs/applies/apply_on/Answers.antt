@@ -19,19 +19,27 @@ use Rattle.wjs_moves.specs.Parts.{env_in}
 use Rattle.wjs_lines.proofs.Following.{follows_as, env_later}
 use Rattle.wjs_natives.proofs.Frames.{native_holds}
 use Rattle.wjs_native_core.proofs.Applying.{apply_begins, apply_onward}
+use Rattle.wjs_moves.proofs.Handling.{running_later}
 use Rattle.wjs_native_core.proofs.applies.apply_on.Goals as goal
 
-pub apply_rest-requires-clause-there : goal.apply_rest-requires-clause-there
-apply_rest-requires-clause-there g c =
+pub apply_rest-requires-clause-runs : goal.apply_rest-requires-clause-runs
+apply_rest-requires-clause-runs g c =
     let mid = c.get_value.new.config in
     let later = c.in_ok-value.ensures.later in
-    let there = later.frames c.args.frame c.requires.there in
+    let there = later.frames c.args.frame c.requires.runs.there in
     let callee = later.values c.held_callee-callee.result.0 c.held_callee-callee.ensures.callee in
     let this = later.values c.held_callee-callee.result.1 c.held_callee-callee.ensures.this in
     let object = later.objects c.held_elements-count.result.0 c.held_elements-count.ensures.found in
     let elements = c.held_elements-count.result in
     let held = holds.Callee (values.Object c.in-Object.function) c.held_callee-callee.result.1 ∷ holds.Elements elements.0 elements.1 ∷ holds.Value c.in_ok-value.value ∷ c.args.frame.held in
-    rw c.in_ok-hold_element.ensures (native_holds g.S.WorldStore.meaning mid c.args.frame held there ((subst (λ (x : NumberedValue). HasValue mid x) c.in-Object.is callee, this), (object, (c.in_ok-value.ensures.found, there.held))) native.Apply c.requires.form)
+    record {
+      running = running_later _ _ _ c.requires.runs.running later;
+      there = rw c.in_ok-hold_element.ensures
+          (native_holds g.S.WorldStore.meaning mid c.args.frame held there (
+            (subst (λ (x : NumberedValue). HasValue mid x) c.in-Object.is callee, this),
+            (object, (c.in_ok-value.ensures.found, there.held)),
+          ) native.Apply c.requires.form);
+    }
 
 pub returns : goal.returns
 returns g c =

@@ -5,7 +5,11 @@ use Rattle.wjs_model.specs.Soundness.{HasItems}
 use Rattle.wjs_natives.proofs.Frames.{native_holds}
 use Rattle.wjs_native_core.proofs.applies.apply_to.Goals as goal
 
-pub call-requires-clause-there : goal.call-requires-clause-there
-call-requires-clause-there g c =
+pub call-requires-clause-runs : goal.call-requires-clause-runs
+call-requires-clause-runs g c =
     let old = c.args.config.now in
-    rw c.set_held.ensures (native_holds g.S.WorldStore.meaning old c.args.frame c.nothing_held.result c.requires.there (subst (λ (l : List Held). HasItems old l) (sym c.nothing_held.ensures) tt) native.Apply c.requires.form)
+    record {
+      running = c.requires.runs.running;
+      there = rw c.set_held.ensures (native_holds g.S.WorldStore.meaning old c.args.frame c.nothing_held.result
+          c.requires.runs.there (subst (λ (l : List Held). HasItems old l) (sym c.nothing_held.ensures) tt) native.Apply c.requires.form);
+    }

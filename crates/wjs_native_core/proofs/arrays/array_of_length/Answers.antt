@@ -8,6 +8,7 @@ use Rattle.wjs_moves.specs.Following.{Follows}
 use Rattle.wjs_moves.specs.Parts.{env_in}
 use Rattle.wjs_deeds.proofs.Having.{value_both}
 use Rattle.wjs_deeds.proofs.Making.{number_there, number_near}
+use Rattle.wjs_moves.proofs.Handling.{running_later}
 use Rattle.wjs_native_core.proofs.arrays.array_of_length.Goals as goal
 
 pub write_known-requires-clause-value : goal.write_known-requires-clause-value
@@ -32,4 +33,8 @@ returns g c =
     (c.in_ok-array.ensures.does.by (λ q. Do (Write w (slot q length_name) (Some (whole n))) (λ x. line.give_object q)) new r sized)
 
 pub write_known-requires-clause-there : goal.write_known-requires-clause-there
-write_known-requires-clause-there g c = c.in_ok-array.ensures.later.frames c.args.frame c.requires.there
+write_known-requires-clause-there g c = c.in_ok-array.ensures.later.frames c.args.frame c.requires.runs.there
+
+pub give-requires-clause-running : goal.give-requires-clause-running
+give-requires-clause-running g c =
+    running_later _ _ _ (running_later _ _ _ c.requires.runs.running c.in_ok-array.ensures.later) c.in_ok-write_known.ensures.later

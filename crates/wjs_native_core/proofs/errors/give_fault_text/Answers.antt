@@ -14,6 +14,7 @@ use Rattle.wjs_model.specs.Soundness.{HasContent}
 use Rattle.wjs_moves.specs.Following.{Later}
 use Rattle.wjs_moves.specs.Parts.{env_in}
 use Rattle.wjs_lines.proofs.Following.{follows_as, env_later}
+use Rattle.wjs_moves.proofs.Handling.{running_later}
 use Rattle.wjs_native_core.proofs.errors.give_fault_text.Goals as goal
 
 -- what was there is there
@@ -42,7 +43,13 @@ returns g c =
     (follows_as m _ _ last new r (λ grows. ap (λ e. give_text c.as_slice.result.now e) (two ∙ one) ∙ ap (λ u. give_text u env) (c.as_slice.ensures.value ∙ sym (c.in_ok-units.ensures t grows))) c.give_text.ensures)))
 
 pub get_named-requires-2-clause-there : goal.get_named-requires-2-clause-there
-get_named-requires-2-clause-there g c = c.in_ok-name.ensures.later.frames c.args.frame c.requires.there
+get_named-requires-2-clause-there g c = c.in_ok-name.ensures.later.frames c.args.frame c.requires.runs.there
 
 pub fault_units-requires-clause-name : goal.fault_units-requires-clause-name
 fault_units-requires-clause-name g c = content_later g.S.WorldStore.meaning c.get_named.new.config c.get_named-2.new.config c.in_ok-name.name c.in_ok-message.ensures.later c.in_ok-name.ensures.found
+
+pub give_text-requires : goal.give_text-requires
+give_text-requires g c = record {
+  running = running_later _ _ _ (running_later _ _ _ c.requires.runs.running c.in_ok-name.ensures.later)
+      c.in_ok-message.ensures.later;
+}

@@ -7,6 +7,7 @@ use Rattle.wjs_meaning.specs.Errors.{give_text}
 use Rattle.wjs_moves.specs.Following.{Follows}
 use Rattle.wjs_moves.specs.Parts.{env_in}
 use Rattle.wjs_lines.proofs.Following.{follows_as, env_later}
+use Rattle.wjs_moves.proofs.Handling.{runs_later}
 use Rattle.wjs_native_core.proofs.errors.give_primitive_text.Goals as goal
 
 pub returns : goal.returns
@@ -24,5 +25,5 @@ returns g c =
     (c.in_ok-empty.ensures.does.by (λ u. give_text (said ++ u) env) new r
     (subst (λ (e : Env). OnOk r (Follows m (give_text (said ++ text_in t c.in_ok-empty.empty) e) mid new)) (env_later m old mid t f c.in_ok-empty.ensures.later) c.join.ensures))
 
-pub join-requires-clause-there : goal.join-requires-clause-there
-join-requires-clause-there g c = c.in_ok-empty.ensures.later.frames c.args.frame c.requires.there
+pub join-requires-clause-runs : goal.join-requires-clause-runs
+join-requires-clause-runs g c = runs_later _ _ _ _ c.requires.runs c.in_ok-empty.ensures.later

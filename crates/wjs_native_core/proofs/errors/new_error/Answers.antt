@@ -11,6 +11,8 @@ use Rattle.wjs_meaning.specs.Deeds.{Env, Act, Do, Write}
 use Rattle.wjs_meaning.specs.NativesOfObjects.{error_message, give_object}
 use Rattle.wjs_moves.specs.Following.{Follows}
 use Rattle.wjs_moves.specs.Parts.{env_in}
+use Rattle.wjs_moves.specs.Handling.{IsRunning}
+use Rattle.wjs_moves.proofs.Handling.{running_later}
 use Rattle.wjs_native_core.proofs.errors.new_error.Goals as goal
 use Rattle.wjs_native_core.proofs.errors.new_error.Goals.{in-Text+in_ok-write_known, in_default}
 
@@ -46,4 +48,13 @@ returns g c =
     ])
 
 pub write_known-requires-clause-there : goal.write_known-requires-clause-there
-write_known-requires-clause-there g c = c.in_ok-error.ensures.later.frames c.args.frame c.requires.there
+write_known-requires-clause-there g c = c.in_ok-error.ensures.later.frames c.args.frame c.requires.runs.there
+
+pub give-requires-clause-running : goal.give-requires-clause-running
+give-requires-clause-running g c =
+    let m = g.S.WorldStore.meaning in
+    let made = running_later _ _ _ c.requires.runs.running c.in_ok-error.ensures.later in
+    elim c.match-message.branch [
+      | in-Text+in_ok-write_known w ↦ subst (IsRunning m) (sym w.config-is) (running_later _ _ _ made w.in_ok-write_known.ensures.later)
+      | in_default w ↦ subst (IsRunning m) (sym w.config-is) made
+    ]

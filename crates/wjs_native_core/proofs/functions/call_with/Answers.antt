@@ -21,5 +21,10 @@ returns g c =
     (λ grows. ap (λ (vs : List Value). call_values (value_in t c.args.callee) (value_in t c.args.this) (env_in m old t c.args.frame) vs) (earliest-map (value_in t) (values_held items) ∙ ap (map (value_in t)) c.in_ok-arguments_of.ensures.values))
     (rw c.set_held.ensures at c.call_value.ensures)
 
-pub call_value-requires-clause-there : goal.call_value-requires-clause-there
-call_value-requires-clause-there g c = rw c.set_held.ensures (fresh_holds g.S.WorldStore.meaning c.args.config.now c.args.frame c.in_ok-arguments_of.field-0 c.requires.there c.in_ok-arguments_of.ensures.found c.in_ok-arguments_of.ensures.begun)
+pub call_value-requires-clause-runs : goal.call_value-requires-clause-runs
+call_value-requires-clause-runs g c = record {
+  running = c.requires.runs.running;
+  there = rw c.set_held.ensures
+      (fresh_holds g.S.WorldStore.meaning c.args.config.now c.args.frame c.in_ok-arguments_of.field-0 c.requires.runs.there c.in_ok-arguments_of.ensures.found
+      c.in_ok-arguments_of.ensures.begun);
+}

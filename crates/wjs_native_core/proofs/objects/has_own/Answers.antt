@@ -10,6 +10,7 @@ use Rattle.wjs_moves.specs.Parts.{env_in}
 use Rattle.wjs_lines.proofs.Following.{follows_as, env_later}
 use Rattle.wjs_native_core.specs.Owning.{own_property}
 use Rattle.wjs_native_core.proofs.Telling.{told_ok, told_err}
+use Rattle.wjs_moves.proofs.Handling.{runs_later, running_later}
 use Rattle.wjs_native_core.proofs.objects.has_own.Goals as goal
 
 pub returns-in-Ok : goal.returns-in-Ok
@@ -52,5 +53,8 @@ returns-in-Err g c =
     ((told_err _ _ _ _ c.in-Err.is c.in_ok-object.ensures.does).by (λ o. own_property c.args.enumerable o (name_in t c.in_ok-name.name) env) new r
     c.finish.ensures)))
 
-pub give_own-requires-clause-there : goal.give_own-requires-clause-there
-give_own-requires-clause-there g c = c.in_ok-object.ensures.later.frames c.args.frame (c.in_ok-name.ensures.later.frames c.args.frame c.requires.there)
+pub give_own-requires-clause-runs : goal.give_own-requires-clause-runs
+give_own-requires-clause-runs g c = runs_later _ _ _ _ (runs_later _ _ _ _ c.requires.runs c.in_ok-name.ensures.later) c.in_ok-object.ensures.later
+
+pub finish-requires-clause-running : goal.finish-requires-clause-running
+finish-requires-clause-running g c = running_later _ _ _ (running_later _ _ _ c.requires.runs.running c.in_ok-name.ensures.later) c.in_ok-object.ensures.later

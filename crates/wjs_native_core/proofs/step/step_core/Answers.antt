@@ -5,6 +5,7 @@ use Rattle.wjs_meaning.specs.Reading.{node_in}
 use Rattle.wjs_model.specs.declared.config.State.{State}
 use Rattle.wjs_model.specs.declared.config.State.TheVariants as states
 use Rattle.wjs_model.specs.declared.frame.Activation.{Activation as Frame}
+use Rattle.wjs_model.specs.declared.frame.Completion.{Completion}
 use Rattle.wjs_model.specs.declared.turn.Turn.TheVariants as turn
 use Rattle.wjs_model.specs.Frames.{last}
 use Rattle.wjs_model.specs.Turns.{turn_of, turn_of_top, turn_of_form}
@@ -13,6 +14,7 @@ use Rattle.wjs_model.specs.Waiting.{after}
 use Rattle.wjs_moves.specs.Following.{Follows}
 use Rattle.wjs_moves.specs.Parts.{env_in, node_among, then_at}
 use Rattle.wjs_deeds.proofs.Composing.{env_later}
+use Rattle.wjs_moves.proofs.Handling.{runs_later}
 use Rattle.wjs_native_core.proofs.step.step_core.Goals as goal
 
 -- the frame that was taken off takes such a turn
@@ -20,8 +22,22 @@ took : (s : State) (frames : List Frame) (f : Frame) → turn_of s frames ≡ tu
 took states.Running frames f e t = sym (ap turn_of_top t) ∙ e
 took _ frames f e t = absurd (cc)
 
-pub resume_core-requires-clause-there : goal.resume_core-requires-clause-there
-resume_core-requires-clause-there g c = c.in_ok-completion-in-Enters.ensures.later.frames c.in-Enters.frame c.in-Enters.ensures.0.there
+pub returns-in-Begins : goal.returns-in-Begins
+returns-in-Begins g c = c.in-Begins.ensures.by c.begin_core.new.config c.begin_core.result c.begin_core.ensures
+
+pub returns-in-Given : goal.returns-in-Given
+returns-in-Given g c =
+    let m = g.S.WorldStore.meaning in
+    let mid = c.take_top.new.config in
+    let new = c.resume_core-in-Given.new.config in
+    let f = c.in-Given.frame in
+    let r = c.resume_core-in-Given.result in
+    let t = new.heap.texts in
+    let P : Completion → Type 0 = λ e. OnOk r (Follows m (then_at m mid f f.place t (env_in m mid t f) (completion_in t e)) mid new) in
+    c.in-Given.ensures.0.by new r (subst P c.completion-completion.ensures c.resume_core-in-Given.ensures)
+
+pub resume_core-requires-clause-runs : goal.resume_core-requires-clause-runs
+resume_core-requires-clause-runs g c = runs_later _ _ _ _ c.in-Enters.ensures.0.runs c.in_ok-completion-in-Enters.ensures.later
 
 pub resume_core-requires-clause-turn : goal.resume_core-requires-clause-turn
 resume_core-requires-clause-turn g c = took c.args.config.now.state c.args.config.now.frames c.in-Enters.frame c.requires.turn c.in-Enters.ensures.0.taken

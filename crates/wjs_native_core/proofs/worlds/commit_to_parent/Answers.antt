@@ -8,6 +8,7 @@ use Rattle.wjs_moves.specs.Following.{Follows}
 use Rattle.wjs_moves.specs.Parts.{env_in}
 use Rattle.wjs_lines.proofs.Following.{env_later}
 use Rattle.wjs_native_core.proofs.Telling.{told_ok}
+use Rattle.wjs_moves.proofs.Handling.{runs_later}
 use Rattle.wjs_native_core.proofs.worlds.commit_to_parent.Goals as goal
 
 pub returns-in-Ok : goal.returns-in-Ok
@@ -23,5 +24,5 @@ returns-in-Ok g c =
     (told_ok _ _ _ _ c.in-Ok.is c.in_ok-world.ensures.does).by (deeds (env_in m old t f)) new r
     (subst (λ (e : Env). OnOk r (Follows m (deeds e c.in-Ok.world) mid new)) (env_later m old mid t f c.in_ok-world.ensures.later) c.commit_world.ensures)
 
-pub commit_world-requires-clause-there : goal.commit_world-requires-clause-there
-commit_world-requires-clause-there g c = c.in_ok-world.ensures.later.frames c.args.frame c.requires.there
+pub commit_world-requires-clause-runs : goal.commit_world-requires-clause-runs
+commit_world-requires-clause-runs g c = runs_later _ _ _ _ c.requires.runs c.in_ok-world.ensures.later

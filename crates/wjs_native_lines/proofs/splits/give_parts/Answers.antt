@@ -10,6 +10,7 @@ use Rattle.wjs_lines.proofs.Following.{follows_as, env_later}
 use Rattle.wjs_meaning.specs.NewObjects.{make_array}
 use Rattle.wjs_strings.specs.Pieces.{texts_of, up_to}
 use Rattle.wjs_native_lines.proofs.Limits.{up_to_at_most}
+use Rattle.wjs_moves.proofs.Handling.{running_later}
 use Rattle.wjs_native_lines.proofs.splits.give_parts.Goals as goal
 
 pub returns : goal.returns
@@ -40,4 +41,7 @@ returns g c =
     made)
 
 pub make_array-requires-clause-there : goal.make_array-requires-clause-there
-make_array-requires-clause-there g c = c.in_ok-parts.ensures.later.frames c.args.frame c.requires.there
+make_array-requires-clause-there g c = c.in_ok-parts.ensures.later.frames c.args.frame c.requires.runs.there
+
+pub give-requires-clause-running : goal.give-requires-clause-running
+give-requires-clause-running g c = running_later _ _ _ (running_later _ _ _ c.requires.runs.running c.in_ok-parts.ensures.later) c.in_ok-array.ensures.later

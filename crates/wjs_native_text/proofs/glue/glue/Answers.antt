@@ -13,6 +13,7 @@ use Rattle.wjs_moves.specs.Parts.{env_in, node_now}
 use Rattle.wjs_lines.proofs.Following.{follows_as}
 use Rattle.wjs_natives.proofs.Frames.{native_holds}
 use Rattle.wjs_native_text.proofs.Gluing.{held_first, glue_first, argument_there}
+use Rattle.wjs_moves.proofs.Handling.{runs_as}
 use Rattle.wjs_native_text.proofs.glue.glue.Goals as goal
 
 pub returns-then-count-eq0 : goal.returns-then-count-eq0
@@ -31,8 +32,8 @@ returns-then-count-eq0 g c =
     ∙ ap (λ v. line.glue v (whole_at vs 1) (text_at vs 2) env) (sym (c.value_at.ensures.means t ∙ ap (value_in t) c.in-Object.is)))
     c.give_text.ensures
 
-pub due_later-requires-clause-there : goal.due_later-requires-clause-there
-due_later-requires-clause-there g c =
+pub due_later-requires : goal.due_later-requires
+due_later-requires g c =
     let m = g.S.WorldStore.meaning in
     let old = c.args.config.now in
     let f = c.args.frame in
@@ -40,7 +41,11 @@ due_later-requires-clause-there g c =
     let frame = held_first c.hold_separator.new.frame c.set_held.new.self f c.nothing_held.result sep c.in-Object.object c.to_uint32-count.result c.in_ok-hold_separator.ensures c.set_held.ensures c.nothing_held.ensures in
     let vs = c.args.args.now in
     let object = subst (λ (x : NumberedValue). HasValue old x) c.in-Object.is (argument_there old vs 0 c.value_at.result c.requires.args c.value_at.ensures.is) in
-    subst (IsThere m old) (sym frame) (native_holds m old f (holds.Elements c.in-Object.object c.to_uint32-count.result ∷ holds.Value sep ∷ []) c.requires.there (object, (argument_there old vs 2 sep c.requires.args c.value_at-2.ensures.is, tt)) native.Glue c.requires.form)
+    record {
+      runs = runs_as _ _ _ _ c.requires.runs
+          (subst (IsThere m old) (sym frame) (native_holds m old f (holds.Elements c.in-Object.object c.to_uint32-count.result ∷ holds.Value sep ∷ [])
+          c.requires.runs.there (object, (argument_there old vs 2 sep c.requires.args c.value_at-2.ensures.is, tt)) native.Glue c.requires.form));
+    }
 
 pub returns : goal.returns
 returns g c =

@@ -22,10 +22,11 @@ use Rattle.wjs_moves.specs.Parts.{env_in, node_now}
 use Rattle.wjs_lines.proofs.Following.{follows_as, env_later}
 use Rattle.wjs_natives.proofs.Frames.{native_holds}
 use Rattle.wjs_native_text.proofs.Gluing.{held_over, glue_rest, glue_reads, glue_onward, behind_first, all_pieces}
+use Rattle.wjs_moves.proofs.Handling.{runs_over}
 use Rattle.wjs_native_text.proofs.glue.glue_on.Goals as goal
 
-pub due_later-requires-clause-there : goal.due_later-requires-clause-there
-due_later-requires-clause-there g c =
+pub due_later-requires : goal.due_later-requires
+due_later-requires g c =
     let m = g.S.WorldStore.meaning in
     let mid = c.read.new.config in
     let f = c.args.frame in
@@ -33,17 +34,21 @@ due_later-requires-clause-there g c =
     let sep = c.held_value-separator.result in
     let elements = c.held_elements-count.result in
     let later = c.in_ok-piece.ensures.later in
-    let there = later.frames f c.requires.there in
+    let there = later.frames f c.requires.runs.there in
     let separator = later.values sep c.held_value-separator.ensures.found in
     let object = later.objects elements.0 c.held_elements-count.ensures.found in
     let frame = held_over c.hold_separator.new.frame c.hold.new.self f (holds.Value piece ∷ f.held) sep elements.0 elements.1 c.in_ok-hold_separator.ensures c.in_ok-hold.ensures.ok in
-    subst (IsThere m mid) (sym frame) (native_holds m mid f (holds.Elements elements.0 elements.1 ∷ holds.Value sep ∷ holds.Value piece ∷ f.held) there (object, (separator, (c.in_ok-piece.ensures.found, there.held))) native.Glue c.requires.form)
+    record {
+      runs = runs_over _ _ _ _ _ c.requires.runs later
+          (subst (IsThere m mid) (sym frame) (native_holds m mid f (holds.Elements elements.0 elements.1 ∷ holds.Value sep ∷ holds.Value piece ∷ f.held) there
+          (object, (separator, (c.in_ok-piece.ensures.found, there.held))) native.Glue c.requires.form));
+    }
 
 pub give_joined-requires-clause-values : goal.give_joined-requires-clause-values
 give_joined-requires-clause-values g c =
     let mid = c.read.new.config in
     let f = c.args.frame in
-    let there = c.in_ok-piece.ensures.later.frames f c.requires.there in
+    let there = c.in_ok-piece.ensures.later.frames f c.requires.runs.there in
     let held = holds.Value c.in_ok-piece.piece ∷ f.held in
     let is = c.deref.ensures.value ∙ c.in_ok-values.ensures ∙ ap (λ (q : Frame). earliest_first (values_held q.held)) c.in_ok-hold.ensures.ok in
     let all = subst (λ (l : List NumberedValue). All (HasValue mid) l) (sym is) (values_there mid held (c.in_ok-piece.ensures.found, there.held)) in

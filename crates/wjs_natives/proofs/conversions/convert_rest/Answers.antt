@@ -14,6 +14,7 @@ use Rattle.wjs_natives.specs.Kinds.{kind_in, conversions}
 use Rattle.wjs_natives.specs.Converting.{converting, placed, IsReady}
 use Rattle.wjs_natives.proofs.Tables.{place_within, place_below}
 use Rattle.wjs_natives.proofs.Coming.{Reached, reached_next, reached_end, reached_still, reached_waits, value_within}
+use Rattle.wjs_moves.proofs.Handling.{runs_later}
 use Rattle.wjs_natives.proofs.conversions.convert_rest.Goals as goal
 
 pub wait_for-requires-clause-at : goal.wait_for-requires-clause-at
@@ -77,8 +78,9 @@ returns g c =
           (reached_end m c.args.native c.args.frame c.args.given deeds old c.values.config c.values.values.items c.values.at c.values.invariant.1 (sym c.in_default.ensures)),
     )
 
-pub wait_for-requires-clause-there : goal.wait_for-requires-clause-there
-wait_for-requires-clause-there g c = rw c.values.invariant.0 (c.in_ok-converted.ensures.later.frames c.args.frame (c.values.invariant.1.later.frames c.args.frame c.requires.there))
+pub wait_for-requires-clause-runs : goal.wait_for-requires-clause-runs
+wait_for-requires-clause-runs g c =
+    rw c.values.invariant.0 (runs_later _ _ _ _ (runs_later _ _ _ _ c.requires.runs c.values.invariant.1.later) c.in_ok-converted.ensures.later)
 
 pub wait_for-requires-clause-form : goal.wait_for-requires-clause-form
 wait_for-requires-clause-form g c = rw c.values.invariant.0 c.requires.form

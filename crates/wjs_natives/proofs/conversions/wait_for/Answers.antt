@@ -32,7 +32,10 @@ returns g c =
     ∙ ap (λ (go : Completion → Act). Sub (begin_conversion c.args.conversion (value_in t (get_or vs at values.Undefined)) env) go) waits)
     (rw c.set_held.ensures at c.convert.ensures)
 
-pub convert-requires-clause-there : goal.convert-requires-clause-there
-convert-requires-clause-there g c =
-    rw c.set_held.ensures
-    (native_holds g.S.WorldStore.meaning c.args.config.now c.args.frame c.in_ok-items_of.field-0 c.requires.there c.in_ok-items_of.ensures.found c.args.native c.requires.form)
+pub convert-requires-clause-runs : goal.convert-requires-clause-runs
+convert-requires-clause-runs g c = record {
+  running = c.requires.runs.running;
+  there = rw c.set_held.ensures
+      (native_holds g.S.WorldStore.meaning c.args.config.now c.args.frame c.in_ok-items_of.field-0 c.requires.runs.there c.in_ok-items_of.ensures.found
+      c.args.native c.requires.form);
+}

@@ -22,7 +22,8 @@ convert_rest-requires-clause-values g c =
     let held = c.args.frame.held in
     let vs = earliest_first (values_held held) in
     let said : c.in_ok-values.values.items ≡ c.args.frame.this ∷ vs = c.in_ok-values.ensures ∙ ap (λ (v : Value). v ∷ c.in_ok-args.args.items) c.this.ensures ∙ ap (λ (l : List Value). c.args.frame.this ∷ l) c.in_ok-args.ensures in
-    subst (λ (l : List Value). All (HasValue old) l) (sym said) (All-cons (HasValue old) c.args.frame.this vs c.requires.there.this (values_there old held c.requires.there.held))
+    subst (λ (l : List Value). All (HasValue old) l) (sym said) (All-cons (HasValue old) c.args.frame.this vs c.requires.runs.there.this
+    (values_there old held c.requires.runs.there.held))
 
 pub convert_rest-requires-clause-given : goal.convert_rest-requires-clause-given
 convert_rest-requires-clause-given g c = λ h.

@@ -24,7 +24,8 @@ convert_rest-requires-clause-values g c =
     let vs = earliest_first (values_held held) in
     let at = c.saturating_sub-at.result in
     let said : c.put.new.values.items ≡ placed vs at c.args.value = c.in_ok-put.ensures ∙ ap (λ (l : List Value). placed l at c.args.value) c.in_ok-values.ensures in
-    subst (λ (l : List Value). All (HasValue old) l) (sym said) (all_placed old vs at c.args.value (values_there old held c.requires.there.held) c.requires.value)
+    subst (λ (l : List Value). All (HasValue old) l) (sym said) (all_placed old vs at c.args.value (values_there old held c.requires.runs.there.held)
+    c.requires.value)
 
 pub convert_rest-requires-clause-given : goal.convert_rest-requires-clause-given
 convert_rest-requires-clause-given g c = λ h.

@@ -4,4 +4,6 @@ use Rattle.wjs_moves.proofs.Parting.{stands_here}
 use Rattle.wjs_operators.proofs.binary.binary_start.Goals as goal
 
 pub enter-requires-clause-part : goal.enter-requires-clause-part
-enter-requires-clause-part g c = stands_here g.S.WorldStore.meaning c.args.config.now c.args.frame (nodes.Binary c.args.left c.args.operator c.args.right) c.args.left c.requires.there c.requires.node (inl refl)
+enter-requires-clause-part g c =
+    stands_here g.S.WorldStore.meaning c.args.config.now c.args.frame (nodes.Binary c.args.left c.args.operator c.args.right) c.args.left
+    c.requires.runs.there c.requires.node.node (inl refl)

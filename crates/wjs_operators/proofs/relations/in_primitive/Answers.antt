@@ -6,6 +6,7 @@ use Rattle.wjs_meaning.specs.Operators.{in_name}
 use Rattle.wjs_moves.specs.Following.{Follows}
 use Rattle.wjs_moves.specs.Parts.{env_in}
 use Rattle.wjs_lines.proofs.Following.{env_later}
+use Rattle.wjs_moves.proofs.Handling.{runs_later}
 use Rattle.wjs_operators.proofs.relations.in_primitive.Goals as goal
 
 pub returns : goal.returns
@@ -15,5 +16,5 @@ returns g c =
     let P : Env → Type 0 = λ env. OnOk c.in_name.result (Follows m (in_name c.args.object env (name_in t c.in_ok-name.name)) c.name_of_value.new.config c.in_name.new.config) in
     c.in_ok-name.ensures.does.by (in_name c.args.object (env_in m c.args.config.now t c.args.frame)) _ _ (subst P (env_later m _ _ t c.args.frame c.in_ok-name.ensures.later) c.in_name.ensures)
 
-pub in_name-requires-clause-there : goal.in_name-requires-clause-there
-in_name-requires-clause-there g c = c.in_ok-name.ensures.later.frames c.args.frame c.requires.there
+pub in_name-requires-clause-runs : goal.in_name-requires-clause-runs
+in_name-requires-clause-runs g c = runs_later _ _ _ _ c.requires.runs c.in_ok-name.ensures.later

@@ -1,6 +1,7 @@
 use Rattle.wjs_lines.proofs.Following.{env_later}
 use Rattle.wjs_moves.specs.Parts.{env_in}
 use Rattle.wjs_meaning.specs.Operators.{instance_prototype}
+use Rattle.wjs_moves.proofs.Handling.{runs_later}
 use Rattle.wjs_operators.proofs.relations.instance_object.Goals as goal
 
 pub returns : goal.returns
@@ -9,5 +10,5 @@ returns g c =
     let h = rw (env_later g.S.WorldStore.meaning _ _ t c.args.frame c.in_ok-prototype.ensures.later) at c.instance_prototype.ensures in
     c.in_ok-prototype.ensures.does.by (instance_prototype c.args.object (env_in g.S.WorldStore.meaning c.args.config.now t c.args.frame)) _ _ h
 
-pub instance_prototype-requires-clause-there : goal.instance_prototype-requires-clause-there
-instance_prototype-requires-clause-there g c = c.in_ok-prototype.ensures.later.frames c.args.frame c.requires.there
+pub instance_prototype-requires-clause-runs : goal.instance_prototype-requires-clause-runs
+instance_prototype-requires-clause-runs g c = runs_later _ _ _ _ c.requires.runs c.in_ok-prototype.ensures.later

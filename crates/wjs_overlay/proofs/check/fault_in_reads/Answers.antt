@@ -9,7 +9,7 @@ use Rattle.wjs_slots.specs.Least.{first_slot}
 use Rattle.wjs_overlay.specs.Cursor.{is_before, count_passing}
 use Rattle.wjs_overlay.specs.Sparse.{full_of, depth_of}
 use Rattle.wjs_overlay.proofs.Places.{slice_read}
-use Rattle.wjs_overlay.proofs.Looks.{below_at}
+use Rattle.wjs_overlay.proofs.Looks.{above_some, below_at}
 use Rattle.wjs_overlay.proofs.Entries.{all_slots}
 use Rattle.wjs_overlay.proofs.Checks.{slot_of}
 use Rattle.wjs_overlay.proofs.Works.{times_le, count_most}
@@ -23,6 +23,12 @@ offset_bounds-layers-world g c = let l : c.args.world.place < length c.args.laye
 
 pub bounds-layers-world : goal.bounds-layers-world
 bounds-layers-world g c = (below_at c.args.layers.now c.args.world c.requires.sparse c.requires.there)
+
+pub next_from-next-requires : goal.next_from-next-requires
+next_from-next-requires g c = above_some c.args.layers.now c.requires.sparse c.args.world c.requires.there c.index-layers-world.result (slice_read c.args.layers.now c.args.world.place c.index-layers-world.result c.index-layers-world.is (below_at c.args.layers.now c.args.world c.requires.sparse c.requires.there)) c.requires.up
+
+pub next_after-next-requires : goal.next_after-next-requires
+next_after-next-requires g c = above_some c.args.layers.now c.requires.sparse c.args.world c.requires.there c.index-layers-world.result (slice_read c.args.layers.now c.args.world.place c.index-layers-world.result c.index-layers-world.is (below_at c.args.layers.now c.args.world c.requires.sparse c.requires.there)) c.requires.up
 
 pub rows-init : goal.rows-init
 rows-init g c =

@@ -2,6 +2,8 @@ use Rattle.std.proofs.Common.{refl, sym, ap, ◌∙◌}
 use Rattle.wjs_store.specs.Shown.{content_of}
 use Rattle.wjs_heap.specs.Means.{parts}
 use Rattle.wjs_props.proofs.Getting.{begins, ends_fixed, ends_found, ends_absent, goes_on, fixed_there, none_of, absent_of, next_of}
+use Rattle.std.specs.FinMap as map
+use Rattle.wjs_arena.proofs.Fields.{prototyped, prototyped_is}
 use Rattle.wjs_props.proofs.reads.peek.Goals as goal
 
 pub up-init : goal.up-init
@@ -24,10 +26,10 @@ pub returns-in-None-clause-gets : goal.returns-in-None-clause-gets
 returns-in-None-clause-gets g c =
     let p = parts g.S.WorldStore.meaning c.args.heap.now in
     ends_absent c.args.world c.args.name c.args.object p p c.up.here c.up.invariant p c.in_ok-found.found (sym c.fixed.ensures.fixed ∙ none_of _ c.in_default.not-Some) c.in_ok-found.ensures.reads (absent_of _ c.in_default-found.not-Present)
-    (next_of p p c.up.here c.object.result.now refl c.up.invariant.there c.object.ensures.object ∙ c.in-None.is)
+    (next_of p p c.up.here (prototyped (map.get c.args.heap.now.arena c.up.here) c.prototype.result) refl c.up.invariant.there (prototyped_is (map.get c.args.heap.now.arena c.up.here) c.prototype.result c.prototype.ensures.prototype) ∙ c.in-None.is)
 
 pub up-preserved : goal.up-preserved
 up-preserved g c =
     let p = parts g.S.WorldStore.meaning c.args.heap.now in
     goes_on c.args.world c.args.name c.args.object p p c.up.here c.up.invariant p c.in_ok-found.found (sym c.fixed.ensures.fixed ∙ none_of _ c.in_default.not-Some) c.in_ok-found.ensures.reads c.in-Some-prototype.prototype (absent_of _ c.in_default-found.not-Present)
-    (next_of p p c.up.here c.object.result.now refl c.up.invariant.there c.object.ensures.object ∙ c.in-Some-prototype.is)
+    (next_of p p c.up.here (prototyped (map.get c.args.heap.now.arena c.up.here) c.prototype.result) refl c.up.invariant.there (prototyped_is (map.get c.args.heap.now.arena c.up.here) c.prototype.result c.prototype.ensures.prototype) ∙ c.in-Some-prototype.is)

@@ -12,6 +12,8 @@ use Rattle.wjs_deeds.proofs.Looking.{object_is}
 use Rattle.wjs_reports.specs.Thrown.{shown_by}
 use Rattle.wjs_reports.proofs.Carried.{shown_other}
 use Rattle.wjs_reports.proofs.Leaving.{on_any, leaves_same}
+use Rattle.std.specs.FinMap as map
+use Rattle.wjs_arena.proofs.Fields.{classed, classed_is}
 use Rattle.wjs_reports.proofs.thrown.show_object.Goals as goal
 
 pub returns-in-Fault-clause-shows : goal.returns-in-Fault-clause-shows
@@ -21,7 +23,7 @@ returns-in-Fault-clause-shows g c =
     let t = heap.texts in
     let arena = arena_in t heap.arena in
     let full = worlds_in t (worlds (g.S.WorldStore.meaning heap.store)) in
-    let is : class.Fault ≡ (object_at arena c.args.object).class = sym c.in-Fault.is ∙ sym (ap (λ (x : Internals). x.class) (object_is heap.arena c.args.object c.object.result.now c.requires.object.0 c.object.ensures.object t)) in
+    let is : class.Fault ≡ (object_at arena c.args.object).class = sym c.in-Fault.is ∙ sym (ap (λ (x : Internals). x.class) (object_is heap.arena c.args.object (classed (map.get c.args.config.now.heap.arena c.args.object) c.class-class.result) c.requires.object.0 (classed_is (map.get c.args.config.now.heap.arena c.args.object) c.class-class.result c.class-class.ensures.class) t)) in
     let P : Class → Type 0 = λ k. IfOk c.show_fault.result (λ bytes. bytes.items ≡ utf8_of (shown_by k arena full config.world c.args.object)) in
     subst P is c.show_fault.ensures.shows
 
@@ -32,9 +34,9 @@ returns-in_default-clause-shows g c =
     let t = heap.texts in
     let arena = arena_in t heap.arena in
     let full = worlds_in t (worlds (g.S.WorldStore.meaning heap.store)) in
-    let is = sym (ap (λ (x : Internals). x.class) (object_is heap.arena c.args.object c.object.result.now c.requires.object.0 c.object.ensures.object t)) in
+    let is = sym (ap (λ (x : Internals). x.class) (object_is heap.arena c.args.object (classed (map.get c.args.config.now.heap.arena c.args.object) c.class-class.result) c.requires.object.0 (classed_is (map.get c.args.config.now.heap.arena c.args.object) c.class-class.result c.class-class.ensures.class) t)) in
     let P : Text → Type 0 = λ u. IfOk c.utf8_of_units.result (λ bytes. bytes.items ≡ utf8_of u) in
-    subst P (c.class_name.ensures ∙ shown_other c.object.result.now.class c.in_default.not-Fault arena full config.world c.args.object ∙ ap (λ (k : Class). shown_by k arena full config.world c.args.object) is) c.utf8_of_units.ensures.bytes
+    subst P (c.class_name.ensures ∙ shown_other c.class-class.result c.in_default.not-Fault arena full config.world c.args.object ∙ ap (λ (k : Class). shown_by k arena full config.world c.args.object) is) c.utf8_of_units.ensures.bytes
 
 pub returns-in_default-clause-leaves : goal.returns-in_default-clause-leaves
 returns-in_default-clause-leaves g c = on_any c.utf8_of_units.result (leaves_same g.S.WorldStore.meaning c.args.config.now c.requires.base)

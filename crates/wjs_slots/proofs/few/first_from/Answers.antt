@@ -7,8 +7,8 @@ use Rattle.wjs_slots.proofs.Basics.{greater_is, some_is}
 use Rattle.wjs_slots.proofs.Seeks.{seek_past}
 use Rattle.wjs_slots.proofs.few.first_from.Goals as goal
 
-pub loop-low-preserved-then-comes_after : goal.loop-low-preserved-then-comes_after
-loop-low-preserved-then-comes_after g c =
+pub loop-low-preserved-then-is_before : goal.loop-low-preserved-then-is_before
+loop-low-preserved-then-is_before g c =
     let n = c.loop-low.low + (c.loop-low.high - c.loop-low.low) / 2 in
     let l : n < length c.args.few.now = omega (arith, c.loop-low-test.true, c.loop-low.invariant.upto) in
     let s : suc n ≡ n + 1 = omega arith in
@@ -16,7 +16,7 @@ loop-low-preserved-then-comes_after g c =
     record {
       within = omega (arith, c.loop-low-test.true);
       upto = c.loop-low.invariant.upto;
-      before = seek_past name_total c.args.name 0 c.args.few.now n c.index-few-middle.result c.requires l (greater_is _ (sym c.comes_after.ensures ∙ c.if-comes_after.true))
+      before = seek_past name_total c.args.name 0 c.args.few.now n c.index-few-middle.result c.requires l (greater_is _ (sym c.is_before.ensures ∙ c.if-is_before.true))
           ∙ ap (λ j. seek name_cmp c.args.name j (drop (suc n) c.args.few.now)) z
           ∙ ap (λ j. seek name_cmp c.args.name (n + 1) (drop j c.args.few.now)) s;
       after = c.loop-low.invariant.after;
@@ -32,5 +32,5 @@ loop-low-preserved g c =
       before = c.loop-low.invariant.before;
       after = λ row e.
           let same : c.index-few-middle.result ≡ row = some_is c.index-few-middle.result row (sym (slice_get_read c.args.few.now (length c.args.few.now) n c.index-few-middle.result refl l c.index-few-middle.is) ∙ e) in
-          ap (λ r. is_gt (name_cmp c.args.name r.0)) (sym same ∙ c.index-few-middle.is) ∙ sym c.comes_after.ensures ∙ c.if-comes_after.false;
+          ap (λ r. is_gt (name_cmp c.args.name r.0)) (sym same ∙ c.index-few-middle.is) ∙ sym c.is_before.ensures ∙ c.if-is_before.false;
     }

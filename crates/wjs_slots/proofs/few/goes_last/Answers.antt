@@ -7,4 +7,4 @@ use Rattle.wjs_slots.proofs.few.goes_last.Goals as goal
 pub returns-else-count-eq0 : goal.returns-else-count-eq0
 returns-else-count-eq0 g c = λ t.
     let l : length c.args.few.now - 1 < length c.args.few.now = omega arith in
-    seek_last name_total c.args.name c.args.few.now (length c.args.few.now - 1) c.index-few-count.result c.requires l (omega arith) (greater_is _ (sym c.comes_after.ensures ∙ t))
+    seek_last name_total c.args.name c.args.few.now (length c.args.few.now - 1) c.index-few-count.result c.requires l (omega arith) (greater_is _ (sym c.is_before.ensures ∙ t))

@@ -1,22 +1,20 @@
-use Rattle.std.proofs.Common.{rules, ◌≡◌, ◌∙◌, false, ap, sym, refl, length}
-use Rattle.std.specs.Ordering.{is_eq}
-use Rattle.std.proofs.lemmas.Option.{slice_get_read}
+use Rattle.std.proofs.Common.{◌∙◌, ap, sym, slice_get}
+use Rattle.std.proofs.lemmas.Option.{slice_get_within, get_or_from_slice_get}
 use Rattle.wjs_base.specs.Order.{name_cmp}
-use Rattle.wjs_slots.proofs.Basics.{less_left}
+use Rattle.wjs_slots.proofs.Basics.{by_option, less_left}
+use Rattle.wjs_slots.proofs.Entries.{slice_past}
 use Rattle.wjs_slots.proofs.Seeks.{seek_drop, seek_end}
 use Rattle.wjs_slots.proofs.few.seek.Goals as goal
-use Rattle.wjs_slots.proofs.few.seek.Goals.{else-place-few-via-then-place-few+else-eq, else-place-few-via-else-place-few}
 
-pub returns-else-place-few : goal.returns-else-place-few
-returns-else-place-few g c =
+pub returns-then-is_at : goal.returns-then-is_at
+returns-then-is_at g c = c.is_at.ensures.here c.if-is_at.true
+
+pub returns-else-is_at : goal.returns-else-is_at
+returns-else-is_at g c =
     let n = c.first_from-place.result in
     let es = c.args.few.now in
-    sym (c.first_from-place.ensures.before ∙ elim c.else-place-few.branch [
-      | else-place-few-via-then-place-few+else-eq w ↦
-          (let d = w.index-few-place.result in
-          let t : is_eq (name_cmp c.args.name d.0) ≡ false = search rules in
-          let k = ap (λ e. name_cmp c.args.name e.0) (sym w.index-few-place.is) in
-          let f = c.first_from-place.ensures.after d (slice_get_read es (length es) n d refl w.if-place-few.true w.index-few-place.is) in
-          seek_drop name_cmp c.args.name n es n d w.if-place-few.true (k ∙ less_left (name_cmp c.args.name d.0) f t))
-      | else-place-few-via-else-place-few w ↦ seek_end name_cmp c.args.name n es c.first_from-place.ensures.within w.if-place-few.false
-    ])
+    sym (c.first_from-place.ensures.before ∙ by_option (slice_get es n)
+    (λ none. seek_end name_cmp c.args.name n es c.first_from-place.ensures.within (slice_past es n none))
+    (λ row s. seek_drop name_cmp c.args.name n es n row (slice_get_within es n row s)
+    (ap (λ e. name_cmp c.args.name e.0) (get_or_from_slice_get es n row row s)
+    ∙ less_left (name_cmp c.args.name row.0) (c.first_from-place.ensures.after row s) (c.is_at.ensures.other c.if-is_at.false row s))))

@@ -1,4 +1,5 @@
-use Rattle.std.proofs.Common.{◌≡◌, ◌∙◌, Err, length, ap, sym, not, is_some, arith}
+use Rattle.std.proofs.Common.{◌≡◌, ◌∙◌, ◌++◌, ◌∷◌, [], Err, length, set, ap, sym, not, is_some, arith}
+use Rattle.std.specs.List.{insert}
 use Rattle.wjs_base.specs.Order.{name_cmp, name_total, name_exact}
 use Rattle.wjs_slots.specs.Lists.{seek}
 use Rattle.wjs_slots.proofs.Basics.{on_ok, if_ok}
@@ -10,7 +11,7 @@ returns-then-goes_last-clause-ok g c =
     let es = c.args.few.now.items in
     let past : Err (length es) ≡ seek name_cmp c.args.name 0 es =
     ap (λ l. Err (length l)) (sym c.deref.ensures.value) ∙ sym (c.goes_last.ensures c.if-goes_last.true) ∙ ap (seek name_cmp c.args.name 0) c.deref.ensures.value in
-    on_ok c.push.result (λ e. e ∙ put_last name_total name_exact c.args.name c.args.value es past) c.push.ensures.ok
+    on_ok c.push.result (λ e. e ∙ ap (λ r. es ++ r ∷ []) c.in-Some.ensures ∙ put_last name_total name_exact c.args.name c.args.value es past) c.push.ensures.ok
 
 pub returns-then-goes_last-clause-added : goal.returns-then-goes_last-clause-added
 returns-then-goes_last-clause-added g c =
@@ -32,7 +33,7 @@ insert-requires g c =
 pub returns-in-Ok-clause-ok : goal.returns-in-Ok-clause-ok
 returns-in-Ok-clause-ok g c =
     let f = found_at name_total name_exact c.args.name c.in-Ok.place c.args.few.now.items (c.in-Ok.ensures ∙ ap (seek name_cmp c.args.name 0) c.deref-2.ensures.value) in
-    f.puts c.args.value
+    ap (set c.args.few.now.items c.in-Ok.place) c.in-Some.ensures ∙ f.puts c.args.value
 
 pub returns-in-Ok-clause-added : goal.returns-in-Ok-clause-added
 returns-in-Ok-clause-added g c =
@@ -42,7 +43,7 @@ returns-in-Ok-clause-added g c =
 pub returns-in-Ok-insert-clause-ok : goal.returns-in-Ok-insert-clause-ok
 returns-in-Ok-insert-clause-ok g c =
     let m = missed_at name_total name_exact c.args.name c.in-Err.place c.args.few.now.items (c.in-Err.ensures ∙ ap (seek name_cmp c.args.name 0) c.deref-2.ensures.value) in
-    c.in-Ok-insert.ensures.items ∙ m.puts c.args.value
+    c.in-Ok-insert.ensures.items ∙ ap (insert c.args.few.now.items c.in-Err.place) c.in-Some.ensures ∙ m.puts c.args.value
 
 pub returns-in-Ok-insert-clause-added : goal.returns-in-Ok-insert-clause-added
 returns-in-Ok-insert-clause-added g c =

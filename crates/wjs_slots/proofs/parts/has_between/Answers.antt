@@ -1,7 +1,10 @@
 use Rattle.std.proofs.Common.{◌∙◌, ap, sym}
 use Rattle.std.specs.Ordering.{is_le}
-use Rattle.wjs_slots.proofs.Between.{none_from, none_until}
+use Rattle.wjs_slots.proofs.Between.{find_nothing, none_from, none_until}
 use Rattle.wjs_slots.proofs.parts.has_between.Goals as goal
+
+pub returns-then-is_empty : goal.returns-then-is_empty
+returns-then-is_empty g c = λ _ slot from until. find_nothing slot c.args.far.now.entries (c.is_empty.ensures.0 c.if-is_empty.true)
 
 pub returns-in-None : goal.returns-in-None
 returns-in-None g c = λ _ slot from until. none_from c.args.first c.args.far.now.entries c.requires c.in-None.ensures slot from

@@ -1,5 +1,6 @@
 use Rattle.std.proofs.lemmas.Result.{MatchResult-at_ok, MatchResult-at_err}
 use Rattle.wjs_visits.proofs.Storing.{listed_follows, refused_follows}
+use Rattle.wjs_moves.proofs.Handling.{runs_over}
 use Rattle.wjs_visits.proofs.for_ins.over_value.Goals as goal
 
 pub returns-in-Ok : goal.returns-in-Ok
@@ -7,3 +8,6 @@ returns-in-Ok g c = listed_follows g.S.WorldStore.meaning c.args.config.now c.ho
 
 pub returns-in-Err : goal.returns-in-Err
 returns-in-Err g c = refused_follows g.S.WorldStore.meaning c.args.config.now c.hold_visits.new.config c.finish.new.config c.finish.result c.args.frame c.hold_visits.new.frame c.args.taker c.args.s c.in_ok-hold_visits.ensures.later c.in_ok-hold_visits.ensures.frame c.args.value c.in-Err.error (MatchResult-at_err _ _ c.in-Err.error c.in-Err.is c.in_ok-hold_visits.ensures.lists) c.finish.ensures
+
+pub visit_next-requires-clause-runs : goal.visit_next-requires-clause-runs
+visit_next-requires-clause-runs g c = runs_over _ _ _ _ _ c.requires.runs c.in_ok-hold_visits.ensures.later c.in_ok-hold_visits.ensures.there

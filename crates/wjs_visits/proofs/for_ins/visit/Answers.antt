@@ -6,15 +6,20 @@ use Rattle.wjs_lines.proofs.Following.{follows_as}
 use Rattle.wjs_visits.proofs.Storing.{target_entered}
 use Rattle.wjs_visits.proofs.Standing.{target_stands}
 use Rattle.wjs_visits.proofs.Visiting.{holding_there}
+use Rattle.wjs_moves.proofs.Handling.{runs_as}
 use Rattle.wjs_visits.proofs.for_ins.visit.Goals as goal
 
 pub returns-in_ok-hold-in-Target : goal.returns-in_ok-hold-in-Target
 returns-in_ok-hold-in-Target g c = follows_as g.S.WorldStore.meaning _ _ _ _ c.enter.result (λ grows. target_entered g.S.WorldStore.meaning c.enter.new.config.heap.texts c.args.config.now c.args.frame c.hold.new.frame c.args.taker c.in-Target.target c.args.s c.args.slot c.in-Target.is c.requires.form c.requires.node c.in_ok-hold-in-Target.ensures) c.enter.ensures
 
-pub enter-requires-clause-there : goal.enter-requires-clause-there
-enter-requires-clause-there g c = holding_there g.S.WorldStore.meaning c.args.config.now c.args.frame c.hold.new.frame (holds.Visit c.args.slot ∷ c.args.frame.held) c.requires.there c.requires.form (c.requires.slot, c.requires.there.held) c.in_ok-hold-in-Target.ensures
+pub enter-requires-clause-runs : goal.enter-requires-clause-runs
+enter-requires-clause-runs g c =
+    runs_as _ _ _ _ c.requires.runs (holding_there g.S.WorldStore.meaning c.args.config.now c.args.frame c.hold.new.frame
+    (holds.Visit c.args.slot ∷ c.args.frame.held) c.requires.runs.there c.requires.form (c.requires.slot, c.requires.runs.there.held)
+    c.in_ok-hold-in-Target.ensures)
 
 pub enter-requires-clause-part : goal.enter-requires-clause-part
 enter-requires-clause-part g c =
     let P : Frame → Type 0 = λ f. StandsHere c.args.config.now f c.in-Target.target in
-    subst P (sym c.in_ok-hold-in-Target.ensures) (target_stands g.S.WorldStore.meaning c.args.config.now c.args.frame c.args.taker c.args.s c.requires.there c.requires.node c.in-Target.target c.in-Target.is)
+    subst P (sym c.in_ok-hold-in-Target.ensures) (target_stands g.S.WorldStore.meaning c.args.config.now c.args.frame c.args.taker c.args.s
+    c.requires.runs.there c.requires.node c.in-Target.target c.in-Target.is)

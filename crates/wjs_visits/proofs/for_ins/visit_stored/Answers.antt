@@ -10,6 +10,7 @@ use Rattle.wjs_moves.specs.Following.{Follows}
 use Rattle.wjs_deeds.proofs.Later.{later_twice}
 use Rattle.wjs_visits.proofs.Storing.{named_follows, named_fails, body_entered, entered_later}
 use Rattle.wjs_visits.proofs.Standing.{body_stands_later}
+use Rattle.wjs_moves.proofs.Handling.{runs_later, running_later}
 use Rattle.wjs_visits.proofs.for_ins.visit_stored.Goals as goal
 
 pub returns-in-Ok : goal.returns-in-Ok
@@ -36,10 +37,15 @@ returns-in-Err g c =
     c.in_ok-id.ensures.does c.in_ok-id.ensures.later (MatchResult-at_err _ _ c.in-Err.error c.in-Err.is c.in_ok-store.ensures.does) c.finish.ensures
 
 pub enter-requires-clause-part : goal.enter-requires-clause-part
-enter-requires-clause-part g c = body_stands_later g.S.WorldStore.meaning c.args.config.now c.args.frame c.args.taker c.args.s c.requires.there c.requires.node c.text_of.new.config c.store.new.config c.in_ok-id.ensures.later c.in_ok-store.ensures.later
+enter-requires-clause-part g c =
+    body_stands_later g.S.WorldStore.meaning c.args.config.now c.args.frame c.args.taker c.args.s c.requires.runs.there c.requires.node c.text_of.new.config
+    c.store.new.config c.in_ok-id.ensures.later c.in_ok-store.ensures.later
 
 pub store-requires-clause-there : goal.store-requires-clause-there
-store-requires-clause-there g c = c.in_ok-id.ensures.later.frames c.args.frame c.requires.there
+store-requires-clause-there g c = c.in_ok-id.ensures.later.frames c.args.frame c.requires.runs.there
 
-pub enter-requires-clause-there : goal.enter-requires-clause-there
-enter-requires-clause-there g c = c.in_ok-store.ensures.later.frames c.args.frame (c.in_ok-id.ensures.later.frames c.args.frame c.requires.there)
+pub enter-requires-clause-runs : goal.enter-requires-clause-runs
+enter-requires-clause-runs g c = runs_later _ _ _ _ (runs_later _ _ _ _ c.requires.runs c.in_ok-id.ensures.later) c.in_ok-store.ensures.later
+
+pub finish-requires-clause-running : goal.finish-requires-clause-running
+finish-requires-clause-running g c = running_later _ _ _ (running_later _ _ _ c.requires.runs.running c.in_ok-id.ensures.later) c.in_ok-store.ensures.later

@@ -15,6 +15,7 @@ use Rattle.wjs_visits.specs.declared.for_ins.Taker.TheVariants.{Variable}
 use Rattle.wjs_visits.proofs.Knowing.{variable_known, variable_named}
 use Rattle.wjs_visits.proofs.Storing.{named_follows, named_fails, body_entered, entered_later}
 use Rattle.wjs_visits.proofs.Standing.{body_stands_later}
+use Rattle.wjs_moves.proofs.Handling.{runs_later, running_later}
 use Rattle.wjs_visits.proofs.for_ins.visit_variable.Goals as goal
 
 pub place_of-place-requires : goal.place_of-place-requires
@@ -24,7 +25,8 @@ pub assign-requires-clause-name : goal.assign-requires-clause-name
 assign-requires-clause-name g c =
     let m = g.S.WorldStore.meaning in
     let old = c.args.config.now in
-    Grows-Has old.heap.texts c.text_of.new.config.heap.texts c.args.name c.in_ok-id.ensures.later.texts (variable_known m old c.args.frame c.args.name c.args.s c.requires.base c.requires.node)
+    Grows-Has old.heap.texts c.text_of.new.config.heap.texts c.args.name c.in_ok-id.ensures.later.texts
+    (variable_known m old c.args.frame c.args.name c.args.s c.requires.runs.running.base c.requires.node)
 
 pub returns-in-Ok : goal.returns-in-Ok
 returns-in-Ok g c =
@@ -61,10 +63,15 @@ returns-in-Err g c =
     c.in_ok-id.ensures.does c.in_ok-id.ensures.later (MatchResult-at_err _ _ c.in-Err.error c.in-Err.is c.in_ok-assign.ensures.does) c.finish.ensures)
 
 pub enter-requires-clause-part : goal.enter-requires-clause-part
-enter-requires-clause-part g c = body_stands_later g.S.WorldStore.meaning c.args.config.now c.args.frame (Variable c.args.name) c.args.s c.requires.there c.requires.node c.text_of.new.config c.assign.new.config c.in_ok-id.ensures.later c.in_ok-assign.ensures.later
+enter-requires-clause-part g c =
+    body_stands_later g.S.WorldStore.meaning c.args.config.now c.args.frame (Variable c.args.name) c.args.s c.requires.runs.there c.requires.node
+    c.text_of.new.config c.assign.new.config c.in_ok-id.ensures.later c.in_ok-assign.ensures.later
 
 pub assign-requires-clause-there : goal.assign-requires-clause-there
-assign-requires-clause-there g c = c.in_ok-id.ensures.later.frames c.args.frame c.requires.there
+assign-requires-clause-there g c = c.in_ok-id.ensures.later.frames c.args.frame c.requires.runs.there
 
-pub enter-requires-clause-there : goal.enter-requires-clause-there
-enter-requires-clause-there g c = c.in_ok-assign.ensures.later.frames c.args.frame (c.in_ok-id.ensures.later.frames c.args.frame c.requires.there)
+pub enter-requires-clause-runs : goal.enter-requires-clause-runs
+enter-requires-clause-runs g c = runs_later _ _ _ _ (runs_later _ _ _ _ c.requires.runs c.in_ok-id.ensures.later) c.in_ok-assign.ensures.later
+
+pub finish-requires-clause-running : goal.finish-requires-clause-running
+finish-requires-clause-running g c = running_later _ _ _ (running_later _ _ _ c.requires.runs.running c.in_ok-id.ensures.later) c.in_ok-assign.ensures.later

@@ -1,10 +1,12 @@
-use Rattle.std.proofs.Common.{Some, ap, sym, ◌∙◌}
+use Rattle.std.proofs.Common.{Some, sym, ap, ◌∙◌}
 use Rattle.std.specs.Cmp.Lexicographic.{bytes_decides}
-use Rattle.wjs_base.proofs.Tables.{at_place}
+use Rattle.wjs_base.proofs.Finding.{text_at}
 use Rattle.wjs_base.proofs.texts.Texts.stands_at.Goals as goal
 
-pub returns-in-Some : goal.returns-in-Some
-returns-in-Some c = λ e.
-    let text = c.in-Some.text.now in
-    rw (← c.self.view_is) (at_place c.self.inside.texts.keys c.args.place text (sym c.in-Some.ensures.key)
-    ∙ ap Some (sym c.as_slice.ensures.value ∙ (bytes_decides c.as_slice.result.now c.args.units.now).0 (sym c.eq.ensures ∙ e)))
+pub units-requires : goal.units-requires
+units-requires c = (c.self.invariant.entry c.args.place c.entry_at.result c.entry_at.ensures).within
+
+pub returns : goal.returns
+returns c = λ e.
+    rw (← c.self.view_is) (text_at c.self.inside.buffers c.self.inside.spans.entries c.args.place c.entry_at.result c.entry_at.ensures
+    ∙ ap Some (sym c.units.ensures ∙ (bytes_decides c.units.result.now c.args.units.now).0 (sym c.eq.ensures ∙ e)))

@@ -1,7 +1,11 @@
 use Rattle.std.proofs.Common.{ap, ◌∙◌}
-use Rattle.wjs_overlay.specs.Tables.{first_rows}
-use Rattle.wjs_overlay.proofs.Tables.{first_empty}
+use Rattle.wjs_overlay.specs.Shorts.{row_first, row_in}
+use Rattle.wjs_overlay.specs.Tables.{rows_by}
+use Rattle.wjs_overlay.proofs.Tables.{rows_empty}
 use Rattle.wjs_overlay.proofs.layer.Kept.clear.Goals as goal
 
 pub returns-in-First-clause-rows : goal.returns-in-First-clause-rows
-returns-in-First-clause-rows c = ap first_rows c.new.ensures ∙ first_empty
+returns-in-First-clause-rows c = ap (rows_by row_first) c.new.ensures ∙ rows_empty row_first
+
+pub returns-in-Under-clause-rows : goal.returns-in-Under-clause-rows
+returns-in-Under-clause-rows c = ap (rows_by row_in) c.new-in-Under.ensures ∙ rows_empty row_in

@@ -1,10 +1,11 @@
 use Rattle.std.proofs.Common.{ap, ◌∙◌, None, false}
-use Rattle.wjs_overlay.specs.Tables.{first_rows}
-use Rattle.wjs_overlay.proofs.Tables.{first_empty}
+use Rattle.wjs_overlay.specs.Shorts.{row_first}
+use Rattle.wjs_overlay.specs.Tables.{rows_by}
+use Rattle.wjs_overlay.proofs.Tables.{rows_empty}
 use Rattle.wjs_overlay.proofs.layer.Layer.first.Goals as goal
 
 pub returns : goal.returns
 returns c =
-    let rows = ap first_rows c.new.ensures ∙ first_empty in
+    let rows = ap (rows_by row_first) c.new.ensures ∙ rows_empty row_first in
     let closed = c.new-2.ensures in
     λ i. record { id = c.args.id; above = None; strict = false; rows = rows i; closed = closed i }

@@ -4,7 +4,9 @@ use Rattle.wjs_base.specs.declared.ids.WorldId.{WorldId}
 use Rattle.wjs_store.specs.State.{next_id, sprout, sprouted, after_sprout}
 use Rattle.wjs_overlay.specs.Sparse.{full_of}
 use Rattle.wjs_overlay.specs.Store.{IsStore}
+use Rattle.wjs_overlay.specs.Touched.{Covered}
 use Rattle.wjs_overlay.proofs.StoreLaws.{store_sprout, answers_store}
+use Rattle.wjs_overlay.proofs.Touching.{covered_sprout}
 use Rattle.wjs_overlay.proofs.overlay.Overlay.sprout_counted.Goals as goal
 
 pub returns-clause-answers : goal.returns-clause-answers
@@ -17,4 +19,10 @@ invariant_of-self-2 g c =
     let place : c.len-place.result ≡ length c.args.self.now.layers.items = omega (arith, c.len-place.ensures, c.args.self.now.layers.ok) in
     let sum : c.in-Some.next ≡ c.count-serial.result + 1 = (let e = c.in-Some.ensures in omega (arith, e)) in
     let k = store_sprout c.args.self.now.layers.items c.sprout.new.layers.items c.args.self.now.places c.args.self.now.owners (c.args.self.now.kept c.if-self.false) c.spot-at.result c.spot-at.ensures.at id c.args.strict c.len-place.result next c.in_ok-sprout.ensures.after place in
-    record { kept = λ e. subst (λ m. IsStore c.sprout.new.layers.items m c.insert-2.new.self) (sym c.in_ok-insert.ensures.ok) (subst (IsStore c.sprout.new.layers.items (map.insert c.args.self.now.places id c.len-place.result)) (sym (c.in_ok-insert-2.ensures.ok ∙ ap (map.insert c.args.self.now.owners c.args.owner) sum)) k) }
+    record {
+      kept = λ e. subst (λ m. IsStore c.sprout.new.layers.items m c.insert-2.new.self) (sym c.in_ok-insert.ensures.ok) (subst (IsStore c.sprout.new.layers.items (map.insert c.args.self.now.places id c.len-place.result)) (sym (c.in_ok-insert-2.ensures.ok ∙ ap (map.insert c.args.self.now.owners c.args.owner) sum)) k);
+      covered = λ e. record {
+        rising = (c.args.self.now.covered c.if-self.false).rising;
+        touched = subst (Covered c.args.self.now.bounds.items) (sym c.in_ok-sprout.ensures.after.full) (covered_sprout c.args.self.now.bounds.items c.args.self.now.bounds.items (λ i n h. h) (full_of c.args.self.now.layers.items) c.spot-at.result.world c.spot-at.result.place c.spot-at.ensures.at c.args.owner c.args.strict (c.args.self.now.covered c.if-self.false).touched);
+      };
+    }

@@ -5,6 +5,18 @@ use Rattle.wjs_base.specs.Order.{name_cmp}
 use Rattle.wjs_slots.specs.Kept.{rows_of}
 use Rattle.wjs_slots.proofs.kept.Kept.get.Goals as goal
 
+pub returns-in-Zero : goal.returns-in-Zero
+returns-in-Zero g c = ap (λ k. find name_cmp c.args.name (rows_of k)) (sym c.in-Zero.is)
+
+pub returns-in-One : goal.returns-in-One
+returns-in-One g c = c.value_in.ensures ∙ ap (λ k. find name_cmp c.args.name (rows_of k)) (sym c.in-One.is)
+
+pub returns-in-Two : goal.returns-in-Two
+returns-in-Two g c = c.value_in_two.ensures ∙ ap (λ k. find name_cmp c.args.name (rows_of k)) (sym c.in-Two.is)
+
+pub returns-in-Three : goal.returns-in-Three
+returns-in-Three g c = c.value_in_three.ensures ∙ ap (λ k. find name_cmp c.args.name (rows_of k)) (sym c.in-Three.is)
+
 pub returns-in-Many : goal.returns-in-Many
 returns-in-Many g c =
     c.get-in-Many.ensures

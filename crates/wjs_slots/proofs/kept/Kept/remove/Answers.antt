@@ -1,19 +1,14 @@
-use Rattle.std.proofs.Common.{◌∙◌, is_some, ap, sym}
-use Rattle.std.specs.FinMap as map
-use Rattle.std.specs.FinMap.Entries.{find}
-use Rattle.wjs_base.specs.Order.{name_cmp, name_total, name_exact}
-use Rattle.wjs_slots.specs.Kept.{rows_of}
-use Rattle.wjs_slots.specs.Lists.{without}
-use Rattle.wjs_slots.proofs.Sorted.{entries_removed}
+use Rattle.std.proofs.Common.{◌∙◌, is_some, ap, sym, subst}
+use Rattle.wjs_base.specs.Order.{name_cmp}
+use Rattle.wjs_slots.specs.Lists.{IsInOrder, without}
+use Rattle.wjs_slots.proofs.Basics.{some_copied}
 use Rattle.wjs_slots.proofs.kept.Kept.remove.Goals as goal
 
-pub returns-in-Many-clause-removed : goal.returns-in-Many-clause-removed
-returns-in-Many-clause-removed g c =
-    entries_removed name_total name_exact c.deref_mut.result.now c.remove-in-Many.new.self c.args.name c.remove-in-Many.ensures.removed
-    ∙ ap (without name_cmp c.args.name) (ap map.entries c.deref_mut.ensures.value ∙ ap rows_of (sym c.in-Many.is))
+pub without-requires : goal.without-requires
+without-requires g c = subst (IsInOrder name_cmp) (sym c.in-Some.ensures.rows) c.requires
 
-pub returns-in-Many-clause-found : goal.returns-in-Many-clause-found
-returns-in-Many-clause-found g c =
-    c.remove-in-Many.ensures.found
-    ∙ ap is_some (map.get-entries c.deref_mut.result.now c.args.name)
-    ∙ ap (λ es. is_some (find name_cmp c.args.name es)) (ap map.entries c.deref_mut.ensures.value ∙ ap rows_of (sym c.in-Many.is))
+pub returns-in-Some-clause-removed : goal.returns-in-Some-clause-removed
+returns-in-Some-clause-removed g c = c.kept_of.ensures ∙ c.without.ensures ∙ ap (without name_cmp c.args.name) c.in-Some.ensures.rows
+
+pub returns-in-Some-clause-found : goal.returns-in-Some-clause-found
+returns-in-Some-clause-found g c = c.is_some-found.ensures ∙ some_copied c.get.result ∙ ap is_some c.get.ensures

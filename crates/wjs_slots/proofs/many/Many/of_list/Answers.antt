@@ -13,7 +13,7 @@ pub loop-place-preserved : goal.loop-place-preserved
 loop-place-preserved g c =
     let l : c.loop-place.place < length c.args.few.now = omega (arith, c.loop-place-test.true) in
     let row = c.index-few-place.result in
-    ap map.entries c.in_ok-set.ensures.ok
+    ap map.entries (c.in_ok-set.ensures.ok ∙ ap (λ k. map.insert c.loop-place.many k row.1) c.name.ensures)
     ∙ map.entries-insert name_total c.loop-place.many row.0 row.1
     ∙ ap (put name_cmp row.0 row.1) c.loop-place.invariant
     ∙ put_next name_total c.args.few.now c.loop-place.place row c.requires l c.index-few-place.is

@@ -1,22 +1,28 @@
-use Rattle.std.proofs.Common.{◌≡◌, ◌∙◌, Some, length, set, not, is_some, refl, ap, sym, arith}
+use Rattle.std.proofs.Common.{◌∙◌, length, is_some, ap, sym}
 use Rattle.std.specs.FinMap as map
-use Rattle.wjs_slots.specs.Dense.{index_in}
-use Rattle.wjs_slots.proofs.Dense.{all, get_held, place_changed, inserted}
+use Rattle.wjs_slots.specs.Dense.{index_in, IsBeside}
+use Rattle.wjs_slots.proofs.Dense.{placed, get_index, held_length, held_replaced}
 use Rattle.wjs_slots.proofs.many.Many.replace.Goals as goal
 
-pub returns-else-is_none-clause-found : goal.returns-else-is_none-clause-found
-returns-else-is_none-clause-found g c = λ _.
+pub replace-requires : goal.replace-requires
+replace-requires g c =
     let m = c.self.inside in
-    let n : c.len.result ≡ length m.dense.items = omega (arith, c.len.ensures, m.dense.ok.0) in
-    ap (λ x. is_some (map.get x c.args.name)) (sym c.self.view_is)
-    ∙ ap is_some (get_held m.dense.items m.rest.entries c.args.name c.in-Some.place c.index.result.now c.self.invariant (sym (c.in-Some.ensures ∙ ap (λ k. index_in k c.args.name) n)) ∙ sym c.index.ensures)
-    ∙ c.is_none.ensures
-    ∙ ap not c.if-is_none.false
+    (placed (length m.dense) c.args.name c.in-Some.place (sym (c.in-Some.ensures ∙ ap (λ k. index_in k c.args.name) c.len.ensures))).below
 
-pub returns-else-is_none-clause-replaced : goal.returns-else-is_none-clause-replaced
-returns-else-is_none-clause-replaced g c =
+pub invariant_of-self : goal.invariant_of-self
+invariant_of-self g c =
     let m = c.self.inside in
-    let n : c.len.result ≡ length m.dense.items = omega (arith, c.len.ensures, m.dense.ok.0) in
-    inserted (all m.dense.items m.rest.entries) _ c.args.name c.args.value
-    (place_changed m.dense.items (set m.dense.items c.in-Some.place (Some c.args.value)) m.rest.entries c.args.name c.in-Some.place (Some c.args.value) c.self.invariant (sym (c.in-Some.ensures ∙ ap (λ k. index_in k c.args.name) n)) (λ q. refl))
-    ∙ ap (λ x. map.insert x c.args.name c.args.value) c.self.view_is
+    rw (held_length m.dense c.replace.new.self c.in-Some.place c.args.value c.replace.result c.replace.ensures.replaced) c.self.invariant
+
+pub returns-in-Some-clause-found : goal.returns-in-Some-clause-found
+returns-in-Some-clause-found g c = λ t.
+    let m = c.self.inside in
+    ap (λ x. is_some (map.get x c.args.name)) (sym c.self.view_is)
+    ∙ ap is_some (get_index m.dense m.rest.entries c.args.name c.in-Some.place c.self.invariant (sym (c.in-Some.ensures ∙ ap (λ k. index_in k c.args.name) c.len.ensures)))
+    ∙ sym c.replace.ensures.found
+    ∙ t
+
+pub returns-in-Some-clause-replaced : goal.returns-in-Some-clause-replaced
+returns-in-Some-clause-replaced g c =
+    let m = c.self.inside in
+    rw (← c.self.view_is) (held_replaced m.dense c.replace.new.self m.rest.entries c.args.name c.in-Some.place c.args.value c.replace.result c.self.invariant (sym (c.in-Some.ensures ∙ ap (λ k. index_in k c.args.name) c.len.ensures)) c.replace.ensures.replaced)

@@ -1,0 +1,6 @@
+use Rattle.std.proofs.Common.{ap}
+use Rattle.wjs_arena.specs.Entries.{Entry}
+use Rattle.wjs_arena.proofs.packed.Packed.class.Goals as goal
+
+pub returns : goal.returns
+returns c = ap (λ (e : Entry). e.object.class) c.self.view_is

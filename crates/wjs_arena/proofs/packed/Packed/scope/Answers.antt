@@ -1,0 +1,6 @@
+use Rattle.std.proofs.Common.{ap, ◌∙◌}
+use Rattle.wjs_arena.specs.Entries.{Entry}
+use Rattle.wjs_arena.proofs.packed.Packed.scope.Goals as goal
+
+pub returns : goal.returns
+returns c = c.joined.ensures ∙ ap (λ (e : Entry). e.object.scope) c.self.view_is

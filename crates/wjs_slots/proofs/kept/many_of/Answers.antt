@@ -1,0 +1,7 @@
+use Rattle.std.proofs.Common.{◌∙◌, ap}
+use Rattle.std.specs.FinMap as map
+use Rattle.wjs_slots.proofs.kept.many_of.Goals as goal
+
+-- the box holds the rows
+pub returns-in-Ok : goal.returns-in-Ok
+returns-in-Ok g c = ap map.entries c.in-Ok.ensures.ok ∙ c.in_ok-many.ensures
