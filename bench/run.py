@@ -3,6 +3,7 @@
 It is run by hand, and is no part of the gate.
 
 usage: bench/run.py [--runs N] [--only NAME] [COMMAND..]      times
+       bench/run.py --peaks [--runs N] [--only NAME] [COMMAND..]     peaks of memory, and the bytes that one thing of a kind keeps
        bench/run.py --counts [--only NAME] [COMMAND..]        instructions a step, under valgrind
        bench/run.py --check [--only NAME] [COMMAND..]         whether steps, pieces of memory and instructions are those held
        bench/run.py --turns [--only NAME]                     whether turns and objects are those held; wants rt, and some minutes
@@ -218,13 +219,16 @@ def main(words):
             runs = int(words.pop(0))
         elif word == '--only':
             only = words.pop(0)
-        elif word in ('--counts', '--check', '--turns', '--steps', '--hold', '--hold-turns'):
+        elif word in ('--peaks', '--counts', '--check', '--turns', '--steps', '--hold', '--hold-turns'):
             does = word[2:].replace('-', '_')
         else:
             sys.exit(__doc__)
     program = words or [PROGRAM]
     if does is None:
         return time_all(runs, program, only)
+    if does == 'peaks':
+        import peaks
+        return peaks.peaks(program, only, runs)
     import counts
     return getattr(counts, does)(program, only)
 

@@ -1,7 +1,7 @@
 // kind: library array functions
-// sizes: 3 24
-// steps: 17795 415636
-var size = 24;
+// sizes: 3 43
+// steps: 17795 1059165
+var size = 43;
 // breadth first through a grid by a queue, brackets by a stack, and lines that are edited
 function distances(width, height) {
   var far = [], queue = [[0, 0]], ways = [[1, 0], [0, 1], [-1, 0], [0, -1]], at, i, x, y, most = 0;

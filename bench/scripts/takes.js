@@ -1,7 +1,7 @@
 // kind: calls
-// sizes: 4 10
-// steps: 92843 369238
-var size = 10;
+// sizes: 4 12
+// steps: 92843 1401687
+var size = 12;
 // calls within arguments, functions that call each other, and methods found two prototypes up
 function tak(x, y, z) {
   return y >= x ? z : tak(tak(x - 1, y, z), tak(y - 1, z, x), tak(z - 1, x, y));

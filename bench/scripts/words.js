@@ -1,7 +1,7 @@
 // kind: texts
-// sizes: 5 170
-// steps: 10339 320073
-var size = 170;
+// sizes: 5 600
+// steps: 10339 1124177
+var size = 600;
 // words counted, numbers spelled, and rows of fields put together and taken apart
 var text = "It is a far better thing that I do than I have ever done; it is a far far better rest";
 function count(text) {

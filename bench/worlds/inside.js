@@ -1,6 +1,6 @@
-// sizes: 30 1500
-// steps: 16903 845979
-var size = 1500;
+// sizes: 30 1800
+// steps: 16903 1015131
+var size = 1800;
 // plain work in a child of the first world, in a child of that, and in strict ones: loops, calls, objects, elements
 function Cell(v, next) { this.v = v; this.next = next; }
 function work(n) {

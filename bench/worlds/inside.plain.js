@@ -1,6 +1,6 @@
-// sizes: 30 1500
-// steps: 16876 845952
-var size = 1500;
+// sizes: 30 1800
+// steps: 16876 1015104
+var size = 1800;
 // the same in the first world
 function Cell(v, next) { this.v = v; this.next = next; }
 function work(n) {

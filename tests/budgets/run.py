@@ -3,7 +3,7 @@
 
 usage: tests/budgets/run.py [--gate] [--only ID] [-- COMMAND..]
 
-  --gate      a few of the scripts, and mode `tree` alone: some ten seconds
+  --gate      mode `tree` alone, which prints what `run` prints and then the marks; a run takes some 2 ms
   --only ID   the scripts whose id begins so
 Without a COMMAND the program is crates/worlds/out/worlds.
 
@@ -25,16 +25,14 @@ import concurrent.futures
 import json
 import os
 import select
+import signal
 import subprocess
 import sys
-import tempfile
 import time
 
 HERE = os.path.dirname(os.path.abspath(__file__))
 PROGRAM = os.path.join(os.path.dirname(os.path.dirname(HERE)), 'crates', 'worlds', 'out', 'worlds')
 WHERE = {'first': '', 'child': 'sprout', 'strict': 'sproutStrict'}
-IN_GATE = ('names-above', 'objects-as-operands', 'elements-updated', 'for-in-changed', 'finallys', 'constructors', 'commits-refused',
-           'search-in-worlds')
 SPENT = (b'step budget spent\n', 2)
 SECONDS, MOST_STEPS, PIECE = 60, 10**12, 4096
 # A text of 32 units and a line end each time: 125 of them are 4,125 bytes. Then it goes on and prints nothing.
@@ -67,30 +65,71 @@ def due_of_each(due):
             while marks and marks[0][0] <= budget:
                 _, world, *worlds[world] = marks.pop(0)
             tree = ''.join(lines_of(worlds)).encode()
-        ended = (due['err'].encode(), due['status']) if budget >= due['steps'] else SPENT
-        yield budget, out[:length], tree, ended
+        ending = (due['err'].encode(), due['status']) if budget >= due['steps'] else SPENT
+        yield budget, out[:length], tree, ending
 
 
-def got(command, path, mode, budget):
-    with open(path, 'rb') as script:
-        done = subprocess.run([*command, '--mode', mode, '--steps', str(budget)], stdin=script, capture_output=True, timeout=SECONDS)
-    return done.stdout, (done.stderr, done.returncode)
+def raise_overdue(*_):
+    raise TimeoutError(f'a run goes on after {SECONDS} seconds')
+
+
+def ended(process):
+    """The status with which a process ends; one that takes too long is ended, and the time-out raised."""
+    signal.alarm(SECONDS)
+    try:
+        return os.waitstatus_to_exitcode(os.waitpid(process, 0)[1])
+    except TimeoutError:
+        os.kill(process, signal.SIGKILL)
+        os.waitpid(process, 0)
+        raise
+    finally:
+        signal.alarm(0)
+
+
+class Runs:
+    """Runs of the program on one script; they write into files in memory, which takes less time than pipes."""
+
+    def __init__(self, command, text):
+        self.command = command
+        self.streams = [os.memfd_create(name) for name in ('script', 'out', 'err')]
+        os.write(self.streams[0], text.encode())
+        self.actions = [(os.POSIX_SPAWN_DUP2, stream, number) for number, stream in enumerate(self.streams)]
+
+    def given(self, mode, budget):
+        """The output, and the error with the status."""
+        for stream in self.streams:
+            os.lseek(stream, 0, os.SEEK_SET)
+        for stream in self.streams[1:]:
+            os.truncate(stream, 0)
+        words = [*self.command, '--mode', mode, '--steps', str(budget)]
+        status = ended(os.posix_spawnp(words[0], words, os.environ, file_actions=self.actions))
+        out, err = (os.pread(stream, os.fstat(stream).st_size, 0) for stream in self.streams[1:])
+        return out, (err, status)
+
+    def close(self):
+        for stream in self.streams:
+            os.close(stream)
+
+
+def first_difference(runs, due, modes):
+    """How many runs there were, and what the first that differs gave in place of what is due, None where all agree."""
+    made = 0
+    for budget, out, tree, ending in due_of_each(due):
+        for mode in modes:
+            wanted = (out + tree if mode == 'tree' else out), ending
+            made += 1
+            given = runs.given(mode, budget)
+            if given != wanted:
+                return made, f'--mode {mode} --steps {budget} wanted {wanted} got {given}'
+    return made, None
 
 
 def difference(command, row, where, modes):
-    """How many runs there were, and what the first that differs gave in place of what is due, None where all agree."""
-    made = 0
-    with tempfile.NamedTemporaryFile('w', encoding='utf-8', suffix='.js') as it:
-        it.write(text_of(row, where))
-        it.flush()
-        for budget, out, tree, ended in due_of_each(row[where]):
-            for mode in modes:
-                wanted = (out + tree if mode == 'tree' else out), ended
-                made += 1
-                given = got(command, it.name, mode, budget)
-                if given != wanted:
-                    return made, f'--mode {mode} --steps {budget} wanted {wanted} got {given}'
-    return made, None
+    runs = Runs(command, text_of(row, where))
+    try:
+        return first_difference(runs, row[where], modes)
+    finally:
+        runs.close()
 
 
 def piece_comes(command):
@@ -114,11 +153,12 @@ def main(words):
     if '--only' in words:
         only = words[words.index('--only') + 1]
     with open(os.path.join(HERE, 'scripts.jsonl'), encoding='utf-8') as table:
-        rows = [row for row in map(json.loads, table) if row['id'].startswith(only) and (not in_gate or row['id'] in IN_GATE)]
+        rows = [row for row in map(json.loads, table) if row['id'].startswith(only)]
     tries = [(row, where) for row in rows for where in WHERE if where in row]
     modes = ('tree',) if in_gate else ('run', 'tree')
     made = wrong = 0
-    with concurrent.futures.ProcessPoolExecutor(os.cpu_count()) as pool:
+    overdue = signal.SIGALRM, raise_overdue
+    with concurrent.futures.ProcessPoolExecutor(os.cpu_count(), initializer=signal.signal, initargs=overdue) as pool:
         waiting = [pool.submit(difference, command, row, where, modes) for row, where in tries]
         for (row, where), result in zip(tries, waiting):
             runs, differs = result.result()
