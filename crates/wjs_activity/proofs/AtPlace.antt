@@ -1,5 +1,6 @@
 -- A turn at a place, with the fourth try where it is due.
-use Rattle.std.proofs.Common.{◌≡◌, ℕ, ◌≤◌, ◌<◌, ◌==◌, ◌⊎◌, inl, inr, Bool, true, false, not, ◌&&◌, List, [], ◌++◌, length, Option, None, Some, refl, sym, ap, ◌∙◌, subst, arith, append_assoc, append-nil, length-set}
+use Rattle.std.proofs.Common.{◌≡◌, ℕ, ◌≤◌, ◌<◌, ◌==◌, ◌⊎◌, inl, inr, Bool, true, false, not, ◌&&◌, List, [], ◌++◌, length, Option, None, Some, refl, sym, ap}
+use Rattle.std.proofs.Common.{◌∙◌, subst, arith, append_assoc, append-nil, length-set}
 use Rattle.std.specs.Prelude.{slice_get}
 use Rattle.std.proofs.lemmas.Bool.{eqb-true, eq-eqb, false≢true}
 use Rattle.std.proofs.lemmas.Option.{same_Some}
@@ -21,7 +22,8 @@ use Rattle.wjs_activity.specs.declared.activities.Rules.{Rules}
 use Rattle.wjs_activity.specs.SoFar.{SoFar, IsPlay}
 use Rattle.wjs_activity.specs.Exactly.{IsExactly, TurnIs}
 use Rattle.wjs_activity.specs.Turning.{first_in}
-use Rattle.wjs_activity.specs.Rounds.{TurnsTo, HaltsIn, HaltsAt, OneTurn, LastTurn, LastHalts, LastIs, TurnMade, TurnAt, TurnPrints, Changes, Settled, Sooner, Becomes, Is, by_turn, at_place, last_is_due, After, MayTurn}
+use Rattle.wjs_activity.specs.Rounds.{TurnsTo, HaltsIn, HaltsAt, OneTurn, LastTurn, LastHalts, LastIs, TurnMade, TurnAt, TurnPrints, Changes, Settled, Sooner}
+use Rattle.wjs_activity.specs.Rounds.{Becomes, Is, by_turn, at_place, last_is_due, After, MayTurn}
 use Rattle.wjs_activity.proofs.Standing.{by_place}
 use Rattle.wjs_activity.proofs.Places.{set_other, set_there}
 use Rattle.wjs_activity.proofs.Founds.{stands_at}

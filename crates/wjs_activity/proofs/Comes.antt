@@ -1,5 +1,6 @@
 -- What one turn of the activity at a place makes of a play.
-use Rattle.std.proofs.Common.{◌≡◌, ℕ, zero, suc, ◌+◌, ◌*◌, ◌-◌, ◌≤◌, ◌<◌, ◌⊎◌, inl, inr, Bool, true, false, List, [], ◌∷◌, ◌++◌, length, set, Option, None, Some, refl, sym, ap, ◌∙◌, subst, arith, length-set, IsTrue}
+use Rattle.std.proofs.Common.{◌≡◌, ℕ, zero, suc, ◌+◌, ◌*◌, ◌-◌, ◌≤◌, ◌<◌, ◌⊎◌, inl, inr, Bool, true, false, List, [], ◌∷◌, ◌++◌, length, set, Option, None}
+use Rattle.std.proofs.Common.{Some, refl, sym, ap, ◌∙◌, subst, arith, length-set, IsTrue}
 use Rattle.std.proofs.lemmas.Bool.{false≢true}
 use Rattle.std.proofs.lemmas.List.{length-map}
 use Rattle.std.specs.Prelude.{IfSome, max, slice_get, map as each}
@@ -40,7 +41,8 @@ use Rattle.wjs_activity.specs.Exactly.{IsActivity, IsExactly, TurnIs}
 use Rattle.wjs_activity.specs.Resting.{IsResting}
 use Rattle.wjs_activity.specs.SoFar.{GoesOn, StandsBy, IsPlay, times_owned}
 use Rattle.wjs_activity.specs.Turning.{IsLive, IsTurned, HiddenIn, TurnsApart, IsRest, HasLess, Begun, GoesOnAs}
-use Rattle.wjs_activity.specs.Rounds.{first_number, steps_left, fuel_by, fuel_of, fuel, left_of, turns_left, Sooner, MadeExactly, After, MayTurn, IsGoing, TurnMade}
+use Rattle.wjs_activity.specs.Rounds.{first_number, steps_left, fuel_by, fuel_of, fuel, left_of, turns_left, Sooner, MadeExactly, After, MayTurn, IsGoing}
+use Rattle.wjs_activity.specs.Rounds.{TurnMade}
 use Rattle.wjs_activity.proofs.Apart.{Emptied, Ran, rests_at, sound_resumed, may_list, apart_after}
 use Rattle.wjs_activity.proofs.Hidings.{hidden_same}
 use Rattle.wjs_activity.proofs.Places.{set_other, set_there, set_twice}

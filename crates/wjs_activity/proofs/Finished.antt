@@ -1,18 +1,13 @@
 -- What the end of a try leaves.
-use Rattle.std.proofs.Common.{◌≡◌, ℕ, Bool, true, false, List, [], None, Some, Vec, Global, refl, sym, ap, ◌∙◌, subst}
+use Rattle.std.proofs.Common.{◌≡◌, ℕ, ◌≤◌, Bool, true, false, List, [], Vec, Global, refl, sym, ap, ◌∙◌, subst}
 use Rattle.std.specs.Prelude.{Result, Ok, Err, IfOk}
-use Rattle.std.specs.FinMap as map
-use Rattle.wjs_base.specs.declared.ids.ObjId.{ObjId}
 use Rattle.wjs_base.specs.declared.ids.OutOfMemory.{OutOfMemory}
 use Rattle.wjs_base.specs.declared.ids.WorldId.{WorldId}
 use Rattle.wjs_base.specs.declared.values.Value.{Value as Numbered}
 use Rattle.wjs_base.specs.Text.{Grows}
 use Rattle.wjs_base.proofs.TextLaws.{Grows-refl}
 use Rattle.wjs_store.specs.State.{same_world}
-use Rattle.wjs_store.specs.Shown.{first_of}
-use Rattle.wjs_store.specs.Reached.{IsReached}
 use Rattle.wjs_store.specs.declared.store.Verdict.{Verdict}
-use Rattle.wjs_arena.specs.Entries.{Objects, Entry, Keeps}
 use Rattle.wjs_meaning.specs.Trees.{Tree}
 use Rattle.wjs_model.specs.declared.config.Config.{Config}
 use Rattle.wjs_model.specs.declared.config.State.{State}
@@ -25,7 +20,6 @@ use Rattle.wjs_reports.specs.Thrown as thrown
 use Rattle.wjs_session.specs.declared.session.Session.{Session}
 use Rattle.wjs_session.specs.Session.{world_at, first_copy, passes}
 use Rattle.wjs_session.specs.Stores.{worlds_in}
-use Rattle.wjs_session.specs.Returns.{Returns}
 use Rattle.wjs_session.specs.Owned.{own_passes}
 use Rattle.wjs_session.specs.Settled.{Agrees, Settles}
 use Rattle.wjs_session.proofs.AnswerLaws.{overlay_reached}
@@ -38,81 +32,76 @@ use Rattle.wjs_activity.specs.Meant.{session_meaning}
 use Rattle.wjs_activity.specs.Views.{held_in}
 use Rattle.wjs_activity.specs.Common.{IsCommon}
 use Rattle.wjs_activity.specs.Passing.{Passes}
-use Rattle.wjs_activity.specs.Turning.{common_of, IsLive, IsOver, IsTurned, EndsAlone, CameTo, Shares, IsRest, IsEnd, IsAtEnd, AgreesNow}
+use Rattle.wjs_activity.specs.Turning.{common_of, IsLive, IsOver, IsTurned, EndsAlone, CameTo, Shares, GivesUp, IsRest, IsEnd, IsAtEnd, AgreesNow}
 use Rattle.wjs_activity.proofs.Hidings.{hidden_same, left_apart, committed_apart}
 use Rattle.wjs_activity.proofs.Overs.{over_walked, committed_alone, spent_alone, threw_alone}
-use Rattle.wjs_activity.proofs.Rests.{common_shared}
+use Rattle.wjs_activity.proofs.GivenUp.{not_both, first_given, texts_given, passes_given, common_given}
 use Rattle.wjs_activity.proofs.Turned.{live, kept_now, number_is, common_after, first_stays, common_turned, passes_turned, passes_then}
 
-pub not_both : (m : Objects) (o : ObjId) (e : Entry) (P : Type 0) → map.get m o ≡ None → map.get m o ≡ Some e → P
-not_both m o e P none at = let h : None ≡ Some e = sym none ∙ at in absurd (cc)
-
--- nothing was done but that a session gave back what it shares
-pub passes_left : (c : Config Session) (common : Common) → IsReached (worlds_in c.heap.store.shared) → Shares c common → Passes c.owner (common_of c) common
-passes_left c common reached s = record {
-  texts = subst (λ t. Grows c.heap.texts t) (sym s.texts) (Grows-refl c.heap.texts);
-  objects = subst (λ m. Keeps c.heap.arena m) (sym s.arena_is) (λ o e at. at);
-  made = λ o e none at. not_both c.heap.arena o e (o.owner ≡ c.owner) none (ap (λ (m : Objects). map.get m o) (sym s.arena_is) ∙ at);
-  units = s.units;
-  first = ap first_of s.worlds;
-  returns = λ i e child. subst (λ H. Returns (worlds_in c.heap.store.shared) H i) (sym s.worlds)
-      (record { reached = reached; child = child; marks = refl; holds = λ k t. refl });
-}
+-- what a configuration shares is shared as it is
+pub shares_itself : (c : Config Session) → Base session_meaning c → Shares c (common_of c)
+shares_itself c base = record { texts = refl; arena_is = refl; units = refl; worlds = refl; works = (c.heap.store.works (live c base)).0 }
 
 module _ (c : Config Session) (sound : Sound session_meaning c) where
   -- a dropped try
-  pub dropped : (common : Common) → Shares c common → (trees : List Tree) (tree budget drawn : ℕ)
+  pub dropped : (common : Common) → GivesUp c common → (trees : List Tree) (tree budget drawn : ℕ) → c.owner ≤ drawn
       → IsCommon c.heap.texts c.heap.arena c.units.items (worlds_in c.heap.store.shared) drawn
       → IsTurned session_meaning trees tree budget drawn c common came.Drops
-  dropped common s trees tree budget drawn h = record {
-    leaves = passes_left c common h.reached s;
+  dropped common s trees tree budget drawn within h = record {
+    leaves = passes_given c sound.base common s;
     works = s.works;
-    is_common = common_shared c common drawn s h;
-    came = ap (λ F. held_in common.texts (first_copy F)) s.worlds;
+    is_common = common_given c sound.base common s drawn within h;
+    came = ap (held_in common.texts) (first_given c sound.base common s);
   }
 
   -- one that has spent its budget
-  pub spent : (common : Common) (output : Vec ℕ Global) → Shares c common → common.apart ≡ c.apart → output.items ≡ [] → c.state ≡ states.StepsSpent
+  pub spent : (common : Common) (output : Vec ℕ Global) → GivesUp c common → common.apart ≡ c.apart → output.items ≡ [] → c.state ≡ states.StepsSpent
       → IsAtEnd session_meaning c common (came.Ends told.Spent output)
   spent common output s list none is = record {
     ends = tt;
-    texts = subst (λ t. Grows c.heap.texts t) (sym s.texts) (Grows-refl c.heap.texts);
+    texts = texts_given c sound.base common s;
     arena_is = s.arena_is;
-    apart = λ agrees. left_apart c common s list;
+    apart = λ agrees. left_apart c common sound.base s list;
     turned = λ trees tree budget drawn over agrees. record {
-      leaves = passes_left c common (over.common).reached s;
+      leaves = passes_given c sound.base common s;
       works = s.works;
-      is_common = common_shared c common drawn s over.common;
+      is_common = common_given c sound.base common s drawn over.owner over.common;
       came = subst (λ l. EndsAlone session_meaning trees tree budget drawn c.owner
           (held_in common.texts (first_copy (worlds_in c.heap.store.shared))) common told.Spent l) (sym none)
-          (spent_alone trees tree budget drawn c over agrees common (subst (λ t. Grows c.heap.texts t) (sym s.texts) (Grows-refl c.heap.texts)) s.arena_is
-          (ap first_copy s.worlds) is);
+          (spent_alone trees tree budget drawn c over agrees common (texts_given c sound.base common s) s.arena_is
+          (first_given c sound.base common s) is);
     };
   }
 
   -- one that threw, whose value's text was found
   pub threw : (value : Numbered) (bytes : List ℕ) (next : Config Session) (common : Common) (output : Vec ℕ Global) → c.state ≡ states.Threw value
-      → ShowsIn session_meaning c value bytes → thrown.Leaves session_meaning c next → Shares next common → common.apart ≡ next.apart → output.items ≡ []
+      → ShowsIn session_meaning c value bytes → thrown.Leaves session_meaning c next → GivesUp next common → common.apart ≡ next.apart → output.items ≡ []
       → IsAtEnd session_meaning c common (came.Ends (told.Threw bytes) output)
-  threw value bytes next common output is shows left s list none = record {
-    ends = tt;
-    texts = subst (λ t. Grows c.heap.texts t) (sym s.texts) left.stays.texts;
-    arena_is = s.arena_is ∙ left.objects;
-    apart = λ agrees. record {
-      list = list ∙ left.stays.apart;
-      hidden = λ u a h. hidden_same c.heap.arena common.arena (first_copy (worlds_in c.heap.store.shared)) (first_copy (worlds_in common.shared)) u
-          (s.arena_is ∙ left.objects) (ap first_copy s.worlds ∙ first_stays c next sound.base left.base left.stays) h;
-    };
-    turned = λ trees tree budget drawn over agrees. record {
-      leaves = passes_turned c next sound.base left.base left.stays common s;
-      works = s.works;
-      is_common = common_shared next common drawn s (common_turned c next sound.base left.base left.stays drawn over.owner over.common);
-      came = subst (λ l. EndsAlone session_meaning trees tree budget drawn c.owner (held_in common.texts (first_copy (worlds_in c.heap.store.shared))) common
-          (told.Threw bytes) l) (sym none)
-          (threw_alone trees tree budget drawn c over agrees common (subst (λ t. Grows c.heap.texts t) (sym s.texts) left.stays.texts)
-          (s.arena_is ∙ left.objects) (ap first_copy s.worlds ∙ first_stays c next sound.base left.base left.stays) value bytes is shows);
-    };
-  }
+  threw value bytes next common output is shows left s list none =
+      let first : first_copy (worlds_in common.shared) ≡ first_copy (worlds_in c.heap.store.shared) =
+      first_given next left.base common s ∙ first_stays c next sound.base left.base left.stays in
+      record {
+        ends = tt;
+        texts = subst (λ t. Grows c.heap.texts t) (sym s.texts) left.stays.texts;
+        arena_is = s.arena_is ∙ left.objects;
+        apart = λ agrees. record {
+          list = list ∙ left.stays.apart;
+          hidden = λ u a h. hidden_same c.heap.arena common.arena (first_copy (worlds_in c.heap.store.shared)) (first_copy (worlds_in common.shared)) u
+              (s.arena_is ∙ left.objects) first h;
+        };
+        turned = λ trees tree budget drawn over agrees. record {
+          leaves = passes_then c.owner (common_of c) (common_of next) common
+              (passes_turned c next sound.base left.base left.stays (common_of next) (shares_itself next left.base))
+              (subst (λ q. Passes q (common_of next) common) left.stays.owner (passes_given next left.base common s));
+          works = s.works;
+          is_common = common_given next left.base common s drawn (subst (λ k. k ≤ drawn) (sym left.stays.owner) over.owner)
+              (common_turned c next sound.base left.base left.stays drawn over.owner over.common);
+          came = subst (λ l. EndsAlone session_meaning trees tree budget drawn c.owner (held_in common.texts (first_copy (worlds_in c.heap.store.shared)))
+              common (told.Threw bytes) l) (sym none)
+              (threw_alone trees tree budget drawn c over agrees common (subst (λ t. Grows c.heap.texts t) (sym s.texts) left.stays.texts)
+              (s.arena_is ∙ left.objects) first value bytes is shows);
+        };
+      }
 
   -- one that was committed
   pub committed : (shared : Overlay) (verdict : Verdict) → Settles (worlds_in c.heap.store.shared) c.heap.store.world (worlds_in c.heap.store.inner)
@@ -163,10 +152,6 @@ walked_turned trees tree budget drawn old new common c between owner first h = r
   came = subst (λ q. CameTo session_meaning trees tree budget drawn q (held_in common.texts (first_copy (worlds_in old.heap.store.shared))) common c) owner
       (subst (λ m. CameTo session_meaning trees tree budget drawn new.owner (held_in common.texts m) common c) first h.came);
 }
-
--- what a configuration shares is shared as it is
-pub shares_itself : (c : Config Session) → Base session_meaning c → Shares c (common_of c)
-shares_itself c base = record { texts = refl; arena_is = refl; units = refl; worlds = refl; works = (c.heap.store.works (live c base)).0 }
 
 -- a turn at whose end the try goes on no more
 pub finished_turned : (trees : List Tree) (tree budget drawn steps took : ℕ) (old new : Config Session) (common : Common) (c : Came)

@@ -12,7 +12,7 @@ use Rattle.wjs_model.specs.declared.config.Config.{Config}
 use Rattle.wjs_model.specs.Apart.{is_apart}
 use Rattle.wjs_model.specs.Configurations.{Stays}
 use Rattle.wjs_model.specs.Others.{OtherFrame, KeptApart}
-use Rattle.wjs_model.specs.Soundness.{Sound}
+use Rattle.wjs_model.specs.Soundness.{Base, Sound}
 use Rattle.wjs_model.proofs.Others.{keeps_apart, stays_apart, sound_listed}
 use Rattle.wjs_overlay.specs.declared.overlay.Overlay.{Overlay}
 use Rattle.wjs_session.specs.declared.session.Session.{Session}
@@ -25,7 +25,8 @@ use Rattle.wjs_activity.specs.declared.turns.Came.TheVariants as came
 use Rattle.wjs_activity.specs.Hiding.{Hidden, IsHidden, Unaware}
 use Rattle.wjs_activity.specs.Meant.{itself, session_meaning, meant, Listed, resting}
 use Rattle.wjs_activity.specs.Trying.{IsTrying}
-use Rattle.wjs_activity.specs.Turning.{Shares, HiddenIn, EndsApart, ListsRest, TurnsApart, IsRest, IsAtEnd, AgreesNow}
+use Rattle.wjs_activity.specs.Turning.{Shares, GivesUp, HiddenIn, EndsApart, ListsRest, TurnsApart, IsRest, IsAtEnd, AgreesNow}
+use Rattle.wjs_activity.proofs.GivenUp.{first_given}
 use Rattle.wjs_activity.proofs.Turned.{first_stays}
 
 -- ---- lists
@@ -116,9 +117,13 @@ module _ (place : ℕ) (old new : Config Session) (sound : Sound session_meaning
 
 -- ---- an end
 
--- nothing was done but that a session gave back what it shares
-pub left_apart : (c : Config Session) (common : Common) → Shares c common → common.apart ≡ c.apart → EndsApart c common
-left_apart c common s list = record { list = list; hidden = λ u a h. hidden_shares c common s u h }
+-- nothing was done but that a try was given up
+pub left_apart : (c : Config Session) (common : Common) → Base session_meaning c → GivesUp c common → common.apart ≡ c.apart → EndsApart c common
+left_apart c common base s list = record {
+  list = list;
+  hidden = λ u a h. hidden_same c.heap.arena common.arena (first_copy (worlds_in c.heap.store.shared)) (first_copy (worlds_in common.shared)) u
+      s.arena_is (first_given c base common s) h;
+}
 
 -- what the world of a session held the first world holds now
 pub committed_apart : (c : Config Session) (shared : Overlay) → Sound session_meaning c

@@ -23,6 +23,7 @@ pub mod Kept
 pub mod Soundly
 pub mod Grown
 pub mod Turned
+pub mod GivenUp
 pub mod Rests
 pub mod Opens
 pub mod Overs

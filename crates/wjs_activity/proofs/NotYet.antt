@@ -22,12 +22,14 @@ use Rattle.wjs_model.specs.declared.frame.Completion.{Completion}
 use Rattle.wjs_model.specs.declared.frame.Completion.TheVariants as completions
 use Rattle.wjs_model.specs.declared.frame.Held.{Held}
 use Rattle.wjs_model.specs.declared.frame.Held.TheVariants as holds
+use Rattle.wjs_model.specs.declared.point.Start.{Start}
+use Rattle.wjs_model.specs.declared.point.Start.TheVariants as starts
 use Rattle.wjs_model.specs.declared.frame.Phase.{Phase}
 use Rattle.wjs_model.specs.declared.frame.Phase.TheVariants as phases
 use Rattle.wjs_model.specs.declared.operand.Operand.{Operand}
 use Rattle.wjs_model.specs.declared.operand.Operand.TheVariants as operands
-use Rattle.wjs_model.specs.Soundness.{HasObject, HasValue, HasReference, HasCompletion, HasItem, HasItems, HasOperand, HasPhase, IsThere, Sound}
-use Rattle.wjs_model.specs.Others.{Other, OtherIf, OtherValue, OtherReference, OtherCompletion, OtherItem, OtherItems, OtherOperand, OtherPhase, OtherFrame}
+use Rattle.wjs_model.specs.Soundness.{HasObject, HasValue, HasReference, HasCompletion, HasItem, HasItems, HasOperand, HasStart, HasPhase, IsStacked, Sound}
+use Rattle.wjs_model.specs.Others.{Other, OtherIf, OtherValue, OtherReference, OtherCompletion, OtherItem, OtherItems, OtherOperand, OtherStart, OtherPhase, OtherFrame}
 use Rattle.wjs_session.specs.Session.{first_copy}
 use Rattle.wjs_session.specs.Stores.{worlds_in}
 use Rattle.wjs_activity.specs.declared.common.Common.{Common}
@@ -65,8 +67,6 @@ module _ {S : Type 0} (c : Config S) (u : ℕ) (other : (o : ObjId) → HasObjec
   item_yet (holds.Value v) h = value_yet v h
   item_yet (holds.Reference r) h = reference_yet r h
   item_yet (holds.Callee f this) h = (value_yet f h.0, value_yet this h.1)
-  item_yet holds.ByNew h = tt
-  item_yet holds.Begun h = tt
   item_yet (holds.Elements o count) h = other o h
   item_yet (holds.Earlier e) h = completion_yet e h
   item_yet (holds.Visit s) h = other s.object h.0
@@ -80,20 +80,23 @@ module _ {S : Type 0} (c : Config S) (u : ℕ) (other : (o : ObjId) → HasObjec
   operand_yet (operands.Name place id) h = tt
   operand_yet (operands.Target place id) h = tt
 
-  phase_yet : (p : Phase) → HasPhase c p → OtherPhase u p
-  phase_yet (phases.Given e) h = completion_yet e h
-  phase_yet (phases.Entering o) h = operand_yet o h
-  phase_yet phases.Due h = tt
-  phase_yet phases.Ready h = tt
-  phase_yet phases.Waiting h = tt
+  start_yet : (s : Start) → HasStart c s → OtherStart u s
+  start_yet (starts.Body f) h = other f h
+  start_yet s h = tt
 
-  frame_yet : (meaning : S → Meaning) (f : Frame) → IsThere meaning c f → OtherFrame u f
+  phase_yet : (f : Frame) (p : Phase) → HasPhase c f p → OtherPhase u p
+  phase_yet f (phases.Due start) h = start_yet start h
+  phase_yet f (phases.Ready start) h = start_yet start h
+  phase_yet f (phases.Waiting point) h = tt
+  phase_yet f (phases.Given point e) h = completion_yet e h.1
+  phase_yet f (phases.Entering point o) h = operand_yet o h.1
+
+  frame_yet : (meaning : S → Meaning) (f : Frame) → IsStacked meaning c f → OtherFrame u f
   frame_yet meaning f h = record {
-    scope = other f.scope h.scope;
-    this = value_yet f.this h.this;
-    held = items_yet f.held h.held;
-    phase =
-        phase_yet f.phase h.phase;
+    scope = other f.scope h.there.scope;
+    this = value_yet f.this h.there.this;
+    held = items_yet f.held h.there.held;
+    phase = phase_yet f f.phase h.phase;
   }
 
 -- ---- what is shared
@@ -151,6 +154,6 @@ module _ (common : Common) (rest : Rested) (drawn u : ℕ) (known : IsCommon com
           not_of common.texts common.arena common.units.items (worlds_in common.shared) drawn u known later s.object (h.0).object,
           value_of common.texts common.arena common.units.items (worlds_in common.shared) drawn u known later v h.1,
         );
-    frames = All-weaker (IsThere itself c) (OtherFrame u) (frame_yet c u
+    frames = All-weaker (IsStacked itself c) (OtherFrame u) (frame_yet c u
         (λ o h. not_of common.texts common.arena common.units.items (worlds_in common.shared) drawn u known later o h.0) itself) rest.frames sound.base.frames;
   }

@@ -1,5 +1,6 @@
 -- A try that begins.
-use Rattle.std.proofs.Common.{◌≡◌, ℕ, ◌<◌, ◌≤◌, Bool, true, false, not, cond, List, [], ◌∷◌, Option, None, Some, is_some, refl, sym, ap, ◌∙◌, subst, arith, IsTrue}
+use Rattle.std.proofs.Common.{◌≡◌, ℕ, ◌<◌, ◌≤◌, Bool, true, false, not, cond, List, [], ◌∷◌, Option, None, Some, is_some, refl, sym, ap, ◌∙◌, subst, arith}
+use Rattle.std.proofs.Common.{IsTrue}
 use Rattle.std.specs.Prelude.{All}
 use Rattle.std.specs.Option.{option_and_then}
 use Rattle.std.specs.FinMap as map
@@ -27,7 +28,7 @@ use Rattle.wjs_model.specs.declared.unit.Unit.{Unit as Program}
 use Rattle.wjs_model.specs.declared.config.State.TheVariants as states
 use Rattle.wjs_model.specs.Apart.{is_apart}
 use Rattle.wjs_model.specs.Others.{OtherFrame, OtherState, KeptApart}
-use Rattle.wjs_model.specs.Soundness.{HasObject, HasWorld, HasThrown, IsThere, Base, Sound}
+use Rattle.wjs_model.specs.Soundness.{HasObject, HasWorld, HasThrown, IsStacked, Base, Sound}
 use Rattle.wjs_model.proofs.Others.{keeps_apart, stays_apart, sound_listed}
 use Rattle.wjs_parts.specs.Entering.{Enters}
 use Rattle.wjs_session.specs.declared.session.Session.{Session}
@@ -153,7 +154,7 @@ module _ {S : Type 0} (meaning : S → Meaning) (t : Table) (arena : Objects) (u
     own = all_near c.pending.items opens.pending (record { owner = c.owner; serial = 0 });
     near_objects = λ o e at n. objects_near c.pending.items opens.pending e.object;
     near_slots = slots_near c.pending.items opens.pending (worlds (meaning c.heap.store));
-    frames = subst (All (IsThere meaning bare)) (sym opens.frames) (All-nil (IsThere meaning bare));
+    frames = subst (All (IsStacked meaning bare)) (sym opens.frames) (All-nil (IsStacked meaning bare));
     marks = subst (KnowsWorlds c.heap.texts) (sym worlds_are)
         (one_known c.heap.texts (world_of q) (first_copy F) (view_known c.heap.texts c.heap.arena (first_copy F) common.table common.slots));
     told = subst (λ (m : Meaning). KnowsTold c.heap.texts m.told) (sym opens.store) tt;

@@ -18,11 +18,15 @@ use Rattle.wjs_model.specs.declared.frame.Completion.{Completion}
 use Rattle.wjs_model.specs.declared.frame.Completion.TheVariants as completions
 use Rattle.wjs_model.specs.declared.frame.Held.{Held}
 use Rattle.wjs_model.specs.declared.frame.Held.TheVariants as holds
+use Rattle.wjs_model.specs.declared.point.Point.{Point}
+use Rattle.wjs_model.specs.declared.point.Start.{Start}
+use Rattle.wjs_model.specs.declared.point.Start.TheVariants as starts
 use Rattle.wjs_model.specs.declared.frame.Phase.{Phase}
 use Rattle.wjs_model.specs.declared.frame.Phase.TheVariants as phases
 use Rattle.wjs_model.specs.declared.operand.Operand.{Operand}
 use Rattle.wjs_model.specs.declared.operand.Operand.TheVariants as operands
-use Rattle.wjs_model.specs.Soundness.{HasObject, HasName, HasValue, HasLabel, HasReference, HasCompletion, HasItem, HasItems, HasOperand, HasPhase, HasThrown, IsThere, Base, Sound}
+use Rattle.wjs_model.specs.Soundness.{HasObject, HasName, HasValue, HasLabel, HasReference, HasCompletion, HasItem, HasItems, HasOperand, HasStart}
+use Rattle.wjs_model.specs.Soundness.{HasPoint, HasPhase, HasThrown, IsStacked, Base, Sound}
 use Rattle.wjs_activity.specs.Meant.{itself, meant}
 
 -- ---- what is there in one is there in the other, where texts and objects are
@@ -59,8 +63,6 @@ module _ {S T : Type 0} (c : Config S) (d : Config T) (texts : (id : TextId) →
   item_across (holds.Value v) h = value_across v h
   item_across (holds.Reference r) h = reference_across r h
   item_across (holds.Callee f this) h = (value_across f h.0, value_across this h.1)
-  item_across holds.ByNew h = tt
-  item_across holds.Begun h = tt
   item_across (holds.Elements o count) h = objects o h
   item_across (holds.Earlier e) h = completion_across e h
   item_across (holds.Visit s) h = (objects s.object h.0, names s.name h.1)
@@ -74,12 +76,17 @@ module _ {S T : Type 0} (c : Config S) (d : Config T) (texts : (id : TextId) →
   operand_across (operands.Name place id) h = texts id h
   operand_across (operands.Target place id) h = texts id h
 
-  phase_across : (p : Phase) → HasPhase c p → HasPhase d p
-  phase_across (phases.Given e) h = completion_across e h
-  phase_across (phases.Entering o) h = operand_across o h
-  phase_across phases.Due h = tt
-  phase_across phases.Ready h = tt
-  phase_across phases.Waiting h = tt
+  start_across : (s : Start) → HasStart c s → HasStart d s
+  start_across (starts.Body f) h = objects f h
+  start_across s h = tt
+
+  -- where what a point names is there, too
+  phase_across : (f : Frame) → ((point : Point) → HasPoint c f point → HasPoint d f point) → (p : Phase) → HasPhase c f p → HasPhase d f p
+  phase_across f points (phases.Due start) h = start_across start h
+  phase_across f points (phases.Ready start) h = start_across start h
+  phase_across f points (phases.Waiting point) h = points point h
+  phase_across f points (phases.Given point e) h = (points point h.0, completion_across e h.1)
+  phase_across f points (phases.Entering point o) h = (points point h.0, operand_across o h.1)
 
   thrown_across : (s : State) → HasThrown c s → HasThrown d s
   thrown_across (states.Threw v) h = value_across v h
@@ -88,24 +95,28 @@ module _ {S T : Type 0} (c : Config S) (d : Config T) (texts : (id : TextId) →
   thrown_across states.StepsSpent h = tt
 
 module _ {S : Type 0} (meaning : S → Meaning) (c : Config S) where
-  there_to : (f : Frame) → IsThere meaning c f → IsThere itself (meant meaning c) f
+  there_to : (f : Frame) → IsStacked meaning c f → IsStacked itself (meant meaning c) f
   there_to f h = let d = meant meaning c in record {
-    scope = h.scope;
-    this = value_across c d (λ id k. k) (λ n k. k) (λ o k. k) f.this h.this;
-    world = h.world;
-    held = items_across c d (λ id k. k) (λ n k. k) (λ o k. k) f.held h.held;
-    phase = phase_across c d (λ id k. k) (λ n k. k) (λ o k. k) f.phase h.phase;
-    stands = h.stands;
+    there = record {
+      scope = h.there.scope;
+      this = value_across c d (λ id k. k) (λ n k. k) (λ o k. k) f.this h.there.this;
+      world = h.there.world;
+      held = items_across c d (λ id k. k) (λ n k. k) (λ o k. k) f.held h.there.held;
+      stands = h.there.stands;
+    };
+    phase = phase_across c d (λ id k. k) (λ n k. k) (λ o k. k) f (λ point k. k) f.phase h.phase;
   }
 
-  there_from : (f : Frame) → IsThere itself (meant meaning c) f → IsThere meaning c f
+  there_from : (f : Frame) → IsStacked itself (meant meaning c) f → IsStacked meaning c f
   there_from f h = let d = meant meaning c in record {
-    scope = h.scope;
-    this = value_across d c (λ id k. k) (λ n k. k) (λ o k. k) f.this h.this;
-    world = h.world;
-    held = items_across d c (λ id k. k) (λ n k. k) (λ o k. k) f.held h.held;
-    phase = phase_across d c (λ id k. k) (λ n k. k) (λ o k. k) f.phase h.phase;
-    stands = h.stands;
+    there = record {
+      scope = h.there.scope;
+      this = value_across d c (λ id k. k) (λ n k. k) (λ o k. k) f.this h.there.this;
+      world = h.there.world;
+      held = items_across d c (λ id k. k) (λ n k. k) (λ o k. k) f.held h.there.held;
+      stands = h.there.stands;
+    };
+    phase = phase_across d c (λ id k. k) (λ n k. k) (λ o k. k) f (λ point k. k) f.phase h.phase;
   }
 
   base_to : Base meaning c → Base itself (meant meaning c)
@@ -124,7 +135,7 @@ module _ {S : Type 0} (meaning : S → Meaning) (c : Config S) where
     own = b.own;
     near_objects = b.near_objects;
     near_slots = b.near_slots;
-    frames = All-weaker (IsThere meaning c) (IsThere itself (meant meaning c)) there_to c.frames b.frames;
+    frames = All-weaker (IsStacked meaning c) (IsStacked itself (meant meaning c)) there_to c.frames b.frames;
     marks = b.marks;
     told = b.told;
   }
@@ -145,7 +156,7 @@ module _ {S : Type 0} (meaning : S → Meaning) (c : Config S) where
     own = b.own;
     near_objects = b.near_objects;
     near_slots = b.near_slots;
-    frames = All-weaker (IsThere itself (meant meaning c)) (IsThere meaning c) there_from c.frames b.frames;
+    frames = All-weaker (IsStacked itself (meant meaning c)) (IsStacked meaning c) there_from c.frames b.frames;
     marks = b.marks;
     told = b.told;
   }

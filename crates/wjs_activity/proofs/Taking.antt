@@ -34,7 +34,7 @@ use Rattle.wjs_activity.specs.Resting.{IsResting}
 use Rattle.wjs_activity.specs.Trying.{IsTrying}
 use Rattle.wjs_activity.specs.SoFar.{times_owned, IsPlay}
 use Rattle.wjs_activity.specs.Turning.{common_of, IsLive, IsTurned, CameTo, Begun, GoesOnAs, first_in}
-use Rattle.wjs_activity.proofs.Finished.{not_both}
+use Rattle.wjs_activity.proofs.GivenUp.{not_both}
 use Rattle.wjs_activity.proofs.Hidings.{trying_with}
 use Rattle.wjs_activity.proofs.Overs.{held_grows}
 use Rattle.wjs_activity.proofs.Playing.{trees_pass}

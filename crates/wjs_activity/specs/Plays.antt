@@ -50,7 +50,7 @@ module _ (library : Option Tree) (parts : List Tree) (budget : ℕ) (schedule : 
     pub holds : held_in heap.texts (first_copy (worlds_in heap.store)) ≡ played.copy
     pub objects : arena_in heap.texts heap.arena ≡ played.objects
     pub serial : Serial library parts budget played.ends
-    -- as each of them began the first world named none of its objects
+    -- just before the end of each the first world named none of its objects
     pub named : NamesNone library parts budget (first_held library parts budget) (runs_of played.ends)
     pub prints : due library parts budget played.ends ≡ bytes_of library parts budget played
     pub leaves : copy_by library parts budget (first_held library parts budget) (runs_of played.ends) ≡ played.copy

@@ -1,5 +1,6 @@
 -- What turns of a play leave, and what is written for them.
-use Rattle.std.specs.Prelude.{◌≡◌, ℕ, ◌+◌, ◌*◌, ◌-◌, ◌<◌, ◌≤◌, ◌⊎◌, Bool, true, false, not, ◌&&◌, ◌==◌, List, [], ◌++◌, length, set, fold, map as each, Option, None, Some, slice_get}
+use Rattle.std.specs.Prelude.{◌≡◌, ℕ, ◌+◌, ◌*◌, ◌-◌, ◌<◌, ◌≤◌, ◌⊎◌, Bool, true, false, not, ◌&&◌, ◌==◌, List, [], ◌++◌, length, set, fold, map as each, Option}
+use Rattle.std.specs.Prelude.{None, Some, slice_get}
 use Rattle.std.specs.List.{sum}
 use Rattle.wjs_io.specs.Streams.{Stream, Got, GotPrefix, Stops}
 use Rattle.wjs_content.specs.Objects.{Arena}

@@ -1,5 +1,6 @@
 -- A play between turns: the ends so far stand in serial order, and each activity that has not ended rests, or will begin anew.
-use Rattle.std.specs.Prelude.{◌≡◌, ℕ, ◌+◌, ◌≤◌, ◌==◌, Bool, true, false, List, [], ◌∷◌, length, map as each, count_by, All, Option, None, Some, IfSome, slice_get}
+use Rattle.std.specs.Prelude.{◌≡◌, ℕ, ◌+◌, ◌≤◌, ◌==◌, Bool, true, false, List, [], ◌∷◌, length, map as each, count_by, All, Option, None, Some, IfSome}
+use Rattle.std.specs.Prelude.{slice_get}
 use Rattle.wjs_content.specs.Objects.{Arena}
 use Rattle.wjs_content.specs.Tables.{arena_in}
 use Rattle.wjs_meaning.specs.Trees.{Tree}

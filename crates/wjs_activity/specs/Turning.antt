@@ -13,6 +13,7 @@ use Rattle.wjs_model.specs.Soundness.{Sound}
 use Rattle.wjs_model.specs.Outside.{Outside, Admits, beside}
 use Rattle.wjs_model.specs.Configurations.{state_in}
 use Rattle.wjs_model.specs.Units.{unit_in}
+use Rattle.wjs_overlay.specs.Reset.{after_reset}
 use Rattle.wjs_session.specs.declared.session.Session.{Session}
 use Rattle.wjs_session.specs.Stores.{worlds_in}
 use Rattle.wjs_session.specs.Session.{world_at, first_copy, passes}
@@ -103,6 +104,14 @@ pub record Shares (c : Config Session) (common : Common) : Type 0 where
   pub arena_is : common.arena ≡ c.heap.arena
   pub units : common.units ≡ c.units
   pub worlds : worlds_in common.shared ≡ worlds_in c.heap.store.shared
+  pub works : common.shared.spent ≡ false
+
+-- nothing of its try is left but the texts and objects that it made: its world was given up
+pub record GivesUp (c : Config Session) (common : Common) : Type 0 where
+  pub texts : common.texts ≡ c.heap.texts
+  pub arena_is : common.arena ≡ c.heap.arena
+  pub units : common.units ≡ c.units
+  pub worlds : worlds_in common.shared ≡ after_reset (worlds_in c.heap.store.shared) c.heap.store.world
   pub works : common.shared.spent ≡ false
 
 -- ---- who names whom

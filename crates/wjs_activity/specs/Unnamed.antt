@@ -24,7 +24,8 @@ module _ (owner : ℕ) (objects : Arena) where
   abbrev pub NamesOthers : Copy → Type 0
   NamesOthers copy = (s : Slot) (v : Value) → map.get copy s ≡ Some v → IsOthers s.object × OthersValue v
 
--- by the library's tree, the parts' and the budget of each: what the first world holds before each run names no object of its owner, and each that it names is among the run's objects
+-- by the library's tree, the parts' and the budget of each: what the first world holds before each run names no object of its owner,
+-- and each that it names is among the run's objects
 module _ (library : Option Tree) (parts : List Tree) (budget : ℕ) where
   abbrev pub NamesNone : Copy → List Run → Type 0
   NamesNone copy [] = Unit {0}

@@ -1,4 +1,4 @@
-//! A try becomes a configuration for its turn, and rests behind it.
+//! A try becomes a configuration for its turn, and rests behind it or is given up.
 ghost use Rattle.std.specs.Prelude.{◌≡◌, ◌<◌, false, length, set, IfOk};
 ghost use Rattle.wjs_store.specs.State.{has_world};
 ghost use Rattle.wjs_meaning.specs.Builtins.{global_object};
@@ -7,7 +7,7 @@ ghost use Rattle.wjs_session.specs.Resumed.{Rests};
 ghost use Rattle.wjs_alone.specs.Alone.{world_of};
 ghost use Rattle.wjs_activity.specs.Hiding.{no_owner};
 ghost use Rattle.wjs_activity.specs.Meant.{meant, Listed, resting, Opens};
-ghost use Rattle.wjs_activity.specs.Turning.{Shares};
+ghost use Rattle.wjs_activity.specs.Turning.{Shares, GivesUp};
 
 use crate::common::{Common, Rested};
 use crate::keeping::{NO_OWNER, set_apart};
@@ -162,12 +162,34 @@ fn pause(config: Config<Session>) -> (Common, Rested)
     )
 }
 
-/// What is shared, of a try of which nothing else is kept.
+/// What is shared, of a try of which nothing is kept but the texts and objects that it made.
 pub fn left_behind(config: Config<Session>) -> Common
     requires { config.heap.store.spent ≡ false }
-    ensures shares { Shares config result }
+    ensures gives_up { GivesUp config result }
     ensures apart { result.apart ≡ config.apart }
 {
-    let (common, _rest) = pause(config);
-    common
+    let Config {
+        heap: Heap {
+            texts,
+            arena,
+            store,
+        },
+        units,
+        frames: _,
+        global: _,
+        world: _,
+        owner: _,
+        apart,
+        pending: _,
+        left: _,
+        state: _,
+    } = config;
+    let shared = store.abandon();
+    Common {
+        texts,
+        arena,
+        units,
+        shared,
+        apart,
+    }
 }

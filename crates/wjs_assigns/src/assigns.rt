@@ -1,24 +1,24 @@
 //! Assignments (ECMA-262, 3rd edition, section 11.13).
-ghost use Rattle.std.specs.Prelude.{◌≡◌, None, Some};
+ghost use Rattle.std.specs.Prelude.{Some};
 ghost use Rattle.wjs_tree.specs.Operators.{compound};
 ghost use Rattle.wjs_content.specs.Tables.{value_in};
 ghost use Rattle.wjs_meaning.specs.Deeds.{Eval, AtTarget, AtExpr, then_value, then_reference};
 ghost use Rattle.wjs_meaning.specs.Expressions as line;
 ghost use Rattle.wjs_model.specs.Contents.{reference_in, value_held, reference_held};
-ghost use Rattle.wjs_model.specs.Soundness.{HasValue, HasReference};
-ghost use Rattle.wjs_moves.specs.Handling.{Runs, IsExpr, GoesOn};
+ghost use Rattle.wjs_model.specs.Soundness.{HasValue, HasReference, StandsHere};
+ghost use Rattle.wjs_moves.specs.Handling.{Runs, IsAt, GoesOn};
 
 use wjs_base::{OutOfMemory, Value};
 use wjs_deeds::value_of;
 use wjs_lines::{held_reference, held_value, store_and_give};
-use wjs_model::{Completion, Config, Form, Frame, Held, Reference};
+use wjs_model::{Completion, Config, ExprPoint, Frame, Held, Point, Reference, Start};
 use wjs_moves::{Part, enter, finish, hold, nest};
 use wjs_operators::quick;
 use wjs_store::WorldStore;
 use wjs_tree::{AssignOperator, BinaryOperator, Node, NodeId};
 
 /// The target is entered.
-pub(crate) fn assign_start<S: WorldStore>(
+pub fn assign_start<S: WorldStore>(
     config: &mut Config<S>,
     frame: Frame,
     target: NodeId,
@@ -26,52 +26,31 @@ pub(crate) fn assign_start<S: WorldStore>(
     right: NodeId,
 ) -> Result<(), OutOfMemory>
     requires runs { Runs S.meaning config.old frame }
-    requires node { IsExpr S.meaning config.old frame (Node.Assign target sign right) }
+    requires node { IsAt S.meaning config.old frame (Node.Assign target sign right) }
     ensures { GoesOn S.meaning frame config.old config.new result (λ t env.
         Eval (AtTarget target.0) env (then_reference (line.assign_reference (compound sign) right.0 env))) }
 {
-    enter(config, frame, 1, Part::Target(target))
+    let point = Point::Expr(ExprPoint::AssignTarget(sign, right));
+    enter(config, frame, point, Part::Target(target))
 }
 
 /// After the target: `=` enters the right side, an operator with `=` first takes the target's value.
 #[inline(always)]
-pub(crate) fn assign_reference<S: WorldStore>(
+pub fn assign_reference<S: WorldStore>(
     config: &mut Config<S>,
     frame: Frame,
-    target: NodeId,
     sign: AssignOperator,
     right: NodeId,
     reference: Reference,
 ) -> Result<(), OutOfMemory>
     requires runs { Runs S.meaning config.old frame }
-    requires node { IsExpr S.meaning config.old frame (Node.Assign target sign right) }
+    requires right { StandsHere config.old frame right }
     requires reference { HasReference config.old reference }
     ensures { GoesOn S.meaning frame config.old config.new result (λ t env. line.assign_reference (compound sign) right.0 env (reference_in t reference)) }
 {
-    match operator_of(sign) {
-        None => assign_plain(config, frame, target, sign, right, reference),
-        Some(operator) => assign_compound(config, frame, target, sign, right, reference, operator),
-    }
-}
-
-/// The operator that an assignment applies.
-#[inline(always)]
-pub(crate) fn operator_of(sign: AssignOperator) -> Option<BinaryOperator>
-    ensures { result ≡ compound sign }
-{
-    match sign {
-        AssignOperator::Plain => None,
-        AssignOperator::Multiply => Some(BinaryOperator::Multiply),
-        AssignOperator::Divide => Some(BinaryOperator::Divide),
-        AssignOperator::Remainder => Some(BinaryOperator::Remainder),
-        AssignOperator::Add => Some(BinaryOperator::Add),
-        AssignOperator::Subtract => Some(BinaryOperator::Subtract),
-        AssignOperator::ShiftLeft => Some(BinaryOperator::ShiftLeft),
-        AssignOperator::ShiftRight => Some(BinaryOperator::ShiftRight),
-        AssignOperator::ShiftRightUnsigned => Some(BinaryOperator::ShiftRightUnsigned),
-        AssignOperator::BitAnd => Some(BinaryOperator::BitAnd),
-        AssignOperator::BitXor => Some(BinaryOperator::BitXor),
-        AssignOperator::BitOr => Some(BinaryOperator::BitOr),
+    match sign.compound() {
+        None => assign_plain(config, frame, right, reference),
+        Some(operator) => assign_compound(config, frame, operator, right, reference),
     }
 }
 
@@ -80,20 +59,19 @@ pub(crate) fn operator_of(sign: AssignOperator) -> Option<BinaryOperator>
 fn assign_plain<S: WorldStore>(
     config: &mut Config<S>,
     frame: Frame,
-    target: NodeId,
-    sign: AssignOperator,
     right: NodeId,
     reference: Reference,
 ) -> Result<(), OutOfMemory>
     requires runs { Runs S.meaning config.old frame }
-    requires node { IsExpr S.meaning config.old frame (Node.Assign target sign right) }
+    requires right { StandsHere config.old frame right }
     requires reference { HasReference config.old reference }
     ensures { GoesOn S.meaning frame config.old config.new result (λ t env.
         Eval (AtExpr right.0) env (then_value (line.assign_value (reference_in t reference) env))) }
 {
     let mut frame = frame;
     hold(&mut frame, Held::Reference(reference))?;
-    enter(config, frame, 2, Part::Expr(right))
+    let point = Point::Expr(ExprPoint::AssignValue);
+    enter(config, frame, point, Part::Expr(right))
 }
 
 /// An operator with `=`: the target's value comes first.
@@ -101,21 +79,18 @@ fn assign_plain<S: WorldStore>(
 fn assign_compound<S: WorldStore>(
     config: &mut Config<S>,
     frame: Frame,
-    target: NodeId,
-    sign: AssignOperator,
+    operator: BinaryOperator,
     right: NodeId,
     reference: Reference,
-    operator: BinaryOperator,
 ) -> Result<(), OutOfMemory>
     requires runs { Runs S.meaning config.old frame }
-    requires node { IsExpr S.meaning config.old frame (Node.Assign target sign right) }
-    requires operator { compound sign ≡ Some operator }
+    requires right { StandsHere config.old frame right }
     requires reference { HasReference config.old reference }
     ensures { GoesOn S.meaning frame config.old config.new result (λ t env. line.assign_reference (Some operator) right.0 env (reference_in t reference)) }
 {
     let answer = value_of(config, &frame, reference)?;
     match answer {
-        Ok(old) => compound_old(config, frame, target, sign, right, reference, operator, old),
+        Ok(old) => compound_old(config, frame, operator, right, reference, old),
         Err(error) => finish(config, frame, Completion::Throws(error)),
     }
 }
@@ -125,31 +100,28 @@ fn assign_compound<S: WorldStore>(
 fn compound_old<S: WorldStore>(
     config: &mut Config<S>,
     frame: Frame,
-    target: NodeId,
-    sign: AssignOperator,
+    operator: BinaryOperator,
     right: NodeId,
     reference: Reference,
-    operator: BinaryOperator,
     old: Value,
 ) -> Result<(), OutOfMemory>
     requires runs { Runs S.meaning config.old frame }
-    requires node { IsExpr S.meaning config.old frame (Node.Assign target sign right) }
-    requires operator { compound sign ≡ Some operator }
+    requires right { StandsHere config.old frame right }
     requires reference { HasReference config.old reference }
     requires old { HasValue config.old old }
     ensures { GoesOn S.meaning frame config.old config.new result (λ t env.
         line.compound_old operator right.0 (reference_in t reference) env (value_in t old)) }
 {
-    let _operator = operator;
     let mut frame = frame;
     hold(&mut frame, Held::Reference(reference))?;
     hold(&mut frame, Held::Value(old))?;
-    enter(config, frame, 5, Part::Expr(right))
+    let point = Point::Expr(ExprPoint::CompoundValue(operator));
+    enter(config, frame, point, Part::Expr(right))
 }
 
 /// After the value that is stored.
 #[inline(always)]
-pub(crate) fn assign_value<S: WorldStore>(
+pub fn assign_value<S: WorldStore>(
     config: &mut Config<S>,
     frame: Frame,
     value: Value,
@@ -165,18 +137,13 @@ pub(crate) fn assign_value<S: WorldStore>(
 
 /// After the right value of an operator with `=`: two numbers need no frame.
 #[inline(always)]
-pub(crate) fn compound_value<S: WorldStore>(
+pub fn compound_value<S: WorldStore>(
     config: &mut Config<S>,
     frame: Frame,
-    target: NodeId,
-    sign: AssignOperator,
-    right: NodeId,
     operator: BinaryOperator,
     value: Value,
 ) -> Result<(), OutOfMemory>
     requires runs { Runs S.meaning config.old frame }
-    requires node { IsExpr S.meaning config.old frame (Node.Assign target sign right) }
-    requires operator { compound sign ≡ Some operator }
     requires value { HasValue config.old value }
     ensures { GoesOn S.meaning frame config.old config.new result (λ t env.
         line.compound_value operator (value_in t (value_held frame.held)) (reference_in t (reference_held frame.held)) env (value_in t value)) }
@@ -184,7 +151,7 @@ pub(crate) fn compound_value<S: WorldStore>(
     let old = held_value(config, &frame);
     match quick(operator, old, value) {
         Some(number) => assign_value(config, frame, Value::Number(number)),
-        None => compound_nested(config, frame, target, sign, right, operator, old, value),
+        None => compound_nested(config, frame, operator, old, value),
     }
 }
 
@@ -192,25 +159,20 @@ pub(crate) fn compound_value<S: WorldStore>(
 fn compound_nested<S: WorldStore>(
     config: &mut Config<S>,
     frame: Frame,
-    target: NodeId,
-    sign: AssignOperator,
-    right: NodeId,
     operator: BinaryOperator,
     old: Value,
     value: Value,
 ) -> Result<(), OutOfMemory>
     requires runs { Runs S.meaning config.old frame }
-    requires node { IsExpr S.meaning config.old frame (Node.Assign target sign right) }
-    requires operator { compound sign ≡ Some operator }
     requires old { HasValue config.old old }
     requires value { HasValue config.old value }
     ensures { GoesOn S.meaning frame config.old config.new result (λ t env.
         line.compound_value operator (value_in t old) (reference_in t (reference_held frame.held)) env (value_in t value)) }
 {
-    let (_target, _sign, _right, _operator) = (target, sign, right, operator);
     let mut held = config.frames.nothing_held();
     held.push(Held::Value(old))?;
     held.push(Held::Value(value))?;
     let node = frame.node();
-    nest(config, frame, 2, Form::Expr, node, 1, held)
+    let point = Point::Expr(ExprPoint::AssignValue);
+    nest(config, frame, point, Start::Operation(operator), node, held)
 }

@@ -3,17 +3,17 @@ ghost use Rattle.wjs_content.specs.Tables.{value_in};
 ghost use Rattle.wjs_meaning.specs.Deeds.{Eval, AtExpr, then_value};
 ghost use Rattle.wjs_meaning.specs.Expressions as line;
 ghost use Rattle.wjs_model.specs.Soundness.{HasValue, StandsHere};
-ghost use Rattle.wjs_moves.specs.Handling.{Runs, IsExpr, GoesOn};
+ghost use Rattle.wjs_moves.specs.Handling.{Runs, IsAt, GoesOn};
 
 use wjs_base::{OutOfMemory, Value};
 use wjs_lines::to_boolean;
-use wjs_model::{Config, Frame};
+use wjs_model::{Config, ExprPoint, Frame, Point};
 use wjs_moves::{Part, enter, enter_last};
 use wjs_store::WorldStore;
 use wjs_tree::{Node, NodeId};
 
 /// The test of a condition is entered.
-pub(crate) fn cond_start<S: WorldStore>(
+pub fn cond_start<S: WorldStore>(
     config: &mut Config<S>,
     frame: Frame,
     test: NodeId,
@@ -21,14 +21,15 @@ pub(crate) fn cond_start<S: WorldStore>(
     no: NodeId,
 ) -> Result<(), OutOfMemory>
     requires runs { Runs S.meaning config.old frame }
-    requires node { IsExpr S.meaning config.old frame (Node.Cond test yes no) }
+    requires node { IsAt S.meaning config.old frame (Node.Cond test yes no) }
     ensures { GoesOn S.meaning frame config.old config.new result (λ t env. Eval (AtExpr test.0) env (then_value (line.cond_test yes.0 no.0 env))) }
 {
-    enter(config, frame, 1, Part::Expr(test))
+    let point = Point::Expr(ExprPoint::CondTest(yes, no));
+    enter(config, frame, point, Part::Expr(test))
 }
 
 /// After the test: one of the two is the expression's value.
-pub(crate) fn cond_test<S: WorldStore>(
+pub fn cond_test<S: WorldStore>(
     config: &mut Config<S>,
     frame: Frame,
     yes: NodeId,
@@ -49,28 +50,29 @@ pub(crate) fn cond_test<S: WorldStore>(
 }
 
 /// The left of a comma is entered.
-pub(crate) fn comma_start<S: WorldStore>(
+pub fn comma_start<S: WorldStore>(
     config: &mut Config<S>,
     frame: Frame,
     left: NodeId,
     right: NodeId,
 ) -> Result<(), OutOfMemory>
     requires runs { Runs S.meaning config.old frame }
-    requires node { IsExpr S.meaning config.old frame (Node.Comma left right) }
+    requires node { IsAt S.meaning config.old frame (Node.Comma left right) }
     ensures { GoesOn S.meaning frame config.old config.new result (λ t env. Eval (AtExpr left.0) env (then_value (line.comma_left right.0 env))) }
 {
-    enter(config, frame, 1, Part::Expr(left))
+    let point = Point::Expr(ExprPoint::CommaLeft(right));
+    enter(config, frame, point, Part::Expr(left))
 }
 
 /// After the left of a comma: the right is the expression's value.
-pub(crate) fn comma_left<S: WorldStore>(
+pub fn comma_left<S: WorldStore>(
     config: &mut Config<S>,
     frame: Frame,
     right: NodeId,
     value: Value,
 ) -> Result<(), OutOfMemory>
     requires runs { Runs S.meaning config.old frame }
-    requires part { StandsHere config.old frame right }
+    requires right { StandsHere config.old frame right }
     requires value { HasValue config.old value }
     ensures { GoesOn S.meaning frame config.old config.new result (λ t env. line.comma_left right.0 env (value_in t value)) }
 {

@@ -1,16 +1,15 @@
 //! `delete` (ECMA-262, 3rd edition, section 11.4.1).
-ghost use Rattle.std.specs.Prelude.{◌≡◌};
+ghost use Rattle.std.specs.Prelude.{◌≡◌, true};
 ghost use Rattle.wjs_base.specs.Text.{Table, Grows};
 ghost use Rattle.wjs_content.specs.Names.{length_name};
 ghost use Rattle.wjs_content.specs.Tables.{value_in, name_in};
 ghost use Rattle.wjs_content.specs.Values.{same_text};
-ghost use Rattle.wjs_meaning.specs.Deeds.{Gives, Member};
+ghost use Rattle.wjs_meaning.specs.Deeds.{Member};
 ghost use Rattle.wjs_meaning.specs.Expressions as line;
 ghost use Rattle.wjs_meaning.specs.Operators.{give_truth};
 ghost use Rattle.wjs_meaning.specs.Properties as properties;
-ghost use Rattle.wjs_model.specs.Contents.{holding_in, reference_in};
+ghost use Rattle.wjs_model.specs.Contents.{reference_in};
 ghost use Rattle.wjs_model.specs.Soundness.{HasName, HasObject, HasReference, HasValue};
-ghost use Rattle.wjs_model.specs.Waiting.{after_prefix};
 ghost use Rattle.wjs_moves.specs.Handling.{Runs, IsRunning, GoesOn};
 
 use wjs_base::{Name, ObjId, OutOfMemory, Value};
@@ -18,12 +17,11 @@ use wjs_deeds::{delete, units_of};
 use wjs_model::{Completion, Config, Frame, Reference};
 use wjs_moves::finish;
 use wjs_store::WorldStore;
-use wjs_tree::PrefixOperator;
 
 const LENGTH: [u16; 6] = [108, 101, 110, 103, 116, 104];
 
 /// After the reference of what is deleted.
-pub(crate) fn delete_reference<S: WorldStore>(
+pub fn delete_reference<S: WorldStore>(
     config: &mut Config<S>,
     frame: Frame,
     reference: Reference,
@@ -111,19 +109,9 @@ fn told<S: WorldStore>(config: &mut Config<S>, frame: Frame, truth: bool) -> Res
 }
 
 /// After a value, which is no reference.
-pub(crate) fn delete_given<S: WorldStore>(
-    config: &mut Config<S>,
-    frame: Frame,
-    value: Value,
-) -> Result<(), OutOfMemory>
+pub fn delete_value<S: WorldStore>(config: &mut Config<S>, frame: Frame) -> Result<(), OutOfMemory>
     requires running { IsRunning S.meaning config.old }
-    requires value { HasValue config.old value }
-    ensures { GoesOn S.meaning frame config.old config.new result (λ t env.
-        after_prefix PrefixOperator.Delete frame.place (holding_in t frame.held) env (Gives (value_in t value))) }
+    ensures { GoesOn S.meaning frame config.old config.new result (λ t env. give_truth true) }
 {
-    if frame.place() == 1 {
-        finish(config, frame, Completion::Gives(value))
-    } else {
-        told(config, frame, true)
-    }
+    told(config, frame, true)
 }

@@ -3,14 +3,12 @@ ghost use Rattle.std.specs.Prelude.{◌≡◌, ◌≤◌, length};
 ghost use Rattle.wjs_base.specs.Text.{Table, longest};
 ghost use Rattle.wjs_content.specs.Objects.{Arena};
 ghost use Rattle.wjs_content.specs.Tables.{value_in, name_in};
-ghost use Rattle.wjs_meaning.specs.Deeds.{Gives};
 ghost use Rattle.wjs_meaning.specs.Expressions as line;
 ghost use Rattle.wjs_meaning.specs.Properties.{get_value};
 ghost use Rattle.wjs_meaning.specs.References as references;
-ghost use Rattle.wjs_model.specs.Contents.{holding_in, reference_in};
+ghost use Rattle.wjs_model.specs.Contents.{reference_in};
 ghost use Rattle.wjs_model.specs.Outside.{Sees};
 ghost use Rattle.wjs_model.specs.Soundness.{HasName, HasReference, HasValue};
-ghost use Rattle.wjs_model.specs.Waiting.{after_prefix};
 ghost use Rattle.wjs_moves.specs.Handling.{Runs, IsRunning, GoesOn};
 
 use wjs_base::{Name, OutOfMemory, Value};
@@ -18,7 +16,6 @@ use wjs_deeds::{get_value, intern, is_callable, value_of};
 use wjs_model::{Completion, Config, Frame, Reference};
 use wjs_moves::finish;
 use wjs_store::WorldStore;
-use wjs_tree::PrefixOperator;
 
 const UNDEFINED: [u16; 9] = [117, 110, 100, 101, 102, 105, 110, 101, 100];
 
@@ -55,7 +52,7 @@ fn type_name<S: WorldStore>(config: &Config<S>, value: Value) -> &'static [u16]
 }
 
 /// After the value: the name of its type.
-fn typeof_value<S: WorldStore>(
+pub fn typeof_value<S: WorldStore>(
     config: &mut Config<S>,
     frame: Frame,
     value: Value,
@@ -70,7 +67,7 @@ fn typeof_value<S: WorldStore>(
 }
 
 /// After the reference: an absent global name is undefined, and throws nothing.
-pub(crate) fn typeof_reference<S: WorldStore>(
+pub fn typeof_reference<S: WorldStore>(
     config: &mut Config<S>,
     frame: Frame,
     reference: Reference,
@@ -114,23 +111,5 @@ fn typeof_found<S: WorldStore>(
     match answer {
         Ok(value) => typeof_value(config, frame, value),
         Err(error) => finish(config, frame, Completion::Throws(error)),
-    }
-}
-
-/// After a value, which is no reference.
-pub(crate) fn typeof_given<S: WorldStore>(
-    config: &mut Config<S>,
-    frame: Frame,
-    value: Value,
-) -> Result<(), OutOfMemory>
-    requires running { IsRunning S.meaning config.old }
-    requires value { HasValue config.old value }
-    ensures { GoesOn S.meaning frame config.old config.new result (λ t env.
-        after_prefix PrefixOperator.Typeof frame.place (holding_in t frame.held) env (Gives (value_in t value))) }
-{
-    if frame.place() == 1 {
-        finish(config, frame, Completion::Gives(value))
-    } else {
-        typeof_value(config, frame, value)
     }
 }

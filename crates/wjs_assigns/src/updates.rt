@@ -6,65 +6,41 @@ ghost use Rattle.wjs_meaning.specs.Conversions as conversions;
 ghost use Rattle.wjs_meaning.specs.Deeds.{Gives, Sub, then_number};
 ghost use Rattle.wjs_meaning.specs.Errors as errors;
 ghost use Rattle.wjs_meaning.specs.Expressions as line;
-ghost use Rattle.wjs_meaning.specs.Expressions.{Post};
-ghost use Rattle.wjs_model.specs.Contents.{holding_in, reference_in, reference_held};
-ghost use Rattle.wjs_model.specs.Soundness.{HasValue, HasReference};
-ghost use Rattle.wjs_model.specs.Waiting.{after_update};
-ghost use Rattle.wjs_assigns.specs.Updating.{Updates, fix_of};
-ghost use Rattle.wjs_moves.specs.Handling.{Runs, IsExpr, GoesOn};
+ghost use Rattle.wjs_model.specs.Contents.{reference_in, reference_held};
+ghost use Rattle.wjs_model.specs.Soundness.{HasValue, HasReference, StandsHere};
+ghost use Rattle.wjs_model.specs.Waiting.{fix_in};
+ghost use Rattle.wjs_moves.specs.Handling.{Runs, GoesOn};
 
 use wjs_base::{OutOfMemory, Value, Whole};
 use wjs_deeds::value_of;
 use wjs_lines::{held_reference, is_object, store_and_give, throw, to_number};
-use wjs_model::{Completion, Config, Conversion, Frame, Held, Reference, Trouble};
+use wjs_model::{
+    Completion, Config, Conversion, ExprPoint, Fix, Frame, Held, Point, Reference, Trouble,
+};
 use wjs_moves::{Part, convert, enter, finish, hold};
 use wjs_num::{NumFault, add, sub};
 use wjs_store::WorldStore;
-use wjs_tree::{Node, NodeId, UpdateOperator};
+use wjs_tree::{NodeId, UpdateOperator};
 
-/// Which number an operator gives: the old one behind a target, the new one before it.
-#[derive(Clone, Copy)]
-pub(crate) enum Fix {
-    Post,
-    Pre,
-}
-
-/// Behind a target: the target is entered.
-pub(crate) fn postfix_start<S: WorldStore>(
+/// The target is entered.
+pub fn update_start<S: WorldStore>(
     config: &mut Config<S>,
     frame: Frame,
-    target: NodeId,
+    fix: Fix,
     operator: UpdateOperator,
+    target: NodeId,
 ) -> Result<(), OutOfMemory>
     requires runs { Runs S.meaning config.old frame }
-    requires node { IsExpr S.meaning config.old frame (Node.Postfix target operator) }
-    ensures { GoesOn S.meaning frame config.old config.new result (λ t env. line.update_target Post operator target.0 env) }
+    requires target { StandsHere config.old frame target }
+    ensures { GoesOn S.meaning frame config.old config.new result (λ t env. line.update_target (fix_in fix) operator target.0 env) }
 {
-    let _operator = operator;
-    enter(config, frame, 1, Part::Target(target))
-}
-
-/// Behind a target: after its reference.
-#[inline(always)]
-pub(crate) fn postfix_reference<S: WorldStore>(
-    config: &mut Config<S>,
-    frame: Frame,
-    target: NodeId,
-    operator: UpdateOperator,
-    reference: Reference,
-) -> Result<(), OutOfMemory>
-    requires runs { Runs S.meaning config.old frame }
-    requires node { IsExpr S.meaning config.old frame (Node.Postfix target operator) }
-    requires reference { HasReference config.old reference }
-    ensures { GoesOn S.meaning frame config.old config.new result (λ t env. line.update_reference Post operator env (reference_in t reference)) }
-{
-    let _target = target;
-    update_reference(config, frame, Fix::Post, operator, reference)
+    let point = Point::Expr(ExprPoint::UpdateTarget(fix, operator));
+    enter(config, frame, point, Part::Target(target))
 }
 
 /// After the target: its value is made a number.
 #[inline(always)]
-pub(crate) fn update_reference<S: WorldStore>(
+pub fn update_reference<S: WorldStore>(
     config: &mut Config<S>,
     frame: Frame,
     fix: Fix,
@@ -72,9 +48,8 @@ pub(crate) fn update_reference<S: WorldStore>(
     reference: Reference,
 ) -> Result<(), OutOfMemory>
     requires runs { Runs S.meaning config.old frame }
-    requires updates { Updates config.old.units.items frame fix operator }
     requires reference { HasReference config.old reference }
-    ensures { GoesOn S.meaning frame config.old config.new result (λ t env. line.update_reference (fix_of fix) operator env (reference_in t reference)) }
+    ensures { GoesOn S.meaning frame config.old config.new result (λ t env. line.update_reference (fix_in fix) operator env (reference_in t reference)) }
 {
     let answer = value_of(config, &frame, reference)?;
     match answer {
@@ -94,11 +69,10 @@ fn update_value<S: WorldStore>(
     value: Value,
 ) -> Result<(), OutOfMemory>
     requires runs { Runs S.meaning config.old frame }
-    requires updates { Updates config.old.units.items frame fix operator }
     requires reference { HasReference config.old reference }
     requires value { HasValue config.old value }
     ensures { GoesOn S.meaning frame config.old config.new result (λ t env.
-        line.update_value (fix_of fix) operator env (reference_in t reference) (value_in t value)) }
+        line.update_value (fix_in fix) operator env (reference_in t reference) (value_in t value)) }
 {
     if is_object(value) {
         update_object(config, frame, fix, operator, reference, value)
@@ -118,20 +92,19 @@ fn update_object<S: WorldStore>(
     value: Value,
 ) -> Result<(), OutOfMemory>
     requires runs { Runs S.meaning config.old frame }
-    requires updates { Updates config.old.units.items frame fix operator }
     requires reference { HasReference config.old reference }
     requires value { HasValue config.old value }
     ensures { GoesOn S.meaning frame config.old config.new result (λ t env.
-        Sub (conversions.to_number (value_in t value) env) (then_number (line.update_number (fix_of fix) operator env (reference_in t reference)))) }
+        Sub (conversions.to_number (value_in t value) env) (then_number (line.update_number (fix_in fix) operator env (reference_in t reference)))) }
 {
-    let _fix = (fix, operator);
     let mut frame = frame;
     hold(&mut frame, Held::Reference(reference))?;
-    convert(config, frame, 2, Conversion::Number, value)
+    let point = Point::Expr(ExprPoint::UpdateNumber(fix, operator));
+    convert(config, frame, point, Conversion::Number, value)
 }
 
 /// After ToNumber of an object.
-pub(crate) fn update_given<S: WorldStore>(
+pub fn update_converted<S: WorldStore>(
     config: &mut Config<S>,
     frame: Frame,
     fix: Fix,
@@ -141,11 +114,8 @@ pub(crate) fn update_given<S: WorldStore>(
     requires runs { Runs S.meaning config.old frame }
     requires value { HasValue config.old value }
     ensures { GoesOn S.meaning frame config.old config.new result (λ t env.
-        after_update (fix_of fix) operator frame.place (holding_in t frame.held) env (Gives (value_in t value))) }
+        then_number (line.update_number (fix_in fix) operator env (reference_in t (reference_held frame.held))) (Gives (value_in t value))) }
 {
-    if frame.place() == 1 {
-        return finish(config, frame, Completion::Gives(value));
-    }
     match value {
         Value::Number(number) => update_held(config, frame, fix, operator, number),
         _ => finish(config, frame, Completion::Gives(value)),
@@ -162,7 +132,7 @@ fn update_held<S: WorldStore>(
 ) -> Result<(), OutOfMemory>
     requires runs { Runs S.meaning config.old frame }
     ensures { GoesOn S.meaning frame config.old config.new result (λ t env.
-        line.update_number (fix_of fix) operator env (reference_in t (reference_held frame.held)) number.number) }
+        line.update_number (fix_in fix) operator env (reference_in t (reference_held frame.held)) number.number) }
 {
     let reference = held_reference(config, &frame);
     update_number(config, frame, fix, operator, reference, number)
@@ -181,7 +151,7 @@ fn update_number<S: WorldStore>(
     requires runs { Runs S.meaning config.old frame }
     requires reference { HasReference config.old reference }
     ensures { GoesOn S.meaning frame config.old config.new result (λ t env.
-        line.update_number (fix_of fix) operator env (reference_in t reference) number.number) }
+        line.update_number (fix_in fix) operator env (reference_in t reference) number.number) }
 {
     match updated(operator, number) {
         Ok(new) => {
@@ -219,7 +189,7 @@ fn one() -> Whole
 /// The number that is given.
 #[inline(always)]
 fn given(fix: Fix, old: Whole, new: Whole) -> Whole
-    ensures { result.number ≡ line.given (fix_of fix) old.number new.number }
+    ensures { result.number ≡ line.given (fix_in fix) old.number new.number }
 {
     match fix {
         Fix::Post => old,

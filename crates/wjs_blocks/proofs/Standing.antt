@@ -1,5 +1,5 @@
 -- The parts of blocks, jumps, `switch` and `try` stand where their frame is run, and frames that hold something else are there.
-use Rattle.std.proofs.Common.{◌≡◌, ◌⊎◌, ℕ, zero, suc, false, List, [], ◌∷◌, ◌++◌, Option, Some, inl, inr, refl, sym, subst}
+use Rattle.std.proofs.Common.{◌≡◌, ◌⊎◌, ℕ, zero, suc, List, [], ◌∷◌, ◌++◌, Option, Some, inl, inr, refl, sym, subst}
 use Rattle.std.specs.Prelude.{slice_get}
 use Rattle.std.specs.Option.{option_and_then}
 use Rattle.wjs_base.specs.declared.ids.ObjId.{ObjId}
@@ -8,26 +8,21 @@ use Rattle.wjs_base.specs.declared.values.Value.{Value}
 use Rattle.wjs_store.specs.Meaning.{Meaning}
 use Rattle.wjs_tree.specs.declared.node.NodeId.{NodeId}
 use Rattle.wjs_tree.specs.declared.node.Clause.{Clause}
-use Rattle.wjs_tree.specs.declared.node.Handler.{Handler}
-use Rattle.wjs_tree.specs.declared.node.End.{End}
 use Rattle.wjs_tree.specs.declared.node.Node.{Node}
 use Rattle.wjs_tree.specs.declared.node.Node.TheVariants as nodes
 use Rattle.wjs_arena.specs.Entries.{scope_of}
-use Rattle.wjs_scope.specs.Nesting.{Around, on_side, option_part, clause_part, clause_parts, caught_part, parts, IsAmong}
+use Rattle.wjs_scope.specs.Nesting.{Around, option_part, clause_part, clause_parts, parts, IsAmong}
 use Rattle.wjs_model.specs.declared.config.Config.{Config}
 use Rattle.wjs_model.specs.declared.frame.Completion.{Completion}
-use Rattle.wjs_model.specs.declared.frame.Form.{Form}
-use Rattle.wjs_model.specs.declared.frame.Form.TheVariants as form
 use Rattle.wjs_model.specs.declared.frame.Activation.{Activation as Frame}
 use Rattle.wjs_model.specs.declared.frame.Held.{Held}
 use Rattle.wjs_model.specs.declared.frame.Held.TheVariants as holds
-use Rattle.wjs_model.specs.Soundness.{HasObject, HasValue, HasCompletion, HasWorld, IsThere, StandsHere}
-use Rattle.wjs_model.specs.Standing.{BodyStands, FrameStands, IsShown}
+use Rattle.wjs_model.specs.Soundness.{HasObject, HasValue, HasCompletion, HasItems, HasWorld, IsThere, StandsHere}
+use Rattle.wjs_model.specs.Standing.{FrameStands, IsShown}
 use Rattle.wjs_model.proofs.Standing.{stands_inner, stands_fewer}
 use Rattle.wjs_moves.specs.Parts.{node_now}
 use Rattle.wjs_moves.proofs.Parting.{among_at, among_left, among_right, among_around, stands_here}
 use Rattle.wjs_lines.specs.Lists.{statements_in, clauses_in, statements_of_clauses}
-use Rattle.wjs_blocks.specs.Switches.{IsSwitch}
 
 option_among : (o : Option NodeId) (e : NodeId) → o ≡ Some e → IsAmong (option_part o) e
 option_among o e q = subst (λ (x : Option NodeId). IsAmong (option_part x) e) (sym q) (inl refl)
@@ -74,53 +69,33 @@ module _ {S : Type 0} (meaning : S → Meaning) (c : Config S) (f : Frame) (here
   statement_stands at s e = stands_here meaning c f node s here refl (block_among node at s e)
 
   -- a part of a clause
-  clause_stands : (j : NodeId) → IsSwitch node → IsAmong (clause_parts (clauses_in node)) j → StandsHere c f j
-  clause_stands j is among = stands_here meaning c f (nodes.Switch is.value is.clauses) j here is.is (inr (among_around (clause_parts is.clauses) j (subst (λ (n : Node). IsAmong (clause_parts (clauses_in n)) j) is.is among)))
+  clause_among : (n : Node) (j : NodeId) → IsAmong (clause_parts (clauses_in n)) j → IsAmong (parts n) (j, Around)
+  clause_among (nodes.Switch value clauses) j h = inr (among_around (clause_parts clauses) j h)
+  clause_among _ j h = absurd h
 
-  pub case_stands : (at : ℕ) (e : NodeId) → IsSwitch node → test_of (slice_get (clauses_in node) at) ≡ Some e → StandsHere c f e
-  case_stands at e is q = clause_stands e is (among_tests (clauses_in node) at e q)
+  clause_stands : (j : NodeId) → IsAmong (clause_parts (clauses_in node)) j → StandsHere c f j
+  clause_stands j among = stands_here meaning c f node j here refl (clause_among node j among)
 
-  pub clause_statement_stands : (at : ℕ) (s : NodeId) → IsSwitch node → slice_get (statements_of_clauses (clauses_in node)) at ≡ Some s → StandsHere c f s
-  clause_statement_stands at s is q = clause_stands s is (among_statements (clauses_in node) s (among_at (statements_of_clauses (clauses_in node)) at s q))
+  pub case_stands : (at : ℕ) (e : NodeId) → test_of (slice_get (clauses_in node) at) ≡ Some e → StandsHere c f e
+  case_stands at e q = clause_stands e (among_tests (clauses_in node) at e q)
 
-  -- the `finally` of a `try`
-  pub last_stands : (b : NodeId) (handler : Option Handler) (o : Option NodeId) (s : NodeId) → node ≡ nodes.Try b handler o → o ≡ Some s → StandsHere c f s
-  last_stands b handler o s is q = stands_here meaning c f (nodes.Try b handler o) s here is (inr (among_right (caught_part handler) (on_side Around (option_part o)) (s, Around) (among_around (option_part o) s (option_among o s q))))
-
-  -- the value of a `return`
-  pub value_stands : (o : Option NodeId) (end : End) (e : NodeId) → node ≡ nodes.Return o end → o ≡ Some e → StandsHere c f e
-  value_stands o end e is q = stands_here meaning c f (nodes.Return o end) e here is (among_around (option_part o) e (option_among o e q))
+  pub clause_statement_stands : (at : ℕ) (s : NodeId) → slice_get (statements_of_clauses (clauses_in node)) at ≡ Some s → StandsHere c f s
+  clause_statement_stands at s q = clause_stands s (among_statements (clauses_in node) s (among_at (statements_of_clauses (clauses_in node)) at s q))
 
   -- ---- frames that hold something else
-
-  body_none : (x : Form) (tree : ℕ) (i : NodeId) (scope : ObjId) → BodyStands c.units.items c.heap.arena x false tree i scope
-  body_none form.Body tree i scope = tt
-  body_none form.Expr tree i scope = tt
-  body_none form.Target tree i scope = tt
-  body_none form.Stmt tree i scope = tt
-  body_none (form.Convert k) tree i scope = tt
-  body_none form.Call tree i scope = tt
-  body_none (form.Native n) tree i scope = tt
 
   module _ (g : Frame) where
     abbrev Here : Frame → Type 0
     Here x = IsThere meaning c x
 
+    holding : (held : List Held) → HasItems c held → g ≡ record f { held = held } → IsThere meaning c g
+    holding held h e = subst Here (sym e) (record { scope = here.scope; this = here.this; world = here.world; held = h; stands = record { node = here.stands.node; shown = here.stands.shown } })
+
     pub holding_value : (v : Value) → HasValue c v → g ≡ record f { held = holds.Value v ∷ f.held } → IsThere meaning c g
-    holding_value v h e = subst Here (sym e) (record { scope = here.scope; this = here.this; world = here.world; held = (h, here.held); phase = here.phase; stands = record { node = here.stands.node; body = here.stands.body; shown = here.stands.shown } })
+    holding_value v h e = holding (holds.Value v ∷ f.held) (h, here.held) e
 
     pub holding_earlier : (e : Completion) → HasCompletion c e → g ≡ record f { held = holds.Earlier e ∷ f.held } → IsThere meaning c g
-    holding_earlier x h e = subst Here (sym e) (record { scope = here.scope; this = here.this; world = here.world; held = (h, here.held); phase = here.phase; stands = record { node = here.stands.node; body = here.stands.body; shown = here.stands.shown } })
-
-    pub holding_nothing : g ≡ record f { held = [] } → IsThere meaning c g
-    holding_nothing e = subst Here (sym e) (record {
-      scope = here.scope;
-      this = here.this;
-      world = here.world;
-      held = tt;
-      phase = here.phase;
-      stands = record { node = here.stands.node; body = body_none f.form f.tree f.node f.scope; shown = here.stands.shown };
-    })
+    holding_earlier x h e = holding (holds.Earlier x ∷ f.held) (h, here.held) e
 
   -- ---- frames that are run elsewhere
 
@@ -128,7 +103,6 @@ module _ {S : Type 0} (meaning : S → Meaning) (c : Config S) (f : Frame) (here
   inner_stands : (scope : ObjId) → scope_of c.heap.arena scope ≡ Some f.scope → FrameStands c.units.items c.heap.arena (record f { scope = scope; held = [] })
   inner_stands scope e = record {
     node = stands_fewer c.units.items c.heap.arena f.tree f.node scope 1 (stands_inner c.units.items c.heap.arena f.tree f.node f.scope scope 0 1 refl e here.stands.node);
-    body = body_none f.form f.tree f.node scope;
     shown = here.stands.shown;
   }
 
@@ -136,8 +110,8 @@ module _ {S : Type 0} (meaning : S → Meaning) (c : Config S) (f : Frame) (here
   inner_there scope g held h e none same =
       let P : Frame → Type 0 = λ x. IsThere meaning c x in
       let Q : List Held → Type 0 = λ l. IsThere meaning c (record f { scope = scope; held = l }) in
-      subst P (sym same) (subst Q (sym none) (record { scope = h; this = here.this; world = here.world; held = tt; phase = here.phase; stands = inner_stands scope e }))
+      subst P (sym same) (subst Q (sym none) (record { scope = h; this = here.this; world = here.world; held = tt; stands = inner_stands scope e }))
 
   -- in another world
   pub within_there : (world : WorldId) → HasWorld meaning c world → IsShown c.heap.arena world → IsThere meaning c (record f { world = world })
-  within_there world h shown = record { scope = here.scope; this = here.this; world = h; held = here.held; phase = here.phase; stands = record { node = here.stands.node; body = here.stands.body; shown = shown } }
+  within_there world h shown = record { scope = here.scope; this = here.this; world = h; held = here.held; stands = record { node = here.stands.node; shown = shown } }

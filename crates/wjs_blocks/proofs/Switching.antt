@@ -1,4 +1,4 @@
--- What a `switch` does at its places.
+-- What a `switch` does with its clauses.
 use Rattle.std.proofs.Common.{◌≡◌, ℕ, zero, suc, ◌+◌, ◌-◌, ◌<◌, Bool, true, false, List, [], ◌∷◌, ◌++◌, Option, None, Some, refl, sym, ap, ◌∙◌, subst, length, drop, get_or, arith}
 use Rattle.std.specs.Prelude.{map, slice_get}
 use Rattle.wjs_base.specs.Text.{Table}
@@ -7,19 +7,16 @@ use Rattle.wjs_tree.specs.declared.node.Clause.{Clause}
 use Rattle.wjs_tree.specs.declared.node.Node.{Node as NumberedNode}
 use Rattle.wjs_tree.specs.declared.node.Node.TheVariants as nodes
 use Rattle.wjs_content.specs.Values.{Value}
-use Rattle.wjs_meaning.specs.Deeds.{Env, Completion, Act, Ret, Eval, AtStmt, AtExpr, Normal, then_value}
+use Rattle.wjs_meaning.specs.Deeds.{Env, Act, Ret, Eval, AtStmt, AtExpr, Normal, then_value}
 use Rattle.wjs_meaning.specs.Reading.{node_in, clause_in, numbers}
 use Rattle.wjs_meaning.specs.Statements.{statements_of, switch_from, switch_next, switch_cases, from_default}
 use Rattle.wjs_content.specs.Conversions.{strictly_equal}
 use Rattle.std.proofs.lemmas.Option.{slice_get-get_or}
-use Rattle.wjs_model.specs.Frames.{earliest_first}
-use Rattle.wjs_model.specs.declared.frame.Form.{Form}
-use Rattle.wjs_model.specs.declared.frame.Form.TheVariants as form
-use Rattle.wjs_model.specs.Contents.{Holding}
-use Rattle.wjs_model.specs.Waiting.{after, after_switch, after_case}
+use Rattle.wjs_model.specs.Lists.{clauses_of}
+use Rattle.wjs_model.specs.Waiting.{after_case}
 use Rattle.wjs_blocks.specs.declared.clauses.Case.{Case}
-use Rattle.wjs_lines.specs.Lists.{clauses_of, clauses_in, statements_of_clauses, first_of}
-use Rattle.wjs_blocks.specs.Switches.{IsSwitch, case_goes}
+use Rattle.wjs_lines.specs.Lists.{clauses_in, statements_of_clauses}
+use Rattle.wjs_blocks.specs.Switches.{case_goes}
 use Rattle.wjs_lines.proofs.Parts.{each_at, each_past}
 
 -- the clauses under a table
@@ -54,33 +51,18 @@ statements_behind t node clause at e =
     ∙ ap statements_of (sym (drop_map (clause_in t) (clauses_in node) clause))
     ∙ ap (λ (l : List (Option ℕ × List ℕ)). statements_of (drop clause l)) (sym (clauses_same t node))
 
--- what a `switch` waits for
-switch_waits : (t : Table) (node : NumberedNode) (f : Form) (here place : ℕ) (held : Holding) (env : Env) → f ≡ form.Stmt → IsSwitch node → after (node_in t node) f here place held env ≡ after_switch (clauses_of (node_in t node)) place held.values env
-switch_waits t node f here place held env ef is =
-    ap (λ (g : Form). after (node_in t node) g here place held env) ef
-    ∙ ap (λ (n : NumberedNode). after (node_in t n) form.Stmt here place held env) is.is
-    ∙ sym (ap (λ (n : NumberedNode). after_switch (clauses_of (node_in t n)) place held.values env) is.is)
-
-module _ (t : Table) (node : NumberedNode) (f : Form) (here : ℕ) (env : Env) (ef : f ≡ form.Stmt) (is : IsSwitch node) where
+module _ (t : Table) (node : NumberedNode) (env : Env) where
   abbrev all : List (Option ℕ × List ℕ)
   all = clauses_of (node_in t node)
 
-  -- after a statement
-  pub statement_waits : (held : Holding) (at place : ℕ) → held.values ≡ [] → place ≡ at + 2 → after (node_in t node) f here place held env ≡ switch_next (switch_from (drop (suc at) (statements_of all)) env)
-  statement_waits held at place eh ep =
-      let k : place ≡ suc (suc at) = omega (arith, ep) in
-      let one : suc (suc at) - 1 ≡ suc at = omega arith in
-      switch_waits t node f here place held env ef is
-      ∙ ap (λ (vs : List Value). after_switch all place vs env) eh
-      ∙ ap (λ (p : ℕ). after_switch all p [] env) k
-      ∙ ap (λ (p : ℕ). switch_next (switch_from (drop p (statements_of all)) env)) one
-
   -- the next statement is entered
-  pub statement_at : (held : Holding) (at place : ℕ) (s : NodeId) → held.values ≡ [] → place ≡ at + 2 → slice_get (statements_of_clauses (clauses_in node)) at ≡ Some s → Eval (AtStmt s.0) env (after (node_in t node) f here place held env) ≡ switch_from (drop at (statements_of all)) env
-  statement_at held at place s eh ep es =
+  pub statement_at : (at next : ℕ) (s : NodeId) → next ≡ at + 1 → slice_get (statements_of_clauses (clauses_in node)) at ≡ Some s
+      → Eval (AtStmt s.0) env (switch_next (switch_from (drop next (statements_of all)) env)) ≡ switch_from (drop at (statements_of all)) env
+  statement_at at next s en es =
+      let k : next ≡ suc at = omega (arith, en) in
       let listed : drop at (statements_of all) ≡ s.0 ∷ drop (suc at) (statements_of all) =
       ap (drop at) (node_statements t node) ∙ each_at (λ (id : NodeId). id.0) (statements_of_clauses (clauses_in node)) at s es ∙ ap (λ (l : List ℕ). s.0 ∷ drop (suc at) l) (sym (node_statements t node)) in
-      ap (λ (go : Completion → Act). Eval (AtStmt s.0) env go) (statement_waits held at place eh ep)
+      ap (λ (i : ℕ). Eval (AtStmt s.0) env (switch_next (switch_from (drop i (statements_of all)) env))) k
       ∙ sym (ap (λ (l : List ℕ). switch_from l env) listed)
 
   -- there is none
@@ -88,18 +70,8 @@ module _ (t : Table) (node : NumberedNode) (f : Form) (here : ℕ) (env : Env) (
   statement_end at es = sym (ap (λ (l : List ℕ). switch_from l env) (ap (drop at) (node_statements t node) ∙ each_past (λ (id : NodeId). id.0) (statements_of_clauses (clauses_in node)) at es))
 
   -- a case is entered
-  pub case_waits : (held : Holding) (v : Value) (at place : ℕ) → held.values ≡ v ∷ [] → place ≡ at + 2 → after (node_in t node) f here place held env ≡ then_value (after_case v all (drop at all) env)
-  case_waits held v at place eh ep =
-      let k : place ≡ suc (suc at) = omega (arith, ep) in
-      let two : suc (suc at) - 2 ≡ at = omega arith in
-      switch_waits t node f here place held env ef is
-      ∙ ap (λ (vs : List Value). after_switch all place vs env) eh
-      ∙ ap (λ (p : ℕ). after_switch all p (v ∷ []) env) k
-      ∙ ap (λ (p : ℕ). then_value (after_case v all (drop p all) env)) two
-
-  -- after a case that is entered
-  pub case_enters : (held : Holding) (v : Value) (c : Case) (place : ℕ) → held.values ≡ v ∷ [] → place ≡ c.at + 2 → Eval (AtExpr c.test.0) env (after (node_in t node) f here place held env) ≡ case_goes v all (Some c) env
-  case_enters held v c place eh ep = ap (λ (go : Completion → Act). Eval (AtExpr c.test.0) env go) (case_waits held v c.at place eh ep)
+  pub case_enters : (v : Value) (c : Case) (at : ℕ) → at ≡ c.at → Eval (AtExpr c.test.0) env (then_value (after_case v all (drop at all) env)) ≡ case_goes v all (Some c) env
+  case_enters v c at e = ap (λ (i : ℕ). Eval (AtExpr c.test.0) env (then_value (after_case v all (drop i all) env))) e
 
   -- the case that was found
   pub cases_same : (clauses : List Clause) (v : Value) (from : ℕ) (o : Option Case) → clauses ≡ clauses_in node → switch_cases v (map (clause_in t) clauses) (drop from (map (clause_in t) clauses)) env ≡ case_goes v (map (clause_in t) clauses) o env → switch_cases v all (drop from all) env ≡ case_goes v all o env
@@ -137,38 +109,3 @@ module _ (t : Table) (node : NumberedNode) (f : Form) (here : ℕ) (env : Env) (
       let r = rest_at at h in
       ap (λ (l : List (Option ℕ × List ℕ)). switch_from (statements_of l) env) r.1
       ∙ sym (ap (λ (l : List (Option ℕ × List ℕ)). after_case v all l env w) r.1 ∙ ap (λ (b : Bool). case_if v r.0 (drop (suc at) all) b) e)
-
--- at a place behind the first
-pub place_statement : (clauses : List (Option ℕ × List ℕ)) (place : ℕ) (vs : List Value) (env : Env) (c : Completion) → (place ≡ 1 → ⊥) → vs ≡ [] → switch_next (switch_from (drop (place - 1) (statements_of clauses)) env) c ≡ after_switch clauses place vs env c
-place_statement clauses zero vs env c h e = sym (ap (λ (l : List Value). after_switch clauses zero l env c) e)
-place_statement clauses (suc zero) vs env c h e = absurd (h refl)
-place_statement clauses (suc (suc place)) vs env c h e = sym (ap (λ (l : List Value). after_switch clauses (suc (suc place)) l env c) e)
-
-pub place_case : (clauses : List (Option ℕ × List ℕ)) (place : ℕ) (vs : List Value) (v : Value) (env : Env) (c : Completion) → (place ≡ 1 → ⊥) → first_of vs ≡ Some v → then_value (after_case v clauses (drop (place - 2) clauses) env) c ≡ after_switch clauses place vs env c
-place_case clauses place [] v env c h e = absurd (cc)
-place_case clauses zero (w ∷ vs) v env c h e = let q : w ≡ v = cc in sym (ap (λ (x : Value). then_value (after_case x clauses (drop (0 - 2) clauses) env) c) q)
-place_case clauses (suc zero) (w ∷ vs) v env c h e = absurd (h refl)
-place_case clauses (suc (suc place)) (w ∷ vs) v env c h e = let q : w ≡ v = cc in sym (ap (λ (x : Value). then_value (after_case x clauses (drop (suc (suc place) - 2) clauses) env) c) q)
-
-each_snoc : {X Y : Type 0} (f : X → Y) (xs : List X) (x : X) → map f (xs ++ x ∷ []) ≡ map f xs ++ f x ∷ []
-each_snoc f [] x = refl
-each_snoc f (y ∷ xs) x = ap (λ l. f y ∷ l) (each_snoc f xs x)
-
-earliest_map : {X Y : Type 0} (f : X → Y) (xs : List X) → earliest_first (map f xs) ≡ map f (earliest_first xs)
-earliest_map f [] = refl
-earliest_map f (x ∷ xs) = ap (λ l. l ++ f x ∷ []) (earliest_map f xs) ∙ sym (each_snoc f (earliest_first xs) x)
-
-first_map : {X Y : Type 0} (f : X → Y) (xs : List X) (x : X) → first_of xs ≡ Some x → first_of (map f xs) ≡ Some (f x)
-first_map f [] x e = absurd (cc)
-first_map f (y ∷ xs) x e = let q : y ≡ x = cc in ap (λ z. Some (f z)) q
-
-first_none : {X Y : Type 0} (f : X → Y) (xs : List X) → first_of xs ≡ None → map f xs ≡ []
-first_none f [] e = refl
-first_none f (y ∷ xs) e = absurd (cc)
-
--- the earliest of the values, under a table
-pub earliest_some : {X Y : Type 0} (f : X → Y) (xs : List X) (x : X) → first_of (earliest_first xs) ≡ Some x → first_of (earliest_first (map f xs)) ≡ Some (f x)
-earliest_some f xs x e = ap first_of (earliest_map f xs) ∙ first_map f (earliest_first xs) x e
-
-pub earliest_none : {X Y : Type 0} (f : X → Y) (xs : List X) → first_of (earliest_first xs) ≡ None → earliest_first (map f xs) ≡ []
-earliest_none f xs e = earliest_map f xs ∙ first_none f (earliest_first xs) e

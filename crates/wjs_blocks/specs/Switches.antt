@@ -1,20 +1,10 @@
 -- The cases of a `switch`.
-use Rattle.std.specs.Prelude.{◌≡◌, ℕ, List, Option, None, Some, drop}
-use Rattle.wjs_tree.specs.declared.node.NodeId.{NodeId}
-use Rattle.wjs_tree.specs.declared.node.Clause.{Clause}
-use Rattle.wjs_tree.specs.declared.node.Node.{Node}
-use Rattle.wjs_tree.specs.declared.node.Node.TheVariants.{Switch}
+use Rattle.std.specs.Prelude.{ℕ, List, Option, None, Some, drop}
 use Rattle.wjs_content.specs.Values.{Value}
 use Rattle.wjs_meaning.specs.Deeds.{Env, Act, Eval, AtExpr, then_value}
 use Rattle.wjs_meaning.specs.Statements.{statements_of, switch_from, from_default}
 use Rattle.wjs_model.specs.Waiting.{after_case}
 use Rattle.wjs_blocks.specs.declared.clauses.Case.{Case}
-
--- the node is a `switch`
-pub record IsSwitch (node : Node) : Type 0 where
-  pub value : NodeId
-  pub clauses : List Clause
-  pub is : node ≡ Switch value clauses
 
 -- what the case that was found does, or without one the statements from `default` on
 abbrev pub case_goes : Value → List (Option ℕ × List ℕ) → Option Case → Env → Act

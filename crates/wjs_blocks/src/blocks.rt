@@ -4,14 +4,15 @@ ghost use Rattle.wjs_meaning.specs.Deeds.{then_normal};
 ghost use Rattle.wjs_meaning.specs.Reading.{node_in};
 ghost use Rattle.wjs_meaning.specs.Statements.{block_from};
 ghost use Rattle.wjs_model.specs.Contents.{completion_in};
+ghost use Rattle.wjs_model.specs.Lists.{block_items};
 ghost use Rattle.wjs_model.specs.Soundness.{HasCompletion};
 ghost use Rattle.wjs_moves.specs.Parts.{node_now};
-ghost use Rattle.wjs_lines.specs.Lists.{block_items, statements_in};
 ghost use Rattle.wjs_moves.specs.Handling.{Runs, GoesOn};
+ghost use Rattle.wjs_lines.specs.Lists.{statements_in};
 
 use wjs_base::OutOfMemory;
-use wjs_lines::place_after;
-use wjs_model::{Completion, Config, Form, Frame};
+use wjs_lines::number_after;
+use wjs_model::{Completion, Config, Frame, Point, StmtPoint};
 use wjs_moves::{Part, enter, finish, node_of};
 use wjs_store::WorldStore;
 use wjs_tree::{Node, NodeId};
@@ -27,42 +28,39 @@ fn statement_at<S: WorldStore>(config: &Config<S>, frame: &Frame, at: u32) -> Op
 }
 
 /// The statements of a block, from the one of this number on.
-pub fn block<S: WorldStore>(
+pub fn block_from<S: WorldStore>(
     config: &mut Config<S>,
     frame: Frame,
     at: u32,
 ) -> Result<(), OutOfMemory>
     requires runs { Runs S.meaning config.old frame }
-    requires form { frame.form ≡ Form.Stmt }
     ensures { GoesOn S.meaning frame config.old config.new result (λ t env.
         block_from (drop at (block_items (node_in t (node_now S.meaning config.old frame)))) env) }
 {
     match statement_at(config, &frame, at) {
         Some(statement) => {
-            let next = place_after(at, 1)?;
-            enter(config, frame, next, Part::Stmt(statement))
+            let next = number_after(at)?;
+            let point = Point::Stmt(StmtPoint::BlockStatement(next));
+            enter(config, frame, point, Part::Stmt(statement))
         }
         None => finish(config, frame, Completion::Normal),
     }
 }
 
-/// After a statement of a block.
-pub fn block_next<S: WorldStore>(
+/// After a statement of a block, before the one of this number.
+pub fn block_statement<S: WorldStore>(
     config: &mut Config<S>,
     frame: Frame,
+    at: u32,
     completion: Completion,
 ) -> Result<(), OutOfMemory>
     requires runs { Runs S.meaning config.old frame }
-    requires form { frame.form ≡ Form.Stmt }
     requires completion { HasCompletion config.old completion }
     ensures { GoesOn S.meaning frame config.old config.new result (λ t env.
-        then_normal (block_from (drop frame.place (block_items (node_in t (node_now S.meaning config.old frame)))) env) (completion_in t completion)) }
+        then_normal (block_from (drop at (block_items (node_in t (node_now S.meaning config.old frame)))) env) (completion_in t completion)) }
 {
     match completion {
-        Completion::Normal => {
-            let at = frame.place();
-            block(config, frame, at)
-        }
+        Completion::Normal => block_from(config, frame, at),
         other => finish(config, frame, other),
     }
 }

@@ -2,14 +2,14 @@
 ghost use Rattle.std.specs.Prelude.{◌≡◌, Some, IfOk};
 ghost use Rattle.wjs_arena.specs.Entries.{scope_of};
 ghost use Rattle.wjs_meaning.specs.Deeds.{Eval, Ret};
-ghost use Rattle.wjs_model.specs.Soundness.{HasObject, HasWorld, StandsHere};
+ghost use Rattle.wjs_model.specs.Soundness.{HasObject, HasPoint, HasWorld, StandsHere};
 ghost use Rattle.wjs_model.specs.Standing.{Stands, IsShown};
 ghost use Rattle.wjs_moves.specs.Parts.{then_at, goal_of, node_of};
 ghost use Rattle.wjs_moves.specs.Handling.{Runs, GoesOn};
 
 use std::alloc::Global;
 use wjs_base::{ObjId, OutOfMemory, WorldId};
-use wjs_model::{Activation, Config, Frame, Items};
+use wjs_model::{Activation, Config, Frame, Items, Point};
 use wjs_moves::{Part, enter_last, wait};
 use wjs_store::WorldStore;
 
@@ -18,10 +18,8 @@ fn like(alloc: Global, frame: &Frame, scope: ObjId, held: Items) -> Result<Frame
     ensures { IfOk result (λ inner. inner ≡ record frame.now { scope = scope; held = held }) }
 {
     let activation = Activation {
-        form: frame.form(),
         tree: frame.tree(),
         node: frame.node(),
-        place: frame.place(),
         phase: frame.phase(),
         scope,
         this: frame.this(),
@@ -31,24 +29,25 @@ fn like(alloc: Global, frame: &Frame, scope: ObjId, held: Items) -> Result<Frame
     Frame::new(alloc, activation)
 }
 
-/// The frame waits at a place for a part, which is entered in a scope inside the frame's.
+/// The frame waits at a point for a part, which is entered in a scope inside the frame's.
 pub(crate) fn enter_in<S: WorldStore>(
     config: &mut Config<S>,
     frame: Frame,
-    place: u32,
+    point: Point,
     scope: ObjId,
     part: Part,
 ) -> Result<(), OutOfMemory>
     requires runs { Runs S.meaning config.old frame }
+    requires point { HasPoint config.old frame point }
     requires scope { HasObject config.old scope }
     requires outer { scope_of config.old.heap.arena scope ≡ Some frame.scope }
     requires part { Stands config.old.units.items config.old.heap.arena frame.tree (node_of part) scope 0 }
     ensures { GoesOn S.meaning frame config.old config.new result (λ t env.
-        Eval (goal_of part) (record env { scope = scope }) (then_at S.meaning config.old frame place t env)) }
+        Eval (goal_of part) (record env { scope = scope }) (then_at S.meaning config.old frame point t env)) }
 {
     let alloc = config.heap.arena.allocator();
     let inner = like(alloc, &frame, scope, config.frames.nothing_held())?;
-    wait(config, frame, place)?;
+    wait(config, frame, point)?;
     enter_last(config, inner, part)
 }
 

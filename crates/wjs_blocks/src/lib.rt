@@ -5,14 +5,13 @@
 mod blocks;
 mod clauses;
 mod enters;
-mod held;
 mod simple;
 mod switches;
 mod tries;
 mod within;
 
-pub use blocks::{block, block_next};
-pub use simple::{expr_next, if_next, return_next, return_start, throw_next};
-pub use switches::switch_next;
-pub use tries::try_next;
-pub use within::within_next;
+pub use blocks::{block_from, block_statement};
+pub use simple::{expr_value, if_test, return_value, throw_value};
+pub use switches::{case_value, clause_statement, switch_value};
+pub use tries::{try_block, try_finally, try_handler};
+pub use within::within_world;

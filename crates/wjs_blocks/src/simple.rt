@@ -1,23 +1,21 @@
 //! Statements of one expression (sections 12.4, 12.5, 12.9 and 12.13).
-ghost use Rattle.std.specs.Prelude.{IfSome};
 ghost use Rattle.wjs_content.specs.Tables.{value_in};
-ghost use Rattle.wjs_meaning.specs.Trees.{Return};
 ghost use Rattle.wjs_meaning.specs.Deeds.{then_value};
 ghost use Rattle.wjs_meaning.specs.Reading.{number};
-ghost use Rattle.wjs_meaning.specs.Statements.{stmt_of, expr_done, if_test, else_of, return_value, throw_value};
+ghost use Rattle.wjs_meaning.specs.Statements.{expr_done, if_test, else_of, return_value, throw_value};
 ghost use Rattle.wjs_model.specs.Contents.{completion_in};
-ghost use Rattle.wjs_model.specs.Soundness.{HasValue, HasCompletion, StandsHere};
-ghost use Rattle.wjs_moves.specs.Handling.{Runs, IsStmt, GoesOn};
+ghost use Rattle.wjs_model.specs.Soundness.{HasValue, HasCompletion, StandsHere, StandsIf};
+ghost use Rattle.wjs_moves.specs.Handling.{Runs, GoesOn};
 
 use wjs_base::{OutOfMemory, Value};
 use wjs_lines::to_boolean;
 use wjs_model::{Completion, Config, Frame};
-use wjs_moves::{Part, enter, enter_last, finish};
+use wjs_moves::{Part, enter_last, finish};
 use wjs_store::WorldStore;
-use wjs_tree::{End, Node, NodeId};
+use wjs_tree::NodeId;
 
 /// After an expression statement, whose value is dropped.
-pub fn expr_next<S: WorldStore>(
+pub fn expr_value<S: WorldStore>(
     config: &mut Config<S>,
     frame: Frame,
     completion: Completion,
@@ -33,7 +31,7 @@ pub fn expr_next<S: WorldStore>(
 }
 
 /// After the test of an `if`.
-pub fn if_next<S: WorldStore>(
+pub fn if_test<S: WorldStore>(
     config: &mut Config<S>,
     frame: Frame,
     s: NodeId,
@@ -42,18 +40,18 @@ pub fn if_next<S: WorldStore>(
 ) -> Result<(), OutOfMemory>
     requires runs { Runs S.meaning config.old frame }
     requires yes { StandsHere config.old frame s }
-    requires no { IfSome other (StandsHere config.old frame) }
+    requires no { StandsIf config.old frame other }
     requires completion { HasCompletion config.old completion }
     ensures { GoesOn S.meaning frame config.old config.new result (λ t env. then_value (if_test s.0 (number other) env) (completion_in t completion)) }
 {
     match completion {
-        Completion::Gives(value) => if_test(config, frame, s, other, value),
+        Completion::Gives(value) => if_chosen(config, frame, s, other, value),
         ended => finish(config, frame, ended),
     }
 }
 
 /// The part of an `if` that its test chooses.
-fn if_test<S: WorldStore>(
+fn if_chosen<S: WorldStore>(
     config: &mut Config<S>,
     frame: Frame,
     s: NodeId,
@@ -62,7 +60,7 @@ fn if_test<S: WorldStore>(
 ) -> Result<(), OutOfMemory>
     requires runs { Runs S.meaning config.old frame }
     requires yes { StandsHere config.old frame s }
-    requires no { IfSome other (StandsHere config.old frame) }
+    requires no { StandsIf config.old frame other }
     requires value { HasValue config.old value }
     ensures { GoesOn S.meaning frame config.old config.new result (λ t env. if_test s.0 (number other) env (value_in t value)) }
 {
@@ -80,7 +78,7 @@ fn else_start<S: WorldStore>(
     other: Option<NodeId>,
 ) -> Result<(), OutOfMemory>
     requires runs { Runs S.meaning config.old frame }
-    requires no { IfSome other (StandsHere config.old frame) }
+    requires no { StandsIf config.old frame other }
     ensures { GoesOn S.meaning frame config.old config.new result (λ t env. else_of (number other) env) }
 {
     match other {
@@ -89,25 +87,8 @@ fn else_start<S: WorldStore>(
     }
 }
 
-/// A `return`, of undefined where it has no expression.
-pub fn return_start<S: WorldStore>(
-    config: &mut Config<S>,
-    frame: Frame,
-    e: Option<NodeId>,
-    end: End,
-) -> Result<(), OutOfMemory>
-    requires runs { Runs S.meaning config.old frame }
-    requires node { IsStmt S.meaning config.old frame (Node.Return e end) }
-    ensures { GoesOn S.meaning frame config.old config.new result (λ t env. stmt_of frame.node.0 (Return (number e)) env) }
-{
-    match e {
-        Some(e) => enter(config, frame, 1, Part::Expr(e)),
-        None => finish(config, frame, Completion::Returns(Value::Undefined)),
-    }
-}
-
 /// After the value of a `return`.
-pub fn return_next<S: WorldStore>(
+pub fn return_value<S: WorldStore>(
     config: &mut Config<S>,
     frame: Frame,
     completion: Completion,
@@ -123,7 +104,7 @@ pub fn return_next<S: WorldStore>(
 }
 
 /// After the value of a `throw`.
-pub fn throw_next<S: WorldStore>(
+pub fn throw_value<S: WorldStore>(
     config: &mut Config<S>,
     frame: Frame,
     completion: Completion,

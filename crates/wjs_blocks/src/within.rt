@@ -15,7 +15,7 @@ use wjs_store::WorldStore;
 use wjs_tree::NodeId;
 
 /// After the value of the world.
-pub fn within_next<S: WorldStore>(
+pub fn within_world<S: WorldStore>(
     config: &mut Config<S>,
     frame: Frame,
     b: NodeId,

@@ -1,9 +1,7 @@
--- What a call does by the kind of its callee, and which nodes are those of `new`.
-use Rattle.std.specs.Prelude.{Bool, true, false, List}
+-- What a call does by the kind of its callee.
+use Rattle.std.specs.Prelude.{false, List}
 use Rattle.wjs_base.specs.declared.ids.ObjId.{ObjId}
 use Rattle.wjs_arena.specs.declared.native.Native.{Native}
-use Rattle.wjs_tree.specs.declared.node.Node.{Node}
-use Rattle.wjs_tree.specs.declared.node.Node.TheVariants as nodes
 use Rattle.wjs_content.specs.Values.{Value, Object}
 use Rattle.wjs_meaning.specs.Deeds.{Env, Act, Ret, Eval, AtBody, AtNative}
 use Rattle.wjs_meaning.specs.NewObjects.{to_object}
@@ -16,9 +14,3 @@ script_call f this args env = to_object (this_or_global this env) env (λ o. Eva
 -- of a native function a primitive stays itself
 abbrev pub native_call : Native → Value → List Value → Env → Act
 native_call k this args env = Eval (AtNative k false args) (record env { this = this_or_global this env }) Ret
-
--- a node of `new`
-abbrev pub is_new : Node → Bool
-is_new (nodes.NewWith f args) = true
-is_new (nodes.NewBare f) = true
-is_new _ = false

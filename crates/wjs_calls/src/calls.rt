@@ -6,10 +6,9 @@ ghost use Rattle.wjs_meaning.specs.Deeds.{Sub};
 ghost use Rattle.wjs_meaning.specs.Expressions as expressions;
 ghost use Rattle.wjs_model.specs.Contents.{holding_in};
 ghost use Rattle.wjs_calls.specs.Callees.{script_call, native_call};
-ghost use Rattle.wjs_model.specs.Rest as begins;
-ghost use Rattle.wjs_model.specs.Soundness.{HasObject, HasValue, HasItems};
+ghost use Rattle.wjs_model.specs.Soundness.{HasObject, HasValue, HasItems, HasPoint};
 ghost use Rattle.wjs_moves.specs.Parts.{then_at};
-ghost use Rattle.wjs_moves.specs.Handling.{Runs, GoesOn};
+ghost use Rattle.wjs_moves.specs.Handling.{Runs, GoesOn, Begins};
 
 use crate::enters::{enter_body, enter_native};
 use std::alloc::Global;
@@ -17,7 +16,7 @@ use wjs_arena::{Code, Native};
 use wjs_base::{ObjId, OutOfMemory, Value};
 use wjs_deeds::{code_of, function_of};
 use wjs_lines::{held_callee, this_or_global, throw, to_object};
-use wjs_model::{Activation, Completion, Config, Form, Frame, Items, Phase, Trouble};
+use wjs_model::{Activation, Completion, Config, Frame, Items, Phase, Point, Start, Trouble};
 use wjs_moves::{finish, wait};
 use wjs_store::WorldStore;
 
@@ -78,10 +77,9 @@ fn call_native<S: WorldStore>(
 }
 
 /// Calls what the frame holds as its callee, where that is an object; another value ends normally.
-pub fn call_if<S: WorldStore>(config: &mut Config<S>, frame: Frame) -> Result<(), OutOfMemory>
+pub fn call_held<S: WorldStore>(config: &mut Config<S>, frame: Frame) -> Result<(), OutOfMemory>
     requires runs { Runs S.meaning config.old frame }
-    ensures { GoesOn S.meaning frame config.old config.new result (λ t env.
-        let held = holding_in t frame.held in begins.call_if held.callee.0 held.callee.1 held.values env) }
+    ensures { Begins S.meaning frame Start.Call config.old config.new result }
 {
     let (callee, this) = held_callee(config, &frame);
     match callee {
@@ -110,38 +108,37 @@ pub fn call_value<S: WorldStore>(
     }
 }
 
-/// Calls a function while the frame waits at a place. The call's arguments are the values among the items.
+/// Calls a function while the frame waits. The call's arguments are the values among the items.
 pub fn call_below<S: WorldStore>(
     config: &mut Config<S>,
     frame: Frame,
-    place: u32,
+    point: Point,
     function: ObjId,
     this: Value,
     items: Items,
 ) -> Result<(), OutOfMemory>
     requires runs { Runs S.meaning config.old frame }
+    requires point { HasPoint config.old frame point }
     requires function { HasObject config.old function }
     requires this { HasValue config.old this }
     requires items { HasItems config.old items }
     ensures { GoesOn S.meaning frame config.old config.new result (λ t env.
-        Sub (line.call function (value_in t this) (holding_in t items).values env) (then_at S.meaning config.old frame place t env)) }
+        Sub (line.call function (value_in t this) (holding_in t items).values env) (then_at S.meaning config.old frame point t env)) }
 {
     let alloc = config.heap.arena.allocator();
     let above = frame_above(alloc, &frame, items)?;
-    wait(config, frame, place)?;
+    wait(config, frame, point)?;
     call(config, above, function, this)
 }
 
 /// A frame of a call where another frame is run.
 fn frame_above(alloc: Global, at: &Frame, held: Items) -> Result<Frame, OutOfMemory>
-    ensures { IfOk result (λ frame. frame ≡ record at.now { form = Form.Call; place = 0; phase = Phase.Ready; held = held }) }
+    ensures { IfOk result (λ frame. frame ≡ record at.now { phase = Phase.Ready Start.Call; held = held }) }
 {
     let activation = Activation {
-        form: Form::Call,
         tree: at.tree(),
         node: at.node(),
-        place: 0,
-        phase: Phase::Ready,
+        phase: Phase::Ready(Start::Call),
         scope: at.scope(),
         this: at.this(),
         world: at.world(),

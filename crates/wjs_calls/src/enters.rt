@@ -8,8 +8,8 @@ ghost use Rattle.wjs_moves.specs.Handling.{Runs, GoesOn};
 
 use wjs_arena::Native;
 use wjs_base::{ObjId, OutOfMemory, Value};
-use wjs_model::{Config, Form, Frame, Held};
-use wjs_moves::{due_later, hold};
+use wjs_model::{Config, Frame, Start};
+use wjs_moves::due_later;
 use wjs_store::WorldStore;
 
 /// The body of a function that a script made.
@@ -26,9 +26,8 @@ pub fn enter_body<S: WorldStore>(
         Eval (AtBody function (holding_in t frame.held).values) (record env { this = value_in t this }) Ret) }
 {
     let mut frame = frame;
-    hold(&mut frame, Held::Callee(Value::Object(function), this))?;
-    frame.set_call(Form::Body, this);
-    due_later(config, frame, 0)
+    frame.set_this(this);
+    due_later(config, frame, Start::Body(function))
 }
 
 /// A native function.
@@ -44,9 +43,8 @@ pub fn enter_native<S: WorldStore>(
         Eval (AtNative native false (holding_in t frame.held).values) (record env { this = value_in t this }) Ret) }
 {
     let mut frame = frame;
-    hold(&mut frame, Held::Callee(Value::Undefined, this))?;
-    frame.set_call(Form::Native(native), this);
-    due_later(config, frame, 0)
+    frame.set_this(this);
+    due_later(config, frame, Start::Native(native, false))
 }
 
 /// A native function that `new` calls; its `this` is undefined.
@@ -60,7 +58,6 @@ pub fn enter_constructor<S: WorldStore>(
         Eval (AtNative native true (holding_in t frame.held).values) (record env { this = value_in t Value.Undefined }) Ret) }
 {
     let mut frame = frame;
-    hold(&mut frame, Held::ByNew)?;
-    frame.set_call(Form::Native(native), Value::Undefined);
-    due_later(config, frame, 0)
+    frame.set_this(Value::Undefined);
+    due_later(config, frame, Start::Native(native, true))
 }

@@ -1,5 +1,5 @@
 //! `new` (ECMA-262, 3rd edition, sections 11.2.2 and 13.2.2).
-ghost use Rattle.std.specs.Prelude.{◌≡◌, true};
+ghost use Rattle.std.specs.Prelude.{◌≡◌};
 ghost use Rattle.wjs_content.specs.Names.{prototype_name};
 ghost use Rattle.wjs_content.specs.Tables.{value_in, arena_in};
 ghost use Rattle.wjs_content.specs.Objects.{object_at};
@@ -7,8 +7,6 @@ ghost use Rattle.wjs_meaning.specs.Properties.{get_value};
 ghost use Rattle.wjs_meaning.specs.Constructions as line;
 ghost use Rattle.wjs_model.specs.Contents.{holding_in};
 ghost use Rattle.wjs_model.specs.Soundness.{HasObject, HasValue};
-ghost use Rattle.wjs_moves.specs.Parts.{node_now};
-ghost use Rattle.wjs_calls.specs.Callees.{is_new};
 ghost use Rattle.wjs_moves.specs.Handling.{Runs, GoesOn};
 
 use crate::calls::call_below;
@@ -17,7 +15,7 @@ use wjs_arena::{Class, Code, Native};
 use wjs_base::{ObjId, OutOfMemory, Value};
 use wjs_deeds::{Known, builtin, code_of, create, function_of, get_known, object_of};
 use wjs_lines::throw;
-use wjs_model::{Config, Form, Frame, Held, Trouble};
+use wjs_model::{Config, ExprPoint, Frame, Held, Point, Trouble};
 use wjs_moves::hold;
 use wjs_store::WorldStore;
 
@@ -29,8 +27,6 @@ pub fn construct<S: WorldStore>(
     callee: Value,
 ) -> Result<(), OutOfMemory>
     requires runs { Runs S.meaning config.old frame }
-    requires form { frame.form ≡ Form.Expr }
-    requires node { is_new (node_now S.meaning config.old frame) ≡ true }
     requires callee { HasValue config.old callee }
     ensures { GoesOn S.meaning frame config.old config.new result (λ t env. line.construct (value_in t callee) env (holding_in t frame.held).values) }
 {
@@ -46,8 +42,6 @@ fn construct_function<S: WorldStore>(
     function: ObjId,
 ) -> Result<(), OutOfMemory>
     requires runs { Runs S.meaning config.old frame }
-    requires form { frame.form ≡ Form.Expr }
-    requires node { is_new (node_now S.meaning config.old frame) ≡ true }
     requires function { HasObject config.old function }
     ensures { GoesOn S.meaning frame config.old config.new result (λ t env.
         line.new_code (object_at (arena_in t config.old.heap.arena) function).code function (holding_in t frame.held).values env) }
@@ -82,8 +76,6 @@ fn construct_script<S: WorldStore>(
     function: ObjId,
 ) -> Result<(), OutOfMemory>
     requires runs { Runs S.meaning config.old frame }
-    requires form { frame.form ≡ Form.Expr }
-    requires node { is_new (node_now S.meaning config.old frame) ≡ true }
     requires function { HasObject config.old function }
     ensures { GoesOn S.meaning frame config.old config.new result (λ t env.
         get_value function prototype_name env (line.new_prototype function (holding_in t frame.held).values env)) }
@@ -98,7 +90,7 @@ fn construct_script<S: WorldStore>(
     }
 }
 
-/// The frame waits for the call, at its place 2, and holds the new object alone.
+/// The frame waits for the call, and holds the new object alone.
 fn construct_on<S: WorldStore>(
     config: &mut Config<S>,
     frame: Frame,
@@ -106,8 +98,6 @@ fn construct_on<S: WorldStore>(
     prototype: ObjId,
 ) -> Result<(), OutOfMemory>
     requires runs { Runs S.meaning config.old frame }
-    requires form { frame.form ≡ Form.Expr }
-    requires node { is_new (node_now S.meaning config.old frame) ≡ true }
     requires function { HasObject config.old function }
     requires prototype { HasObject config.old prototype }
     ensures { GoesOn S.meaning frame config.old config.new result (λ t env. line.new_on prototype function (holding_in t frame.held).values env) }
@@ -117,7 +107,14 @@ fn construct_on<S: WorldStore>(
     let mut frame = frame;
     let arguments = frame.replace_held(config.frames.nothing_held());
     hold(&mut frame, Held::Value(Value::Object(object)))?;
-    call_below(config, frame, 2, function, Value::Object(object), arguments)
+    call_below(
+        config,
+        frame,
+        Point::Expr(ExprPoint::NewCall),
+        function,
+        Value::Object(object),
+        arguments,
+    )
 }
 
 /// Whether `new` takes a native function.

@@ -8,7 +8,7 @@ use Rattle.wjs_meaning.specs.Deeds.{St, Env, Goal, Completion, Gives, Refers, No
 use Rattle.wjs_meaning.specs.Programs.{Done, run_next, entry, eval_to, eval}
 use Rattle.wjs_model.specs.Contents.{Frame, Run}
 use Rattle.wjs_model.specs.Frames.{last, front}
-use Rattle.wjs_model.specs.Rest.{Go, Count, act_of, given, under, rest_over, rest_top, rest_of, turns_act, turns_under, turns_over}
+use Rattle.wjs_model.specs.Rest.{Go, Count, act_of, act_after, under, rest_over, rest_top, rest_of, turns_act, turns_under, turns_over}
 use Rattle.wjs_model.specs.Configurations.{seen, after_done}
 use Rattle.wjs_moves.specs.Keeping.{rest_with}
 
@@ -88,8 +88,8 @@ under_earlier : (d : List Told) (run : Run) (fs : List Frame) (go : Go) → Alik
 under_earlier d run [] go h = h
 under_earlier d run (f ∷ fs) go h = under_earlier d run fs _ (record {
   at = λ c st n.
-      ap (λ o. then_do o go) (interp_earlier d eval (eval_earlier d) (given run f c) st n)
-      ∙ then_earlier d (interp eval (given run f c) st n) go h;
+      ap (λ o. then_do o go) (interp_earlier d eval (eval_earlier d) (act_after run f c) st n)
+      ∙ then_earlier d (interp eval (act_after run f c) st n) go h;
 })
 
 over_earlier : (d : List Told) (run : Run) (act : Act) (fs : List Frame) (st : St) (n : ℕ) → rest_over run act fs (earlier d st) n ≡ earlier_in d (rest_over run act fs st n)
@@ -139,7 +139,7 @@ act_turns d (Do deed go) st k h = (λ i. turns_act (go (answers d deed st i)) (l
 
 under_turns : (d : List Told) (run : Run) (fs : List Frame) (k : Count) → Counts d k → Counts d (turns_under run fs k)
 under_turns d run [] k h = h
-under_turns d run (f ∷ fs) k h = under_turns d run fs _ (record { at = λ c st. act_turns d (given run f c) st k h })
+under_turns d run (f ∷ fs) k h = under_turns d run fs _ (record { at = λ c st. act_turns d (act_after run f c) st k h })
 
 pub turns_blind : (run : Run) (act : Act) (fs : List Frame) (st : St) (d e : List Told) → turns_over run act fs (record st { done = d }) ≡ turns_over run act fs (record st { done = e })
 turns_blind run act fs st d e = untold d ∙ sym (untold e)

@@ -28,7 +28,7 @@ use Rattle.wjs_heap.specs.Means.{parts}
 use Rattle.wjs_heap.proofs.Growing.{heap_grows}
 use Rattle.wjs_heap.proofs.Told.{told_stays}
 use Rattle.wjs_model.specs.declared.config.Config.{Config}
-use Rattle.wjs_model.specs.Soundness.{HasObject, HasWorld, IsThere, Base}
+use Rattle.wjs_model.specs.Soundness.{HasObject, HasWorld, IsStacked, Base}
 use Rattle.wjs_model.specs.Apart.{is_apart, IsNear, NearSlots, NamesNear}
 use Rattle.wjs_model.specs.Standing.{FunctionStands}
 use Rattle.wjs_model.proofs.Standing.{code_kept}
@@ -106,7 +106,11 @@ module _ {S : Type 0} (meaning : S → Meaning) where
     own = b.own;
     near_objects = b.near_objects;
     near_slots = b.near_slots;
-    frames = All-weaker (IsThere meaning old) (IsThere meaning (record old { pending = pending })) (λ f h. record { scope = h.scope; this = h.this; world = h.world; held = h.held; phase = h.phase; stands = h.stands }) old.frames b.frames;
+    frames = All-weaker (IsStacked meaning old) (IsStacked meaning (record old { pending = pending }))
+        (λ f h. record {
+          there = record { scope = h.there.scope; this = h.there.this; world = h.there.world; held = h.there.held; stands = h.there.stands };
+          phase = h.phase;
+        }) old.frames b.frames;
     marks = b.marks;
     told = b.told;
   }

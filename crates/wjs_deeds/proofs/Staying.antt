@@ -41,12 +41,15 @@ use Rattle.wjs_model.specs.declared.operand.Operand.{Operand}
 use Rattle.wjs_model.specs.declared.operand.Operand.TheVariants as operands
 use Rattle.wjs_model.specs.declared.frame.Phase.{Phase}
 use Rattle.wjs_model.specs.declared.frame.Phase.TheVariants as phases
+use Rattle.wjs_model.specs.declared.point.Point.{Point}
+use Rattle.wjs_model.specs.declared.point.Start.{Start}
+use Rattle.wjs_model.specs.declared.point.Start.TheVariants as starts
 use Rattle.wjs_model.specs.declared.frame.Activation.{Activation as Frame}
 use Rattle.wjs_model.specs.declared.config.Config.{Config}
-use Rattle.wjs_model.specs.Soundness.{HasObject, HasName, HasValue, HasSlot, HasLabel, HasReference, HasCompletion, HasItem, HasItems, HasOperand, HasPhase, HasWorld, IsThere, Base}
-use Rattle.wjs_model.specs.Standing.{FunctionStands, FrameStands}
+use Rattle.wjs_model.specs.Soundness.{HasObject, HasName, HasValue, HasSlot, HasLabel, HasReference, HasCompletion, HasItem, HasItems, HasOperand, HasStart, HasPoint, HasPhase, HasWorld, IsThere, IsStacked, Base}
+use Rattle.wjs_model.specs.Standing.{FunctionStands, PointStands, FrameStands}
 use Rattle.wjs_model.proofs.Placed.{placed_stay}
-use Rattle.wjs_model.proofs.Standing.{has_kept, frame_kept}
+use Rattle.wjs_model.proofs.Standing.{has_kept, point_kept, frame_kept}
 use Rattle.wjs_model.specs.Apart.{IsNear, NearSlots, NamesNear}
 use Rattle.wjs_model.specs.Texts.{HasText, KnowsSpelt, KnowsKey, KnowsInit, KnowsHandler, KnowsNode, KnowsUnit}
 use Rattle.wjs_moves.specs.Following.{Later}
@@ -143,8 +146,6 @@ module _ {S : Type 0} (old new : Config S) (g : Grows old.heap.texts new.heap.te
   item_there (holds.Value v) h = value_there v h
   item_there (holds.Reference r) h = reference_there r h
   item_there (holds.Callee f this) h = (value_there f h.0, value_there this h.1)
-  item_there holds.ByNew h = tt
-  item_there holds.Begun h = tt
   item_there (holds.Elements o count) h = objects o h
   item_there (holds.Earlier e) h = completion_there e h
   item_there (holds.Visit s) h = slot_there s h
@@ -158,12 +159,9 @@ module _ {S : Type 0} (old new : Config S) (g : Grows old.heap.texts new.heap.te
   operand_there (operands.Name place id) h = Grows-Has old.heap.texts new.heap.texts id g h
   operand_there (operands.Target place id) h = Grows-Has old.heap.texts new.heap.texts id g h
 
-  phase_there : (p : Phase) → HasPhase old p → HasPhase new p
-  phase_there (phases.Given e) h = completion_there e h
-  phase_there (phases.Entering o) h = operand_there o h
-  phase_there phases.Due h = tt
-  phase_there phases.Ready h = tt
-  phase_there phases.Waiting h = tt
+  start_there : (s : Start) → HasStart old s → HasStart new s
+  start_there (starts.Body f) h = objects f h
+  start_there s h = tt
 
   module _ (meaning : S → Meaning) (has_worlds : (w : WorldId) → HasWorld meaning old w → HasWorld meaning new w) (keeps : Keeps old.heap.arena new.heap.arena) (units : new.units ≡ old.units) where
     frame_there : (f : Frame) → IsThere meaning old f → IsThere meaning new f
@@ -172,9 +170,21 @@ module _ {S : Type 0} (old new : Config S) (g : Grows old.heap.texts new.heap.te
       this = value_there f.this h.this;
       world = has_worlds f.world h.world;
       held = items_there f.held h.held;
-      phase = phase_there f.phase h.phase;
       stands = subst (λ (us : Vec Program Global). FrameStands us.items new.heap.arena f) (sym units) (frame_kept old.heap.arena new.heap.arena keeps old.units.items f h.stands);
     }
+
+    point_there : (f : Frame) (p : Point) → HasPoint old f p → HasPoint new f p
+    point_there f p h = subst (λ (us : Vec Program Global). PointStands us.items new.heap.arena f.tree f.node f.scope p) (sym units) (point_kept old.heap.arena new.heap.arena keeps old.units.items f.tree f.node f.scope p h)
+
+    phase_there : (f : Frame) (p : Phase) → HasPhase old f p → HasPhase new f p
+    phase_there f (phases.Due start) h = start_there start h
+    phase_there f (phases.Ready start) h = start_there start h
+    phase_there f (phases.Waiting point) h = point_there f point h
+    phase_there f (phases.Given point e) h = (point_there f point h.0, completion_there e h.1)
+    phase_there f (phases.Entering point o) h = (point_there f point h.0, operand_there o h.1)
+
+    stacked_there : (f : Frame) → IsStacked meaning old f → IsStacked meaning new f
+    stacked_there f h = record { there = frame_there f h.there; phase = phase_there f f.phase h.phase }
 
     -- all that was there is there
     pub later_there : new.state ≡ old.state → new.global ≡ old.global → new.owner ≡ old.owner → Base meaning new → Later meaning old new
@@ -211,7 +221,8 @@ module _ {S : Type 0} (meaning : S → Meaning) (old : Config S) (heap : Heap S)
   objects_on : (o : ObjId) → HasObject old o → HasObject (record old { heap = heap }) o
   objects_on o h = (has_kept old.heap.arena heap.arena keeps o h.0, h.1)
 
-  pub base_on : Base meaning old → IsHeap (parts meaning heap) → KnowsWorlds heap.texts (worlds (meaning heap.store)) → KnowsTold heap.texts (meaning heap.store).told → IsTrue (not (meaning heap.store).spent)
+  pub base_on : Base meaning old → IsHeap (parts meaning heap) → KnowsWorlds heap.texts (worlds (meaning heap.store))
+      → KnowsTold heap.texts (meaning heap.store).told → IsTrue (not (meaning heap.store).spent)
       → ((o : ObjId) (e : Entry) (w : WorldId) → map.get heap.arena o ≡ Some e → e.object.world ≡ Some w → w.owner ≡ old.owner → IsTrue (has_world (worlds (meaning heap.store)) w)) → StaysApart meaning old heap → Base meaning (record old { heap = heap })
   base_on b is_heap marks told works own apart = record {
     heap = is_heap;
@@ -228,11 +239,12 @@ module _ {S : Type 0} (meaning : S → Meaning) (old : Config S) (heap : Heap S)
     own = b.own;
     near_objects = apart.objects;
     near_slots = apart.slots;
-    frames = All-weaker (IsThere meaning old) (IsThere meaning (record old { heap = heap })) (frame_there old (record old { heap = heap }) g objects_on meaning has_worlds keeps refl) old.frames b.frames;
+    frames = All-weaker (IsStacked meaning old) (IsStacked meaning (record old { heap = heap })) (stacked_there old (record old { heap = heap }) g objects_on meaning has_worlds keeps refl) old.frames b.frames;
     marks = marks;
     told = told;
   }
 
-  pub later_on : Base meaning old → IsHeap (parts meaning heap) → KnowsWorlds heap.texts (worlds (meaning heap.store)) → KnowsTold heap.texts (meaning heap.store).told → IsTrue (not (meaning heap.store).spent)
+  pub later_on : Base meaning old → IsHeap (parts meaning heap) → KnowsWorlds heap.texts (worlds (meaning heap.store))
+      → KnowsTold heap.texts (meaning heap.store).told → IsTrue (not (meaning heap.store).spent)
       → ((o : ObjId) (e : Entry) (w : WorldId) → map.get heap.arena o ≡ Some e → e.object.world ≡ Some w → w.owner ≡ old.owner → IsTrue (has_world (worlds (meaning heap.store)) w)) → StaysApart meaning old heap → Later meaning old (record old { heap = heap })
   later_on b is_heap marks told works own apart = later_there old (record old { heap = heap }) g objects_on meaning has_worlds keeps refl refl refl refl (base_on b is_heap marks told works own apart)

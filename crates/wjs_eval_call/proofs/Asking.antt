@@ -1,5 +1,5 @@
 -- Objects that are asked by their methods for a primitive (ECMA-262, 3rd edition, section 8.6.2.6).
-use Rattle.std.proofs.Common.{◌≡◌, ℕ, true, [], Option, None, Some, ap, ◌∙◌, subst}
+use Rattle.std.proofs.Common.{◌≡◌, [], Option, None, Some, ap, subst}
 use Rattle.std.specs.Prelude.{Result, OnOk}
 use Rattle.wjs_base.specs.declared.ids.ObjId.{ObjId}
 use Rattle.wjs_base.specs.declared.ids.OutOfMemory.{OutOfMemory}
@@ -9,25 +9,18 @@ use Rattle.wjs_store.specs.Meaning.{Meaning}
 use Rattle.wjs_content.specs.Objects.{Arena, function_of}
 use Rattle.wjs_content.specs.Tables.{value_in}
 use Rattle.wjs_content.specs.Values.{Text, Value, Object}
-use Rattle.wjs_meaning.specs.Trees.{Node}
 use Rattle.wjs_meaning.specs.declared.trouble.Trouble.TheVariants.{NoPrimitiveValue}
 use Rattle.wjs_meaning.specs.Deeds.{Env, Act, Sub, Do, Look, then_value}
 use Rattle.wjs_meaning.specs.Calls.{call}
-use Rattle.wjs_meaning.specs.Conversions.{HintString, HintNumber, second_method, try_method, method_result}
+use Rattle.wjs_meaning.specs.Conversions.{Hint, second_method, try_method, method_result}
 use Rattle.wjs_meaning.specs.Errors.{throw}
 use Rattle.wjs_meaning.specs.Properties.{get_value}
 use Rattle.wjs_model.specs.declared.config.Config.{Config}
-use Rattle.wjs_model.specs.declared.frame.Conversion.{Conversion}
-use Rattle.wjs_model.specs.declared.frame.Conversion.TheVariants as to
-use Rattle.wjs_model.specs.declared.frame.Form.{Form}
-use Rattle.wjs_model.specs.declared.frame.Form.TheVariants as form
-use Rattle.wjs_model.specs.Contents.{Holding}
 use Rattle.wjs_model.specs.Outside.{Sees}
-use Rattle.wjs_model.specs.Waiting.{after, after_method}
+use Rattle.wjs_model.specs.Waiting.{after_first}
 use Rattle.wjs_moves.specs.Doing.{Does}
 use Rattle.wjs_moves.specs.Following.{Follows}
 use Rattle.wjs_moves.proofs.Shorter.{follows_look}
-use Rattle.wjs_eval_call.specs.Primitives.{hint_of, is_primitive_first}
 
 -- a method is called where it is a function
 abbrev pub method_then : ObjId → Env → Act → Option ObjId → Act
@@ -47,24 +40,6 @@ asked meaning name text o env method otherwise found old mid new r does same is 
     (does.by (λ v. Do Look (λ arena. then (function_of arena v))) new r
     (follows_look meaning (λ (arena : Arena). then (function_of arena (value_in t method))) (then found) mid new r (λ arena s. ap then (is t arena s)) h))
 
-module _ (node : Node) (here : ℕ) (held : Holding) (env : Env) (o : ObjId) where
-  by_first : (k : Conversion) → is_primitive_first k ≡ true → held.value ≡ Object o → after node (form.Convert k) here 1 held env ≡ then_value (method_result (try_method (second_method (hint_of k)) o env (throw NoPrimitiveValue env)))
-  by_first to.TextFirst p e = ap (λ (v : Value). then_value (after_method HintString v 1 env)) e
-  by_first to.NumberFirst p e = ap (λ (v : Value). then_value (after_method HintNumber v 1 env)) e
-  by_first to.Number p e = absurd (cc)
-  by_first to.Text p e = absurd (cc)
-  by_first to.Integer p e = absurd (cc)
-
-  by_second : (k : Conversion) → is_primitive_first k ≡ true → held.value ≡ Object o → after node (form.Convert k) here 2 held env ≡ then_value (method_result (throw NoPrimitiveValue env))
-  by_second to.TextFirst p e = ap (λ (v : Value). then_value (after_method HintString v 2 env)) e
-  by_second to.NumberFirst p e = ap (λ (v : Value). then_value (after_method HintNumber v 2 env)) e
-  by_second to.Number p e = absurd (cc)
-  by_second to.Text p e = absurd (cc)
-  by_second to.Integer p e = absurd (cc)
-
-  -- the frame that waits for the first method, and for the second
-  pub waits_first : (f : Form) (k : Conversion) → f ≡ form.Convert k → is_primitive_first k ≡ true → held.value ≡ Object o → after node f here 1 held env ≡ then_value (method_result (try_method (second_method (hint_of k)) o env (throw NoPrimitiveValue env)))
-  waits_first f k ef p e = ap (λ (g : Form). after node g here 1 held env) ef ∙ by_first k p e
-
-  pub waits_second : (f : Form) (k : Conversion) → f ≡ form.Convert k → is_primitive_first k ≡ true → held.value ≡ Object o → after node f here 2 held env ≡ then_value (method_result (throw NoPrimitiveValue env))
-  waits_second f k ef p e = ap (λ (g : Form). after node g here 2 held env) ef ∙ by_second k p e
+-- the frame that waits for the first method of the object that it holds
+pub waits_first : (hint : Hint) (v : Value) (o : ObjId) (env : Env) → v ≡ Object o → then_value (after_first hint v env) ≡ then_value (method_result (try_method (second_method hint) o env (throw NoPrimitiveValue env)))
+waits_first hint v o env e = ap (λ (x : Value). then_value (after_first hint x env)) e

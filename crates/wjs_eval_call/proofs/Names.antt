@@ -18,7 +18,7 @@ use Rattle.wjs_meaning.specs.Deeds.{Env, node_here}
 use Rattle.wjs_meaning.specs.Functions.{function_names}
 use Rattle.wjs_meaning.specs.Reading.{numbers}
 use Rattle.wjs_meaning.specs.Trees.{has_text, name_of}
-use Rattle.wjs_declared.proofs.Repeats.{has_number}
+use Rattle.wjs_model.proofs.Repeats.{has_number}
 use Rattle.wjs_eval_call.specs.Taking.{Takes}
 
 or_pair : (a b c : Bool) → (a || (b || c)) ≡ ((a || b) || c)

@@ -1,6 +1,6 @@
 -- Bodies stand at their nodes, inside the scopes that are made for them.
 use Rattle.std.proofs.Common.{◌≡◌, ℕ, zero, suc, ◌+◌, Bool, true, false, List, [], ◌∷◌, Option, None, Some, IsTrue, inl, inr, refl, sym, ap, ◌∙◌, drop, subst}
-use Rattle.std.specs.Prelude.{All, slice_get, unwrap_or, is_some, filter}
+use Rattle.std.specs.Prelude.{All, slice_get, unwrap_or, is_some}
 use Rattle.std.specs.FinMap as map
 use Rattle.std.proofs.lemmas.List.Elements.{All-nil, All-cons, All-get_or}
 use Rattle.std.proofs.lemmas.Option.{slice_get_within, get_or_from_slice_get}
@@ -15,29 +15,24 @@ use Rattle.wjs_tree.specs.Shows.{Has}
 use Rattle.wjs_arena.specs.declared.object.Code.{Code}
 use Rattle.wjs_arena.specs.declared.object.Code.TheVariants as code
 use Rattle.wjs_arena.specs.Entries.{Entry, Objects, scope_of}
-use Rattle.wjs_scope.specs.Declarations.{elements_of}
+use Rattle.wjs_scope.specs.Bodies.{elements_at}
+use Rattle.wjs_scope.specs.Declarations.{elements_of, is_declaration, functions_among}
 use Rattle.wjs_scope.specs.Nesting.{Around, parts, IsAmong}
 use Rattle.wjs_meaning.specs.Reading.{numbers, node_in}
 use Rattle.wjs_meaning.specs.Trees as content
 use Rattle.wjs_model.specs.declared.config.Config.{Config}
-use Rattle.wjs_model.specs.declared.frame.Form.{Form}
-use Rattle.wjs_model.specs.declared.frame.Form.TheVariants as form
 use Rattle.wjs_model.specs.declared.frame.Activation.{Activation as Frame}
-use Rattle.wjs_model.specs.declared.frame.Held.{Held}
-use Rattle.wjs_model.specs.declared.frame.Held.TheVariants as holds
 use Rattle.wjs_model.specs.declared.unit.Unit.{Unit as Program}
-use Rattle.wjs_model.specs.Contents.{begun_held}
 use Rattle.wjs_model.specs.Texts.{PlacesUnit}
-use Rattle.wjs_model.specs.Standing.{Stands, is_function, own_scopes, IsFunction, FunctionStands, BodyStands}
+use Rattle.wjs_model.specs.Standing.{Stands, is_function, own_scopes, IsFunction, FunctionStands}
 use Rattle.wjs_model.specs.Soundness.{HasObject, StandsHere, IsThere, Base}
-use Rattle.wjs_model.specs.Waiting.{program_elements}
+use Rattle.wjs_model.specs.Lists.{program_elements}
 use Rattle.wjs_model.proofs.Standing.{stands_fewer, function_begins}
 use Rattle.wjs_moves.specs.Following.{Later}
 use Rattle.wjs_moves.specs.Parts.{node_now}
 use Rattle.wjs_moves.proofs.Parting.{among_around, among_is, stands_here, element_here, function_now}
 use Rattle.wjs_calls.proofs.StandingFunctions.{function_later}
-use Rattle.wjs_declared.specs.Names.{node_at, elements_at, declares, functions_among}
-use Rattle.wjs_eval_call.specs.Elements.{Begins}
+use Rattle.wjs_eval_call.specs.Elements.{NextIs}
 
 -- ---- elements
 
@@ -54,11 +49,11 @@ none_left_over : (at : ℕ) (s : NodeId) (rest : List ℕ) → drop at [] ≡ s.
 none_left_over zero s rest k = cc
 none_left_over (suc i) s rest k = cc
 
-program_parts : (t : Table) (n : Node) (at : ℕ) (s : NodeId) → Begins (program_elements (node_in t n)) at (Some s) → IsAmong (parts n) (s, Around)
+program_parts : (t : Table) (n : Node) (at : ℕ) (s : NodeId) → NextIs (program_elements (node_in t n)) at (Some s) → IsAmong (parts n) (s, Around)
 program_parts t (nodes.Program list) at s k = among_around list s (among_left_over list at s _ k)
 program_parts t n at s k = absurd (none_left_over at s _ k)
 
-function_element : (t : Table) (n : Node) (at : ℕ) (s : NodeId) → is_function n ≡ true → Begins (content.elements_of (node_in t n)) at (Some s) → IsAmong (elements_of n) s
+function_element : (t : Table) (n : Node) (at : ℕ) (s : NodeId) → is_function n ≡ true → NextIs (content.elements_of (node_in t n)) at (Some s) → IsAmong (elements_of n) s
 function_element t (nodes.Function name formals list) at s e h = among_left_over list at s _ h
 function_element t (nodes.FunctionDecl name formals list) at s e h = among_left_over list at s _ h
 function_element t n at s e h = absurd (cc)
@@ -70,36 +65,20 @@ pub same_elements : (t : Table) (n : Node) (list : List NodeId) → n ≡ nodes.
 same_elements t n list e = rw e refl
 
 module _ (units : List Program) (arena : Objects) where
-  -- what has not begun
-  pub not_begun : (f : Form) (tree : ℕ) (node : NodeId) (scope : ObjId) → BodyStands units arena f false tree node scope
-  not_begun form.Expr tree node scope = tt
-  not_begun form.Target tree node scope = tt
-  not_begun form.Stmt tree node scope = tt
-  not_begun form.Body tree node scope = tt
-  not_begun (form.Convert c) tree node scope = tt
-  not_begun form.Call tree node scope = tt
-  not_begun (form.Native k) tree node scope = tt
-
   -- the body of a program stands in its scope
   pub body_stands : (tree : ℕ) (scope : ObjId) (u : Program) → slice_get units tree ≡ Some u → Stands units arena tree u.program.body scope 0
   body_stands tree scope u e = record { unit = u; found = e; arguments = None; scopes = []; around = ([], (refl, refl)); outwards = tt }
 
-  has_begun : (f : Form) (begun : Bool) (tree : ℕ) (node : NodeId) (scope : ObjId) → f ≡ form.Body → begun ≡ true → BodyStands units arena f begun tree node scope → IsFunction units arena tree node scope 1
-  has_begun f begun tree node scope ef eb h = subst (λ (b : Bool). BodyStands units arena form.Body b tree node scope) eb (subst (λ (g : Form). BodyStands units arena g begun tree node scope) ef h)
-
-  begins : (f : Form) (tree : ℕ) (node : NodeId) (scope : ObjId) → f ≡ form.Body → IsFunction units arena tree node scope 1 → BodyStands units arena f true tree node scope
-  begins f tree node scope ef h = subst (λ (g : Form). BodyStands units arena g true tree node scope) (sym ef) h
-
   -- ---- the functions that a body declares
 
   module _ (u : Program) (tree : ℕ) (scope : ObjId) (found : slice_get units tree ≡ Some u) where
-    one_declared : (x : NodeId) (r : Option Node) → slice_get u.program.nodes x.0 ≡ r → declares (unwrap_or r nodes.Empty) ≡ true → Stands units arena tree x scope 0 → IsFunction units arena tree x scope 0
+    one_declared : (x : NodeId) (r : Option Node) → slice_get u.program.nodes x.0 ≡ r → is_declaration r ≡ true → Stands units arena tree x scope 0 → IsFunction units arena tree x scope 0
     one_declared x (Some (nodes.FunctionDecl name formals list)) e d s =
         let same : u ≡ s.unit = (let p = s.found in let q = found in cc) in
         record { function = nodes.FunctionDecl name formals list; is = refl; stands = s; has = subst (λ (v : Program). Has v.program.nodes x (nodes.FunctionDecl name formals list)) same e }
     one_declared x r e d s = absurd (cc)
 
-    both : (x : NodeId) (more : List NodeId) (b : Bool) → declares (node_at u.program.nodes x.0) ≡ b → Stands units arena tree x scope 0 → All (λ (i : NodeId). IsFunction units arena tree i scope 0) (functions_among u.program.nodes more) → All (λ (i : NodeId). IsFunction units arena tree i scope 0) (functions_among u.program.nodes (x ∷ more))
+    both : (x : NodeId) (more : List NodeId) (b : Bool) → is_declaration (slice_get u.program.nodes x.0) ≡ b → Stands units arena tree x scope 0 → All (λ (i : NodeId). IsFunction units arena tree i scope 0) (functions_among u.program.nodes more) → All (λ (i : NodeId). IsFunction units arena tree i scope 0) (functions_among u.program.nodes (x ∷ more))
     both x more true e s h =
         let same : x ∷ functions_among u.program.nodes more ≡ functions_among u.program.nodes (x ∷ more) = rw e refl in
         subst (All (λ (i : NodeId). IsFunction units arena tree i scope 0)) same
@@ -110,7 +89,7 @@ module _ (units : List Program) (arena : Objects) where
 
     all_declared : (es : List NodeId) → ((i : NodeId) → IsAmong es i → Stands units arena tree i scope 0) → All (λ (i : NodeId). IsFunction units arena tree i scope 0) (functions_among u.program.nodes es)
     all_declared [] h = All-nil (λ (i : NodeId). IsFunction units arena tree i scope 0)
-    all_declared (x ∷ es) h = both x es (declares (node_at u.program.nodes x.0)) refl (h x (inl refl)) (all_declared es (λ i k. h i (inr k)))
+    all_declared (x ∷ es) h = both x es (is_declaration (slice_get u.program.nodes x.0)) refl (h x (inl refl)) (all_declared es (λ i k. h i (inr k)))
 
     -- where its elements stand
     pub declared_stand : (body : NodeId) (n : Node) (fs : List NodeId) → Has u.program.nodes body n → ((i : NodeId) → IsAmong (elements_of n) i → Stands units arena tree i scope 0) → fs ≡ functions_among u.program.nodes (elements_at u.program.nodes body.0) → All (λ (i : NodeId). IsFunction units arena tree i scope 0) fs
@@ -132,37 +111,36 @@ module _ {S : Type 0} (meaning : S → Meaning) where
           subst (λ (s : Option ObjId). FunctionStands c.units.items c.heap.arena (code.Script tree node) s) (es e q)
           (subst (λ (k : Code). FunctionStands c.units.items c.heap.arena k e.object.scope) (ec e q) (b.functions o e q))
 
-  -- the frame of a function whose scope is made
-  pub begun_there : (old new : Config S) (f : Frame) (tree : ℕ) (node : NodeId) (scope inner : ObjId) → Later meaning old new → IsThere meaning old f → f.form ≡ form.Body → HasObject new inner → scope_of new.heap.arena inner ≡ Some scope → IsFunction old.units.items old.heap.arena tree node scope 0 → IsThere meaning new (record f { tree = tree; node = node; scope = inner; held = holds.Begun ∷ f.held })
-  begun_there old new f tree node scope inner l h ef there outer is =
+  -- a function's body begins in the scope that is made for it
+  pub begun_function : (old new : Config S) (tree : ℕ) (node : NodeId) (scope inner : ObjId) → Later meaning old new → scope_of new.heap.arena inner ≡ Some scope → IsFunction old.units.items old.heap.arena tree node scope 0 → IsFunction new.units.items new.heap.arena tree node inner 1
+  begun_function old new tree node scope inner l outer is = function_begins new.units.items new.heap.arena tree node scope inner outer (function_later meaning old new tree node scope 0 l is)
+
+  -- and so its frame is there
+  pub begun_there : (old new : Config S) (f : Frame) (tree : ℕ) (node : NodeId) (scope inner : ObjId) → Later meaning old new → IsThere meaning old f → HasObject new inner → scope_of new.heap.arena inner ≡ Some scope → IsFunction old.units.items old.heap.arena tree node scope 0 → IsThere meaning new (record f { tree = tree; node = node; scope = inner })
+  begun_there old new f tree node scope inner l h there outer is =
       let k = l.frames f h in
-      let begun = function_begins new.units.items new.heap.arena tree node scope inner outer (function_later meaning old new tree node scope 0 l is) in
+      let begun = begun_function old new tree node scope inner l outer is in
       record {
         scope = there;
         this = k.this;
         world = k.world;
-        held = (tt, k.held);
-        phase = k.phase;
-        stands = record { node = stands_fewer new.units.items new.heap.arena tree node inner (1 + own_scopes begun.function) begun.stands; body = begins new.units.items new.heap.arena f.form tree node inner ef begun; shown = k.stands.shown };
+        held = k.held;
+        stands = record { node = stands_fewer new.units.items new.heap.arena tree node inner (1 + own_scopes begun.function) begun.stands; shown = k.stands.shown };
       }
 
   module _ (c : Config S) (f : Frame) where
-    pub begun_function : IsThere meaning c f → f.form ≡ form.Body → begun_held f.held ≡ true → IsFunction c.units.items c.heap.arena f.tree f.node f.scope 1
-    begun_function h ef eb = has_begun c.units.items c.heap.arena f.form (begun_held f.held) f.tree f.node f.scope ef eb h.stands.body
-
     -- an element of a function's body stands
-    pub body_element : (at : ℕ) (s : NodeId) → Base meaning c → IsThere meaning c f → f.form ≡ form.Body → begun_held f.held ≡ true → ((t : Table) → Begins (content.elements_of (node_in t (node_now meaning c f))) at (Some s)) → StandsHere c f s
-    body_element at s b h ef eb e =
-        let begun = begun_function h ef eb in
+    pub body_element : (at : ℕ) (s : NodeId) → Base meaning c → IsFunction c.units.items c.heap.arena f.tree f.node f.scope 1 → ((t : Table) → NextIs (content.elements_of (node_in t (node_now meaning c f))) at (Some s)) → StandsHere c f s
+    body_element at s b begun e =
         let t = c.heap.texts in
-        element_here meaning c f s b begun (function_element t begun.function at s begun.is (subst (λ (n : Node). Begins (content.elements_of (node_in t n)) at (Some s)) (function_now meaning c f begun) (e t)))
+        element_here meaning c f s b begun (function_element t begun.function at s begun.is (subst (λ (n : Node). NextIs (content.elements_of (node_in t n)) at (Some s)) (function_now meaning c f begun) (e t)))
 
     -- and so does an element of a program
-    pub program_element : (at : ℕ) (s : NodeId) → IsThere meaning c f → ((t : Table) → Begins (program_elements (node_in t (node_now meaning c f))) at (Some s)) → StandsHere c f s
+    pub program_element : (at : ℕ) (s : NodeId) → IsThere meaning c f → ((t : Table) → NextIs (program_elements (node_in t (node_now meaning c f))) at (Some s)) → StandsHere c f s
     program_element at s h e = stands_here meaning c f (node_now meaning c f) s h refl (program_parts c.heap.texts (node_now meaning c f) at s (e c.heap.texts))
 
     -- at the body of its program
-    pub at_body : (body : NodeId) → IsThere meaning c f → ((u : Program) → slice_get c.units.items f.tree ≡ Some u → body ≡ u.program.body) → IsThere meaning c (record f { node = body; held = [] })
+    pub at_body : (body : NodeId) → IsThere meaning c f → ((u : Program) → slice_get c.units.items f.tree ≡ Some u → body ≡ u.program.body) → IsThere meaning c (record f { node = body })
     at_body body h is =
         let u = h.stands.node.unit in
         let e = h.stands.node.found in
@@ -170,25 +148,12 @@ module _ {S : Type 0} (meaning : S → Meaning) where
           scope = h.scope;
           this = h.this;
           world = h.world;
-          held = tt;
-          phase = h.phase;
+          held = h.held;
           stands = record {
             node = subst (λ (i : NodeId). Stands c.units.items c.heap.arena f.tree i f.scope 0) (sym (is u e)) (body_stands c.units.items c.heap.arena f.tree f.scope u e);
-            body = not_begun c.units.items c.heap.arena f.form f.tree body f.scope;
             shown = h.stands.shown;
           };
         }
-
-    -- with nothing held
-    pub emptied : (held : List Held) → IsThere meaning c f → held ≡ [] → IsThere meaning c (record f { held = held })
-    emptied held h e = subst (λ (l : List Held). IsThere meaning c (record f { held = l })) (sym e) (record {
-      scope = h.scope;
-      this = h.this;
-      world = h.world;
-      held = tt;
-      phase = h.phase;
-      stands = record { node = h.stands.node; body = not_begun c.units.items c.heap.arena f.form f.tree f.node f.scope; shown = h.stands.shown };
-    })
 
     -- which is a program's node
     pub body_is : (body : NodeId) → Base meaning c → (h : IsThere meaning c f) → ((u : Program) → slice_get c.units.items f.tree ≡ Some u → body ≡ u.program.body) → (list : List NodeId) × (node_now meaning c (record f { node = body }) ≡ nodes.Program list) × Has h.stands.node.unit.program.nodes body (nodes.Program list)

@@ -1,4 +1,3 @@
-pub mod Primitives
 pub mod Elements
 pub mod Filling
 pub mod Taking

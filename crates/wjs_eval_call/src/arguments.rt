@@ -22,11 +22,11 @@ use std::alloc::Global;
 use wjs_arena::{Class, Flags, Listed};
 use wjs_base::{Name, ObjId, OutOfMemory, TextId, Value};
 use wjs_calls::{declare_functions, whole_value, write_elements};
-use wjs_declared::Declared;
 use wjs_deeds::{
     Known, builtin, create, create_scope, known_name, name_of, object_of, write, write_known,
 };
 use wjs_model::{Config, Frame};
+use wjs_scope::Declared;
 use wjs_store::WorldStore;
 use wjs_tree::NodeId;
 
@@ -293,7 +293,7 @@ pub(crate) fn fill_scope<S: WorldStore>(
         Known::Arguments,
         Value::Object(arguments.object),
     )?;
-    write_formals(config, frame, scope, declared.formals.as_slice(), values)?;
-    declare_functions(config, frame, declared.functions.as_slice(), scope)?;
+    write_formals(config, frame, scope, declared.formals(), values)?;
+    declare_functions(config, frame, declared.functions(), scope)?;
     write_undefined(config, frame, scope, others)
 }

@@ -1,5 +1,5 @@
 //! The bodies of functions (ECMA-262, 3rd edition, sections 10.2.3 and 13.2.1).
-ghost use Rattle.std.specs.Prelude.{◌≡◌, drop, Some, true};
+ghost use Rattle.std.specs.Prelude.{◌≡◌, drop, Some};
 ghost use Rattle.std.specs.FinMap as map;
 ghost use Rattle.wjs_base.specs.Text.{Table};
 ghost use Rattle.wjs_arena.specs.Entries.{Entry};
@@ -8,56 +8,35 @@ ghost use Rattle.wjs_content.specs.Tables.{arena_in};
 ghost use Rattle.wjs_meaning.specs.Trees.{elements_of};
 ghost use Rattle.wjs_meaning.specs.Functions as line;
 ghost use Rattle.wjs_meaning.specs.Reading.{node_in};
-ghost use Rattle.wjs_model.specs.Contents.{completion_in, holding_in, begun_held};
-ghost use Rattle.wjs_model.specs.Rest as begins;
-ghost use Rattle.wjs_model.specs.Waiting as waits;
+ghost use Rattle.wjs_model.specs.Contents.{holding_in};
 ghost use Rattle.wjs_model.specs.Soundness.{HasObject, HasCompletion};
 ghost use Rattle.wjs_model.specs.Standing.{IsFunction};
 ghost use Rattle.wjs_moves.specs.Parts.{node_now};
-ghost use Rattle.wjs_eval_call.specs.Elements.{Begins};
-ghost use Rattle.wjs_moves.specs.Handling.{Runs, GoesOn};
+ghost use Rattle.wjs_eval_call.specs.Elements.{NextIs};
+ghost use Rattle.wjs_moves.specs.Handling.{Runs, GoesOn, Begins, Resumes};
 
 use crate::arguments::fill_scope;
 use crate::declarations::declared_at;
 use crate::elements::element_at;
-use crate::programs::{after_program, begin_program};
 use crate::variables::other_variables;
 use wjs_arena::Code;
 use wjs_base::{NodeId as Body, ObjId, OutOfMemory, Value};
 use wjs_deeds::{code_of, create_scope, scope_of};
-use wjs_lines::{held_callee, place_after, throw};
-use wjs_model::{Completion, Config, Form, Frame, Held, Trouble};
-use wjs_moves::{Part, enter, finish, hold};
+use wjs_lines::{number_after, throw};
+use wjs_model::{CallPoint, Completion, Config, Frame, Point, Start, Trouble};
+use wjs_moves::{Part, enter, finish};
 use wjs_store::WorldStore;
 use wjs_tree::NodeId;
 
-/// The body of the function that is held; without one that of a program.
-pub(crate) fn begin_body<S: WorldStore>(
-    config: &mut Config<S>,
-    frame: Frame,
-) -> Result<(), OutOfMemory>
-    requires runs { Runs S.meaning config.old frame }
-    requires form { frame.form ≡ Form.Body }
-    ensures { GoesOn S.meaning frame config.old config.new result (λ t env.
-        let held = holding_in t frame.held in begins.body_if held.callee.0 held.values env) }
-{
-    let (callee, _) = held_callee(config, &frame);
-    match callee {
-        Value::Object(function) => begin_function(config, frame, function),
-        _ => begin_program(config, frame),
-    }
-}
-
-/// A function's body, by its code and its scope.
-fn begin_function<S: WorldStore>(
+/// A function's body begins, by its code and its scope; the values that the frame holds are the arguments.
+pub fn body<S: WorldStore>(
     config: &mut Config<S>,
     frame: Frame,
     function: ObjId,
 ) -> Result<(), OutOfMemory>
     requires runs { Runs S.meaning config.old frame }
-    requires form { frame.form ≡ Form.Body }
     requires function { HasObject config.old function }
-    ensures { GoesOn S.meaning frame config.old config.new result (λ t env. line.body_of function (holding_in t frame.held).values env) }
+    ensures { Begins S.meaning frame (Start.Body function) config.old config.new result }
 {
     match code_of(config, function) {
         Code::None => throw(config, frame, Trouble::NotAFunction),
@@ -75,7 +54,6 @@ fn begin_script<S: WorldStore>(
     node: Body,
 ) -> Result<(), OutOfMemory>
     requires runs { Runs S.meaning config.old frame }
-    requires form { frame.form ≡ Form.Body }
     requires function { HasObject config.old function }
     requires code { (e : Entry) → map.get config.old.heap.arena function ≡ Some e → e.object.code ≡ Code.Script tree node }
     ensures { GoesOn S.meaning frame config.old config.new result (λ t env.
@@ -97,7 +75,6 @@ fn begin_scope<S: WorldStore>(
     scope: ObjId,
 ) -> Result<(), OutOfMemory>
     requires runs { Runs S.meaning config.old frame }
-    requires form { frame.form ≡ Form.Body }
     requires function { HasObject config.old function }
     requires scope { HasObject config.old scope }
     requires stands { IsFunction config.old.units.items config.old.heap.arena tree node scope 0 }
@@ -112,7 +89,6 @@ fn begin_scope<S: WorldStore>(
     let others = other_variables(config, &frame, &declared)?;
     let inner = create_scope(config, scope)?;
     frame.set_scope(inner);
-    hold(&mut frame, Held::Begun)?;
     fill_scope(
         config,
         &frame,
@@ -124,43 +100,20 @@ fn begin_scope<S: WorldStore>(
     run_body(config, frame, 0)
 }
 
-/// A body goes on with a completion.
-pub(crate) fn after_body<S: WorldStore>(
+/// After the element of a function's body before this number: a return gives its value.
+pub(crate) fn after_body_element<S: WorldStore>(
     config: &mut Config<S>,
     frame: Frame,
+    next: u32,
     completion: Completion,
 ) -> Result<(), OutOfMemory>
     requires runs { Runs S.meaning config.old frame }
-    requires form { frame.form ≡ Form.Body }
+    requires body { IsFunction config.old.units.items config.old.heap.arena frame.tree frame.node frame.scope 1 }
     requires completion { HasCompletion config.old completion }
-    ensures { GoesOn S.meaning frame config.old config.new result (λ t env.
-        waits.after_body_of (holding_in t frame.held).begun frame.place (node_in t (node_now S.meaning config.old frame)) env (completion_in t completion)) }
-{
-    if frame.begun() {
-        after_element(config, frame, completion)
-    } else {
-        after_program(config, frame, completion)
-    }
-}
-
-/// After an element of a function's body: a return gives its value.
-fn after_element<S: WorldStore>(
-    config: &mut Config<S>,
-    frame: Frame,
-    completion: Completion,
-) -> Result<(), OutOfMemory>
-    requires runs { Runs S.meaning config.old frame }
-    requires form { frame.form ≡ Form.Body }
-    requires begun { begun_held frame.held ≡ true }
-    requires completion { HasCompletion config.old completion }
-    ensures { GoesOn S.meaning frame config.old config.new result (λ t env.
-        line.body_next (line.body_from (drop frame.place (elements_of (node_in t (node_now S.meaning config.old frame)))) env) (completion_in t completion)) }
+    ensures { Resumes S.meaning frame (Point.Call (CallPoint.BodyElement next)) completion config.old config.new result }
 {
     match completion {
-        Completion::Normal => {
-            let place = frame.place();
-            run_body(config, frame, place)
-        }
+        Completion::Normal => run_body(config, frame, next),
         Completion::Returns(value) => finish(config, frame, Completion::Gives(value)),
         _ => finish(config, frame, completion),
     }
@@ -174,8 +127,7 @@ fn run_body<S: WorldStore>(
     from: u32,
 ) -> Result<(), OutOfMemory>
     requires runs { Runs S.meaning config.old frame }
-    requires form { frame.form ≡ Form.Body }
-    requires begun { begun_held frame.held ≡ true }
+    requires body { IsFunction config.old.units.items config.old.heap.arena frame.tree frame.node frame.scope 1 }
     ensures { GoesOn S.meaning frame config.old config.new result (λ t env.
         line.body_from (drop from (elements_of (node_in t (node_now S.meaning config.old frame)))) env) }
 {
@@ -185,7 +137,7 @@ fn run_body<S: WorldStore>(
     }
 }
 
-/// An element of a function's body is entered, and the frame waits at the place of the next.
+/// An element of a function's body is entered, and the frame waits to go on with the next.
 fn enter_element<S: WorldStore>(
     config: &mut Config<S>,
     frame: Frame,
@@ -193,12 +145,16 @@ fn enter_element<S: WorldStore>(
     element: NodeId,
 ) -> Result<(), OutOfMemory>
     requires runs { Runs S.meaning config.old frame }
-    requires form { frame.form ≡ Form.Body }
-    requires begun { begun_held frame.held ≡ true }
-    requires element { (t : Table) → Begins (elements_of (node_in t (node_now S.meaning config.old frame))) from (Some element) }
+    requires body { IsFunction config.old.units.items config.old.heap.arena frame.tree frame.node frame.scope 1 }
+    requires element { (t : Table) → NextIs (elements_of (node_in t (node_now S.meaning config.old frame))) from (Some element) }
     ensures { GoesOn S.meaning frame config.old config.new result (λ t env.
         line.body_from (drop from (elements_of (node_in t (node_now S.meaning config.old frame)))) env) }
 {
-    let next = place_after(from, 1)?;
-    enter(config, frame, next, Part::Stmt(element))
+    let next = number_after(from)?;
+    enter(
+        config,
+        frame,
+        Point::Call(CallPoint::BodyElement(next)),
+        Part::Stmt(element),
+    )
 }

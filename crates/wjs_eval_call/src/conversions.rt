@@ -1,40 +1,53 @@
 //! Conversions of values (ECMA-262, 3rd edition, section 9).
-ghost use Rattle.std.specs.Prelude.{◌≡◌, true};
 ghost use Rattle.wjs_content.specs.Tables.{value_in};
-ghost use Rattle.wjs_meaning.specs.Deeds.{Sub, Gives};
 ghost use Rattle.wjs_meaning.specs.Conversions as line;
-ghost use Rattle.wjs_model.specs.Contents.{completion_in, value_held, holding_in};
-ghost use Rattle.wjs_model.specs.Rest as begins;
-ghost use Rattle.wjs_model.specs.Waiting as waits;
-ghost use Rattle.wjs_model.specs.Soundness.{HasValue, HasCompletion};
-ghost use Rattle.wjs_moves.specs.Parts.{then_at};
-ghost use Rattle.wjs_eval_call.specs.Primitives.{hint_of, is_primitive_first};
-ghost use Rattle.wjs_moves.specs.Handling.{Runs, GoesOn};
+ghost use Rattle.wjs_model.specs.Contents.{value_held};
+ghost use Rattle.wjs_model.specs.Soundness.{HasCompletion};
+ghost use Rattle.wjs_model.specs.Waiting.{hint_in};
+ghost use Rattle.wjs_moves.specs.Handling.{Runs, GoesOn, Begins, Resumes};
 
-use crate::methods::{after_method, try_first};
+use crate::methods::try_first;
 use crate::values::{integer_of, text_of};
 use wjs_base::{OutOfMemory, Value};
 use wjs_lines::{held_value, to_number};
-use wjs_model::{Completion, Config, Conversion, Form, Frame};
+use wjs_model::{CallPoint, Completion, Config, Conversion, Frame, Hint, Point, Start};
 use wjs_moves::{convert, finish};
 use wjs_store::WorldStore;
 
-/// A conversion of the value that is held.
-pub(crate) fn begin_conversion<S: WorldStore>(
+/// A conversion of the value that is held begins. A number, a text or a whole number is made of a primitive.
+pub fn conversion<S: WorldStore>(
     config: &mut Config<S>,
     frame: Frame,
     conversion: Conversion,
 ) -> Result<(), OutOfMemory>
     requires runs { Runs S.meaning config.old frame }
-    requires form { frame.form ≡ Form.Convert conversion }
-    ensures { GoesOn S.meaning frame config.old config.new result (λ t env. begins.begin_conversion conversion (value_in t (value_held frame.held)) env) }
+    ensures { Begins S.meaning frame (Start.Convert conversion) config.old config.new result }
 {
+    let value = held_value(config, &frame);
     match conversion {
-        Conversion::TextFirst => to_primitive(config, frame, conversion),
-        Conversion::NumberFirst => to_primitive(config, frame, conversion),
-        Conversion::Number => primitive_below(config, frame, Conversion::NumberFirst),
-        Conversion::Text => primitive_below(config, frame, Conversion::TextFirst),
-        Conversion::Integer => primitive_below(config, frame, Conversion::NumberFirst),
+        Conversion::TextFirst => to_primitive(config, frame, Hint::Text),
+        Conversion::NumberFirst => to_primitive(config, frame, Hint::Number),
+        Conversion::Number => convert(
+            config,
+            frame,
+            Point::Call(CallPoint::NumberOfPrimitive),
+            Conversion::NumberFirst,
+            value,
+        ),
+        Conversion::Text => convert(
+            config,
+            frame,
+            Point::Call(CallPoint::TextOfPrimitive),
+            Conversion::TextFirst,
+            value,
+        ),
+        Conversion::Integer => convert(
+            config,
+            frame,
+            Point::Call(CallPoint::IntegerOfPrimitive),
+            Conversion::NumberFirst,
+            value,
+        ),
     }
 }
 
@@ -42,81 +55,65 @@ pub(crate) fn begin_conversion<S: WorldStore>(
 fn to_primitive<S: WorldStore>(
     config: &mut Config<S>,
     frame: Frame,
-    conversion: Conversion,
+    hint: Hint,
 ) -> Result<(), OutOfMemory>
     requires runs { Runs S.meaning config.old frame }
-    requires form { frame.form ≡ Form.Convert conversion }
-    requires first { is_primitive_first conversion ≡ true }
-    ensures { GoesOn S.meaning frame config.old config.new result (λ t env. line.to_primitive (hint_of conversion) (value_in t (value_held frame.held)) env) }
+    ensures { GoesOn S.meaning frame config.old config.new result (λ t env. line.to_primitive (hint_in hint) (value_in t (value_held frame.held)) env) }
 {
     let value = held_value(config, &frame);
     match value {
-        Value::Object(object) => try_first(config, frame, conversion, object),
+        Value::Object(object) => try_first(config, frame, hint, object),
         _ => finish(config, frame, Completion::Gives(value)),
     }
 }
 
-/// The value is made a primitive first, while the frame waits.
-fn primitive_below<S: WorldStore>(
+/// After the primitive that a number is made of (section 9.3).
+pub(crate) fn number_of_primitive<S: WorldStore>(
     config: &mut Config<S>,
     frame: Frame,
-    first: Conversion,
-) -> Result<(), OutOfMemory>
-    requires runs { Runs S.meaning config.old frame }
-    requires first { is_primitive_first first ≡ true }
-    ensures { GoesOn S.meaning frame config.old config.new result (λ t env.
-        Sub (line.to_primitive (hint_of first) (value_in t (value_held frame.held)) env) (then_at S.meaning config.old frame 1 t env)) }
-{
-    let value = held_value(config, &frame);
-    convert(config, frame, 1, first, value)
-}
-
-/// A conversion goes on with a completion.
-pub(crate) fn after_conversion<S: WorldStore>(
-    config: &mut Config<S>,
-    frame: Frame,
-    conversion: Conversion,
     completion: Completion,
 ) -> Result<(), OutOfMemory>
     requires runs { Runs S.meaning config.old frame }
-    requires form { frame.form ≡ Form.Convert conversion }
     requires completion { HasCompletion config.old completion }
-    ensures { GoesOn S.meaning frame config.old config.new result (λ t env.
-        waits.after_conversion conversion frame.place (holding_in t frame.held) env (completion_in t completion)) }
+    ensures { Resumes S.meaning frame (Point.Call CallPoint.NumberOfPrimitive) completion config.old config.new result }
 {
-    match completion {
-        Completion::Gives(value) => converted(config, frame, conversion, value),
-        _ => finish(config, frame, completion),
-    }
+    let Completion::Gives(value) = completion else {
+        return finish(config, frame, completion);
+    };
+    let number = to_number(config, value);
+    finish(config, frame, Completion::Gives(Value::Number(number)))
 }
 
-/// What a conversion makes of a value that it waited for.
-fn converted<S: WorldStore>(
+/// After the primitive that a text is made of (section 9.8).
+pub(crate) fn text_of_primitive<S: WorldStore>(
     config: &mut Config<S>,
     frame: Frame,
-    conversion: Conversion,
-    value: Value,
+    completion: Completion,
 ) -> Result<(), OutOfMemory>
     requires runs { Runs S.meaning config.old frame }
-    requires form { frame.form ≡ Form.Convert conversion }
-    requires value { HasValue config.old value }
-    ensures { GoesOn S.meaning frame config.old config.new result (λ t env.
-        waits.after_conversion conversion frame.place (holding_in t frame.held) env (Gives (value_in t value))) }
+    requires completion { HasCompletion config.old completion }
+    ensures { Resumes S.meaning frame (Point.Call CallPoint.TextOfPrimitive) completion config.old config.new result }
 {
-    match conversion {
-        Conversion::TextFirst => after_method(config, frame, conversion, value),
-        Conversion::NumberFirst => after_method(config, frame, conversion, value),
-        Conversion::Number => {
-            let number = to_number(config, value);
-            finish(config, frame, Completion::Gives(Value::Number(number)))
-        }
-        Conversion::Text => {
-            let text = text_of(config, value)?;
-            finish(config, frame, Completion::Gives(Value::Text(text)))
-        }
-        Conversion::Integer => {
-            let number = integer_of(config, value);
-            finish(config, frame, Completion::Gives(Value::Number(number)))
-        }
-    }
+    let Completion::Gives(value) = completion else {
+        return finish(config, frame, completion);
+    };
+    let text = text_of(config, value)?;
+    finish(config, frame, Completion::Gives(Value::Text(text)))
+}
+
+/// After the primitive that a whole number is made of (section 9.4).
+pub(crate) fn integer_of_primitive<S: WorldStore>(
+    config: &mut Config<S>,
+    frame: Frame,
+    completion: Completion,
+) -> Result<(), OutOfMemory>
+    requires runs { Runs S.meaning config.old frame }
+    requires completion { HasCompletion config.old completion }
+    ensures { Resumes S.meaning frame (Point.Call CallPoint.IntegerOfPrimitive) completion config.old config.new result }
+{
+    let Completion::Gives(value) = completion else {
+        return finish(config, frame, completion);
+    };
+    let number = integer_of(config, value);
+    finish(config, frame, Completion::Gives(Value::Number(number)))
 }

@@ -1,5 +1,5 @@
 //! What the body at a frame's node declares.
-ghost use Rattle.std.specs.Prelude.{◌≡◌, [], All, IfOk, OnOk, Some, map, slice_get};
+ghost use Rattle.std.specs.Prelude.{◌≡◌, All, IfOk, OnOk, Some, map, slice_get};
 ghost use Rattle.wjs_base.specs.Text.{Table, Grows, Has, IsTable};
 ghost use Rattle.wjs_content.specs.Tables.{text_in};
 ghost use Rattle.wjs_meaning.specs.Deeds.{tree_here};
@@ -8,20 +8,20 @@ ghost use Rattle.wjs_meaning.specs.Functions as line;
 ghost use Rattle.wjs_meaning.specs.Reading.{numbers};
 ghost use Rattle.wjs_model.specs.declared.unit.Unit.{Unit as Program};
 ghost use Rattle.wjs_model.specs.Soundness.{Base, IsThere};
-ghost use Rattle.wjs_declared.specs.Names.{elements_at, functions_among};
+ghost use Rattle.wjs_scope.specs.Bodies.{elements_at};
+ghost use Rattle.wjs_scope.specs.Declarations.{functions_among};
 ghost use Rattle.wjs_moves.specs.Doing.{DoesFirst};
 ghost use Rattle.wjs_moves.specs.Parts.{env_in};
 ghost use Rattle.wjs_moves.specs.Following.{Later};
 ghost use Rattle.wjs_eval_call.specs.Filling.{program_filled, variable_declared};
 
-use std::alloc::Global;
 use wjs_base::{Content, OutOfMemory, TextId, Value};
 use wjs_calls::declare_functions;
-use wjs_declared::{Declared, declared};
 use wjs_deeds::{name_of, read_content, write};
 use wjs_model::{Config, Frame};
+use wjs_scope::Declared;
 use wjs_store::WorldStore;
-use wjs_tree::{NodeId, Sequence};
+use wjs_tree::NodeId;
 
 /// What the body at the frame's node declares.
 pub(crate) fn declared_at<S: WorldStore>(
@@ -41,23 +41,9 @@ pub(crate) fn declared_at<S: WorldStore>(
     ensures formals_found { IfOk result (λ d. All (Has config.now.heap.texts) d.formals) }
     ensures variables_found { IfOk result (λ d. All (Has config.now.heap.texts) d.variables) }
 {
-    let alloc = config.heap.arena.allocator();
     match config.units.get(frame.tree() as usize) {
-        Some(unit) => declared(alloc, unit, frame.node()),
-        None => Ok(nothing_declared(alloc)),
-    }
-}
-
-/// Nothing declared.
-fn nothing_declared(alloc: Global) -> Declared
-    ensures formals { result.formals ≡ [] }
-    ensures functions { result.functions ≡ [] }
-    ensures variables { result.variables ≡ [] }
-{
-    Declared {
-        formals: Sequence::from_vec(Vec::new(alloc)),
-        functions: Sequence::from_vec(Vec::new(alloc)),
-        variables: Sequence::from_vec(Vec::new(alloc)),
+        Some(unit) => unit.declared(frame.node()),
+        None => Declared::nothing(config.heap.arena.allocator()),
     }
 }
 
@@ -76,8 +62,8 @@ pub(crate) fn declare_program<S: WorldStore>(
 {
     let declared = declared_at(config, frame)?;
     let global = config.global;
-    declare_functions(config, frame, declared.functions.as_slice(), global)?;
-    declare_variables(config, frame, declared.variables.as_slice())
+    declare_functions(config, frame, declared.functions(), global)?;
+    declare_variables(config, frame, declared.variables())
 }
 
 /// Reads each variable's slot of the global object, and where it is absent writes undefined.

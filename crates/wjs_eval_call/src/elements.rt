@@ -3,9 +3,9 @@ ghost use Rattle.wjs_meaning.specs.Reading.{numbers};
 ghost use Rattle.wjs_base.specs.Text.{Table};
 ghost use Rattle.wjs_meaning.specs.Trees.{elements_of};
 ghost use Rattle.wjs_meaning.specs.Reading.{node_in};
-ghost use Rattle.wjs_model.specs.Waiting.{program_elements};
+ghost use Rattle.wjs_model.specs.Lists.{program_elements};
 ghost use Rattle.wjs_moves.specs.Parts.{node_now};
-ghost use Rattle.wjs_eval_call.specs.Elements.{Begins};
+ghost use Rattle.wjs_eval_call.specs.Elements.{NextIs};
 
 use wjs_model::{Config, Frame};
 use wjs_moves::node_of;
@@ -18,7 +18,7 @@ pub(crate) fn element_at<S: WorldStore>(
     frame: &Frame,
     at: u32,
 ) -> Option<NodeId>
-    ensures { (t : Table) → Begins (elements_of (node_in t (node_now S.meaning config.now frame.now))) at result }
+    ensures { (t : Table) → NextIs (elements_of (node_in t (node_now S.meaning config.now frame.now))) at result }
 {
     match node_of(config, frame) {
         Some(Node::Function(_, _, elements)) => element_of(elements.as_slice(), at),
@@ -34,7 +34,7 @@ pub(crate) fn program_element_at<S: WorldStore>(
     frame: &Frame,
     at: u32,
 ) -> Option<NodeId>
-    ensures { (t : Table) → Begins (program_elements (node_in t (node_now S.meaning config.now frame.now))) at result }
+    ensures { (t : Table) → NextIs (program_elements (node_in t (node_now S.meaning config.now frame.now))) at result }
 {
     match node_of(config, frame) {
         Some(Node::Program(elements)) => element_of(elements.as_slice(), at),
@@ -43,7 +43,7 @@ pub(crate) fn program_element_at<S: WorldStore>(
 }
 
 fn element_of(elements: &[NodeId], at: u32) -> Option<NodeId>
-    ensures { Begins (numbers elements.now) at result }
+    ensures { NextIs (numbers elements.now) at result }
 {
     match elements.get(at as usize) {
         Some(element) => Some(*element),

@@ -1,4 +1,4 @@
-//! The step of calls: what a frame that runs a body, a conversion or a call does in a turn.
+//! Bodies, conversions and what goes on after them: what a frame that runs one of them does in a turn.
 #![tactic(auto)]
 
 mod arguments;
@@ -7,10 +7,13 @@ mod conversions;
 mod declarations;
 mod elements;
 mod methods;
+mod points;
 mod programs;
-mod step;
 mod taken;
 mod values;
 mod variables;
 
-pub use step::step_call;
+pub use bodies::body;
+pub use conversions::conversion;
+pub use points::call_after;
+pub use programs::program;

@@ -14,9 +14,9 @@ ghost use Rattle.wjs_eval_call.specs.Taking.{Takes};
 use crate::taken::Taken;
 use wjs_base::{OutOfMemory, TextId};
 use wjs_calls::own_name;
-use wjs_declared::Declared;
 use wjs_deeds::units_of;
 use wjs_model::{Config, Frame};
+use wjs_scope::Declared;
 use wjs_store::WorldStore;
 use wjs_tree::NodeId;
 
@@ -37,7 +37,7 @@ pub(crate) fn other_variables<S: WorldStore>(
         (numbers declared.now.functions)) name)) (map (text_in t) declared.now.variables)) }
     ensures found { IfOk result (λ others. All (Has config.now.heap.texts) others.items) }
 {
-    if declared.variables.as_slice().is_empty() {
+    if declared.variables().is_empty() {
         return Ok(Vec::new(config.heap.arena.allocator()));
     }
     others_among(config, frame, declared)
@@ -60,7 +60,7 @@ fn others_among<S: WorldStore>(
 {
     let taken = taken_names(config, frame, declared)?;
     let mut others = Vec::new(config.heap.arena.allocator());
-    for name in declared.variables.as_slice() {
+    for name in declared.variables() {
         push_other(config, &taken, *name, &mut others)?;
     }
     Ok(others)
@@ -107,8 +107,8 @@ fn taken_names<S: WorldStore>(
         Takes t (map (text_in t) declared.now.formals ++ function_names (env_in S.meaning config.now t frame.now) (numbers declared.now.functions)) taken) }
 {
     let mut taken = Taken::new(config.heap.arena.allocator());
-    take_formals(config, declared.formals.as_slice(), &mut taken)?;
-    for function in declared.functions.as_slice() {
+    take_formals(config, declared.formals(), &mut taken)?;
+    for function in declared.functions() {
         take_function(config, frame, *function, &mut taken)?;
     }
     Ok(taken)

@@ -1,3 +1,3 @@
-pub mod Forms
 pub mod Links
 pub mod OperationLines
+pub mod Passing

@@ -1,41 +1,23 @@
 -- The operation of an assignment with an operator, on the values that are held (ECMA-262, 3rd edition, section 11.13.2).
-use Rattle.std.proofs.Common.{◌≡◌, ℕ, zero, suc, List, [], ◌∷◌, ◌++◌, Some, refl, sym, ap, ◌∙◌, subst}
+use Rattle.std.proofs.Common.{◌≡◌, ℕ, zero, suc, List, [], ◌∷◌, ◌++◌, refl, sym, ap, ◌∙◌, subst}
 use Rattle.std.specs.Prelude.{map as each, slice_index_or, All}
 use Rattle.std.proofs.lemmas.List.Elements.{All-head, All-tail}
 use Rattle.std.proofs.lemmas.List.{map-append}
 use Rattle.wjs_base.specs.declared.values.Value.{Value as NumberedValue}
 use Rattle.wjs_base.specs.declared.values.Value.TheVariants as values
 use Rattle.wjs_base.specs.Text.{Table}
-use Rattle.wjs_tree.specs.declared.node.NodeId.{NodeId}
-use Rattle.wjs_tree.specs.declared.node.Node.{Node}
-use Rattle.wjs_tree.specs.declared.node.Node.TheVariants as nodes
-use Rattle.wjs_tree.specs.declared.operators.AssignOperator.{AssignOperator}
 use Rattle.wjs_tree.specs.declared.operators.BinaryOperator.{BinaryOperator}
-use Rattle.wjs_tree.specs.Operators.{compound}
 use Rattle.wjs_content.specs.Values.{Undefined}
 use Rattle.wjs_content.specs.Tables.{value_in}
-use Rattle.wjs_meaning.specs.Reading.{node_in}
 use Rattle.wjs_meaning.specs.Deeds.{Env}
 use Rattle.wjs_meaning.specs.NativesOfObjects.{value_at}
-use Rattle.wjs_model.specs.declared.frame.Form.{Form}
-use Rattle.wjs_model.specs.declared.frame.Form.TheVariants as form
 use Rattle.wjs_model.specs.Frames.{earliest_first}
 use Rattle.wjs_model.specs.declared.config.Config.{Config}
 use Rattle.wjs_model.specs.declared.frame.Held.{Held}
-use Rattle.wjs_model.specs.Contents.{Holding, values_held}
+use Rattle.wjs_model.specs.Contents.{values_held}
 use Rattle.wjs_model.specs.Soundness.{HasItems, HasValue}
 use Rattle.wjs_moves.proofs.Held.{values_there}
 use Rattle.wjs_meaning.specs.Operators.{operate}
-use Rattle.wjs_model.specs.Waiting.{after, after_assign, after_operand}
-
--- an operator with `=` waits for its operands as the operator does
-pub left_waits : (t : Table) (n : Node) (f : Form) (here : ℕ) (held : Holding) (env : Env) (target right : NodeId) (sign : AssignOperator) (op : BinaryOperator) → f ≡ form.Expr → n ≡ nodes.Assign target sign right → compound sign ≡ Some op → after (node_in t n) f here 3 held env ≡ after_operand op 3 held env
-left_waits t n f here held env target right sign op ef en eo =
-    ap (λ g. after (node_in t n) g here 3 held env) ef ∙ ap (λ m. after (node_in t m) form.Expr here 3 held env) en ∙ ap (λ o. after_assign o right.0 3 held env) eo
-
-pub right_waits : (t : Table) (n : Node) (f : Form) (here : ℕ) (held : Holding) (env : Env) (target right : NodeId) (sign : AssignOperator) (op : BinaryOperator) → f ≡ form.Expr → n ≡ nodes.Assign target sign right → compound sign ≡ Some op → after (node_in t n) f here 4 held env ≡ after_operand op 4 held env
-right_waits t n f here held env target right sign op ef en eo =
-    ap (λ g. after (node_in t n) g here 4 held env) ef ∙ ap (λ m. after (node_in t m) form.Expr here 4 held env) en ∙ ap (λ o. after_assign o right.0 4 held env) eo
 
 -- ---- the values that are held
 

@@ -1,16 +1,23 @@
--- The lines of expressions in links: each link has the lines of some forms, and its last leads on to the next (ECMA-262, 3rd edition, section 11).
-use Rattle.std.specs.Prelude.{ℕ, ◌-◌, []}
+-- What expressions begin with in links: each link has the lines of some forms, and its last leads on to the next (ECMA-262, 3rd edition, section 11).
+use Rattle.std.specs.Prelude.{ℕ, []}
+use Rattle.wjs_tree.specs.Operators.{compound}
 use Rattle.wjs_content.specs.Values.{Undefined, Null, Boolean, Number, String, Object}
 use Rattle.wjs_content.specs.Objects.{world_object}
-use Rattle.wjs_meaning.specs.Trees.{Node, Name, NumberLit, TextLit, This, ThisWorld, NullLit, BoolLit, Paren, ArrayLit, ObjectLit, Function, Dot, At, Call, NewWith, NewBare}
-use Rattle.wjs_meaning.specs.Deeds.{Env, Act, Ret, Eval, Do, Look, Create, AtExpr, Completion, give, then_value}
+use Rattle.wjs_meaning.specs.Trees.{Node, Name, NumberLit, TextLit, This, ThisWorld, NullLit, BoolLit, Paren, ArrayLit, ObjectLit, Function, Dot, At, Call, NewWith, NewBare, Postfix, Prefix, Binary, Cond, Assign, Comma}
+use Rattle.wjs_meaning.specs.Deeds.{Env, Act, Ret, Eval, Do, Look, Create, AtExpr, AtTarget, Normal, give, then_value, then_reference}
 use Rattle.wjs_meaning.specs.NewObjects.{plain_object, array_object}
 use Rattle.wjs_meaning.specs.Functions.{make_function}
-use Rattle.wjs_meaning.specs.Expressions.{reference_of, give_value_of, give_world, array_from, object_from, operand, dot_base, call_reference, call_callee, new_callee}
-use Rattle.wjs_model.specs.Contents.{Holding}
-use Rattle.wjs_model.specs.Waiting.{Taking, after_at, array_item, object_item, after_new}
-use Rattle.wjs_assigns.specs.Links.{operator_of, after_operator}
-use Rattle.wjs_literals.specs.After.{after_call}
+use Rattle.wjs_meaning.specs.Expressions.{Post, reference_of, give_value_of, give_world, array_from, object_from, operand, call_reference, call_callee, new_callee, update_target, prefix_of, binary_left, cond_test, assign_reference, comma_left}
+
+-- operators, conditions, assignments and commas (11.3 to 11.14); every other form is no expression
+abbrev pub operator_of : Node → Env → Act
+operator_of (Postfix t op) env = update_target Post op t env
+operator_of (Prefix op e) env = prefix_of op e env
+operator_of (Binary l op r) env = Eval (AtExpr l) env (then_value (binary_left op r env))
+operator_of (Cond c a b) env = Eval (AtExpr c) env (then_value (cond_test a b env))
+operator_of (Assign t op e) env = Eval (AtTarget t) env (then_reference (assign_reference (compound op) e env))
+operator_of (Comma a b) env = Eval (AtExpr a) env (then_value (comma_left b env))
+operator_of _ env = Ret Normal
 
 -- members, calls, `new`, functions, arrays and objects (11.1.4, 11.1.5, 11.2, 13)
 abbrev pub member_of : ℕ → Node → Env → Act
@@ -35,19 +42,3 @@ primary_of here NullLit env = give Null
 primary_of here (BoolLit b) env = give (Boolean b)
 primary_of here (Paren e) env = Eval (AtExpr e) env Ret
 primary_of here node env = member_of here node env
-
--- ---- after a part
--- arrays, objects, calls and `new`; and operators
-abbrev pub after_part : Node → ℕ → Holding → Env → Completion → Act
-after_part (ArrayLit items) place held env = then_value (array_item items (place - 1) held env)
-after_part (ObjectLit pairs) place held env = then_value (object_item pairs (place - 1) held env)
-after_part (Call f args) place held env = after_call args place held env
-after_part (NewWith f args) place held env = after_new args place held env
-after_part (NewBare f) place held env = after_new [] place held env
-after_part node place held env = after_operator node place held env
-
--- members, as expressions and as targets
-abbrev pub after_member : Node → ℕ → Holding → Env → Taking → Completion → Act
-after_member (Dot e name) place held env go = then_value (dot_base name env go)
-after_member (At e i) place held env go = after_at i place held env go
-after_member node place held env go = after_part node place held env

@@ -1,12 +1,12 @@
-//! The step of expressions (ECMA-262, 3rd edition, section 11): what a frame that runs an expression or a target does in a turn.
-//!
-//! Each form has a function for its entry and one for each place at which it waits. Each says which deeds of the meaning it
-//! goes on with.
+//! Expressions and targets (ECMA-262, 3rd edition, section 11): what a frame of one does at its entry, and after each part that
+//! it waits for.
 #![tactic(auto)]
 
 mod operations;
-mod resumes;
+mod points;
 mod starts;
-mod step;
 
-pub use step::step_expr;
+pub use operations::operation;
+pub use points::expr_after;
+pub use starts::expr;
+pub use wjs_members::target;

@@ -1,54 +1,32 @@
 //! What an expression begins with (ECMA-262, 3rd edition, section 11).
-ghost use Rattle.std.specs.Prelude.{◌≡◌};
-ghost use Rattle.wjs_meaning.specs.Expressions.{expr_of};
 ghost use Rattle.wjs_meaning.specs.Reading.{node_in};
-ghost use Rattle.wjs_model.specs.Contents.{holding_in};
-ghost use Rattle.wjs_model.specs.Rest.{begin_expr};
 ghost use Rattle.wjs_moves.specs.Parts.{node_now};
-ghost use Rattle.wjs_eval_expr.specs.Links.{primary_of, member_of};
-ghost use Rattle.wjs_moves.specs.Handling.{Runs, GoesOn};
+ghost use Rattle.wjs_eval_expr.specs.Links.{primary_of, member_of, operator_of};
+ghost use Rattle.wjs_moves.specs.Handling.{Runs, Begins, GoesOn};
 
-use crate::operations::operation_start;
-use wjs_assigns::operator_start;
+use wjs_assigns::{assign_start, comma_start, cond_start, prefix_start, update_start};
 use wjs_base::{OutOfMemory, Value};
 use wjs_literals::{
     array_start, call_start, function_start, new_start, object_start, text, this, this_world,
 };
 use wjs_members::{at_start, dot_start, name_value};
-use wjs_model::{Completion, Config, Form, Frame};
+use wjs_model::{Completion, Config, Fix, Frame, Purpose, Start};
 use wjs_moves::{Part, enter_last, finish, node_of};
+use wjs_operators::binary_start;
 use wjs_store::WorldStore;
 use wjs_tree::Node;
 
-/// An expression at its entry, or the operation of an assignment with an operator.
-pub(crate) fn expr_begin<S: WorldStore>(
-    config: &mut Config<S>,
-    frame: Frame,
-) -> Result<(), OutOfMemory>
+/// An expression at its entry, by its form. What is none ends with no value.
+pub fn expr<S: WorldStore>(config: &mut Config<S>, frame: Frame) -> Result<(), OutOfMemory>
     requires runs { Runs S.meaning config.old frame }
-    requires form { frame.form ≡ Form.Expr }
-    ensures { GoesOn S.meaning frame config.old config.new result (λ t env.
-        begin_expr (node_in t (node_now S.meaning config.old frame)) frame.node.0 frame.place (holding_in t frame.held) env) }
+    ensures { Begins S.meaning frame Start.Expr config.old config.new result }
 {
-    match frame.place() {
-        0 => expr_start(config, frame),
-        _ => operation_start(config, frame),
-    }
-}
-
-/// An expression at its entry.
-fn expr_start<S: WorldStore>(config: &mut Config<S>, frame: Frame) -> Result<(), OutOfMemory>
-    requires runs { Runs S.meaning config.old frame }
-    requires form { frame.form ≡ Form.Expr }
-    ensures { GoesOn S.meaning frame config.old config.new result (λ t env. expr_of frame.node.0 (node_in t (node_now S.meaning config.old frame)) env) }
-{
-    primary_start(config, frame)
+    primary(config, frame)
 }
 
 /// A name, `this`, `thisWorld`, parentheses or a literal of a primitive.
-fn primary_start<S: WorldStore>(config: &mut Config<S>, frame: Frame) -> Result<(), OutOfMemory>
+fn primary<S: WorldStore>(config: &mut Config<S>, frame: Frame) -> Result<(), OutOfMemory>
     requires runs { Runs S.meaning config.old frame }
-    requires form { frame.form ≡ Form.Expr }
     ensures { GoesOn S.meaning frame config.old config.new result (λ t env. primary_of frame.node.0 (node_in t (node_now S.meaning config.old frame)) env) }
 {
     match node_of(config, &frame) {
@@ -75,14 +53,13 @@ fn primary_start<S: WorldStore>(config: &mut Config<S>, frame: Frame) -> Result<
             let part = *part;
             enter_last(config, frame, Part::Expr(part))
         }
-        _ => member_start(config, frame),
+        _ => member(config, frame),
     }
 }
 
 /// A member, a call, `new`, or a literal of an array, an object or a function.
-fn member_start<S: WorldStore>(config: &mut Config<S>, frame: Frame) -> Result<(), OutOfMemory>
+fn member<S: WorldStore>(config: &mut Config<S>, frame: Frame) -> Result<(), OutOfMemory>
     requires runs { Runs S.meaning config.old frame }
-    requires form { frame.form ≡ Form.Expr }
     ensures { GoesOn S.meaning frame config.old config.new result (λ t env. member_of frame.node.0 (node_in t (node_now S.meaning config.old frame)) env) }
 {
     match node_of(config, &frame) {
@@ -94,11 +71,11 @@ fn member_start<S: WorldStore>(config: &mut Config<S>, frame: Frame) -> Result<(
         }
         Some(Node::Dot(base, name)) => {
             let (base, name) = (*base, *name);
-            dot_start(config, frame, base, name)
+            dot_start(config, frame, base, name, Purpose::Value)
         }
         Some(Node::At(base, index)) => {
             let (base, index) = (*base, *index);
-            at_start(config, frame, base, index)
+            at_start(config, frame, base, index, Purpose::Value)
         }
         Some(Node::Call(callee, _)) => {
             let callee = *callee;
@@ -112,6 +89,40 @@ fn member_start<S: WorldStore>(config: &mut Config<S>, frame: Frame) -> Result<(
             let callee = *callee;
             new_start(config, frame, callee)
         }
-        _ => operator_start(config, frame),
+        _ => operator(config, frame),
+    }
+}
+
+/// An operator, a condition, an assignment or a comma. Any other form is no expression.
+fn operator<S: WorldStore>(config: &mut Config<S>, frame: Frame) -> Result<(), OutOfMemory>
+    requires runs { Runs S.meaning config.old frame }
+    ensures { GoesOn S.meaning frame config.old config.new result (λ t env. operator_of (node_in t (node_now S.meaning config.old frame)) env) }
+{
+    match node_of(config, &frame) {
+        Some(Node::Postfix(part, operator)) => {
+            let (part, operator) = (*part, *operator);
+            update_start(config, frame, Fix::Post, operator, part)
+        }
+        Some(Node::Prefix(operator, operand)) => {
+            let (operator, operand) = (*operator, *operand);
+            prefix_start(config, frame, operator, operand)
+        }
+        Some(Node::Binary(left, operator, right)) => {
+            let (left, operator, right) = (*left, *operator, *right);
+            binary_start(config, frame, left, operator, right)
+        }
+        Some(Node::Cond(test, yes, no)) => {
+            let (test, yes, no) = (*test, *yes, *no);
+            cond_start(config, frame, test, yes, no)
+        }
+        Some(Node::Assign(part, sign, right)) => {
+            let (part, sign, right) = (*part, *sign, *right);
+            assign_start(config, frame, part, sign, right)
+        }
+        Some(Node::Comma(left, right)) => {
+            let (left, right) = (*left, *right);
+            comma_start(config, frame, left, right)
+        }
+        _ => finish(config, frame, Completion::Normal),
     }
 }

@@ -1,2 +1,2 @@
+pub mod Entries
 pub mod Standing
-pub mod Tops

@@ -1,8 +1,9 @@
-//! The step of statements (ECMA-262, 3rd edition, section 12).
+//! Statements, as they begin and as they go on (ECMA-262, 3rd edition, section 12).
 #![tactic(auto)]
 
+mod beginnings;
 mod begins;
 mod resumes;
-mod steps;
 
-pub use steps::step_stmt;
+pub use begins::{again, statement, variables};
+pub use resumes::stmt_after;

@@ -8,11 +8,11 @@ use Rattle.wjs_tree.specs.declared.node.Node.TheVariants as nodes
 use Rattle.wjs_meaning.specs.Reading.{node_in}
 use Rattle.wjs_meaning.specs.Deeds.{Env, Ret, Eval, AtStmt, Normal}
 use Rattle.wjs_meaning.specs.Statements.{block_from}
-use Rattle.wjs_model.specs.declared.frame.Form.{Form}
-use Rattle.wjs_model.specs.declared.frame.Form.TheVariants as form
+use Rattle.wjs_model.specs.declared.point.StmtPoint.TheVariants as stmt
 use Rattle.wjs_model.specs.Contents.{Holding}
-use Rattle.wjs_model.specs.Waiting.{after}
-use Rattle.wjs_lines.specs.Lists.{block_items, statements_in}
+use Rattle.wjs_model.specs.Lists.{block_items}
+use Rattle.wjs_model.specs.Waiting.{after_stmt}
+use Rattle.wjs_lines.specs.Lists.{statements_in}
 
 -- the part of a number, and those behind it
 pub drop_at : {X : Type 0} (xs : List X) (i : ℕ) (x : X) → slice_get xs i ≡ Some x → drop i xs ≡ x ∷ drop (suc i) xs
@@ -38,16 +38,17 @@ pub each_past : {X Y : Type 0} (f : X → Y) (xs : List X) (i : ℕ) → slice_g
 each_past f xs i e = drop_each f xs i ∙ ap (each f) (drop_past xs i e)
 
 module _ (t : Table) (here : ℕ) (held : Holding) (env : Env) where
-  block_goes : (n : NumberedNode) (at : ℕ) (s : NodeId) → slice_get (statements_in n) at ≡ Some s → Eval (AtStmt s.0) env (after (node_in t n) form.Stmt here (suc at) held env) ≡ block_from (drop at (block_items (node_in t n))) env
+  block_goes : (n : NumberedNode) (at : ℕ) (s : NodeId) → slice_get (statements_in n) at ≡ Some s
+      → Eval (AtStmt s.0) env (after_stmt (stmt.BlockStatement (suc at)) here (node_in t n) held env) ≡ block_from (drop at (block_items (node_in t n))) env
   block_goes (nodes.Block ss) at s e = ap (λ l. block_from l env) (sym (each_at (λ (id : NodeId). id.0) ss at s e))
   block_goes _ at s e = absurd (cc)
 
   -- the next statement is entered
-  pub block_at : (n : NumberedNode) (f : Form) (at next : ℕ) (s : NodeId) → f ≡ form.Stmt → next ≡ at + 1 → slice_get (statements_in n) at ≡ Some s → Eval (AtStmt s.0) env (after (node_in t n) f here next held env) ≡ block_from (drop at (block_items (node_in t n))) env
-  block_at n f at next s ef en e =
+  pub block_at : (n : NumberedNode) (at next : ℕ) (s : NodeId) → next ≡ at + 1 → slice_get (statements_in n) at ≡ Some s
+      → Eval (AtStmt s.0) env (after_stmt (stmt.BlockStatement next) here (node_in t n) held env) ≡ block_from (drop at (block_items (node_in t n))) env
+  block_at n at next s en e =
       let k : next ≡ suc at = omega (arith, en) in
-      ap (λ (g : Form). Eval (AtStmt s.0) env (after (node_in t n) g here next held env)) ef
-      ∙ ap (λ m. Eval (AtStmt s.0) env (after (node_in t n) form.Stmt here m held env)) k
+      ap (λ m. Eval (AtStmt s.0) env (after_stmt (stmt.BlockStatement m) here (node_in t n) held env)) k
       ∙ block_goes n at s e
 
   -- there is none

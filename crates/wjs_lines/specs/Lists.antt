@@ -1,28 +1,19 @@
 -- The lists that stand in nodes.
-use Rattle.std.specs.Prelude.{ℕ, List, [], ◌∷◌, ◌++◌, Option, None, Some}
+use Rattle.std.specs.Prelude.{List, [], ◌∷◌, ◌++◌, Option, None, Some}
 use Rattle.wjs_tree.specs.declared.node.NodeId.{NodeId}
 use Rattle.wjs_tree.specs.declared.node.Clause.{Clause}
 use Rattle.wjs_tree.specs.declared.node.Node.{Node as NumberedNode}
 use Rattle.wjs_tree.specs.declared.node.Node.TheVariants as form
 use Rattle.wjs_props.specs.declared.visits.Visit.{Visit}
-use Rattle.wjs_meaning.specs.Trees.{Node, Block, Switch}
 use Rattle.wjs_model.specs.declared.frame.Held.{Held}
 use Rattle.wjs_model.specs.declared.frame.Held.TheVariants as holds
 
 -- the statements of a block
-abbrev pub block_items : Node → List ℕ
-block_items (Block ss) = ss
-block_items node = []
-
 abbrev pub statements_in : NumberedNode → List NodeId
 statements_in (form.Block ss) = ss
 statements_in node = []
 
 -- the clauses of a `switch`
-abbrev pub clauses_of : Node → List (Option ℕ × List ℕ)
-clauses_of (Switch e clauses) = clauses
-clauses_of node = []
-
 abbrev pub clauses_in : NumberedNode → List Clause
 clauses_in (form.Switch e clauses) = clauses
 clauses_in node = []

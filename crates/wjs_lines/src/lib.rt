@@ -3,16 +3,16 @@
 
 mod ends;
 mod held;
+mod numbers;
 mod objects;
-mod places;
 mod references;
 mod texts;
 mod values;
 
 pub use ends::{give, give_result, give_text, throw, throw_undefined};
 pub use held::{held_callee, held_elements, held_reference, held_value};
+pub use numbers::{number_after, number_of};
 pub use objects::{this_or_global, to_object};
-pub use places::{place_after, place_at};
 pub use references::{give_value_of, store_and_give};
 pub use texts::{join, name_of_value};
 pub use values::{

@@ -1,4 +1,5 @@
 pub mod CallLines
 pub mod Items
 pub mod Lines
+pub mod Lists
 pub mod Standing

@@ -1,8 +1,7 @@
--- The parts of calls, `new` and literals stand where their frame is run, and so does a function expression; and a frame that holds more is still there (ECMA-262, 3rd edition, sections 11.1.4, 11.1.5, 11.2 and 13).
-use Rattle.std.proofs.Common.{◌≡◌, ℕ, zero, suc, false, List, [], ◌∷◌, inl, inr, Option, None, Some, refl, sym, ap, ◌∙◌, subst}
+-- The parts of calls, `new` and literals stand where their frame is run, and so does a function expression (ECMA-262, 3rd edition, sections 11.1.4, 11.1.5, 11.2 and 13).
+use Rattle.std.proofs.Common.{◌≡◌, ℕ, zero, suc, List, [], ◌∷◌, inl, inr, Option, None, Some, refl, sym, ap, ◌∙◌, subst}
 use Rattle.std.specs.Prelude.{slice_get, unwrap_or}
 use Rattle.wjs_base.specs.declared.ids.TextId.{TextId}
-use Rattle.wjs_base.specs.declared.values.Value.{Value}
 use Rattle.wjs_store.specs.Meaning.{Meaning}
 use Rattle.wjs_tree.specs.declared.node.NodeId.{NodeId}
 use Rattle.wjs_tree.specs.declared.node.Property.{Property}
@@ -11,19 +10,13 @@ use Rattle.wjs_tree.specs.declared.node.Node.TheVariants as nodes
 use Rattle.wjs_tree.specs.Shows.{Has}
 use Rattle.wjs_scope.specs.Nesting.{Around, option_part, item_parts, property_parts, parts, IsAmong}
 use Rattle.wjs_model.specs.declared.config.Config.{Config}
-use Rattle.wjs_model.specs.declared.frame.Form.{Form}
-use Rattle.wjs_model.specs.declared.frame.Form.TheVariants as form
 use Rattle.wjs_model.specs.declared.frame.Activation.{Activation as Frame}
-use Rattle.wjs_model.specs.declared.frame.Held.{Held}
-use Rattle.wjs_model.specs.declared.frame.Held.TheVariants as holds
-use Rattle.wjs_model.specs.Soundness.{StandsHere, IsThere, HasValue, HasItems}
-use Rattle.wjs_model.specs.Standing.{BodyStands}
+use Rattle.wjs_model.specs.Soundness.{StandsHere, IsThere}
 use Rattle.wjs_moves.specs.Parts.{node_now}
 use Rattle.wjs_moves.proofs.Parting.{among_at, among_left, among_right, among_around, among_is, stands_here}
 use Rattle.wjs_calls.specs.Standing.{StandsNamed}
-use Rattle.wjs_calls.proofs.Frames.{there_with}
-use Rattle.wjs_literals.specs.Arguments.{arguments_of, callee_in}
-use Rattle.wjs_literals.specs.Parts.{items_of, properties_of}
+use Rattle.wjs_literals.specs.Arguments.{arguments_in}
+use Rattle.wjs_literals.specs.Parts.{items_in, properties_in}
 
 -- ---- what is among the parts of a node
 
@@ -37,22 +30,16 @@ property_among [] k p e = absurd (cc)
 property_among (q ∷ properties) zero p e = let same : p ≡ q = cc in inl (ap (λ (x : Property). x.value) same)
 property_among (q ∷ properties) (suc k) p e = inr (property_among properties k p e)
 
-callee_among : (n : Node) (j : NodeId) → callee_in n ≡ Some j → IsAmong (parts n) (j, Around)
-callee_among (nodes.Call f args) j e = let same : j ≡ f = cc in inl (ap (λ (i : NodeId). (i, Around)) same)
-callee_among (nodes.NewWith f args) j e = let same : j ≡ f = cc in inl (ap (λ (i : NodeId). (i, Around)) same)
-callee_among (nodes.NewBare f) j e = let same : j ≡ f = cc in inl (ap (λ (i : NodeId). (i, Around)) same)
-callee_among _ j e = absurd (cc)
-
-argument_among : (n : Node) (k : ℕ) (j : NodeId) → slice_get (arguments_of n) k ≡ Some j → IsAmong (parts n) (j, Around)
+argument_among : (n : Node) (k : ℕ) (j : NodeId) → slice_get (arguments_in n) k ≡ Some j → IsAmong (parts n) (j, Around)
 argument_among (nodes.Call f args) k j e = inr (among_around args j (among_at args k j e))
 argument_among (nodes.NewWith f args) k j e = inr (among_around args j (among_at args k j e))
 argument_among _ k j e = absurd (cc)
 
-item_part : (n : Node) (k : ℕ) (j : NodeId) → slice_get (items_of n) k ≡ Some (Some j) → IsAmong (parts n) (j, Around)
+item_part : (n : Node) (k : ℕ) (j : NodeId) → slice_get (items_in n) k ≡ Some (Some j) → IsAmong (parts n) (j, Around)
 item_part (nodes.ArrayLit items comma) k j e = among_around (item_parts items) j (item_among items k j e)
 item_part _ k j e = absurd (cc)
 
-property_part : (n : Node) (k : ℕ) (p : Property) → slice_get (properties_of n) k ≡ Some p → IsAmong (parts n) (p.value, Around)
+property_part : (n : Node) (k : ℕ) (p : Property) → slice_get (properties_in n) k ≡ Some p → IsAmong (parts n) (p.value, Around)
 property_part (nodes.ObjectLit properties comma) k p e = among_around (property_parts properties) p.value (property_among properties k p e)
 property_part _ k p e = absurd (cc)
 
@@ -67,16 +54,13 @@ module _ {S : Type 0} (meaning : S → Meaning) (c : Config S) (f : Frame) (ther
   here : (j : NodeId) → IsAmong (parts (node_now meaning c f)) (j, Around) → StandsHere c f j
   here j among = stands_here meaning c f (node_now meaning c f) j there refl among
 
-  pub callee_stands : (j : NodeId) → callee_in (node_now meaning c f) ≡ Some j → StandsHere c f j
-  callee_stands j e = here j (callee_among (node_now meaning c f) j e)
-
-  pub argument_stands : (k : ℕ) (j : NodeId) → slice_get (arguments_of (node_now meaning c f)) k ≡ Some j → StandsHere c f j
+  pub argument_stands : (k : ℕ) (j : NodeId) → slice_get (arguments_in (node_now meaning c f)) k ≡ Some j → StandsHere c f j
   argument_stands k j e = here j (argument_among (node_now meaning c f) k j e)
 
-  pub item_stands : (k : ℕ) (j : NodeId) → slice_get (items_of (node_now meaning c f)) k ≡ Some (Some j) → StandsHere c f j
+  pub item_stands : (k : ℕ) (j : NodeId) → slice_get (items_in (node_now meaning c f)) k ≡ Some (Some j) → StandsHere c f j
   item_stands k j e = here j (item_part (node_now meaning c f) k j e)
 
-  pub property_stands : (k : ℕ) (p : Property) → slice_get (properties_of (node_now meaning c f)) k ≡ Some p → StandsHere c f p.value
+  pub property_stands : (k : ℕ) (p : Property) → slice_get (properties_in (node_now meaning c f)) k ≡ Some p → StandsHere c f p.value
   property_stands k p e = here p.value (property_part (node_now meaning c f) k p e)
 
   -- a function expression
@@ -90,14 +74,3 @@ module _ {S : Type 0} (meaning : S → Meaning) (c : Config S) (f : Frame) (ther
         stands = s;
         has = function_at s.unit.program.nodes f.node (slice_get s.unit.program.nodes f.node.0) name formals elements refl (sym (among_is c.units.items f.tree f.node s.unit s.found) ∙ is);
       }
-
-  -- ---- with more held
-
-  pub there_value : (v : Value) (g : Frame) → HasValue c v → g ≡ record f { held = holds.Value v ∷ f.held } → IsThere meaning c g
-  there_value v g h e = subst (IsThere meaning c) (sym e) (there_with meaning c f f.form f.place f.phase f.this (holds.Value v ∷ f.held) there there.phase there.this (h, there.held) there.stands.body)
-
-  -- with a callee held alone
-  pub there_callee : (callee this : Value) (none : List Held) (g : Frame) → f.form ≡ form.Expr → HasValue c callee → HasValue c this → none ≡ [] → g ≡ record f { held = holds.Callee callee this ∷ none } → IsThere meaning c g
-  there_callee callee this none g ef hc ht en e =
-      subst (IsThere meaning c) (sym e)
-      (there_with meaning c f f.form f.place f.phase f.this (holds.Callee callee this ∷ none) there there.phase there.this ((hc, ht), subst (HasItems c) (sym en) tt) (subst (λ (k : Form). BodyStands c.units.items c.heap.arena k false f.tree f.node f.scope) (sym ef) tt))

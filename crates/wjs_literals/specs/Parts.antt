@@ -1,5 +1,5 @@
 -- The parts of literals of arrays and objects (ECMA-262, 3rd edition, sections 11.1.4 and 11.1.5).
-use Rattle.std.specs.Prelude.{◌≡◌, ℕ, Bool, true, false, List, [], Option, map as each, drop, slice_get, Some}
+use Rattle.std.specs.Prelude.{◌≡◌, ℕ, List, [], Option, map as each, drop, slice_get, Some}
 use Rattle.wjs_base.specs.declared.ids.ObjId.{ObjId}
 use Rattle.wjs_tree.specs.declared.node.NodeId.{NodeId}
 use Rattle.wjs_tree.specs.declared.node.Property.{Property}
@@ -12,21 +12,13 @@ use Rattle.wjs_literals.specs.declared.arrays.Next.{Next}
 use Rattle.wjs_literals.specs.declared.arrays.Next.TheVariants as next
 
 -- the items of an array, of which one may be left out
-abbrev pub items_of : Node → List (Option NodeId)
-items_of (nodes.ArrayLit items comma) = items
-items_of _ = []
+abbrev pub items_in : Node → List (Option NodeId)
+items_in (nodes.ArrayLit items comma) = items
+items_in _ = []
 
-abbrev pub is_array : Node → Bool
-is_array (nodes.ArrayLit items comma) = true
-is_array _ = false
-
-abbrev pub properties_of : Node → List Property
-properties_of (nodes.ObjectLit properties comma) = properties
-properties_of _ = []
-
-abbrev pub is_object : Node → Bool
-is_object (nodes.ObjectLit properties comma) = true
-is_object _ = false
+abbrev pub properties_in : Node → List Property
+properties_in (nodes.ObjectLit properties comma) = properties
+properties_in _ = []
 
 -- the items from a number on, with the holes before the first that is there left out
 abbrev pub Skips : List (Option NodeId) → ℕ → Next → Type 0

@@ -1,7 +1,7 @@
 //! The arguments of calls and `new` (ECMA-262, 3rd edition, section 11.2.4).
 ghost use Rattle.std.specs.Prelude.{◌≡◌, slice_get};
 ghost use Rattle.wjs_moves.specs.Parts.{node_now};
-ghost use Rattle.wjs_literals.specs.Arguments.{arguments_of};
+ghost use Rattle.wjs_literals.specs.Arguments.{arguments_in};
 
 use wjs_model::{Config, Frame};
 use wjs_moves::node_of;
@@ -14,7 +14,7 @@ pub(crate) fn argument<S: WorldStore>(
     frame: &Frame,
     at: usize,
 ) -> Option<NodeId>
-    ensures { result ≡ slice_get (arguments_of (node_now S.meaning config.now frame.now)) at }
+    ensures { result ≡ slice_get (arguments_in (node_now S.meaning config.now frame.now)) at }
 {
     match node_of(config, frame) {
         Some(Node::Call(_, arguments)) => number_at(arguments.as_slice(), at),

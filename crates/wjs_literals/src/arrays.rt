@@ -1,22 +1,23 @@
 //! Literals of arrays (ECMA-262, 3rd edition, section 11.1.4): the items from left to right, and then the length.
-ghost use Rattle.std.specs.Prelude.{◌≡◌, ◌-◌, true, [], map as each, drop, slice_get};
+ghost use Rattle.std.specs.Prelude.{◌≡◌, [], drop, slice_get};
 ghost use Rattle.wjs_content.specs.Tables.{value_in};
-ghost use Rattle.wjs_meaning.specs.Deeds.{Do, Create, then_value};
+ghost use Rattle.wjs_meaning.specs.Deeds.{Do, Create};
 ghost use Rattle.wjs_meaning.specs.Expressions as line;
 ghost use Rattle.wjs_meaning.specs.NewObjects.{array_object};
-ghost use Rattle.wjs_meaning.specs.Reading.{number};
-ghost use Rattle.wjs_model.specs.Contents.{holding_in, completion_in, value_held};
-ghost use Rattle.wjs_model.specs.Soundness.{HasCompletion, HasObject, HasValue};
+ghost use Rattle.wjs_meaning.specs.Reading.{node_in};
+ghost use Rattle.wjs_model.specs.Contents.{holding_in, value_held};
+ghost use Rattle.wjs_model.specs.Lists.{items_of};
+ghost use Rattle.wjs_model.specs.Soundness.{HasObject, HasValue};
 ghost use Rattle.wjs_model.specs.Waiting as after;
 ghost use Rattle.wjs_moves.specs.Parts.{node_now};
-ghost use Rattle.wjs_literals.specs.Parts.{items_of, is_array, Skips};
+ghost use Rattle.wjs_literals.specs.Parts.{items_in, Skips};
 ghost use Rattle.wjs_moves.specs.Handling.{Runs, GoesOn};
 
 use wjs_base::{Name, ObjId, OutOfMemory, Value};
 use wjs_calls::whole_value;
 use wjs_deeds::{Known, create_array, write, write_known};
-use wjs_lines::{held_value, place_after, place_at};
-use wjs_model::{Completion, Config, Form, Frame, Held};
+use wjs_lines::{held_value, number_after, number_of};
+use wjs_model::{Completion, Config, ExprPoint, Frame, Held, Point};
 use wjs_moves::{Part, enter, finish, hold, node_of};
 use wjs_store::WorldStore;
 use wjs_tree::{Node, NodeId};
@@ -33,10 +34,8 @@ pub(crate) enum Next {
 /// An array literal: the array is made and held, and the first item is entered.
 pub fn array_start<S: WorldStore>(config: &mut Config<S>, frame: Frame) -> Result<(), OutOfMemory>
     requires runs { Runs S.meaning config.old frame }
-    requires form { frame.form ≡ Form.Expr }
-    requires node { is_array (node_now S.meaning config.old frame) ≡ true }
     ensures { GoesOn S.meaning frame config.old config.new result (λ t env.
-        Do (Create env.owner array_object) (λ o. line.array_from (each number (items_of (node_now S.meaning config.old frame))) 0 o env)) }
+        Do (Create env.owner array_object) (λ o. line.array_from (items_of (node_in t (node_now S.meaning config.old frame))) 0 o env)) }
 {
     let array = create_array(config)?;
     let mut frame = frame;
@@ -44,64 +43,41 @@ pub fn array_start<S: WorldStore>(config: &mut Config<S>, frame: Frame) -> Resul
     array_next(config, frame, array, 0)
 }
 
-/// An array literal goes on with the completion of an item.
-pub fn array_given<S: WorldStore>(
+/// After the item of a number: it is written to the array that is held.
+pub fn array_item<S: WorldStore>(
     config: &mut Config<S>,
     frame: Frame,
-    completion: Completion,
-) -> Result<(), OutOfMemory>
-    requires runs { Runs S.meaning config.old frame }
-    requires form { frame.form ≡ Form.Expr }
-    requires node { is_array (node_now S.meaning config.old frame) ≡ true }
-    requires completion { HasCompletion config.old completion }
-    ensures { GoesOn S.meaning frame config.old config.new result (λ t env.
-        then_value (after.array_item (each number (items_of (node_now S.meaning config.old frame))) (frame.place - 1) (holding_in t frame.held) env)
-        (completion_in t completion)) }
-{
-    match completion {
-        Completion::Gives(value) => array_item(config, frame, value),
-        _ => finish(config, frame, completion),
-    }
-}
-
-/// After an item: it is written to the array that is held.
-fn array_item<S: WorldStore>(
-    config: &mut Config<S>,
-    frame: Frame,
+    at: u32,
     value: Value,
 ) -> Result<(), OutOfMemory>
     requires runs { Runs S.meaning config.old frame }
-    requires form { frame.form ≡ Form.Expr }
-    requires node { is_array (node_now S.meaning config.old frame) ≡ true }
     requires value { HasValue config.old value }
     ensures { GoesOn S.meaning frame config.old config.new result (λ t env.
-        after.array_item (each number (items_of (node_now S.meaning config.old frame))) (frame.place - 1) (holding_in t frame.held) env (value_in t value)) }
+        after.array_item (items_of (node_in t (node_now S.meaning config.old frame))) at (holding_in t frame.held) env (value_in t value)) }
 {
     let array = held_value(config, &frame);
     match array {
-        Value::Object(array) => array_write(config, frame, array, value),
+        Value::Object(array) => array_write(config, frame, array, at, value),
         _ => finish(config, frame, Completion::Normal),
     }
 }
 
-/// The item of the frame's place is written, and the next is entered.
+/// The item of a number is written, and the next is entered.
 fn array_write<S: WorldStore>(
     config: &mut Config<S>,
     frame: Frame,
     array: ObjId,
+    at: u32,
     value: Value,
 ) -> Result<(), OutOfMemory>
     requires runs { Runs S.meaning config.old frame }
-    requires form { frame.form ≡ Form.Expr }
-    requires node { is_array (node_now S.meaning config.old frame) ≡ true }
     requires array { HasObject config.old array }
     requires held { value_held frame.held ≡ Value.Object array }
     requires value { HasValue config.old value }
     ensures { GoesOn S.meaning frame config.old config.new result (λ t env.
-        after.array_item (each number (items_of (node_now S.meaning config.old frame))) (frame.place - 1) (holding_in t frame.held) env (value_in t value)) }
+        after.array_item (items_of (node_in t (node_now S.meaning config.old frame))) at (holding_in t frame.held) env (value_in t value)) }
 {
-    let at = frame.place().saturating_sub(1);
-    let next = place_after(at, 1)?;
+    let next = number_after(at)?;
     write(config, &frame, array, Name::Index(at), value)?;
     array_next(config, frame, array, next)
 }
@@ -114,17 +90,16 @@ fn array_next<S: WorldStore>(
     from: u32,
 ) -> Result<(), OutOfMemory>
     requires runs { Runs S.meaning config.old frame }
-    requires form { frame.form ≡ Form.Expr }
-    requires node { is_array (node_now S.meaning config.old frame) ≡ true }
     requires array { HasObject config.old array }
     requires held { value_held frame.held ≡ Value.Object array }
     ensures { GoesOn S.meaning frame config.old config.new result (λ t env.
-        line.array_from (drop from (each number (items_of (node_now S.meaning config.old frame)))) from array env) }
+        line.array_from (drop from (items_of (node_in t (node_now S.meaning config.old frame)))) from array env) }
 {
     match next_item(config, &frame, from) {
         Next::Item(at, node) => {
-            let place = place_at(at, 1)?;
-            enter(config, frame, place, Part::Expr(node))
+            let number = number_of(at)?;
+            let point = Point::Expr(ExprPoint::ArrayItem(number));
+            enter(config, frame, point, Part::Expr(node))
         }
         Next::End(length) => array_end(config, frame, array, length),
     }
@@ -148,7 +123,7 @@ fn array_end<S: WorldStore>(
 
 /// What comes next of the items of the frame's node, from a number on.
 fn next_item<S: WorldStore>(config: &Config<S>, frame: &Frame, from: u32) -> Next
-    ensures { Skips (items_of (node_now S.meaning config.now frame.now)) from result }
+    ensures { Skips (items_in (node_now S.meaning config.now frame.now)) from result }
 {
     match node_of(config, frame) {
         Some(Node::ArrayLit(items, _)) => next_among(items.as_slice(), from as usize),

@@ -1,14 +1,13 @@
 //! Literals of texts (ECMA-262, 3rd edition, section 7.8.4), `this` (section 11.1.1) and `thisWorld` ("Worlds: Controlling the
 //! Scope of Side Effects", ECOOP 2011).
-ghost use Rattle.std.specs.Prelude.{◌≡◌, IfSome};
+ghost use Rattle.std.specs.Prelude.{IfSome};
 ghost use Rattle.wjs_content.specs.Objects as objects;
 ghost use Rattle.wjs_content.specs.Tables.{text_in};
 ghost use Rattle.wjs_content.specs.Values.{String};
 ghost use Rattle.wjs_meaning.specs.Deeds.{Do, Look, give};
 ghost use Rattle.wjs_meaning.specs.Expressions as line;
 ghost use Rattle.wjs_model.specs.Soundness.{HasObject};
-ghost use Rattle.wjs_moves.specs.Parts.{node_now};
-ghost use Rattle.wjs_moves.specs.Handling.{Runs, IsRunning, GoesOn};
+ghost use Rattle.wjs_moves.specs.Handling.{Runs, IsRunning, IsAt, GoesOn};
 
 use wjs_base::{ObjId, OutOfMemory, TextId, Value};
 use wjs_deeds::world_object;
@@ -24,7 +23,7 @@ pub fn text<S: WorldStore>(
     id: TextId,
 ) -> Result<(), OutOfMemory>
     requires running { IsRunning S.meaning config.old }
-    requires node { node_now S.meaning config.old frame ≡ Node.Text id }
+    requires node { IsAt S.meaning config.old frame (Node.Text id) }
     ensures { GoesOn S.meaning frame config.old config.new result (λ t env. give (String (text_in t id))) }
 {
     finish(config, frame, Completion::Gives(Value::Text(id)))

@@ -1,24 +1,25 @@
 //! Literals of objects (ECMA-262, 3rd edition, section 11.1.5): the values from left to right, each written under its key.
-ghost use Rattle.std.specs.Prelude.{◌≡◌, ◌+◌, ◌-◌, true, Some, map as each, drop, slice_get};
+ghost use Rattle.std.specs.Prelude.{◌≡◌, ◌+◌, Some, drop, slice_get};
 ghost use Rattle.wjs_content.specs.Names.{slot};
 ghost use Rattle.wjs_content.specs.Tables.{value_in};
-ghost use Rattle.wjs_meaning.specs.Deeds.{Do, Create, Write, then_value};
+ghost use Rattle.wjs_meaning.specs.Deeds.{Do, Create, Write};
 ghost use Rattle.wjs_meaning.specs.Expressions as line;
 ghost use Rattle.wjs_meaning.specs.NewObjects.{plain_object};
-ghost use Rattle.wjs_meaning.specs.Reading.{pair_in, key_in};
-ghost use Rattle.wjs_model.specs.Contents.{holding_in, completion_in, value_held};
+ghost use Rattle.wjs_meaning.specs.Reading.{node_in, key_in};
+ghost use Rattle.wjs_model.specs.Contents.{holding_in, value_held};
+ghost use Rattle.wjs_model.specs.Lists.{pairs_of};
 ghost use Rattle.wjs_model.specs.Texts.{KnowsKey};
-ghost use Rattle.wjs_model.specs.Soundness.{HasCompletion, HasObject, HasValue};
+ghost use Rattle.wjs_model.specs.Soundness.{HasObject, HasValue};
 ghost use Rattle.wjs_model.specs.Waiting as after;
 ghost use Rattle.wjs_moves.specs.Parts.{node_now};
-ghost use Rattle.wjs_literals.specs.Parts.{properties_of, is_object};
+ghost use Rattle.wjs_literals.specs.Parts.{properties_in};
 ghost use Rattle.wjs_moves.specs.Handling.{Runs, GoesOn};
 
 use wjs_base::{ObjId, OutOfMemory, Value};
 use wjs_deeds::{create_plain, write};
-use wjs_lines::{held_value, place_after};
+use wjs_lines::{held_value, number_after};
 use wjs_members::name_of_key;
-use wjs_model::{Completion, Config, Form, Frame, Held};
+use wjs_model::{Completion, Config, ExprPoint, Frame, Held, Point};
 use wjs_moves::{Part, enter, finish, hold, node_of};
 use wjs_store::WorldStore;
 use wjs_tree::{Node, Property, PropertyKey};
@@ -26,10 +27,8 @@ use wjs_tree::{Node, Property, PropertyKey};
 /// An object literal: the object is made and held, and the first value is entered.
 pub fn object_start<S: WorldStore>(config: &mut Config<S>, frame: Frame) -> Result<(), OutOfMemory>
     requires runs { Runs S.meaning config.old frame }
-    requires form { frame.form ≡ Form.Expr }
-    requires node { is_object (node_now S.meaning config.old frame) ≡ true }
     ensures { GoesOn S.meaning frame config.old config.new result (λ t env.
-        Do (Create env.owner plain_object) (λ o. line.object_from (each (pair_in t) (properties_of (node_now S.meaning config.old frame))) o env)) }
+        Do (Create env.owner plain_object) (λ o. line.object_from (pairs_of (node_in t (node_now S.meaning config.old frame))) o env)) }
 {
     let object = create_plain(config)?;
     let mut frame = frame;
@@ -37,65 +36,40 @@ pub fn object_start<S: WorldStore>(config: &mut Config<S>, frame: Frame) -> Resu
     object_next(config, frame, object, 0)
 }
 
-/// An object literal goes on with the completion of a value.
-pub fn object_given<S: WorldStore>(
+/// After the value of the property of a number: it is written to the object that is held.
+pub fn object_item<S: WorldStore>(
     config: &mut Config<S>,
     frame: Frame,
-    completion: Completion,
-) -> Result<(), OutOfMemory>
-    requires runs { Runs S.meaning config.old frame }
-    requires form { frame.form ≡ Form.Expr }
-    requires node { is_object (node_now S.meaning config.old frame) ≡ true }
-    requires completion { HasCompletion config.old completion }
-    ensures { GoesOn S.meaning frame config.old config.new result (λ t env.
-        then_value (after.object_item (each (pair_in t) (properties_of (node_now S.meaning config.old frame))) (frame.place - 1)
-        (holding_in t frame.held) env) (completion_in t completion)) }
-{
-    match completion {
-        Completion::Gives(value) => object_item(config, frame, value),
-        _ => finish(config, frame, completion),
-    }
-}
-
-/// After a value: it is written to the object that is held.
-fn object_item<S: WorldStore>(
-    config: &mut Config<S>,
-    frame: Frame,
+    at: u32,
     value: Value,
 ) -> Result<(), OutOfMemory>
     requires runs { Runs S.meaning config.old frame }
-    requires form { frame.form ≡ Form.Expr }
-    requires node { is_object (node_now S.meaning config.old frame) ≡ true }
     requires value { HasValue config.old value }
     ensures { GoesOn S.meaning frame config.old config.new result (λ t env.
-        after.object_item (each (pair_in t) (properties_of (node_now S.meaning config.old frame))) (frame.place - 1) (holding_in t frame.held) env
-        (value_in t value)) }
+        after.object_item (pairs_of (node_in t (node_now S.meaning config.old frame))) at (holding_in t frame.held) env (value_in t value)) }
 {
     let object = held_value(config, &frame);
     match object {
-        Value::Object(object) => object_value(config, frame, object, value),
+        Value::Object(object) => object_value(config, frame, object, at, value),
         _ => finish(config, frame, Completion::Normal),
     }
 }
 
-/// The property of the frame's place gets the value.
+/// The property of a number gets the value.
 fn object_value<S: WorldStore>(
     config: &mut Config<S>,
     frame: Frame,
     object: ObjId,
+    at: u32,
     value: Value,
 ) -> Result<(), OutOfMemory>
     requires runs { Runs S.meaning config.old frame }
-    requires form { frame.form ≡ Form.Expr }
-    requires node { is_object (node_now S.meaning config.old frame) ≡ true }
     requires object { HasObject config.old object }
     requires held { value_held frame.held ≡ Value.Object object }
     requires value { HasValue config.old value }
     ensures { GoesOn S.meaning frame config.old config.new result (λ t env.
-        after.object_item (each (pair_in t) (properties_of (node_now S.meaning config.old frame))) (frame.place - 1) (holding_in t frame.held) env
-        (value_in t value)) }
+        after.object_item (pairs_of (node_in t (node_now S.meaning config.old frame))) at (holding_in t frame.held) env (value_in t value)) }
 {
-    let at = frame.place().saturating_sub(1);
     match property(config, &frame, at as usize) {
         Some(property) => object_write(config, frame, object, at, property.key, value),
         None => finish(config, frame, Completion::Normal),
@@ -112,17 +86,15 @@ fn object_write<S: WorldStore>(
     value: Value,
 ) -> Result<(), OutOfMemory>
     requires runs { Runs S.meaning config.old frame }
-    requires form { frame.form ≡ Form.Expr }
-    requires node { is_object (node_now S.meaning config.old frame) ≡ true }
     requires object { HasObject config.old object }
     requires held { value_held frame.held ≡ Value.Object object }
     requires key { KnowsKey config.old.heap.texts key }
     requires value { HasValue config.old value }
     ensures { GoesOn S.meaning frame config.old config.new result (λ t env.
         Do (Write env.world (slot object (line.key_name (key_in t key))) (Some (value_in t value)))
-        (λ done. line.object_from (drop (at + 1) (each (pair_in t) (properties_of (node_now S.meaning config.old frame)))) object env)) }
+        (λ done. line.object_from (drop (at + 1) (pairs_of (node_in t (node_now S.meaning config.old frame)))) object env)) }
 {
-    let next = place_after(at, 1)?;
+    let next = number_after(at)?;
     let name = name_of_key(config, key)?;
     write(config, &frame, object, name, value)?;
     object_next(config, frame, object, next)
@@ -136,17 +108,15 @@ fn object_next<S: WorldStore>(
     at: u32,
 ) -> Result<(), OutOfMemory>
     requires runs { Runs S.meaning config.old frame }
-    requires form { frame.form ≡ Form.Expr }
-    requires node { is_object (node_now S.meaning config.old frame) ≡ true }
     requires object { HasObject config.old object }
     requires held { value_held frame.held ≡ Value.Object object }
     ensures { GoesOn S.meaning frame config.old config.new result (λ t env.
-        line.object_from (drop at (each (pair_in t) (properties_of (node_now S.meaning config.old frame)))) object env) }
+        line.object_from (drop at (pairs_of (node_in t (node_now S.meaning config.old frame)))) object env) }
 {
     match property(config, &frame, at as usize) {
         Some(property) => {
-            let place = place_after(at, 1)?;
-            enter(config, frame, place, Part::Expr(property.value))
+            let point = Point::Expr(ExprPoint::PairValue(at));
+            enter(config, frame, point, Part::Expr(property.value))
         }
         None => finish(config, frame, Completion::Gives(Value::Object(object))),
     }
@@ -154,7 +124,7 @@ fn object_next<S: WorldStore>(
 
 /// The property of a number of the frame's node.
 fn property<S: WorldStore>(config: &Config<S>, frame: &Frame, at: usize) -> Option<Property>
-    ensures { result ≡ slice_get (properties_of (node_now S.meaning config.now frame.now)) at }
+    ensures { result ≡ slice_get (properties_in (node_now S.meaning config.now frame.now)) at }
 {
     match node_of(config, frame) {
         Some(Node::ObjectLit(properties, _)) => property_at(properties.as_slice(), at),

@@ -15,7 +15,7 @@ use wjs_model::Unit;
 use wjs_order::ordered;
 use wjs_parse::program;
 use wjs_parse_expr::ParseFault;
-use wjs_scope::places;
+use wjs_scope::{declared_bodies, places};
 use wjs_tree::{Program, Tok};
 
 /// The unit of the program that the tokens spell, whose names are those of the table of texts. They are refused exactly where no
@@ -44,7 +44,7 @@ fn parsed(alloc: Global, toks: Vec<Tok>) -> Result<Program, LoadFault>
     }
 }
 
-/// The program with its nodes in the order of its tree, and the places of its names.
+/// The program with its nodes in the order of its tree, the places of its names, and what its bodies declare.
 fn unit_of(alloc: Global, texts: &Texts, program: Program) -> Result<Unit, OutOfMemory>
     requires { IsScript program.nodes program.body }
     ensures numbered { IfOk result (λ unit. (tree : Elements) → IsBody program.nodes tree program.body → IsNumbered unit.program.nodes tree unit.program.body) }
@@ -52,5 +52,10 @@ fn unit_of(alloc: Global, texts: &Texts, program: Program) -> Result<Unit, OutOf
 {
     let program = ordered(alloc, program)?;
     let places = places(alloc, texts, &program)?;
-    Ok(Unit { program, places })
+    let bodies = declared_bodies(alloc, &program)?;
+    Ok(Unit {
+        program,
+        places,
+        bodies,
+    })
 }

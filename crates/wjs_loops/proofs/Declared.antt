@@ -14,16 +14,14 @@ use Rattle.wjs_scope.specs.Places.{declarator_names, placed_names}
 use Rattle.wjs_content.specs.Values.{Text, Value}
 use Rattle.wjs_content.specs.Tables.{text_in}
 use Rattle.wjs_meaning.specs.Trees.{Place, name_place}
-use Rattle.wjs_meaning.specs.Deeds.{Env, Completion, Act, Ret, Eval, AtExpr, Normal, then_value, tree_here}
+use Rattle.wjs_meaning.specs.Deeds.{Env, Act, Ret, Eval, AtExpr, Normal, then_value, tree_here}
 use Rattle.wjs_meaning.specs.References.{reference_at, store}
 use Rattle.wjs_meaning.specs.Reading.{node_in, variable_in, number}
 use Rattle.wjs_meaning.specs.Statements.{vars_from}
-use Rattle.wjs_model.specs.declared.frame.Form.{Form}
-use Rattle.wjs_model.specs.declared.frame.Form.TheVariants as form
-use Rattle.wjs_model.specs.Contents.{Holding}
-use Rattle.wjs_model.specs.Waiting.{after, after_variable, store_variable}
+use Rattle.wjs_model.specs.Lists.{variables_of}
+use Rattle.wjs_model.specs.Waiting.{after_variable, store_variable}
 use Rattle.wjs_loops.specs.declared.declarators.Initialiser.{Initialiser}
-use Rattle.wjs_loops.specs.Variables.{declarators_in, variables_in, first_place, initialiser_goes}
+use Rattle.wjs_loops.specs.Variables.{declarators_in, initialiser_goes}
 use Rattle.wjs_lines.proofs.Parts.{each_at, each_past}
 
 module _ (t : Table) (here : ℕ) (env : Env) (ds : List Declarator) (at : ℕ) where
@@ -55,42 +53,23 @@ module _ (t : Table) (here : ℕ) (env : Env) (ds : List Declarator) (at : ℕ) 
   variable_none past = ap (λ (xs : List (Text × Option ℕ)). vars_from here at xs env) (each_past (variable_in t) ds at (slice_get_past ds at past))
 
 -- the variables under a table
-pub variables_same : (t : Table) (node : NumberedNode) → variables_in (node_in t node) ≡ map (variable_in t) (declarators_in node)
+pub variables_same : (t : Table) (node : NumberedNode) → variables_of (node_in t node) ≡ map (variable_in t) (declarators_in node)
 variables_same t (nodes.Var xs end) = refl
 variables_same t (nodes.For (inits.Var xs) test u s) = refl
 variables_same t (nodes.For (inits.Expr e) test u s) = refl
 variables_same t (nodes.For inits.Nothing test u s) = refl
 variables_same t _ = refl
 
--- what a frame waits for behind an initialiser
-waits : (t : Table) (node : NumberedNode) (here at place : ℕ) (held : Holding) (env : Env) (d : Declarator) → slice_get (declarators_in node) at ≡ Some d → place ≡ at + first_place node → after (node_in t node) form.Stmt here place held env ≡ then_value (after_variable here (variables_in (node_in t node)) at env)
-waits t (nodes.Var xs end) here at place held env d e ep =
-    let k : place - 1 ≡ at = omega (arith, ep) in
-    ap (λ (i : ℕ). then_value (after_variable here (map (variable_in t) xs) i env)) k
-waits t (nodes.For (inits.Var xs) test u s) here at place held env d e ep =
-    let p : place ≡ suc (suc (suc (suc (suc (suc at))))) = omega (arith, ep) in
-    let k : suc (suc (suc (suc (suc (suc at))))) - 6 ≡ at = omega arith in
-    ap (λ (i : ℕ). after (node_in t (nodes.For (inits.Var xs) test u s)) form.Stmt here i held env) p
-    ∙ ap (λ (i : ℕ). then_value (after_variable here (map (variable_in t) xs) i env)) k
-waits t (nodes.For (inits.Expr x) test u s) here at place held env d e ep = absurd (cc)
-waits t (nodes.For inits.Nothing test u s) here at place held env d e ep = absurd (cc)
-waits t _ here at place held env d e ep = absurd (cc)
-
-pub variable_waits : (t : Table) (node : NumberedNode) (f : Form) (here at place : ℕ) (held : Holding) (env : Env) (d : Declarator) → f ≡ form.Stmt → slice_get (declarators_in node) at ≡ Some d → place ≡ at + first_place node → after (node_in t node) f here place held env ≡ then_value (after_variable here (variables_in (node_in t node)) at env)
-variable_waits t node f here at place held env d ef e ep = ap (λ (g : Form). after (node_in t node) g here place held env) ef ∙ waits t node here at place held env d e ep
-
 -- the initialiser that was found among the variables of a node
-pub found_same : (t : Table) (node : NumberedNode) (here : ℕ) (env : Env) (ds : List Declarator) (from : ℕ) (o : Option Initialiser) → ds ≡ declarators_in node → vars_from here from (drop from (map (variable_in t) ds)) env ≡ initialiser_goes here (map (variable_in t) ds) o env → vars_from here from (drop from (variables_in (node_in t node))) env ≡ initialiser_goes here (variables_in (node_in t node)) o env
+pub found_same : (t : Table) (node : NumberedNode) (here : ℕ) (env : Env) (ds : List Declarator) (from : ℕ) (o : Option Initialiser) → ds ≡ declarators_in node → vars_from here from (drop from (map (variable_in t) ds)) env ≡ initialiser_goes here (map (variable_in t) ds) o env → vars_from here from (drop from (variables_of (node_in t node))) env ≡ initialiser_goes here (variables_of (node_in t node)) o env
 found_same t node here env ds from o ed e =
     let P : List (Text × Option ℕ) → Type 0 = λ l. vars_from here from (drop from l) env ≡ initialiser_goes here l o env in
     subst P (ap (map (variable_in t)) ed ∙ sym (variables_same t node)) e
 
 -- it is entered
-pub found_enters : (t : Table) (node : NumberedNode) (f : Form) (here place first : ℕ) (held : Holding) (env : Env) (x : Initialiser) → f ≡ form.Stmt → first ≡ first_place node → place ≡ x.at + first → x.at < length (declarators_in node) → Eval (AtExpr x.value.0) env (after (node_in t node) f here place held env) ≡ initialiser_goes here (variables_in (node_in t node)) (Some x) env
-found_enters t node f here place first held env x ef e1 ep lt =
-    let d : Declarator = get_or (declarators_in node) x.at (record { name = record { 0 = 0 }; value = None }) in
-    let p : place ≡ x.at + first_place node = ep ∙ ap (λ (i : ℕ). x.at + i) e1 in
-    ap (λ (go : Completion → Act). Eval (AtExpr x.value.0) env go) (variable_waits t node f here x.at place held env d ef (slice_get-get_or (declarators_in node) x.at (record { name = record { 0 = 0 }; value = None }) lt) p)
+pub found_enters : (t : Table) (node : NumberedNode) (here at : ℕ) (env : Env) (x : Initialiser) → at ≡ x.at
+    → Eval (AtExpr x.value.0) env (then_value (after_variable here (variables_of (node_in t node)) at env)) ≡ initialiser_goes here (variables_of (node_in t node)) (Some x) env
+found_enters t node here at env x e = ap (λ (i : ℕ). Eval (AtExpr x.value.0) env (then_value (after_variable here (variables_of (node_in t node)) i env))) e
 
 -- ---- stores
 
@@ -133,12 +112,12 @@ module _ (t : Table) (here : ℕ) (env : Env) (ds : List Declarator) (at : ℕ) 
 
 module _ (t : Table) (node : NumberedNode) (here : ℕ) (env : Env) (at : ℕ) (v : Value) where
   -- a value is stored to the variable, and then come those behind it
-  pub variable_stores : (place : Place) (name : TextId) → name_place (tree_here env) here at ≡ place → Some name ≡ name_among (declarators_in node) at → reference_at place (text_in t name) env (λ r. store r v env (vars_from here (at + 1) (drop (at + 1) (variables_in (node_in t node))) env)) ≡ store_variable here (drop at (variables_in (node_in t node))) at env v
+  pub variable_stores : (place : Place) (name : TextId) → name_place (tree_here env) here at ≡ place → Some name ≡ name_among (declarators_in node) at → reference_at place (text_in t name) env (λ r. store r v env (vars_from here (at + 1) (drop (at + 1) (variables_of (node_in t node))) env)) ≡ store_variable here (drop at (variables_of (node_in t node))) at env v
   variable_stores place name p e =
       let P : List (Text × Option ℕ) → Type 0 = λ l. reference_at place (text_in t name) env (λ r. store r v env (vars_from here (at + 1) (drop (at + 1) l) env)) ≡ store_variable here (drop at l) at env v in
       subst P (sym (variables_same t node)) (named_stored t here env (declarators_in node) at v place name (slice_get (declarators_in node) at) p refl e)
 
-  pub no_variable_stores : None ≡ name_among (declarators_in node) at → Ret Normal ≡ store_variable here (drop at (variables_in (node_in t node))) at env v
+  pub no_variable_stores : None ≡ name_among (declarators_in node) at → Ret Normal ≡ store_variable here (drop at (variables_of (node_in t node))) at env v
   no_variable_stores e =
       let P : List (Text × Option ℕ) → Type 0 = λ l. Ret Normal ≡ store_variable here (drop at l) at env v in
       subst P (sym (variables_same t node)) (none_stored t here env (declarators_in node) at v (slice_get (declarators_in node) at) refl e)

@@ -1,5 +1,5 @@
 pub mod Declared
+pub mod Labelled
 pub mod Standing
 pub mod Storing
-pub mod Waits
 pub mod Walks

@@ -1,59 +1,23 @@
--- The parts of loops and of variables stand where their frame is run.
+-- The initialisers of variables stand where their frame is run.
 use Rattle.std.proofs.Common.{◌≡◌, ℕ, zero, suc, List, [], ◌∷◌, ◌++◌, Option, Some, inl, refl, sym, subst}
 use Rattle.std.specs.Prelude.{slice_get}
 use Rattle.std.specs.Option.{option_and_then}
 use Rattle.wjs_store.specs.Meaning.{Meaning}
 use Rattle.wjs_tree.specs.declared.node.NodeId.{NodeId}
 use Rattle.wjs_tree.specs.declared.node.Declarator.{Declarator}
-use Rattle.wjs_tree.specs.declared.node.ForInit.{ForInit}
 use Rattle.wjs_tree.specs.declared.node.ForInit.TheVariants as inits
 use Rattle.wjs_tree.specs.declared.node.Node.{Node}
 use Rattle.wjs_tree.specs.declared.node.Node.TheVariants as nodes
-use Rattle.wjs_scope.specs.Nesting.{Around, option_part, initialisers, init_parts, plain_parts, parts, IsAmong}
+use Rattle.wjs_scope.specs.Nesting.{Around, option_part, initialisers, plain_parts, parts, IsAmong}
 use Rattle.wjs_model.specs.declared.config.Config.{Config}
 use Rattle.wjs_model.specs.declared.frame.Activation.{Activation as Frame}
 use Rattle.wjs_model.specs.Soundness.{IsThere, StandsHere}
 use Rattle.wjs_moves.specs.Parts.{node_now}
 use Rattle.wjs_moves.proofs.Parting.{among_left, among_right, among_around, stands_here}
-use Rattle.wjs_loops.specs.Fors.{IsFor}
 use Rattle.wjs_loops.specs.Variables.{declarators_in}
-
--- ---- a `for`
 
 option_among : (o : Option NodeId) (e : NodeId) → o ≡ Some e → IsAmong (option_part o) e
 option_among o e q = subst (λ (x : Option NodeId). IsAmong (option_part x) e) (sym q) (inl refl)
-
-module _ (first : ForInit) (t u : Option NodeId) (s : NodeId) where
-  abbrev loop : Node
-  loop = nodes.For first t u s
-
-  -- behind the first part, the test and the update
-  abbrev behind_test : List NodeId
-  behind_test = option_part u ++ s ∷ []
-
-  abbrev behind_first : List NodeId
-  behind_first = option_part t ++ behind_test
-
-  test_among : (e : NodeId) → t ≡ Some e → IsAmong (parts loop) (e, Around)
-  test_among e q = among_around (plain_parts loop) e (among_right (init_parts first) behind_first e (among_left (option_part t) behind_test e (option_among t e q)))
-
-  update_among : (e : NodeId) → u ≡ Some e → IsAmong (parts loop) (e, Around)
-  update_among e q = among_around (plain_parts loop) e (among_right (init_parts first) behind_first e (among_right (option_part t) behind_test e (among_left (option_part u) (s ∷ []) e (option_among u e q))))
-
-  body_among : IsAmong (parts loop) (s, Around)
-  body_among = among_around (plain_parts loop) s (among_right (init_parts first) behind_first s (among_right (option_part t) behind_test s (among_right (option_part u) (s ∷ []) s (inl refl))))
-
-module _ {S : Type 0} (meaning : S → Meaning) (c : Config S) (f : Frame) (t u : Option NodeId) (s : NodeId) (here : IsThere meaning c f) (is : IsFor (node_now meaning c f) t u s) where
-  pub test_stands : (e : NodeId) → t ≡ Some e → StandsHere c f e
-  test_stands e q = stands_here meaning c f (nodes.For is.first t u s) e here is.is (test_among is.first t u s e q)
-
-  pub update_stands : (e : NodeId) → u ≡ Some e → StandsHere c f e
-  update_stands e q = stands_here meaning c f (nodes.For is.first t u s) e here is.is (update_among is.first t u s e q)
-
-  pub body_stands : StandsHere c f s
-  body_stands = stands_here meaning c f (nodes.For is.first t u s) s here is.is (body_among is.first t u s)
-
--- ---- variables
 
 abbrev pub value_of : Option Declarator → Option NodeId
 value_of o = option_and_then (λ (d : Declarator). d.value) o
@@ -65,7 +29,9 @@ among_initialisers (d ∷ ds) (suc at) e q = among_right (option_part d.value) (
 
 variable_among : (n : Node) (at : ℕ) (e : NodeId) → value_of (slice_get (declarators_in n) at) ≡ Some e → IsAmong (parts n) (e, Around)
 variable_among (nodes.Var xs end) at e q = among_around (initialisers xs) e (among_initialisers xs at e q)
-variable_among (nodes.For (inits.Var xs) t u s) at e q = among_around (plain_parts (nodes.For (inits.Var xs) t u s)) e (among_left (initialisers xs) (behind_first (inits.Var xs) t u s) e (among_initialisers xs at e q))
+variable_among (nodes.For (inits.Var xs) t u s) at e q =
+    among_around (plain_parts (nodes.For (inits.Var xs) t u s)) e
+    (among_left (initialisers xs) (option_part t ++ (option_part u ++ s ∷ [])) e (among_initialisers xs at e q))
 variable_among (nodes.For (inits.Expr x) t u s) at e q = absurd (cc)
 variable_among (nodes.For inits.Nothing t u s) at e q = absurd (cc)
 variable_among n at e q = absurd (cc)

@@ -19,11 +19,12 @@ use Rattle.wjs_model.specs.declared.config.Config.{Config}
 use Rattle.wjs_model.specs.declared.frame.Activation.{Activation as Frame}
 use Rattle.wjs_model.specs.declared.unit.Unit.{Unit as Program}
 use Rattle.wjs_model.specs.Units.{place_in}
+use Rattle.wjs_model.specs.Lists.{variables_of}
 use Rattle.wjs_model.specs.Waiting.{store_variable}
 use Rattle.wjs_moves.specs.Parts.{env_in, node_now, node_among}
 use Rattle.wjs_moves.specs.Doing.{DoesFirst, FailsFirst}
 use Rattle.wjs_moves.specs.Following.{Follows, Later}
-use Rattle.wjs_loops.specs.Variables.{declarators_in, variables_in}
+use Rattle.wjs_loops.specs.Variables.{declarators_in}
 use Rattle.wjs_deeds.proofs.Composing.{env_later}
 use Rattle.wjs_loops.proofs.Declared.{variable_stores}
 
@@ -39,16 +40,16 @@ module _ {S : Type 0} (meaning : S → Meaning) (old mid later : Config S) (r : 
   stores t act = reference_at (place_in place) (text_in t name) (env_in meaning old t f) (λ x. store x (value_in t v) (env_in meaning old t f) act)
 
   abbrev goes : Act
-  goes = store_variable here (drop at (variables_in (node_in texts (node_now meaning old f)))) at (env_in meaning old texts f) (value_in texts v)
+  goes = store_variable here (drop at (variables_of (node_in texts (node_now meaning old f)))) at (env_in meaning old texts f) (value_in texts v)
 
   -- the variables behind it, under a program's units and where they are run
   abbrev behind : Config S → Act
-  behind c = vars_from here (at + 1) (drop (at + 1) (variables_in (node_in texts (node_now meaning c f)))) (env_in meaning c texts f)
+  behind c = vars_from here (at + 1) (drop (at + 1) (variables_of (node_in texts (node_now meaning c f)))) (env_in meaning c texts f)
 
   behind_later : Later meaning old mid → behind mid ≡ behind old
   behind_later l =
-      ap (λ (e : Env). vars_from here (at + 1) (drop (at + 1) (variables_in (node_in texts (node_now meaning mid f)))) e) (env_later meaning old mid texts f l)
-      ∙ ap (λ (us : List Program). vars_from here (at + 1) (drop (at + 1) (variables_in (node_in texts (node_among us f.tree f.node)))) (env_in meaning old texts f)) (λ i. (l.units i).items)
+      ap (λ (e : Env). vars_from here (at + 1) (drop (at + 1) (variables_of (node_in texts (node_now meaning mid f)))) e) (env_later meaning old mid texts f l)
+      ∙ ap (λ (us : List Program). vars_from here (at + 1) (drop (at + 1) (variables_of (node_in texts (node_among us f.tree f.node)))) (env_in meaning old texts f)) (λ i. (l.units i).items)
 
   stored : name_place (tree_here (env_in meaning old texts f)) here at ≡ place_in place → Some name ≡ option_map (λ (d : Declarator). d.name) (slice_get (declarators_in (node_now meaning old f)) at) → stores texts (behind old) ≡ goes
   stored p e = variable_stores texts (node_now meaning old f) here (env_in meaning old texts f) at (value_in texts v) (place_in place) name p e

@@ -1,4 +1,3 @@
 pub mod Bodies
-pub mod Fors
 pub mod Labels
 pub mod Variables

@@ -3,27 +3,16 @@ use Rattle.std.specs.Prelude.{ℕ, List, [], Option, None, Some, drop}
 use Rattle.wjs_tree.specs.declared.node.Declarator.{Declarator}
 use Rattle.wjs_tree.specs.declared.node.ForInit.TheVariants as inits
 use Rattle.wjs_tree.specs.declared.node.Node.{Node as NumberedNode}
-use Rattle.wjs_tree.specs.declared.node.Node.TheVariants as form
+use Rattle.wjs_tree.specs.declared.node.Node.TheVariants as nodes
 use Rattle.wjs_content.specs.Values.{Text}
-use Rattle.wjs_meaning.specs.Trees.{Node, Var, For}
 use Rattle.wjs_meaning.specs.Deeds.{Env, Act, Ret, Eval, AtExpr, Normal, then_value}
-use Rattle.wjs_model.specs.Waiting.{variables_of, store_variable}
+use Rattle.wjs_model.specs.Waiting.{store_variable}
 use Rattle.wjs_loops.specs.declared.declarators.Initialiser.{Initialiser}
 
 abbrev pub declarators_in : NumberedNode → List Declarator
-declarators_in (form.Var xs end) = xs
-declarators_in (form.For (inits.Var xs) t u s) = xs
+declarators_in (nodes.Var xs end) = xs
+declarators_in (nodes.For (inits.Var xs) t u s) = xs
 declarators_in node = []
-
-abbrev pub variables_in : Node → List (Text × Option ℕ)
-variables_in (Var xs) = xs
-variables_in (For init t u s) = variables_of init
-variables_in node = []
-
--- the place behind the first initialiser
-abbrev pub first_place : NumberedNode → ℕ
-first_place (form.Var xs end) = 1
-first_place node = 6
 
 -- what the initialiser that was found does
 abbrev pub initialiser_goes : ℕ → List (Text × Option ℕ) → Option Initialiser → Env → Act

@@ -13,8 +13,10 @@ mod whiles;
 
 pub use assigns::assign;
 pub use bodies::{AfterBody, after_body};
-pub use fors::{for_again, for_from, for_next, for_variables};
-pub use jumps::label_next;
+pub use fors::{
+    for_again, for_body, for_declared, for_from, for_started, for_test, for_updated, for_variables,
+};
+pub use jumps::label_body;
 pub use turns::{expr_turn, stmt_turn};
-pub use variables::{place_of, variable_next, variables_from};
-pub use whiles::{do_next, while_next};
+pub use variables::{place_of, variable_value, variables_from};
+pub use whiles::{do_body, do_test, while_body, while_test};

@@ -1,5 +1,4 @@
-//! Variables with initialisers, of a `var` and of a `for` (sections 12.2 and 12.6.3). The place behind an initialiser is that of the
-//! first, which is 1 in a `var` and 6 in a `for`, and the number of the variable.
+//! Variables with initialisers, of a `var` and of a `for` (sections 12.2 and 12.6.3).
 ghost use Rattle.std.specs.Prelude.{◌≡◌, ◌<◌, ◌+◌, ◌^◌, length, drop, slice_get, IfSome};
 ghost use Rattle.std.specs.Option.{option_map};
 ghost use Rattle.wjs_base.specs.Text.{Table, Has};
@@ -10,18 +9,19 @@ ghost use Rattle.wjs_meaning.specs.Deeds.{tree_here, then_value};
 ghost use Rattle.wjs_meaning.specs.Reading.{node_in};
 ghost use Rattle.wjs_meaning.specs.Statements.{vars_from};
 ghost use Rattle.wjs_model.specs.Contents.{completion_in};
+ghost use Rattle.wjs_model.specs.Lists.{variables_of};
 ghost use Rattle.wjs_model.specs.Soundness.{Base, HasValue, HasCompletion};
 ghost use Rattle.wjs_model.specs.Units.{place_in};
 ghost use Rattle.wjs_model.specs.Waiting.{after_variable, store_variable};
 ghost use Rattle.wjs_moves.specs.Parts.{env_in, node_now};
-ghost use Rattle.wjs_loops.specs.Variables.{declarators_in, variables_in, first_place};
 ghost use Rattle.wjs_moves.specs.Handling.{Runs, GoesOn};
+ghost use Rattle.wjs_loops.specs.Variables.{declarators_in};
 
 use crate::assigns::assign;
 use crate::declarators::initialiser_from;
 use wjs_base::{OutOfMemory, TextId, Value};
-use wjs_lines::place_at;
-use wjs_model::{Completion, Config, Form, Frame};
+use wjs_lines::number_of;
+use wjs_model::{Completion, Config, Frame, Point, StmtPoint};
 use wjs_moves::{Part, enter, finish, node_of};
 use wjs_scope::Place;
 use wjs_store::WorldStore;
@@ -51,16 +51,6 @@ fn name_at<S: WorldStore>(config: &Config<S>, frame: &Frame, at: usize) -> Optio
     }
 }
 
-/// The place behind the first initialiser.
-fn first_place<S: WorldStore>(config: &Config<S>, frame: &Frame) -> u32
-    ensures { result ≡ first_place (node_now S.meaning config.now frame.now) }
-{
-    match node_of(config, frame) {
-        Some(Node::Var(_, _)) => 1,
-        _ => 6,
-    }
-}
-
 /// Where the name of a variable of this number is found.
 pub fn place_of<S: WorldStore>(config: &Config<S>, frame: &Frame, at: usize) -> Place
     requires named { at < length (placed_names (node_now S.meaning config.now frame.now)) }
@@ -76,51 +66,48 @@ pub fn variables_from<S: WorldStore>(
     from: usize,
 ) -> Result<(), OutOfMemory>
     requires runs { Runs S.meaning config.old frame }
-    requires form { frame.form ≡ Form.Stmt }
     ensures { GoesOn S.meaning frame config.old config.new result (λ t env.
-        vars_from frame.node.0 from (drop from (variables_in (node_in t (node_now S.meaning config.old frame)))) env) }
+        vars_from frame.node.0 from (drop from (variables_of (node_in t (node_now S.meaning config.old frame)))) env) }
 {
     match initialiser_from(declarators_of(config, &frame), from) {
         Some(initialiser) => {
-            let first = first_place(config, &frame);
-            let place = place_at(initialiser.at, first)?;
-            enter(config, frame, place, Part::Expr(initialiser.value))
+            let at = number_of(initialiser.at)?;
+            let point = Point::Stmt(StmtPoint::VariableValue(at));
+            enter(config, frame, point, Part::Expr(initialiser.value))
         }
         None => finish(config, frame, Completion::Normal),
     }
 }
 
-/// After the initialiser of a variable of a number.
-pub fn variable_next<S: WorldStore>(
+/// After the initialiser of the variable of a number.
+pub fn variable_value<S: WorldStore>(
     config: &mut Config<S>,
     frame: Frame,
-    at: usize,
+    at: u32,
     completion: Completion,
 ) -> Result<(), OutOfMemory>
     requires runs { Runs S.meaning config.old frame }
-    requires form { frame.form ≡ Form.Stmt }
     requires completion { HasCompletion config.old completion }
     ensures { GoesOn S.meaning frame config.old config.new result (λ t env.
-        then_value (after_variable frame.node.0 (variables_in (node_in t (node_now S.meaning config.old frame))) at env) (completion_in t completion)) }
+        then_value (after_variable frame.node.0 (variables_of (node_in t (node_now S.meaning config.old frame))) at env) (completion_in t completion)) }
 {
     match completion {
-        Completion::Gives(value) => variable_value(config, frame, at, value),
+        Completion::Gives(value) => variable_stored(config, frame, at as usize, value),
         other => finish(config, frame, other),
     }
 }
 
 /// The value is stored to the name, and then come the variables behind it.
-fn variable_value<S: WorldStore>(
+fn variable_stored<S: WorldStore>(
     config: &mut Config<S>,
     frame: Frame,
     at: usize,
     value: Value,
 ) -> Result<(), OutOfMemory>
     requires runs { Runs S.meaning config.old frame }
-    requires form { frame.form ≡ Form.Stmt }
     requires value { HasValue config.old value }
     ensures { GoesOn S.meaning frame config.old config.new result (λ t env.
-        store_variable frame.node.0 (drop at (variables_in (node_in t (node_now S.meaning config.old frame)))) at env (value_in t value)) }
+        store_variable frame.node.0 (drop at (variables_of (node_in t (node_now S.meaning config.old frame)))) at env (value_in t value)) }
 {
     match name_at(config, &frame, at) {
         Some(name) => {

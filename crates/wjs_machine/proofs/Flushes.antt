@@ -10,7 +10,7 @@ use Rattle.wjs_model.specs.declared.config.State.{State}
 use Rattle.wjs_model.specs.declared.config.State.TheVariants as states
 use Rattle.wjs_model.specs.Contents.{Frame, Moment, Due, Ready, Waiting, Given, Entering, Run}
 use Rattle.wjs_model.specs.Frames.{last, front}
-use Rattle.wjs_model.specs.Rest.{Go, under, act_of, act_at, given, rest_over, rest_top, rest_of, Count, turns_act, turns_under, turns_over, turns_at, turns_top}
+use Rattle.wjs_model.specs.Rest.{Go, under, act_of, act_at, act_after, rest_over, rest_top, rest_of, Count, turns_act, turns_under, turns_over, turns_at, turns_top}
 use Rattle.wjs_model.specs.Outside.{Outside}
 use Rattle.wjs_model.specs.Configurations.{rest_by, turns_by, seen, run_in, state_in, frames_in, tells, rest, turns}
 use Rattle.wjs_machine.specs.Flushing.{after_output, GoesOut, OutputGoesOut, OutputTakesNoTurn}
@@ -73,8 +73,8 @@ under_put : (p : List ℕ) (run : Run) (fs : List Frame) (go : Go) → Alike p g
 under_put p run [] go h = h
 under_put p run (f ∷ fs) go h = under_put p run fs _ (record {
   at = λ c st n.
-      ap (λ o. then_do o go) (interp_put p eval (eval_put p) (given run f c) st n)
-      ∙ then_put p (interp eval (given run f c) st n) go h;
+      ap (λ o. then_do o go) (interp_put p eval (eval_put p) (act_after run f c) st n)
+      ∙ then_put p (interp eval (act_after run f c) st n) go h;
 })
 
 over_put : (p : List ℕ) (run : Run) (act : Act) (fs : List Frame) (st : St) (n : ℕ) → rest_over run act fs (put p st) n ≡ put_in p (rest_over run act fs st n)
@@ -133,17 +133,17 @@ act_turns p (Do (Emit bytes) k) st go h =
 
 under_turns : (p : List ℕ) (run : Run) (fs : List Frame) (go : Count) → Counts p go → Counts p (turns_under run fs go)
 under_turns p run [] go h = h
-under_turns p run (f ∷ fs) go h = under_turns p run fs _ (record { at = λ c st. act_turns p (given run f c) st go h })
+under_turns p run (f ∷ fs) go h = under_turns p run fs _ (record { at = λ c st. act_turns p (act_after run f c) st go h })
 
 over_turns : (p : List ℕ) (run : Run) (act : Act) (fs : List Frame) (st : St) → turns_over run act fs (put p st) ≡ turns_over run act fs st
 over_turns p run act fs st = act_turns p act st _ (under_turns p run fs (λ c st'. 0) (record { at = λ c st'. refl }))
 
 at_turns : (p : List ℕ) (run : Run) (fs : List Frame) (f : Frame) (m : Moment) (st : St) → turns_at run fs f m (put p st) ≡ turns_at run fs f m st
-at_turns p run fs f Due st = refl
-at_turns p run fs f (Entering o) st = refl
-at_turns p run fs f Ready st = ap suc (over_turns p run (act_at run f Ready) fs st)
-at_turns p run fs f Waiting st = ap suc (over_turns p run (act_at run f Waiting) fs st)
-at_turns p run fs f (Given c) st = ap suc (over_turns p run (act_at run f (Given c)) fs st)
+at_turns p run fs f (Due start) st = refl
+at_turns p run fs f (Entering point o) st = refl
+at_turns p run fs f (Ready start) st = ap suc (over_turns p run (act_at run f (Ready start)) fs st)
+at_turns p run fs f (Waiting point) st = ap suc (over_turns p run (act_at run f (Waiting point)) fs st)
+at_turns p run fs f (Given point c) st = ap suc (over_turns p run (act_at run f (Given point c)) fs st)
 
 top_turns : (p : List ℕ) (run : Run) (fs : List Frame) (top : Option Frame) (st : St) → turns_top run fs top (put p st) ≡ turns_top run fs top st
 top_turns p run fs None st = refl

@@ -2,19 +2,14 @@
 ghost use Rattle.std.specs.Prelude.{◌≡◌, ◌≤◌, OnOk, IfErr};
 ghost use Rattle.wjs_io.specs.Streams.{over};
 ghost use Rattle.wjs_model.specs.Soundness.{Sound};
-ghost use Rattle.wjs_moves.specs.Taking.{Turns};
 ghost use Rattle.wjs_machine.specs.Runs.{Advances, Halts};
 
 use crate::flush::flush;
 use crate::halt::Halt;
+use crate::steps::step;
 use wjs_base::OutOfMemory;
-use wjs_eval_call::step_call;
-use wjs_eval_expr::step_expr;
-use wjs_eval_stmt::step_stmt;
 use wjs_io::Sink;
-use wjs_model::{Config, State, Turn};
-use wjs_native_core::step_core;
-use wjs_native_text::step_text;
+use wjs_model::{Config, State};
 use wjs_store::WorldStore;
 
 /// Takes one turn, and writes pieces of exactly 4,096 bytes until fewer are pending.
@@ -37,23 +32,5 @@ pub fn advance<S: WorldStore, O: Sink>(config: &mut Config<S>, out: &mut O) -> R
     match flush(config, out) {
         Ok(()) => Ok(()),
         Err(_) => Err(Halt::SinkFailed),
-    }
-}
-
-/// Takes the turn of the frame that runs, and writes nothing: output stays pending. After want of memory the configuration isn't
-/// used again.
-#[inline(always)]
-pub fn step<S: WorldStore>(config: &mut Config<S>) -> Result<(), OutOfMemory>
-    requires running { config.old.state ≡ State.Running }
-    requires sound { Sound S.meaning config.old }
-    ensures { OnOk result (Turns S.meaning config.old config.new) }
-{
-    match config.turn() {
-        Turn::Expr => step_expr(config),
-        Turn::Stmt => step_stmt(config),
-        Turn::Call => step_call(config),
-        Turn::CoreNative => step_core(config),
-        Turn::TextNative => step_text(config),
-        Turn::Ended => unreachable!(),
     }
 }

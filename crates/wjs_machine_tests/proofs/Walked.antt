@@ -9,7 +9,7 @@ use Rattle.wjs_model.specs.declared.config.Config.{Config}
 use Rattle.wjs_model.specs.declared.config.State.TheVariants as states
 use Rattle.wjs_model.specs.declared.frame.Activation.{Activation as Frame}
 use Rattle.wjs_model.specs.declared.unit.Unit.{Unit as Program}
-use Rattle.wjs_model.specs.Soundness.{HasWorld, IsThere, Base, Sound}
+use Rattle.wjs_model.specs.Soundness.{HasWorld, IsStacked, Base, Sound}
 use Rattle.wjs_moves.proofs.Keeping.{none_taken}
 use Rattle.wjs_parts.specs.Entering.{Enters}
 use Rattle.wjs_parts.specs.Walking.{Walks}
@@ -32,7 +32,7 @@ module _ {S : Type 0} (meaning : S → Meaning) where
     own = b.own;
     near_objects = b.near_objects;
     near_slots = b.near_slots;
-    frames = subst (All (IsThere meaning (record c { frames = frames; world = w }))) (sym none) (All-nil (IsThere meaning (record c { frames = frames; world = w })));
+    frames = subst (All (IsStacked meaning (record c { frames = frames; world = w }))) (sym none) (All-nil (IsStacked meaning (record c { frames = frames; world = w })));
     marks = b.marks;
     told = b.told;
   }

@@ -1,2 +1,1 @@
-pub mod MemberPlaces
 pub mod TargetNodes

@@ -9,7 +9,7 @@ ghost use Rattle.wjs_meaning.specs.Trees.{Name, name_place};
 ghost use Rattle.wjs_model.specs.Units.{place_in};
 ghost use Rattle.wjs_model.specs.Waiting.{refer};
 ghost use Rattle.wjs_moves.specs.Parts.{env_in, node_now};
-ghost use Rattle.wjs_moves.specs.Handling.{Runs, GoesOn};
+ghost use Rattle.wjs_moves.specs.Handling.{Runs, IsAt, GoesOn};
 
 use wjs_base::{OutOfMemory, TextId};
 use wjs_deeds::reference_at;
@@ -35,7 +35,7 @@ pub fn name_value<S: WorldStore>(
     id: TextId,
 ) -> Result<(), OutOfMemory>
     requires runs { Runs S.meaning config.old frame }
-    requires node { node_now S.meaning config.old frame ≡ Node.Name id }
+    requires node { IsAt S.meaning config.old frame (Node.Name id) }
     ensures { GoesOn S.meaning frame config.old config.new result (λ t env. line.reference_of frame.node.0 (Name (text_in t id)) env (line.give_value_of env)) }
 {
     let place = place_of(config, &frame);
@@ -50,7 +50,7 @@ pub fn name_target<S: WorldStore>(
     id: TextId,
 ) -> Result<(), OutOfMemory>
     requires runs { Runs S.meaning config.old frame }
-    requires node { node_now S.meaning config.old frame ≡ Node.Name id }
+    requires node { IsAt S.meaning config.old frame (Node.Name id) }
     ensures { GoesOn S.meaning frame config.old config.new result (λ t env. line.reference_of frame.node.0 (Name (text_in t id)) env refer) }
 {
     let place = place_of(config, &frame);

@@ -3,27 +3,24 @@
 ghost use Rattle.std.specs.Prelude.{◌≡◌, MatchOption};
 ghost use Rattle.wjs_base.specs.Text.{Table};
 ghost use Rattle.wjs_meaning.specs.Deeds.{tree_here};
-ghost use Rattle.wjs_meaning.specs.Expressions as line;
-ghost use Rattle.wjs_meaning.specs.Reading.{node_in};
 ghost use Rattle.wjs_meaning.specs.Trees as trees;
-ghost use Rattle.wjs_moves.specs.Parts.{env_in, node_among, node_now};
+ghost use Rattle.wjs_moves.specs.Parts.{env_in, node_among};
 ghost use Rattle.wjs_members.specs.Targets.{target_form};
-ghost use Rattle.wjs_moves.specs.Handling.{Runs, GoesOn};
+ghost use Rattle.wjs_moves.specs.Handling.{Runs, Begins};
 
 use crate::members::{at_start, dot_start};
 use crate::names::name_target;
 use wjs_base::OutOfMemory;
-use wjs_model::{Completion, Config, Form, Frame};
+use wjs_model::{Completion, Config, Frame, Purpose, Start};
 use wjs_moves::{Part, enter_last, finish, node_of};
 use wjs_store::WorldStore;
 use wjs_tree::{Node, NodeId};
 
 /// What a target begins with: a name gives its reference, a member enters its base, parentheses their target (section 11.1.6). No
 /// other form is a target.
-pub fn target_start<S: WorldStore>(config: &mut Config<S>, frame: Frame) -> Result<(), OutOfMemory>
+pub fn target<S: WorldStore>(config: &mut Config<S>, frame: Frame) -> Result<(), OutOfMemory>
     requires runs { Runs S.meaning config.old frame }
-    requires form { frame.form ≡ Form.Target }
-    ensures { GoesOn S.meaning frame config.old config.new result (λ t env. line.target_of frame.node.0 (node_in t (node_now S.meaning config.old frame)) env) }
+    ensures { Begins S.meaning frame Start.Target config.old config.new result }
 {
     match node_of(config, &frame) {
         Some(Node::Name(id)) => {
@@ -36,11 +33,11 @@ pub fn target_start<S: WorldStore>(config: &mut Config<S>, frame: Frame) -> Resu
         }
         Some(Node::Dot(base, name)) => {
             let (base, name) = (*base, *name);
-            dot_start(config, frame, base, name)
+            dot_start(config, frame, base, name, Purpose::Target)
         }
         Some(Node::At(base, index)) => {
             let (base, index) = (*base, *index);
-            at_start(config, frame, base, index)
+            at_start(config, frame, base, index, Purpose::Target)
         }
         _ => finish(config, frame, Completion::Normal),
     }

@@ -9,7 +9,7 @@ use Rattle.wjs_model.specs.declared.frame.Completion.{Completion}
 use Rattle.wjs_model.specs.declared.frame.Held.{Held}
 use Rattle.wjs_model.specs.declared.frame.Held.TheVariants as holds
 use Rattle.wjs_model.specs.Frames.{latest_first, earliest_first}
-use Rattle.wjs_model.specs.Contents.{value_held, values_held, reference_held, callee_held, new_held, begun_held, elements_held, earlier_held}
+use Rattle.wjs_model.specs.Contents.{value_held, values_held, reference_held, callee_held, elements_held, earlier_held}
 use Rattle.wjs_model.proofs.Latest.{latest-snoc}
 
 -- the latest of the first so many
@@ -28,8 +28,6 @@ pub skip_value : (x : Held) (xs : List Held) → ((v : Value) → x ≡ holds.Va
 skip_value (holds.Value v) xs h = absurd (h v refl)
 skip_value (holds.Reference r) xs h = refl
 skip_value (holds.Callee f this) xs h = refl
-skip_value holds.ByNew xs h = refl
-skip_value holds.Begun xs h = refl
 skip_value (holds.Elements o count) xs h = refl
 skip_value (holds.Earlier c) xs h = refl
 skip_value (holds.Visit s) xs h = refl
@@ -38,8 +36,6 @@ pub skip_reference : (x : Held) (xs : List Held) → ((r : Reference) → x ≡ 
 skip_reference (holds.Value v) xs h = refl
 skip_reference (holds.Reference r) xs h = absurd (h r refl)
 skip_reference (holds.Callee f this) xs h = refl
-skip_reference holds.ByNew xs h = refl
-skip_reference holds.Begun xs h = refl
 skip_reference (holds.Elements o count) xs h = refl
 skip_reference (holds.Earlier c) xs h = refl
 skip_reference (holds.Visit s) xs h = refl
@@ -48,38 +44,14 @@ pub skip_callee : (x : Held) (xs : List Held) → ((f this : Value) → x ≡ ho
 skip_callee (holds.Value v) xs h = refl
 skip_callee (holds.Reference r) xs h = refl
 skip_callee (holds.Callee f this) xs h = absurd (h f this refl)
-skip_callee holds.ByNew xs h = refl
-skip_callee holds.Begun xs h = refl
 skip_callee (holds.Elements o count) xs h = refl
 skip_callee (holds.Earlier c) xs h = refl
 skip_callee (holds.Visit s) xs h = refl
-
-pub skip_new : (x : Held) (xs : List Held) → (x ≡ holds.ByNew → ⊥) → ((f this : Value) → x ≡ holds.Callee f this → ⊥) → new_held (x ∷ xs) ≡ new_held xs
-skip_new (holds.Value v) xs h k = refl
-skip_new (holds.Reference r) xs h k = refl
-skip_new (holds.Callee f this) xs h k = absurd (k f this refl)
-skip_new holds.ByNew xs h k = absurd (h refl)
-skip_new holds.Begun xs h k = refl
-skip_new (holds.Elements o count) xs h k = refl
-skip_new (holds.Earlier c) xs h k = refl
-skip_new (holds.Visit s) xs h k = refl
-
-pub skip_begun : (x : Held) (xs : List Held) → (x ≡ holds.Begun → ⊥) → ((f this : Value) → x ≡ holds.Callee f this → ⊥) → begun_held (x ∷ xs) ≡ begun_held xs
-skip_begun (holds.Value v) xs h k = refl
-skip_begun (holds.Reference r) xs h k = refl
-skip_begun (holds.Callee f this) xs h k = absurd (k f this refl)
-skip_begun holds.ByNew xs h k = refl
-skip_begun holds.Begun xs h k = absurd (h refl)
-skip_begun (holds.Elements o count) xs h k = refl
-skip_begun (holds.Earlier c) xs h k = refl
-skip_begun (holds.Visit s) xs h k = refl
 
 pub skip_elements : (x : Held) (xs : List Held) → ((o : ObjId) (count : ℕ) → x ≡ holds.Elements o count → ⊥) → elements_held (x ∷ xs) ≡ elements_held xs
 skip_elements (holds.Value v) xs h = refl
 skip_elements (holds.Reference r) xs h = refl
 skip_elements (holds.Callee f this) xs h = refl
-skip_elements holds.ByNew xs h = refl
-skip_elements holds.Begun xs h = refl
 skip_elements (holds.Elements o count) xs h = absurd (h o count refl)
 skip_elements (holds.Earlier c) xs h = refl
 skip_elements (holds.Visit s) xs h = refl
@@ -88,8 +60,6 @@ pub skip_earlier : (x : Held) (xs : List Held) → ((c : Completion) → x ≡ h
 skip_earlier (holds.Value v) xs h = refl
 skip_earlier (holds.Reference r) xs h = refl
 skip_earlier (holds.Callee f this) xs h = refl
-skip_earlier holds.ByNew xs h = refl
-skip_earlier holds.Begun xs h = refl
 skip_earlier (holds.Elements o count) xs h = refl
 skip_earlier (holds.Earlier c) xs h = absurd (h c refl)
 skip_earlier (holds.Visit s) xs h = refl
@@ -103,8 +73,6 @@ snoc_alone : (x : Held) (l : List Held) → earliest_first (values_held (x ∷ l
 snoc_alone (holds.Value v) l = refl
 snoc_alone (holds.Reference r) l = append_nil _
 snoc_alone (holds.Callee f this) l = append_nil _
-snoc_alone holds.ByNew l = append_nil _
-snoc_alone holds.Begun l = append_nil _
 snoc_alone (holds.Elements o count) l = append_nil _
 snoc_alone (holds.Earlier c) l = append_nil _
 snoc_alone (holds.Visit s) l = append_nil _

@@ -2,9 +2,12 @@ pub mod Beside
 pub mod Tops
 pub mod Starts
 pub mod Latest
+pub mod Resuming
 pub mod Holdings
 pub mod Placed
 pub mod Standing
 pub mod Apart
 pub mod Others
 pub mod NamePlaces
+pub mod Naming
+pub mod Repeats

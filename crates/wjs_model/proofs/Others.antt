@@ -20,6 +20,8 @@ use Rattle.wjs_model.specs.declared.frame.Held.{Held}
 use Rattle.wjs_model.specs.declared.frame.Held.TheVariants as holds
 use Rattle.wjs_model.specs.declared.operand.Operand.{Operand}
 use Rattle.wjs_model.specs.declared.operand.Operand.TheVariants as operands
+use Rattle.wjs_model.specs.declared.point.Start.{Start}
+use Rattle.wjs_model.specs.declared.point.Start.TheVariants as starts
 use Rattle.wjs_model.specs.declared.frame.Phase.{Phase}
 use Rattle.wjs_model.specs.declared.frame.Phase.TheVariants as phases
 use Rattle.wjs_model.specs.declared.frame.Activation.{Activation as Frame}
@@ -28,9 +30,9 @@ use Rattle.wjs_model.specs.declared.config.State.{State}
 use Rattle.wjs_model.specs.declared.config.State.TheVariants as states
 use Rattle.wjs_model.specs.Configurations.{Stays}
 use Rattle.wjs_model.specs.Apart.{is_apart, IsNear, NearValue, NearIf, NamesNear}
-use Rattle.wjs_model.specs.Soundness.{HasObject, HasValue, HasReference, HasCompletion, HasItem, HasItems, HasOperand, HasPhase, HasThrown, IsThere, Base, Sound}
+use Rattle.wjs_model.specs.Soundness.{HasObject, HasValue, HasReference, HasCompletion, HasItem, HasItems, HasOperand, HasStart, HasPhase, HasThrown, IsStacked, Base, Sound}
 use Rattle.wjs_model.proofs.Apart.{not_both, no_worlds}
-use Rattle.wjs_model.specs.Others.{Other, OtherIf, OtherValue, OtherReference, OtherCompletion, OtherItem, OtherItems, OtherOperand, OtherPhase, OtherState, OtherFrame, OtherNamed, KeptApart}
+use Rattle.wjs_model.specs.Others.{Other, OtherIf, OtherValue, OtherReference, OtherCompletion, OtherItem, OtherItems, OtherOperand, OtherStart, OtherPhase, OtherState, OtherFrame, OtherNamed, KeptApart}
 
 by_bool : {P : Type 0} (b : Bool) → (b ≡ true → P) → (b ≡ false → P) → P
 by_bool true f g = f refl
@@ -87,8 +89,6 @@ module _ {S : Type 0} (c : Config S) (u : ℕ) (a : IsTrue (is_apart c.apart.ite
   other_item (holds.Value v) h = other_value v h
   other_item (holds.Reference r) h = other_reference r h
   other_item (holds.Callee f this) h = (other_value f h.0, other_value this h.1)
-  other_item holds.ByNew h = tt
-  other_item holds.Begun h = tt
   other_item (holds.Elements o count) h = other o h.1
   other_item (holds.Earlier e) h = other_completion e h
   other_item (holds.Visit s) h = other s.object h.0.1
@@ -102,12 +102,16 @@ module _ {S : Type 0} (c : Config S) (u : ℕ) (a : IsTrue (is_apart c.apart.ite
   other_operand (operands.Name place id) h = tt
   other_operand (operands.Target place id) h = tt
 
-  other_phase : (p : Phase) → HasPhase c p → OtherPhase u p
-  other_phase (phases.Given e) h = other_completion e h
-  other_phase (phases.Entering o) h = other_operand o h
-  other_phase phases.Due h = tt
-  other_phase phases.Ready h = tt
-  other_phase phases.Waiting h = tt
+  other_start : (s : Start) → HasStart c s → OtherStart u s
+  other_start (starts.Body f) h = other f h.1
+  other_start s h = tt
+
+  other_phase : (f : Frame) (p : Phase) → HasPhase c f p → OtherPhase u p
+  other_phase f (phases.Due start) h = other_start start h
+  other_phase f (phases.Ready start) h = other_start start h
+  other_phase f (phases.Waiting point) h = tt
+  other_phase f (phases.Given point e) h = other_completion e h.1
+  other_phase f (phases.Entering point o) h = other_operand o h.1
 
   other_state : (s : State) → HasThrown c s → OtherState u s
   other_state (states.Threw v) h = other_value v h
@@ -115,16 +119,23 @@ module _ {S : Type 0} (c : Config S) (u : ℕ) (a : IsTrue (is_apart c.apart.ite
   other_state states.Done h = tt
   other_state states.StepsSpent h = tt
 
-  other_frame : (meaning : S → Meaning) (f : Frame) → IsThere meaning c f → OtherFrame u f
-  other_frame meaning f h = record { scope = other f.scope h.scope.1; this = other_value f.this h.this; held = other_items f.held h.held; phase = other_phase f.phase h.phase }
+  other_frame : (meaning : S → Meaning) (f : Frame) → IsStacked meaning c f → OtherFrame u f
+  other_frame meaning f h = record {
+    scope = other f.scope h.there.scope.1;
+    this = other_value f.this h.there.this;
+    held = other_items f.held h.there.held;
+    phase = other_phase f f.phase h.phase;
+  }
 
-  pub keeps_apart : (meaning : S → Meaning) → Sound meaning c → ((o : ObjId) (e : Entry) → map.get c.heap.arena o ≡ Some e → IsTrue (is_apart c.apart.items o.owner) → Other u o → OtherNamed u e.object) → KeptApart meaning c u
+  pub keeps_apart : (meaning : S → Meaning) → Sound meaning c
+      → ((o : ObjId) (e : Entry) → map.get c.heap.arena o ≡ Some e → IsTrue (is_apart c.apart.items o.owner) → Other u o → OtherNamed u e.object)
+      → KeptApart meaning c u
   keeps_apart meaning s rest =
       let b = s.base in
       record {
         no_worlds = λ o e w q k. no_worlds meaning c b o e w q (subst (λ n. IsTrue (is_apart c.apart.items n)) (sym k) a);
         slots = λ i s v q. let near = b.near_slots i s v q in (other s.object near.0, near_other v near.1);
-        frames = All-weaker (IsThere meaning c) (OtherFrame u) (other_frame meaning) c.frames b.frames;
+        frames = All-weaker (IsStacked meaning c) (OtherFrame u) (other_frame meaning) c.frames b.frames;
         state = other_state c.state s.thrown;
         objects = λ o e q k. by_bool (is_apart c.apart.items o.owner) (λ h. rest o e q h k) (λ h. other_named e.object (b.near_objects o e q (ap not h)));
         global = other c.global b.global.1;
@@ -216,8 +227,6 @@ module _ {S : Type 0} (c new : Config S) where
   item_listed (holds.Value v) h k = value_listed v h k
   item_listed (holds.Reference r) h k = reference_listed r h k
   item_listed (holds.Callee f this) h k = (value_listed f h.0 (λ u a. (k u a).0), value_listed this h.1 (λ u a. (k u a).1))
-  item_listed holds.ByNew h k = tt
-  item_listed holds.Begun h k = tt
   item_listed (holds.Elements o count) h k = object_listed o h k
   item_listed (holds.Earlier e) h k = completion_listed e h k
   item_listed (holds.Visit s) h k = (object_listed s.object h.0 k, h.1)
@@ -231,12 +240,16 @@ module _ {S : Type 0} (c new : Config S) where
   operand_listed (operands.Name place id) h k = h
   operand_listed (operands.Target place id) h k = h
 
-  phase_listed : (p : Phase) → HasPhase c p → Each (λ u. OtherPhase u p) → HasPhase listed p
-  phase_listed (phases.Given e) h k = completion_listed e h k
-  phase_listed (phases.Entering o) h k = operand_listed o h k
-  phase_listed phases.Due h k = tt
-  phase_listed phases.Ready h k = tt
-  phase_listed phases.Waiting h k = tt
+  start_listed : (s : Start) → HasStart c s → Each (λ u. OtherStart u s) → HasStart listed s
+  start_listed (starts.Body f) h k = object_listed f h k
+  start_listed s h k = tt
+
+  phase_listed : (f : Frame) (p : Phase) → HasPhase c f p → Each (λ u. OtherPhase u p) → HasPhase listed f p
+  phase_listed f (phases.Due start) h k = start_listed start h k
+  phase_listed f (phases.Ready start) h k = start_listed start h k
+  phase_listed f (phases.Waiting point) h k = h
+  phase_listed f (phases.Given point e) h k = (h.0, completion_listed e h.1 k)
+  phase_listed f (phases.Entering point o) h k = (h.0, operand_listed o h.1 k)
 
   thrown_listed : (s : State) → HasThrown c s → Each (λ u. OtherState u s) → HasThrown listed s
   thrown_listed (states.Threw v) h k = value_listed v h k
@@ -245,19 +258,23 @@ module _ {S : Type 0} (c new : Config S) where
   thrown_listed states.StepsSpent h k = tt
 
   module _ (meaning : S → Meaning) where
-    frame_listed : (f : Frame) → IsThere meaning c f → Each (λ u. OtherFrame u f) → IsThere meaning listed f
+    frame_listed : (f : Frame) → IsStacked meaning c f → Each (λ u. OtherFrame u f) → IsStacked meaning listed f
     frame_listed f h k = record {
-      scope = object_listed f.scope h.scope (λ u a. (k u a).scope);
-      this = value_listed f.this h.this (λ u a. (k u a).this);
-      world = h.world;
-      held = items_listed f.held h.held (λ u a. (k u a).held);
-      phase = phase_listed f.phase h.phase (λ u a. (k u a).phase);
-      stands = h.stands;
+      there = record {
+        scope = object_listed f.scope h.there.scope (λ u a. (k u a).scope);
+        this = value_listed f.this h.there.this (λ u a. (k u a).this);
+        world = h.there.world;
+        held = items_listed f.held h.there.held (λ u a. (k u a).held);
+        stands = h.there.stands;
+      };
+      phase = phase_listed f f.phase h.phase (λ u a. (k u a).phase);
     }
 
-    frames_listed : (fs : List Frame) → All (IsThere meaning c) fs → Each (λ u. All (OtherFrame u) fs) → All (IsThere meaning listed) fs
-    frames_listed [] h k = All-nil (IsThere meaning listed)
-    frames_listed (f ∷ fs) h k = All-cons (IsThere meaning listed) f fs (frame_listed f (All-head (IsThere meaning c) f fs h) (λ u a. All-head (OtherFrame u) f fs (k u a))) (frames_listed fs (All-tail (IsThere meaning c) f fs h) (λ u a. All-tail (OtherFrame u) f fs (k u a)))
+    frames_listed : (fs : List Frame) → All (IsStacked meaning c) fs → Each (λ u. All (OtherFrame u) fs) → All (IsStacked meaning listed) fs
+    frames_listed [] h k = All-nil (IsStacked meaning listed)
+    frames_listed (f ∷ fs) h k =
+        let here = frame_listed f (All-head (IsStacked meaning c) f fs h) (λ u a. All-head (OtherFrame u) f fs (k u a)) in
+        All-cons (IsStacked meaning listed) f fs here (frames_listed fs (All-tail (IsStacked meaning c) f fs h) (λ u a. All-tail (OtherFrame u) f fs (k u a)))
 
     module _ (s : Sound meaning c) (k : (u : ℕ) → IsTrue (is_apart us u) → ¬ (u ≡ 0) × (¬ (u ≡ c.owner) × KeptApart meaning c u)) where
       kept : (u : ℕ) → IsTrue (is_apart us u) → KeptApart meaning c u

@@ -37,10 +37,12 @@ module _ (t : Table) where
   of_node (form.ForVarIn y a b) h k x e = only y h k x e
   of_node node h k x e = absurd (none-some x e)
 
--- a table that knows a unit has the names of it that have places
+-- a table that knows nodes has the names of them that have places
+pub nodes_placed : (t : Table) (ns : List Node) → All (KnowsNode t) ns → KnowsPlaced t ns
+nodes_placed t ns h i node k x has e = of_node t node (subst (KnowsNode t) (get_or_from_slice_get ns i.0 node node has) (h i.0 node (slice_get_within ns i.0 node has))) k x e
+
 pub placed_known : (t : Table) (u : Program) → KnowsUnit t u → KnowsPlaced t u.program.nodes
-placed_known t u h i node k x has e =
-    of_node t node (subst (KnowsNode t) (get_or_from_slice_get u.program.nodes i.0 node node has) (h i.0 node (slice_get_within u.program.nodes i.0 node has))) k x e
+placed_known t u h = nodes_placed t u.program.nodes h
 
 pub placed_stay : (old new : Table) → Grows old new → (us : List Program) → All (KnowsUnit old) us → All (PlacesUnit old) us → All (PlacesUnit new) us
 placed_stay old new grows us known placed =

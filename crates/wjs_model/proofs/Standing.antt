@@ -19,16 +19,22 @@ use Rattle.wjs_scope.specs.Nesting.{Side, Around, Caught, Inside, on_side, parts
 use Rattle.wjs_scope.specs.Places.{IsScript}
 use Rattle.wjs_scope.proofs.Bodies.{bodies_are_there}
 use Rattle.wjs_model.specs.declared.unit.Unit.{Unit as Program}
-use Rattle.wjs_model.specs.declared.frame.Form.{Form}
-use Rattle.wjs_model.specs.declared.frame.Form.TheVariants as form
+use Rattle.wjs_model.specs.declared.point.ExprPoint.{ExprPoint}
+use Rattle.wjs_model.specs.declared.point.ExprPoint.TheVariants as expr
+use Rattle.wjs_model.specs.declared.point.StmtPoint.{StmtPoint}
+use Rattle.wjs_model.specs.declared.point.StmtPoint.TheVariants as stmt
+use Rattle.wjs_model.specs.declared.point.CallPoint.{CallPoint}
+use Rattle.wjs_model.specs.declared.point.CallPoint.TheVariants as call
+use Rattle.wjs_model.specs.declared.point.Point.{Point}
+use Rattle.wjs_model.specs.declared.point.Point.TheVariants as points
 use Rattle.wjs_model.specs.declared.frame.Activation.{Activation as Frame}
-use Rattle.wjs_model.specs.Contents.{begun_held}
-use Rattle.wjs_model.specs.Standing.{Outwards, Stands, is_function, count_of, own_scopes, IsFunction, FunctionStands, BodyStands, FrameStands, IsShown}
+use Rattle.wjs_model.specs.Standing.{Outwards, Stands, is_function, count_of, own_scopes, IsFunction, FunctionStands, IfStands, ExprPointStands, StmtPointStands, CallPointStands, PointStands, FrameStands, IsShown}
 
 -- ---- as objects are made
 
 module _ (old new : Objects) (k : Keeps old new) where
-  kept : {A : Type 0} (f : Entry → Option A) (o : ObjId) (a : A) (r : Option Entry) → map.get old o ≡ r → option_and_then f r ≡ Some a → option_and_then f (map.get new o) ≡ Some a
+  kept : {A : Type 0} (f : Entry → Option A) (o : ObjId) (a : A) (r : Option Entry) → map.get old o ≡ r → option_and_then f r ≡ Some a
+      → option_and_then f (map.get new o) ≡ Some a
   kept f o a None e h = absurd (cc)
   kept f o a (Some x) e h = ap (option_and_then f) (k o x e) ∙ h
 
@@ -53,7 +59,8 @@ module _ (old new : Objects) (k : Keeps old new) where
     pub stands_kept : (tree : ℕ) (node : NodeId) (scope : ObjId) (more : ℕ) → Stands units old tree node scope more → Stands units new tree node scope more
     stands_kept tree node scope more s = record { unit = s.unit; found = s.found; arguments = s.arguments; scopes = s.scopes; around = s.around; outwards = outwards_kept (more + length s.scopes) scope s.outwards }
 
-    pub function_kept : (tree : ℕ) (node : NodeId) (scope : ObjId) (more : ℕ) → IsFunction units old tree node scope more → IsFunction units new tree node scope more
+    pub function_kept : (tree : ℕ) (node : NodeId) (scope : ObjId) (more : ℕ) → IsFunction units old tree node scope more
+        → IsFunction units new tree node scope more
     unfolding stands_kept
     function_kept tree node scope more f = record { function = f.function; is = f.is; stands = stands_kept tree node scope (more + own_scopes f.function) f.stands; has = f.has }
 
@@ -63,18 +70,50 @@ module _ (old new : Objects) (k : Keeps old new) where
     code_kept code.None scope h = tt
     code_kept (code.Native n) scope h = tt
 
-    body_kept : (f : Form) (begun : Bool) (tree : ℕ) (node : NodeId) (scope : ObjId) → BodyStands units old f begun tree node scope → BodyStands units new f begun tree node scope
-    body_kept form.Body true tree node scope h = function_kept tree node scope 1 h
-    body_kept form.Body false tree node scope h = tt
-    body_kept form.Expr begun tree node scope h = tt
-    body_kept form.Target begun tree node scope h = tt
-    body_kept form.Stmt begun tree node scope h = tt
-    body_kept (form.Convert c) begun tree node scope h = tt
-    body_kept form.Call begun tree node scope h = tt
-    body_kept (form.Native n) begun tree node scope h = tt
+    pub if_kept : (tree : ℕ) (node : NodeId) (scope : ObjId) (part : Option NodeId) → IfStands units old tree node scope part
+        → IfStands units new tree node scope part
+    if_kept tree node scope None h = tt
+    if_kept tree node scope (Some part) h = stands_kept tree part scope 0 h
+
+    expr_kept : (tree : ℕ) (node : NodeId) (scope : ObjId) (p : ExprPoint) → ExprPointStands units old tree node scope p
+        → ExprPointStands units new tree node scope p
+    expr_kept tree node scope (expr.IndexBase purpose index) h = stands_kept tree index scope 0 h
+    expr_kept tree node scope (expr.BinaryLeft op right) h = stands_kept tree right scope 0 h
+    expr_kept tree node scope (expr.CondTest one other) h = (stands_kept tree one scope 0 h.0, stands_kept tree other scope 0 h.1)
+    expr_kept tree node scope (expr.AssignTarget sign right) h = stands_kept tree right scope 0 h
+    expr_kept tree node scope (expr.CommaLeft right) h = stands_kept tree right scope 0 h
+    expr_kept tree node scope p h = tt
+
+    stmt_kept : (tree : ℕ) (node : NodeId) (scope : ObjId) (p : StmtPoint) → StmtPointStands units old tree node scope p
+        → StmtPointStands units new tree node scope p
+    stmt_kept tree node scope (stmt.IfTest one other) h = (stands_kept tree one scope 0 h.0, if_kept tree node scope other h.1)
+    stmt_kept tree node scope (stmt.DoBody test) h = stands_kept tree test scope 0 h
+    stmt_kept tree node scope (stmt.WhileTest body) h = stands_kept tree body scope 0 h
+    stmt_kept tree node scope (stmt.ForFirst test update body) h = (if_kept tree node scope test h.0, (if_kept tree node scope update h.1.0, stands_kept tree body scope 0 h.1.1))
+    stmt_kept tree node scope (stmt.ForVariables test update body) h = (if_kept tree node scope test h.0, (if_kept tree node scope update h.1.0, stands_kept tree body scope 0 h.1.1))
+    stmt_kept tree node scope (stmt.ForTest update body) h = (if_kept tree node scope update h.0, stands_kept tree body scope 0 h.1)
+    stmt_kept tree node scope (stmt.ForBody update) h = if_kept tree node scope update h
+    stmt_kept tree node scope (stmt.VisitsObject body) h = stands_kept tree body scope 0 h
+    stmt_kept tree node scope (stmt.VisitTarget body) h = stands_kept tree body scope 0 h
+    stmt_kept tree node scope (stmt.VisitBody body) h = stands_kept tree body scope 0 h
+    stmt_kept tree node scope (stmt.TryBlock last) h = if_kept tree node scope last h
+    stmt_kept tree node scope (stmt.TryHandler last) h = if_kept tree node scope last h
+    stmt_kept tree node scope (stmt.WithinWorld block) h = stands_kept tree block scope 0 h
+    stmt_kept tree node scope p h = tt
+
+    call_kept : (tree : ℕ) (node : NodeId) (scope : ObjId) (p : CallPoint) → CallPointStands units old tree node scope p
+        → CallPointStands units new tree node scope p
+    call_kept tree node scope (call.BodyElement i) h = function_kept tree node scope 1 h
+    call_kept tree node scope p h = tt
+
+    pub point_kept : (tree : ℕ) (node : NodeId) (scope : ObjId) (p : Point) → PointStands units old tree node scope p → PointStands units new tree node scope p
+    point_kept tree node scope (points.Expr p) h = expr_kept tree node scope p h
+    point_kept tree node scope (points.Stmt p) h = stmt_kept tree node scope p h
+    point_kept tree node scope (points.Call p) h = call_kept tree node scope p h
+    point_kept tree node scope (points.Native k again i) h = tt
 
     pub frame_kept : (f : Frame) → FrameStands units old f → FrameStands units new f
-    frame_kept f h = record { node = stands_kept f.tree f.node f.scope 0 h.node; body = body_kept f.form (begun_held f.held) f.tree f.node f.scope h.body; shown = shown_kept f.world h.shown }
+    frame_kept f h = record { node = stands_kept f.tree f.node f.scope 0 h.node; shown = shown_kept f.world h.shown }
 
 -- ---- fewer scopes
 
@@ -86,16 +125,19 @@ all_fewer : (arena : Objects) (o : ObjId) (k n : ℕ) → Outwards arena o (k + 
 all_fewer arena o zero n h = let e : 0 + n ≡ n = omega arith in subst (Outwards arena o) e h
 all_fewer arena o (suc k) n h = let e : suc k + n ≡ suc (k + n) = omega arith in all_fewer arena o k n (fewer arena o (k + n) (subst (Outwards arena o) e h))
 
-pub stands_fewer : (units : List Program) (arena : Objects) (tree : ℕ) (node : NodeId) (scope : ObjId) (more : ℕ) → Stands units arena tree node scope more → Stands units arena tree node scope 0
+pub stands_fewer : (units : List Program) (arena : Objects) (tree : ℕ) (node : NodeId) (scope : ObjId) (more : ℕ) → Stands units arena tree node scope more
+    → Stands units arena tree node scope 0
 stands_fewer units arena tree node scope more s = record { unit = s.unit; found = s.found; arguments = s.arguments; scopes = s.scopes; around = s.around; outwards = let e : length s.scopes ≡ 0 + length s.scopes = omega arith in subst (Outwards arena scope) e (all_fewer arena scope more (length s.scopes) s.outwards) }
 
 -- ---- a scope inside another
 
-pub stands_inner : (units : List Program) (arena : Objects) (tree : ℕ) (node : NodeId) (scope inner : ObjId) (more next : ℕ) → next ≡ suc more → scope_of arena inner ≡ Some scope → Stands units arena tree node scope more → Stands units arena tree node inner next
+pub stands_inner : (units : List Program) (arena : Objects) (tree : ℕ) (node : NodeId) (scope inner : ObjId) (more next : ℕ) → next ≡ suc more
+    → scope_of arena inner ≡ Some scope → Stands units arena tree node scope more → Stands units arena tree node inner next
 stands_inner units arena tree node scope inner more next is e s = record { unit = s.unit; found = s.found; arguments = s.arguments; scopes = s.scopes; around = s.around; outwards = let count : suc (more + length s.scopes) ≡ next + length s.scopes = omega (arith, is) in subst (Outwards arena inner) count (scope, e, s.outwards) }
 
 -- inside its own scope the body of a function has begun
-pub function_begins : (units : List Program) (arena : Objects) (tree : ℕ) (node : NodeId) (scope inner : ObjId) → scope_of arena inner ≡ Some scope → IsFunction units arena tree node scope 0 → IsFunction units arena tree node inner 1
+pub function_begins : (units : List Program) (arena : Objects) (tree : ℕ) (node : NodeId) (scope inner : ObjId) → scope_of arena inner ≡ Some scope
+    → IsFunction units arena tree node scope 0 → IsFunction units arena tree node inner 1
 unfolding stands_inner
 function_begins units arena tree node scope inner e f = record { function = f.function; is = f.is; stands = stands_inner units arena tree node scope inner (0 + own_scopes f.function) (1 + own_scopes f.function) (omega arith) e f.stands; has = f.has }
 
@@ -108,7 +150,8 @@ leads_more ns a (p ∷ way) i scopes j found node part inner l there among enter
 
 module _ (units : List Program) (arena : Objects) (tree : ℕ) (node : NodeId) (scope : ObjId) where
   -- a part that stands in the scopes around the node
-  pub part_stands : (n : Node) (j : NodeId) (s : Stands units arena tree node scope 0) → Has s.unit.program.nodes node n → IsAmong (parts n) (j, Around) → Stands units arena tree j scope 0
+  pub part_stands : (n : Node) (j : NodeId) (s : Stands units arena tree node scope 0) → Has s.unit.program.nodes node n → IsAmong (parts n) (j, Around)
+      → Stands units arena tree j scope 0
   part_stands n j s there among = record {
     unit = s.unit;
     found = s.found;
@@ -119,7 +162,8 @@ module _ (units : List Program) (arena : Objects) (tree : ℕ) (node : NodeId) (
   }
 
   -- the block of a `catch`, in a scope with its name
-  pub caught_stands : (n : Node) (j : NodeId) (x : TextId) (inner : ObjId) (s : Stands units arena tree node scope 0) → Has s.unit.program.nodes node n → IsAmong (parts n) (j, Caught x) → scope_of arena inner ≡ Some scope → Stands units arena tree j inner 0
+  pub caught_stands : (n : Node) (j : NodeId) (x : TextId) (inner : ObjId) (s : Stands units arena tree node scope 0) → Has s.unit.program.nodes node n
+      → IsAmong (parts n) (j, Caught x) → scope_of arena inner ≡ Some scope → Stands units arena tree j inner 0
   caught_stands n j x inner s there among e = record {
     unit = s.unit;
     found = s.found;
@@ -146,7 +190,8 @@ among_elements (nodes.Function name formals list) j e h = among_side Inside list
 among_elements (nodes.FunctionDecl name formals list) j e h = among_side Inside list j h
 among_elements n j e h = absurd (cc)
 
-leads_plain : (ns : List Node) (a : Option TextId) (way : List (NodeId × Side)) (i : NodeId) (scopes : List Scope) (j : NodeId) (found : List Scope) → Leads ns a i scopes way j found → LeadsTo ns i way j
+leads_plain : (ns : List Node) (a : Option TextId) (way : List (NodeId × Side)) (i : NodeId) (scopes : List Scope) (j : NodeId) (found : List Scope)
+    → Leads ns a i scopes way j found → LeadsTo ns i way j
 leads_plain ns a [] i scopes j found l = l.0
 leads_plain ns a (p ∷ way) i scopes j found l = (l.0, l.2, l.3, leads_plain ns a way p.0 l.1 j found l.5)
 
@@ -155,7 +200,8 @@ named_length None scopes = omega arith
 named_length (Some x) scopes = omega arith
 
 -- an element of a function whose body has begun
-pub element_stands : (units : List Program) (arena : Objects) (tree : ℕ) (node : NodeId) (scope : ObjId) (j : NodeId) (f : IsFunction units arena tree node scope 1) → IsScript f.stands.unit.program.nodes f.stands.unit.program.body → IsAmong (elements_of f.function) j → Stands units arena tree j scope 0
+pub element_stands : (units : List Program) (arena : Objects) (tree : ℕ) (node : NodeId) (scope : ObjId) (j : NodeId) (f : IsFunction units arena tree node scope 1)
+    → IsScript f.stands.unit.program.nodes f.stands.unit.program.body → IsAmong (elements_of f.function) j → Stands units arena tree j scope 0
 element_stands units arena tree node scope j f script among =
     let s = f.stands in
     let ns = s.unit.program.nodes in

@@ -6,9 +6,9 @@ use Rattle.wjs_meaning.specs.Programs.{eval, Ending, Done, program_env, run_next
 use Rattle.wjs_meaning.specs.Functions.{program_of}
 use Rattle.wjs_meaning.specs.Start.{start}
 use Rattle.wjs_meaning.proofs.Steps.{entries_lem}
-use Rattle.wjs_model.specs.Contents.{Frame, Run}
+use Rattle.wjs_model.specs.Contents.{Frame, Moment, Due, Ready, Waiting, Given, Entering, Run}
 use Rattle.wjs_model.specs.Waiting.{next_program}
-use Rattle.wjs_model.specs.Rest.{Go, given, under}
+use Rattle.wjs_model.specs.Rest.{Go, act_at, resumed, act_after, under, rest_over}
 use Rattle.wjs_model.specs.Laws.{script_names, StartIsTheRun, EndsGoDown}
 
 -- what follows nothing changes nothing
@@ -39,11 +39,13 @@ ret_all : (o : Outcome) → then_do (then_do o (λ c st n. interp eval (Ret c) s
 ret_all (Ends c st n) = refl
 ret_all (Spent st) = refl
 
-runs_on : (trees : List Tree) (st : St) (n : ℕ) → run_next (then_do (interp eval (Eval AtProgram (program_env trees 1) Ret) st n) Ends) (λ st' n'. (Done, st')) ≡ script_run trees st n
+runs_on : (trees : List Tree) (st : St) (n : ℕ)
+    → run_next (then_do (interp eval (Eval AtProgram (program_env trees 1) Ret) st n) Ends) (λ st' n'. (Done, st')) ≡ script_run trees st n
 unfolding script_run
 runs_on trees st n = ap (λ o. run_next o (λ st' n'. (Done, st'))) (ret_all (eval AtProgram (program_env trees 1) st n))
 
-after_library : (trees : List Tree) (o : Outcome) → run_next (then_do o (λ c st n. then_do (interp eval (next_program (program_env trees 1) c) st n) Ends)) (λ st' n'. (Done, st')) ≡ run_next o (script_run trees)
+after_library : (trees : List Tree) (o : Outcome)
+    → run_next (then_do o (λ c st n. then_do (interp eval (next_program (program_env trees 1) c) st n) Ends)) (λ st' n'. (Done, st')) ≡ run_next o (script_run trees)
 unfolding script_run
 after_library trees (Spent st) = refl
 after_library trees (Ends (Throws v) st n) = refl
@@ -69,9 +71,21 @@ start_lem (Some library) script budget =
 
 -- ---- the end of a frame
 
-under_snoc : (run : Run) (fs : List Frame) (f : Frame) (go : Go) (c : Completion) (st : St) (n : ℕ) → under run (fs ++ f ∷ []) go c st n ≡ then_do (interp eval (given run f c) st n) (under run fs go)
+under_snoc : (run : Run) (fs : List Frame) (f : Frame) (go : Go) (c : Completion) (st : St) (n : ℕ)
+    → under run (fs ++ f ∷ []) go c st n ≡ then_do (interp eval (act_after run f c) st n) (under run fs go)
 under_snoc run [] f go c st n = refl
 under_snoc run (g ∷ fs) f go c st n = under_snoc run fs f _ c st n
 
+-- what a frame does next is told by its moment alone
+pub act_alike : (run : Run) (f : Frame) (was moment : Moment) → act_at run (record f { moment = was }) moment ≡ act_at run f moment
+act_alike run f was (Due start) = refl
+act_alike run f was (Ready start) = refl
+act_alike run f was (Waiting point) = refl
+act_alike run f was (Given point c) = refl
+act_alike run f was (Entering point o) = refl
+
 pub ends_lem : EndsGoDown
-ends_lem run fs f c st n = sym (under_snoc run fs f Ends c st n)
+ends_lem run fs f c st n =
+    let next = resumed f.moment c in
+    ap (λ act. rest_over run act fs st n) (act_alike run f next next)
+    ∙ sym (under_snoc run fs f Ends c st n)

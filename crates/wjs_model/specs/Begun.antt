@@ -1,18 +1,17 @@
 -- Frames that begin, and what they go on with.
-use Rattle.std.specs.Prelude.{ℕ, []}
+use Rattle.std.specs.Prelude.{[]}
+use Rattle.wjs_model.specs.declared.point.Start.{Start}
 use Rattle.wjs_model.specs.declared.frame.Activation.{Activation as Frame}
 use Rattle.wjs_model.specs.declared.frame.Completion.{Completion}
-use Rattle.wjs_model.specs.declared.frame.Completion.TheVariants as completions
-use Rattle.wjs_model.specs.declared.frame.Form.{Form}
 use Rattle.wjs_model.specs.declared.frame.Phase.{Phase}
 use Rattle.wjs_model.specs.declared.frame.Phase.TheVariants as phases
 use Rattle.wjs_tree.specs.declared.node.NodeId.{NodeId}
 
--- the frame that begins around the same as another, with a step due, at a place of a node that it runs as a form
-abbrev pub begun_at : Frame → Form → NodeId → ℕ → Frame
-begun_at at form node place = record { form = form; tree = at.tree; node = node; place = place; phase = phases.Due; scope = at.scope; this = at.this; world = at.world; held = [] }
+-- the frame that begins at a node around the same as another, with a step due
+abbrev pub begun_at : Frame → Start → NodeId → Frame
+begun_at at start node = record { tree = at.tree; node = node; phase = phases.Due start; scope = at.scope; this = at.this; world = at.world; held = [] }
 
--- the completion that a frame goes on with: the one that it was given, else a normal one
-abbrev pub given_of : Phase → Completion
-given_of (phases.Given c) = c
-given_of _ = completions.Normal
+-- the frame above has ended with a completion: what waited for it goes on with it, and all else as it was to
+abbrev pub resumed : Phase → Completion → Phase
+resumed (phases.Waiting point) c = phases.Given point c
+resumed phase c = phase

@@ -1,5 +1,5 @@
 -- What frames mean under a table of texts.
-use Rattle.std.specs.Prelude.{ℕ, Bool, true, false, List, [], ◌∷◌, map as each}
+use Rattle.std.specs.Prelude.{ℕ, List, [], ◌∷◌, map as each}
 use Rattle.std.specs.Option.{option_map}
 use Rattle.wjs_base.specs.declared.ids.ObjId.{ObjId}
 use Rattle.wjs_base.specs.declared.ids.WorldId.{WorldId}
@@ -25,7 +25,8 @@ use Rattle.wjs_model.specs.declared.operand.Operand.{Operand as NumberedOperand}
 use Rattle.wjs_model.specs.declared.operand.Operand.TheVariants as operands
 use Rattle.wjs_model.specs.declared.frame.Phase.{Phase}
 use Rattle.wjs_model.specs.declared.frame.Phase.TheVariants as phases
-use Rattle.wjs_model.specs.declared.frame.Form.{Form}
+use Rattle.wjs_model.specs.declared.point.Start.{Start}
+use Rattle.wjs_model.specs.declared.point.Point.{Point}
 use Rattle.wjs_model.specs.declared.frame.Activation.{Activation as NumberedFrame}
 
 -- what a frame holds, by kind: the latest value, all values in the order in which they came, and the latest of each other kind
@@ -35,10 +36,6 @@ pub record Holding : Type 0 where
   pub reference : Reference
   -- what is called, and its `this`
   pub callee : Value × Value
-  -- whether the latest call is one of `new`
-  pub by_new : Bool
-  -- whether the scope of the function whose body runs is made
-  pub begun : Bool
   -- the object whose elements are read, and how many
   pub elements : ObjId × ℕ
   -- what a `finally` may replace
@@ -48,7 +45,7 @@ pub record Holding : Type 0 where
 
 -- nothing is held
 abbrev pub nothing : Holding
-nothing = record { value = Undefined; values = []; reference = Member Undefined (index_name 0); callee = (Undefined, Undefined); by_new = false; begun = false; elements = (record { owner = 0; serial = 0 }, 0); earlier = Normal; visits = [] }
+nothing = record { value = Undefined; values = []; reference = Member Undefined (index_name 0); callee = (Undefined, Undefined); elements = (record { owner = 0; serial = 0 }, 0); earlier = Normal; visits = [] }
 
 -- a literal or `this`; a name at its place, for its value or as a target
 pub data Operand : Type 0 where
@@ -56,20 +53,18 @@ pub data Operand : Type 0 where
   NameOperand : Place → Text → Operand
   TargetOperand : Place → Text → Operand
 
--- when a frame goes on
+-- when a frame goes on, and with what
 pub data Moment : Type 0 where
-  Due : Moment
-  Ready : Moment
-  Waiting : Moment
-  Given : Completion → Moment
-  Entering : Operand → Moment
+  Due : Start → Moment
+  Ready : Start → Moment
+  Waiting : Point → Moment
+  Given : Point → Completion → Moment
+  Entering : Point → Operand → Moment
 
 -- a node that is being run
 pub record Frame : Type 0 where
-  pub form : Form
   pub tree : ℕ
   pub node : ℕ
-  pub place : ℕ
   pub moment : Moment
   pub scope : ObjId
   pub this : Value
@@ -98,19 +93,6 @@ abbrev pub callee_held : List Held → NumberedValue × NumberedValue
 callee_held [] = (values.Undefined, values.Undefined)
 callee_held (holds.Callee f this ∷ held) = (f, this)
 callee_held (_ ∷ held) = callee_held held
-
--- the latest call decides
-abbrev pub new_held : List Held → Bool
-new_held [] = false
-new_held (holds.ByNew ∷ held) = true
-new_held (holds.Callee f this ∷ held) = false
-new_held (_ ∷ held) = new_held held
-
-abbrev pub begun_held : List Held → Bool
-begun_held [] = false
-begun_held (holds.Begun ∷ held) = true
-begun_held (holds.Callee f this ∷ held) = false
-begun_held (_ ∷ held) = begun_held held
 
 abbrev pub elements_held : List Held → ObjId × ℕ
 elements_held [] = (record { owner = 0; serial = 0 }, 0)
@@ -150,8 +132,6 @@ module _ (texts : Table) where
     values = earliest_first (each (value_in texts) (values_held held));
     reference = reference_in (reference_held held);
     callee = (value_in texts (callee_held held).0, value_in texts (callee_held held).1);
-    by_new = new_held held;
-    begun = begun_held held;
     elements = elements_held held;
     earlier = completion_in (earlier_held held);
     visits = each (slot_in texts) (visits_held held);
@@ -163,18 +143,16 @@ module _ (texts : Table) where
   operand_in (operands.Target place id) = TargetOperand (place_in place) (text_in texts id)
 
   abbrev pub moment_in : Phase → Moment
-  moment_in phases.Due = Due
-  moment_in phases.Ready = Ready
-  moment_in phases.Waiting = Waiting
-  moment_in (phases.Given c) = Given (completion_in c)
-  moment_in (phases.Entering o) = Entering (operand_in o)
+  moment_in (phases.Due start) = Due start
+  moment_in (phases.Ready start) = Ready start
+  moment_in (phases.Waiting point) = Waiting point
+  moment_in (phases.Given point c) = Given point (completion_in c)
+  moment_in (phases.Entering point o) = Entering point (operand_in o)
 
   abbrev pub frame_in : NumberedFrame → Frame
   frame_in f = record {
-    form = f.form;
     tree = f.tree;
     node = f.node.0;
-    place = f.place;
     moment = moment_in f.phase;
     scope = f.scope;
     this = value_in texts f.this;

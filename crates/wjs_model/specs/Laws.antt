@@ -6,9 +6,11 @@ use Rattle.wjs_meaning.specs.Trees.{Tree}
 use Rattle.wjs_meaning.specs.Deeds.{St, Completion, Ret}
 use Rattle.wjs_meaning.specs.Programs.{declared_names, machine}
 use Rattle.wjs_meaning.specs.Start.{start}
-use Rattle.wjs_model.specs.declared.frame.Form.TheVariants as form
-use Rattle.wjs_model.specs.Contents.{Frame, nothing, Moment, Due, Waiting, Given, Run}
-use Rattle.wjs_model.specs.Rest.{rest_of, rest_over, rest_top}
+use Rattle.wjs_model.specs.declared.point.Start.TheVariants as starts
+use Rattle.wjs_model.specs.declared.point.CallPoint.TheVariants as call
+use Rattle.wjs_model.specs.declared.point.Point.TheVariants as points
+use Rattle.wjs_model.specs.Contents.{Frame, nothing, Moment, Due, Waiting, Run}
+use Rattle.wjs_model.specs.Rest.{resumed, rest_of, rest_over, rest_top}
 
 -- the programs of a run from the start
 abbrev pub run_of : List Tree → Run
@@ -16,12 +18,12 @@ run_of trees = record { trees = trees; global = global_object; owner = 0 }
 
 -- the body of the program of a number, which begins or waits for the one before it
 abbrev pub program_frame : ℕ → ℕ → Moment → Frame
-program_frame tree body moment = record { form = form.Body; tree = tree; node = body; place = 0; moment = moment; scope = global_object; this = Object global_object; world = first_world; held = nothing }
+program_frame tree body moment = record { tree = tree; node = body; moment = moment; scope = global_object; this = Object global_object; world = first_world; held = nothing }
 
 -- the frames of a run at its start: the library's body above the script's
 abbrev pub first_frames : Option Tree → Tree → List Frame
-first_frames None script = program_frame 0 script.body Due ∷ []
-first_frames (Some library) script = program_frame 1 script.body Waiting ∷ program_frame 0 library.body Due ∷ []
+first_frames None script = program_frame 0 script.body (Due starts.Program) ∷ []
+first_frames (Some library) script = program_frame 1 script.body (Waiting (points.Call call.NextProgram)) ∷ program_frame 0 library.body (Due starts.Program) ∷ []
 
 abbrev pub trees_of : Option Tree → Tree → List Tree
 trees_of None script = script ∷ []
@@ -36,6 +38,6 @@ script_names (Some library) script = declared_names (library ∷ script ∷ []) 
 abbrev pub StartIsTheRun : Type 0
 StartIsTheRun = (library : Option Tree) (script : Tree) (budget : ℕ) → rest_of (run_of (trees_of library script)) (first_frames library script) (start (script_names library script)) budget ≡ machine library script budget
 
--- a frame that waited and was given a completion goes on as the frames below an end with that completion
+-- a frame that was given a completion goes on as the frames below an end with that completion
 abbrev pub EndsGoDown : Type 0
-EndsGoDown = (run : Run) (fs : List Frame) (f : Frame) (c : Completion) (st : St) (n : ℕ) → rest_top run fs (Some (record f { moment = Given c })) st n ≡ rest_over run (Ret c) (fs ++ f ∷ []) st n
+EndsGoDown = (run : Run) (fs : List Frame) (f : Frame) (c : Completion) (st : St) (n : ℕ) → rest_top run fs (Some (record f { moment = resumed f.moment c })) st n ≡ rest_over run (Ret c) (fs ++ f ∷ []) st n

@@ -1,8 +1,9 @@
+pub mod Bodies
 pub mod Frames
 pub mod Units
 pub mod Texts
-pub mod Turns
 pub mod Contents
+pub mod Lists
 pub mod Operands
 pub mod Waiting
 pub mod Rest

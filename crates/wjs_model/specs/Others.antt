@@ -19,6 +19,8 @@ use Rattle.wjs_model.specs.declared.operand.Operand.{Operand}
 use Rattle.wjs_model.specs.declared.operand.Operand.TheVariants as operands
 use Rattle.wjs_model.specs.declared.frame.Held.{Held}
 use Rattle.wjs_model.specs.declared.frame.Held.TheVariants as holds
+use Rattle.wjs_model.specs.declared.point.Start.{Start}
+use Rattle.wjs_model.specs.declared.point.Start.TheVariants as starts
 use Rattle.wjs_model.specs.declared.frame.Phase.{Phase}
 use Rattle.wjs_model.specs.declared.frame.Phase.TheVariants as phases
 use Rattle.wjs_model.specs.declared.frame.Activation.{Activation as Frame}
@@ -61,8 +63,6 @@ module _ (u : ℕ) where
   OtherItem (holds.Value v) = OtherValue v
   OtherItem (holds.Reference r) = OtherReference r
   OtherItem (holds.Callee f this) = OtherValue f × OtherValue this
-  OtherItem holds.ByNew = Unit {0}
-  OtherItem holds.Begun = Unit {0}
   OtherItem (holds.Elements o count) = Other o
   OtherItem (holds.Earlier e) = OtherCompletion e
   OtherItem (holds.Visit s) = Other s.object
@@ -76,12 +76,16 @@ module _ (u : ℕ) where
   OtherOperand (operands.Name place id) = Unit {0}
   OtherOperand (operands.Target place id) = Unit {0}
 
+  abbrev pub OtherStart : Start → Type 0
+  OtherStart (starts.Body f) = Other f
+  OtherStart _ = Unit {0}
+
   abbrev pub OtherPhase : Phase → Type 0
-  OtherPhase (phases.Given e) = OtherCompletion e
-  OtherPhase (phases.Entering o) = OtherOperand o
-  OtherPhase phases.Due = Unit {0}
-  OtherPhase phases.Ready = Unit {0}
-  OtherPhase phases.Waiting = Unit {0}
+  OtherPhase (phases.Due start) = OtherStart start
+  OtherPhase (phases.Ready start) = OtherStart start
+  OtherPhase (phases.Waiting point) = Unit {0}
+  OtherPhase (phases.Given point e) = OtherCompletion e
+  OtherPhase (phases.Entering point o) = OtherOperand o
 
   abbrev pub OtherState : State → Type 0
   OtherState (states.Threw v) = OtherValue v

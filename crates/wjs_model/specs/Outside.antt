@@ -30,7 +30,8 @@ module _ (m : Meaning) (owner : ℕ) where
   -- further objects are of other owners, and none has a world of the store or of the configuration's owner
   pub record IsFurther (more : Arena) : Type 0 where
     pub apart : (o : ObjId) (e : Entry) → map.get more o ≡ Some e → ¬ (o.owner ≡ owner)
-    pub worlds : (o : ObjId) (e : Entry) (w : WorldId) → map.get more o ≡ Some e → e.object.world ≡ Some w → ¬ IsTrue (has_world (worlds m) w) × ¬ (w.owner ≡ owner)
+    pub worlds : (o : ObjId) (e : Entry) (w : WorldId) → map.get more o ≡ Some e → e.object.world ≡ Some w
+        → ¬ IsTrue (has_world (worlds m) w) × ¬ (w.owner ≡ owner)
 
   -- the table has grown from the configuration's
   pub record IsOutside (own : Table) (v : Outside) : Type 0 where

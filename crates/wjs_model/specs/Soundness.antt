@@ -28,6 +28,9 @@ use Rattle.wjs_model.specs.declared.operand.Operand.{Operand}
 use Rattle.wjs_model.specs.declared.operand.Operand.TheVariants as operands
 use Rattle.wjs_model.specs.declared.frame.Held.{Held}
 use Rattle.wjs_model.specs.declared.frame.Held.TheVariants as holds
+use Rattle.wjs_model.specs.declared.point.Start.{Start}
+use Rattle.wjs_model.specs.declared.point.Start.TheVariants as starts
+use Rattle.wjs_model.specs.declared.point.Point.{Point}
 use Rattle.wjs_model.specs.declared.frame.Phase.{Phase}
 use Rattle.wjs_model.specs.declared.frame.Phase.TheVariants as phases
 use Rattle.wjs_model.specs.declared.frame.Activation.{Activation as Frame}
@@ -35,7 +38,7 @@ use Rattle.wjs_model.specs.declared.config.Config.{Config}
 use Rattle.wjs_model.specs.declared.config.State.{State}
 use Rattle.wjs_model.specs.declared.config.State.TheVariants as states
 use Rattle.wjs_model.specs.Texts.{KnowsUnit, PlacesUnit}
-use Rattle.wjs_model.specs.Standing.{Stands, FrameStands, FunctionStands}
+use Rattle.wjs_model.specs.Standing.{Stands, IfStands, PointStands, FrameStands, FunctionStands}
 use Rattle.wjs_model.specs.Apart.{is_apart, IsNear, NearSlots, NamesNear}
 
 -- ---- what is named is there
@@ -64,6 +67,9 @@ module _ {S : Type 0} (c : Config S) where
   abbrev pub StandsHere : Frame → NodeId → Type 0
   StandsHere f node = Stands c.units.items c.heap.arena f.tree node f.scope 0
 
+  abbrev pub StandsIf : Frame → Option NodeId → Type 0
+  StandsIf f node = IfStands c.units.items c.heap.arena f.tree f.node f.scope node
+
   abbrev pub HasLabel : Option TextId → Type 0
   HasLabel None = Unit {0}
   HasLabel (Some id) = Has c.heap.texts id
@@ -86,8 +92,6 @@ module _ {S : Type 0} (c : Config S) where
   HasItem (holds.Value v) = HasValue v
   HasItem (holds.Reference r) = HasReference r
   HasItem (holds.Callee f this) = HasValue f × HasValue this
-  HasItem holds.ByNew = Unit {0}
-  HasItem holds.Begun = Unit {0}
   HasItem (holds.Elements o count) = HasObject o
   HasItem (holds.Earlier e) = HasCompletion e
   HasItem (holds.Visit s) = HasSlot s
@@ -101,10 +105,21 @@ module _ {S : Type 0} (c : Config S) where
   HasOperand (operands.Name place id) = Has c.heap.texts id
   HasOperand (operands.Target place id) = Has c.heap.texts id
 
-  abbrev pub HasPhase : Phase → Type 0
-  HasPhase (phases.Given e) = HasCompletion e
-  HasPhase (phases.Entering o) = HasOperand o
-  HasPhase _ = Unit {0}
+  -- what a frame begins with
+  abbrev pub HasStart : Start → Type 0
+  HasStart (starts.Body f) = HasObject f
+  HasStart _ = Unit {0}
+
+  -- after which part a frame goes on
+  abbrev pub HasPoint : Frame → Point → Type 0
+  HasPoint f point = PointStands c.units.items c.heap.arena f.tree f.node f.scope point
+
+  abbrev pub HasPhase : Frame → Phase → Type 0
+  HasPhase f (phases.Due start) = HasStart start
+  HasPhase f (phases.Ready start) = HasStart start
+  HasPhase f (phases.Waiting point) = HasPoint f point
+  HasPhase f (phases.Given point e) = HasPoint f point × HasCompletion e
+  HasPhase f (phases.Entering point o) = HasPoint f point × HasOperand o
 
   abbrev pub HasThrown : State → Type 0
   HasThrown (states.Threw v) = HasValue v
@@ -121,8 +136,12 @@ module _ {S : Type 0} (meaning : S → Meaning) where
     pub this : HasValue c f.this
     pub world : HasWorld c f.world
     pub held : HasItems c f.held
-    pub phase : HasPhase c f.phase
     pub stands : FrameStands c.units.items c.heap.arena f
+
+  -- among the configuration's frames, what it begins with or waits for is there, too
+  pub record IsStacked (c : Config S) (f : Frame) : Type 0 where
+    pub there : IsThere c f
+    pub phase : HasPhase c f f.phase
 
   -- all but how it ended
   pub record Base (c : Config S) : Type 0 where
@@ -147,7 +166,7 @@ module _ {S : Type 0} (meaning : S → Meaning) where
     -- the objects of the others name none of it, and neither do the present slots
     pub near_objects : (o : ObjId) (e : Entry) → map.get c.heap.arena o ≡ Some e → IsNear c.apart.items o → NamesNear c.apart.items e.object
     pub near_slots : NearSlots c.apart.items (worlds (meaning c.heap.store))
-    pub frames : All (IsThere c) c.frames
+    pub frames : All (IsStacked c) c.frames
     -- the texts that marks name are there, and those that told actions and their answers name
     pub marks : KnowsWorlds c.heap.texts (worlds (meaning c.heap.store))
     pub told : KnowsTold c.heap.texts (meaning c.heap.store).told

@@ -13,10 +13,15 @@ use Rattle.wjs_arena.specs.Entries.{Objects, scope_of, world_of}
 use Rattle.wjs_scope.specs.Scopes.{Scope, own_name}
 use Rattle.wjs_scope.specs.Nesting.{StandsAmong}
 use Rattle.wjs_model.specs.declared.unit.Unit.{Unit as Program}
-use Rattle.wjs_model.specs.declared.frame.Form.{Form}
-use Rattle.wjs_model.specs.declared.frame.Form.TheVariants as form
+use Rattle.wjs_model.specs.declared.point.ExprPoint.{ExprPoint}
+use Rattle.wjs_model.specs.declared.point.ExprPoint.TheVariants as expr
+use Rattle.wjs_model.specs.declared.point.StmtPoint.{StmtPoint}
+use Rattle.wjs_model.specs.declared.point.StmtPoint.TheVariants as stmt
+use Rattle.wjs_model.specs.declared.point.CallPoint.{CallPoint}
+use Rattle.wjs_model.specs.declared.point.CallPoint.TheVariants as call
+use Rattle.wjs_model.specs.declared.point.Point.{Point}
+use Rattle.wjs_model.specs.declared.point.Point.TheVariants as points
 use Rattle.wjs_model.specs.declared.frame.Activation.{Activation as Frame}
-use Rattle.wjs_model.specs.Contents.{begun_held}
 
 -- from a scope so many lead outwards, itself counted
 abbrev pub Outwards : Objects → ObjId → ℕ → Type 0
@@ -56,6 +61,49 @@ pub record IsFunction (units : List Program) (arena : Objects) (tree : ℕ) (nod
 abbrev pub IsShown : Objects → WorldId → Type 0
 IsShown arena w = (o : ObjId) × (world_of arena o ≡ Some w)
 
+-- at a point of a frame that runs a node of a tree in a scope: the nodes that come next stand there, and so does the function whose body runs
+module _ (units : List Program) (arena : Objects) (tree : ℕ) (node : NodeId) (scope : ObjId) where
+  abbrev pub PartStands : NodeId → Type 0
+  PartStands part = Stands units arena tree part scope 0
+
+  abbrev pub IfStands : Option NodeId → Type 0
+  IfStands None = Unit {0}
+  IfStands (Some part) = PartStands part
+
+  abbrev pub ExprPointStands : ExprPoint → Type 0
+  ExprPointStands (expr.IndexBase purpose index) = PartStands index
+  ExprPointStands (expr.BinaryLeft op right) = PartStands right
+  ExprPointStands (expr.CondTest one other) = PartStands one × PartStands other
+  ExprPointStands (expr.AssignTarget sign right) = PartStands right
+  ExprPointStands (expr.CommaLeft right) = PartStands right
+  ExprPointStands _ = Unit {0}
+
+  abbrev pub StmtPointStands : StmtPoint → Type 0
+  StmtPointStands (stmt.IfTest one other) = PartStands one × IfStands other
+  StmtPointStands (stmt.DoBody test) = PartStands test
+  StmtPointStands (stmt.WhileTest body) = PartStands body
+  StmtPointStands (stmt.ForFirst test update body) = IfStands test × (IfStands update × PartStands body)
+  StmtPointStands (stmt.ForVariables test update body) = IfStands test × (IfStands update × PartStands body)
+  StmtPointStands (stmt.ForTest update body) = IfStands update × PartStands body
+  StmtPointStands (stmt.ForBody update) = IfStands update
+  StmtPointStands (stmt.VisitsObject body) = PartStands body
+  StmtPointStands (stmt.VisitTarget body) = PartStands body
+  StmtPointStands (stmt.VisitBody body) = PartStands body
+  StmtPointStands (stmt.TryBlock last) = IfStands last
+  StmtPointStands (stmt.TryHandler last) = IfStands last
+  StmtPointStands (stmt.WithinWorld block) = PartStands block
+  StmtPointStands _ = Unit {0}
+
+  abbrev pub CallPointStands : CallPoint → Type 0
+  CallPointStands (call.BodyElement i) = IsFunction units arena tree node scope 1
+  CallPointStands _ = Unit {0}
+
+  abbrev pub PointStands : Point → Type 0
+  PointStands (points.Expr point) = ExprPointStands point
+  PointStands (points.Stmt point) = StmtPointStands point
+  PointStands (points.Call point) = CallPointStands point
+  PointStands (points.Native k new i) = Unit {0}
+
 module _ (units : List Program) (arena : Objects) where
   -- a script's function has the node of one, and a scope
   abbrev pub FunctionStands : Code → Option ObjId → Type 0
@@ -63,12 +111,6 @@ module _ (units : List Program) (arena : Objects) where
   FunctionStands (code.Script tree node) None = ⊥
   FunctionStands _ scope = Unit {0}
 
-  -- inside the body of a function that has begun
-  abbrev pub BodyStands : Form → Bool → ℕ → NodeId → ObjId → Type 0
-  BodyStands form.Body true tree node scope = IsFunction units arena tree node scope 1
-  BodyStands _ begun tree node scope = Unit {0}
-
   pub record FrameStands (f : Frame) : Type 0 where
     pub node : Stands units arena f.tree f.node f.scope 0
-    pub body : BodyStands f.form (begun_held f.held) f.tree f.node f.scope
     pub shown : IsShown arena f.world

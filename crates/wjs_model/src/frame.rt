@@ -1,14 +1,14 @@
 //! What a configuration has still to do, a frame for each node that is being run.
 
 ghost use Rattle.std.specs.Prelude.{◌≡◌, ◌++◌, ◌∷◌, [], IfOk, OnOk, OnErr, is_some, option_map, true};
-ghost use Rattle.wjs_model.specs.Begun.{begun_at, given_of};
+ghost use Rattle.wjs_model.specs.Begun.{begun_at, resumed};
 ghost use Rattle.wjs_model.specs.Frames.{last, on_last, Pops, Uncovers};
 
 use crate::operand::Operand;
+use crate::point::{Point, Start};
 use std::alloc::Global;
 use std::marker::Model;
 use std::mem;
-use wjs_arena::Native;
 use wjs_base::{Name, ObjId, OutOfMemory, Slot, TextId, Value, WorldId};
 use wjs_tree::NodeId;
 
@@ -35,44 +35,19 @@ pub enum Completion {
     Throws(Value),
 }
 
-/// What a conversion makes (section 9).
-#[derive(Clone, Copy)]
-pub enum Conversion {
-    /// A primitive, of an object by its method `toString` first.
-    TextFirst,
-    /// A primitive, of an object by its method `valueOf` first.
-    NumberFirst,
-    Number,
-    Text,
-    Integer,
-}
-
-/// What a frame runs: the node as an expression for its value or as a target, as a statement, as a function's or a program's
-/// body; a conversion, a call, a native function.
-#[derive(Clone, Copy)]
-pub enum Form {
-    Expr,
-    Target,
-    Stmt,
-    Body,
-    Convert(Conversion),
-    Call,
-    Native(Native),
-}
-
-/// When a frame goes on.
+/// When a frame goes on, and with what.
 #[derive(Clone, Copy)]
 pub enum Phase {
-    /// A step is due first.
-    Due,
-    /// At once.
-    Ready,
+    /// With this, for which a step is due first.
+    Due(Start),
+    /// With this at once.
+    Ready(Start),
     /// When the frame above it has ended.
-    Waiting,
+    Waiting(Point),
     /// With this completion, which it waited for.
-    Given(Completion),
+    Given(Point, Completion),
     /// With the completion of this, for which a step is due first.
-    Entering(Operand),
+    Entering(Point, Operand),
 }
 
 /// What a frame holds until it goes on.
@@ -82,10 +57,6 @@ pub enum Held {
     Reference(Reference),
     /// What is called, and with which `this`; the values held are the arguments.
     Callee(Value, Value),
-    /// The latest call is one of `new`.
-    ByNew,
-    /// The scope of the function whose body runs is made.
-    Begun,
     /// The object whose elements are read one by one, and how many they are.
     Elements(ObjId, u32),
     /// What a `finally` may replace.
@@ -186,12 +157,9 @@ fn make_room(list: &mut Vec<Held>) -> Result<(), OutOfMemory>
 /// What a frame is.
 #[derive(Drop)]
 pub struct Activation {
-    pub form: Form,
     /// The tree at hand, among the configuration's.
     pub tree: u32,
     pub node: NodeId,
-    /// How far it is: 0 at its entry, then which of its parts it runs (`specs/Waiting.antt`).
-    pub place: u32,
     pub phase: Phase,
     pub scope: ObjId,
     pub this: Value,
@@ -199,7 +167,7 @@ pub struct Activation {
     pub held: Items,
 }
 
-/// A node that is being run. It has a place of its own in memory, so that from the frames to a form's handler and back nothing
+/// A node that is being run. It has a place of its own in memory, so that from the frames to a handler and back nothing
 /// but its address moves. Contracts see what it is.
 #[derive(Drop)]
 pub struct Frame {
@@ -228,12 +196,6 @@ impl Frame {
         }
     }
 
-    pub fn form(&self) -> Form
-        ensures { result ≡ self.now.form }
-    {
-        self.at.form
-    }
-
     pub fn tree(&self) -> u32
         ensures { result ≡ self.now.tree }
     {
@@ -246,27 +208,10 @@ impl Frame {
         self.at.node
     }
 
-    pub fn place(&self) -> u32
-        ensures { result ≡ self.now.place }
-    {
-        self.at.place
-    }
-
     pub fn phase(&self) -> Phase
         ensures { result ≡ self.now.phase }
     {
         self.at.phase
-    }
-
-    /// The completion that it goes on with: the one that it was given, else a normal one.
-    #[inline(always)]
-    pub fn completion(&self) -> Completion
-        ensures { result ≡ given_of self.now.phase }
-    {
-        match self.at.phase {
-            Phase::Given(completion) => completion,
-            _ => Completion::Normal,
-        }
     }
 
     pub fn scope(&self) -> ObjId
@@ -287,26 +232,12 @@ impl Frame {
         self.at.world
     }
 
-    pub fn set_form(&mut self, form: Form)
-        ensures { self.new ≡ record self.old { form = form } }
-    {
-        self.at.form = form;
-    }
-
     /// It goes on at a node of a tree.
     pub fn set_node(&mut self, tree: u32, node: NodeId)
         ensures { self.new ≡ record self.old { tree = tree; node = node } }
     {
         self.at.tree = tree;
         self.at.node = node;
-    }
-
-    /// It goes on at a place, when the phase says.
-    pub fn set_place(&mut self, place: u32, phase: Phase)
-        ensures { self.new ≡ record self.old { place = place; phase = phase } }
-    {
-        self.at.place = place;
-        self.at.phase = phase;
     }
 
     pub fn set_phase(&mut self, phase: Phase)
@@ -321,11 +252,9 @@ impl Frame {
         self.at.scope = scope;
     }
 
-    /// It runs another form, with another `this`.
-    pub fn set_call(&mut self, form: Form, this: Value)
-        ensures { self.new ≡ record self.old { form = form; this = this } }
+    pub fn set_this(&mut self, this: Value)
+        ensures { self.new ≡ record self.old { this = this } }
     {
-        self.at.form = form;
         self.at.this = this;
     }
 
@@ -335,15 +264,23 @@ impl Frame {
         self.at.world = world;
     }
 
-    /// It begins anew, with a step due, at a place of a node that it runs as a form, and holds nothing.
-    pub fn begin(&mut self, form: Form, node: NodeId, place: u32)
-        ensures { self.new ≡ record self.old { form = form; node = node; place = place; phase = Phase.Due; held = [] } }
+    /// It begins anew at a node, with a step due, and holds nothing.
+    pub fn begin(&mut self, start: Start, node: NodeId)
+        ensures { self.new ≡ record self.old { node = node; phase = Phase.Due start; held = [] } }
     {
-        self.at.form = form;
         self.at.node = node;
-        self.at.place = place;
-        self.at.phase = Phase::Due;
+        self.at.phase = Phase::Due(start);
         self.at.held.clear();
+    }
+
+    /// Where it waits for a completion it goes on with this one.
+    #[inline(always)]
+    fn give(&mut self, completion: Completion)
+        ensures { self.new ≡ record self.old { phase = resumed self.old.phase completion } }
+    {
+        if let Phase::Waiting(point) = self.at.phase {
+            self.at.phase = Phase::Given(point, completion);
+        }
     }
 
     /// It goes on in the tree and the scope, with the `this` and in the world of another.
@@ -357,11 +294,11 @@ impl Frame {
     }
 
     /// It begins at once, and holds something. Where that is nothing, the memory of what it held before is used again.
-    fn go_on_holding(&mut self, held: Items)
+    fn go_on_holding(&mut self, start: Start, held: Items)
         requires { self.old.held ≡ [] }
-        ensures { self.new ≡ record self.old { phase = Phase.Ready; held = held } }
+        ensures { self.new ≡ record self.old { phase = Phase.Ready start; held = held } }
     {
-        self.at.phase = Phase::Ready;
+        self.at.phase = Phase::Ready(start);
         if !held.is_empty() {
             self.at.held = held;
         }
@@ -453,10 +390,11 @@ impl Frames {
         self.list.pop()
     }
 
-    /// Another frame has ended, and the frame on top goes on with its completion; false exactly where there is no frame.
+    /// Another frame has ended, and the frame on top, which waited, goes on with its completion; false exactly where there is no
+    /// frame.
     #[inline(always)]
     pub fn give(&mut self, ended: Frame, completion: Completion) -> bool
-        ensures given { self.new ≡ on_last (λ f. record f { phase = Phase.Given completion }) self.old }
+        ensures given { self.new ≡ on_last (λ f. record f { phase = resumed f.phase completion }) self.old }
         ensures any { result ≡ is_some (last self.old) }
     {
         self.keep(ended);
@@ -473,56 +411,46 @@ impl Frames {
         }
     }
 
-    /// Puts a frame on top, and one more above it, which begins, with a step due, at a place of a node that it runs as a form,
-    /// around the same.
+    /// Puts a frame on top, and one more above it, which begins at a node around the same, with a step due.
     #[inline(always)]
     pub fn push_begun(
         &mut self,
         frame: Frame,
-        form: Form,
+        start: Start,
         node: NodeId,
-        place: u32,
     ) -> Result<(), OutOfMemory>
-        ensures { OnOk result (self.new ≡ (self.old ++ frame ∷ []) ++ begun_at frame form node place ∷ []) }
+        ensures { OnOk result (self.new ≡ (self.old ++ frame ∷ []) ++ begun_at frame start node ∷ []) }
     {
-        let above = self.begun(&frame, form, node, place)?;
+        let above = self.begun(&frame, start, node)?;
         self.push(frame)?;
         self.push(above)
     }
 
-    /// Puts a frame on top, and one more above it, which begins at once, at a place of a node that it runs as a form, around the
-    /// same and with what it holds.
+    /// Puts a frame on top, and one more above it, which begins at a node around the same, at once and with what it holds.
     pub fn push_ready(
         &mut self,
         frame: Frame,
-        form: Form,
+        start: Start,
         node: NodeId,
-        place: u32,
         held: Items,
     ) -> Result<(), OutOfMemory>
-        ensures { OnOk result (self.new ≡ (self.old ++ frame ∷ []) ++ record (begun_at frame form node place) { phase = Phase.Ready; held = held } ∷ []) }
+        ensures { OnOk result (self.new ≡ (self.old ++ frame ∷ []) ++ record (begun_at frame start node) { phase = Phase.Ready start; held = held } ∷ []) }
     {
-        let mut above = self.begun(&frame, form, node, place)?;
-        above.go_on_holding(held);
+        let mut above = self.begun(&frame, start, node)?;
+        above.go_on_holding(start, held);
         self.push(frame)?;
         self.push(above)
     }
 
     /// A frame that begins around the same as another.
     #[inline(always)]
-    fn begun(
-        &mut self,
-        at: &Frame,
-        form: Form,
-        node: NodeId,
-        place: u32,
-    ) -> Result<Frame, OutOfMemory>
-        ensures frame { IfOk result (λ frame. frame ≡ begun_at at.now form node place) }
+    fn begun(&mut self, at: &Frame, start: Start, node: NodeId) -> Result<Frame, OutOfMemory>
+        ensures frame { IfOk result (λ frame. frame ≡ begun_at at.now start node) }
         ensures same { self.new ≡ self.old }
     {
         match self.spare.pop() {
-            Some(frame) => Ok(renewed(frame, at, form, node, place)),
-            None => begun(*self.list.allocator(), at, form, node, place),
+            Some(frame) => Ok(renewed(frame, at, start, node)),
+            None => begun(*self.list.allocator(), at, start, node),
         }
     }
 
@@ -540,43 +468,27 @@ impl Frames {
     {
         phase_of(self.list.as_slice())
     }
-
-    /// What the frame that runs runs; None exactly where there is no frame.
-    #[inline(always)]
-    pub fn form(&self) -> Option<Form>
-        ensures { result ≡ option_map (λ f. f.form) (last self.now) }
-    {
-        form_of(self.list.as_slice())
-    }
 }
 
 /// A frame in the place of one that has ended.
 #[inline(always)]
-fn renewed(frame: Frame, at: &Frame, form: Form, node: NodeId, place: u32) -> Frame
-    ensures { result ≡ begun_at at.now form node place }
+fn renewed(frame: Frame, at: &Frame, start: Start, node: NodeId) -> Frame
+    ensures { result ≡ begun_at at.now start node }
 {
     let mut frame = frame;
     frame.set_around(at);
-    frame.begin(form, node, place);
+    frame.begin(start, node);
     frame
 }
 
 /// A frame in a new place.
-fn begun(
-    alloc: Global,
-    at: &Frame,
-    form: Form,
-    node: NodeId,
-    place: u32,
-) -> Result<Frame, OutOfMemory>
-    ensures { IfOk result (λ frame. frame ≡ begun_at at.now form node place) }
+fn begun(alloc: Global, at: &Frame, start: Start, node: NodeId) -> Result<Frame, OutOfMemory>
+    ensures { IfOk result (λ frame. frame ≡ begun_at at.now start node) }
 {
     let activation = Activation {
-        form,
         tree: at.tree(),
         node,
-        place,
-        phase: Phase::Due,
+        phase: Phase::Due(start),
         scope: at.scope(),
         this: at.this(),
         world: at.world(),
@@ -585,10 +497,10 @@ fn begun(
     Frame::new(alloc, activation)
 }
 
-/// The last frame goes on with a completion; false exactly where there is no frame.
+/// The last frame goes on with a completion that it waits for; false exactly where there is no frame.
 #[inline(always)]
 fn give_last(frames: &mut [Frame], completion: Completion) -> bool
-    ensures given { frames.new ≡ on_last (λ f. record f { phase = Phase.Given completion }) frames.old }
+    ensures given { frames.new ≡ on_last (λ f. record f { phase = resumed f.phase completion }) frames.old }
     ensures any { result ≡ is_some (last frames.old) }
 {
     let count = frames.len();
@@ -596,19 +508,8 @@ fn give_last(frames: &mut [Frame], completion: Completion) -> bool
         return false;
     }
     let below = &mut frames[count - 1];
-    below.set_phase(Phase::Given(completion));
+    below.give(completion);
     true
-}
-
-/// What the last frame runs.
-#[inline(always)]
-fn form_of(frames: &[Frame]) -> Option<Form>
-    ensures { result ≡ option_map (λ f. f.form) (last frames.now) }
-{
-    match frames.last() {
-        Some(frame) => Some(frame.form()),
-        None => None,
-    }
 }
 
 /// When the last frame goes on.

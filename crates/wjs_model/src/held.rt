@@ -1,7 +1,7 @@
 //! The latest of each kind of what a frame holds.
 ghost use Rattle.std.specs.Prelude.{◌≡◌, ◌++◌, ◌∷◌, [], IfOk, OnOk};
 ghost use Rattle.wjs_model.specs.Frames.{latest_first, earliest_first};
-ghost use Rattle.wjs_model.specs.Contents.{value_held, values_held, reference_held, callee_held, new_held, begun_held, elements_held, earlier_held};
+ghost use Rattle.wjs_model.specs.Contents.{value_held, values_held, reference_held, callee_held, elements_held, earlier_held};
 
 use crate::frame::{Completion, Frame, Held, Reference};
 use std::alloc::Global;
@@ -34,20 +34,6 @@ impl Frame {
         ensures { result ≡ callee_held self.now.held }
     {
         latest_callee(self.at.held.list.as_slice())
-    }
-
-    /// Whether the latest call is one of `new`.
-    pub fn by_new(&self) -> bool
-        ensures { result ≡ new_held self.now.held }
-    {
-        is_by_new(self.at.held.list.as_slice())
-    }
-
-    /// Whether the scope of the function whose body runs is made.
-    pub fn begun(&self) -> bool
-        ensures { result ≡ begun_held self.now.held }
-    {
-        is_begun(self.at.held.list.as_slice())
     }
 
     /// The object whose elements are read, and how many they are.
@@ -125,36 +111,6 @@ fn latest_callee(items: &[Held]) -> (Value, Value)
         }
     }
     (Value::Undefined, Value::Undefined)
-}
-
-fn is_by_new(items: &[Held]) -> bool
-    ensures { result ≡ new_held (latest_first items.now) }
-{
-    let mut i = items.len();
-    'back: while i > 0 {
-        i -= 1;
-        match items[i] {
-            Held::ByNew => return true,
-            Held::Callee(_, _) => return false,
-            _ => {}
-        }
-    }
-    false
-}
-
-fn is_begun(items: &[Held]) -> bool
-    ensures { result ≡ begun_held (latest_first items.now) }
-{
-    let mut i = items.len();
-    'back: while i > 0 {
-        i -= 1;
-        match items[i] {
-            Held::Begun => return true,
-            Held::Callee(_, _) => return false,
-            _ => {}
-        }
-    }
-    false
 }
 
 fn latest_elements(items: &[Held]) -> (ObjId, u32)

@@ -7,17 +7,15 @@ mod held;
 mod laws;
 mod nodes;
 mod operand;
-mod turn;
+mod point;
 mod unit;
 
 pub use config::{Config, State};
-pub use frame::{
-    Activation, Completion, Conversion, Form, Frame, Frames, Held, Items, Phase, Reference,
-};
+pub use frame::{Activation, Completion, Frame, Frames, Held, Items, Phase, Reference};
 pub use laws::{
     ends_go_down, kept_apart_stays, may_be_kept_apart, sound_keeps_apart, start_is_the_run,
 };
 pub use operand::Operand;
-pub use turn::Turn;
+pub use point::{CallPoint, Conversion, ExprPoint, Fix, Hint, Point, Purpose, Start, StmtPoint};
 pub use unit::Unit;
 pub use wjs_meaning::{LIBRARY, Trouble};

@@ -6,7 +6,7 @@ use Rattle.wjs_meaning.specs.Programs.{eval, Done, run_next}
 use Rattle.wjs_model.specs.Frames.{last}
 use Rattle.wjs_model.proofs.Tops.{last-snoc, front-snoc}
 use Rattle.wjs_model.specs.Contents.{Frame, Run}
-use Rattle.wjs_model.specs.Rest.{Go, Count, under, turns_under, turns_act, given, act_of, rest_top, rest_of, turns_at, turns_top, turns_of}
+use Rattle.wjs_model.specs.Rest.{Go, Count, under, turns_under, turns_act, act_after, act_of, rest_top, rest_of, turns_at, turns_top, turns_of}
 use Rattle.wjs_moves.specs.Keeping.{rest_with}
 
 pub each_snoc : {A B : Type 0} (f : A → B) (xs : List A) (x : A) → each f (xs ++ x ∷ []) ≡ each f xs ++ f x ∷ []
@@ -14,11 +14,13 @@ each_snoc f [] x = refl
 each_snoc f (y ∷ ys) x = ap (λ l. f y ∷ l) (each_snoc f ys x)
 
 -- the frame on top is asked first
-pub under_snoc : (run : Run) (fs : List Frame) (f : Frame) (go : Go) (c : Completion) (st : St) (n : ℕ) → under run (fs ++ f ∷ []) go c st n ≡ then_do (interp eval (given run f c) st n) (under run fs go)
+pub under_snoc : (run : Run) (fs : List Frame) (f : Frame) (go : Go) (c : Completion) (st : St) (n : ℕ)
+    → under run (fs ++ f ∷ []) go c st n ≡ then_do (interp eval (act_after run f c) st n) (under run fs go)
 under_snoc run [] f go c st n = refl
 under_snoc run (g ∷ fs) f go c st n = under_snoc run fs f _ c st n
 
-pub turns_under_snoc : (run : Run) (fs : List Frame) (f : Frame) (go : Count) → turns_under run (fs ++ f ∷ []) go ≡ (λ c st. turns_act (given run f c) st (turns_under run fs go))
+pub turns_under_snoc : (run : Run) (fs : List Frame) (f : Frame) (go : Count)
+    → turns_under run (fs ++ f ∷ []) go ≡ (λ c st. turns_act (act_after run f c) st (turns_under run fs go))
 turns_under_snoc run [] f go = refl
 turns_under_snoc run (g ∷ fs) f go = turns_under_snoc run fs f _
 

@@ -26,8 +26,8 @@ use Rattle.wjs_model.specs.declared.frame.Phase.{Phase}
 use Rattle.wjs_model.specs.declared.frame.Phase.TheVariants as phases
 use Rattle.wjs_model.specs.declared.frame.Activation.{Activation as Frame}
 use Rattle.wjs_model.specs.Frames.{earliest_first}
-use Rattle.wjs_model.specs.Contents.{Given, Entering, ValueOperand, NameOperand, TargetOperand, operand_in, value_held, values_held, reference_held, callee_held, new_held, begun_held, elements_held, earlier_held, visits_held, reference_in, completion_in, holding_in, moment_in, frame_in}
-use Rattle.wjs_model.specs.Soundness.{HasName, HasValue, HasReference, HasCompletion, HasItems, HasOperand, HasPhase, IsThere}
+use Rattle.wjs_model.specs.Contents.{Given, Entering, ValueOperand, NameOperand, TargetOperand, operand_in, value_held, values_held, reference_held, callee_held, elements_held, earlier_held, visits_held, reference_in, completion_in, holding_in, moment_in, frame_in}
+use Rattle.wjs_model.specs.Soundness.{HasName, HasValue, HasReference, HasCompletion, HasItems, HasOperand, HasPhase, IsStacked}
 use Rattle.wjs_moves.proofs.NodesGrow.{label_grows}
 
 module _ {S : Type 0} (c : Config S) (new : Table) (g : Grows c.heap.texts new) where
@@ -65,8 +65,6 @@ module _ {S : Type 0} (c : Config S) (new : Table) (g : Grows c.heap.texts new) 
   held_value_grows (holds.Value v ∷ held) k = value_grows v k.0
   held_value_grows (holds.Reference r ∷ held) k = held_value_grows held k.1
   held_value_grows (holds.Callee f this ∷ held) k = held_value_grows held k.1
-  held_value_grows (holds.ByNew ∷ held) k = held_value_grows held k.1
-  held_value_grows (holds.Begun ∷ held) k = held_value_grows held k.1
   held_value_grows (holds.Elements o count ∷ held) k = held_value_grows held k.1
   held_value_grows (holds.Earlier e ∷ held) k = held_value_grows held k.1
   held_value_grows (holds.Visit s ∷ held) k = held_value_grows held k.1
@@ -76,8 +74,6 @@ module _ {S : Type 0} (c : Config S) (new : Table) (g : Grows c.heap.texts new) 
   held_values_grow (holds.Value v ∷ held) k = let e = value_grows v k.0 in let more = held_values_grow held k.1 in λ i. e i ∷ more i
   held_values_grow (holds.Reference r ∷ held) k = held_values_grow held k.1
   held_values_grow (holds.Callee f this ∷ held) k = held_values_grow held k.1
-  held_values_grow (holds.ByNew ∷ held) k = held_values_grow held k.1
-  held_values_grow (holds.Begun ∷ held) k = held_values_grow held k.1
   held_values_grow (holds.Elements o count ∷ held) k = held_values_grow held k.1
   held_values_grow (holds.Earlier e ∷ held) k = held_values_grow held k.1
   held_values_grow (holds.Visit s ∷ held) k = held_values_grow held k.1
@@ -87,8 +83,6 @@ module _ {S : Type 0} (c : Config S) (new : Table) (g : Grows c.heap.texts new) 
   held_reference_grows (holds.Value v ∷ held) k = held_reference_grows held k.1
   held_reference_grows (holds.Reference r ∷ held) k = reference_grows r k.0
   held_reference_grows (holds.Callee f this ∷ held) k = held_reference_grows held k.1
-  held_reference_grows (holds.ByNew ∷ held) k = held_reference_grows held k.1
-  held_reference_grows (holds.Begun ∷ held) k = held_reference_grows held k.1
   held_reference_grows (holds.Elements o count ∷ held) k = held_reference_grows held k.1
   held_reference_grows (holds.Earlier e ∷ held) k = held_reference_grows held k.1
   held_reference_grows (holds.Visit s ∷ held) k = held_reference_grows held k.1
@@ -98,8 +92,6 @@ module _ {S : Type 0} (c : Config S) (new : Table) (g : Grows c.heap.texts new) 
   held_callee_grows (holds.Value v ∷ held) k = held_callee_grows held k.1
   held_callee_grows (holds.Reference r ∷ held) k = held_callee_grows held k.1
   held_callee_grows (holds.Callee f this ∷ held) k = value_grows f (k.0).0
-  held_callee_grows (holds.ByNew ∷ held) k = held_callee_grows held k.1
-  held_callee_grows (holds.Begun ∷ held) k = held_callee_grows held k.1
   held_callee_grows (holds.Elements o count ∷ held) k = held_callee_grows held k.1
   held_callee_grows (holds.Earlier e ∷ held) k = held_callee_grows held k.1
   held_callee_grows (holds.Visit s ∷ held) k = held_callee_grows held k.1
@@ -109,8 +101,6 @@ module _ {S : Type 0} (c : Config S) (new : Table) (g : Grows c.heap.texts new) 
   held_this_grows (holds.Value v ∷ held) k = held_this_grows held k.1
   held_this_grows (holds.Reference r ∷ held) k = held_this_grows held k.1
   held_this_grows (holds.Callee f this ∷ held) k = value_grows this (k.0).1
-  held_this_grows (holds.ByNew ∷ held) k = held_this_grows held k.1
-  held_this_grows (holds.Begun ∷ held) k = held_this_grows held k.1
   held_this_grows (holds.Elements o count ∷ held) k = held_this_grows held k.1
   held_this_grows (holds.Earlier e ∷ held) k = held_this_grows held k.1
   held_this_grows (holds.Visit s ∷ held) k = held_this_grows held k.1
@@ -120,8 +110,6 @@ module _ {S : Type 0} (c : Config S) (new : Table) (g : Grows c.heap.texts new) 
   held_earlier_grows (holds.Value v ∷ held) k = held_earlier_grows held k.1
   held_earlier_grows (holds.Reference r ∷ held) k = held_earlier_grows held k.1
   held_earlier_grows (holds.Callee f this ∷ held) k = held_earlier_grows held k.1
-  held_earlier_grows (holds.ByNew ∷ held) k = held_earlier_grows held k.1
-  held_earlier_grows (holds.Begun ∷ held) k = held_earlier_grows held k.1
   held_earlier_grows (holds.Elements o count ∷ held) k = held_earlier_grows held k.1
   held_earlier_grows (holds.Earlier e ∷ held) k = completion_grows e k.0
   held_earlier_grows (holds.Visit s ∷ held) k = held_earlier_grows held k.1
@@ -131,8 +119,6 @@ module _ {S : Type 0} (c : Config S) (new : Table) (g : Grows c.heap.texts new) 
   held_visits_grow (holds.Value v ∷ held) k = held_visits_grow held k.1
   held_visits_grow (holds.Reference r ∷ held) k = held_visits_grow held k.1
   held_visits_grow (holds.Callee f this ∷ held) k = held_visits_grow held k.1
-  held_visits_grow (holds.ByNew ∷ held) k = held_visits_grow held k.1
-  held_visits_grow (holds.Begun ∷ held) k = held_visits_grow held k.1
   held_visits_grow (holds.Elements o count ∷ held) k = held_visits_grow held k.1
   held_visits_grow (holds.Earlier e ∷ held) k = held_visits_grow held k.1
   held_visits_grow (holds.Visit s ∷ held) k = let e = name_grows s.name (k.0).1 in let more = held_visits_grow held k.1 in λ i. slot s.object (e i) ∷ more i
@@ -151,8 +137,6 @@ module _ {S : Type 0} (c : Config S) (new : Table) (g : Grows c.heap.texts new) 
         values = earliest_first (values i);
         reference = reference i;
         callee = (callee i, this i);
-        by_new = new_held held;
-        begun = begun_held held;
         elements = elements_held held;
         earlier = earlier i;
         visits = visits i;
@@ -163,23 +147,21 @@ module _ {S : Type 0} (c : Config S) (new : Table) (g : Grows c.heap.texts new) 
   operand_grows (operands.Name place id) k = ap (NameOperand (place_in place)) (text_stays c.heap.texts new g id k)
   operand_grows (operands.Target place id) k = ap (TargetOperand (place_in place)) (text_stays c.heap.texts new g id k)
 
-  moment_grows : (p : Phase) → HasPhase c p → moment_in new p ≡ moment_in c.heap.texts p
-  moment_grows phases.Due k = refl
-  moment_grows phases.Ready k = refl
-  moment_grows phases.Waiting k = refl
-  moment_grows (phases.Given e) k = ap Given (completion_grows e k)
-  moment_grows (phases.Entering o) k = ap Entering (operand_grows o k)
+  moment_grows : (f : Frame) (p : Phase) → HasPhase c f p → moment_in new p ≡ moment_in c.heap.texts p
+  moment_grows f (phases.Due start) k = refl
+  moment_grows f (phases.Ready start) k = refl
+  moment_grows f (phases.Waiting point) k = refl
+  moment_grows f (phases.Given point e) k = ap (Given point) (completion_grows e k.1)
+  moment_grows f (phases.Entering point o) k = ap (Entering point) (operand_grows o k.1)
 
-  pub frame_grows : (meaning : S → Meaning) (f : Frame) → IsThere meaning c f → frame_in new f ≡ frame_in c.heap.texts f
+  pub frame_grows : (meaning : S → Meaning) (f : Frame) → IsStacked meaning c f → frame_in new f ≡ frame_in c.heap.texts f
   frame_grows meaning f k =
-      let moment = moment_grows f.phase k.phase in
-      let this = value_grows f.this k.this in
-      let held = holding_grows f.held k.held in
+      let moment = moment_grows f f.phase k.phase in
+      let this = value_grows f.this k.there.this in
+      let held = holding_grows f.held k.there.held in
       λ i. record {
-        form = f.form;
         tree = f.tree;
         node = f.node.0;
-        place = f.place;
         moment = moment i;
         scope = f.scope;
         this = this i;

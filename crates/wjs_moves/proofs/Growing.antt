@@ -25,7 +25,7 @@ use Rattle.wjs_model.specs.declared.config.State.TheVariants as states
 use Rattle.wjs_model.specs.Contents.{Frame, Run, frame_in}
 use Rattle.wjs_model.specs.Units.{unit_in}
 use Rattle.wjs_model.specs.Texts.{KnowsUnit}
-use Rattle.wjs_model.specs.Soundness.{HasThrown, IsThere, Sound}
+use Rattle.wjs_model.specs.Soundness.{HasThrown, IsStacked, Sound}
 use Rattle.wjs_model.specs.Outside.{Outside, Knows, beside}
 use Rattle.wjs_model.specs.Configurations.{seen, tells, run_in, state_in, frames_in, rest_by, turns_by}
 use Rattle.wjs_moves.specs.Growing.{LeftAlike, later}
@@ -64,7 +64,7 @@ module _ {S : Type 0} (meaning : S → Meaning) (t : Table) (v : Outside) (c : C
       λ i. record { trees = trees i; global = c.global; owner = c.owner }
 
   frames_grow : frames_in meaning t c ≡ frames_in meaning c.heap.texts c
-  frames_grow = each_alike (frame_in t) (frame_in c.heap.texts) (IsThere meaning c) (frame_grows c t g meaning) c.frames s.base.frames
+  frames_grow = each_alike (frame_in t) (frame_in c.heap.texts) (IsStacked meaning c) (frame_grows c t g meaning) c.frames s.base.frames
 
   state_grows : state_in meaning t v c ≡ state_in meaning c.heap.texts v c
   state_grows =

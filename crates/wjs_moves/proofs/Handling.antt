@@ -11,12 +11,11 @@ use Rattle.wjs_model.specs.declared.frame.Activation.{Activation as Frame}
 use Rattle.wjs_model.specs.declared.frame.Held.{Held}
 use Rattle.wjs_model.specs.Soundness.{IsThere, HasItems}
 use Rattle.wjs_model.specs.Units.{unit_in}
-use Rattle.wjs_model.specs.Contents.{begun_held, env_of, frame_in}
-use Rattle.wjs_model.specs.Standing.{BodyStands}
+use Rattle.wjs_model.specs.Contents.{env_of, frame_in}
 use Rattle.wjs_moves.specs.Following.{Follows, Later}
 use Rattle.wjs_moves.specs.Doing.{Does}
 use Rattle.wjs_moves.specs.Parts.{env_in}
-use Rattle.wjs_moves.specs.Handling.{IsRunning, Runs, IsExpr, IsStmt, GoesOn}
+use Rattle.wjs_moves.specs.Handling.{IsRunning, Runs, IsAt, GoesOn}
 
 module _ {S : Type 0} (meaning : S → Meaning) where
   -- where frames are run stays
@@ -28,20 +27,12 @@ module _ {S : Type 0} (meaning : S → Meaning) where
   runs_as c f g r h = record { running = r.running; there = h }
 
   -- the frame, holding these things
-  pub runs_held : (c : Config S) (f : Frame) (held : List Held) → Runs meaning c f → HasItems c held →
-      BodyStands c.units.items c.heap.arena f.form (begun_held held) f.tree f.node f.scope → Runs meaning c (record f { held = held })
-  runs_held c f held r h body =
+  pub runs_held : (c : Config S) (f : Frame) (held : List Held) → Runs meaning c f → HasItems c held → Runs meaning c (record f { held = held })
+  runs_held c f held r h =
       let at = r.there in
       record {
         running = r.running;
-        there = record {
-          scope = at.scope;
-          this = at.this;
-          world = at.world;
-          held = h;
-          phase = at.phase;
-          stands = record { node = at.stands.node; body = body; shown = at.stands.shown };
-        };
+        there = record { scope = at.scope; this = at.this; world = at.world; held = h; stands = record { node = at.stands.node; shown = at.stands.shown } };
       }
 
   -- after a deed
@@ -55,11 +46,8 @@ module _ {S : Type 0} (meaning : S → Meaning) where
   pub runs_over : (old mid : Config S) (f g : Frame) → Runs meaning old f → Later meaning old mid → IsThere meaning mid g → Runs meaning mid g
   runs_over old mid f g r l h = record { running = running_later old mid r.running l; there = h }
 
-  pub expr_later : (old mid : Config S) (f : Frame) (n : Node) → IsExpr meaning old f n → Later meaning old mid → IsExpr meaning mid f n
-  expr_later old mid f n e l = record { form = e.form; node = rw l.units e.node }
-
-  pub stmt_later : (old mid : Config S) (f : Frame) (n : Node) → IsStmt meaning old f n → Later meaning old mid → IsStmt meaning mid f n
-  stmt_later old mid f n e l = record { form = e.form; node = rw l.units e.node }
+  pub at_later : (old mid : Config S) (f : Frame) (n : Node) → IsAt meaning old f n → Later meaning old mid → IsAt meaning mid f n
+  at_later old mid f n e l = rw l.units e
 
   -- a deed was done where the frame is run: what goes on with what follows its answer goes on with the deed
   pub goes_on_after : {A : Type 0} (f : Frame) (old mid new : Config S) (result : Result (Unit {0}) OutOfMemory)

@@ -17,8 +17,6 @@ module _ {S : Type 0} (c : Config S) where
   value_there (holds.Value v ∷ held) has = has.0
   value_there (holds.Reference r ∷ held) has = value_there held has.1
   value_there (holds.Callee f this ∷ held) has = value_there held has.1
-  value_there (holds.ByNew ∷ held) has = value_there held has.1
-  value_there (holds.Begun ∷ held) has = value_there held has.1
   value_there (holds.Elements o count ∷ held) has = value_there held has.1
   value_there (holds.Earlier e ∷ held) has = value_there held has.1
   value_there (holds.Visit s ∷ held) has = value_there held has.1
@@ -28,8 +26,6 @@ module _ {S : Type 0} (c : Config S) where
   latest_values_there (holds.Value v ∷ held) has = All-cons (HasValue c) v (values_held held) has.0 (latest_values_there held has.1)
   latest_values_there (holds.Reference r ∷ held) has = latest_values_there held has.1
   latest_values_there (holds.Callee f this ∷ held) has = latest_values_there held has.1
-  latest_values_there (holds.ByNew ∷ held) has = latest_values_there held has.1
-  latest_values_there (holds.Begun ∷ held) has = latest_values_there held has.1
   latest_values_there (holds.Elements o count ∷ held) has = latest_values_there held has.1
   latest_values_there (holds.Earlier e ∷ held) has = latest_values_there held has.1
   latest_values_there (holds.Visit s ∷ held) has = latest_values_there held has.1
@@ -39,8 +35,6 @@ module _ {S : Type 0} (c : Config S) where
   reference_there (holds.Value v ∷ held) has = reference_there held has.1
   reference_there (holds.Reference r ∷ held) has = has.0
   reference_there (holds.Callee f this ∷ held) has = reference_there held has.1
-  reference_there (holds.ByNew ∷ held) has = reference_there held has.1
-  reference_there (holds.Begun ∷ held) has = reference_there held has.1
   reference_there (holds.Elements o count ∷ held) has = reference_there held has.1
   reference_there (holds.Earlier e ∷ held) has = reference_there held has.1
   reference_there (holds.Visit s ∷ held) has = reference_there held has.1
@@ -50,8 +44,6 @@ module _ {S : Type 0} (c : Config S) where
   callee_there (holds.Value v ∷ held) has = callee_there held has.1
   callee_there (holds.Reference r ∷ held) has = callee_there held has.1
   callee_there (holds.Callee f this ∷ held) has = has.0
-  callee_there (holds.ByNew ∷ held) has = callee_there held has.1
-  callee_there (holds.Begun ∷ held) has = callee_there held has.1
   callee_there (holds.Elements o count ∷ held) has = callee_there held has.1
   callee_there (holds.Earlier e ∷ held) has = callee_there held has.1
   callee_there (holds.Visit s ∷ held) has = callee_there held has.1
@@ -62,8 +54,6 @@ module _ {S : Type 0} (c : Config S) where
   elements_there (holds.Value v ∷ held) has first = elements_there held has.1 first
   elements_there (holds.Reference r ∷ held) has first = elements_there held has.1 first
   elements_there (holds.Callee f this ∷ held) has first = elements_there held has.1 first
-  elements_there (holds.ByNew ∷ held) has first = elements_there held has.1 first
-  elements_there (holds.Begun ∷ held) has first = elements_there held has.1 first
   elements_there (holds.Elements o count ∷ held) has first = has.0
   elements_there (holds.Earlier e ∷ held) has first = elements_there held has.1 first
   elements_there (holds.Visit s ∷ held) has first = elements_there held has.1 first
@@ -73,8 +63,6 @@ module _ {S : Type 0} (c : Config S) where
   earlier_there (holds.Value v ∷ held) has = earlier_there held has.1
   earlier_there (holds.Reference r ∷ held) has = earlier_there held has.1
   earlier_there (holds.Callee f this ∷ held) has = earlier_there held has.1
-  earlier_there (holds.ByNew ∷ held) has = earlier_there held has.1
-  earlier_there (holds.Begun ∷ held) has = earlier_there held has.1
   earlier_there (holds.Elements o count ∷ held) has = earlier_there held has.1
   earlier_there (holds.Earlier e ∷ held) has = has.0
   earlier_there (holds.Visit s ∷ held) has = earlier_there held has.1
@@ -84,8 +72,6 @@ module _ {S : Type 0} (c : Config S) where
   visits_there (holds.Value v ∷ held) has = visits_there held has.1
   visits_there (holds.Reference r ∷ held) has = visits_there held has.1
   visits_there (holds.Callee f this ∷ held) has = visits_there held has.1
-  visits_there (holds.ByNew ∷ held) has = visits_there held has.1
-  visits_there (holds.Begun ∷ held) has = visits_there held has.1
   visits_there (holds.Elements o count ∷ held) has = visits_there held has.1
   visits_there (holds.Earlier e ∷ held) has = visits_there held has.1
   visits_there (holds.Visit s ∷ held) has = All-cons (HasSlot c) s (visits_held held) has.0 (visits_there held has.1)

@@ -29,7 +29,7 @@ use Rattle.wjs_model.specs.declared.frame.Activation.{Activation as Frame}
 use Rattle.wjs_model.specs.Operands.{defined_or_thrown, evaluated, named}
 use Rattle.wjs_model.specs.Units.{place_in}
 use Rattle.wjs_model.specs.Soundness.{HasValue, Base}
-use Rattle.wjs_moves.specs.declared.place.Part.TheVariants as part
+use Rattle.wjs_moves.specs.declared.part.Part.TheVariants as part
 use Rattle.wjs_moves.specs.Parts.{env_in, node_among}
 use Rattle.wjs_moves.specs.Operands.{IsOperand}
 use Rattle.wjs_moves.specs.Shortening.{Shortens}

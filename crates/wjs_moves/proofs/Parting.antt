@@ -15,13 +15,14 @@ use Rattle.wjs_scope.specs.Nesting.{Side, Around, Caught, on_side, parts, IsAmon
 use Rattle.wjs_scope.specs.Declarations.{elements_of}
 use Rattle.wjs_scope.specs.Places.{IsScript}
 use Rattle.wjs_model.specs.declared.config.Config.{Config}
+use Rattle.wjs_model.specs.declared.point.Point.{Point}
 use Rattle.wjs_model.specs.declared.frame.Activation.{Activation as Frame}
 use Rattle.wjs_model.specs.declared.unit.Unit.{Unit as Program}
 use Rattle.wjs_model.specs.Texts.{PlacesUnit}
 use Rattle.wjs_model.specs.Units as program
-use Rattle.wjs_model.specs.Standing.{Stands, IsFunction}
-use Rattle.wjs_model.specs.Soundness.{StandsHere, IsThere, Base}
-use Rattle.wjs_model.proofs.Standing.{stands_kept, part_stands, caught_stands, element_stands}
+use Rattle.wjs_model.specs.Standing.{Stands, IsFunction, IfStands, PointStands}
+use Rattle.wjs_model.specs.Soundness.{StandsHere, StandsIf, HasPoint, IsThere, Base}
+use Rattle.wjs_model.proofs.Standing.{stands_kept, if_kept, point_kept, part_stands, caught_stands, element_stands}
 use Rattle.wjs_moves.specs.Parts.{node_among, node_now}
 use Rattle.wjs_moves.specs.Following.{Later}
 
@@ -50,7 +51,8 @@ among_around (x ∷ l) j (inr h) = inr (among_around l j h)
 -- ---- nodes of programs
 
 -- a node that has a part is one of the program's
-has_with : (ns : List Node) (i : NodeId) (n : Node) (p : NodeId × Side) (r : Option Node) → slice_get ns i.0 ≡ r → unwrap_or r nodes.Empty ≡ n → IsAmong (parts n) p → Has ns i n
+has_with : (ns : List Node) (i : NodeId) (n : Node) (p : NodeId × Side) (r : Option Node) → slice_get ns i.0 ≡ r → unwrap_or r nodes.Empty ≡ n
+    → IsAmong (parts n) p → Has ns i n
 has_with ns i n p (Some m) e q among = e ∙ ap Some q
 has_with ns i n p None e q among = absurd (subst (λ (m : Node). IsAmong (parts m) p) (sym q) among)
 
@@ -75,15 +77,24 @@ module _ {S : Type 0} (meaning : S → Meaning) (c : Config S) (f : Frame) where
     stands_here among = part_stands c.units.items c.heap.arena f.tree f.node f.scope n j here.stands.node (found_with (j, Around) among) among
 
     -- the block of a `catch`, in a scope inside the frame's
-    pub caught_here : (x : TextId) (inner : ObjId) → IsAmong (parts n) (j, Caught x) → scope_of c.heap.arena inner ≡ Some f.scope → Stands c.units.items c.heap.arena f.tree j inner 0
+    pub caught_here : (x : TextId) (inner : ObjId) → IsAmong (parts n) (j, Caught x) → scope_of c.heap.arena inner ≡ Some f.scope
+        → Stands c.units.items c.heap.arena f.tree j inner 0
     caught_here x inner among e = caught_stands c.units.items c.heap.arena f.tree f.node f.scope n j x inner here.stands.node (found_with (j, Caught x) among) among e
 
   -- what stands where the frame is run stands there later
   pub stands_later : (new : Config S) (j : NodeId) → Later meaning c new → StandsHere c f j → StandsHere new f j
   stands_later new j l h = subst (λ (us : Vec Program Global). Stands us.items new.heap.arena f.tree j f.scope 0) (sym l.units) (stands_kept c.heap.arena new.heap.arena l.arena c.units.items f.tree j f.scope 0 h)
 
+  -- so does what a point names, and so does a node that may be there
+  pub point_later : (new : Config S) (p : Point) → Later meaning c new → HasPoint c f p → HasPoint new f p
+  point_later new p l h = subst (λ (us : Vec Program Global). PointStands us.items new.heap.arena f.tree f.node f.scope p) (sym l.units) (point_kept c.heap.arena new.heap.arena l.arena c.units.items f.tree f.node f.scope p h)
+
+  pub stands_if_later : (new : Config S) (j : Option NodeId) → Later meaning c new → StandsIf c f j → StandsIf new f j
+  stands_if_later new j l h = subst (λ (us : Vec Program Global). IfStands us.items new.heap.arena f.tree f.node f.scope j) (sym l.units) (if_kept c.heap.arena new.heap.arena l.arena c.units.items f.tree f.node f.scope j h)
+
   -- an element of a function's body that has begun
-  pub element_here : (j : NodeId) → Base meaning c → (s : IsFunction c.units.items c.heap.arena f.tree f.node f.scope 1) → IsAmong (elements_of s.function) j → StandsHere c f j
+  pub element_here : (j : NodeId) → Base meaning c → (s : IsFunction c.units.items c.heap.arena f.tree f.node f.scope 1) → IsAmong (elements_of s.function) j
+      → StandsHere c f j
   element_here j b s among = element_stands c.units.items c.heap.arena f.tree f.node f.scope j s (unit_at (PlacesUnit c.heap.texts) c.units.items f.tree s.stands.unit s.stands.found b.places).script among
 
   -- its node is the frame's

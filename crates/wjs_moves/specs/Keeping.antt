@@ -23,9 +23,11 @@ module _ {S : Type 0} (meaning : S → Meaning) where
     pub free : cost ≡ 0
     pub left : old.left ≡ cost + new.left
     pub alive : ¬ (new.state ≡ states.StepsSpent)
-    pub kept : (v : Outside) → Admits meaning new v → Knows meaning old v → (n : ℕ) → seen (tells meaning old) (rest_with (run_in meaning t old) act (frames_in meaning t old) (state_in meaning t v old) (cost + n)) ≡ rest meaning t v new n
+    pub kept : (v : Outside) → Admits meaning new v → Knows meaning old v → (n : ℕ)
+        → seen (tells meaning old) (rest_with (run_in meaning t old) act (frames_in meaning t old) (state_in meaning t v old) (cost + n)) ≡ rest meaning t v new n
     pub knows : StaysKnown meaning old new
-    pub falls : cost ≡ 0 → (v : Outside) → Admits meaning new v → Knows meaning old v → turns meaning t v new + by ≤ suc (turns_over (run_in meaning t old) act (frames_in meaning t old) (state_in meaning t v old))
+    pub falls : cost ≡ 0 → (v : Outside) → Admits meaning new v → Knows meaning old v
+        → turns meaning t v new + by ≤ suc (turns_over (run_in meaning t old) act (frames_in meaning t old) (state_in meaning t v old))
 
   -- what is kept of nested deeds above the middle one's frames is kept of them, with what follows them, above the old one's
   pub record Opens (t : Table) (go : Completion → Act) (old mid : Config S) : Type 0 where

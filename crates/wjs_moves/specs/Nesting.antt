@@ -10,4 +10,5 @@ use Rattle.wjs_moves.specs.Following.{Follows}
 module _ {S : Type 0} (meaning : S → Meaning) where
   -- what is followed of deeds above the middle one's frames is followed of them, nested, with what comes after them, above the old one's
   pub record Nests (go : Table → Completion → Act) (old mid : Config S) : Type 0 where
-    pub by : (act : Act) (later : Config S) (r : Result (Unit {0}) OutOfMemory) → OnOk r (Follows meaning act mid later) → OnOk r (Follows meaning (Sub act (go later.heap.texts)) old later)
+    pub by : (act : Act) (later : Config S) (r : Result (Unit {0}) OutOfMemory) → OnOk r (Follows meaning act mid later)
+        → OnOk r (Follows meaning (Sub act (go later.heap.texts)) old later)

@@ -8,8 +8,9 @@ use Rattle.wjs_tree.specs.declared.node.Node.TheVariants as nodes
 use Rattle.wjs_store.specs.Meaning.{Meaning}
 use Rattle.wjs_meaning.specs.Reading.{node_in}
 use Rattle.wjs_meaning.specs.Deeds.{Env, Goal, AtExpr, AtTarget, AtStmt, Again, Completion as Said, Act}
-use Rattle.wjs_model.specs.declared.frame.Form.{Form}
-use Rattle.wjs_model.specs.declared.frame.Form.TheVariants as form
+use Rattle.wjs_model.specs.declared.point.Point.{Point}
+use Rattle.wjs_model.specs.declared.point.Start.{Start}
+use Rattle.wjs_model.specs.declared.point.Start.TheVariants as starts
 use Rattle.wjs_model.specs.declared.frame.Phase.TheVariants as phases
 use Rattle.wjs_model.specs.declared.frame.Activation.{Activation as NumberedFrame}
 use Rattle.wjs_model.specs.declared.config.Config.{Config}
@@ -22,9 +23,9 @@ use Rattle.wjs_model.specs.declared.unit.Unit.{Unit as Program}
 use Rattle.wjs_model.specs.Units as program
 use Rattle.wjs_model.specs.Configurations.{run_in}
 use Rattle.wjs_model.specs.Waiting.{after}
-use Rattle.wjs_model.specs.Rest.{begin_form}
-use Rattle.wjs_moves.specs.declared.place.Part.{Part}
-use Rattle.wjs_moves.specs.declared.place.Part.TheVariants as part
+use Rattle.wjs_model.specs.Rest.{begin_at}
+use Rattle.wjs_moves.specs.declared.part.Part.{Part}
+use Rattle.wjs_moves.specs.declared.part.Part.TheVariants as part
 
 -- the goal that a part is
 abbrev pub goal_of : Part → Goal
@@ -33,12 +34,12 @@ goal_of (part.Target e) = AtTarget e.0
 goal_of (part.Stmt s) = AtStmt s.0
 goal_of (part.Again s) = Again s.0
 
--- what its frame runs, at which node and place
-abbrev pub form_of : Part → Form
-form_of (part.Expr e) = form.Expr
-form_of (part.Target e) = form.Target
-form_of (part.Stmt s) = form.Stmt
-form_of (part.Again s) = form.Stmt
+-- what its frame begins with, and at which node
+abbrev pub start_of : Part → Start
+start_of (part.Expr e) = starts.Expr
+start_of (part.Target e) = starts.Target
+start_of (part.Stmt s) = starts.Stmt
+start_of (part.Again s) = starts.Again
 
 abbrev pub node_of : Part → NodeId
 node_of (part.Expr e) = e
@@ -46,13 +47,9 @@ node_of (part.Target e) = e
 node_of (part.Stmt s) = s
 node_of (part.Again s) = s
 
-abbrev pub place_of : Part → ℕ
-place_of (part.Again s) = 1
-place_of _ = 0
-
 -- the frame of a part, with its step due
 abbrev pub due_frame : NumberedFrame → Part → NumberedFrame
-due_frame at p = record { form = form_of p; tree = at.tree; node = node_of p; place = place_of p; phase = phases.Due; scope = at.scope; this = at.this; world = at.world; held = [] }
+due_frame at p = record { tree = at.tree; node = node_of p; phase = phases.Due (start_of p); scope = at.scope; this = at.this; world = at.world; held = [] }
 
 -- how a run ends where no frame is left
 abbrev pub ended : Completion → State
@@ -72,10 +69,10 @@ module _ {S : Type 0} (meaning : S → Meaning) (c : Config S) where
   abbrev pub env_in : Table → NumberedFrame → Env
   env_in t f = env_of (run_in meaning t c) (frame_in t f)
 
-  -- what a frame does with a completion that it waits for at a place
-  abbrev pub then_at : NumberedFrame → ℕ → Table → Env → Said → Act
-  then_at f place t env = after (node_in t (node_now f)) f.form f.node.0 place (holding_in t f.held) env
+  -- what a frame does at a point with the completion that it waited for
+  abbrev pub then_at : NumberedFrame → Point → Table → Env → Said → Act
+  then_at f point t env = after point f.node.0 (node_in t (node_now f)) (holding_in t f.held) env
 
   -- what a frame begins with
-  abbrev pub begins_at : NumberedFrame → ℕ → Table → Env → Act
-  begins_at f place t env = begin_form (node_in t (node_now f)) f.form f.node.0 place (holding_in t f.held) env
+  abbrev pub begins_at : NumberedFrame → Start → Table → Env → Act
+  begins_at f start t env = begin_at start f.node.0 (node_in t (node_now f)) (holding_in t f.held) env

@@ -9,11 +9,10 @@ use Rattle.wjs_model.specs.declared.frame.Activation.{Activation as Frame}
 use Rattle.wjs_model.specs.declared.frame.Phase.{Phase}
 use Rattle.wjs_model.specs.declared.frame.Phase.TheVariants as phases
 use Rattle.wjs_model.specs.Frames.{last}
-use Rattle.wjs_model.specs.Begun.{given_of}
 use Rattle.wjs_model.specs.Contents.{completion_in, operand_in}
 use Rattle.wjs_model.specs.Operands.{with_operand}
 use Rattle.wjs_model.specs.Configurations.{Turned}
-use Rattle.wjs_model.specs.Soundness.{HasCompletion, HasOperand, Sound}
+use Rattle.wjs_model.specs.Soundness.{HasStart, HasPoint, HasCompletion, HasOperand, Sound}
 use Rattle.wjs_moves.specs.declared.take.Top.{Top}
 use Rattle.wjs_moves.specs.declared.take.Top.TheVariants as top
 use Rattle.wjs_moves.specs.Parts.{begins_at, then_at}
@@ -21,8 +20,8 @@ use Rattle.wjs_moves.specs.Handling.{Runs, GoesOn}
 
 -- whether a step is due
 abbrev pub is_due : Option Phase → Bool
-is_due (Some phases.Due) = true
-is_due (Some (phases.Entering o)) = true
+is_due (Some (phases.Due start)) = true
+is_due (Some (phases.Entering point o)) = true
 is_due _ = false
 
 module _ {S : Type 0} (meaning : S → Meaning) where
@@ -40,7 +39,6 @@ module _ {S : Type 0} (meaning : S → Meaning) where
   -- the turn is over for want of steps, or a frame is off with what it does next
   abbrev pub Takes : Config S → Top → Config S → Type 0
   Takes old top.Stops new = Turns old new
-  Takes old (top.Begins f) new = TakesOff f (begins_at meaning new f f.place) old new
-  Takes old (top.Enters f o) new = TakesOff f (λ t env. with_operand (operand_in t o) env (then_at meaning new f f.place t env)) old new × HasOperand new o
-  Takes old (top.Given f) new = TakesOff f (λ t env.
-      then_at meaning new f f.place t env (completion_in t (given_of f.phase))) old new × HasCompletion new (given_of f.phase)
+  Takes old (top.Begins f start) new = TakesOff f (begins_at meaning new f start) old new × HasStart new start
+  Takes old (top.Enters f point o) new = TakesOff f (λ t env. with_operand (operand_in t o) env (then_at meaning new f point t env)) old new × (HasPoint new f point × HasOperand new o)
+  Takes old (top.Given f point e) new = TakesOff f (λ t env. then_at meaning new f point t env (completion_in t e)) old new × (HasPoint new f point × HasCompletion new e)

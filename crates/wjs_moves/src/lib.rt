@@ -11,7 +11,7 @@ mod holds;
 mod laws;
 mod node;
 mod operands;
-mod place;
+mod part;
 mod take;
 mod waits;
 
@@ -24,6 +24,6 @@ pub use laws::{
     nested_ends_shorten, reached_is_reached, shorter_follow, turns_reach,
 };
 pub use node::{node_of, place_at};
-pub use place::Part;
+pub use part::Part;
 pub use take::{Top, take_top};
 pub use waits::{due_later, nest, wait};

@@ -4,7 +4,7 @@ ghost use Rattle.wjs_model.specs.Soundness.{Base, IsThere};
 ghost use Rattle.wjs_moves.specs.Operands.{IsOperand};
 
 use crate::node::{node_among, place_at};
-use crate::place::Part;
+use crate::part::Part;
 use wjs_base::Value;
 use wjs_model::{Config, Frame, Operand};
 use wjs_store::WorldStore;

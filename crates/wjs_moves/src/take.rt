@@ -4,7 +4,7 @@ ghost use Rattle.wjs_model.specs.Frames.{last};
 ghost use Rattle.wjs_model.specs.Soundness.{Sound};
 ghost use Rattle.wjs_moves.specs.Taking.{Takes, is_due};
 
-use wjs_model::{Config, Frame, Operand, Phase, State};
+use wjs_model::{Completion, Config, Frame, Operand, Phase, Point, Start, State};
 use wjs_store::WorldStore;
 
 /// What a turn finds on top.
@@ -12,12 +12,12 @@ use wjs_store::WorldStore;
 pub enum Top {
     /// A step is due and none is left, or there is no frame: the turn is over.
     Stops,
-    /// The frame begins, at its place; the step that was due is taken.
-    Begins(Frame),
-    /// The frame goes on with the completion that it waited for, which it tells.
-    Given(Frame),
-    /// The frame goes on with the completion of an operand, whose step is taken.
-    Enters(Frame, Operand),
+    /// The frame begins with this; the step that was due is taken.
+    Begins(Frame, Start),
+    /// The frame goes on at a point with the completion that it waited for.
+    Given(Frame, Point, Completion),
+    /// The frame goes on at a point with the completion of an operand, whose step is taken.
+    Enters(Frame, Point, Operand),
 }
 
 /// Takes the frame that runs off, with its step where one is due. Without a step left it only says so: nothing else changes.
@@ -50,11 +50,11 @@ fn take_due<S: WorldStore>(config: &mut Config<S>) -> Top
     match config.frames.pop() {
         None => Top::Stops,
         Some(frame) => match frame.phase() {
-            Phase::Due => Top::Begins(frame),
-            Phase::Entering(operand) => Top::Enters(frame, operand),
-            Phase::Ready => Top::Begins(frame),
-            Phase::Waiting => Top::Given(frame),
-            Phase::Given(_) => Top::Given(frame),
+            Phase::Due(start) => Top::Begins(frame, start),
+            Phase::Entering(point, operand) => Top::Enters(frame, point, operand),
+            Phase::Ready(start) => Top::Begins(frame, start),
+            Phase::Waiting(point) => Top::Given(frame, point, Completion::Normal),
+            Phase::Given(point, completion) => Top::Given(frame, point, completion),
         },
     }
 }
@@ -73,11 +73,11 @@ fn take_now<S: WorldStore>(config: &mut Config<S>) -> Top
             Top::Stops
         }
         Some(frame) => match frame.phase() {
-            Phase::Given(_) => Top::Given(frame),
-            Phase::Waiting => Top::Given(frame),
-            Phase::Ready => Top::Begins(frame),
-            Phase::Due => Top::Begins(frame),
-            Phase::Entering(operand) => Top::Enters(frame, operand),
+            Phase::Given(point, completion) => Top::Given(frame, point, completion),
+            Phase::Waiting(point) => Top::Given(frame, point, Completion::Normal),
+            Phase::Ready(start) => Top::Begins(frame, start),
+            Phase::Due(start) => Top::Begins(frame, start),
+            Phase::Entering(point, operand) => Top::Enters(frame, point, operand),
         },
     }
 }
@@ -88,7 +88,7 @@ fn is_due(phase: Option<Phase>) -> bool
     ensures { result ≡ is_due phase }
 {
     match phase {
-        Some(Phase::Due | Phase::Entering(_)) => true,
+        Some(Phase::Due(_) | Phase::Entering(_, _)) => true,
         _ => false,
     }
 }

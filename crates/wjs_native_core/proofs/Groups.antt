@@ -2,12 +2,11 @@
 use Rattle.std.proofs.Common.{◌≡◌, true, refl}
 use Rattle.wjs_arena.specs.declared.native.Native.{Native}
 use Rattle.wjs_arena.specs.declared.native.Native.TheVariants as native
-use Rattle.wjs_model.specs.declared.turn.Turn.TheVariants as turn
-use Rattle.wjs_model.specs.Turns.{turn_of_native}
+use Rattle.wjs_natives.specs.Cores.{is_core}
 use Rattle.wjs_native_core.specs.Groups.{is_error, is_made}
 
 -- past those of Object, and those that call
-pub then_error : (k : Native) → turn_of_native k ≡ turn.CoreNative → (k ≡ native.ObjectConstructor → ⊥) → (k ≡ native.ObjectToString → ⊥) → (k ≡ native.ObjectValueOf → ⊥) → (k ≡ native.HasOwnProperty → ⊥) → (k ≡ native.PropertyIsEnumerable → ⊥) → (k ≡ native.IsPrototypeOf → ⊥) → (k ≡ native.Call → ⊥) → (k ≡ native.Apply → ⊥) → is_error k ≡ true
+pub then_error : (k : Native) → is_core k ≡ true → (k ≡ native.ObjectConstructor → ⊥) → (k ≡ native.ObjectToString → ⊥) → (k ≡ native.ObjectValueOf → ⊥) → (k ≡ native.HasOwnProperty → ⊥) → (k ≡ native.PropertyIsEnumerable → ⊥) → (k ≡ native.IsPrototypeOf → ⊥) → (k ≡ native.Call → ⊥) → (k ≡ native.Apply → ⊥) → is_error k ≡ true
 then_error native.FunctionPrototype e h0 h1 h2 h3 h4 h5 h6 h7 = refl
 then_error native.Print e h0 h1 h2 h3 h4 h5 h6 h7 = absurd (cc)
 then_error native.ParseInt e h0 h1 h2 h3 h4 h5 h6 h7 = absurd (cc)

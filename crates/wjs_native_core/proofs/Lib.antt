@@ -4,4 +4,3 @@ pub mod Looking
 pub mod Listing
 pub mod Applying
 pub mod Telling
-pub mod Running

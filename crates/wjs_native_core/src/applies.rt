@@ -1,21 +1,20 @@
 //! `apply`: the elements of a list are read, one step each, and then the call is made (ECMA-262, 3rd edition, section 15.3.4.3).
-ghost use Rattle.std.specs.Prelude.{◌≡◌, ◌-◌, ◌<◌, All, map};
+ghost use Rattle.std.specs.Prelude.{◌≡◌, ◌-◌, All, map};
 ghost use Rattle.wjs_base.specs.Text.{Table, Grows};
 ghost use Rattle.wjs_content.specs.Tables.{value_in};
 ghost use Rattle.wjs_meaning.specs.NativesOfObjects as line;
 ghost use Rattle.wjs_model.specs.Contents.{holding_in, callee_held, elements_held};
-ghost use Rattle.wjs_model.specs.Rest.{begin_native};
 ghost use Rattle.wjs_model.specs.Soundness.{Base, HasObject, HasValue};
 ghost use Rattle.wjs_native_core.specs.Owning.{apply_elements};
-ghost use Rattle.wjs_moves.specs.Handling.{Runs, GoesOn};
+ghost use Rattle.wjs_moves.specs.Handling.{Runs, GoesOn, Begins};
 
 use crate::items::{elements_for, hold_element};
-use wjs_arena::{Class, Native};
+use wjs_arena::Class;
 use wjs_base::{Name, ObjId, OutOfMemory, Value};
 use wjs_calls::call;
 use wjs_deeds::{Known, class_of, function_of, get_known, get_value};
-use wjs_lines::{held_callee, held_elements, throw, to_number};
-use wjs_model::{Completion, Config, Form, Frame, Trouble};
+use wjs_lines::{held_callee, held_elements, number_after, throw, to_number};
+use wjs_model::{Completion, Config, Frame, Start, Trouble};
 use wjs_moves::{due_later, finish};
 use wjs_natives::value_at;
 use wjs_num::to_uint32;
@@ -29,7 +28,6 @@ pub(crate) fn apply<S: WorldStore>(
     args: &[Value],
 ) -> Result<(), OutOfMemory>
     requires runs { Runs S.meaning config.old frame }
-    requires form { frame.form ≡ Form.Native Native.Apply }
     requires this { HasValue config.old this }
     requires args { All (HasValue config.old) args.now }
     ensures { GoesOn S.meaning frame config.old config.new result (λ t env. line.function_apply (value_in t this) (map (value_in t) args.now) env) }
@@ -57,7 +55,6 @@ fn apply_to<S: WorldStore>(
     list: Value,
 ) -> Result<(), OutOfMemory>
     requires runs { Runs S.meaning config.old frame }
-    requires form { frame.form ≡ Form.Native Native.Apply }
     requires function { HasObject config.old function }
     requires this { HasValue config.old this }
     requires list { HasValue config.old list }
@@ -84,7 +81,6 @@ fn apply_elements<S: WorldStore>(
     object: ObjId,
 ) -> Result<(), OutOfMemory>
     requires runs { Runs S.meaning config.old frame }
-    requires form { frame.form ≡ Form.Native Native.Apply }
     requires function { HasObject config.old function }
     requires this { HasValue config.old this }
     requires object { HasObject config.old object }
@@ -127,7 +123,6 @@ fn apply_rest<S: WorldStore>(
     read: u32,
 ) -> Result<(), OutOfMemory>
     requires runs { Runs S.meaning config.old frame }
-    requires form { frame.form ≡ Form.Native Native.Apply }
     requires function { HasObject config.old function }
     requires this { HasValue config.old this }
     requires callee { callee_held frame.held ≡ (Value.Object function, this) }
@@ -137,30 +132,28 @@ fn apply_rest<S: WorldStore>(
 {
     let (_, count) = frame.elements();
     if read < count {
-        due_later(config, frame, read + 1)
+        due_later(config, frame, Start::ApplyElement(read))
     } else {
         call(config, frame, function, this)
     }
 }
 
-/// Reads the element before the frame's place.
-pub(crate) fn apply_on<S: WorldStore>(
+/// Reads the element of a number.
+pub fn apply_element<S: WorldStore>(
     config: &mut Config<S>,
     mut frame: Frame,
+    at: u32,
 ) -> Result<(), OutOfMemory>
     requires runs { Runs S.meaning config.old frame }
-    requires form { frame.form ≡ Form.Native Native.Apply }
-    requires place { 0 < frame.place }
-    ensures { GoesOn S.meaning frame config.old config.new result (λ t env. begin_native Native.Apply frame.place (holding_in t frame.held) env) }
+    ensures { Begins S.meaning frame (Start.ApplyElement at) config.old config.new result }
 {
+    let read = number_after(at)?;
     let (callee, this) = held_callee(config, &frame);
     let Value::Object(function) = callee else {
         return finish(config, frame, Completion::Normal);
     };
     let (object, count) = held_elements(config, &frame);
-    let name = Name::Index(frame.place() - 1);
-    let value = get_value(config, &frame, object, name)?;
+    let value = get_value(config, &frame, object, Name::Index(at))?;
     hold_element(&mut frame, value, object, count, function, this)?;
-    let read = frame.place();
     apply_rest(config, frame, function, this, read)
 }

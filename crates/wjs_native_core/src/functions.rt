@@ -7,13 +7,13 @@ ghost use Rattle.wjs_meaning.specs.Table.{row_of};
 ghost use Rattle.wjs_model.specs.Soundness.{HasObject, HasValue};
 ghost use Rattle.wjs_moves.specs.Handling.{Runs, GoesOn};
 
-use crate::items::arguments_of;
 use crate::sources::source_of;
 use wjs_base::{ObjId, OutOfMemory, Value};
 use wjs_calls::call_value;
 use wjs_deeds::{code_of, function_of};
 use wjs_lines::{give_text, throw};
 use wjs_model::{Config, Frame, Trouble};
+use wjs_natives::items_of;
 use wjs_store::WorldStore;
 
 /// `toString`: the name of the receiver, which must be a function (section 15.3.4.2).
@@ -79,6 +79,6 @@ fn call_with<S: WorldStore>(
     requires args { All (HasValue config.old) args.now }
     ensures { GoesOn S.meaning frame config.old config.new result (λ t env. call_values (value_in t callee) (value_in t this) env (map (value_in t) args.now)) }
 {
-    frame.set_held(arguments_of(config, args)?);
+    frame.set_held(items_of(config, args)?);
     call_value(config, frame, callee, this)
 }

@@ -1,4 +1,4 @@
-//! The step of the native functions of Object, Function, Error, World and Array (ECMA-262, 3rd edition, sections 15.2 to 15.4 and
+//! The native functions of Object, Function, Error, World and Array (ECMA-262, 3rd edition, sections 15.2 to 15.4 and
 //! 15.11; ECOOP 2011, section 2).
 #![tactic(auto)]
 
@@ -13,7 +13,8 @@ mod names;
 mod objects;
 mod runs;
 mod sources;
-mod step;
+mod turns;
 mod worlds;
 
-pub use step::step_core;
+pub use applies::apply_element;
+pub use turns::{begin_core, resume_core};

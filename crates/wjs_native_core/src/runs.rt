@@ -1,10 +1,9 @@
 //! Which native function runs, after its conversions.
-ghost use Rattle.std.specs.Prelude.{◌≡◌, All, map, true};
+ghost use Rattle.std.specs.Prelude.{◌≡◌, All, Bool, map, true};
 ghost use Rattle.wjs_content.specs.Tables.{value_in};
 ghost use Rattle.wjs_meaning.specs.Natives.{native_line, native_run};
-ghost use Rattle.wjs_model.specs.Contents.{new_held};
 ghost use Rattle.wjs_model.specs.Soundness.{HasValue};
-ghost use Rattle.wjs_model.specs.Turns.{turn_of_native};
+ghost use Rattle.wjs_natives.specs.Cores.{is_core};
 ghost use Rattle.wjs_native_core.specs.Groups.{is_error, is_made};
 ghost use Rattle.wjs_moves.specs.Handling.{Runs, GoesOn};
 
@@ -17,12 +16,12 @@ use crate::worlds::{commit_to_parent, give_child};
 use wjs_arena::Native;
 use wjs_base::{OutOfMemory, Value};
 use wjs_lines::{give, throw};
-use wjs_model::{Completion, Config, Form, Frame, Trouble, Turn};
+use wjs_model::{Completion, Config, Frame, Trouble};
 use wjs_moves::finish;
 use wjs_natives::value_at;
 use wjs_store::WorldStore;
 
-/// Runs a native function on converted values, its receiver first.
+/// Runs a native function on converted values, its receiver first. None of these asks whether `new` calls it.
 pub(crate) fn run<S: WorldStore>(
     config: &mut Config<S>,
     frame: Frame,
@@ -30,10 +29,9 @@ pub(crate) fn run<S: WorldStore>(
     values: &[Value],
 ) -> Result<(), OutOfMemory>
     requires runs { Runs S.meaning config.old frame }
-    requires form { frame.form ≡ Form.Native native }
-    requires turn { turn_of_native native ≡ Turn.CoreNative }
+    requires core { is_core native ≡ true }
     requires values { All (HasValue config.old) values.now }
-    ensures { GoesOn S.meaning frame config.old config.new result (λ t env. native_run native (new_held frame.held) (map (value_in t) values.now) env) }
+    ensures { (by_new : Bool) → GoesOn S.meaning frame config.old config.new result (λ t env. native_run native by_new (map (value_in t) values.now) env) }
 {
     match values.split_first() {
         None => finish(config, frame, Completion::Normal),
@@ -50,12 +48,11 @@ fn run_line<S: WorldStore>(
     args: &[Value],
 ) -> Result<(), OutOfMemory>
     requires runs { Runs S.meaning config.old frame }
-    requires form { frame.form ≡ Form.Native native }
-    requires turn { turn_of_native native ≡ Turn.CoreNative }
+    requires core { is_core native ≡ true }
     requires this { HasValue config.old this }
     requires args { All (HasValue config.old) args.now }
-    ensures { GoesOn S.meaning frame config.old config.new result (λ t env.
-        native_line native (new_held frame.held) (value_in t this) (map (value_in t) args.now) env) }
+    ensures { (by_new : Bool) → GoesOn S.meaning frame config.old config.new result (λ t env.
+        native_line native by_new (value_in t this) (map (value_in t) args.now) env) }
 {
     match native {
         Native::ObjectConstructor => new_object(config, frame, value_at(args, 0)),
@@ -82,8 +79,8 @@ fn run_error<S: WorldStore>(
     requires native { is_error native ≡ true }
     requires this { HasValue config.old this }
     requires args { All (HasValue config.old) args.now }
-    ensures { GoesOn S.meaning frame config.old config.new result (λ t env.
-        native_line native (new_held frame.held) (value_in t this) (map (value_in t) args.now) env) }
+    ensures { (by_new : Bool) → GoesOn S.meaning frame config.old config.new result (λ t env.
+        native_line native by_new (value_in t this) (map (value_in t) args.now) env) }
 {
     match native {
         Native::FunctionConstructor => throw(config, frame, Trouble::NoCodeFromText),
@@ -110,8 +107,8 @@ fn run_made<S: WorldStore>(
     requires native { is_made native ≡ true }
     requires this { HasValue config.old this }
     requires args { All (HasValue config.old) args.now }
-    ensures { GoesOn S.meaning frame config.old config.new result (λ t env.
-        native_line native (new_held frame.held) (value_in t this) (map (value_in t) args.now) env) }
+    ensures { (by_new : Bool) → GoesOn S.meaning frame config.old config.new result (λ t env.
+        native_line native by_new (value_in t this) (map (value_in t) args.now) env) }
 {
     match native {
         Native::WorldConstructor => throw(config, frame, Trouble::NotAConstructor),

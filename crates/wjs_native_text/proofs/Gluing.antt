@@ -8,16 +8,12 @@ use Rattle.wjs_base.specs.declared.ids.ObjId.{ObjId}
 use Rattle.wjs_base.specs.declared.values.Value.{Value as NumberedValue}
 use Rattle.wjs_base.specs.declared.values.Value.TheVariants as values
 use Rattle.wjs_base.specs.Text.{Table}
-use Rattle.wjs_arena.specs.declared.native.Native.TheVariants as native
 use Rattle.wjs_content.specs.Names.{slot, index_name}
 use Rattle.wjs_content.specs.Tables.{value_in}
 use Rattle.wjs_content.specs.Values.{Text, Value, value_or_undefined}
-use Rattle.wjs_meaning.specs.Trees.{Node}
 use Rattle.wjs_meaning.specs.Deeds.{Env, Act, Tick, Do, Read}
 use Rattle.wjs_meaning.specs.NativesOfObjects.{text_of}
 use Rattle.wjs_meaning.specs.NativesOfTexts.{glue_from, glued, joined}
-use Rattle.wjs_model.specs.declared.frame.Form.{Form}
-use Rattle.wjs_model.specs.declared.frame.Form.TheVariants as form
 use Rattle.wjs_model.specs.declared.frame.Activation.{Activation as Frame}
 use Rattle.wjs_model.specs.declared.frame.Held.{Held}
 use Rattle.wjs_model.specs.declared.frame.Held.TheVariants as holds
@@ -27,28 +23,22 @@ use Rattle.wjs_natives.proofs.Waiting.{earliest-map}
 use Rattle.wjs_native_lines.proofs.Joining.{joined-append}
 use Rattle.wjs_model.specs.declared.config.Config.{Config}
 use Rattle.wjs_model.specs.Soundness.{HasValue}
-use Rattle.wjs_model.specs.Rest.{begin_form, begin_native}
+use Rattle.wjs_model.specs.Rest.{glue_next}
 
 -- what is done with the value of a slot
 abbrev pub glue_rest : ℕ → Holding → Env → Value → Act
 glue_rest i held env v = glue_from (held.elements.1 - (i + 1)) (i + 1) (joined (drop 1 (held.values ++ v ∷ []))) (text_of held.value) held.elements.0 env
 
-pub glue_reads : (place i : ℕ) (held : Holding) (env : Env) → place ≡ suc i → Do (Read env.world (slot held.elements.0 (index_name i))) (λ found. glue_rest i held env (value_or_undefined found)) ≡ begin_native native.Glue place held env
-glue_reads place i held env e = ap (λ p. begin_native native.Glue p held env) (sym e)
-
 -- the next slot is read by a step of its own, where what is held then joins the text so far
-glue_due : (t : Table) (held : List Held) (node : Node) (what : Form) (here place i : ℕ) (so_far : Text) (env : Env) → what ≡ form.Native native.Glue → place ≡ suc i → i < (elements_held held).1
+glue_due : (t : Table) (held : List Held) (i : ℕ) (so_far : Text) (env : Env) → i < (elements_held held).1
     → ((w : Value) → joined (drop 1 ((holding_in t held).values ++ w ∷ [])) ≡ glued i so_far (text_of (value_in t (value_held held))) (text_of w))
-    → Tick (begin_form node what here place (holding_in t held) env) ≡ glue_from ((elements_held held).1 - i) i so_far (text_of (value_in t (value_held held))) (elements_held held).0 env
-glue_due t held node what here place i so_far env eo ep less joins =
-    let all = holding_in t held in
+    → Tick (glue_next i (holding_in t held) env) ≡ glue_from ((elements_held held).1 - i) i so_far (text_of (value_in t (value_held held))) (elements_held held).0 env
+glue_due t held i so_far env less joins =
     let o = (elements_held held).0 in
     let left = (elements_held held).1 - (i + 1) in
     let separator = text_of (value_in t (value_held held)) in
     let n : suc left ≡ (elements_held held).1 - i = omega (arith, less) in
-    ap (λ q. Tick (begin_form node q here place all env)) eo
-    ∙ ap (λ p. Tick (begin_native native.Glue p all env)) ep
-    ∙ (λ j. Tick (Do (Read env.world (slot o (index_name i))) (λ found. glue_from left (i + 1) (joins (value_or_undefined found) j) separator o env)))
+    (λ j. Tick (Do (Read env.world (slot o (index_name i))) (λ found. glue_from left (i + 1) (joins (value_or_undefined found) j) separator o env)))
     ∙ ap (λ k. glue_from k i so_far separator o env) n
 
 -- what is held once the object is held over the separator
@@ -61,13 +51,12 @@ held_first frame under f held separator o count e eu none =
     ∙ ap (λ (l : List Held). let all : Frame = record f { held = holds.Elements o count ∷ holds.Value separator ∷ l } in all) none
 
 -- the first slot: nothing but the separator is held
-pub glue_first : (t : Table) (node : Node) (what : Form) (here : ℕ) (separator : NumberedValue) (o : ObjId) (count : ℕ) (env : Env) → what ≡ form.Native native.Glue → ¬ (count ≡ 0)
-    → Tick (begin_form node what here 1 (holding_in t (holds.Elements o count ∷ holds.Value separator ∷ [])) env) ≡ glue_from count 0 [] (text_of (value_in t separator)) o env
-glue_first t node what here separator o count env eo some =
+pub glue_first : (t : Table) (separator : NumberedValue) (o : ObjId) (count : ℕ) (env : Env) → ¬ (count ≡ 0)
+    → Tick (glue_next 0 (holding_in t (holds.Elements o count ∷ holds.Value separator ∷ [])) env) ≡ glue_from count 0 [] (text_of (value_in t separator)) o env
+glue_first t separator o count env some =
     let items = holds.Elements o count ∷ holds.Value separator ∷ [] in
     let all : count - 0 ≡ count = omega arith in
-    let first : 1 ≡ suc 0 = omega arith in
-    glue_due t items node what here 1 0 [] env eo first (omega (arith, some)) (λ w. append-nil (text_of w))
+    glue_due t items 0 [] env (omega (arith, some)) (λ w. append-nil (text_of w))
     ∙ ap (λ k. glue_from k 0 [] (text_of (value_in t separator)) o env) all
 
 -- a further piece, and the separator before it
@@ -81,17 +70,20 @@ joined_more (u ∷ us) v s w =
     ∙ sym (append_assoc (joined read) (text_of s) (text_of w))
 
 -- the slot behind one that was read
-pub glue_onward : (t : Table) (held : List Held) (node : Node) (what : Form) (here place i : ℕ) (piece separator : NumberedValue) (elements : ObjId × ℕ) (env : Env) → what ≡ form.Native native.Glue → place ≡ suc (suc i) → separator ≡ value_held held → elements ≡ elements_held held → suc i < elements.1
-    → Tick (begin_form node what here place (holding_in t (holds.Elements elements.0 elements.1 ∷ holds.Value separator ∷ holds.Value piece ∷ held)) env) ≡ glue_rest i (holding_in t held) env (value_in t piece)
-glue_onward t held node what here place i piece separator elements env eo ep es same less =
+pub glue_onward : (t : Table) (held : List Held) (next i : ℕ) (piece separator : NumberedValue) (elements : ObjId × ℕ) (env : Env) → next ≡ i + 1 → separator ≡ value_held held → elements ≡ elements_held held → next < elements.1
+    → Tick (glue_next next (holding_in t (holds.Elements elements.0 elements.1 ∷ holds.Value separator ∷ holds.Value piece ∷ held)) env) ≡ glue_rest i (holding_in t held) env (value_in t piece)
+glue_onward t held next i piece separator elements env en es same less =
     let now = holds.Elements elements.0 elements.1 ∷ holds.Value separator ∷ holds.Value piece ∷ held in
     let vs = (holding_in t held).values in
     let so_far = joined (drop 1 (vs ++ value_in t piece ∷ [])) in
-    let next : suc i ≡ i + 1 = omega arith in
-    glue_due t now node what here place (suc i) so_far env eo ep less (joined_more vs (value_in t piece) (value_in t separator))
+    let after : next ≡ suc i = omega (arith, en) in
+    let one : suc i ≡ i + 1 = omega arith in
+    let there : suc i < elements.1 = omega (arith, en, less) in
+    ap (λ n. Tick (glue_next n (holding_in t now) env)) after
+    ∙ glue_due t now (suc i) so_far env there (joined_more vs (value_in t piece) (value_in t separator))
     ∙ ap (λ (k : ObjId × ℕ). glue_from (k.1 - suc i) (suc i) so_far (text_of (value_in t separator)) k.0 env) same
     ∙ ap (λ (s : NumberedValue). glue_from ((elements_held held).1 - suc i) (suc i) so_far (text_of (value_in t s)) (elements_held held).0 env) es
-    ∙ ap (λ n. glue_from ((elements_held held).1 - n) n so_far (text_of (value_in t (value_held held))) (elements_held held).0 env) next
+    ∙ ap (λ n. glue_from ((elements_held held).1 - n) n so_far (text_of (value_in t (value_held held))) (elements_held held).0 env) one
 
 pub behind_first : {A : Type 0} (xs : List A) → take (length xs - 1) (drop 1 xs) ≡ drop 1 xs
 behind_first xs = let n = length-drop 1 xs in take_all (length xs - 1) (drop 1 xs) (omega (arith, n))

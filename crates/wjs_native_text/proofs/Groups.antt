@@ -1,13 +1,12 @@
 -- A native that is none of a group is one of the next.
-use Rattle.std.proofs.Common.{◌≡◌, true, refl}
+use Rattle.std.proofs.Common.{◌≡◌, true, false, refl}
 use Rattle.wjs_arena.specs.declared.native.Native.{Native}
 use Rattle.wjs_arena.specs.declared.native.Native.TheVariants as native
-use Rattle.wjs_model.specs.declared.turn.Turn.TheVariants as turn
-use Rattle.wjs_model.specs.Turns.{turn_of_native}
+use Rattle.wjs_natives.specs.Cores.{is_core}
 use Rattle.wjs_native_text.specs.Groups.{is_placed, is_number, is_math}
 
 -- past the global ones and those that make texts
-pub then_placed : (k : Native) → turn_of_native k ≡ turn.TextNative → (k ≡ native.Print → ⊥) → (k ≡ native.ParseInt → ⊥) → (k ≡ native.IsNaN → ⊥) → (k ≡ native.StringConstructor → ⊥) → (k ≡ native.FromCharCode → ⊥) → (k ≡ native.Glue → ⊥) → (k ≡ native.StringToString → ⊥) → (k ≡ native.StringValueOf → ⊥) → is_placed k ≡ true
+pub then_placed : (k : Native) → is_core k ≡ false → (k ≡ native.Print → ⊥) → (k ≡ native.ParseInt → ⊥) → (k ≡ native.IsNaN → ⊥) → (k ≡ native.StringConstructor → ⊥) → (k ≡ native.FromCharCode → ⊥) → (k ≡ native.Glue → ⊥) → (k ≡ native.StringToString → ⊥) → (k ≡ native.StringValueOf → ⊥) → is_placed k ≡ true
 then_placed native.Print e h0 h1 h2 h3 h4 h5 h6 h7 = absurd (h0 refl)
 then_placed native.ParseInt e h0 h1 h2 h3 h4 h5 h6 h7 = absurd (h1 refl)
 then_placed native.IsNaN e h0 h1 h2 h3 h4 h5 h6 h7 = absurd (h2 refl)

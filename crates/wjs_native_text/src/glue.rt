@@ -1,18 +1,16 @@
 //! `String.glue`: the texts in the slots of an object, one step each, with a separator between them.
-ghost use Rattle.std.specs.Prelude.{◌≡◌, ◌∷◌, ◌<◌, OnOk, All, map, false};
+ghost use Rattle.std.specs.Prelude.{◌≡◌, ◌∷◌, OnOk, All, map, false};
 ghost use Rattle.wjs_content.specs.Tables.{value_in};
 ghost use Rattle.wjs_content.specs.Values.{Undefined};
 ghost use Rattle.wjs_meaning.specs.Natives.{native_line};
-ghost use Rattle.wjs_model.specs.Contents.{holding_in};
-ghost use Rattle.wjs_model.specs.Rest.{begin_native};
 ghost use Rattle.wjs_model.specs.Soundness.{HasValue};
-ghost use Rattle.wjs_moves.specs.Handling.{Runs, GoesOn};
+ghost use Rattle.wjs_moves.specs.Handling.{Runs, GoesOn, Begins};
 
 use wjs_arena::Native;
 use wjs_base::{Name, ObjId, OutOfMemory, Value};
 use wjs_deeds::read;
-use wjs_lines::{give_text, held_elements, held_value, throw};
-use wjs_model::{Config, Form, Frame, Held, Trouble};
+use wjs_lines::{give_text, held_elements, held_value, number_after, throw};
+use wjs_model::{Config, Frame, Held, Start, Trouble};
 use wjs_moves::due_later;
 use wjs_native_lines::give_joined;
 use wjs_natives::{value_at, whole_at};
@@ -26,7 +24,6 @@ pub(crate) fn glue<S: WorldStore>(
     args: &[Value],
 ) -> Result<(), OutOfMemory>
     requires runs { Runs S.meaning config.old frame }
-    requires form { frame.form ≡ Form.Native Native.Glue }
     requires args { All (HasValue config.old) args.now }
     ensures { GoesOn S.meaning frame config.old config.new result (λ t env. native_line Native.Glue false Undefined (map (value_in t) args.now) env) }
 {
@@ -39,7 +36,7 @@ pub(crate) fn glue<S: WorldStore>(
     }
     frame.set_held(config.frames.nothing_held());
     hold_separator(&mut frame, value_at(args, 2), object, count)?;
-    due_later(config, frame, 1)
+    due_later(config, frame, Start::GlueElement(0))
 }
 
 /// Holds the separator that stands before the next piece, and then the object, so that no search for these two passes more.
@@ -55,25 +52,23 @@ fn hold_separator(
     frame.hold(Held::Elements(object, count))
 }
 
-/// Reads the slot before the frame's place. The pieces are joined once all are read, so that no text is made in between.
-pub(crate) fn glue_on<S: WorldStore>(
+/// Reads the slot of a number. The pieces are joined once all are read, so that no text is made in between.
+pub fn glue_element<S: WorldStore>(
     config: &mut Config<S>,
     mut frame: Frame,
+    at: u32,
 ) -> Result<(), OutOfMemory>
     requires runs { Runs S.meaning config.old frame }
-    requires form { frame.form ≡ Form.Native Native.Glue }
-    requires place { 0 < frame.place }
-    ensures { GoesOn S.meaning frame config.old config.new result (λ t env. begin_native Native.Glue frame.place (holding_in t frame.held) env) }
+    ensures { Begins S.meaning frame (Start.GlueElement at) config.old config.new result }
 {
+    let next = number_after(at)?;
     let separator = held_value(config, &frame);
     let (object, count) = held_elements(config, &frame);
-    let name = Name::Index(frame.place() - 1);
-    let piece = read(config, &frame, object, name)?;
+    let piece = read(config, &frame, object, Name::Index(at))?;
     frame.hold(Held::Value(piece))?;
-    if frame.place() < count {
+    if next < count {
         hold_separator(&mut frame, separator, object, count)?;
-        let next = frame.place() + 1;
-        return due_later(config, frame, next);
+        return due_later(config, frame, Start::GlueElement(next));
     }
     let values = frame.values(config.heap.arena.allocator())?;
     give_joined(config, frame, &values[1..])

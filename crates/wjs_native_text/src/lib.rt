@@ -1,9 +1,10 @@
-//! The step of the native functions on texts and numbers: print, parseInt, isNaN, and those of String, Number, Boolean and Math
+//! The native functions on texts and numbers: print, parseInt, isNaN, and those of String, Number, Boolean and Math
 //! (ECMA-262, 3rd edition, sections 15.1.2 and 15.5 to 15.8).
 #![tactic(auto)]
 
 mod glue;
 mod runs;
-mod step;
+mod turns;
 
-pub use step::step_text;
+pub use glue::glue_element;
+pub use turns::{begin_text, resume_text};

@@ -1,17 +1,16 @@
 //! Which native function runs, after its conversions.
-ghost use Rattle.std.specs.Prelude.{◌≡◌, All, map, true};
+ghost use Rattle.std.specs.Prelude.{◌≡◌, All, Bool, map, true, false};
 ghost use Rattle.wjs_content.specs.Tables.{value_in};
 ghost use Rattle.wjs_meaning.specs.Natives.{native_line, native_run};
-ghost use Rattle.wjs_model.specs.Contents.{new_held};
 ghost use Rattle.wjs_model.specs.Soundness.{HasValue};
-ghost use Rattle.wjs_model.specs.Turns.{turn_of_native};
+ghost use Rattle.wjs_natives.specs.Cores.{is_core};
 ghost use Rattle.wjs_native_text.specs.Groups.{is_placed, is_number, is_math};
 ghost use Rattle.wjs_moves.specs.Handling.{Runs, GoesOn};
 
 use crate::glue::glue;
 use wjs_arena::Native;
 use wjs_base::{OutOfMemory, Value};
-use wjs_model::{Completion, Config, Form, Frame, Turn};
+use wjs_model::{Completion, Config, Frame};
 use wjs_moves::finish;
 use wjs_native_lines::{
     abs, char_at, char_code_at, concat, from_char_code, give_parts, give_slice, give_substring,
@@ -25,17 +24,17 @@ pub(crate) fn run<S: WorldStore>(
     config: &mut Config<S>,
     frame: Frame,
     native: Native,
+    by_new: bool,
     values: &[Value],
 ) -> Result<(), OutOfMemory>
     requires runs { Runs S.meaning config.old frame }
-    requires form { frame.form ≡ Form.Native native }
-    requires turn { turn_of_native native ≡ Turn.TextNative }
+    requires core { is_core native ≡ false }
     requires values { All (HasValue config.old) values.now }
-    ensures { GoesOn S.meaning frame config.old config.new result (λ t env. native_run native (new_held frame.held) (map (value_in t) values.now) env) }
+    ensures { GoesOn S.meaning frame config.old config.new result (λ t env. native_run native by_new (map (value_in t) values.now) env) }
 {
     match values.split_first() {
         None => finish(config, frame, Completion::Normal),
-        Some((this, args)) => run_line(config, frame, native, *this, args),
+        Some((this, args)) => run_line(config, frame, native, by_new, *this, args),
     }
 }
 
@@ -44,30 +43,27 @@ fn run_line<S: WorldStore>(
     config: &mut Config<S>,
     frame: Frame,
     native: Native,
+    by_new: bool,
     this: Value,
     args: &[Value],
 ) -> Result<(), OutOfMemory>
     requires runs { Runs S.meaning config.old frame }
-    requires form { frame.form ≡ Form.Native native }
-    requires turn { turn_of_native native ≡ Turn.TextNative }
+    requires core { is_core native ≡ false }
     requires this { HasValue config.old this }
     requires args { All (HasValue config.old) args.now }
     ensures { GoesOn S.meaning frame config.old config.new result (λ t env.
-        native_line native (new_held frame.held) (value_in t this) (map (value_in t) args.now) env) }
+        native_line native by_new (value_in t this) (map (value_in t) args.now) env) }
 {
     match native {
         Native::Print => print(config, frame, this, args),
         Native::ParseInt => parse_int(config, frame, this, args),
         Native::IsNaN => is_nan(config, frame, this, args),
-        Native::StringConstructor => {
-            let by_new = frame.by_new();
-            new_string(config, frame, by_new, args)
-        }
+        Native::StringConstructor => new_string(config, frame, by_new, args),
         Native::FromCharCode => from_char_code(config, frame, args),
         Native::Glue => glue(config, frame, args),
         Native::StringToString => own_text(config, frame, this),
         Native::StringValueOf => own_text(config, frame, this),
-        _ => run_placed(config, frame, native, this, args),
+        _ => run_placed(config, frame, native, by_new, this, args),
     }
 }
 
@@ -76,6 +72,7 @@ fn run_placed<S: WorldStore>(
     config: &mut Config<S>,
     frame: Frame,
     native: Native,
+    by_new: bool,
     this: Value,
     args: &[Value],
 ) -> Result<(), OutOfMemory>
@@ -84,7 +81,7 @@ fn run_placed<S: WorldStore>(
     requires this { HasValue config.old this }
     requires args { All (HasValue config.old) args.now }
     ensures { GoesOn S.meaning frame config.old config.new result (λ t env.
-        native_line native (new_held frame.held) (value_in t this) (map (value_in t) args.now) env) }
+        native_line native by_new (value_in t this) (map (value_in t) args.now) env) }
 {
     match native {
         Native::CharAt => char_at(config, frame, this, args),
@@ -95,7 +92,7 @@ fn run_placed<S: WorldStore>(
         Native::Substring => give_substring(config, frame, this, args),
         Native::Slice => give_slice(config, frame, this, args),
         Native::Split => give_parts(config, frame, this, args),
-        _ => run_number(config, frame, native, this, args),
+        _ => run_number(config, frame, native, by_new, this, args),
     }
 }
 
@@ -104,6 +101,7 @@ fn run_number<S: WorldStore>(
     config: &mut Config<S>,
     frame: Frame,
     native: Native,
+    by_new: bool,
     this: Value,
     args: &[Value],
 ) -> Result<(), OutOfMemory>
@@ -112,22 +110,16 @@ fn run_number<S: WorldStore>(
     requires this { HasValue config.old this }
     requires args { All (HasValue config.old) args.now }
     ensures { GoesOn S.meaning frame config.old config.new result (λ t env.
-        native_line native (new_held frame.held) (value_in t this) (map (value_in t) args.now) env) }
+        native_line native by_new (value_in t this) (map (value_in t) args.now) env) }
 {
     match native {
-        Native::NumberConstructor => {
-            let by_new = frame.by_new();
-            new_number(config, frame, by_new, args)
-        }
+        Native::NumberConstructor => new_number(config, frame, by_new, args),
         Native::NumberToString => number_text(config, frame, this, args),
         Native::NumberValueOf => own_number(config, frame, this),
-        Native::BooleanConstructor => {
-            let by_new = frame.by_new();
-            new_boolean(config, frame, by_new, args)
-        }
+        Native::BooleanConstructor => new_boolean(config, frame, by_new, args),
         Native::BooleanToString => truth_text(config, frame, this),
         Native::BooleanValueOf => own_truth(config, frame, this),
-        _ => run_math(config, frame, native, this, args),
+        _ => run_math(config, frame, native, args),
     }
 }
 
@@ -136,15 +128,13 @@ fn run_math<S: WorldStore>(
     config: &mut Config<S>,
     frame: Frame,
     native: Native,
-    this: Value,
     args: &[Value],
 ) -> Result<(), OutOfMemory>
     requires runs { Runs S.meaning config.old frame }
     requires native { is_math native ≡ true }
-    requires this { HasValue config.old this }
     requires args { All (HasValue config.old) args.now }
-    ensures { GoesOn S.meaning frame config.old config.new result (λ t env.
-        native_line native (new_held frame.held) (value_in t this) (map (value_in t) args.now) env) }
+    ensures { (by_new : Bool) (this : Value) → GoesOn S.meaning frame config.old config.new result (λ t env.
+        native_line native by_new (value_in t this) (map (value_in t) args.now) env) }
 {
     match native {
         Native::Abs => abs(config, frame, args),

@@ -1,6 +1,6 @@
 pub mod Tables
 pub mod Holding
-pub mod Frames
 pub mod Pairs
 pub mod Waiting
+pub mod Running
 pub mod Coming

@@ -1,5 +1,5 @@
 -- What a frame that holds the values does with the one that is converted.
-use Rattle.std.proofs.Common.{◌≡◌, ℕ, ◌+◌, ◌-◌, Bool, List, [], ◌∷◌, ◌++◌, length, take, drop, refl, sym, ap, ◌∙◌, arith}
+use Rattle.std.proofs.Common.{◌≡◌, ℕ, ◌+◌, ◌-◌, Bool, List, [], ◌∷◌, ◌++◌, length, take, drop, refl, sym, ap, ◌∙◌}
 use Rattle.std.specs.Prelude.{map}
 use Rattle.std.proofs.lemmas.List.{map-append, length-map}
 use Rattle.wjs_base.specs.declared.values.Value.{Value as NumberedValue}
@@ -7,18 +7,14 @@ use Rattle.wjs_base.specs.Text.{Table}
 use Rattle.wjs_arena.specs.declared.native.Native.{Native}
 use Rattle.wjs_content.specs.Tables.{value_in}
 use Rattle.wjs_content.specs.Values.{Value}
-use Rattle.wjs_tree.specs.declared.node.Node.{Node as NumberedNode}
-use Rattle.wjs_meaning.specs.Reading.{node_in}
 use Rattle.wjs_meaning.specs.Deeds.{Env, Act, Ret, then_value}
 use Rattle.wjs_meaning.specs.Natives.{with_kinds, convert_from, native_of}
-use Rattle.wjs_model.specs.declared.frame.Form.{Form}
-use Rattle.wjs_model.specs.declared.frame.Form.TheVariants as form
 use Rattle.wjs_model.specs.declared.frame.Held.{Held}
 use Rattle.wjs_model.specs.declared.frame.Completion.{Completion as NumberedCompletion}
 use Rattle.wjs_model.specs.declared.frame.Completion.TheVariants as completions
 use Rattle.wjs_model.specs.Frames.{earliest_first}
-use Rattle.wjs_model.specs.Contents.{completion_in, holding_in, values_held, new_held}
-use Rattle.wjs_model.specs.Waiting.{after, after_argument}
+use Rattle.wjs_model.specs.Contents.{completion_in, holding_in, values_held}
+use Rattle.wjs_model.specs.Waiting.{after_argument}
 use Rattle.wjs_natives.specs.Kinds.{conversions}
 use Rattle.wjs_natives.specs.Converting.{placed, converting}
 use Rattle.wjs_natives.proofs.Pairs.{converting_placed}
@@ -37,21 +33,17 @@ argument_at native new vs ws count i at v env ev en ei =
     ∙ converting_placed native new (count - 1) env ws at v
 
 -- the values that are held go on from there
-pub argument_as : (t : Table) (native : Native) (items : List Held) (values : List NumberedValue) (new : Bool) (i at : ℕ) (env : Env) (v : Value) → earliest_first (values_held items) ≡ values → new_held items ≡ new → i ≡ at
-    → after_argument native (holding_in t items) i env v ≡ converting native new (length values - 1) (placed (map (value_in t) values) at v) (at + 1) env
-argument_as t native items values new i at env v said called ei =
+pub argument_as : (t : Table) (native : Native) (new : Bool) (items : List Held) (values : List NumberedValue) (i at : ℕ) (env : Env) (v : Value) → earliest_first (values_held items) ≡ values → i ≡ at
+    → after_argument native new (holding_in t items).values i env v ≡ converting native new (length values - 1) (placed (map (value_in t) values) at v) (at + 1) env
+argument_as t native new items values i at env v said ei =
     let vs = earliest_first (map (value_in t) (values_held items)) in
     let ev : vs ≡ map (value_in t) values = earliest-map (value_in t) (values_held items) ∙ ap (map (value_in t)) said in
-    ap (λ b. convert_from native b (drop (i + 1) (with_kinds (conversions native (length vs - 1)) vs)) (take i vs ++ v ∷ []) env) called
-    ∙ argument_at native new vs (map (value_in t) values) (length values) i at v env ev (length-map values (value_in t)) ei
+    argument_at native new vs (map (value_in t) values) (length values) i at v env ev (length-map values (value_in t)) ei
 
--- a frame that waits at the place
-pub waits_as : (t : Table) (n : NumberedNode) (what : Form) (native : Native) (here place at : ℕ) (items : List Held) (values : List NumberedValue) (new : Bool) (env : Env) → what ≡ form.Native native → place ≡ at + 1 → earliest_first (values_held items) ≡ values → new_held items ≡ new
-    → after (node_in t n) what here place (holding_in t items) env ≡ then_value (λ v. converting native new (length values - 1) (placed (map (value_in t) values) at v) (at + 1) env)
-waits_as t n what native here place at items values new env ef ep said called =
-    let ei : place - 1 ≡ at = omega (arith, ep) in
-    ap (λ q. after (node_in t n) q here place (holding_in t items) env) ef
-    ∙ ap (λ (go : Value → Act). then_value go) (λ j v. argument_as t native items values new (place - 1) at env v said called ei j)
+-- a frame that waits for the value at the place
+pub waits_as : (t : Table) (native : Native) (new : Bool) (i at : ℕ) (items : List Held) (values : List NumberedValue) (env : Env) → i ≡ at → earliest_first (values_held items) ≡ values
+    → then_value (after_argument native new (holding_in t items).values i env) ≡ then_value (λ v. converting native new (length values - 1) (placed (map (value_in t) values) at v) (at + 1) env)
+waits_as t native new i at items values env ei said = ap (λ (go : Value → Act). then_value go) (λ j v. argument_as t native new items values i at env v said ei j)
 
 -- a native function begins with the conversion of the receiver
 pub begins_as : (native : Native) (new : Bool) (given : ℕ) (this : Value) (vs args : List Value) (env : Env) → this ≡ env.this → vs ≡ args → given ≡ length args → converting native new given (this ∷ vs) 0 env ≡ native_of native new args env

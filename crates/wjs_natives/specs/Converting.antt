@@ -11,7 +11,6 @@ use Rattle.wjs_meaning.specs.Deeds.{Env, Act}
 use Rattle.wjs_meaning.specs.Natives.{with_kinds, convert_from, native_run}
 use Rattle.wjs_model.specs.declared.config.Config.{Config}
 use Rattle.wjs_model.specs.declared.frame.Activation.{Activation as Frame}
-use Rattle.wjs_model.specs.Contents.{new_held}
 use Rattle.wjs_model.specs.Soundness.{HasValue}
 use Rattle.wjs_moves.specs.Following.{Follows, Later}
 use Rattle.wjs_moves.specs.Parts.{env_in}
@@ -25,7 +24,7 @@ placed xs at x = if nat_lt at (length xs) then set xs at x else xs ++ x ∷ []
 
 -- with the values before a place converted, `this` first, and those from it on still to be
 abbrev pub converting : Native → Bool → ℕ → List Value → ℕ → Env → Act
-converting native new given values at env = convert_from native new (drop at (with_kinds (conversions native given) values)) (take at values) env
+converting native by_new given values at env = convert_from native by_new (drop at (with_kinds (conversions native given) values)) (take at values) env
 
 module _ {S : Type 0} (meaning : S → Meaning) where
   -- what is followed of the deeds that come after is followed of the deeds before
@@ -33,12 +32,12 @@ module _ {S : Type 0} (meaning : S → Meaning) where
     pub by : (later : Config S) (r : Result (Unit {0}) OutOfMemory) → OnOk r (Follows meaning (after later.heap.texts) mid later) → OnOk r (Follows meaning (before later.heap.texts) old later)
 
   -- all is converted, and the native function runs
-  pub record IsReady (native : Native) (frame : Frame) (deeds : Table → Act) (values : List NumberedValue) (old mid : Config S) : Type 0 where
-    pub comes : ComesTo deeds (λ t. native_run native (new_held frame.held) (each (value_in t) values) (env_in meaning mid t frame)) old mid
+  pub record IsReady (native : Native) (by_new : Bool) (frame : Frame) (deeds : Table → Act) (values : List NumberedValue) (old mid : Config S) : Type 0 where
+    pub comes : ComesTo deeds (λ t. native_run native by_new (each (value_in t) values) (env_in meaning mid t frame)) old mid
     pub later : Later meaning old mid
     pub found : All (HasValue mid) values
 
   -- the turn is over, or the native function runs
-  abbrev pub Progresses : Native → Frame → (Table → Act) → Progress → Config S → Config S → Type 0
-  Progresses native frame deeds progress.Over old new = Follows meaning (deeds new.heap.texts) old new
-  Progresses native frame deeds (progress.Runs same values) old new = (same ≡ frame) × IsReady native frame deeds values.items old new
+  abbrev pub Progresses : Native → Bool → Frame → (Table → Act) → Progress → Config S → Config S → Type 0
+  Progresses native by_new frame deeds progress.Over old new = Follows meaning (deeds new.heap.texts) old new
+  Progresses native by_new frame deeds (progress.Runs same values) old new = (same ≡ frame) × IsReady native by_new frame deeds values.items old new

@@ -5,7 +5,7 @@ use Rattle.wjs_base.specs.declared.values.Value.TheVariants as values
 use Rattle.wjs_arena.specs.declared.native.Native.{Native}
 use Rattle.wjs_arena.specs.declared.native.Native.TheVariants.{Print, ParseInt, IsNaN, ObjectConstructor, HasOwnProperty, PropertyIsEnumerable, IsPrototypeOf, Call, Apply, ErrorConstructor, TypeErrorConstructor, RangeErrorConstructor, ReferenceErrorConstructor, ArrayConstructor, IsArray, StringConstructor, FromCharCode, Glue, CharAt, CharCodeAt, Concat, IndexOf, LastIndexOf, Substring, Slice, Split, NumberConstructor, NumberToString, BooleanConstructor, Abs, Floor, Ceil, Round, Max, Min, Pow}
 use Rattle.wjs_meaning.specs.Natives.{Kind, A, T, N, I, T?, N?, I?, kind_of_this, kinds, where_given}
-use Rattle.wjs_model.specs.declared.frame.Conversion.{Conversion}
+use Rattle.wjs_model.specs.declared.point.Conversion.{Conversion}
 use Rattle.wjs_natives.specs.declared.kinds.Kind.{Kind as KindOfCode}
 use Rattle.wjs_natives.specs.declared.kinds.Kind.TheVariants as kind
 use Rattle.wjs_natives.specs.declared.kinds.Kinds.{Kinds}

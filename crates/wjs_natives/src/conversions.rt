@@ -9,7 +9,6 @@ ghost use Rattle.wjs_model.specs.Rest.{begin_conversion};
 ghost use Rattle.wjs_moves.specs.Doing.{Does};
 ghost use Rattle.wjs_moves.specs.Shortening.{Shortens};
 ghost use Rattle.wjs_heap.specs.Means.{nothing};
-ghost use Rattle.wjs_model.specs.Contents.{new_held};
 ghost use Rattle.wjs_model.specs.Soundness.{Base, HasValue};
 ghost use Rattle.wjs_moves.specs.Parts.{env_in};
 ghost use Rattle.wjs_moves.specs.Following.{Later};
@@ -23,7 +22,8 @@ use crate::kinds::{Kind, conversion_of, kind_at};
 use crate::primitives::convert_primitive;
 use wjs_arena::Native;
 use wjs_base::{OutOfMemory, Value};
-use wjs_model::{Config, Conversion, Form, Frame};
+use wjs_lines::number_of;
+use wjs_model::{Config, Conversion, Frame, Point};
 use wjs_moves::convert;
 use wjs_store::WorldStore;
 
@@ -41,17 +41,17 @@ pub(crate) fn convert_rest<S: WorldStore>(
     config: &mut Config<S>,
     frame: Frame,
     native: Native,
+    by_new: bool,
     mut values: Vec<Value>,
     given: usize,
     mut at: usize,
 ) -> Result<Progress, OutOfMemory>
     requires runs { Runs S.meaning config.old frame }
-    requires form { frame.form ≡ Form.Native native }
     requires values { All (HasValue config.old) values.items }
     requires given { at < length values.items → length values.items ≡ given + 1 }
     requires short { given < 2 ^ 63 }
-    ensures { IfOk result (λ progress. Progresses S.meaning native frame
-        (λ t. converting native (new_held frame.held) given (map (value_in t) values.items) at
+    ensures { IfOk result (λ progress. Progresses S.meaning native by_new frame
+        (λ t. converting native by_new given (map (value_in t) values.items) at
         (env_in S.meaning config.old t frame)) progress config.old config.new) }
 {
     'values: while let Some(kind) = kind_at(native, given, at) {
@@ -59,7 +59,7 @@ pub(crate) fn convert_rest<S: WorldStore>(
         match convert_now(config, kind, value)? {
             Ok(converted) => put(&mut values, at, converted)?,
             Err(conversion) => {
-                wait_for(config, frame, native, &values, at, conversion)?;
+                wait_for(config, frame, native, by_new, &values, at, conversion)?;
                 return Ok(Progress::Over);
             }
         }
@@ -110,29 +110,31 @@ pub(crate) fn put(values: &mut Vec<Value>, at: usize, value: Value) -> Result<()
     }
 }
 
-/// The frame waits while the value at a place is converted, and holds all values. No list in memory is so long that a place
-/// has no number.
+/// The frame waits while the value at a place is converted, and holds all values.
 fn wait_for<S: WorldStore>(
     config: &mut Config<S>,
     mut frame: Frame,
     native: Native,
+    by_new: bool,
     values: &[Value],
     at: usize,
     conversion: Conversion,
 ) -> Result<(), OutOfMemory>
     requires runs { Runs S.meaning config.old frame }
-    requires form { frame.form ≡ Form.Native native }
     requires values { All (HasValue config.old) values.now }
     requires at { at < length values.now }
     ensures { GoesOn S.meaning frame config.old config.new result (λ t env.
         Sub (begin_conversion conversion (value_in t (slice_index_or values.now at Value.Undefined)) env)
-        (then_value (λ v. converting native (new_held frame.held) (length values.now - 1) (placed (map (value_in t) values.now) at v) (at + 1) env))) }
+        (then_value (λ v. converting native by_new (length values.now - 1) (placed (map (value_in t) values.now) at v) (at + 1) env))) }
 {
-    let Ok(place) = u32::try_from(at + 1) else {
-        return Err(OutOfMemory);
-    };
+    let number = number_of(at)?;
     let value = values[at];
-    let by_new = frame.by_new();
-    frame.set_held(items_of(config, values, by_new)?);
-    convert(config, frame, place, conversion, value)
+    frame.set_held(items_of(config, values)?);
+    convert(
+        config,
+        frame,
+        Point::Native(native, by_new, number),
+        conversion,
+        value,
+    )
 }

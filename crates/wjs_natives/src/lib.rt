@@ -4,6 +4,7 @@
 
 mod arguments;
 mod conversions;
+mod cores;
 mod items;
 mod kinds;
 mod primitives;
@@ -11,4 +12,6 @@ mod turns;
 
 pub use arguments::{number_of, text_at, text_of, value_at, whole_at};
 pub use conversions::Progress;
+pub use cores::is_core;
+pub use items::items_of;
 pub use turns::{begin, resume};

@@ -1,5 +1,5 @@
 //! A turn of a native function, up to where it runs.
-ghost use Rattle.std.specs.Prelude.{◌≡◌, ◌-◌, ◌∷◌, IfOk};
+ghost use Rattle.std.specs.Prelude.{◌≡◌, ◌∷◌, IfOk};
 ghost use Rattle.wjs_content.specs.Tables.{value_in};
 ghost use Rattle.wjs_meaning.specs.Deeds.{then_value};
 ghost use Rattle.wjs_meaning.specs.Natives.{native_of};
@@ -13,7 +13,7 @@ ghost use Rattle.wjs_moves.specs.Handling.{Runs};
 use crate::conversions::{Progress, convert_rest, put};
 use wjs_arena::Native;
 use wjs_base::{OutOfMemory, Value};
-use wjs_model::{Completion, Config, Form, Frame};
+use wjs_model::{Completion, Config, Frame};
 use wjs_moves::finish;
 use wjs_store::WorldStore;
 
@@ -22,17 +22,17 @@ pub fn begin<S: WorldStore>(
     config: &mut Config<S>,
     frame: Frame,
     native: Native,
+    by_new: bool,
 ) -> Result<Progress, OutOfMemory>
     requires runs { Runs S.meaning config.old frame }
-    requires form { frame.form ≡ Form.Native native }
-    ensures { IfOk result (λ progress. Progresses S.meaning native frame
-        (λ t. native_of native (holding_in t frame.held).by_new (holding_in t frame.held).values
+    ensures { IfOk result (λ progress. Progresses S.meaning native by_new frame
+        (λ t. native_of native by_new (holding_in t frame.held).values
         (env_in S.meaning config.old t frame)) progress config.old config.new) }
 {
     let args = frame.values(config.heap.arena.allocator())?;
     let given = args.len();
     let values = with_receiver(frame.this(), args)?;
-    convert_rest(config, frame, native, values, given, 0)
+    convert_rest(config, frame, native, by_new, values, given, 0)
 }
 
 /// The receiver, and then the arguments.
@@ -45,25 +45,26 @@ fn with_receiver(this: Value, mut args: Vec<Value>) -> Result<Vec<Value>, OutOfM
     }
 }
 
-/// Goes on after the conversion of the value before the frame's place; a completion of another kind ends the function.
+/// Goes on after the conversion of the value of a number, the receiver's being 0; a completion of another kind ends the function.
 pub fn resume<S: WorldStore>(
     config: &mut Config<S>,
     frame: Frame,
     native: Native,
+    by_new: bool,
+    at: u32,
     completion: Completion,
 ) -> Result<Progress, OutOfMemory>
     requires runs { Runs S.meaning config.old frame }
-    requires form { frame.form ≡ Form.Native native }
     requires completion { HasCompletion config.old completion }
-    ensures { IfOk result (λ progress. Progresses S.meaning native frame
-        (λ t. then_value (after_argument native (holding_in t frame.held) (frame.place - 1) (env_in S.meaning config.old t frame))
+    ensures { IfOk result (λ progress. Progresses S.meaning native by_new frame
+        (λ t. then_value (after_argument native by_new (holding_in t frame.held).values at (env_in S.meaning config.old t frame))
         (completion_in t completion)) progress config.old config.new) }
 {
     let Completion::Gives(value) = completion else {
         finish(config, frame, completion)?;
         return Ok(Progress::Over);
     };
-    resume_with(config, frame, native, value)
+    resume_with(config, frame, native, by_new, at, value)
 }
 
 /// Goes on with the converted value.
@@ -71,18 +72,19 @@ fn resume_with<S: WorldStore>(
     config: &mut Config<S>,
     frame: Frame,
     native: Native,
+    by_new: bool,
+    at: u32,
     value: Value,
 ) -> Result<Progress, OutOfMemory>
     requires runs { Runs S.meaning config.old frame }
-    requires form { frame.form ≡ Form.Native native }
     requires value { HasValue config.old value }
-    ensures { IfOk result (λ progress. Progresses S.meaning native frame
-        (λ t. after_argument native (holding_in t frame.held) (frame.place - 1) (env_in S.meaning config.old t frame)
+    ensures { IfOk result (λ progress. Progresses S.meaning native by_new frame
+        (λ t. after_argument native by_new (holding_in t frame.held).values at (env_in S.meaning config.old t frame)
         (value_in t value)) progress config.old config.new) }
 {
     let mut values = frame.values(config.heap.arena.allocator())?;
     let given = values.len().saturating_sub(1);
-    let at = (frame.place() as usize).saturating_sub(1);
+    let at = at as usize;
     put(&mut values, at, value)?;
-    convert_rest(config, frame, native, values, given, at + 1)
+    convert_rest(config, frame, native, by_new, values, given, at + 1)
 }

@@ -1,5 +1,5 @@
 -- The lines of operators with two primitives (ECMA-262, 3rd edition, sections 11.5 to 11.10).
-use Rattle.std.proofs.Common.{◌≡◌, ℕ, zero, suc, Bool, true, false, Result, Ok, refl, sym, ap, ◌∙◌, subst, arith}
+use Rattle.std.proofs.Common.{◌≡◌, ℕ, Bool, true, false, Result, Ok, refl, sym, ap, subst}
 use Rattle.wjs_base.specs.declared.number.Whole.{Whole as NumberedWhole}
 use Rattle.wjs_base.specs.declared.values.Value.{Value as NumberedValue}
 use Rattle.wjs_base.specs.declared.values.Value.TheVariants as values
@@ -17,8 +17,7 @@ use Rattle.wjs_meaning.specs.Conversions.{HintNumber}
 use Rattle.wjs_meaning.specs.NativesOfObjects.{whole_of}
 use Rattle.wjs_meaning.specs.Expressions.{binary_left, binary_right}
 use Rattle.wjs_meaning.specs.Operators.{arithmetic, operate, arithmetic_values, arithmetic_first, arithmetic_second, add_values, add_first, add_second, compare_values, compare_first, compare_second, equal_primitive, equal_values}
-use Rattle.wjs_model.specs.Contents.{Holding}
-use Rattle.wjs_model.specs.Waiting.{after_operand}
+use Rattle.wjs_model.specs.Waiting.{operand_first, operand_second}
 use Rattle.wjs_moves.specs.Shortening.{Shortens}
 use Rattle.wjs_moves.proofs.Shorter.{shorten_trans}
 use Rattle.wjs_operators.specs.Operating.{is_comparison, is_arithmetic, is_calculation, equality, tells, equal_with}
@@ -33,61 +32,77 @@ add_shortens a b env p q = shorten_trans _ _ _ (primitive_shortens HintNumber a 
 pub compare_shortens : (op : BinaryOperator) (a b : Value) (env : Env) → is_object a ≡ false → is_object b ≡ false → Shortens (compare_values op a b env) (compare_second op a b)
 compare_shortens op a b env p q = shorten_trans _ _ _ (primitive_shortens HintNumber a env (compare_first op b env) p) (primitive_shortens HintNumber b env (compare_second op a) q)
 
--- what waits at the places of conversions
+-- none of the operators whose operands are converted in another way
+pub record IsNumeric (op : BinaryOperator) : Type 0 where
+  pub add : op ≡ binary.Add → ⊥
+  pub less : op ≡ binary.Less → ⊥
+  pub greater : op ≡ binary.Greater → ⊥
+  pub less_equal : op ≡ binary.LessEqual → ⊥
+  pub greater_equal : op ≡ binary.GreaterEqual → ⊥
+  pub equal : op ≡ binary.Equal → ⊥
+  pub not_equal : op ≡ binary.NotEqual → ⊥
+  pub among : op ≡ binary.In → ⊥
 
-pub arithmetic_left : (op : BinaryOperator) (held : Holding) (env : Env) → is_arithmetic op ≡ true → after_operand op 3 held env ≡ then_number (arithmetic_first op held.value env)
-arithmetic_left binary.Multiply held env k = refl
-arithmetic_left binary.Divide held env k = refl
-arithmetic_left binary.Remainder held env k = refl
-arithmetic_left binary.Subtract held env k = refl
-arithmetic_left binary.ShiftLeft held env k = refl
-arithmetic_left binary.ShiftRight held env k = refl
-arithmetic_left binary.ShiftRightUnsigned held env k = refl
-arithmetic_left binary.BitAnd held env k = refl
-arithmetic_left binary.BitXor held env k = refl
-arithmetic_left binary.BitOr held env k = refl
-arithmetic_left binary.And held env k = refl
-arithmetic_left binary.Or held env k = refl
-arithmetic_left binary.Instanceof held env k = refl
-arithmetic_left binary.StrictEqual held env k = refl
-arithmetic_left binary.StrictNotEqual held env k = refl
-arithmetic_left _ held env k = absurd cc
+numeric_is : (op : BinaryOperator) → IsNumeric op → is_arithmetic op ≡ true
+numeric_is binary.Add n = absurd (n.add refl)
+numeric_is binary.Less n = absurd (n.less refl)
+numeric_is binary.Greater n = absurd (n.greater refl)
+numeric_is binary.LessEqual n = absurd (n.less_equal refl)
+numeric_is binary.GreaterEqual n = absurd (n.greater_equal refl)
+numeric_is binary.Equal n = absurd (n.equal refl)
+numeric_is binary.NotEqual n = absurd (n.not_equal refl)
+numeric_is binary.In n = absurd (n.among refl)
+numeric_is op n = refl
 
-pub arithmetic_right : (op : BinaryOperator) (held : Holding) (env : Env) → is_arithmetic op ≡ true → after_operand op 4 held env ≡ then_number (arithmetic_second op (whole_of held.value) env)
-arithmetic_right binary.Multiply held env k = refl
-arithmetic_right binary.Divide held env k = refl
-arithmetic_right binary.Remainder held env k = refl
-arithmetic_right binary.Subtract held env k = refl
-arithmetic_right binary.ShiftLeft held env k = refl
-arithmetic_right binary.ShiftRight held env k = refl
-arithmetic_right binary.ShiftRightUnsigned held env k = refl
-arithmetic_right binary.BitAnd held env k = refl
-arithmetic_right binary.BitXor held env k = refl
-arithmetic_right binary.BitOr held env k = refl
-arithmetic_right binary.And held env k = refl
-arithmetic_right binary.Or held env k = refl
-arithmetic_right binary.Instanceof held env k = refl
-arithmetic_right binary.StrictEqual held env k = refl
-arithmetic_right binary.StrictNotEqual held env k = refl
-arithmetic_right _ held env k = absurd cc
+-- what waits for the conversion of the first operand, and of the second
 
-pub comparison_left : (op : BinaryOperator) (held : Holding) (env : Env) → is_comparison op ≡ true → after_operand op 3 held env ≡ then_value (compare_first op held.value env)
-comparison_left binary.Less held env k = refl
-comparison_left binary.Greater held env k = refl
-comparison_left binary.LessEqual held env k = refl
-comparison_left binary.GreaterEqual held env k = refl
-comparison_left _ held env k = absurd cc
+pub first_arithmetic : (op : BinaryOperator) (v : Value) (env : Env) → is_arithmetic op ≡ true → operand_first op v env ≡ then_number (arithmetic_first op v env)
+first_arithmetic binary.Add v env k = absurd cc
+first_arithmetic binary.Less v env k = absurd cc
+first_arithmetic binary.Greater v env k = absurd cc
+first_arithmetic binary.LessEqual v env k = absurd cc
+first_arithmetic binary.GreaterEqual v env k = absurd cc
+first_arithmetic binary.Equal v env k = absurd cc
+first_arithmetic binary.NotEqual v env k = absurd cc
+first_arithmetic binary.In v env k = absurd cc
+first_arithmetic op v env k = refl
 
-pub comparison_right : (op : BinaryOperator) (held : Holding) (env : Env) → is_comparison op ≡ true → after_operand op 4 held env ≡ then_value (compare_second op held.value)
-comparison_right binary.Less held env k = refl
-comparison_right binary.Greater held env k = refl
-comparison_right binary.LessEqual held env k = refl
-comparison_right binary.GreaterEqual held env k = refl
-comparison_right _ held env k = absurd cc
+pub second_arithmetic : (op : BinaryOperator) (v : Value) (env : Env) → is_arithmetic op ≡ true → operand_second op v env ≡ then_number (arithmetic_second op (whole_of v) env)
+second_arithmetic binary.Add v env k = absurd cc
+second_arithmetic binary.Less v env k = absurd cc
+second_arithmetic binary.Greater v env k = absurd cc
+second_arithmetic binary.LessEqual v env k = absurd cc
+second_arithmetic binary.GreaterEqual v env k = absurd cc
+second_arithmetic binary.Equal v env k = absurd cc
+second_arithmetic binary.NotEqual v env k = absurd cc
+second_arithmetic binary.In v env k = absurd cc
+second_arithmetic op v env k = refl
 
-pub equality_left : (negated : Bool) (held : Holding) (env : Env) → after_operand (equality negated) 3 held env ≡ then_value (equal_primitive held.value (tells negated))
-equality_left true held env = refl
-equality_left false held env = refl
+pub first_comparison : (op : BinaryOperator) (v : Value) (env : Env) → is_comparison op ≡ true → operand_first op v env ≡ then_value (compare_first op v env)
+first_comparison binary.Less v env k = refl
+first_comparison binary.Greater v env k = refl
+first_comparison binary.LessEqual v env k = refl
+first_comparison binary.GreaterEqual v env k = refl
+first_comparison _ v env k = absurd cc
+
+pub second_comparison : (op : BinaryOperator) (v : Value) (env : Env) → is_comparison op ≡ true → operand_second op v env ≡ then_value (compare_second op v)
+second_comparison binary.Less v env k = refl
+second_comparison binary.Greater v env k = refl
+second_comparison binary.LessEqual v env k = refl
+second_comparison binary.GreaterEqual v env k = refl
+second_comparison _ v env k = absurd cc
+
+pub first_equality : (negated : Bool) (v : Value) (env : Env) → operand_first (equality negated) v env ≡ then_value (equal_primitive v (tells negated))
+first_equality true v env = refl
+first_equality false v env = refl
+
+-- an operator that has no row of its own there
+module _ (v : Value) (env : Env) (e : Completion) where
+  pub first_calculates : (op : BinaryOperator) → IsNumeric op → then_number (arithmetic_first op v env) e ≡ operand_first op v env e
+  first_calculates op n = ap (λ (go : Completion → Act). go e) (sym (first_arithmetic op v env (numeric_is op n)))
+
+  pub second_calculates : (op : BinaryOperator) → IsNumeric op → then_number (arithmetic_second op (whole_of v) env) e ≡ operand_second op v env e
+  second_calculates op n = ap (λ (go : Completion → Act). go e) (sym (second_arithmetic op v env (numeric_is op n)))
 
 -- an object against an object, and against another value
 pub equal_both : (a b : Value) (env : Env) (go : Bool → Act) → is_object a ≡ true → is_object b ≡ true → equal_values a b env go ≡ go (strictly_equal a b)
@@ -116,44 +131,6 @@ equal_neither (Object o) b env go h k = absurd cc
 equal_neither a (Object o) env go h k = absurd cc
 equal_neither a b env go h k = refl
 
--- ---- places past the conversion of the left value
-
--- what two families are at every place but 3
-past : (f g : ℕ → Completion → Act) → f 0 ≡ g 0 → f 1 ≡ g 1 → f 2 ≡ g 2 → ((k : ℕ) → f (suc (suc (suc (suc k)))) ≡ g (suc (suc (suc (suc k))))) → (p : ℕ) → (p ≡ 3 → ⊥) → f p ≡ g p
-past f g a b c d zero n = a
-past f g a b c d (suc zero) n = b
-past f g a b c d (suc (suc zero)) n = c
-past f g a b c d (suc (suc (suc zero))) n = absurd (n refl)
-past f g a b c d (suc (suc (suc (suc k)))) n = d k
-
-pub add_past : (p : ℕ) (held : Holding) (env : Env) → (p ≡ 3 → ⊥) → after_operand binary.Add p held env ≡ then_value (add_second held.value env)
-add_past p held env n = past (λ q. after_operand binary.Add q held env) (λ q. then_value (add_second held.value env)) refl refl refl (λ k. refl) p n
-
-pub comparison_past : (op : BinaryOperator) (p : ℕ) (held : Holding) (env : Env) → is_comparison op ≡ true → (p ≡ 3 → ⊥) → after_operand op p held env ≡ then_value (compare_second op held.value)
-comparison_past binary.Less p held env k n = past (λ q. after_operand binary.Less q held env) (λ q. then_value (compare_second binary.Less held.value)) refl refl refl (λ k. refl) p n
-comparison_past binary.Greater p held env k n = past (λ q. after_operand binary.Greater q held env) (λ q. then_value (compare_second binary.Greater held.value)) refl refl refl (λ k. refl) p n
-comparison_past binary.LessEqual p held env k n = past (λ q. after_operand binary.LessEqual q held env) (λ q. then_value (compare_second binary.LessEqual held.value)) refl refl refl (λ k. refl) p n
-comparison_past binary.GreaterEqual p held env k n = past (λ q. after_operand binary.GreaterEqual q held env) (λ q. then_value (compare_second binary.GreaterEqual held.value)) refl refl refl (λ k. refl) p n
-comparison_past _ p held env k n = absurd cc
-
-pub arithmetic_past : (op : BinaryOperator) (p : ℕ) (held : Holding) (env : Env) → is_arithmetic op ≡ true → (p ≡ 3 → ⊥) → after_operand op p held env ≡ then_number (arithmetic_second op (whole_of held.value) env)
-arithmetic_past binary.Multiply p held env k n = past (λ q. after_operand binary.Multiply q held env) (λ q. then_number (arithmetic_second binary.Multiply (whole_of held.value) env)) refl refl refl (λ k. refl) p n
-arithmetic_past binary.Divide p held env k n = past (λ q. after_operand binary.Divide q held env) (λ q. then_number (arithmetic_second binary.Divide (whole_of held.value) env)) refl refl refl (λ k. refl) p n
-arithmetic_past binary.Remainder p held env k n = past (λ q. after_operand binary.Remainder q held env) (λ q. then_number (arithmetic_second binary.Remainder (whole_of held.value) env)) refl refl refl (λ k. refl) p n
-arithmetic_past binary.Subtract p held env k n = past (λ q. after_operand binary.Subtract q held env) (λ q. then_number (arithmetic_second binary.Subtract (whole_of held.value) env)) refl refl refl (λ k. refl) p n
-arithmetic_past binary.ShiftLeft p held env k n = past (λ q. after_operand binary.ShiftLeft q held env) (λ q. then_number (arithmetic_second binary.ShiftLeft (whole_of held.value) env)) refl refl refl (λ k. refl) p n
-arithmetic_past binary.ShiftRight p held env k n = past (λ q. after_operand binary.ShiftRight q held env) (λ q. then_number (arithmetic_second binary.ShiftRight (whole_of held.value) env)) refl refl refl (λ k. refl) p n
-arithmetic_past binary.ShiftRightUnsigned p held env k n = past (λ q. after_operand binary.ShiftRightUnsigned q held env) (λ q. then_number (arithmetic_second binary.ShiftRightUnsigned (whole_of held.value) env)) refl refl refl (λ k. refl) p n
-arithmetic_past binary.BitAnd p held env k n = past (λ q. after_operand binary.BitAnd q held env) (λ q. then_number (arithmetic_second binary.BitAnd (whole_of held.value) env)) refl refl refl (λ k. refl) p n
-arithmetic_past binary.BitXor p held env k n = past (λ q. after_operand binary.BitXor q held env) (λ q. then_number (arithmetic_second binary.BitXor (whole_of held.value) env)) refl refl refl (λ k. refl) p n
-arithmetic_past binary.BitOr p held env k n = past (λ q. after_operand binary.BitOr q held env) (λ q. then_number (arithmetic_second binary.BitOr (whole_of held.value) env)) refl refl refl (λ k. refl) p n
-arithmetic_past binary.And p held env k n = past (λ q. after_operand binary.And q held env) (λ q. then_number (arithmetic_second binary.And (whole_of held.value) env)) refl refl refl (λ k. refl) p n
-arithmetic_past binary.Or p held env k n = past (λ q. after_operand binary.Or q held env) (λ q. then_number (arithmetic_second binary.Or (whole_of held.value) env)) refl refl refl (λ k. refl) p n
-arithmetic_past binary.Instanceof p held env k n = past (λ q. after_operand binary.Instanceof q held env) (λ q. then_number (arithmetic_second binary.Instanceof (whole_of held.value) env)) refl refl refl (λ k. refl) p n
-arithmetic_past binary.StrictEqual p held env k n = past (λ q. after_operand binary.StrictEqual q held env) (λ q. then_number (arithmetic_second binary.StrictEqual (whole_of held.value) env)) refl refl refl (λ k. refl) p n
-arithmetic_past binary.StrictNotEqual p held env k n = past (λ q. after_operand binary.StrictNotEqual q held env) (λ q. then_number (arithmetic_second binary.StrictNotEqual (whole_of held.value) env)) refl refl refl (λ k. refl) p n
-arithmetic_past _ p held env k n = absurd cc
-
 -- ---- what waits for a number
 
 -- a value that is none passes
@@ -164,10 +141,6 @@ number_passes go t (values.Bool b) n = refl
 number_passes go t (values.Number x) n = absurd (n x refl)
 number_passes go t (values.Text id) n = refl
 number_passes go t (values.Object o) n = refl
-
-pub arithmetic_passes : (op : BinaryOperator) (place : ℕ) (held : Holding) (env : Env) (t : Table) (v : NumberedValue) → is_arithmetic op ≡ true → ((x : NumberedWhole) → v ≡ values.Number x → ⊥) → Ret (Gives (value_in t v)) ≡ after_operand op place held env (Gives (value_in t v))
-arithmetic_passes op (suc (suc (suc zero))) held env t v k n = number_passes (arithmetic_first op held.value env) t v n ∙ sym (ap (λ (f : Completion → Act). f (Gives (value_in t v))) (arithmetic_left op held env k))
-arithmetic_passes op place held env t v k n = number_passes (arithmetic_second op (whole_of held.value) env) t v n ∙ sym (ap (λ (f : Completion → Act). f (Gives (value_in t v))) (arithmetic_past op place held env k (λ e. absurd (omega (arith, e)))))
 
 -- ---- which line an operator has
 

@@ -1,20 +1,12 @@
--- Frames that wait for the operands of an operator.
-use Rattle.std.specs.Prelude.{◌≡◌, Bool, true, false, List}
-use Rattle.wjs_base.specs.Text.{Table}
+-- The operators by what they do with two values (ECMA-262, 3rd edition, sections 11.5 to 11.10).
+use Rattle.std.specs.Prelude.{Bool, true, false}
 use Rattle.wjs_tree.specs.declared.operators.BinaryOperator.{BinaryOperator}
 use Rattle.wjs_tree.specs.declared.operators.BinaryOperator.TheVariants as binary
-use Rattle.wjs_store.specs.Meaning.{Meaning}
 use Rattle.wjs_content.specs.Values.{Value}
 use Rattle.wjs_content.specs.Conversions.{is_nullish}
 use Rattle.wjs_meaning.specs.Deeds.{Env, Act, Sub, then_value}
 use Rattle.wjs_meaning.specs.Conversions.{HintNumber, to_primitive}
 use Rattle.wjs_meaning.specs.Operators.{give_truth, give_opposite, equal_primitive}
-use Rattle.wjs_model.specs.declared.config.Config.{Config}
-use Rattle.wjs_model.specs.declared.frame.Activation.{Activation as Frame}
-use Rattle.wjs_model.specs.declared.frame.Held.{Held}
-use Rattle.wjs_model.specs.Contents.{holding_in}
-use Rattle.wjs_model.specs.Waiting.{after_operand}
-use Rattle.wjs_moves.specs.Parts.{then_at}
 
 -- an operator that compares two primitives by their order (ECMA-262, 3rd edition, section 11.8)
 abbrev pub is_comparison : BinaryOperator → Bool
@@ -38,7 +30,7 @@ is_calculation binary.BitXor = true
 is_calculation binary.BitOr = true
 is_calculation _ = false
 
--- an operator whose places of conversions are those of one on two numbers (sections 11.5, 11.6.3, 11.7 and 11.10)
+-- an operator whose operands are converted as those of one on two numbers (sections 11.5, 11.6.3, 11.7 and 11.10)
 abbrev pub is_arithmetic : BinaryOperator → Bool
 is_arithmetic binary.Multiply = true
 is_arithmetic binary.Divide = true
@@ -56,12 +48,6 @@ is_arithmetic binary.Instanceof = true
 is_arithmetic binary.StrictEqual = true
 is_arithmetic binary.StrictNotEqual = true
 is_arithmetic _ = false
-
-module _ {S : Type 0} (meaning : S → Meaning) where
-  -- a frame whose places 3 and 4 are those after the conversion of the operator's left and right value
-  pub record Operates (c : Config S) (f : Frame) (op : BinaryOperator) : Type 0 where
-    pub left : (t : Table) (env : Env) (held : List Held) → then_at meaning c (record f { held = held }) 3 t env ≡ after_operand op 3 (holding_in t held) env
-    pub right : (t : Table) (env : Env) (held : List Held) → then_at meaning c (record f { held = held }) 4 t env ≡ after_operand op 4 (holding_in t held) env
 
 -- ---- equality (section 11.9)
 

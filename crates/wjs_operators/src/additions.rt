@@ -4,12 +4,11 @@ ghost use Rattle.wjs_meaning.specs.Errors.{give_result};
 ghost use Rattle.wjs_meaning.specs.Operators as line;
 ghost use Rattle.wjs_model.specs.Contents.{value_held};
 ghost use Rattle.wjs_model.specs.Soundness.{HasValue};
-ghost use Rattle.wjs_operators.specs.Operating.{Operates};
 ghost use Rattle.wjs_moves.specs.Handling.{Runs, GoesOn};
 
 use wjs_base::{OutOfMemory, Value};
 use wjs_lines::{are_primitives, give_result, held_value, is_text, join, to_number};
-use wjs_model::{Config, Conversion, Frame, Held};
+use wjs_model::{Config, Conversion, ExprPoint, Frame, Held, Point};
 use wjs_moves::{convert, hold};
 use wjs_store::WorldStore;
 use wjs_tree::BinaryOperator;
@@ -23,7 +22,6 @@ pub(crate) fn add<S: WorldStore>(
     right: Value,
 ) -> Result<(), OutOfMemory>
     requires runs { Runs S.meaning config.old frame }
-    requires operates { Operates S.meaning config.old frame BinaryOperator.Add }
     requires left { HasValue config.old left }
     requires right { HasValue config.old right }
     ensures { GoesOn S.meaning frame config.old config.new result (λ t env. line.add_values (value_in t left) (value_in t right) env) }
@@ -43,14 +41,14 @@ fn add_objects<S: WorldStore>(
     right: Value,
 ) -> Result<(), OutOfMemory>
     requires runs { Runs S.meaning config.old frame }
-    requires operates { Operates S.meaning config.old frame BinaryOperator.Add }
     requires left { HasValue config.old left }
     requires right { HasValue config.old right }
     ensures { GoesOn S.meaning frame config.old config.new result (λ t env. line.add_values (value_in t left) (value_in t right) env) }
 {
     let mut frame = frame;
     hold(&mut frame, Held::Value(right))?;
-    convert(config, frame, 3, Conversion::NumberFirst, left)
+    let point = Point::Expr(ExprPoint::OperandFirst(BinaryOperator::Add));
+    convert(config, frame, point, Conversion::NumberFirst, left)
 }
 
 /// After the conversion of the left value: the right one is converted.
@@ -60,19 +58,33 @@ pub(crate) fn add_right<S: WorldStore>(
     primitive: Value,
 ) -> Result<(), OutOfMemory>
     requires runs { Runs S.meaning config.old frame }
-    requires operates { Operates S.meaning config.old frame BinaryOperator.Add }
     requires value { HasValue config.old primitive }
     ensures { GoesOn S.meaning frame config.old config.new result (λ t env. line.add_first (value_in t (value_held frame.held)) env (value_in t primitive)) }
 {
     let right = held_value(config, &frame);
     let mut frame = frame;
     hold(&mut frame, Held::Value(primitive))?;
-    convert(config, frame, 4, Conversion::NumberFirst, right)
+    let point = Point::Expr(ExprPoint::OperandSecond(BinaryOperator::Add));
+    convert(config, frame, point, Conversion::NumberFirst, right)
+}
+
+/// After the conversion of the right value: the left one is held.
+pub(crate) fn add_both<S: WorldStore>(
+    config: &mut Config<S>,
+    frame: Frame,
+    primitive: Value,
+) -> Result<(), OutOfMemory>
+    requires runs { Runs S.meaning config.old frame }
+    requires value { HasValue config.old primitive }
+    ensures { GoesOn S.meaning frame config.old config.new result (λ t env. line.add_second (value_in t (value_held frame.held)) env (value_in t primitive)) }
+{
+    let left = held_value(config, &frame);
+    added(config, frame, left, primitive)
 }
 
 /// Both are primitives.
 #[inline(always)]
-pub(crate) fn added<S: WorldStore>(
+fn added<S: WorldStore>(
     config: &mut Config<S>,
     frame: Frame,
     left: Value,

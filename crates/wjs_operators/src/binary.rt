@@ -4,12 +4,12 @@ ghost use Rattle.wjs_meaning.specs.Deeds.{Eval, AtExpr, then_value};
 ghost use Rattle.wjs_meaning.specs.Expressions as line;
 ghost use Rattle.wjs_model.specs.Contents.{value_held};
 ghost use Rattle.wjs_model.specs.Soundness.{HasValue, StandsHere};
-ghost use Rattle.wjs_moves.specs.Handling.{Runs, IsExpr, GoesOn};
+ghost use Rattle.wjs_moves.specs.Handling.{Runs, IsAt, GoesOn};
 
 use crate::operations::operate;
 use wjs_base::{OutOfMemory, Value};
 use wjs_lines::{held_value, to_boolean};
-use wjs_model::{Completion, Config, Frame, Held};
+use wjs_model::{Completion, Config, ExprPoint, Frame, Held, Point};
 use wjs_moves::{Part, enter, enter_last, finish, hold};
 use wjs_store::WorldStore;
 use wjs_tree::{BinaryOperator, Node, NodeId};
@@ -23,10 +23,11 @@ pub fn binary_start<S: WorldStore>(
     right: NodeId,
 ) -> Result<(), OutOfMemory>
     requires runs { Runs S.meaning config.old frame }
-    requires node { IsExpr S.meaning config.old frame (Node.Binary left operator right) }
+    requires node { IsAt S.meaning config.old frame (Node.Binary left operator right) }
     ensures { GoesOn S.meaning frame config.old config.new result (λ t env. Eval (AtExpr left.0) env (then_value (line.binary_left operator right.0 env))) }
 {
-    enter(config, frame, 1, Part::Expr(left))
+    let point = Point::Expr(ExprPoint::BinaryLeft(operator, right));
+    enter(config, frame, point, Part::Expr(left))
 }
 
 /// After the left value: `&&` and `||` may end with it (section 11.11); every other operator holds it and enters the right
@@ -35,20 +36,19 @@ pub fn binary_start<S: WorldStore>(
 pub fn binary_left<S: WorldStore>(
     config: &mut Config<S>,
     frame: Frame,
-    left: NodeId,
     operator: BinaryOperator,
     right: NodeId,
     value: Value,
 ) -> Result<(), OutOfMemory>
     requires runs { Runs S.meaning config.old frame }
-    requires node { IsExpr S.meaning config.old frame (Node.Binary left operator right) }
+    requires right { StandsHere config.old frame right }
     requires value { HasValue config.old value }
     ensures { GoesOn S.meaning frame config.old config.new result (λ t env. line.binary_left operator right.0 env (value_in t value)) }
 {
     match operator {
         BinaryOperator::And => and_left(config, frame, right, value),
         BinaryOperator::Or => or_left(config, frame, right, value),
-        _ => hold_left(config, frame, left, operator, right, value),
+        _ => hold_left(config, frame, operator, right, value),
     }
 }
 
@@ -57,20 +57,20 @@ pub fn binary_left<S: WorldStore>(
 fn hold_left<S: WorldStore>(
     config: &mut Config<S>,
     frame: Frame,
-    left: NodeId,
     operator: BinaryOperator,
     right: NodeId,
     value: Value,
 ) -> Result<(), OutOfMemory>
     requires runs { Runs S.meaning config.old frame }
-    requires node { IsExpr S.meaning config.old frame (Node.Binary left operator right) }
+    requires right { StandsHere config.old frame right }
     requires value { HasValue config.old value }
     ensures { GoesOn S.meaning frame config.old config.new result (λ t env.
         Eval (AtExpr right.0) env (then_value (line.binary_right operator (value_in t value) env))) }
 {
     let mut frame = frame;
     hold(&mut frame, Held::Value(value))?;
-    enter(config, frame, 2, Part::Expr(right))
+    let point = Point::Expr(ExprPoint::BinaryRight(operator));
+    enter(config, frame, point, Part::Expr(right))
 }
 
 /// After the left of `&&`: the right counts where the left does.
@@ -81,7 +81,7 @@ fn and_left<S: WorldStore>(
     value: Value,
 ) -> Result<(), OutOfMemory>
     requires runs { Runs S.meaning config.old frame }
-    requires part { StandsHere config.old frame right }
+    requires right { StandsHere config.old frame right }
     requires value { HasValue config.old value }
     ensures { GoesOn S.meaning frame config.old config.new result (λ t env. line.and_left right.0 env (value_in t value)) }
 {
@@ -100,7 +100,7 @@ fn or_left<S: WorldStore>(
     value: Value,
 ) -> Result<(), OutOfMemory>
     requires runs { Runs S.meaning config.old frame }
-    requires part { StandsHere config.old frame right }
+    requires right { StandsHere config.old frame right }
     requires value { HasValue config.old value }
     ensures { GoesOn S.meaning frame config.old config.new result (λ t env. line.or_left right.0 env (value_in t value)) }
 {
@@ -116,18 +116,14 @@ fn or_left<S: WorldStore>(
 pub fn binary_right<S: WorldStore>(
     config: &mut Config<S>,
     frame: Frame,
-    left: NodeId,
     operator: BinaryOperator,
-    right: NodeId,
     value: Value,
 ) -> Result<(), OutOfMemory>
     requires runs { Runs S.meaning config.old frame }
-    requires node { IsExpr S.meaning config.old frame (Node.Binary left operator right) }
     requires value { HasValue config.old value }
     ensures { GoesOn S.meaning frame config.old config.new result (λ t env.
         line.binary_right operator (value_in t (value_held frame.held)) env (value_in t value)) }
 {
-    let (_left, _right) = (left, right);
     let first = held_value(config, &frame);
     operate(config, frame, operator, first, value)
 }

@@ -5,12 +5,12 @@ ghost use Rattle.wjs_content.specs.Tables.{value_in};
 ghost use Rattle.wjs_meaning.specs.Operators as line;
 ghost use Rattle.wjs_model.specs.Contents.{value_held};
 ghost use Rattle.wjs_model.specs.Soundness.{Base, HasValue};
-ghost use Rattle.wjs_operators.specs.Operating.{Operates, is_comparison};
+ghost use Rattle.wjs_operators.specs.Operating.{is_comparison};
 ghost use Rattle.wjs_moves.specs.Handling.{Runs, GoesOn};
 
 use wjs_base::{OutOfMemory, Value};
 use wjs_lines::{are_primitives, held_value, less_than};
-use wjs_model::{Completion, Config, Conversion, Frame, Held};
+use wjs_model::{Completion, Config, Conversion, ExprPoint, Frame, Held, Point};
 use wjs_moves::{convert, finish, hold};
 use wjs_store::WorldStore;
 use wjs_tree::BinaryOperator;
@@ -25,7 +25,6 @@ pub(crate) fn compare<S: WorldStore>(
     right: Value,
 ) -> Result<(), OutOfMemory>
     requires runs { Runs S.meaning config.old frame }
-    requires operates { Operates S.meaning config.old frame operator }
     requires comparison { is_comparison operator ≡ true }
     requires left { HasValue config.old left }
     requires right { HasValue config.old right }
@@ -47,7 +46,6 @@ fn compare_objects<S: WorldStore>(
     right: Value,
 ) -> Result<(), OutOfMemory>
     requires runs { Runs S.meaning config.old frame }
-    requires operates { Operates S.meaning config.old frame operator }
     requires comparison { is_comparison operator ≡ true }
     requires left { HasValue config.old left }
     requires right { HasValue config.old right }
@@ -55,7 +53,8 @@ fn compare_objects<S: WorldStore>(
 {
     let mut frame = frame;
     hold(&mut frame, Held::Value(right))?;
-    convert(config, frame, 3, Conversion::NumberFirst, left)
+    let point = Point::Expr(ExprPoint::OperandFirst(operator));
+    convert(config, frame, point, Conversion::NumberFirst, left)
 }
 
 /// After the conversion of the left value: the right one is converted.
@@ -66,7 +65,6 @@ pub(crate) fn compare_right<S: WorldStore>(
     primitive: Value,
 ) -> Result<(), OutOfMemory>
     requires runs { Runs S.meaning config.old frame }
-    requires operates { Operates S.meaning config.old frame operator }
     requires comparison { is_comparison operator ≡ true }
     requires value { HasValue config.old primitive }
     ensures { GoesOn S.meaning frame config.old config.new result (λ t env.
@@ -75,12 +73,29 @@ pub(crate) fn compare_right<S: WorldStore>(
     let right = held_value(config, &frame);
     let mut frame = frame;
     hold(&mut frame, Held::Value(primitive))?;
-    convert(config, frame, 4, Conversion::NumberFirst, right)
+    let point = Point::Expr(ExprPoint::OperandSecond(operator));
+    convert(config, frame, point, Conversion::NumberFirst, right)
+}
+
+/// After the conversion of the right value: the left one is held.
+pub(crate) fn compare_both<S: WorldStore>(
+    config: &mut Config<S>,
+    frame: Frame,
+    operator: BinaryOperator,
+    primitive: Value,
+) -> Result<(), OutOfMemory>
+    requires runs { Runs S.meaning config.old frame }
+    requires value { HasValue config.old primitive }
+    ensures { GoesOn S.meaning frame config.old config.new result (λ t env.
+        line.compare_second operator (value_in t (value_held frame.held)) (value_in t primitive)) }
+{
+    let left = held_value(config, &frame);
+    compared(config, frame, operator, left, primitive)
 }
 
 /// Both are primitives.
 #[inline(always)]
-pub(crate) fn compared<S: WorldStore>(
+fn compared<S: WorldStore>(
     config: &mut Config<S>,
     frame: Frame,
     operator: BinaryOperator,

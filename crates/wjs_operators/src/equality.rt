@@ -8,12 +8,12 @@ ghost use Rattle.wjs_meaning.specs.Deeds.{Sub, then_value};
 ghost use Rattle.wjs_meaning.specs.Operators as line;
 ghost use Rattle.wjs_model.specs.Contents.{value_held};
 ghost use Rattle.wjs_model.specs.Soundness.{HasValue};
-ghost use Rattle.wjs_operators.specs.Operating.{Operates, equality, tells, equal_with};
+ghost use Rattle.wjs_operators.specs.Operating.{equality, tells, equal_with};
 ghost use Rattle.wjs_moves.specs.Handling.{Runs, IsRunning, GoesOn};
 
 use wjs_base::{OutOfMemory, Value};
 use wjs_lines::{held_value, is_nullish, is_object, loosely_equal, strictly_equal};
-use wjs_model::{Completion, Config, Conversion, Frame, Held};
+use wjs_model::{Completion, Config, Conversion, ExprPoint, Frame, Held, Point};
 use wjs_moves::{convert, finish, hold};
 use wjs_store::WorldStore;
 use wjs_tree::BinaryOperator;
@@ -61,7 +61,6 @@ pub(crate) fn equal<S: WorldStore>(
     right: Value,
 ) -> Result<(), OutOfMemory>
     requires runs { Runs S.meaning config.old frame }
-    requires operates { Operates S.meaning config.old frame (equality negated) }
     requires left { HasValue config.old left }
     requires right { HasValue config.old right }
     ensures { GoesOn S.meaning frame config.old config.new result (λ t env. line.equal_values (value_in t left) (value_in t right) env (tells negated)) }
@@ -82,7 +81,6 @@ fn object_equal<S: WorldStore>(
     right: Value,
 ) -> Result<(), OutOfMemory>
     requires runs { Runs S.meaning config.old frame }
-    requires operates { Operates S.meaning config.old frame (equality negated) }
     requires left { HasValue config.old left }
     requires right { HasValue config.old right }
     requires object { (t : Table) → conversions.is_object (value_in t left) ≡ true }
@@ -105,7 +103,6 @@ fn primitive_equal<S: WorldStore>(
     right: Value,
 ) -> Result<(), OutOfMemory>
     requires runs { Runs S.meaning config.old frame }
-    requires operates { Operates S.meaning config.old frame (equality negated) }
     requires left { HasValue config.old left }
     requires right { HasValue config.old right }
     requires primitive { (t : Table) → conversions.is_object (value_in t left) ≡ false }
@@ -145,7 +142,6 @@ fn equal_object<S: WorldStore>(
     other: Value,
 ) -> Result<(), OutOfMemory>
     requires runs { Runs S.meaning config.old frame }
-    requires operates { Operates S.meaning config.old frame (equality negated) }
     requires object { HasValue config.old object }
     requires other { HasValue config.old other }
     ensures { GoesOn S.meaning frame config.old config.new result (λ t env. equal_with (value_in t object) (value_in t other) env (tells negated)) }
@@ -166,7 +162,6 @@ fn equal_converted<S: WorldStore>(
     other: Value,
 ) -> Result<(), OutOfMemory>
     requires runs { Runs S.meaning config.old frame }
-    requires operates { Operates S.meaning config.old frame (equality negated) }
     requires object { HasValue config.old object }
     requires other { HasValue config.old other }
     ensures { GoesOn S.meaning frame config.old config.new result (λ t env.
@@ -174,7 +169,20 @@ fn equal_converted<S: WorldStore>(
 {
     let mut frame = frame;
     hold(&mut frame, Held::Value(other))?;
-    convert(config, frame, 3, Conversion::NumberFirst, object)
+    let operator = operator_of(negated);
+    let point = Point::Expr(ExprPoint::OperandFirst(operator));
+    convert(config, frame, point, Conversion::NumberFirst, object)
+}
+
+/// `==`, or `!=` where it is negated.
+fn operator_of(negated: bool) -> BinaryOperator
+    ensures { result ≡ equality negated }
+{
+    if negated {
+        BinaryOperator::NotEqual
+    } else {
+        BinaryOperator::Equal
+    }
 }
 
 /// After the conversion of the object.

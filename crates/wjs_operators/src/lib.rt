@@ -1,4 +1,4 @@
-//! Operators between two values (ECMA-262, 3rd edition, sections 11.5 to 11.11): what a frame does at its entry, and at each place at which it waits.
+//! Operators between two values (ECMA-262, 3rd edition, sections 11.5 to 11.11): what a frame does at its entry, and after each part that it waits for.
 #![tactic(auto)]
 
 mod additions;
@@ -11,5 +11,5 @@ mod relations;
 mod shortcuts;
 
 pub use binary::{binary_left, binary_right, binary_start};
-pub use operations::{operand_after, operate};
+pub use operations::{operand_first, operand_second, operate};
 pub use shortcuts::quick;

@@ -4,18 +4,19 @@ ghost use Rattle.std.specs.Prelude.{◌≡◌, true};
 ghost use Rattle.wjs_num.specs.Exact.{answer};
 ghost use Rattle.wjs_base.specs.Text.{Table};
 ghost use Rattle.wjs_content.specs.Tables.{value_in};
+ghost use Rattle.wjs_meaning.specs.Deeds.{Gives, then_number};
 ghost use Rattle.wjs_meaning.specs.NativesOfObjects.{whole_of};
 ghost use Rattle.wjs_meaning.specs.Operators as line;
 ghost use Rattle.wjs_model.specs.Contents.{value_held};
 ghost use Rattle.wjs_model.specs.Soundness.{HasValue};
-ghost use Rattle.wjs_operators.specs.Operating.{Operates, is_arithmetic};
+ghost use Rattle.wjs_operators.specs.Operating.{is_arithmetic};
 ghost use Rattle.wjs_moves.specs.Handling.{Runs, IsRunning, GoesOn};
 
 use wjs_base::{OutOfMemory, Value, Whole};
 use wjs_lines::{are_primitives, give_result, held_value, to_number};
-use wjs_model::{Config, Conversion, Frame, Held};
-use wjs_moves::{convert, hold};
-use wjs_num::{NumFault, add, bit_and, bit_or, bit_xor, div, mul, rem, shl, shr, sub, ushr};
+use wjs_model::{Completion, Config, Conversion, ExprPoint, Frame, Held, Point};
+use wjs_moves::{convert, finish, hold};
+use wjs_num::{NumFault, bit_and, bit_or, bit_xor, div, mul, rem, shl, shr, sub, ushr};
 use wjs_store::WorldStore;
 use wjs_tree::BinaryOperator;
 
@@ -49,7 +50,6 @@ pub(crate) fn calculate<S: WorldStore>(
     right: Value,
 ) -> Result<(), OutOfMemory>
     requires runs { Runs S.meaning config.old frame }
-    requires operates { Operates S.meaning config.old frame operator }
     requires arithmetic { is_arithmetic operator ≡ true }
     requires left { HasValue config.old left }
     requires right { HasValue config.old right }
@@ -73,7 +73,6 @@ fn calculate_objects<S: WorldStore>(
     right: Value,
 ) -> Result<(), OutOfMemory>
     requires runs { Runs S.meaning config.old frame }
-    requires operates { Operates S.meaning config.old frame operator }
     requires arithmetic { is_arithmetic operator ≡ true }
     requires left { HasValue config.old left }
     requires right { HasValue config.old right }
@@ -81,18 +80,37 @@ fn calculate_objects<S: WorldStore>(
 {
     let mut frame = frame;
     hold(&mut frame, Held::Value(right))?;
-    convert(config, frame, 3, Conversion::Number, left)
+    let point = Point::Expr(ExprPoint::OperandFirst(operator));
+    convert(config, frame, point, Conversion::Number, left)
 }
 
-/// After the conversion of the left value: the right one is converted.
-pub(crate) fn calculate_right<S: WorldStore>(
+/// After the conversion of the left value, which is a number.
+pub(crate) fn calculate_left<S: WorldStore>(
+    config: &mut Config<S>,
+    frame: Frame,
+    operator: BinaryOperator,
+    value: Value,
+) -> Result<(), OutOfMemory>
+    requires runs { Runs S.meaning config.old frame }
+    requires arithmetic { is_arithmetic operator ≡ true }
+    requires value { HasValue config.old value }
+    ensures { GoesOn S.meaning frame config.old config.new result (λ t env.
+        then_number (line.arithmetic_first operator (value_in t (value_held frame.held)) env) (Gives (value_in t value))) }
+{
+    match value {
+        Value::Number(number) => calculate_right(config, frame, operator, number),
+        _ => finish(config, frame, Completion::Gives(value)),
+    }
+}
+
+/// After the number of the left value: the right one is converted.
+fn calculate_right<S: WorldStore>(
     config: &mut Config<S>,
     frame: Frame,
     operator: BinaryOperator,
     number: Whole,
 ) -> Result<(), OutOfMemory>
     requires runs { Runs S.meaning config.old frame }
-    requires operates { Operates S.meaning config.old frame operator }
     requires arithmetic { is_arithmetic operator ≡ true }
     ensures { GoesOn S.meaning frame config.old config.new result (λ t env.
         line.arithmetic_first operator (value_in t (value_held frame.held)) env number.number) }
@@ -100,12 +118,34 @@ pub(crate) fn calculate_right<S: WorldStore>(
     let right = held_value(config, &frame);
     let mut frame = frame;
     hold(&mut frame, Held::Value(Value::Number(number)))?;
-    convert(config, frame, 4, Conversion::Number, right)
+    let point = Point::Expr(ExprPoint::OperandSecond(operator));
+    convert(config, frame, point, Conversion::Number, right)
+}
+
+/// After the conversion of the right value, which is a number: the left one is held.
+pub(crate) fn calculate_both<S: WorldStore>(
+    config: &mut Config<S>,
+    frame: Frame,
+    operator: BinaryOperator,
+    value: Value,
+) -> Result<(), OutOfMemory>
+    requires runs { Runs S.meaning config.old frame }
+    requires value { HasValue config.old value }
+    ensures { GoesOn S.meaning frame config.old config.new result (λ t env.
+        then_number (line.arithmetic_second operator (whole_of (value_in t (value_held frame.held))) env) (Gives (value_in t value))) }
+{
+    match value {
+        Value::Number(number) => {
+            let left = held_number(&frame);
+            calculated(config, frame, operator, left, number)
+        }
+        _ => finish(config, frame, Completion::Gives(value)),
+    }
 }
 
 /// Both are numbers.
 #[inline(always)]
-pub(crate) fn calculated<S: WorldStore>(
+fn calculated<S: WorldStore>(
     config: &mut Config<S>,
     frame: Frame,
     operator: BinaryOperator,
@@ -119,7 +159,7 @@ pub(crate) fn calculated<S: WorldStore>(
 }
 
 /// The number that is held, and NaN where a value of another kind is.
-pub(crate) fn held_number(frame: &Frame) -> Whole
+fn held_number(frame: &Frame) -> Whole
     ensures { (t : Table) → result.number ≡ whole_of (value_in t (value_held frame.now.held)) }
 {
     match frame.value() {

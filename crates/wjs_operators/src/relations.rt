@@ -11,14 +11,13 @@ ghost use Rattle.wjs_model.specs.Soundness.{HasObject, HasName, HasValue};
 ghost use Rattle.wjs_base.specs.Text.{Table, Has};
 ghost use Rattle.wjs_content.specs.Conversions.{is_object, primitive_text};
 ghost use Rattle.wjs_meaning.specs.Conversions.{to_text};
-ghost use Rattle.wjs_meaning.specs.Deeds.{Do, Look, Sub, then_text};
-ghost use Rattle.wjs_operators.specs.Operating.{Operates};
+ghost use Rattle.wjs_meaning.specs.Deeds.{Do, Look, Sub, Gives, then_text};
 ghost use Rattle.wjs_moves.specs.Handling.{Runs, GoesOn};
 
 use wjs_base::{Name, ObjId, OutOfMemory, TextId, Value};
 use wjs_deeds::{Known, function_of, get_known, has, is_past, name_of};
 use wjs_lines::{held_value, is_object, name_of_value, throw};
-use wjs_model::{Completion, Config, Conversion, Frame, Held, Trouble};
+use wjs_model::{Completion, Config, Conversion, ExprPoint, Frame, Held, Point, Trouble};
 use wjs_moves::{convert, finish, hold};
 use wjs_store::WorldStore;
 use wjs_tree::BinaryOperator;
@@ -31,7 +30,6 @@ pub(crate) fn in_values<S: WorldStore>(
     right: Value,
 ) -> Result<(), OutOfMemory>
     requires runs { Runs S.meaning config.old frame }
-    requires operates { Operates S.meaning config.old frame BinaryOperator.In }
     requires left { HasValue config.old left }
     requires right { HasValue config.old right }
     ensures { GoesOn S.meaning frame config.old config.new result (λ t env. line.in_values (value_in t left) (value_in t right) env) }
@@ -50,7 +48,6 @@ fn in_object<S: WorldStore>(
     object: ObjId,
 ) -> Result<(), OutOfMemory>
     requires runs { Runs S.meaning config.old frame }
-    requires operates { Operates S.meaning config.old frame BinaryOperator.In }
     requires left { HasValue config.old left }
     requires object { HasObject config.old object }
     ensures { GoesOn S.meaning frame config.old config.new result (λ t env. Sub (to_text (value_in t left) env) (then_text (line.in_name object env))) }
@@ -70,14 +67,14 @@ fn in_converted<S: WorldStore>(
     object: ObjId,
 ) -> Result<(), OutOfMemory>
     requires runs { Runs S.meaning config.old frame }
-    requires operates { Operates S.meaning config.old frame BinaryOperator.In }
     requires left { HasValue config.old left }
     requires object { HasObject config.old object }
     ensures { GoesOn S.meaning frame config.old config.new result (λ t env. Sub (to_text (value_in t left) env) (then_text (line.in_name object env))) }
 {
     let mut frame = frame;
     hold(&mut frame, Held::Value(Value::Object(object)))?;
-    convert(config, frame, 3, Conversion::Text, left)
+    let point = Point::Expr(ExprPoint::OperandFirst(BinaryOperator::In));
+    convert(config, frame, point, Conversion::Text, left)
 }
 
 /// A primitive's text is the name.
@@ -113,8 +110,25 @@ fn in_name<S: WorldStore>(
     finish(config, frame, Completion::Gives(Value::Bool(found)))
 }
 
-/// After the conversion of the left value: the right one is held.
-pub(crate) fn in_after<S: WorldStore>(
+/// After the conversion of the left value, which is a text.
+pub(crate) fn in_left<S: WorldStore>(
+    config: &mut Config<S>,
+    frame: Frame,
+    value: Value,
+) -> Result<(), OutOfMemory>
+    requires runs { Runs S.meaning config.old frame }
+    requires value { HasValue config.old value }
+    ensures { GoesOn S.meaning frame config.old config.new result (λ t env.
+        then_text (in_right (value_in t (value_held frame.held)) env) (Gives (value_in t value))) }
+{
+    match value {
+        Value::Text(text) => in_after(config, frame, text),
+        _ => finish(config, frame, Completion::Gives(value)),
+    }
+}
+
+/// After the text of the left value: the right one is held.
+fn in_after<S: WorldStore>(
     config: &mut Config<S>,
     frame: Frame,
     text: TextId,

@@ -34,3 +34,4 @@ pub mod Covering
 pub mod Touching
 pub mod Handing
 pub mod Passing
+pub mod Resetting

@@ -15,3 +15,4 @@ pub mod Sound
 pub mod Marks
 pub mod Covers
 pub mod Touched
+pub mod Reset

@@ -1,8 +1,9 @@
 //! The calls of the store on its layers.
-ghost use Rattle.std.specs.Prelude.{◌≡◌, ◌+◌, ◌*◌, ◌≤◌, OnOk, IfOk, IfSome, length, slice_get};
+ghost use Rattle.std.specs.Prelude.{◌≡◌, ◌+◌, ◌*◌, ◌≤◌, true, false, OnOk, IfOk, IfSome, is_some, length, slice_get};
+ghost use Rattle.wjs_overlay.specs.Reset.{has_child, after_reset};
 ghost use Rattle.wjs_overlay.specs.declared.layer.Layer.{Layer};
 ghost use Rattle.wjs_overlay.specs.Look.{IsUntouched};
-ghost use Rattle.wjs_store.specs.State.{content_at, slots_at, next_id, verdict_at, after_read, after_write, after_list, after_sprout, after_commit};
+ghost use Rattle.wjs_store.specs.State.{parent_of, content_at, slots_at, next_id, verdict_at, after_read, after_write, after_list, after_sprout, after_commit};
 ghost use Rattle.wjs_store.specs.Shown.{content_of, slots_of, verdict_of};
 ghost use Rattle.wjs_overlay.specs.Sparse.{IsSparse, IsAt, StandFor, full_of, depth_of};
 ghost use Rattle.wjs_base.specs.declared.values.Slot.{Slot};
@@ -164,6 +165,18 @@ pub fn commit<L: Ledger>(
     ensures steps { steps.new ≤ steps.old + (rows_of (full_of layers.old.items) world.world + closed_of (full_of layers.old.items) world.world + rows_above (full_of layers.old.items) world.world + 1) * (4 * depth_of (full_of layers.old.items) world.world + 20) }
 {
     commit_slots(alloc, layers.as_mut_slice(), world, steps)
+}
+
+/// Gives up what was done in a world that has a parent and no child.
+pub fn reset(alloc: Global, layers: &mut Vec<Layer>, world: Spot)
+    requires sparse { IsSparse layers.old.items }
+    requires there { IsAt layers.old.items world }
+    requires parent { is_some (parent_of (full_of layers.old.items) world.world) ≡ true }
+    requires leaf { has_child (full_of layers.old.items) world.world ≡ false }
+    ensures after { StandFor layers.new.items (after_reset (full_of layers.old.items) world.world) }
+    ensures len { length layers.new.items ≡ length layers.old.items }
+{
+    layers::reset(alloc, layers.as_mut_slice(), world)
 }
 
 /// The least slot that fails the check of a world; none for a world without parent.

@@ -1,8 +1,9 @@
 //! The layers of all worlds, in the order of sprouting.
-ghost use Rattle.std.specs.Prelude.{◌≡◌, ◌+◌, ◌*◌, ◌<◌, ◌≤◌, length, OnOk, IfOk, IfSome, is_some, true, cond, Some, slice_get, slice_set};
+ghost use Rattle.std.specs.Prelude.{◌≡◌, ◌+◌, ◌*◌, ◌<◌, ◌≤◌, length, OnOk, IfOk, IfSome, is_some, true, false, cond, Some, slice_get, slice_set};
+ghost use Rattle.wjs_overlay.specs.Reset.{has_child, after_reset};
 ghost use Rattle.std.specs.Option.{option_map};
 ghost use Rattle.wjs_store.specs.Naming.{plain};
-ghost use Rattle.wjs_store.specs.State.{World, find_world, content_at, put, next_id, after_read, after_write, after_sprout, after_list, after_commit, at_world, clear_marks, close_in, fault_in, slots_at};
+ghost use Rattle.wjs_store.specs.State.{World, find_world, parent_of, content_at, put, next_id, after_read, after_write, after_sprout, after_list, after_commit, at_world, clear_marks, close_in, fault_in, slots_at};
 ghost use Rattle.std.specs.Prelude.{None};
 ghost use Rattle.std.specs.FinMap as map;
 ghost use Rattle.wjs_store.specs.State.{State};
@@ -409,6 +410,18 @@ fn close_to<L: Ledger>(
 fn clear_in(alloc: Global, layers: &mut [Layer], world: Spot)
     requires { world.place < length layers.old }
     ensures kept { (F : State plain) → AreKept layers.old F → place_of F world.world ≡ Some world.place → ((x : World plain) → find_world F world.world ≡ Some x → is_some x.parent ≡ true) → AreKept layers.new (at_world world.world clear_marks F) }
+{
+    let layer = &mut layers[world.place];
+    layer.clear(alloc);
+}
+
+/// Gives up what was done in a world that has a parent and no child: it has no rows, and holds what its parent holds.
+pub fn reset(alloc: Global, layers: &mut [Layer], world: Spot)
+    requires sparse { IsSparse layers.old }
+    requires there { IsAt layers.old world }
+    requires parent { is_some (parent_of (full_of layers.old) world.world) ≡ true }
+    requires leaf { has_child (full_of layers.old) world.world ≡ false }
+    ensures after { StandFor layers.new (after_reset (full_of layers.old) world.world) }
 {
     let layer = &mut layers[world.place];
     layer.clear(alloc);

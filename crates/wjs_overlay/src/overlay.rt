@@ -58,6 +58,7 @@ impl Overlay {
     ghost use Rattle.wjs_overlay.specs.Check.{IsLeast};
     ghost use Rattle.wjs_overlay.specs.Cursor.{to_come};
     ghost use Rattle.wjs_overlay.specs.Marks.{is_written};
+    ghost use Rattle.wjs_overlay.specs.Reset.{has_child, after_reset};
     ghost use Rattle.wjs_store.specs.State.{parent_of};
 
     /// A store with the first world alone, which is owner 0's.
@@ -354,6 +355,21 @@ impl Overlay {
         self.owners.insert(owner, next)?;
         self.spent = false;
         Ok(child)
+    }
+
+    /// Gives up what was done in a world that has a parent and no child: it is as its parent would sprout it now, and what was
+    /// kept of it is given back.
+    pub fn reset(&mut self, world: WorldId)
+        requires live { (⟦<Overlay as WorldStore>⟧.meaning self.old).spent ≡ false }
+        requires there { IsTrue (has_world (worlds (⟦<Overlay as WorldStore>⟧.meaning self.old)) world) }
+        requires parent { IsSome (parent_of (worlds (⟦<Overlay as WorldStore>⟧.meaning self.old)) world) }
+        requires leaf { has_child (worlds (⟦<Overlay as WorldStore>⟧.meaning self.old)) world ≡ false }
+        ensures { ⟦<Overlay as WorldStore>⟧.meaning self.new ≡ fixed (after_reset (worlds (⟦<Overlay as WorldStore>⟧.meaning self.old)) world) false }
+    {
+        let at = self.spot(world);
+        self.spent = true;
+        calls::reset(self.alloc, &mut self.layers, at);
+        self.spent = false;
     }
 
     /// The least slot that fails the check of a world that has a parent; None exactly where the check passes.

@@ -35,7 +35,7 @@ use Rattle.wjs_model.specs.declared.unit.Unit.{Unit as Program}
 use Rattle.wjs_model.specs.Configurations.{rest, rest_by, seen, tells, run_in, frames_in, state_in, Stays}
 use Rattle.wjs_model.specs.Contents.{frame_in}
 use Rattle.wjs_model.specs.Outside.{Outside}
-use Rattle.wjs_model.specs.Soundness.{HasObject, HasWorld, IsThere, Base, Sound}
+use Rattle.wjs_model.specs.Soundness.{HasObject, HasWorld, IsStacked, Base, Sound}
 use Rattle.wjs_model.specs.Standing.{Stands, IsShown}
 use Rattle.wjs_model.specs.Units.{unit_in}
 use Rattle.wjs_moves.proofs.Sounding.{base_framed}
@@ -105,23 +105,24 @@ module _ {S : Type 0} (meaning : S → Meaning) where
         ap (λ fs. seen (tells meaning c) (rest_by t states.Running (run_in meaning t c) (each (frame_in t) fs) (state_in meaning t v c) n)) one
         ∙ ap (seen (tells meaning c)) (body_runs (each (unit_in t) c.units.items) tree c.world c.global c.owner (state_in meaning t v c) n)
 
-    there : Base meaning c → IsShown c.heap.arena c.world → IsThere meaning c (body_frame c tree u.program.body)
+    there : Base meaning c → IsShown c.heap.arena c.world → IsStacked meaning c (body_frame c tree u.program.body)
     there base shown = record {
-      scope = base.global;
-      this = base.global;
-      world = base.world;
-      held = tt;
-      phase = tt;
-      stands = record {
-        node = record { unit = u; found = at; arguments = None; scopes = []; around = ([], (refl, refl)); outwards = tt };
-        body = tt;
-        shown = shown;
+      there = record {
+        scope = base.global;
+        this = base.global;
+        world = base.world;
+        held = tt;
+        stands = record {
+          node = record { unit = u; found = at; arguments = None; scopes = []; around = ([], (refl, refl)); outwards = tt };
+          shown = shown;
+        };
       };
+      phase = tt;
     }
 
     sound_now : Base meaning c → IsShown c.heap.arena c.world → Sound meaning now
     sound_now base shown = record {
-      base = base_framed meaning c frames left states.Running base (subst (λ fs. All (IsThere meaning c) fs) (sym one) (All-cons (IsThere meaning c) (body_frame c tree u.program.body) [] (there base shown) (All-nil (IsThere meaning c))));
+      base = base_framed meaning c frames left states.Running base (subst (λ fs. All (IsStacked meaning c) fs) (sym one) (All-cons (IsStacked meaning c) (body_frame c tree u.program.body) [] (there base shown) (All-nil (IsStacked meaning c))));
       thrown = tt;
       running = λ e. not_none frames (body_frame c tree u.program.body) one;
     }

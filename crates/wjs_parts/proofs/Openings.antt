@@ -27,13 +27,12 @@ use Rattle.wjs_model.specs.declared.config.Config.{Config}
 use Rattle.wjs_model.specs.declared.config.State.{State}
 use Rattle.wjs_model.specs.declared.config.State.TheVariants as states
 use Rattle.wjs_model.specs.declared.frame.Activation.{Activation as Frame}
-use Rattle.wjs_model.specs.declared.frame.Phase.TheVariants as phases
 use Rattle.wjs_model.specs.declared.unit.Unit.{Unit as Program}
 use Rattle.wjs_model.specs.Outside.{alone}
 use Rattle.wjs_model.proofs.Beside.{beside_nothing}
 use Rattle.wjs_model.specs.Configurations.{run_in, frames_in, state_in, rest_by, rest, seen, after_done}
 use Rattle.wjs_model.specs.Contents.{Run, frame_in}
-use Rattle.wjs_model.specs.Soundness.{HasObject, HasThrown, HasWorld, IsThere, Base, Sound}
+use Rattle.wjs_model.specs.Soundness.{HasObject, HasThrown, HasWorld, IsStacked, Base, Sound}
 use Rattle.wjs_model.specs.Texts.{KnowsUnit, PlacesUnit}
 use Rattle.wjs_model.specs.Units.{unit_in}
 use Rattle.wjs_model.proofs.Placed.{placed_stay}
@@ -42,7 +41,7 @@ use Rattle.wjs_start.proofs.NoneApart.{all_near, objects_near, slots_near}
 use Rattle.wjs_start.proofs.Readiness.{code_stands, some_map, silent_told, told_behind}
 use Rattle.wjs_start.specs.Declaring.{declared_by_tree}
 use Rattle.wjs_start.specs.First.{IsNew, IsFirst, writes_told}
-use Rattle.wjs_start.specs.Starting.{body_of, frame_at}
+use Rattle.wjs_start.specs.Starting.{body_of, begins, frame_at}
 use Rattle.wjs_alone.specs.Opening.{part_names, opening, trees_of}
 use Rattle.wjs_parts.specs.Opening.{units_of, frames_of, state_of, StartsParts}
 use Rattle.wjs_parts.proofs.Entry.{body_runs}
@@ -142,9 +141,9 @@ module _ {S : Type 0} (meaning : S → Meaning) (texts : Table) (before : Meanin
     by_library (Some first) e n =
         let run = run_by (unit_in t first ∷ trees) in
         let same : run_in meaning t c ≡ run = run_so ∙ ap (λ (o : Option Program). run_by (trees_of (option_map (unit_in t) o) trees)) e in
-        let framed : frames_in meaning t c ≡ frame_in t (frame_at 0 (body_of first) phases.Due) ∷ [] = ap (map (frame_in t)) (frames_there ∙ ap frames_of e) in
+        let framed : frames_in meaning t c ≡ frame_in t (frame_at 0 (body_of first) begins) ∷ [] = ap (map (frame_in t)) (frames_there ∙ ap frames_of e) in
         (λ i. seen (is_some (meaning h.store).told) (rest_by t ((state_there ∙ ap state_of e) i) (same i) (framed i) (state_so u g v ok i) n))
-        ∙ told_behind u run (frame_in t (frame_at 0 (body_of first) phases.Due) ∷ []) (writes_told properties) (start (part_names trees)) n before.told new.silent (told_by u (meaning h.store).told) told_so (is_some (meaning h.store).told) tells_so
+        ∙ told_behind u run (frame_in t (frame_at 0 (body_of first) begins) ∷ []) (writes_told properties) (start (part_names trees)) n before.told new.silent (told_by u (meaning h.store).told) told_so (is_some (meaning h.store).told) tells_so
         ∙ ap (λ r. seen (is_some before.told) (after_done (writes_told properties) r)) (body_runs (unit_in t first ∷ trees) 0 first_world global_object 0 (start (part_names trees)) n)
 
   pub starts_so : StartsParts meaning texts before library ps budget c
@@ -170,26 +169,27 @@ module _ {S : Type 0} (meaning : S → Meaning) (texts : Table) (before : Meanin
   builtin_there : (n : ℕ) → n < 64 → HasObject c (builtin n)
   builtin_there n lt = (is.builtins n lt, all_near apart.items none_kept (builtin n))
 
-  due_there : (first : Program) → library ≡ Some first → IsThere meaning c (frame_at 0 (body_of first) phases.Due)
+  due_there : (first : Program) → library ≡ Some first → IsStacked meaning c (frame_at 0 (body_of first) begins)
   due_there first e = record {
-    scope = builtin_there 2 (omega arith);
-    this = builtin_there 2 (omega arith);
-    world = is.first;
-    held = tt;
-    phase = tt;
-    stands = record {
-      node = record { unit = first; found = found; arguments = None; scopes = []; around = ([], (refl, refl)); outwards = tt };
-      body = tt;
-      shown = (builtin 13, is.shown);
+    there = record {
+      scope = builtin_there 2 (omega arith);
+      this = builtin_there 2 (omega arith);
+      world = is.first;
+      held = tt;
+      stands = record {
+        node = record { unit = first; found = found; arguments = None; scopes = []; around = ([], (refl, refl)); outwards = tt };
+        shown = (builtin 13, is.shown);
+      };
     };
+    phase = tt;
   }
     where
       found : slice_get units.items 0 ≡ Some first
       found = ap (λ (us : List Program). slice_get us 0) (units_are ∙ ap (λ (o : Option Program). units_of o ps) e)
 
-  all_there : (first : Option Program) → library ≡ first → All (IsThere meaning c) (frames_of first)
-  all_there None e = All-nil (IsThere meaning c)
-  all_there (Some first) e = All-cons (IsThere meaning c) (frame_at 0 (body_of first) phases.Due) [] (due_there first e) (All-nil (IsThere meaning c))
+  all_there : (first : Option Program) → library ≡ first → All (IsStacked meaning c) (frames_of first)
+  all_there None e = All-nil (IsStacked meaning c)
+  all_there (Some first) e = All-cons (IsStacked meaning c) (frame_at 0 (body_of first) begins) [] (due_there first e) (All-nil (IsStacked meaning c))
 
   some_frame : (first : Option Program) → state_of first ≡ states.Running → frames_of first ≡ [] → ⊥
   some_frame None e f = cc
@@ -220,7 +220,7 @@ module _ {S : Type 0} (meaning : S → Meaning) (texts : Table) (before : Meanin
     own = all_near apart.items none_kept (builtin 0);
     near_objects = λ o e q n. objects_near apart.items none_kept e.object;
     near_slots = slots_near apart.items none_kept (worlds (meaning h.store));
-    frames = subst (All (IsThere meaning c)) (sym frames_there) (all_there library refl);
+    frames = subst (All (IsStacked meaning c)) (sym frames_there) (all_there library refl);
     marks = is.marks;
     told = is.tells;
   }

@@ -9,7 +9,7 @@ use Rattle.wjs_content.specs.Tables.{arena_in}
 use Rattle.wjs_meaning.specs.WorldValues.{world_object_of}
 use Rattle.wjs_model.specs.declared.config.Config.{Config}
 use Rattle.wjs_model.specs.declared.config.State.TheVariants as states
-use Rattle.wjs_model.specs.declared.frame.Form.TheVariants as form
+use Rattle.wjs_model.specs.declared.point.Start.TheVariants as starts
 use Rattle.wjs_model.specs.declared.frame.Activation.{Activation as Frame}
 use Rattle.wjs_model.specs.declared.frame.Phase.TheVariants as phases
 use Rattle.wjs_model.specs.Configurations.{rest, seen, tells, state_in, Stays}
@@ -44,4 +44,4 @@ module _ {S : Type 0} (meaning : S → Meaning) where
 
 -- the frame of a program's body, with its step due, in the configuration's world and on its global object
 abbrev pub body_frame : {S : Type 0} → Config S → ℕ → NodeId → Frame
-body_frame c tree body = record { form = form.Body; tree = tree; node = body; place = 0; phase = phases.Due; scope = c.global; this = values.Object c.global; world = c.world; held = [] }
+body_frame c tree body = record { tree = tree; node = body; phase = phases.Due starts.Program; scope = c.global; this = values.Object c.global; world = c.world; held = [] }

@@ -11,13 +11,12 @@ use Rattle.wjs_model.specs.declared.config.Config.{Config}
 use Rattle.wjs_model.specs.declared.config.State.{State}
 use Rattle.wjs_model.specs.declared.config.State.TheVariants as states
 use Rattle.wjs_model.specs.declared.frame.Activation.{Activation as Frame}
-use Rattle.wjs_model.specs.declared.frame.Phase.TheVariants as phases
 use Rattle.wjs_model.specs.declared.unit.Unit.{Unit as Program}
 use Rattle.wjs_model.specs.Configurations.{state_in, rest, seen, after_done}
 use Rattle.wjs_model.specs.Outside.{alone}
 use Rattle.wjs_model.specs.Units.{unit_in}
 use Rattle.wjs_start.specs.First.{writes_told}
-use Rattle.wjs_start.specs.Starting.{body_of, frame_at}
+use Rattle.wjs_start.specs.Starting.{body_of, begins, frame_at}
 use Rattle.wjs_alone.specs.Opening.{part_names, opening}
 
 -- the programs of a play
@@ -28,7 +27,7 @@ units_of (Some library) parts = library ∷ parts
 -- the library's body is due; without a library there is nothing to do
 abbrev pub frames_of : Option Program → List Frame
 frames_of None = []
-frames_of (Some library) = frame_at 0 (body_of library) phases.Due ∷ []
+frames_of (Some library) = frame_at 0 (body_of library) begins ∷ []
 
 abbrev pub state_of : Option Program → State
 state_of None = states.Done

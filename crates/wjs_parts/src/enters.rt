@@ -9,7 +9,7 @@ ghost use Rattle.wjs_parts.specs.Entering.{Enters, ShowsWorld, body_frame};
 use wjs_arena::Class;
 use wjs_base::{OutOfMemory, Value};
 use wjs_deeds::{builtin, object_of};
-use wjs_model::{Activation, Config, Form, Frame, Items, Phase, State};
+use wjs_model::{Activation, Config, Frame, Items, Phase, Start, State};
 use wjs_store::WorldStore;
 use wjs_tree::NodeId;
 
@@ -67,11 +67,9 @@ fn frame_of<S: WorldStore>(
 {
     let alloc = config.heap.arena.allocator();
     let activation = Activation {
-        form: Form::Body,
         tree,
         node: body,
-        place: 0,
-        phase: Phase::Due,
+        phase: Phase::Due(Start::Program),
         scope: config.global,
         this: Value::Object(config.global),
         world: config.world,

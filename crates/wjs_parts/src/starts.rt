@@ -12,7 +12,7 @@ ghost use Rattle.wjs_parts.specs.Opening.{StartsParts, frames_of, state_of, unit
 
 use std::alloc::Global;
 use wjs_base::{OutOfMemory, TextId, Texts};
-use wjs_model::{Config, Frames, Phase, State, Unit};
+use wjs_model::{Config, Frames, Phase, Start, State, Unit};
 use wjs_start::{FIRST_WORLD, GLOBAL_OBJECT, first_heap, program_frame, script_names};
 use wjs_store::WorldStore;
 
@@ -88,7 +88,7 @@ fn library_frame(alloc: Global, library: &Option<Unit>) -> Result<Frames, OutOfM
 {
     let mut frames = Frames::new(alloc);
     if let Some(library) = library {
-        frames.push(program_frame(alloc, 0, library.program.body, Phase::Due)?)?;
+        frames.push(program_frame(alloc, 0, library.program.body, Phase::Due(Start::Program))?)?;
     }
     Ok(frames)
 }

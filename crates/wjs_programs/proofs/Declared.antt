@@ -1,8 +1,8 @@
 -- The names that are declared in a body: they are in the table, and the nodes have the same.
 use Rattle.std.specs.Prelude.{◌≡◌, ℕ, List, [], ◌∷◌, ◌++◌, All, slice_get}
-use Rattle.std.proofs.Common.{ap, subst, ◌∙◌}
-use Rattle.std.proofs.lemmas.List.Elements.{All-nil, All-cons, All-append, All-map}
-use Rattle.std.proofs.lemmas.Option.{slice_get_within, get_or_from_slice_get}
+use Rattle.std.proofs.Common.{ap, subst, ◌∙◌, get_or}
+use Rattle.std.proofs.lemmas.List.Elements.{All-nil, All-cons, All-append}
+use Rattle.std.proofs.lemmas.Option.{slice_get_within, slice_get-get_or, get_or_from_slice_get}
 use Rattle.wjs_base.specs.declared.ids.TextId.{TextId}
 use Rattle.wjs_base.specs.Text.{Table, Has as HasText}
 use Rattle.wjs_tree.specs.declared.node.Node.{Node}
@@ -14,8 +14,9 @@ use Rattle.wjs_tree.specs.Trees.{Variables, Init, Stmt, Stmts, Clauses, Elements
 use Rattle.wjs_tree.specs.Shows.{Has, VariablesShow, InitShows, StmtShows, StmtsShow, ClausesShow, ElementsShow}
 use Rattle.wjs_scope.specs.Declarations.{variable_names, init_names, names_declared, all_declared, clauses_declared, elements_declared}
 use Rattle.wjs_scope.specs.Scopes.{declared_name, function_names}
-use Rattle.wjs_scope.specs.Places.{declarator_names, init_declares}
-use Rattle.wjs_model.specs.Texts.{KnowsNode, KnowsInit}
+use Rattle.wjs_scope.specs.Places.{KnowsPlaced, declarator_names, init_declares, placed_names}
+use Rattle.wjs_model.specs.Texts.{KnowsNode}
+use Rattle.wjs_model.proofs.Placed.{nodes_placed}
 use Rattle.wjs_programs.specs.Numbered.{functions_declared}
 
 module _ (ns : List Node) where
@@ -61,71 +62,75 @@ module _ (ns : List Node) where
 
 -- ---- what the table knows
 
+abbrev pub AreKnown : Table → List TextId → Type 0
+AreKnown texts names = All (HasText texts) names
+
+none : (texts : Table) → AreKnown texts []
+none texts = All-nil (HasText texts)
+
+both : (texts : Table) (xs ys : List TextId) → AreKnown texts xs → AreKnown texts ys → AreKnown texts (xs ++ ys)
+both texts xs ys a b = All-append (HasText texts) xs ys a b
+
+-- the names of `var`s, where the table has the names that have places
+module _ (texts : Table) (ns : List Node) (placed : KnowsPlaced texts ns) where
+  of_node : (i : NodeId) (n : Node) → Has ns i n → AreKnown texts (placed_names n)
+  of_node i n has = λ k d lt. placed i n k (get_or (placed_names n) k d) has (slice_get-get_or (placed_names n) k d lt)
+
+  of_variables : (t : Variables) (list : List Declarator) (used : List ℕ) → VariablesShow ns t list used → AreKnown texts (declarator_names list) → AreKnown texts (variable_names t)
+  of_variables t list used h known = subst (AreKnown texts) (names_shown ns t list used h) known
+
+  of_init : (t : Init) (init : ForInit) (used : List ℕ) → InitShows ns t init used → AreKnown texts (init_declares init) → AreKnown texts (init_names t)
+  of_init t init used h known = subst (AreKnown texts) (init_shown ns t init used h) known
+
+  mutual
+    stmt_known : (t : Stmt) (i : NodeId) (used : List ℕ) → StmtShows ns t i used → AreKnown texts (names_declared t)
+    stmt_known (Block body) i used h = stmts_known body h.0 h.1 h.4
+    stmt_known (Var vs end) i used h = of_variables vs h.0 h.1 h.4 (of_node i _ h.2)
+    stmt_known Empty i used h = none texts
+    stmt_known (ExprStmt e end) i used h = none texts
+    stmt_known (If e s) i used h = stmt_known s h.1 h.3 h.7
+    stmt_known (IfElse e s u) i used h = both texts (names_declared s) (names_declared u) (stmt_known s h.1 h.4 h.9) (stmt_known u h.2 h.5 h.10)
+    stmt_known (DoWhile s e end) i used h = stmt_known s h.0 h.2 h.6
+    stmt_known (While e s) i used h = stmt_known s h.1 h.3 h.7
+    stmt_known (For init test update s) i used h = both texts (init_names init) (names_declared s) (of_init init h.0 h.4 h.10 (of_node i _ h.8)) (stmt_known s h.3 h.7 h.13)
+    stmt_known (ForIn t e s) i used h = stmt_known s h.2 h.5 h.10
+    stmt_known (ForVarIn x e s) i used h = both texts (x ∷ []) (names_declared s) (of_node i _ h.4) (stmt_known s h.1 h.3 h.7)
+    stmt_known (Continue label end) i used h = none texts
+    stmt_known (Break label end) i used h = none texts
+    stmt_known (Return e end) i used h = none texts
+    stmt_known (Throw e end) i used h = none texts
+    stmt_known (Label x s) i used h = stmt_known s h.0 h.1 h.4
+    stmt_known (Switch e list) i used h = clauses_known list h.1 h.3 h.7
+    stmt_known (TryCatch b x c) i used h = both texts (all_declared b) (all_declared c) (stmts_known b h.2 h.4 h.9) (stmts_known c h.3 h.5 h.11)
+    stmt_known (TryFinally b f) i used h = both texts (all_declared b) (all_declared f) (stmts_known b h.2 h.4 h.9) (stmts_known f h.3 h.5 h.11)
+    stmt_known (TryBoth b x c f) i used h =
+        both texts (all_declared b) (all_declared c ++ all_declared f) (stmts_known b h.3 h.6 h.12) (both texts (all_declared c) (all_declared f) (stmts_known c h.4 h.7 h.14) (stmts_known f h.5 h.8 h.16))
+    stmt_known (Within e b) i used h = stmts_known b h.2 h.4 h.9
+
+    stmts_known : (t : Stmts) (list : List NodeId) (used : List ℕ) → StmtsShow ns t list used → AreKnown texts (all_declared t)
+    stmts_known NoStmt list used h = none texts
+    stmts_known (MoreStmts s rest) list used h = both texts (names_declared s) (all_declared rest) (stmt_known s h.0 h.2 h.6) (stmts_known rest h.1 h.3 h.7)
+
+    clauses_known : (t : Clauses) (list : List Clause) (used : List ℕ) → ClausesShow ns t list used → AreKnown texts (clauses_declared t)
+    clauses_known NoClause list used h = none texts
+    clauses_known (Case e body rest) list used h = both texts (all_declared body) (clauses_declared rest) (stmts_known body h.1 h.4 h.9) (clauses_known rest h.2 h.5 h.10)
+    clauses_known (Default body rest) list used h = both texts (all_declared body) (clauses_declared rest) (stmts_known body h.0 h.2 h.6) (clauses_known rest h.1 h.3 h.7)
+
+  pub elements_known : (t : Elements) (list : List NodeId) (used : List ℕ) → ElementsShow ns t list used → AreKnown texts (elements_declared t)
+  elements_known NoElement list used h = none texts
+  elements_known (Statement s rest) list used h = both texts (names_declared s) (elements_declared rest) (stmt_known s h.0 h.2 h.6) (elements_known rest h.1 h.3 h.7)
+  elements_known (FunctionDecl x formals body rest) list used h = elements_known rest h.2 h.4 h.9
+
+-- the names of a function's scope, where the table has the texts of the nodes
 module _ (texts : Table) (ns : List Node) (knows : All (KnowsNode texts) ns) where
   pub node_known : (i : NodeId) (n : Node) → Has ns i n → KnowsNode texts n
   node_known i n has = subst (KnowsNode texts) (get_or_from_slice_get ns i.0 n n has) (knows i.0 n (slice_get_within ns i.0 n has))
 
-  abbrev pub AreKnown : List TextId → Type 0
-  AreKnown names = All (HasText texts) names
-
-  none : AreKnown []
-  none = All-nil (HasText texts)
-
-  both : (xs ys : List TextId) → AreKnown xs → AreKnown ys → AreKnown (xs ++ ys)
-  both xs ys a b = All-append (HasText texts) xs ys a b
-
-  variables_known : (t : Variables) (list : List Declarator) (used : List ℕ) → VariablesShow ns t list used → All (λ (d : Declarator). HasText texts d.name) list → AreKnown (variable_names t)
-  variables_known t list used h known = subst AreKnown (names_shown ns t list used h) (All-map (HasText texts) (λ (d : Declarator). d.name) list known)
-
-  init_known : (t : Init) (init : ForInit) (used : List ℕ) → InitShows ns t init used → KnowsInit texts init → AreKnown (init_names t)
-  init_known NoInit init used h known = none
-  init_known (InitExpr e) init used h known = none
-  init_known (InitVar vs) init used h known = variables_known vs h.0 used h.2 (subst (KnowsInit texts) h.1 known)
-
-  mutual
-    stmt_known : (t : Stmt) (i : NodeId) (used : List ℕ) → StmtShows ns t i used → AreKnown (names_declared t)
-    stmt_known (Block body) i used h = stmts_known body h.0 h.1 h.4
-    stmt_known (Var vs end) i used h = variables_known vs h.0 h.1 h.4 (node_known i _ h.2)
-    stmt_known Empty i used h = none
-    stmt_known (ExprStmt e end) i used h = none
-    stmt_known (If e s) i used h = stmt_known s h.1 h.3 h.7
-    stmt_known (IfElse e s u) i used h = both (names_declared s) (names_declared u) (stmt_known s h.1 h.4 h.9) (stmt_known u h.2 h.5 h.10)
-    stmt_known (DoWhile s e end) i used h = stmt_known s h.0 h.2 h.6
-    stmt_known (While e s) i used h = stmt_known s h.1 h.3 h.7
-    stmt_known (For init test update s) i used h = both (init_names init) (names_declared s) (init_known init h.0 h.4 h.10 (node_known i _ h.8)) (stmt_known s h.3 h.7 h.13)
-    stmt_known (ForIn t e s) i used h = stmt_known s h.2 h.5 h.10
-    stmt_known (ForVarIn x e s) i used h = All-cons (HasText texts) x (names_declared s) (node_known i _ h.4) (stmt_known s h.1 h.3 h.7)
-    stmt_known (Continue label end) i used h = none
-    stmt_known (Break label end) i used h = none
-    stmt_known (Return e end) i used h = none
-    stmt_known (Throw e end) i used h = none
-    stmt_known (Label x s) i used h = stmt_known s h.0 h.1 h.4
-    stmt_known (Switch e list) i used h = clauses_known list h.1 h.3 h.7
-    stmt_known (TryCatch b x c) i used h = both (all_declared b) (all_declared c) (stmts_known b h.2 h.4 h.9) (stmts_known c h.3 h.5 h.11)
-    stmt_known (TryFinally b f) i used h = both (all_declared b) (all_declared f) (stmts_known b h.2 h.4 h.9) (stmts_known f h.3 h.5 h.11)
-    stmt_known (TryBoth b x c f) i used h =
-        both (all_declared b) (all_declared c ++ all_declared f) (stmts_known b h.3 h.6 h.12) (both (all_declared c) (all_declared f) (stmts_known c h.4 h.7 h.14) (stmts_known f h.5 h.8 h.16))
-    stmt_known (Within e b) i used h = stmts_known b h.2 h.4 h.9
-
-    stmts_known : (t : Stmts) (list : List NodeId) (used : List ℕ) → StmtsShow ns t list used → AreKnown (all_declared t)
-    stmts_known NoStmt list used h = none
-    stmts_known (MoreStmts s rest) list used h = both (names_declared s) (all_declared rest) (stmt_known s h.0 h.2 h.6) (stmts_known rest h.1 h.3 h.7)
-
-    clauses_known : (t : Clauses) (list : List Clause) (used : List ℕ) → ClausesShow ns t list used → AreKnown (clauses_declared t)
-    clauses_known NoClause list used h = none
-    clauses_known (Case e body rest) list used h = both (all_declared body) (clauses_declared rest) (stmts_known body h.1 h.4 h.9) (clauses_known rest h.2 h.5 h.10)
-    clauses_known (Default body rest) list used h = both (all_declared body) (clauses_declared rest) (stmts_known body h.0 h.2 h.6) (clauses_known rest h.1 h.3 h.7)
-
-  elements_known : (t : Elements) (list : List NodeId) (used : List ℕ) → ElementsShow ns t list used → AreKnown (elements_declared t)
-  elements_known NoElement list used h = none
-  elements_known (Statement s rest) list used h = both (names_declared s) (elements_declared rest) (stmt_known s h.0 h.2 h.6) (elements_known rest h.1 h.3 h.7)
-  elements_known (FunctionDecl x formals body rest) list used h = elements_known rest h.2 h.4 h.9
-
-  functions_known : (t : Elements) (list : List NodeId) (used : List ℕ) → ElementsShow ns t list used → AreKnown (functions_declared t)
-  functions_known NoElement list used h = none
+  functions_known : (t : Elements) (list : List NodeId) (used : List ℕ) → ElementsShow ns t list used → AreKnown texts (functions_declared t)
+  functions_known NoElement list used h = none texts
   functions_known (Statement s rest) list used h = functions_known rest h.1 h.3 h.7
   functions_known (FunctionDecl x formals body rest) list used h = All-cons (HasText texts) x (functions_declared rest) (node_known h.0 _ h.7).0 (functions_known rest h.2 h.4 h.9)
 
-  pub names_known : (formals : List TextId) (t : Elements) (list : List NodeId) (used : List ℕ) → AreKnown formals → ElementsShow ns t list used → AreKnown (formals ++ (functions_declared t ++ elements_declared t))
+  pub names_known : (formals : List TextId) (t : Elements) (list : List NodeId) (used : List ℕ) → AreKnown texts formals → ElementsShow ns t list used → AreKnown texts (formals ++ (functions_declared t ++ elements_declared t))
   names_known formals t list used known h =
-      both formals (functions_declared t ++ elements_declared t) known (both (functions_declared t) (elements_declared t) (functions_known t list used h) (elements_known t list used h))
+      both texts formals (functions_declared t ++ elements_declared t) known (both texts (functions_declared t) (elements_declared t) (functions_known t list used h) (elements_known texts ns (nodes_placed texts ns knows) t list used h))

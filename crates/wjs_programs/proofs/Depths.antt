@@ -63,7 +63,7 @@ target_same (node.Paren e) f g a = a.0
 target_same n f g a = refl
 
 module _ (f g : ℕ → List Text) where
-  abbrev Same : List ℕ → Type 0
+  abbrev pub Same : List ℕ → Type 0
   Same ss = AllByRecursion (λ (s : ℕ). f s ≡ g s) ss
 
   joined : (us vs : List Text) (xs ys : List Text) → us ≡ vs → xs ≡ ys → us ++ xs ≡ vs ++ ys
@@ -85,7 +85,7 @@ module _ (f g : ℕ → List Text) where
   clauses_same [] a = refl
   clauses_same (c ∷ clauses) a = let z = all_apart (λ (s : ℕ). f s ≡ g s) c.1 (clause_parts clauses) a in joined _ _ _ _ (list_same c.1 z.0) (clauses_same clauses z.1)
 
-  vars_same : (n : Node) → Same (inner_parts n) → vars_of_form n f ≡ vars_of_form n g
+  pub vars_same : (n : Node) → Same (inner_parts n) → vars_of_form n f ≡ vars_of_form n g
   vars_same (node.Block ss) a = list_same ss a
   vars_same (node.If e s t) a = joined _ _ _ _ a.0 (option_same t a.1)
   vars_same (node.DoWhile s e) a = a.0
@@ -109,7 +109,7 @@ module _ (t : Tree) (over : (k : ℕ) → IsOver k (node_at t k)) where
   targets_agree (suc d) zero k a b = absurd (omega arith)
   targets_agree (suc d) (suc e) k a b = target_same (node_at t k) (λ s. is_target_to d t s) (λ s. is_target_to e t s) (all_more _ _ (inner_parts (node_at t k)) (λ s lt. targets_agree d e s (omega arith) (omega arith)) (over k).lower)
 
-  vars_agree : (d e k : ℕ) → k < d → k < e → vars_to d t k ≡ vars_to e t k
+  pub vars_agree : (d e k : ℕ) → k < d → k < e → vars_to d t k ≡ vars_to e t k
   vars_agree zero e k a b = absurd (omega arith)
   vars_agree (suc d) zero k a b = absurd (omega arith)
   vars_agree (suc d) (suc e) k a b = vars_same (λ s. vars_to d t s) (λ s. vars_to e t s) (node_at t k) (all_more _ _ (inner_parts (node_at t k)) (λ s lt. vars_agree d e s (omega arith) (omega arith)) (over k).lower)

@@ -25,3 +25,5 @@ pub mod Over
 pub mod Lowering
 pub mod Depths
 pub mod Next
+pub mod Reaching
+pub mod Declaring

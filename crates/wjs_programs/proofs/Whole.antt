@@ -48,7 +48,7 @@ module _ (texts : Table) (ns : List Node) (body : NodeId) (tree : Elements) (Has
   inner : (k : ℕ) → Part HasOne (List ℕ) (numbers numbered.is.list) (elements texts [] k tree).0 numbered.is.used k (elements texts [] k tree).1
   inner k = elements_part texts ns HasOne Among steps [] k tree numbered.is.list numbered.is.used numbered.is.shows (of_parts texts ns HasOne Among steps body [] numbered.is.list numbered.is.has top refl)
 
-  abbrev entries : List Entry
+  abbrev pub entries : List Entry
   entries = let l = elements texts [] (count texts tree - 1) tree in plain (node.Program l.0) l.1
 
   all : Part HasOne ℕ body.0 (count texts tree) (body.0 ∷ numbered.is.used) (count texts tree) entries
@@ -63,7 +63,7 @@ module _ (texts : Table) (ns : List Node) (body : NodeId) (tree : Elements) (Has
   body_is : body.0 ≡ count texts tree
   body_is = all.same run
 
-  listed : AreEntries HasOne (falling (length ns)) entries
+  pub listed : AreEntries HasOne (falling (length ns)) entries
   listed = subst (λ (z : List ℕ). AreEntries HasOne z entries) numbered.order (all.entries run)
 
   of_each : {T : Type 0} (f : Entry → T) (xs : List T) → length xs ≡ length ns → ((k : ℕ) (e : Entry) → HasOne k e → slice_get xs k ≡ Some (f e)) → xs ≡ reverse (each f entries)

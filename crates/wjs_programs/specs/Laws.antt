@@ -8,9 +8,12 @@ use Rattle.wjs_tree.specs.Spelling.{ElementsStand}
 use Rattle.wjs_tree.specs.declared.node.Node.{Node}
 use Rattle.wjs_tree.specs.declared.node.NodeId.{NodeId}
 use Rattle.wjs_lexer.specs.Lexing.{HasTokens}
-use Rattle.wjs_scope.specs.Places.{ArePlaces, arguments_text}
+use Rattle.wjs_scope.specs.declared.declarations.Declarations.{Declarations}
+use Rattle.wjs_scope.specs.Bodies.{BodiesStand, AreDeclared}
+use Rattle.wjs_scope.specs.Places.{IsScript, ArePlaces, arguments_text}
 use Rattle.wjs_order.specs.Order.{IsNumbered}
 use Rattle.wjs_meaning.specs.Trees.{Tree}
+use Rattle.wjs_model.specs.Bodies.{AreMeant}
 use Rattle.wjs_model.specs.Texts.{KnowsNode, KnowsUnit}
 use Rattle.wjs_model.specs.Units.{unit_in}
 use Rattle.wjs_model.specs.declared.unit.Unit.{Unit as Program}
@@ -27,6 +30,14 @@ abbrev pub UnitsAreTrees : Type 0
 UnitsAreTrees =
     (texts : Table) (unit : Program) (tree : Elements) (arguments : Option TextId) → IsTable texts → IsNumbered unit.program.nodes tree unit.program.body → KnowsUnit texts unit → Finds texts arguments_text arguments
     → ArePlaces unit.program.nodes arguments unit.program.body unit.places → unit_in texts unit ≡ tree_of texts tree
+
+-- each body of a numbered script has its elements
+abbrev pub AllBodiesStand : Type 0
+AllBodiesStand = (ns : List Node) (tree : Elements) (body : NodeId) → IsNumbered ns tree body → IsScript ns body → BodiesStand ns
+
+-- what a table has of the bodies of a numbered script by its tree is what they declare in the meaning
+abbrev pub BodiesAreMeant : Type 0
+BodiesAreMeant = (ns : List Node) (tree : Elements) (body : NodeId) (table : List Declarations × Declarations) → IsNumbered ns tree body → IsScript ns body → AreDeclared ns table → AreMeant ns table
 
 -- bytes spell one program at most
 abbrev pub OneProgram : Type 0

@@ -16,3 +16,4 @@ pub mod Placing
 pub mod Texts
 pub mod Bodies
 pub mod Arguments
+pub mod Tabling

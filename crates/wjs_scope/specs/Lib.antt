@@ -7,3 +7,4 @@ pub mod Levels
 pub mod Places
 pub mod Visits
 pub mod Contents
+pub mod Bodies

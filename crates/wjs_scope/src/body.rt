@@ -9,7 +9,7 @@ ghost use Rattle.wjs_walk.specs.Forms.{AreElements};
 ghost use Rattle.wjs_walk.specs.There.{ElementsThere, ElementThere};
 ghost use Rattle.wjs_scope.specs.Answers.{BodyThere, ElementAdds};
 
-use crate::declarations::Declared;
+use crate::declarations::Declarations;
 use crate::names::Names;
 use crate::walk::statement;
 use std::alloc::Global;
@@ -17,11 +17,15 @@ use wjs_base::{OutOfMemory, TextId};
 use wjs_tree::{Node, NodeId, Nodes, Sequence};
 
 /// What the body of a script or a function declares.
-pub fn declared(alloc: Global, nodes: &Nodes, body: NodeId) -> Result<Declared, OutOfMemory>
+pub(crate) fn declared(
+    alloc: Global,
+    nodes: &Nodes,
+    body: NodeId,
+) -> Result<Declarations, OutOfMemory>
     requires { BodyThere nodes.now body }
     ensures formals { IfOk result (λ d. (node : Node) → Has nodes.now body node → d.formals ≡ formals_of node) }
     ensures functions { IfOk result (λ d. (node : Node) → Has nodes.now body node → d.functions ≡ functions_among nodes.now (elements_of node)) }
-    ensures vars { IfOk result (λ d. (node : Node) (t : Elements) → Has nodes.now body node → AreElements nodes.now t (elements_of node) → d.vars ≡ variables t) }
+    ensures vars { IfOk result (λ d. (node : Node) (t : Elements) → Has nodes.now body node → AreElements nodes.now t (elements_of node) → d.variables ≡ variables t) }
 {
     match nodes.node(body) {
         Node::Program(elements) => of_body(alloc, nodes, &[], elements.as_slice()),
@@ -46,21 +50,21 @@ fn of_body(
     nodes: &Nodes,
     formals: &[TextId],
     elements: &[NodeId],
-) -> Result<Declared, OutOfMemory>
+) -> Result<Declarations, OutOfMemory>
     requires { ElementsThere nodes.now 200 elements.now }
     ensures formals { IfOk result (λ d. d.formals ≡ formals.now) }
     ensures functions { IfOk result (λ d. d.functions ≡ functions_among nodes.now elements.now) }
-    ensures vars { IfOk result (λ d. (t : Elements) → AreElements nodes.now t elements.now → d.vars ≡ variables t) }
+    ensures vars { IfOk result (λ d. (t : Elements) → AreElements nodes.now t elements.now → d.variables ≡ variables t) }
 {
     let Ok(formals) = Vec::from_slice(alloc, formals) else {
         return Err(OutOfMemory);
     };
     let functions = functions_of(alloc, nodes, elements)?;
     let vars = variables_of(alloc, nodes, elements)?;
-    Ok(Declared {
+    Ok(Declarations {
         formals: Sequence::from_vec(formals),
         functions,
-        vars,
+        variables: vars,
     })
 }
 

@@ -29,11 +29,13 @@ use Rattle.wjs_store.proofs.Moved.{neither, content_after_commit}
 use Rattle.wjs_store.proofs.MovedMarks.{past_at, past_writes}
 use Rattle.wjs_store.proofs.MarksLaw.{marks_moved}
 use Rattle.wjs_store.proofs.Refused.{refused_stays}
+use Rattle.wjs_overlay.specs.Reset.{renewed, after_reset}
+use Rattle.wjs_overlay.proofs.Resetting.{reached_reset}
 use Rattle.wjs_session.specs.Session.{holding, world_at, first_copy, has_child, full_of, around_of}
 use Rattle.wjs_session.specs.Kept.{IsChild, IsSession}
 use Rattle.wjs_session.specs.Returns.{Returns}
 use Rattle.wjs_session.specs.Settled.{Settles}
-use Rattle.wjs_session.specs.Others.{Leaves, TurnsLeaveOthers, BeginsLeaveOthers, EndsLeaveOthers, WritesLeaveOthers, ReturnsCompose, NumbersByOwner}
+use Rattle.wjs_session.specs.Others.{Leaves, TurnsLeaveOthers, BeginsLeaveOthers, EndsLeaveOthers, AbandonsLeaveOthers, WritesLeaveOthers, ReturnsCompose, NumbersByOwner}
 use Rattle.wjs_session.proofs.Worlds.{found_at, content_is, first_each, first_there, first_child, Above, above}
 use Rattle.wjs_session.proofs.Acting.{first_write}
 use Rattle.wjs_session.proofs.Committing.{first_commit}
@@ -265,6 +267,41 @@ ends F F' j G verdict k e = subst (Leaves F j) (sym e.worlds) (by verdict e.answ
     by Moved q = leaves_moved F j k.shared k.child (sym q)
     by (Disagrees s) q = refused (differs s) q refl
     by NoParent q = refused no_parent q refl
+
+-- ---- a session that is given up
+
+reset_first : (F : Worlds) (j : WorldId) → first_of (after_reset F j) ≡ first_of F
+unfolding after_reset
+reset_first F j = by (with_parent F j)
+  where
+    by : (o : Option (World plain × World plain)) → first_of (option_map_or (λ (e : World plain × World plain). at_world j (renewed e.1) F) o F) ≡ first_of F
+    by None = refl
+    by (Some e) = first_each (λ y. cond (same_world y.id j) (renewed e.1 y) y) (λ y. by_one (same_world y.id j) (λ (z : World plain). z.id ≡ y.id) refl refl) F
+
+kids_reset : (i j : WorldId) (F : Worlds) → has_child (after_reset F j) i ≡ has_child F i
+unfolding after_reset
+kids_reset i j F = by (with_parent F j)
+  where
+    by : (o : Option (World plain × World plain)) → has_child (option_map_or (λ (e : World plain × World plain). at_world j (renewed e.1) F) o F) i ≡ has_child F i
+    by None = refl
+    by (Some e) = kids_at i j (renewed e.1) (λ y. refl) F
+
+find_reset : (F : Worlds) (j d : WorldId) → same_world d j ≡ false → find_world (after_reset F j) d ≡ find_world F d
+unfolding after_reset
+find_reset F j d n = by (with_parent F j)
+  where
+    by : (o : Option (World plain × World plain)) → find_world (option_map_or (λ (e : World plain × World plain). at_world j (renewed e.1) F) o F) d ≡ find_world F d
+    by None = refl
+    by (Some e) = past_at j (renewed e.1) (λ y. refl) F d n
+
+pub abandons : AbandonsLeaveOthers
+abandons F F' j G k e =
+    let a = above F j k.shared k.child in
+    let r = reached_reset F j k.shared k.child.leaf in
+    subst (λ (H : Worlds). Leaves F j H × (first_copy H ≡ first_copy F)) (sym e) (
+      leaves_by F (after_reset F j) j r (reset_first F j) (find_reset F j) (λ i c. kids_reset i j F ∙ c.leaf),
+      base_by F (after_reset F j) j r (reset_first F j) (find_reset F j) a.id a.first a.other,
+    )
 
 -- ---- a write in the first world
 

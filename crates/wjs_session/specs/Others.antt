@@ -9,6 +9,7 @@ use Rattle.wjs_store.specs.Shown.{first_of}
 use Rattle.wjs_store.specs.Reached.{IsReached}
 use Rattle.wjs_store.specs.Meaning.{View, Worlds}
 use Rattle.wjs_store.specs.declared.store.Verdict.{Verdict}
+use Rattle.wjs_overlay.specs.Reset.{after_reset}
 use Rattle.wjs_session.specs.Session.{holding, world_at, first_copy, full_of, around_of}
 use Rattle.wjs_session.specs.Kept.{IsChild, IsSession}
 use Rattle.wjs_session.specs.Returns.{Returns}
@@ -31,6 +32,10 @@ BeginsLeaveOthers = (F F' : Worlds) (j : WorldId) (G' : Worlds) → IsSession F'
 -- a session that is settled, whether it moves or not
 abbrev pub EndsLeaveOthers : Type 0
 EndsLeaveOthers = (F F' : Worlds) (j : WorldId) (G : Worlds) (verdict : Verdict) → IsSession F j G → Settles F j G F' verdict → Leaves F j F'
+
+-- a session that is given up; what the first world holds stays
+abbrev pub AbandonsLeaveOthers : Type 0
+AbandonsLeaveOthers = (F F' : Worlds) (j : WorldId) (G : Worlds) → IsSession F j G → F' ≡ after_reset F j → Leaves F j F' × (first_copy F' ≡ first_copy F)
 
 -- a write in the first world
 abbrev pub WritesLeaveOthers : Type 0

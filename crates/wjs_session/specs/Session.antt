@@ -3,15 +3,15 @@
 -- touched nothing by the view.
 use Rattle.std.specs.Prelude.{◌≡◌, Bool, false, ◌&&◌, ◌||◌, List, map as each, None, Some, is_none, unwrap_or}
 use Rattle.std.specs.Option.{option_map_or}
-use Rattle.std.specs.List.{list_any}
 use Rattle.std.specs.FinMap as map
 use Rattle.wjs_base.specs.declared.ids.WorldId.{WorldId}
 use Rattle.wjs_base.specs.declared.values.Slot.{Slot}
 use Rattle.wjs_base.specs.Same.{same_value}
 use Rattle.wjs_store.specs.Naming.{plain}
-use Rattle.wjs_store.specs.State.{World, find_world, same_world, is_touched, same_content, fault_in, at_world}
+use Rattle.wjs_store.specs.State.{World, find_world, is_touched, same_content, fault_in, at_world}
 use Rattle.wjs_store.specs.Shown.{first_of}
 use Rattle.wjs_store.specs.Meaning.{Meaning, View, Worlds, PlainAct, PlainReply}
+pub use Rattle.wjs_overlay.specs.Reset.{has_child}
 use Rattle.wjs_session.specs.Filled.{filled}
 use Rattle.wjs_session.specs.Along.{own_of}
 
@@ -26,10 +26,6 @@ world_at F i = unwrap_or (find_world F i) (holding i map.empty)
 -- what the first world holds
 abbrev pub first_copy : Worlds → View
 first_copy F = option_map_or (λ i. (world_at F i).copy) (first_of F) map.empty
-
--- whether a world has a child
-abbrev pub has_child : Worlds → WorldId → Bool
-has_child F i = list_any (λ (y : World plain). option_map_or (λ p. same_world p i) y.parent false) F
 
 -- ---- of the shared world x, and the inner worlds G
 

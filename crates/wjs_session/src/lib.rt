@@ -15,8 +15,9 @@ mod settling;
 mod told;
 
 pub use others::{
-    begins_leave_others, ends_leave_others, numbers_by_owner, resting_is_sound,
-    resting_stands_still, returns_compose, turns_leave_others, writes_leave_others,
+    abandons_leave_others, begins_leave_others, ends_leave_others, numbers_by_owner,
+    resting_is_sound, resting_stands_still, returns_compose, turns_leave_others,
+    writes_leave_others,
 };
 pub use resting::{Resting, rest_changes_nothing};
 pub use session::Session;

@@ -1,5 +1,6 @@
-//! The end of a session: whether its check passes, and its commit into the first world.
+//! The end of a session: whether its check passes, its commit into the first world, and that it is given up.
 ghost use Rattle.std.specs.Prelude.{◌≡◌, false, true, IfOk};
+ghost use Rattle.wjs_overlay.specs.Reset.{after_reset};
 ghost use Rattle.wjs_session.specs.Stores.{worlds_in};
 ghost use Rattle.wjs_session.specs.Session.{world_at};
 ghost use Rattle.wjs_session.specs.Settled.{Agrees, Settles};
@@ -40,5 +41,24 @@ impl Session {
         } = self;
         let verdict = shared.commit(world)?;
         Ok((shared, verdict))
+    }
+
+    /// Gives the session up, and the shared store back: nothing of what was done in the session is kept, but that its world is
+    /// there, as a new child of the first one.
+    pub fn abandon(self) -> Overlay
+        requires { self.spent ≡ false }
+        ensures worlds { worlds_in result ≡ after_reset (worlds_in self.shared) self.world }
+        ensures works { result.spent ≡ false }
+    {
+        let Session {
+            mut shared,
+            inner: _,
+            world,
+            nested: _,
+            told: _,
+            spent: _,
+        } = self;
+        shared.reset(world);
+        shared
     }
 }

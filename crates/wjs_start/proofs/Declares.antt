@@ -17,8 +17,7 @@ use Rattle.wjs_model.specs.declared.unit.Unit.{Unit as Program}
 use Rattle.wjs_model.specs.Texts.{KnowsUnit, KnowsNode}
 use Rattle.wjs_model.specs.Units.{unit_in, node_of}
 use Rattle.wjs_start.specs.Declaring.{declared_by_tree}
-use Rattle.wjs_declared.proofs.Naming.{node_named}
-use Rattle.wjs_declared.proofs.Knowing.{node_known}
+use Rattle.wjs_model.proofs.Naming.{node_named, node_known}
 
 -- the name at a node
 abbrev pub name_in : Table → Program → ℕ → Option Text

@@ -29,7 +29,7 @@ use Rattle.wjs_meaning.specs.Start.{start, first_arena, properties}
 use Rattle.wjs_model.specs.declared.config.Config.{Config}
 use Rattle.wjs_model.specs.declared.config.State.TheVariants as states
 use Rattle.wjs_model.specs.declared.frame.Activation.{Activation as Frame}
-use Rattle.wjs_model.specs.declared.frame.Phase.TheVariants as phases
+use Rattle.wjs_model.specs.declared.frame.Phase.{Phase}
 use Rattle.wjs_model.specs.declared.unit.Unit.{Unit as Program}
 use Rattle.wjs_model.specs.Outside.{alone}
 use Rattle.wjs_model.proofs.Beside.{beside_nothing}
@@ -37,7 +37,7 @@ use Rattle.wjs_model.specs.Configurations.{run_in, frames_in, state_in, rest, se
 use Rattle.wjs_model.specs.Contents.{Frame as Framed, Run, frame_in}
 use Rattle.wjs_model.specs.Laws.{run_of, trees_of, script_names, first_frames}
 use Rattle.wjs_model.specs.Rest.{rest_of}
-use Rattle.wjs_model.specs.Soundness.{HasObject, HasWorld, IsThere, Base, Sound}
+use Rattle.wjs_model.specs.Soundness.{HasObject, HasPhase, HasWorld, IsStacked, Base, Sound}
 use Rattle.wjs_model.specs.Standing.{FunctionStands, Stands}
 use Rattle.wjs_model.specs.Texts.{KnowsUnit, PlacesUnit}
 use Rattle.wjs_model.specs.Units.{unit_in}
@@ -48,7 +48,7 @@ use Rattle.wjs_deeds.proofs.Staying.{units_stay}
 use Rattle.wjs_start.proofs.NoneApart.{all_near, objects_near, slots_near}
 use Rattle.wjs_start.specs.Declaring.{declared_by_tree}
 use Rattle.wjs_start.specs.First.{IsNew, IsFirst, is_script, writes_told}
-use Rattle.wjs_start.specs.Starting.{Starts, body_of, frame_at, frames_of, units_of}
+use Rattle.wjs_start.specs.Starting.{Starts, body_of, begins, waits, frame_at, frames_of, units_of}
 
 -- ---- programs and frames
 
@@ -56,19 +56,23 @@ names_are : (library : Option Tree) (script : Tree) → script_names library scr
 names_are None script = refl
 names_are (Some library) script = refl
 
-trees_are : (t : Table) (library : Option Program) (script : Program) → map (unit_in t) (units_of library script) ≡ trees_of (option_map (unit_in t) library) (unit_in t script)
+trees_are : (t : Table) (library : Option Program) (script : Program)
+    → map (unit_in t) (units_of library script) ≡ trees_of (option_map (unit_in t) library) (unit_in t script)
 trees_are t None script = refl
 trees_are t (Some library) script = refl
 
-frames_are : (t : Table) (library : Option Program) (script : Program) → map (frame_in t) (frames_of (option_map body_of library) (body_of script)) ≡ first_frames (option_map (unit_in t) library) (unit_in t script)
+frames_are : (t : Table) (library : Option Program) (script : Program)
+    → map (frame_in t) (frames_of (option_map body_of library) (body_of script)) ≡ first_frames (option_map (unit_in t) library) (unit_in t script)
 frames_are t None script = refl
 frames_are t (Some library) script = refl
 
-units_known : (t : Table) (library : Option Program) (script : Program) → IfSome library (KnowsUnit t) → KnowsUnit t script → All (KnowsUnit t) (units_of library script)
+units_known : (t : Table) (library : Option Program) (script : Program) → IfSome library (KnowsUnit t) → KnowsUnit t script
+    → All (KnowsUnit t) (units_of library script)
 units_known t None script h k = All-cons (KnowsUnit t) script [] k (All-nil (KnowsUnit t))
 units_known t (Some library) script h k = All-cons (KnowsUnit t) library (script ∷ []) h (All-cons (KnowsUnit t) script [] k (All-nil (KnowsUnit t)))
 
-units_placed : (t : Table) (library : Option Program) (script : Program) → IfSome library (PlacesUnit t) → PlacesUnit t script → All (PlacesUnit t) (units_of library script)
+units_placed : (t : Table) (library : Option Program) (script : Program) → IfSome library (PlacesUnit t) → PlacesUnit t script
+    → All (PlacesUnit t) (units_of library script)
 units_placed t None script h k = All-cons (PlacesUnit t) script [] k (All-nil (PlacesUnit t))
 units_placed t (Some library) script h k = All-cons (PlacesUnit t) library (script ∷ []) h (All-cons (PlacesUnit t) script [] k (All-nil (PlacesUnit t)))
 
@@ -92,7 +96,8 @@ pub silent_told : (t : Table) (writes : List Told) (done : List (PlainAct × Pla
 silent_told t writes done e = ap (λ (l : List (PlainAct × PlainReply)). tell writes (told_by t (Some l))) e
 
 -- behind the writes of a new store stand the actions of what is left, where it tells them
-pub told_behind : (t : Table) (run : Run) (fs : List Framed) (writes : List Told) (st : St) (n : ℕ) (before : Option (List (PlainAct × PlainReply))) → IfSome before (λ done. done ≡ []) → (told : Option (List Told)) → told ≡ tell writes (told_by t before) → (tells : Bool) → tells ≡ is_some before
+pub told_behind : (t : Table) (run : Run) (fs : List Framed) (writes : List Told) (st : St) (n : ℕ) (before : Option (List (PlainAct × PlainReply)))
+    → IfSome before (λ done. done ≡ []) → (told : Option (List Told)) → told ≡ tell writes (told_by t before) → (tells : Bool) → tells ≡ is_some before
     → seen tells (rest_of run fs (record st { done = unwrap_or told [] }) n) ≡ seen (is_some before) (after_done writes (rest_of run fs (record st { done = [] }) n))
 told_behind t run fs writes st n None silent told e tells f = λ i. seen (f i) (rest_of run fs (record st { done = unwrap_or (e i) [] }) n)
 told_behind t run fs writes st n (Some done) silent told e tells f =
@@ -105,7 +110,8 @@ told_behind t run fs writes st n (Some done) silent told e tells f =
 module _ {S : Type 0} (meaning : S → Meaning) (texts : Table) (before : Meaning) (library : Option Program) (script : Program) (ids : List TextId)
     (h : Heap S) (units : Vec Program Global) (frames : List Frame) (apart pending : Vec ℕ Global) (budget : ℕ)
     (is : IsFirst texts before ids (parts meaning h)) (units_are : units.items ≡ units_of library script) (frames_there : frames ≡ frames_of (option_map body_of library) (body_of script)) (none_kept : apart.items ≡ []) (none_pending : pending.items ≡ []) (new : IsNew before)
-    (names : (t : Table) → IsTable t → KnowsUnit t script → map (text_in t) ids ≡ declared_by_tree (unit_in t script)) (library_known : IfSome library (KnowsUnit texts)) (script_known : KnowsUnit texts script) (library_placed : IfSome library (PlacesUnit texts)) (script_placed : PlacesUnit texts script) where
+    (names : (t : Table) → IsTable t → KnowsUnit t script
+    → map (text_in t) ids ≡ declared_by_tree (unit_in t script)) (library_known : IfSome library (KnowsUnit texts)) (script_known : KnowsUnit texts script) (library_placed : IfSome library (PlacesUnit texts)) (script_placed : PlacesUnit texts script) where
   abbrev c : Config S
   c = record { heap = h; units = units; frames = frames; global = global_object; world = first_world; owner = 0; apart = apart; pending = pending; left = budget; state = states.Running }
 
@@ -136,7 +142,8 @@ module _ {S : Type 0} (meaning : S → Meaning) (texts : Table) (before : Meanin
   frames_so : frames_in meaning t c ≡ first_frames lib one
   frames_so = ap (map (frame_in t)) frames_there ∙ frames_are t library script
 
-  state_so : (u : Table) → Grows t u → (v : View) → IsTrue ((meaning h.store).admits v) → state_in meaning t (alone v u) c ≡ record (start (script_names lib one)) { done = unwrap_or (told_by u (meaning h.store).told) [] }
+  state_so : (u : Table) → Grows t u → (v : View) → IsTrue ((meaning h.store).admits v)
+      → state_in meaning t (alone v u) c ≡ record (start (script_names lib one)) { done = unwrap_or (told_by u (meaning h.store).told) [] }
   state_so u g v ok =
       let full = is.slots u g v ok in
       let arena = beside_nothing (arena_in t h.arena) ∙ is.arena t (Grows-refl t) ∙ ap first_arena names_so in
@@ -185,20 +192,28 @@ module _ {S : Type 0} (meaning : S → Meaning) (texts : Table) (before : Meanin
   body_stands : (tree : ℕ) (u : Program) → slice_get (units_of library script) tree ≡ Some u → Stands units.items h.arena tree (body_of u) global_object 0
   body_stands tree u e = record { unit = u; found = ap (λ (us : List Program). slice_get us tree) units_are ∙ e; arguments = None; scopes = []; around = ([], (refl, refl)); outwards = tt }
 
-  due_there : (tree : ℕ) (u : Program) → slice_get (units_of library script) tree ≡ Some u → IsThere meaning c (frame_at tree (body_of u) phases.Due)
-  due_there tree u e = record { scope = builtin_there 2 (omega arith); this = builtin_there 2 (omega arith); world = is.first; held = tt; phase = tt; stands = record { node = body_stands tree u e; body = tt; shown = (builtin 13, is.shown) } }
-
-  waiting_there : (tree : ℕ) (u : Program) → slice_get (units_of library script) tree ≡ Some u → IsThere meaning c (frame_at tree (body_of u) phases.Waiting)
-  waiting_there tree u e = record { scope = builtin_there 2 (omega arith); this = builtin_there 2 (omega arith); world = is.first; held = tt; phase = tt; stands = record { node = body_stands tree u e; body = tt; shown = (builtin 13, is.shown) } }
+  -- a program's frame is there, with a phase that names nothing
+  frame_there : (tree : ℕ) (u : Program) (phase : Phase) → slice_get (units_of library script) tree ≡ Some u
+      → HasPhase c (frame_at tree (body_of u) phase) phase → IsStacked meaning c (frame_at tree (body_of u) phase)
+  frame_there tree u phase e h = record {
+    there = record {
+      scope = builtin_there 2 (omega arith);
+      this = builtin_there 2 (omega arith);
+      world = is.first;
+      held = tt;
+      stands = record { node = body_stands tree u e; shown = (builtin 13, is.shown) };
+    };
+    phase = h;
+  }
 
   program_at : (first : Option Program) (tree : ℕ) → library ≡ first → slice_get (units_of library script) tree ≡ slice_get (units_of first script) tree
   program_at first tree e = ap (λ (o : Option Program). slice_get (units_of o script) tree) e
 
-  all_there : (first : Option Program) → library ≡ first → All (IsThere meaning c) (frames_of (option_map body_of first) (body_of script))
-  all_there None e = All-cons (IsThere meaning c) (frame_at 0 (body_of script) phases.Due) [] (due_there 0 script (program_at None 0 e)) (All-nil (IsThere meaning c))
+  all_there : (first : Option Program) → library ≡ first → All (IsStacked meaning c) (frames_of (option_map body_of first) (body_of script))
+  all_there None e = All-cons (IsStacked meaning c) (frame_at 0 (body_of script) begins) [] (frame_there 0 script begins (program_at None 0 e) tt) (All-nil (IsStacked meaning c))
   all_there (Some first) e =
-      All-cons (IsThere meaning c) (frame_at 1 (body_of script) phases.Waiting) (frame_at 0 (body_of first) phases.Due ∷ []) (waiting_there 1 script (program_at (Some first) 1 e))
-      (All-cons (IsThere meaning c) (frame_at 0 (body_of first) phases.Due) [] (due_there 0 first (program_at (Some first) 0 e)) (All-nil (IsThere meaning c)))
+      All-cons (IsStacked meaning c) (frame_at 1 (body_of script) waits) (frame_at 0 (body_of first) begins ∷ []) (frame_there 1 script waits (program_at (Some first) 1 e) tt)
+      (All-cons (IsStacked meaning c) (frame_at 0 (body_of first) begins) [] (frame_there 0 first begins (program_at (Some first) 0 e) tt) (All-nil (IsStacked meaning c)))
 
   stands : (o : ObjId) (e : Entry) (w : WorldId) → finite.get h.arena o ≡ Some e → e.object.world ≡ Some w → world_of h.arena o ≡ Some w
   stands o e w q r = ap (option_and_then (λ (x : Entry). (x.object).world)) q ∙ r
@@ -226,7 +241,7 @@ module _ {S : Type 0} (meaning : S → Meaning) (texts : Table) (before : Meanin
     own = all_near apart.items none_kept (builtin 0);
     near_objects = λ o e q h. objects_near apart.items none_kept e.object;
     near_slots = slots_near apart.items none_kept (worlds (meaning h.store));
-    frames = subst (All (IsThere meaning c)) (sym frames_there) (all_there library refl);
+    frames = subst (All (IsStacked meaning c)) (sym frames_there) (all_there library refl);
     marks = is.marks;
     told = is.tells;
   }

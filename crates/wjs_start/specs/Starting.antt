@@ -12,7 +12,9 @@ use Rattle.wjs_meaning.specs.Programs.{machine}
 use Rattle.wjs_meaning.specs.Start.{start, properties}
 use Rattle.wjs_model.specs.declared.config.Config.{Config}
 use Rattle.wjs_model.specs.declared.config.State.TheVariants as states
-use Rattle.wjs_model.specs.declared.frame.Form.TheVariants as form
+use Rattle.wjs_model.specs.declared.point.Start.TheVariants as starts
+use Rattle.wjs_model.specs.declared.point.CallPoint.TheVariants as call
+use Rattle.wjs_model.specs.declared.point.Point.TheVariants as points
 use Rattle.wjs_model.specs.declared.frame.Activation.{Activation as Frame}
 use Rattle.wjs_model.specs.declared.frame.Phase.{Phase}
 use Rattle.wjs_model.specs.declared.frame.Phase.TheVariants as phases
@@ -27,12 +29,19 @@ abbrev pub body_of : Program → NodeId
 body_of u = u.program.body
 
 abbrev pub frame_at : ℕ → NodeId → Phase → Frame
-frame_at tree body phase = record { form = form.Body; tree = tree; node = body; place = 0; phase = phase; scope = global_object; this = values.Object global_object; world = first_world; held = [] }
+frame_at tree body phase = record { tree = tree; node = body; phase = phase; scope = global_object; this = values.Object global_object; world = first_world; held = [] }
+
+-- a program begins, or waits for the one before it
+abbrev pub begins : Phase
+begins = phases.Due starts.Program
+
+abbrev pub waits : Phase
+waits = phases.Waiting (points.Call call.NextProgram)
 
 -- the frames of the programs with these bodies
 abbrev pub frames_of : Option NodeId → NodeId → List Frame
-frames_of None script = frame_at 0 script phases.Due ∷ []
-frames_of (Some library) script = frame_at 1 script phases.Waiting ∷ frame_at 0 library phases.Due ∷ []
+frames_of None script = frame_at 0 script begins ∷ []
+frames_of (Some library) script = frame_at 1 script waits ∷ frame_at 0 library begins ∷ []
 
 -- the programs of a run
 abbrev pub units_of : Option Program → Program → List Program

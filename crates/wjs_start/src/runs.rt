@@ -13,7 +13,9 @@ use crate::heap::first_heap;
 use crate::script::script_names;
 use std::alloc::Global;
 use wjs_base::{OutOfMemory, Texts, Value};
-use wjs_model::{Activation, Config, Form, Frame, Frames, Items, Phase, State, Unit};
+use wjs_model::{
+    Activation, CallPoint, Config, Frame, Frames, Items, Phase, Point, Start, State, Unit,
+};
 use wjs_store::WorldStore;
 use wjs_tree::NodeId;
 
@@ -59,14 +61,16 @@ pub fn start<S: WorldStore + Drop>(
 fn first_frames(alloc: Global, library: &Option<Unit>, script: &Unit) -> Result<Frames, OutOfMemory>
     ensures { IfOk result (λ frames. frames ≡ frames_of (option_map body_of library.now) (body_of script.now)) }
 {
+    let begins = Phase::Due(Start::Program);
+    let waits = Phase::Waiting(Point::Call(CallPoint::NextProgram));
     let mut frames = Frames::new(alloc);
     match library {
         None => {
-            frames.push(program_frame(alloc, 0, script.program.body, Phase::Due)?)?;
+            frames.push(program_frame(alloc, 0, script.program.body, begins)?)?;
         }
         Some(library) => {
-            frames.push(program_frame(alloc, 1, script.program.body, Phase::Waiting)?)?;
-            frames.push(program_frame(alloc, 0, library.program.body, Phase::Due)?)?;
+            frames.push(program_frame(alloc, 1, script.program.body, waits)?)?;
+            frames.push(program_frame(alloc, 0, library.program.body, begins)?)?;
         }
     }
     Ok(frames)
@@ -82,10 +86,8 @@ pub fn program_frame(
     ensures { IfOk result (λ frame. frame ≡ frame_at tree body phase) }
 {
     let activation = Activation {
-        form: Form::Body,
         tree,
         node: body,
-        place: 0,
         phase,
         scope: GLOBAL_OBJECT,
         this: Value::Object(GLOBAL_OBJECT),

@@ -11,7 +11,6 @@ ghost use Rattle.wjs_start.specs.Declaring.{declared_by_tree};
 
 use std::alloc::Global;
 use wjs_base::{OutOfMemory, TextId};
-use wjs_declared::declared;
 use wjs_model::Unit;
 use wjs_tree::{Node, NodeId};
 
@@ -21,9 +20,9 @@ pub fn script_names(alloc: Global, script: &Unit) -> Result<Vec<TextId>, OutOfMe
         (λ names. (t : Table) → IsTable t → KnowsUnit t script.now → map (text_in t) names.items ≡ declared_by_tree (unit_in t script.now)) }
     ensures found { IfOk result (λ names. (t : Table) → KnowsUnit t script.now → All (Has t) names.items) }
 {
-    let declared = declared(alloc, script, script.program.body)?;
-    let mut names = functions_named(alloc, script, declared.functions.as_slice())?;
-    match names.extend_from_slice(declared.variables.as_slice()) {
+    let declared = script.declared(script.program.body)?;
+    let mut names = functions_named(alloc, script, declared.functions())?;
+    match names.extend_from_slice(declared.variables()) {
         Ok(()) => Ok(names),
         Err(_) => Err(OutOfMemory),
     }

@@ -1,5 +1,5 @@
 -- Names of visits that are stored, and what a `for`-`in` waits for.
-use Rattle.std.proofs.Common.{◌≡◌, ℕ, List, ◌∷◌, Option, Some, refl, sym, ap, ◌∙◌, subst}
+use Rattle.std.proofs.Common.{◌≡◌, ℕ, List, ◌∷◌, Option, None, Some, refl, sym, ap, ◌∙◌, subst}
 use Rattle.std.specs.Prelude.{Result, OnOk, map as each}
 use Rattle.std.specs.Option.{option_map}
 use Rattle.wjs_base.specs.declared.ids.OutOfMemory.{OutOfMemory}
@@ -10,18 +10,21 @@ use Rattle.wjs_base.specs.Text.{Table}
 use Rattle.wjs_store.specs.Meaning.{Meaning}
 use Rattle.wjs_tree.specs.declared.node.NodeId.{NodeId}
 use Rattle.wjs_tree.specs.declared.node.Node.{Node as NumberedNode}
+use Rattle.wjs_tree.specs.declared.node.Node.TheVariants as nodes
 use Rattle.wjs_content.specs.Values.{Text}
 use Rattle.wjs_content.specs.Names.{Slot}
 use Rattle.wjs_content.specs.Tables.{text_in, name_in, value_in, slot_in}
 use Rattle.wjs_meaning.specs.Reading.{node_in}
-use Rattle.wjs_meaning.specs.Deeds.{Env, Act, Ret, Eval, Completion, Reference, AtStmt, AtTarget, Throws, then_reference}
+use Rattle.wjs_meaning.specs.Deeds.{Env, Act, Ret, Eval, Completion, Reference, AtStmt, AtTarget, Normal, Throws, then_reference}
+use Rattle.wjs_meaning.specs.Loops as line
 use Rattle.wjs_meaning.specs.Loops.{after_body, visits_from, visit_body, for_in_value}
 use Rattle.wjs_model.specs.declared.config.Config.{Config}
-use Rattle.wjs_model.specs.declared.frame.Form.{Form}
-use Rattle.wjs_model.specs.declared.frame.Form.TheVariants as form
 use Rattle.wjs_model.specs.declared.frame.Activation.{Activation as Frame}
+use Rattle.wjs_model.specs.declared.point.Point.TheVariants as points
+use Rattle.wjs_model.specs.declared.point.StmtPoint.TheVariants as stmts
 use Rattle.wjs_model.specs.declared.frame.Held.TheVariants as holds
 use Rattle.wjs_model.specs.Contents.{Holding, holding_in, visits_held}
+use Rattle.wjs_model.specs.Lists.{if_visits}
 use Rattle.wjs_model.specs.Waiting.{after, visit_taken}
 use Rattle.wjs_moves.specs.Parts.{env_in, node_now, node_among, then_at}
 use Rattle.wjs_moves.specs.Doing.{Does, DoesFirst, FailsFirst}
@@ -29,27 +32,29 @@ use Rattle.wjs_moves.specs.Following.{Follows, Later}
 use Rattle.wjs_deeds.proofs.Composing.{env_later}
 use Rattle.wjs_visits.specs.declared.for_ins.Taker.{Taker}
 use Rattle.wjs_visits.specs.declared.for_ins.Taker.TheVariants.{Target, Variable}
-use Rattle.wjs_visits.specs.ForIns.{IsForIn, Reaches, Lists, Refuses, for_in, taker_in, visit_goes}
+use Rattle.wjs_visits.specs.ForIns.{Reaches, Lists, Refuses, taker_of, taker_in, visit_goes}
 
 -- ---- what frames wait for
 
-module _ (t : Table) (here : ℕ) (held : Holding) (env : Env) where
-  waits_body : (taker : Taker) (e s : NodeId) → after (node_in t (for_in taker e s)) form.Stmt here 3 held env ≡ after_body here env (visits_from here (taker_in t taker) s.0 held.visits env)
-  waits_body (Target target) e s = refl
-  waits_body (Variable name) e s = refl
+-- what takes the names, by content
+pub taken_by : (t : Table) (node : NumberedNode) (taker : Taker) (go : line.Taker → Act) → taker_of node ≡ Some taker → if_visits (node_in t node) go ≡ go (taker_in t taker)
+taken_by t (nodes.ForIn target e s) taker go q = let same : Target target ≡ taker = cc in ap (λ (k : Taker). go (taker_in t k)) same
+taken_by t (nodes.ForVarIn name e s) taker go q = let same : Variable name ≡ taker = cc in ap (λ (k : Taker). go (taker_in t k)) same
+taken_by t _ taker go q = absurd (cc)
 
+pub taken_by_none : (t : Table) (node : NumberedNode) (go : line.Taker → Act) → taker_of node ≡ None → if_visits (node_in t node) go ≡ Ret Normal
+taken_by_none t (nodes.ForIn target e s) go q = absurd (cc)
+taken_by_none t (nodes.ForVarIn name e s) go q = absurd (cc)
+taken_by_none t _ go q = refl
+
+module _ (t : Table) (here : ℕ) (held : Holding) (env : Env) (node : NumberedNode) (taker : Taker) (s : NodeId) (is : taker_of node ≡ Some taker) where
   -- for the body of a visit
-  pub body_waits : (node : NumberedNode) (f : Form) (taker : Taker) (s : NodeId) → f ≡ form.Stmt → IsForIn node taker s → after (node_in t node) f here 3 held env ≡ after_body here env (visits_from here (taker_in t taker) s.0 held.visits env)
-  body_waits node f taker s ef is =
-      ap (λ (g : Form). after (node_in t node) g here 3 held env) ef
-      ∙ ap (λ (n : NumberedNode). after (node_in t n) form.Stmt here 3 held env) is.is
-      ∙ waits_body taker is.over s
+  pub body_waits : after (points.Stmt (stmts.VisitBody s)) here (node_in t node) held env ≡ after_body here env (visits_from here (taker_in t taker) s.0 held.visits env)
+  body_waits = λ i c. taken_by t node taker (λ k. after_body here env (visits_from here k s.0 held.visits env) c) is i
 
   -- for the target of a visit
-  pub target_waits : (node : NumberedNode) (f : Form) (target s : NodeId) → f ≡ form.Stmt → IsForIn node (Target target) s → after (node_in t node) f here 2 held env ≡ then_reference (visit_taken here (taker_in t (Target target)) s.0 held.visits env)
-  target_waits node f target s ef is =
-      ap (λ (g : Form). after (node_in t node) g here 2 held env) ef
-      ∙ ap (λ (n : NumberedNode). after (node_in t n) form.Stmt here 2 held env) is.is
+  pub target_waits : after (points.Stmt (stmts.VisitTarget s)) here (node_in t node) held env ≡ then_reference (visit_taken here (taker_in t taker) s.0 held.visits env)
+  target_waits = λ i. then_reference (λ r. taken_by t node taker (λ k. visit_taken here k s.0 held.visits env r) is i)
 
 module _ {S : Type 0} (meaning : S → Meaning) where
   -- ---- deeds with the text of a name
@@ -74,18 +79,19 @@ module _ {S : Type 0} (meaning : S → Meaning) where
   abbrev pub body_entered : Table → Config S → Frame → Taker → NodeId → Act
   body_entered t c f taker s = Eval (AtStmt s.0) (env_in meaning c t f) (after_body f.node.0 (env_in meaning c t f) (visits_from f.node.0 (taker_in t taker) s.0 (holding_in t f.held).visits (env_in meaning c t f)))
 
-  entered_same : (t : Table) (c : Config S) (f : Frame) (taker : Taker) (s : NodeId) → f.form ≡ form.Stmt → IsForIn (node_now meaning c f) taker s → Eval (AtStmt s.0) (env_in meaning c t f) (then_at meaning c f 3 t (env_in meaning c t f)) ≡ body_entered t c f taker s
-  entered_same t c f taker s ef is = ap (λ (go : Completion → Act). Eval (AtStmt s.0) (env_in meaning c t f) go) (body_waits t f.node.0 (holding_in t f.held) (env_in meaning c t f) (node_now meaning c f) f.form taker s ef is)
+  entered_same : (t : Table) (c : Config S) (f : Frame) (taker : Taker) (s : NodeId) → taker_of (node_now meaning c f) ≡ Some taker
+      → Eval (AtStmt s.0) (env_in meaning c t f) (then_at meaning c f (points.Stmt (stmts.VisitBody s)) t (env_in meaning c t f)) ≡ body_entered t c f taker s
+  entered_same t c f taker s is = ap (λ (go : Completion → Act). Eval (AtStmt s.0) (env_in meaning c t f) go) (body_waits t f.node.0 (holding_in t f.held) (env_in meaning c t f) (node_now meaning c f) taker s is)
 
   -- the frame's node stays
   pub node_later : (old new : Config S) (f : Frame) → Later meaning old new → node_now meaning new f ≡ node_now meaning old f
   node_later old new f l = λ i. node_among (l.units i).items f.tree f.node
 
   -- after deeds
-  pub entered_later : (t : Table) (old new : Config S) (f : Frame) (taker : Taker) (s : NodeId) → f.form ≡ form.Stmt → IsForIn (node_now meaning old f) taker s → Later meaning old new → Eval (AtStmt s.0) (env_in meaning new t f) (then_at meaning new f 3 t (env_in meaning new t f)) ≡ body_entered t old f taker s
-  entered_later t old new f taker s ef is l =
-      let P : NumberedNode → Type 0 = λ n. IsForIn n taker s in
-      entered_same t new f taker s ef (subst P (sym (node_later old new f l)) is)
+  pub entered_later : (t : Table) (old new : Config S) (f : Frame) (taker : Taker) (s : NodeId) → taker_of (node_now meaning old f) ≡ Some taker → Later meaning old new
+      → Eval (AtStmt s.0) (env_in meaning new t f) (then_at meaning new f (points.Stmt (stmts.VisitBody s)) t (env_in meaning new t f)) ≡ body_entered t old f taker s
+  entered_later t old new f taker s is l =
+      entered_same t new f taker s (ap taker_of (node_later old new f l) ∙ is)
       ∙ ap (λ (e : Env). Eval (AtStmt s.0) e (after_body f.node.0 e (visits_from f.node.0 (taker_in t taker) s.0 (holding_in t f.held).visits e))) (env_later meaning old new t f l)
 
   -- ---- the frame that holds other visits
@@ -127,12 +133,13 @@ module _ {S : Type 0} (meaning : S → Meaning) where
     refused_follows v error x h = x.by f.node.0 (taker_in texts taker) s.0 later r h
 
   -- a target is entered with its visit held
-  pub target_entered : (t : Table) (c : Config S) (f g : Frame) (taker : Taker) (target s : NodeId) (x : NumberedSlot) → taker ≡ Target target → f.form ≡ form.Stmt → IsForIn (node_now meaning c f) taker s → g ≡ record f { held = holds.Visit x ∷ f.held }
-      → Eval (AtTarget target.0) (env_in meaning c t g) (then_at meaning c g 2 t (env_in meaning c t g)) ≡ visit_goes f.node.0 (taker_in t taker) s.0 (Some (name_in t x.name)) (holding_in t f.held).visits (env_in meaning c t f)
-  target_entered t c f g taker target s x et ef is eg =
-      let P : Taker → Type 0 = λ k. IsForIn (node_now meaning c f) k s in
-      ap (λ (y : Frame). Eval (AtTarget target.0) (env_in meaning c t y) (then_at meaning c y 2 t (env_in meaning c t y))) eg
-      ∙ ap (λ (go : Completion → Act). Eval (AtTarget target.0) (env_in meaning c t f) go) (target_waits t f.node.0 (holding_in t (holds.Visit x ∷ f.held)) (env_in meaning c t f) (node_now meaning c f) f.form target s ef (subst P et is))
+  pub target_entered : (t : Table) (c : Config S) (f g : Frame) (taker : Taker) (target s : NodeId) (x : NumberedSlot) → taker ≡ Target target → taker_of (node_now meaning c f) ≡ Some taker → g ≡ record f { held = holds.Visit x ∷ f.held }
+      → Eval (AtTarget target.0) (env_in meaning c t g) (then_at meaning c g (points.Stmt (stmts.VisitTarget s)) t (env_in meaning c t g))
+      ≡ visit_goes f.node.0 (taker_in t taker) s.0 (Some (name_in t x.name)) (holding_in t f.held).visits (env_in meaning c t f)
+  target_entered t c f g taker target s x et is eg =
+      ap (λ (y : Frame). Eval (AtTarget target.0) (env_in meaning c t y) (then_at meaning c y (points.Stmt (stmts.VisitTarget s)) t (env_in meaning c t y))) eg
+      ∙ ap (λ (go : Completion → Act). Eval (AtTarget target.0) (env_in meaning c t f) go)
+      (target_waits t f.node.0 (holding_in t (holds.Visit x ∷ f.held)) (env_in meaning c t f) (node_now meaning c f) (Target target) s (is ∙ ap Some et))
       ∙ sym (ap (λ (k : Taker). visit_goes f.node.0 (taker_in t k) s.0 (Some (name_in t x.name)) (holding_in t f.held).visits (env_in meaning c t f)) et)
 
   -- the latest visit is taken off

@@ -19,14 +19,11 @@ use Rattle.wjs_meaning.specs.Properties.{visits}
 use Rattle.wjs_meaning.specs.Deeds.{Env, Act, Do, Create, Read}
 use Rattle.wjs_meaning.specs.Loops.{Taker, visit_take, visits_from, for_in_object, for_in_value}
 use Rattle.wjs_model.specs.declared.config.Config.{Config}
-use Rattle.wjs_model.specs.declared.frame.Form.{Form}
-use Rattle.wjs_model.specs.declared.frame.Form.TheVariants as form
 use Rattle.wjs_model.specs.declared.frame.Activation.{Activation as Frame}
 use Rattle.wjs_model.specs.declared.frame.Held.{Held}
 use Rattle.wjs_model.specs.declared.frame.Held.TheVariants as holds
-use Rattle.wjs_model.specs.Contents.{begun_held, visits_held}
+use Rattle.wjs_model.specs.Contents.{visits_held}
 use Rattle.wjs_model.specs.Soundness.{HasItems, IsThere}
-use Rattle.wjs_model.specs.Standing.{BodyStands}
 use Rattle.wjs_moves.specs.Parts.{env_in}
 use Rattle.wjs_moves.specs.Following.{Follows}
 use Rattle.wjs_moves.specs.Doing.{Does}
@@ -148,9 +145,8 @@ held_alone f g held other e none =
     let nothing : g ≡ record f { held = held ++ [] } = e ∙ ap (λ (h : List Held). record f { held = held ++ h }) none in
     (ap (λ (y : Frame). y.held) nothing, nothing)
 
--- a statement's frame that holds what is there is there
-pub holding_there : {S : Type 0} (meaning : S → Meaning) (c : Config S) (f g : Frame) (held : List Held) → IsThere meaning c f → f.form ≡ form.Stmt → HasItems c held → g ≡ record f { held = held } → IsThere meaning c g
-holding_there meaning c f g held h ef items e =
+-- a frame that holds what is there is there
+pub holding_there : {S : Type 0} (meaning : S → Meaning) (c : Config S) (f g : Frame) (held : List Held) → IsThere meaning c f → HasItems c held → g ≡ record f { held = held } → IsThere meaning c g
+holding_there meaning c f g held h items e =
     let P : Frame → Type 0 = λ x. IsThere meaning c x in
-    let B : Form → Type 0 = λ x. BodyStands c.units.items c.heap.arena x (begun_held held) f.tree f.node f.scope in
-    subst P (sym e) (record { scope = h.scope; this = h.this; world = h.world; held = items; phase = h.phase; stands = record { node = h.stands.node; body = subst B (sym ef) tt; shown = h.stands.shown } })
+    subst P (sym e) (record { scope = h.scope; this = h.this; world = h.world; held = items; stands = record { node = h.stands.node; shown = h.stands.shown } })

@@ -1,12 +1,11 @@
 -- The visits of a `for`-`in` that is under way.
-use Rattle.std.specs.Prelude.{◌≡◌, ℕ, List, Option, None, Some, Result, OnOk}
+use Rattle.std.specs.Prelude.{ℕ, List, Option, None, Some, Result, OnOk}
 use Rattle.wjs_base.specs.declared.ids.ObjId.{ObjId}
 use Rattle.wjs_base.specs.declared.ids.OutOfMemory.{OutOfMemory}
 use Rattle.wjs_base.specs.Text.{Table}
 use Rattle.wjs_store.specs.Meaning.{Meaning}
-use Rattle.wjs_tree.specs.declared.node.NodeId.{NodeId}
 use Rattle.wjs_tree.specs.declared.node.Node.{Node}
-use Rattle.wjs_tree.specs.declared.node.Node.TheVariants as form
+use Rattle.wjs_tree.specs.declared.node.Node.TheVariants as nodes
 use Rattle.wjs_content.specs.Values.{Text, Value, Undefined, Null, Object}
 use Rattle.wjs_content.specs.Names.{Slot}
 use Rattle.wjs_content.specs.Tables.{text_in}
@@ -24,14 +23,11 @@ abbrev pub taker_in : Table → Taker → line.Taker
 taker_in t (Target target) = line.TargetNode target.0
 taker_in t (Variable name) = line.VarName (text_in t name)
 
-abbrev pub for_in : Taker → NodeId → NodeId → Node
-for_in (Target target) e s = form.ForIn target e s
-for_in (Variable name) e s = form.ForVarIn name e s
-
--- the node is a `for`-`in` with this taker and body, over whatever object
-pub record IsForIn (node : Node) (taker : Taker) (s : NodeId) : Type 0 where
-  pub over : NodeId
-  pub is : node ≡ for_in taker over s
+-- what takes the names of a `for`-`in`
+abbrev pub taker_of : Node → Option Taker
+taker_of (nodes.ForIn target e s) = Some (Target target)
+taker_of (nodes.ForVarIn name e s) = Some (Variable name)
+taker_of node = None
 
 -- the object that lists the names of a value; none of undefined and null
 abbrev pub listed : Value → Option ObjId

@@ -1,20 +1,23 @@
-//! The loop `for`-`in` (section 12.6.4). Its places: 1 is behind the object, 2 the target of a visit, 3 the body.
+//! The loop `for`-`in` (section 12.6.4).
 ghost use Rattle.std.specs.Prelude.{◌≡◌, Some};
 ghost use Rattle.wjs_content.specs.Tables.{text_in, name_in, value_in};
-ghost use Rattle.wjs_meaning.specs.Loops.{TargetNode, VarName, after_body, for_in_value, visits_from, visit_body};
+ghost use Rattle.wjs_meaning.specs.Deeds.{then_value, then_reference};
+ghost use Rattle.wjs_meaning.specs.Loops.{VarName, after_body, for_in_value, visits_from, visit_body};
+ghost use Rattle.wjs_meaning.specs.Reading.{node_in};
 ghost use Rattle.wjs_model.specs.Contents.{completion_in, holding_in, reference_in};
-ghost use Rattle.wjs_model.specs.Soundness.{HasValue, HasReference, HasCompletion, HasSlot};
-ghost use Rattle.wjs_model.specs.Waiting.{visit_taken, after_for_in};
+ghost use Rattle.wjs_model.specs.Lists.{if_visits};
+ghost use Rattle.wjs_model.specs.Soundness.{HasValue, HasReference, HasCompletion, HasSlot, StandsHere};
+ghost use Rattle.wjs_model.specs.Waiting.{visit_taken};
 ghost use Rattle.wjs_moves.specs.Parts.{node_now};
-ghost use Rattle.wjs_visits.specs.ForIns.{IsForIn, taker_in, visit_goes};
-ghost use Rattle.wjs_moves.specs.Handling.{Runs, IsStmt, GoesOn};
+ghost use Rattle.wjs_moves.specs.Handling.{Runs, GoesOn};
+ghost use Rattle.wjs_visits.specs.ForIns.{taker_of, taker_in, visit_goes};
 
 use crate::visits::{hold_visits, next_present, next_visit};
 use wjs_base::{OutOfMemory, Slot, TextId, Value};
 use wjs_deeds::{store, text_of};
 use wjs_loops::{AfterBody, after_body, assign, place_of};
-use wjs_model::{Completion, Config, Form, Frame, Held, Reference};
-use wjs_moves::{Part, enter, finish, hold};
+use wjs_model::{Completion, Config, Frame, Held, Point, Reference, StmtPoint};
+use wjs_moves::{Part, enter, finish, hold, node_of};
 use wjs_store::WorldStore;
 use wjs_tree::{Node, NodeId};
 
@@ -25,71 +28,84 @@ pub(crate) enum Taker {
     Variable(TextId),
 }
 
-/// After a part of a `for`-`in` with a target.
-pub fn for_in_next<S: WorldStore>(
-    config: &mut Config<S>,
-    frame: Frame,
-    t: NodeId,
-    e: NodeId,
-    s: NodeId,
-    completion: Completion,
-) -> Result<(), OutOfMemory>
-    requires runs { Runs S.meaning config.old frame }
-    requires node { IsStmt S.meaning config.old frame (Node.ForIn t e s) }
-    requires completion { HasCompletion config.old completion }
-    ensures { GoesOn S.meaning frame config.old config.new result (λ texts env.
-        after_for_in frame.node.0 (TargetNode t.0) s.0 frame.place (holding_in texts frame.held) env (completion_in texts completion)) }
+/// What takes the names of the `for`-`in` that the frame runs; none where it runs none.
+fn taker_of<S: WorldStore>(config: &Config<S>, frame: &Frame) -> Option<Taker>
+    ensures { result ≡ taker_of (node_now S.meaning config.now frame.now) }
 {
-    next(config, frame, Taker::Target(t), s, completion)
-}
-
-/// After a part of a `for`-`in` with a `var`, which has no target.
-pub fn for_var_in_next<S: WorldStore>(
-    config: &mut Config<S>,
-    frame: Frame,
-    name: TextId,
-    e: NodeId,
-    s: NodeId,
-    completion: Completion,
-) -> Result<(), OutOfMemory>
-    requires runs { Runs S.meaning config.old frame }
-    requires node { IsStmt S.meaning config.old frame (Node.ForVarIn name e s) }
-    requires completion { HasCompletion config.old completion }
-    ensures { GoesOn S.meaning frame config.old config.new result (λ texts env.
-        after_for_in frame.node.0 (VarName (text_in texts name)) s.0 frame.place (holding_in texts frame.held) env (completion_in texts completion)) }
-{
-    next(config, frame, Taker::Variable(name), s, completion)
-}
-
-/// After a part of a `for`-`in`, by its place.
-fn next<S: WorldStore>(
-    config: &mut Config<S>,
-    frame: Frame,
-    taker: Taker,
-    s: NodeId,
-    completion: Completion,
-) -> Result<(), OutOfMemory>
-    requires runs { Runs S.meaning config.old frame }
-    requires form { frame.form ≡ Form.Stmt }
-    requires node { IsForIn (node_now S.meaning config.old frame) taker s }
-    requires completion { HasCompletion config.old completion }
-    ensures { GoesOn S.meaning frame config.old config.new result (λ texts env.
-        after_for_in frame.node.0 (taker_in texts taker) s.0 frame.place (holding_in texts frame.held) env (completion_in texts completion)) }
-{
-    match frame.place() {
-        1 => match completion {
-            Completion::Gives(value) => over_value(config, frame, taker, s, value),
-            other => finish(config, frame, other),
-        },
-        2 => match completion {
-            Completion::Refers(reference) => visit_taken(config, frame, taker, s, reference),
-            other => finish(config, frame, other),
-        },
-        _ => body_ended(config, frame, taker, s, completion),
+    match node_of(config, frame) {
+        Some(Node::ForIn(target, _, _)) => Some(Taker::Target(*target)),
+        Some(Node::ForVarIn(name, _, _)) => Some(Taker::Variable(*name)),
+        _ => None,
     }
 }
 
-/// After the body of a visit: the next visit, or the end.
+/// After the object whose names are visited.
+pub fn visits_object<S: WorldStore>(
+    config: &mut Config<S>,
+    frame: Frame,
+    s: NodeId,
+    completion: Completion,
+) -> Result<(), OutOfMemory>
+    requires runs { Runs S.meaning config.old frame }
+    requires body { StandsHere config.old frame s }
+    requires completion { HasCompletion config.old completion }
+    ensures { GoesOn S.meaning frame config.old config.new result (λ t env.
+        then_value (λ v. if_visits (node_in t (node_now S.meaning config.old frame)) (λ taker. for_in_value frame.node.0 taker s.0 env v))
+        (completion_in t completion)) }
+{
+    match completion {
+        Completion::Gives(value) => match taker_of(config, &frame) {
+            Some(taker) => over_value(config, frame, taker, s, value),
+            None => finish(config, frame, Completion::Normal),
+        },
+        other => finish(config, frame, other),
+    }
+}
+
+/// After the target of a visit.
+pub fn visit_target<S: WorldStore>(
+    config: &mut Config<S>,
+    frame: Frame,
+    s: NodeId,
+    completion: Completion,
+) -> Result<(), OutOfMemory>
+    requires runs { Runs S.meaning config.old frame }
+    requires body { StandsHere config.old frame s }
+    requires completion { HasCompletion config.old completion }
+    ensures { GoesOn S.meaning frame config.old config.new result (λ t env.
+        then_reference (λ r. if_visits (node_in t (node_now S.meaning config.old frame)) (λ taker.
+        visit_taken frame.node.0 taker s.0 (holding_in t frame.held).visits env r)) (completion_in t completion)) }
+{
+    match completion {
+        Completion::Refers(reference) => match taker_of(config, &frame) {
+            Some(taker) => visit_taken(config, frame, taker, s, reference),
+            None => finish(config, frame, Completion::Normal),
+        },
+        other => finish(config, frame, other),
+    }
+}
+
+/// After the body of a visit.
+pub fn visit_body<S: WorldStore>(
+    config: &mut Config<S>,
+    frame: Frame,
+    s: NodeId,
+    completion: Completion,
+) -> Result<(), OutOfMemory>
+    requires runs { Runs S.meaning config.old frame }
+    requires body { StandsHere config.old frame s }
+    requires completion { HasCompletion config.old completion }
+    ensures { GoesOn S.meaning frame config.old config.new result (λ t env.
+        if_visits (node_in t (node_now S.meaning config.old frame)) (λ taker.
+        after_body frame.node.0 env (visits_from frame.node.0 taker s.0 (holding_in t frame.held).visits env) (completion_in t completion))) }
+{
+    match taker_of(config, &frame) {
+        Some(taker) => body_ended(config, frame, taker, s, completion),
+        None => finish(config, frame, Completion::Normal),
+    }
+}
+
+/// The next visit, or the end.
 fn body_ended<S: WorldStore>(
     config: &mut Config<S>,
     frame: Frame,
@@ -98,12 +114,11 @@ fn body_ended<S: WorldStore>(
     completion: Completion,
 ) -> Result<(), OutOfMemory>
     requires runs { Runs S.meaning config.old frame }
-    requires form { frame.form ≡ Form.Stmt }
-    requires node { IsForIn (node_now S.meaning config.old frame) taker s }
+    requires taker { taker_of (node_now S.meaning config.old frame) ≡ Some taker }
+    requires body { StandsHere config.old frame s }
     requires completion { HasCompletion config.old completion }
-    ensures { GoesOn S.meaning frame config.old config.new result (λ texts env.
-        after_body frame.node.0 env (visits_from frame.node.0 (taker_in texts taker) s.0 (holding_in texts frame.held).visits env)
-        (completion_in texts completion)) }
+    ensures { GoesOn S.meaning frame config.old config.new result (λ t env.
+        after_body frame.node.0 env (visits_from frame.node.0 (taker_in t taker) s.0 (holding_in t frame.held).visits env) (completion_in t completion)) }
 {
     match after_body(config, &frame, completion) {
         AfterBody::Again => visit_next(config, frame, taker, s),
@@ -111,7 +126,7 @@ fn body_ended<S: WorldStore>(
     }
 }
 
-/// After the object: its visits are listed, and the first of them that is present comes.
+/// The visits of a value are listed, and the first of them that is present comes.
 fn over_value<S: WorldStore>(
     config: &mut Config<S>,
     frame: Frame,
@@ -120,11 +135,11 @@ fn over_value<S: WorldStore>(
     value: Value,
 ) -> Result<(), OutOfMemory>
     requires runs { Runs S.meaning config.old frame }
-    requires form { frame.form ≡ Form.Stmt }
-    requires node { IsForIn (node_now S.meaning config.old frame) taker s }
+    requires taker { taker_of (node_now S.meaning config.old frame) ≡ Some taker }
+    requires body { StandsHere config.old frame s }
     requires value { HasValue config.old value }
-    ensures { GoesOn S.meaning frame config.old config.new result (λ texts env.
-        for_in_value frame.node.0 (taker_in texts taker) s.0 env (value_in texts value)) }
+    ensures { GoesOn S.meaning frame config.old config.new result (λ t env.
+        for_in_value frame.node.0 (taker_in t taker) s.0 env (value_in t value)) }
 {
     let mut frame = frame;
     match hold_visits(config, &mut frame, value)? {
@@ -141,10 +156,10 @@ fn visit_next<S: WorldStore>(
     s: NodeId,
 ) -> Result<(), OutOfMemory>
     requires runs { Runs S.meaning config.old frame }
-    requires form { frame.form ≡ Form.Stmt }
-    requires node { IsForIn (node_now S.meaning config.old frame) taker s }
-    ensures { GoesOn S.meaning frame config.old config.new result (λ texts env.
-        visits_from frame.node.0 (taker_in texts taker) s.0 (holding_in texts frame.held).visits env) }
+    requires taker { taker_of (node_now S.meaning config.old frame) ≡ Some taker }
+    requires body { StandsHere config.old frame s }
+    ensures { GoesOn S.meaning frame config.old config.new result (λ t env.
+        visits_from frame.node.0 (taker_in t taker) s.0 (holding_in t frame.held).visits env) }
 {
     let mut frame = frame;
     match next_present(config, &mut frame)? {
@@ -162,17 +177,18 @@ fn visit<S: WorldStore>(
     slot: Slot,
 ) -> Result<(), OutOfMemory>
     requires runs { Runs S.meaning config.old frame }
-    requires form { frame.form ≡ Form.Stmt }
-    requires node { IsForIn (node_now S.meaning config.old frame) taker s }
+    requires taker { taker_of (node_now S.meaning config.old frame) ≡ Some taker }
+    requires body { StandsHere config.old frame s }
     requires slot { HasSlot config.old slot }
-    ensures { GoesOn S.meaning frame config.old config.new result (λ texts env.
-        visit_goes frame.node.0 (taker_in texts taker) s.0 (Some (name_in texts slot.name)) (holding_in texts frame.held).visits env) }
+    ensures { GoesOn S.meaning frame config.old config.new result (λ t env.
+        visit_goes frame.node.0 (taker_in t taker) s.0 (Some (name_in t slot.name)) (holding_in t frame.held).visits env) }
 {
     match taker {
         Taker::Target(target) => {
             let mut frame = frame;
             hold(&mut frame, Held::Visit(slot))?;
-            enter(config, frame, 2, Part::Target(target))
+            let point = Point::Stmt(StmtPoint::VisitTarget(s));
+            enter(config, frame, point, Part::Target(target))
         }
         Taker::Variable(name) => visit_variable(config, frame, name, s, slot),
     }
@@ -187,21 +203,26 @@ fn visit_variable<S: WorldStore>(
     slot: Slot,
 ) -> Result<(), OutOfMemory>
     requires runs { Runs S.meaning config.old frame }
-    requires form { frame.form ≡ Form.Stmt }
-    requires node { IsForIn (node_now S.meaning config.old frame) (Taker.Variable name) s }
+    requires taker { taker_of (node_now S.meaning config.old frame) ≡ Some (Taker.Variable name) }
+    requires body { StandsHere config.old frame s }
     requires slot { HasSlot config.old slot }
-    ensures { GoesOn S.meaning frame config.old config.new result (λ texts env.
-        visit_goes frame.node.0 (VarName (text_in texts name)) s.0 (Some (name_in texts slot.name)) (holding_in texts frame.held).visits env) }
+    ensures { GoesOn S.meaning frame config.old config.new result (λ t env.
+        visit_goes frame.node.0 (VarName (text_in t name)) s.0 (Some (name_in t slot.name)) (holding_in t frame.held).visits env) }
 {
     let place = place_of(config, &frame, 0);
     let id = text_of(config, slot.name)?;
     match assign(config, &frame, place, name, Value::Text(id))? {
-        Ok(()) => enter(config, frame, 3, Part::Stmt(s)),
+        Ok(()) => enter(
+            config,
+            frame,
+            Point::Stmt(StmtPoint::VisitBody(s)),
+            Part::Stmt(s),
+        ),
         Err(error) => finish(config, frame, Completion::Throws(error)),
     }
 }
 
-/// After the target of a visit: the name is stored there, and the body entered.
+/// A target takes the name of a visit, and the body is entered.
 fn visit_taken<S: WorldStore>(
     config: &mut Config<S>,
     frame: Frame,
@@ -210,11 +231,11 @@ fn visit_taken<S: WorldStore>(
     reference: Reference,
 ) -> Result<(), OutOfMemory>
     requires runs { Runs S.meaning config.old frame }
-    requires form { frame.form ≡ Form.Stmt }
-    requires node { IsForIn (node_now S.meaning config.old frame) taker s }
+    requires taker { taker_of (node_now S.meaning config.old frame) ≡ Some taker }
+    requires body { StandsHere config.old frame s }
     requires reference { HasReference config.old reference }
-    ensures { GoesOn S.meaning frame config.old config.new result (λ texts env.
-        visit_taken frame.node.0 (taker_in texts taker) s.0 (holding_in texts frame.held).visits env (reference_in texts reference)) }
+    ensures { GoesOn S.meaning frame config.old config.new result (λ t env.
+        visit_taken frame.node.0 (taker_in t taker) s.0 (holding_in t frame.held).visits env (reference_in t reference)) }
 {
     let mut frame = frame;
     match next_visit(config, &mut frame) {
@@ -233,17 +254,22 @@ fn visit_stored<S: WorldStore>(
     reference: Reference,
 ) -> Result<(), OutOfMemory>
     requires runs { Runs S.meaning config.old frame }
-    requires form { frame.form ≡ Form.Stmt }
-    requires node { IsForIn (node_now S.meaning config.old frame) taker s }
+    requires taker { taker_of (node_now S.meaning config.old frame) ≡ Some taker }
+    requires body { StandsHere config.old frame s }
     requires slot { HasSlot config.old slot }
     requires reference { HasReference config.old reference }
-    ensures { GoesOn S.meaning frame config.old config.new result (λ texts env.
-        visit_body frame.node.0 s.0 (name_in texts slot.name) env
-        (visits_from frame.node.0 (taker_in texts taker) s.0 (holding_in texts frame.held).visits env) (reference_in texts reference)) }
+    ensures { GoesOn S.meaning frame config.old config.new result (λ t env.
+        visit_body frame.node.0 s.0 (name_in t slot.name) env
+        (visits_from frame.node.0 (taker_in t taker) s.0 (holding_in t frame.held).visits env) (reference_in t reference)) }
 {
     let id = text_of(config, slot.name)?;
     match store(config, &frame, reference, Value::Text(id))? {
-        Ok(()) => enter(config, frame, 3, Part::Stmt(s)),
+        Ok(()) => enter(
+            config,
+            frame,
+            Point::Stmt(StmtPoint::VisitBody(s)),
+            Part::Stmt(s),
+        ),
         Err(error) => finish(config, frame, Completion::Throws(error)),
     }
 }

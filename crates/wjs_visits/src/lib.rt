@@ -4,4 +4,4 @@
 mod for_ins;
 mod visits;
 
-pub use for_ins::{for_in_next, for_var_in_next};
+pub use for_ins::{visit_body, visit_target, visits_object};

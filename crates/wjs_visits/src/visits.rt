@@ -17,7 +17,7 @@ ghost use Rattle.wjs_lines.specs.Lists.{visits_as_items};
 
 use wjs_base::{Content, ObjId, OutOfMemory, Slot, Value};
 use wjs_deeds::{builtin, create_error, read_content, visits};
-use wjs_model::{Config, Form, Frame, Held, Trouble};
+use wjs_model::{Config, Frame, Held, Trouble};
 use wjs_moves::hold;
 use wjs_props::Visits;
 use wjs_store::WorldStore;
@@ -25,7 +25,6 @@ use wjs_store::WorldStore;
 /// The next visit, which is taken off what is held with all that was held later.
 pub(crate) fn next_visit<S: WorldStore>(config: &Config<S>, frame: &mut Frame) -> Option<Slot>
     requires there { IsThere S.meaning config.now frame.old }
-    requires form { frame.old.form ≡ Form.Stmt }
     ensures next { Uncovers (visits_held frame.old.held) result (visits_held frame.new.held) }
     ensures frame { frame.new ≡ record frame.old { held = frame.new.held } }
     ensures there { IsThere S.meaning config.now frame.new }
@@ -68,7 +67,6 @@ pub(crate) fn next_present<S: WorldStore>(
 ) -> Result<Option<Slot>, OutOfMemory>
     requires base { Base S.meaning config.old }
     requires there { IsThere S.meaning config.old frame.old }
-    requires form { frame.old.form ≡ Form.Stmt }
     ensures reaches { IfOk result (λ found. Reaches S.meaning (λ t. (holding_in t frame.old.held).visits) (λ t. (holding_in t frame.new.held).visits)
         (λ t. option_map (λ s. name_in t s.name) found) (λ t. env_in S.meaning config.old t frame.old) config.old config.new) }
     ensures later { OnOk result (Later S.meaning config.old config.new) }
@@ -108,7 +106,6 @@ pub(crate) fn hold_visits<S: WorldStore>(
 ) -> Result<Result<(), Value>, OutOfMemory>
     requires base { Base S.meaning config.old }
     requires there { IsThere S.meaning config.old frame.old }
-    requires form { frame.old.form ≡ Form.Stmt }
     requires value { HasValue config.old value }
     ensures lists { IfOk result (λ answer. MatchResult answer
         (λ _. Lists S.meaning (λ t. value_in t value) (λ t. (holding_in t frame.new.held).visits)

@@ -16,7 +16,7 @@ left_behind-requires c = live c.args.config c.requires.sound.base
 
 pub returns-then-not-agrees-clause-turned : goal.returns-then-not-agrees-clause-turned
 returns-then-not-agrees-clause-turned c = λ trees tree budget drawn over. dropped c.args.config c.requires.sound c.left_behind.result
-    c.left_behind.ensures.shares trees tree budget drawn over.common
+    c.left_behind.ensures.gives_up trees tree budget drawn over.owner over.common
 
 pub returns-then-not-agrees-clause-awake : goal.returns-then-not-agrees-clause-awake
 returns-then-not-agrees-clause-awake c = λ r. r
@@ -60,7 +60,7 @@ spend-requires-clause-spent c = spent_left c.args.config.state c.requires.over c
 pub returns-then-not-agrees-clause-checked : goal.returns-then-not-agrees-clause-checked
 returns-then-not-agrees-clause-checked c =
     let config = c.args.config in
-    let s = c.left_behind.ensures.shares in
+    let s = c.left_behind.ensures.gives_up in
     record {
       texts = subst (λ t. Grows config.heap.texts t) (sym s.texts) (Grows-refl config.heap.texts);
       arena_is = s.arena_is;
@@ -80,7 +80,8 @@ returns-in_default-clause-checked c = ends_by c.args.config c.spend.result.0 c.s
     (agreed c.args.config c.if-not-agrees.false c.agrees.ensures.agrees) c.spend.ensures
 
 pub returns-then-not-agrees-clause-apart : goal.returns-then-not-agrees-clause-apart
-returns-then-not-agrees-clause-apart c = left_apart c.args.config c.left_behind.result c.left_behind.ensures.shares c.left_behind.ensures.apart
+returns-then-not-agrees-clause-apart c = left_apart c.args.config c.left_behind.result c.requires.sound.base c.left_behind.ensures.gives_up
+    c.left_behind.ensures.apart
 
 pub returns-in-Done-clause-apart : goal.returns-in-Done-clause-apart
 returns-in-Done-clause-apart c = end_apart c.args.config c.commit.result (agreed c.args.config c.if-not-agrees.false c.agrees.ensures.agrees) c.commit.ensures

@@ -6,5 +6,5 @@ pub left_behind-requires : goal.left_behind-requires
 left_behind-requires c = live c.args.config c.requires.sound.base
 
 pub returns : goal.returns
-returns c = spent c.args.config c.requires.sound c.left_behind.result c.new.result c.left_behind.ensures.shares c.left_behind.ensures.apart
+returns c = spent c.args.config c.requires.sound c.left_behind.result c.new.result c.left_behind.ensures.gives_up c.left_behind.ensures.apart
     c.new.ensures.items c.requires.spent

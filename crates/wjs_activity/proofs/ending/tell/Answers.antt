@@ -22,4 +22,4 @@ returns c =
     let config = c.args.config in
     subst (λ (b : List ℕ). IsAtEnd session_meaning config c.left_behind.result (came.Ends (told.Threw b) c.new-2.result)) (sym c.new.ensures)
     (threw config c.requires.sound c.args.value c.in_ok-text.text.items c.show_thrown.new.config c.left_behind.result c.new-2.result c.requires.threw
-    c.in_ok-text.ensures.shows c.in_ok-text.ensures.leaves c.left_behind.ensures.shares c.left_behind.ensures.apart c.new-2.ensures.items)
+    c.in_ok-text.ensures.shows c.in_ok-text.ensures.leaves c.left_behind.ensures.gives_up c.left_behind.ensures.apart c.new-2.ensures.items)

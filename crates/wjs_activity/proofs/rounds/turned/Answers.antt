@@ -1,5 +1,6 @@
 use Rattle.std.proofs.Common.{refl, arith}
-use Rattle.wjs_activity.proofs.Comes.{turned_lem, few_places, part_there, few_units, rests_there, entry_there, entry_taken, begins_apart, few_noted, mid_long, left_some}
+use Rattle.wjs_activity.proofs.Comes.{turned_lem, few_places, part_there, few_units, rests_there, entry_there, entry_taken, begins_apart, few_noted, mid_long}
+use Rattle.wjs_activity.proofs.Comes.{left_some}
 use Rattle.wjs_activity.proofs.rounds.turned.Goals as goal
 
 pub overflow_cast-part : goal.overflow_cast-part

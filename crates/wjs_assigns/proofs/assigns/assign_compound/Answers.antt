@@ -1,13 +1,15 @@
 use Rattle.wjs_meaning.specs.Expressions.{compound_old}
 use Rattle.wjs_model.specs.Contents.{reference_in}
-use Rattle.wjs_moves.proofs.Handling.{runs_later, expr_later, goes_on_after}
+use Rattle.wjs_moves.proofs.Handling.{runs_later, goes_on_after}
+use Rattle.wjs_moves.proofs.Parting.{stands_later}
 use Rattle.wjs_assigns.proofs.assigns.assign_compound.Goals as goal
 
 pub compound_old-requires-clause-runs : goal.compound_old-requires-clause-runs
 compound_old-requires-clause-runs g c = runs_later _ _ _ _ c.requires.runs c.in_ok-answer.ensures.later
 
-pub compound_old-requires-clause-node : goal.compound_old-requires-clause-node
-compound_old-requires-clause-node g c = expr_later _ _ _ _ _ c.requires.node c.in_ok-answer.ensures.later
+pub compound_old-requires-clause-right : goal.compound_old-requires-clause-right
+compound_old-requires-clause-right g c =
+    stands_later g.S.WorldStore.meaning c.args.config.now c.args.frame c.value_of.new.config c.args.right c.in_ok-answer.ensures.later c.requires.right
 
 pub returns-in-Ok : goal.returns-in-Ok
 returns-in-Ok g c =

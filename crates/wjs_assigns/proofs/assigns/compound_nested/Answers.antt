@@ -7,15 +7,7 @@ nest-requires-clause-node g c = rw c.node-node.ensures c.requires.runs.there.sta
 
 pub returns : goal.returns
 returns g c =
-    follows_as _ _ _ _ _ _ (λ grows. rw (
-      c.in_ok-push-2.ensures.ok,
-      c.in_ok-push.ensures.ok,
-      c.nothing_held-held.ensures,
-      c.node-node.ensures,
-      c.requires.node.node,
-      c.requires.node.form,
-      c.requires.operator,
-    ) refl) c.nest.ensures
+    follows_as _ _ _ _ _ _ (λ grows. rw (c.in_ok-push-2.ensures.ok, c.in_ok-push.ensures.ok, c.nothing_held-held.ensures) refl) c.nest.ensures
 
 pub nest-requires-clause-held : goal.nest-requires-clause-held
 nest-requires-clause-held g c = rw (c.in_ok-push-2.ensures.ok, c.in_ok-push.ensures.ok, c.nothing_held-held.ensures) (c.requires.value, (c.requires.old, tt))

@@ -1,23 +1,17 @@
-use Rattle.std.proofs.Common.{inl, inr, refl, ◌∷◌}
+use Rattle.std.proofs.Common.{refl, ◌∷◌}
 use Rattle.wjs_lines.proofs.Following.{follows_as}
-use Rattle.wjs_tree.specs.declared.node.Node.TheVariants as nodes
-use Rattle.wjs_moves.proofs.Parting.{stands_here}
 use Rattle.wjs_model.specs.declared.frame.Held.TheVariants as holds
 use Rattle.wjs_moves.proofs.Handling.{runs_held}
 use Rattle.wjs_assigns.proofs.assigns.compound_old.Goals as goal
 
 pub enter-requires-clause-part : goal.enter-requires-clause-part
-enter-requires-clause-part g c =
-    rw (c.in_ok-hold-2.ensures, c.in_ok-hold.ensures) (stands_here g.S.WorldStore.meaning c.args.config.now c.args.frame
-    (nodes.Assign c.args.target c.args.sign c.args.right) c.args.right c.requires.runs.there c.requires.node.node (inr (inl refl)))
+enter-requires-clause-part g c = rw (c.in_ok-hold-2.ensures, c.in_ok-hold.ensures) c.requires.right
 
 pub returns : goal.returns
-returns g c =
-    follows_as _ _ _ _ _ _ (λ grows. rw (c.in_ok-hold-2.ensures, c.in_ok-hold.ensures, c.requires.node.form, c.requires.node.node, c.requires.operator) refl)
-    c.enter.ensures
+returns g c = follows_as _ _ _ _ _ _ (λ grows. rw (c.in_ok-hold-2.ensures, c.in_ok-hold.ensures) refl) c.enter.ensures
 
 pub enter-requires-clause-runs : goal.enter-requires-clause-runs
 enter-requires-clause-runs g c =
     rw (c.in_ok-hold-2.ensures, c.in_ok-hold.ensures) (runs_held g.S.WorldStore.meaning c.args.config.now c.args.frame
     (holds.Value c.args.old ∷ holds.Reference c.args.reference ∷ c.args.frame.held) c.requires.runs
-    (c.requires.old, (c.requires.reference, c.requires.runs.there.held)) c.requires.runs.there.stands.body)
+    (c.requires.old, (c.requires.reference, c.requires.runs.there.held)))

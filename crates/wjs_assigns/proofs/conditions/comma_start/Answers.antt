@@ -1,4 +1,4 @@
-use Rattle.std.proofs.Common.{inl, refl}
+use Rattle.std.proofs.Common.{inl, inr, refl}
 use Rattle.wjs_tree.specs.declared.node.Node.TheVariants as nodes
 use Rattle.wjs_moves.proofs.Parting.{stands_here}
 use Rattle.wjs_assigns.proofs.conditions.comma_start.Goals as goal
@@ -6,4 +6,9 @@ use Rattle.wjs_assigns.proofs.conditions.comma_start.Goals as goal
 pub enter-requires-clause-part : goal.enter-requires-clause-part
 enter-requires-clause-part g c =
     stands_here g.S.WorldStore.meaning c.args.config.now c.args.frame (nodes.Comma c.args.left c.args.right) c.args.left c.requires.runs.there
-    c.requires.node.node (inl refl)
+    c.requires.node (inl refl)
+
+pub enter-requires-clause-point : goal.enter-requires-clause-point
+enter-requires-clause-point g c =
+    stands_here g.S.WorldStore.meaning c.args.config.now c.args.frame (nodes.Comma c.args.left c.args.right) c.args.right c.requires.runs.there
+    c.requires.node (inr (inl refl))

@@ -5,9 +5,9 @@ use Rattle.wjs_moves.proofs.Handling.{runs_held}
 use Rattle.wjs_assigns.proofs.updates.update_object.Goals as goal
 
 pub returns : goal.returns
-returns g c = follows_as _ _ _ _ _ _ (λ grows. rw (c.in_ok-hold.ensures, c.requires.updates.number) refl) c.convert.ensures
+returns g c = follows_as _ _ _ _ _ _ (λ grows. rw c.in_ok-hold.ensures refl) c.convert.ensures
 
 pub convert-requires-clause-runs : goal.convert-requires-clause-runs
 convert-requires-clause-runs g c =
     rw c.in_ok-hold.ensures (runs_held g.S.WorldStore.meaning c.args.config.now c.args.frame (holds.Reference c.args.reference ∷ c.args.frame.held)
-    c.requires.runs (c.requires.reference, c.requires.runs.there.held) c.requires.runs.there.stands.body)
+    c.requires.runs (c.requires.reference, c.requires.runs.there.held))

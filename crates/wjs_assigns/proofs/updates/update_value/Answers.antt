@@ -5,7 +5,7 @@ use Rattle.wjs_content.specs.Tables.{value_in}
 use Rattle.wjs_moves.specs.Parts.{env_in}
 use Rattle.wjs_model.specs.Contents.{reference_in}
 use Rattle.wjs_meaning.specs.Expressions.{update_number}
-use Rattle.wjs_assigns.specs.Updating.{fix_of}
+use Rattle.wjs_model.specs.Waiting.{fix_in}
 use Rattle.std.proofs.Common.{◌∙◌}
 use Rattle.wjs_assigns.proofs.updates.update_value.Goals as goal
 
@@ -13,4 +13,4 @@ pub returns-else-is_object : goal.returns-else-is_object
 returns-else-is_object g c =
     let t = c.update_number.new.config.heap.texts in
     let env = env_in g.S.WorldStore.meaning c.args.config.now t c.args.frame in
-    follows_by g.S.WorldStore.meaning _ _ _ _ _ _ (number_shortens (value_in t c.args.value) env (update_number (fix_of c.args.fix) c.args.operator env (reference_in t c.args.reference)) (c.is_object.ensures t ∙ c.if-is_object.false)) c.update_number.ensures (λ grows. rw (c.to_number-number.ensures t grows) refl)
+    follows_by g.S.WorldStore.meaning _ _ _ _ _ _ (number_shortens (value_in t c.args.value) env (update_number (fix_in c.args.fix) c.args.operator env (reference_in t c.args.reference)) (c.is_object.ensures t ∙ c.if-is_object.false)) c.update_number.ensures (λ grows. rw (c.to_number-number.ensures t grows) refl)

@@ -13,7 +13,7 @@ pub returns : goal.returns
 returns g c =
     let meaning = g.S.WorldStore.meaning in
     let old = c.args.config.now in
-    scoped_follows meaning (goal_of c.args.part) (λ (t : Table). then_at meaning old c.args.frame c.args.place t (env_in meaning old t c.args.frame)) old c.wait.new.config c.enter_last.new.config c.args.frame c.in_ok-inner.inner c.args.scope _ c.enter_last.result c.in_ok-wait.ensures.same c.in_ok-inner.ensures c.in_ok-wait.ensures.nests c.enter_last.ensures
+    scoped_follows meaning (goal_of c.args.part) (λ (t : Table). then_at meaning old c.args.frame c.args.point t (env_in meaning old t c.args.frame)) old c.wait.new.config c.enter_last.new.config c.args.frame c.in_ok-inner.inner c.args.scope _ c.enter_last.result c.in_ok-wait.ensures.same c.in_ok-inner.ensures c.in_ok-wait.ensures.nests c.enter_last.ensures
 
 pub enter_last-requires-clause-runs : goal.enter_last-requires-clause-runs
 enter_last-requires-clause-runs g c =

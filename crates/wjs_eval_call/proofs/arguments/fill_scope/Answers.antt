@@ -35,7 +35,7 @@ returns-clause-does g c =
     let s = c.scope-scope.result in
     let a = c.in_ok-arguments.arguments.object in
     let fn = c.args.function in
-    let fns = numbers c.as_slice-2.result.now in
+    let fns = numbers c.functions.result.now in
     let others = c.args.others.now in
     let c0 = c.create_arguments.new.config in
     let c1 = c.write_arguments.new.config in
@@ -50,7 +50,7 @@ returns-clause-does g c =
       by = λ act later r h.
           let t = later.heap.texts in
           let xs = map (value_in t) c.args.values.now in
-          let formals = map (text_in t) c.as_slice.result.now in
+          let formals = map (text_in t) c.formals.result.now in
           let env = env_in m old t f in
           let ended : Act = write_all w (undefined_slots s (map (text_in t) others)) act in
           let filled : Act = declare_functions fns s env ended in
@@ -62,8 +62,8 @@ returns-clause-does g c =
           let joined = subst (λ (x : Act). OnOk r (Follows m x c0 later)) (sym (write-append w (arguments_slots a fn xs) ((slot s arguments_name, Object a) ∷ formal_slots s formals xs) filled)) h1 in
           let here = subst (λ (o : ObjId). OnOk r (Follows m (write_all w (arguments_slots a fn xs ++ ((slot o arguments_name, Object a) ∷ formal_slots o formals xs)) (declare_functions fns o env (write_all w (undefined_slots o (map (text_in t) others)) act))) c0 later)) c.scope-scope.ensures joined in
           let all = c.in_ok-arguments.ensures.does.by (λ q. scope_filled formals fns (map (text_in t) others) fn q xs env act) later r here in
-          subst (λ (gs : List NodeId). OnOk r (Follows m (arguments_written (map (text_in t) c.args.declared.now.formals) (numbers gs) (map (text_in t) others) fn xs env act) old later)) c.as_slice-2.ensures
-          (subst (λ (ns : List TextId). OnOk r (Follows m (arguments_written (map (text_in t) ns) fns (map (text_in t) others) fn xs env act) old later)) c.as_slice.ensures all);
+          subst (λ (gs : List NodeId). OnOk r (Follows m (arguments_written (map (text_in t) c.args.declared.now.formals) (numbers gs) (map (text_in t) others) fn xs env act) old later)) c.functions.ensures
+          (subst (λ (ns : List TextId). OnOk r (Follows m (arguments_written (map (text_in t) ns) fns (map (text_in t) others) fn xs env act) old later)) c.formals.ensures all);
     })
     c.write_undefined.ensures.does
 
@@ -106,7 +106,7 @@ declare_functions-requires-clause-stand g c =
     let one = later_twice m old c.create_arguments.new.config c.write_arguments.new.config c.in_ok-arguments.ensures.later c.in_ok-write_arguments.ensures.later in
     let two = later_twice m old c.write_arguments.new.config c.write_known.new.config one c.in_ok-write_known.ensures.later in
     let three = later_twice m old c.write_known.new.config new two c.in_ok-write_formals.ensures.later in
-    subst (All (λ (i : NodeId). IsFunction new.units.items new.heap.arena f.tree i f.scope 0)) (sym c.as_slice-2.ensures)
+    subst (All (λ (i : NodeId). IsFunction new.units.items new.heap.arena f.tree i f.scope 0)) (sym c.functions.ensures)
     (All-weaker (λ (i : NodeId). IsFunction old.units.items old.heap.arena f.tree i f.scope 0) (λ (i : NodeId). IsFunction new.units.items new.heap.arena f.tree i f.scope 0) (λ i. function_later m old new f.tree i f.scope 0 three) c.args.declared.now.functions c.requires.stand)
 
 pub write_arguments-requires-clause-there : goal.write_arguments-requires-clause-there

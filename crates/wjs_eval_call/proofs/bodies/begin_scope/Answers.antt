@@ -1,4 +1,4 @@
-use Rattle.std.proofs.Common.{◌≡◌, ◌∷◌, ◌++◌, List, refl, sym, ap, ◌∙◌, subst}
+use Rattle.std.proofs.Common.{◌≡◌, ◌∷◌, ◌++◌, List, sym, ap, ◌∙◌, subst}
 use Rattle.std.specs.Prelude.{OnOk, Ok, Some, map, filter, not, slice_get, All}
 use Rattle.std.proofs.lemmas.Result.{on_ok_weaker}
 use Rattle.wjs_base.specs.declared.ids.ObjId.{ObjId}
@@ -15,9 +15,8 @@ use Rattle.wjs_meaning.specs.Functions.{arguments_object, function_names, body_d
 use Rattle.wjs_meaning.specs.Reading.{numbers, node_in}
 use Rattle.wjs_model.specs.declared.frame.Activation.{Activation as Frame}
 use Rattle.wjs_model.specs.declared.unit.Unit.{Unit as Program}
-use Rattle.wjs_model.specs.declared.frame.Held.TheVariants as holds
 use Rattle.wjs_tree.specs.declared.node.NodeId.{NodeId}
-use Rattle.wjs_model.specs.Contents.{holding_in, values_held, begun_held}
+use Rattle.wjs_model.specs.Contents.{holding_in, values_held}
 use Rattle.wjs_model.specs.Standing.{IsFunction}
 use Rattle.wjs_model.specs.Soundness.{HasValue, IsThere}
 use Rattle.wjs_moves.specs.Following.{Follows}
@@ -27,9 +26,11 @@ use Rattle.wjs_deeds.proofs.Composing.{env_later}
 use Rattle.wjs_deeds.proofs.Later.{later_twice}
 use Rattle.wjs_calls.proofs.FunctionNodes.{node_is}
 use Rattle.wjs_calls.proofs.Rows.{same_units}
+use Rattle.wjs_calls.proofs.StandingFunctions.{function_later}
 use Rattle.wjs_moves.proofs.Parting.{element_here}
 use Rattle.wjs_eval_call.proofs.StandingBodies.{begun_there, begun_function, declared_stand}
-use Rattle.wjs_declared.specs.Names.{elements_at, functions_among}
+use Rattle.wjs_scope.specs.Bodies.{elements_at}
+use Rattle.wjs_scope.specs.Declarations.{functions_among}
 use Rattle.wjs_eval_call.specs.Filling.{arguments_written}
 use Rattle.wjs_eval_call.proofs.Beginning.{values_later, texts_later, earliest_each, others_of, body_filled}
 use Rattle.wjs_moves.proofs.Handling.{runs_over}
@@ -55,9 +56,9 @@ pub fill_scope-requires-clause-there : goal.fill_scope-requires-clause-there
 fill_scope-requires-clause-there g c =
     let m = g.S.WorldStore.meaning in
     let mid = c.create_scope.new.config in
-    let is : c.hold.new.frame ≡ record c.args.frame { tree = c.args.tree; node = c.args.node; scope = c.in_ok-inner.inner; held = holds.Begun ∷ c.args.frame.held } = c.in_ok-hold.ensures ∙ ap (λ (q : Frame). record q { held = holds.Begun ∷ q.held }) (c.set_scope.ensures ∙ ap (λ (q : Frame). record q { scope = c.in_ok-inner.inner }) c.set_node.ensures) in
+    let is : c.set_scope.new.self ≡ record c.args.frame { tree = c.args.tree; node = c.args.node; scope = c.in_ok-inner.inner } = c.set_scope.ensures ∙ ap (λ (q : Frame). record q { scope = c.in_ok-inner.inner }) c.set_node.ensures in
     subst (IsThere m mid) (sym is) (begun_there m c.args.config.now mid c.args.frame c.args.tree c.args.node c.args.scope c.in_ok-inner.inner
-    c.in_ok-inner.ensures.later c.requires.runs.there c.requires.form c.in_ok-inner.ensures.found c.in_ok-inner.ensures.outer c.requires.stands)
+    c.in_ok-inner.ensures.later c.requires.runs.there c.in_ok-inner.ensures.found c.in_ok-inner.ensures.outer c.requires.stands)
 
 pub fill_scope-requires-clause-stand : goal.fill_scope-requires-clause-stand
 fill_scope-requires-clause-stand g c =
@@ -66,32 +67,35 @@ fill_scope-requires-clause-stand g c =
     let mid = c.create_scope.new.config in
     let f = c.args.frame in
     let d = c.in_ok-declared.declared in
-    let inner : Frame = record f { tree = c.args.tree; node = c.args.node; scope = c.in_ok-inner.inner; held = holds.Begun ∷ f.held } in
-    let is : c.hold.new.frame ≡ record c.args.frame { tree = c.args.tree; node = c.args.node; scope = c.in_ok-inner.inner; held = holds.Begun ∷ c.args.frame.held } = c.in_ok-hold.ensures ∙ ap (λ (q : Frame). record q { held = holds.Begun ∷ q.held }) (c.set_scope.ensures ∙ ap (λ (q : Frame). record q { scope = c.in_ok-inner.inner }) c.set_node.ensures) in
-    let there = begun_there m old mid f c.args.tree c.args.node c.args.scope c.in_ok-inner.inner c.in_ok-inner.ensures.later c.requires.runs.there
-    c.requires.form c.in_ok-inner.ensures.found c.in_ok-inner.ensures.outer c.requires.stands in
-    let s = begun_function m mid inner there c.requires.form refl in
+    let inner : Frame = record f { tree = c.args.tree; node = c.args.node; scope = c.in_ok-inner.inner } in
+    let is : c.set_scope.new.self ≡ record c.args.frame { tree = c.args.tree; node = c.args.node; scope = c.in_ok-inner.inner } = c.set_scope.ensures ∙ ap (λ (q : Frame). record q { scope = c.in_ok-inner.inner }) c.set_node.ensures in
+    let s = begun_function m old mid c.args.tree c.args.node c.args.scope c.in_ok-inner.inner c.in_ok-inner.ensures.later c.in_ok-inner.ensures.outer c.requires.stands in
     let nodes = subst (λ (q : Frame). (u : Program) → slice_get old.units.items q.tree ≡ Some u → d.functions ≡ functions_among u.program.nodes (elements_at u.program.nodes q.node.0)) c.set_node.ensures c.in_ok-declared.ensures.nodes in
     let found = s.stands.found in
     let all = declared_stand mid.units.items mid.heap.arena s.stands.unit inner.tree inner.scope found inner.node s.function d.functions s.has (λ i k. element_here m mid inner i c.in_ok-inner.ensures.later.base s k)
     (nodes s.stands.unit (ap (λ (us : List Program). slice_get us c.args.tree) (sym (same_units m old mid c.in_ok-inner.ensures.later)) ∙ found)) in
     subst (λ (h : Frame). All (λ (i : NodeId). IsFunction mid.units.items mid.heap.arena h.tree i h.scope 0) d.functions) (sym is) all
 
-pub run_body-requires-clause-form : goal.run_body-requires-clause-form
-run_body-requires-clause-form g c = ap (λ (h : Frame). h.form) c.in_ok-hold.ensures ∙ ap (λ (h : Frame). h.form) c.set_scope.ensures ∙ ap (λ (h : Frame). h.form) c.set_node.ensures ∙ c.requires.form
-
-pub run_body-requires-clause-begun : goal.run_body-requires-clause-begun
-run_body-requires-clause-begun g c = ap (λ (h : Frame). begun_held h.held) c.in_ok-hold.ensures
+pub run_body-requires-clause-body : goal.run_body-requires-clause-body
+run_body-requires-clause-body g c =
+    let m = g.S.WorldStore.meaning in
+    let old = c.args.config.now in
+    let mid = c.create_scope.new.config in
+    let c2 = c.fill_scope.new.config in
+    let is : c.set_scope.new.self ≡ record c.args.frame { tree = c.args.tree; node = c.args.node; scope = c.in_ok-inner.inner } = c.set_scope.ensures ∙ ap (λ (q : Frame). record q { scope = c.in_ok-inner.inner }) c.set_node.ensures in
+    subst (λ (q : Frame). IsFunction c2.units.items c2.heap.arena q.tree q.node q.scope 1) (sym is)
+    (function_later m mid c2 c.args.tree c.args.node c.in_ok-inner.inner 1 c.in_ok-fill_scope.ensures.later
+    (begun_function m old mid c.args.tree c.args.node c.args.scope c.in_ok-inner.inner c.in_ok-inner.ensures.later c.in_ok-inner.ensures.outer c.requires.stands))
 
 pub run_body-requires-clause-runs : goal.run_body-requires-clause-runs
 run_body-requires-clause-runs g c =
     let m = g.S.WorldStore.meaning in
     let mid = c.create_scope.new.config in
-    let is : c.hold.new.frame ≡ record c.args.frame { tree = c.args.tree; node = c.args.node; scope = c.in_ok-inner.inner; held = holds.Begun ∷ c.args.frame.held } = c.in_ok-hold.ensures ∙ ap (λ (q : Frame). record q { held = holds.Begun ∷ q.held }) (c.set_scope.ensures ∙ ap (λ (q : Frame). record q { scope = c.in_ok-inner.inner }) c.set_node.ensures) in
+    let is : c.set_scope.new.self ≡ record c.args.frame { tree = c.args.tree; node = c.args.node; scope = c.in_ok-inner.inner } = c.set_scope.ensures ∙ ap (λ (q : Frame). record q { scope = c.in_ok-inner.inner }) c.set_node.ensures in
     let both = later_twice m c.args.config.now mid c.fill_scope.new.config c.in_ok-inner.ensures.later c.in_ok-fill_scope.ensures.later in
-    runs_over _ _ _ _ _ c.requires.runs both (c.in_ok-fill_scope.ensures.later.frames c.hold.new.frame
+    runs_over _ _ _ _ _ c.requires.runs both (c.in_ok-fill_scope.ensures.later.frames c.set_scope.new.self
     (subst (IsThere m mid) (sym is) (begun_there m c.args.config.now mid c.args.frame c.args.tree c.args.node c.args.scope c.in_ok-inner.inner
-    c.in_ok-inner.ensures.later c.requires.runs.there c.requires.form c.in_ok-inner.ensures.found c.in_ok-inner.ensures.outer c.requires.stands)))
+    c.in_ok-inner.ensures.later c.requires.runs.there c.in_ok-inner.ensures.found c.in_ok-inner.ensures.outer c.requires.stands)))
 
 pub returns : goal.returns
 returns g c =
@@ -103,8 +107,8 @@ returns g c =
     let r = c.run_body.result in
     let t = new.heap.texts in
     let f = c.args.frame in
-    let inner : Frame = record f { tree = c.args.tree; node = c.args.node; scope = c.in_ok-inner.inner; held = holds.Begun ∷ f.held } in
-    let held : c.hold.new.frame ≡ inner = c.in_ok-hold.ensures ∙ ap (λ (q : Frame). record q { held = holds.Begun ∷ q.held }) (c.set_scope.ensures ∙ ap (λ (q : Frame). record q { scope = c.in_ok-inner.inner }) c.set_node.ensures) in
+    let inner : Frame = record f { tree = c.args.tree; node = c.args.node; scope = c.in_ok-inner.inner } in
+    let held : c.set_scope.new.self ≡ inner = c.set_scope.ensures ∙ ap (λ (q : Frame). record q { scope = c.in_ok-inner.inner }) c.set_node.ensures in
     let d = c.in_ok-declared.declared in
     let env = env_in m old t inner in
     let body = c.args.node.0 in

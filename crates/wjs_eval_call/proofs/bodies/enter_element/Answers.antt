@@ -2,7 +2,7 @@ use Rattle.std.proofs.Common.{subst}
 use Rattle.std.specs.Prelude.{OnOk}
 use Rattle.wjs_meaning.specs.Deeds.{Act}
 use Rattle.wjs_meaning.specs.Reading.{node_in}
-use Rattle.wjs_model.specs.Contents.{holding_in}
+use Rattle.wjs_meaning.specs.Trees.{elements_of}
 use Rattle.wjs_moves.specs.Following.{Follows}
 use Rattle.wjs_moves.specs.Parts.{env_in, node_now}
 use Rattle.wjs_eval_call.proofs.StandingBodies.{body_element}
@@ -17,10 +17,9 @@ returns g c =
     let t = new.heap.texts in
     let f = c.args.frame in
     subst (λ (a : Act). OnOk c.enter.result (Follows m a old new))
-    (body_at (node_in t (node_now m old f)) f.form f.node.0 (holding_in t f.held) (env_in m old t f) c.args.from c.in_ok-next.next c.args.element.0 c.requires.form c.requires.begun c.in_ok-next.ensures (c.requires.element t))
+    (body_at (elements_of (node_in t (node_now m old f))) (env_in m old t f) c.args.from c.in_ok-next.next c.args.element.0 c.in_ok-next.ensures (c.requires.element t))
     c.enter.ensures
 
 pub enter-requires-clause-part : goal.enter-requires-clause-part
 enter-requires-clause-part g c =
-    body_element g.S.WorldStore.meaning c.args.config.now c.args.frame c.args.from c.args.element c.requires.runs.running.base c.requires.runs.there
-    c.requires.form c.requires.begun c.requires.element
+    body_element g.S.WorldStore.meaning c.args.config.now c.args.frame c.args.from c.args.element c.requires.runs.running.base c.requires.body c.requires.element

@@ -28,7 +28,7 @@ declare_functions-requires-clause-stand g c =
     let f = c.args.frame.now in
     let s = c.requires.there.stands.node in
     let body = body_is m old f f.node c.requires.base c.requires.there c.requires.body in
-    subst (All (λ (i : NodeId). IsFunction old.units.items old.heap.arena f.tree i f.scope 0)) (sym c.as_slice.ensures)
+    subst (All (λ (i : NodeId). IsFunction old.units.items old.heap.arena f.tree i f.scope 0)) (sym c.functions.ensures)
     (declared_stand old.units.items old.heap.arena s.unit f.tree f.scope s.found f.node (nodes.Program body.0) c.in_ok-declared.declared.functions body.2
     (λ i k. stands_here m old f (nodes.Program body.0) i c.requires.there body.1 (among_around body.0 i k)) (c.in_ok-declared.ensures.nodes s.unit s.found))
 
@@ -45,8 +45,8 @@ returns-clause-does g c =
     let mid = c.declare_functions.new.config in
     let new = c.declare_variables.new.config in
     let f = c.args.frame.now in
-    let fns = c.as_slice.result.now in
-    let ids = c.as_slice-2.result.now in
+    let fns = c.functions.result.now in
+    let ids = c.variables.result.now in
     let first = c.in_ok-declare_functions.ensures.later in
     on_both c.declare_variables.result
     (λ (second : Later m mid new) (last : DoesFirst m (λ t. declare_variables (map (text_in t) ids) (env_in m mid t f)) mid new). record {
@@ -55,8 +55,8 @@ returns-clause-does g c =
           let env = env_in m old t f in
           let declared = declared_by (tree_here env) f.node.0 in
           let grows = Grows-trans old.heap.texts new.heap.texts t (Grows-trans old.heap.texts mid.heap.texts new.heap.texts first.texts second.texts) k.keeps.stays.texts in
-          let ev = ap (map (text_in t)) c.as_slice-2.ensures ∙ c.in_ok-declared.ensures.variables t k.sound.base.heap.table grows in
-          let en = ap numbers c.as_slice.ensures ∙ c.in_ok-declared.ensures.functions t in
+          let ev = ap (map (text_in t)) c.variables.ensures ∙ c.in_ok-declared.ensures.variables t k.sound.base.heap.table grows in
+          let en = ap numbers c.functions.ensures ∙ c.in_ok-declared.ensures.functions t in
           let one = last.by act later (Ok tt) k in
           let here = subst (λ (e : Env). Follows m (declare_variables (map (text_in t) ids) e act) mid later) (env_later m old mid t f first) one in
           let both = c.in_ok-declare_functions.ensures.does.by (declare_variables (map (text_in t) ids) env act) later (Ok tt) here in

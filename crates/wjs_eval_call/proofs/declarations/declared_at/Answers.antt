@@ -8,7 +8,9 @@ use Rattle.wjs_meaning.specs.Trees.{Tree}
 use Rattle.wjs_tree.specs.declared.node.NodeId.{NodeId}
 use Rattle.wjs_model.specs.Units.{unit_in}
 use Rattle.wjs_model.specs.declared.unit.Unit.{Unit as Program}
-use Rattle.wjs_declared.specs.Names.{elements_at, functions_among}
+use Rattle.wjs_scope.specs.declared.declarations.Declarations.{Declarations}
+use Rattle.wjs_scope.specs.Bodies.{elements_at}
+use Rattle.wjs_scope.specs.Declarations.{functions_among}
 use Rattle.wjs_deeds.proofs.Composing.{if_ok}
 use Rattle.wjs_eval_call.proofs.UnitTrees.{tree_some, tree_none, unit_known, unit_is, no_unit}
 use Rattle.wjs_eval_call.proofs.declarations.declared_at.Goals as goal
@@ -38,25 +40,31 @@ returns-in-Some-clause-functions g c =
     c.declared.ensures.functions
 
 pub returns-in-None-clause-formals : goal.returns-in-None-clause-formals
-returns-in-None-clause-formals g c = λ t.
+returns-in-None-clause-formals g c =
     let now = c.args.config.now in
     let i = c.args.frame.now.tree in
     let le : length now.units.items ≤ i = subst (λ (k : ℕ). length now.units.items ≤ k) c.tree.ensures (subst (λ (us : List Program). length us ≤ c.tree.result) c.deref.ensures.value (ltb-false c.tree.result (length c.deref.result.now) (sym c.in-None.ensures.lookup.0))) in
-    ap (each (text_in t)) c.nothing_declared.ensures.formals ∙ ap (λ (tree : Tree). (declared_by tree c.args.frame.now.node.0).formals) (sym (tree_none t now.units.items i le))
+    if_ok _ _ c.nothing.result
+    (λ d h. λ t. ap (λ (x : Declarations). each (text_in t) x.formals) h ∙ ap (λ (tree : Tree). (declared_by tree c.args.frame.now.node.0).formals) (sym (tree_none t now.units.items i le)))
+    c.nothing.ensures
 
 pub returns-in-None-clause-functions : goal.returns-in-None-clause-functions
-returns-in-None-clause-functions g c = λ t.
+returns-in-None-clause-functions g c =
     let now = c.args.config.now in
     let i = c.args.frame.now.tree in
     let le : length now.units.items ≤ i = subst (λ (k : ℕ). length now.units.items ≤ k) c.tree.ensures (subst (λ (us : List Program). length us ≤ c.tree.result) c.deref.ensures.value (ltb-false c.tree.result (length c.deref.result.now) (sym c.in-None.ensures.lookup.0))) in
-    ap numbers c.nothing_declared.ensures.functions ∙ ap (λ (tree : Tree). (declared_by tree c.args.frame.now.node.0).functions) (sym (tree_none t now.units.items i le))
+    if_ok _ _ c.nothing.result
+    (λ d h. λ t. ap (λ (x : Declarations). numbers x.functions) h ∙ ap (λ (tree : Tree). (declared_by tree c.args.frame.now.node.0).functions) (sym (tree_none t now.units.items i le)))
+    c.nothing.ensures
 
 pub returns-in-None-clause-variables : goal.returns-in-None-clause-variables
-returns-in-None-clause-variables g c = λ t table grows.
+returns-in-None-clause-variables g c =
     let now = c.args.config.now in
     let i = c.args.frame.now.tree in
     let le : length now.units.items ≤ i = subst (λ (k : ℕ). length now.units.items ≤ k) c.tree.ensures (subst (λ (us : List Program). length us ≤ c.tree.result) c.deref.ensures.value (ltb-false c.tree.result (length c.deref.result.now) (sym c.in-None.ensures.lookup.0))) in
-    ap (each (text_in t)) c.nothing_declared.ensures.variables ∙ ap (λ (tree : Tree). (declared_by tree c.args.frame.now.node.0).vars) (sym (tree_none t now.units.items i le))
+    if_ok _ _ c.nothing.result
+    (λ d h. λ t table grows. ap (λ (x : Declarations). each (text_in t) x.variables) h ∙ ap (λ (tree : Tree). (declared_by tree c.args.frame.now.node.0).vars) (sym (tree_none t now.units.items i le)))
+    c.nothing.ensures
 
 pub returns-in-Some-clause-nodes : goal.returns-in-Some-clause-nodes
 returns-in-Some-clause-nodes g c =
@@ -71,8 +79,8 @@ returns-in-Some-clause-nodes g c =
     c.declared.ensures.numbered
 
 pub returns-in-None-clause-nodes : goal.returns-in-None-clause-nodes
-returns-in-None-clause-nodes g c = λ v found.
+returns-in-None-clause-nodes g c =
     let now = c.args.config.now in
     let i = c.args.frame.now.tree in
     let le : length now.units.items ≤ i = subst (λ (k : ℕ). length now.units.items ≤ k) c.tree.ensures (subst (λ (us : List Program). length us ≤ c.tree.result) c.deref.ensures.value (ltb-false c.tree.result (length c.deref.result.now) (sym c.in-None.ensures.lookup.0))) in
-    absurd (no_unit now.units.items i v le found)
+    if_ok _ _ c.nothing.result (λ d h. λ v found. absurd (no_unit now.units.items i v le found)) c.nothing.ensures

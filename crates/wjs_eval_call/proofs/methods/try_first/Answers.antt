@@ -7,13 +7,12 @@ use Rattle.wjs_meaning.specs.Deeds.{Env, Act, Completion, Sub, then_value}
 use Rattle.wjs_meaning.specs.Calls.{call}
 use Rattle.wjs_meaning.specs.Conversions.{first_method, second_method, try_method, method_result}
 use Rattle.wjs_meaning.specs.Errors.{throw}
-use Rattle.wjs_meaning.specs.Reading.{node_in}
-use Rattle.wjs_model.specs.Contents.{holding_in}
+use Rattle.wjs_model.specs.Contents.{value_held}
 use Rattle.wjs_moves.specs.Following.{Follows}
-use Rattle.wjs_moves.specs.Parts.{env_in, node_now}
+use Rattle.wjs_moves.specs.Parts.{env_in}
 use Rattle.wjs_deeds.specs.Known.{text_of}
 use Rattle.wjs_deeds.proofs.Composing.{env_later}
-use Rattle.wjs_eval_call.specs.Primitives.{hint_of}
+use Rattle.wjs_model.specs.Waiting.{hint_in}
 use Rattle.wjs_eval_call.proofs.Asking.{asked, waits_first}
 use Rattle.wjs_moves.proofs.Handling.{runs_later}
 use Rattle.wjs_eval_call.proofs.methods.try_first.Goals as goal
@@ -28,14 +27,14 @@ returns-in-Some g c =
     let t = new.heap.texts in
     let f = c.args.frame in
     let o = c.args.object in
-    let k = c.args.conversion in
-    let otherwise = λ (env : Env). try_method (second_method (hint_of k)) o env (throw NoPrimitiveValue env) in
+    let k = c.args.hint in
+    let otherwise = λ (env : Env). try_method (second_method (hint_in k)) o env (throw NoPrimitiveValue env) in
     let called = λ (env : Env) (go : Completion → Act). Sub (call c.in-Some.function (Object o) [] env) go in
     let env_mid = env_in m mid t f in
-    let waits = waits_first (node_in t (node_now m mid f)) f.node.0 (holding_in t f.held) env_mid o f.form k c.requires.form c.requires.first (ap (value_in t) c.requires.value) in
+    let waits = waits_first (hint_in k) (value_in t (value_held f.held)) o env_mid (ap (value_in t) c.requires.value) in
     let h1 : OnOk r (Follows m (called env_mid (then_value (method_result (otherwise env_mid)))) mid new) = subst (λ (go : Completion → Act). OnOk r (Follows m (called env_mid go) mid new)) waits c.call_method.ensures in
     let h2 : OnOk r (Follows m (called (env_in m old t f) (then_value (method_result (otherwise (env_in m old t f))))) mid new) = subst (λ (e : Env). OnOk r (Follows m (called e (then_value (method_result (otherwise e)))) mid new)) (env_later m old mid t f c.in_ok-method.ensures.later) h1 in
-    asked m (text_of c.first_method.result) (first_method (hint_of k)) o (λ u. env_in m old u f) c.in_ok-method.method (otherwise (env_in m old t f)) (Some c.in-Some.function) old mid new r c.in_ok-method.ensures.does c.first_method.ensures c.in-Some.ensures.is h2
+    asked m (text_of c.first_method.result) (first_method (hint_in k)) o (λ u. env_in m old u f) c.in_ok-method.method (otherwise (env_in m old t f)) (Some c.in-Some.function) old mid new r c.in_ok-method.ensures.does c.first_method.ensures c.in-Some.ensures.is h2
 
 pub returns-in-None : goal.returns-in-None
 returns-in-None g c =
@@ -47,10 +46,10 @@ returns-in-None g c =
     let t = new.heap.texts in
     let f = c.args.frame in
     let o = c.args.object in
-    let k = c.args.conversion in
-    let otherwise = λ (env : Env). try_method (second_method (hint_of k)) o env (throw NoPrimitiveValue env) in
+    let k = c.args.hint in
+    let otherwise = λ (env : Env). try_method (second_method (hint_in k)) o env (throw NoPrimitiveValue env) in
     let h : OnOk r (Follows m (otherwise (env_in m old t f)) mid new) = subst (λ (e : Env). OnOk r (Follows m (otherwise e) mid new)) (env_later m old mid t f c.in_ok-method.ensures.later) c.try_second.ensures in
-    asked m (text_of c.first_method.result) (first_method (hint_of k)) o (λ u. env_in m old u f) c.in_ok-method.method (otherwise (env_in m old t f)) None old mid new r c.in_ok-method.ensures.does c.first_method.ensures c.in-None.ensures.is h
+    asked m (text_of c.first_method.result) (first_method (hint_in k)) o (λ u. env_in m old u f) c.in_ok-method.method (otherwise (env_in m old t f)) None old mid new r c.in_ok-method.ensures.does c.first_method.ensures c.in-None.ensures.is h
 
 pub call_method-requires-clause-runs : goal.call_method-requires-clause-runs
 call_method-requires-clause-runs g c = runs_later _ _ _ _ c.requires.runs c.in_ok-method.ensures.later

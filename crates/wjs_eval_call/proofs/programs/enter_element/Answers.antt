@@ -2,7 +2,7 @@ use Rattle.std.proofs.Common.{subst}
 use Rattle.std.specs.Prelude.{OnOk}
 use Rattle.wjs_meaning.specs.Deeds.{Act}
 use Rattle.wjs_meaning.specs.Reading.{node_in}
-use Rattle.wjs_model.specs.Contents.{holding_in}
+use Rattle.wjs_model.specs.Lists.{program_elements}
 use Rattle.wjs_moves.specs.Following.{Follows}
 use Rattle.wjs_moves.specs.Parts.{env_in, node_now}
 use Rattle.wjs_eval_call.proofs.StandingBodies.{program_element}
@@ -17,7 +17,7 @@ returns g c =
     let t = new.heap.texts in
     let f = c.args.frame in
     subst (λ (a : Act). OnOk c.enter.result (Follows m a old new))
-    (program_at (node_in t (node_now m old f)) f.form f.node.0 (holding_in t f.held) (env_in m old t f) c.args.from c.in_ok-next.next c.args.element.0 c.requires.form c.requires.begun c.in_ok-next.ensures (c.requires.element t))
+    (program_at (program_elements (node_in t (node_now m old f))) (env_in m old t f) c.args.from c.in_ok-next.next c.args.element.0 c.in_ok-next.ensures (c.requires.element t))
     c.enter.ensures
 
 pub enter-requires-clause-part : goal.enter-requires-clause-part

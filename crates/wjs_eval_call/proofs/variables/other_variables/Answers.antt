@@ -7,5 +7,5 @@ use Rattle.wjs_eval_call.proofs.variables.other_variables.Goals as goal
 
 pub returns-then-is_empty-clause-is : goal.returns-then-is_empty-clause-is
 returns-then-is_empty-clause-is g c = λ t table grows.
-    let none : length c.as_slice.result.now ≡ 0 = search rules in
-    ap (map (text_in t)) c.new.ensures.items ∙ none_left t _ _ (subst (λ (vs : List TextId). length vs ≡ 0) c.as_slice.ensures none)
+    let none : length c.variables.result.now ≡ 0 = search rules in
+    ap (map (text_in t)) c.new.ensures.items ∙ none_left t _ _ (subst (λ (vs : List TextId). length vs ≡ 0) c.variables.ensures none)

@@ -14,8 +14,8 @@ loop-name-preserved g c =
     let now = c.args.config.now in
     let d = c.args.declared.now in
     let i = c.loop-name.name-index in
-    let items = c.as_slice-name-items.result.now in
-    let same = c.as_slice-name-items.ensures in
+    let items = c.variables-name-items.result.now in
+    let same = c.variables-name-items.ensures in
     let others = c.push_other.new.others.items in
     record {
       is = λ t table grows.
@@ -33,5 +33,5 @@ returns-clause-is g c = λ t table grows.
     let d = c.args.declared.now in
     let i = c.loop-name.name-index in
     let seen = map (text_in t) d.formals ++ function_names (env_in g.S.WorldStore.meaning now t c.args.frame.now) (numbers d.functions) in
-    let past : length d.variables ≤ i = subst (λ (vs : List TextId). length vs ≤ i) c.as_slice-name-items.ensures c.loop-name-test.false in
+    let past : length d.variables ≤ i = subst (λ (vs : List TextId). length vs ≤ i) c.variables-name-items.ensures c.loop-name-test.false in
     c.loop-name.invariant.is t table grows ∙ ap (λ (vs : List TextId). filter (free_of t seen) (map (text_in t) vs)) (take_all i d.variables past)

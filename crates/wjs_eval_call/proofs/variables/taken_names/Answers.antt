@@ -14,7 +14,7 @@ use Rattle.wjs_eval_call.proofs.variables.taken_names.Goals as goal
 
 pub loop-function-init : goal.loop-function-init
 loop-function-init g c = λ t table grows.
-    let formals = subst (λ (l : List TextId). Takes t (map (text_in t) l) c.take_formals.new.taken) c.as_slice.ensures (c.in_ok-take_formals.ensures t table grows) in
+    let formals = subst (λ (l : List TextId). Takes t (map (text_in t) l) c.take_formals.new.taken) c.formals.ensures (c.in_ok-take_formals.ensures t table grows) in
     subst (λ (l : List Text). Takes t l c.take_formals.new.taken) (sym (append-nil (map (text_in t) c.args.declared.now.formals))) formals
 
 pub loop-function-preserved : goal.loop-function-preserved
@@ -23,8 +23,8 @@ loop-function-preserved g c = λ t table grows.
     let formals = map (text_in t) c.args.declared.now.formals in
     let env = env_in g.S.WorldStore.meaning now t c.args.frame.now in
     let i = c.loop-function.function-index in
-    let items = c.as_slice-function-items.result.now in
-    let same = c.as_slice-function-items.ensures in
+    let items = c.functions-function-items.result.now in
+    let same = c.functions-function-items.ensures in
     let before = subst (λ (fs : List NodeId). Takes t (formals ++ function_names env (numbers (take i fs))) c.loop-function.taken) (sym same) (c.loop-function.invariant t table grows) in
     let after = subst (λ (l : List Text). Takes t l c.take_function.new.taken) (functions_next t now.heap.texts grows formals env items i (record { 0 = 0 }) c.loop-function-test.true)
     (c.in_ok-take_function.ensures t table grows (formals ++ function_names env (numbers (take i items))) before) in

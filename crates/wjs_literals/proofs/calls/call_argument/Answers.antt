@@ -5,9 +5,10 @@ use Rattle.wjs_moves.proofs.Handling.{runs_held}
 use Rattle.wjs_literals.proofs.calls.call_argument.Goals as goal
 
 pub returns : goal.returns
-returns g c = follows_as _ _ _ _ _ _ (λ grows. rw (c.in_ok-hold.ensures, c.in_ok-next.ensures, c.saturating_sub-at.ensures, c.place.ensures) refl) c.call_next.ensures
+returns g c = follows_as _ _ _ _ _ _ (λ grows. rw (c.in_ok-hold.ensures, c.in_ok-next.ensures) refl) c.call_next.ensures
 
-pub call_next-requires-clause-runs : goal.call_next-requires-clause-runs
-call_next-requires-clause-runs g c =
-    rw c.in_ok-hold.ensures (runs_held g.S.WorldStore.meaning c.args.config.now c.args.frame (holds.Value c.args.value ∷ c.args.frame.held) c.requires.runs
-    (c.requires.value, c.requires.runs.there.held) c.requires.runs.there.stands.body)
+pub call_next-requires : goal.call_next-requires
+call_next-requires g c = record {
+  runs = rw c.in_ok-hold.ensures (runs_held g.S.WorldStore.meaning c.args.config.now c.args.frame (holds.Value c.args.value ∷ c.args.frame.held)
+      c.requires.runs (c.requires.value, c.requires.runs.there.held));
+}

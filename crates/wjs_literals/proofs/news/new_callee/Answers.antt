@@ -1,18 +1,15 @@
-use Rattle.std.proofs.Common.{◌≡◌, ◌∷◌, refl, subst}
+use Rattle.std.proofs.Common.{◌∷◌, [], refl}
 use Rattle.wjs_lines.proofs.Following.{follows_as}
 use Rattle.wjs_base.specs.declared.values.Value.TheVariants as values
-use Rattle.wjs_model.specs.declared.frame.Activation.{Activation as Frame}
 use Rattle.wjs_model.specs.declared.frame.Held.TheVariants as holds
-use Rattle.wjs_literals.proofs.Standing.{there_callee}
-use Rattle.wjs_moves.proofs.Handling.{runs_as}
+use Rattle.wjs_moves.proofs.Handling.{runs_held}
 use Rattle.wjs_literals.proofs.news.new_callee.Goals as goal
 
-pub new_next-requires-clause-runs : goal.new_next-requires-clause-runs
-new_next-requires-clause-runs g c =
-    runs_as _ _ _ _ c.requires.runs (there_callee g.S.WorldStore.meaning c.args.config.now c.args.frame c.requires.runs.there c.args.callee values.Undefined
-    c.nothing_held.result c.hold.new.frame c.requires.form c.requires.callee tt c.nothing_held.ensures
-    (subst (λ (h : Frame). c.hold.new.frame ≡ record h { held = holds.Callee c.args.callee values.Undefined ∷ h.held }) c.set_held.ensures
-    c.in_ok-hold.ensures))
+pub new_next-requires : goal.new_next-requires
+new_next-requires g c = record {
+  runs = rw (c.in_ok-hold.ensures, c.set_held.ensures, c.nothing_held.ensures) (runs_held g.S.WorldStore.meaning c.args.config.now c.args.frame
+      (holds.Callee c.args.callee values.Undefined ∷ []) c.requires.runs ((c.requires.callee, tt), tt));
+}
 
 pub returns : goal.returns
 returns g c = follows_as _ _ _ _ _ _ (λ grows. rw (c.in_ok-hold.ensures, c.set_held.ensures, c.nothing_held.ensures) refl) c.new_next.ensures

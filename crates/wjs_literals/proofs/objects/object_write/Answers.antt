@@ -1,12 +1,11 @@
 use Rattle.std.proofs.Common.{◌+◌, Some, drop}
-use Rattle.std.specs.Prelude.{map as each}
 use Rattle.wjs_content.specs.Names.{slot}
 use Rattle.wjs_content.specs.Tables.{value_in}
 use Rattle.wjs_meaning.specs.Deeds.{Do, Write}
 use Rattle.wjs_meaning.specs.Expressions.{object_from}
-use Rattle.wjs_meaning.specs.Reading.{pair_in}
+use Rattle.wjs_meaning.specs.Reading.{node_in}
+use Rattle.wjs_model.specs.Lists.{pairs_of}
 use Rattle.wjs_moves.specs.Parts.{node_among}
-use Rattle.wjs_literals.specs.Parts.{properties_of}
 use Rattle.wjs_literals.proofs.Lines.{does_line}
 use Rattle.wjs_moves.proofs.Handling.{runs_later}
 use Rattle.wjs_literals.proofs.objects.object_write.Goals as goal
@@ -24,5 +23,5 @@ returns g c =
     let new = c.object_next.new.config in
     let r = c.object_next.result in
     let t = new.heap.texts in
-    let written = does_line m _ _ f (λ us e done. object_from (drop (c.args.at + 1) (each (pair_in t) (properties_of (node_among us f.tree f.node)))) c.args.object e) c.name_of_key.new.config c.write.new.config new r c.in_ok-write.ensures.does c.in_ok-write.ensures.later (rw c.in_ok-next.ensures at c.object_next.ensures) in
-    does_line m _ _ f (λ us e n. Do (Write e.world (slot c.args.object n) (Some (value_in t c.args.value))) (λ done. object_from (drop (c.args.at + 1) (each (pair_in t) (properties_of (node_among us f.tree f.node)))) c.args.object e)) c.args.config.now c.name_of_key.new.config new r c.in_ok-name.ensures.does c.in_ok-name.ensures.later written
+    let written = does_line m _ _ f (λ us e done. object_from (drop (c.args.at + 1) (pairs_of (node_in t (node_among us f.tree f.node)))) c.args.object e) c.name_of_key.new.config c.write.new.config new r c.in_ok-write.ensures.does c.in_ok-write.ensures.later (rw c.in_ok-next.ensures at c.object_next.ensures) in
+    does_line m _ _ f (λ us e n. Do (Write e.world (slot c.args.object n) (Some (value_in t c.args.value))) (λ done. object_from (drop (c.args.at + 1) (pairs_of (node_in t (node_among us f.tree f.node)))) c.args.object e)) c.args.config.now c.name_of_key.new.config new r c.in_ok-name.ensures.does c.in_ok-name.ensures.later written

@@ -13,4 +13,4 @@ returns g c =
     let old = c.args.config.now in
     let meaning = g.S.WorldStore.meaning in
     let env = env_in meaning old t c.args.frame in
-    follows_as meaning _ _ _ _ c.nest.result (λ grows. ap (λ (n : Node). Sub (expr_of c.args.e.0 n env) (then_at meaning old c.args.frame c.args.place t env)) (sym (node_same t old.units.items c.args.frame.tree c.args.e))) c.nest.ensures
+    follows_as meaning _ _ _ _ c.nest.result (λ grows. ap (λ (n : Node). Sub (expr_of c.args.e.0 n env) (then_at meaning old c.args.frame c.args.point t env)) (sym (node_same t old.units.items c.args.frame.tree c.args.e))) c.nest.ensures

@@ -1,9 +1,8 @@
-use Rattle.std.proofs.Common.{◌≡◌, ◌<◌, List, Option, Some, None, length, sym, subst, ◌∙◌}
+use Rattle.std.proofs.Common.{◌≡◌, List, Option, Some, None, sym, subst, ◌∙◌}
 use Rattle.std.specs.Prelude.{map, drop, slice_get, IfSome}
 use Rattle.wjs_tree.specs.declared.node.Declarator.{Declarator}
 use Rattle.wjs_meaning.specs.Reading.{variable_in}
 use Rattle.wjs_meaning.specs.Statements.{vars_from}
-use Rattle.wjs_model.specs.Contents.{holding_in}
 use Rattle.wjs_moves.specs.Parts.{env_in, node_now}
 use Rattle.wjs_loops.specs.declared.declarators.Initialiser.{Initialiser}
 use Rattle.wjs_loops.specs.Variables.{declarators_in, initialiser_goes}
@@ -12,8 +11,8 @@ use Rattle.wjs_loops.proofs.Declared.{found_same, found_enters}
 use Rattle.wjs_loops.proofs.Standing.{value_of, initialiser_stands}
 use Rattle.wjs_loops.proofs.variables.variables_from.Goals as goal
 
-pub returns-in_ok-place-in-Some : goal.returns-in_ok-place-in-Some
-returns-in_ok-place-in-Some g c =
+pub returns-in_ok-at-in-Some : goal.returns-in_ok-at-in-Some
+returns-in_ok-at-in-Some g c =
     let meaning = g.S.WorldStore.meaning in
     let f = c.args.frame in
     let t = c.enter.new.config.heap.texts in
@@ -22,12 +21,9 @@ returns-in_ok-place-in-Some g c =
     let x = c.in-Some.initialiser in
     let ds = c.declarators_of.result.now in
     let P : Option Initialiser → Type 0 = λ o. vars_from f.node.0 c.args.from (drop c.args.from (map (variable_in t) ds)) env ≡ initialiser_goes f.node.0 (map (variable_in t) ds) o env in
-    let L : Option Initialiser → Type 0 = λ o. IfSome o (λ (y : Initialiser). y.at < length ds) in
-    let D : List Declarator → Type 0 = λ l. x.at < length l in
     let found = subst P c.in-Some.is (c.initialiser_from.ensures.goes t f.node.0 env) in
-    let lt = subst D c.declarators_of.ensures (subst L c.in-Some.is c.initialiser_from.ensures.within) in
     follows_as meaning _ _ _ _ c.enter.result (λ grows.
-    found_enters t node f.form f.node.0 c.in_ok-place-in-Some.place c.first_place-first.result (holding_in t f.held) env x c.requires.form c.first_place-first.ensures c.in_ok-place-in-Some.ensures lt
+    found_enters t node f.node.0 c.in_ok-at-in-Some.at env x c.in_ok-at-in-Some.ensures
     ∙ sym (found_same t node f.node.0 env ds c.args.from (Some x) c.declarators_of.ensures found)) c.enter.ensures
 
 pub returns-in-None : goal.returns-in-None

@@ -1,20 +1,15 @@
-use Rattle.std.proofs.Common.{refl, ◌∙◌}
-use Rattle.wjs_lines.proofs.Following.{follows_as}
+use Rattle.std.proofs.Common.{◌∙◌}
 use Rattle.wjs_moves.proofs.Shorter.{follows_shorter}
-use Rattle.wjs_members.proofs.MemberPlaces.{text_waits}
 use Rattle.wjs_lines.proofs.Converting.{text_shortens}
 use Rattle.wjs_content.specs.Tables.{value_in}
 use Rattle.wjs_moves.specs.Parts.{env_in}
 use Rattle.wjs_meaning.specs.Expressions.{at_name}
 use Rattle.wjs_model.specs.Contents.{value_held}
-use Rattle.wjs_members.specs.Taking.{taken}
+use Rattle.wjs_model.specs.Waiting.{taken}
 use Rattle.wjs_members.proofs.members.at_name.Goals as goal
-
-pub returns-then-is_object : goal.returns-then-is_object
-returns-then-is_object g c = follows_as _ _ _ _ _ _ (λ grows. rw (c.requires.node, text_waits _ _ c.args.frame.form _ _ _ c.requires.form) refl) c.convert.ensures
 
 pub returns-else-is_object : goal.returns-else-is_object
 returns-else-is_object g c =
     let t = c.at_primitive.new.config.heap.texts in
     let env = env_in g.S.WorldStore.meaning c.args.config.now t c.args.frame in
-    follows_shorter g.S.WorldStore.meaning _ _ _ _ _ (text_shortens (value_in t c.args.value) env (at_name (value_in t (value_held c.args.frame.held)) (taken c.args.frame.form env)) (c.is_object.ensures t ∙ c.if-is_object.false)) c.at_primitive.ensures
+    follows_shorter g.S.WorldStore.meaning _ _ _ _ _ (text_shortens (value_in t c.args.value) env (at_name (value_in t (value_held c.args.frame.held)) (taken c.args.purpose env)) (c.is_object.ensures t ∙ c.if-is_object.false)) c.at_primitive.ensures

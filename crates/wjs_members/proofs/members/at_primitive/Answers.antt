@@ -3,7 +3,7 @@ use Rattle.wjs_lines.proofs.Following.{env_later}
 use Rattle.wjs_content.specs.Tables.{value_in}
 use Rattle.wjs_moves.specs.Parts.{env_in}
 use Rattle.wjs_model.specs.Contents.{value_held}
-use Rattle.wjs_members.specs.Taking.{taken}
+use Rattle.wjs_model.specs.Waiting.{taken}
 use Rattle.wjs_moves.proofs.Handling.{runs_later}
 use Rattle.wjs_members.proofs.members.at_primitive.Goals as goal
 
@@ -11,7 +11,7 @@ pub returns : goal.returns
 returns g c =
     let t = c.take_held.new.config.heap.texts in
     let h = rw (env_later g.S.WorldStore.meaning _ _ t c.args.frame c.in_ok-name.ensures.later) at c.take_held.ensures in
-    c.in_ok-name.ensures.does.by (at_name (value_in t (value_held c.args.frame.held)) (taken c.args.frame.form (env_in g.S.WorldStore.meaning c.args.config.now t c.args.frame))) _ _ h
+    c.in_ok-name.ensures.does.by (at_name (value_in t (value_held c.args.frame.held)) (taken c.args.purpose (env_in g.S.WorldStore.meaning c.args.config.now t c.args.frame))) _ _ h
 
 pub take_held-requires-clause-runs : goal.take_held-requires-clause-runs
 take_held-requires-clause-runs g c = runs_later _ _ _ _ c.requires.runs c.in_ok-name.ensures.later

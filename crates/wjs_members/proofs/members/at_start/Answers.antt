@@ -1,6 +1,4 @@
-use Rattle.std.proofs.Common.{inl, refl}
-use Rattle.wjs_lines.proofs.Following.{follows_as}
-use Rattle.wjs_members.proofs.MemberPlaces.{base_waits}
+use Rattle.std.proofs.Common.{inl, inr, refl}
 use Rattle.wjs_tree.specs.declared.node.Node.TheVariants as nodes
 use Rattle.wjs_moves.proofs.Parting.{stands_here}
 use Rattle.wjs_members.proofs.members.at_start.Goals as goal
@@ -10,5 +8,7 @@ enter-requires-clause-part g c =
     stands_here g.S.WorldStore.meaning c.args.config.now c.args.frame (nodes.At c.args.base c.args.index) c.args.base c.requires.runs.there c.requires.node
     (inl refl)
 
-pub returns : goal.returns
-returns g c = follows_as _ _ _ _ _ _ (λ grows. rw (c.requires.node, base_waits _ _ c.args.frame.form _ _ _ c.requires.form) refl) c.enter.ensures
+pub enter-requires-clause-point : goal.enter-requires-clause-point
+enter-requires-clause-point g c =
+    stands_here g.S.WorldStore.meaning c.args.config.now c.args.frame (nodes.At c.args.base c.args.index) c.args.index c.requires.runs.there c.requires.node
+    (inr (inl refl))

@@ -1,8 +1,8 @@
 use Rattle.wjs_meaning.specs.Deeds.{Member}
 use Rattle.wjs_lines.proofs.Following.{env_later}
 use Rattle.wjs_content.specs.Tables.{value_in}
+use Rattle.wjs_model.specs.Waiting.{taken}
 use Rattle.wjs_moves.specs.Parts.{env_in}
-use Rattle.wjs_members.specs.Taking.{taken}
 use Rattle.wjs_moves.proofs.Handling.{runs_later}
 use Rattle.wjs_members.proofs.members.dot_member.Goals as goal
 
@@ -10,7 +10,7 @@ pub returns : goal.returns
 returns g c =
     let t = c.take.new.config.heap.texts in
     let h = rw (env_later g.S.WorldStore.meaning _ _ t c.args.frame c.in_ok-name.ensures.later) at c.take.ensures in
-    c.in_ok-name.ensures.does.by (λ n. taken c.args.frame.form (env_in g.S.WorldStore.meaning c.args.config.now t c.args.frame) (Member (value_in t c.args.base) n)) _ _ h
+    c.in_ok-name.ensures.does.by (λ n. taken c.args.purpose (env_in g.S.WorldStore.meaning c.args.config.now t c.args.frame) (Member (value_in t c.args.base) n)) _ _ h
 
 pub take-requires-clause-runs : goal.take-requires-clause-runs
 take-requires-clause-runs g c = runs_later _ _ _ _ c.requires.runs c.in_ok-name.ensures.later

@@ -1,6 +1,5 @@
 use Rattle.std.proofs.Common.{inl, refl}
 use Rattle.wjs_lines.proofs.Following.{follows_as}
-use Rattle.wjs_members.proofs.MemberPlaces.{dot_waits}
 use Rattle.wjs_tree.specs.declared.node.Node.TheVariants as nodes
 use Rattle.wjs_moves.proofs.Parting.{stands_here}
 use Rattle.wjs_members.proofs.members.dot_start.Goals as goal
@@ -11,4 +10,4 @@ enter-requires-clause-part g c =
     (inl refl)
 
 pub returns : goal.returns
-returns g c = follows_as _ _ _ _ _ _ (λ grows. rw (c.requires.node, dot_waits _ _ c.args.frame.form _ _ _ _ c.requires.form) refl) c.enter.ensures
+returns g c = follows_as _ _ _ _ _ _ (λ grows. rw c.requires.node refl) c.enter.ensures

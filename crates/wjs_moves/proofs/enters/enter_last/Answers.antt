@@ -10,9 +10,7 @@ returns g c =
     c.requires.runs.there c.requires.part
     (put_on _ _ _ _ c.in_ok-push.ensures.ok
     (c.begin.ensures ∙ (λ i. record c.args.frame {
-      form = c.form.ensures i;
       node = c.node.ensures i;
-      place = c.place.ensures i;
-      phase = phases.Due;
+      phase = phases.Due (c.start.ensures i);
       held = [];
     })))

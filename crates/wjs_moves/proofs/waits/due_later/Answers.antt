@@ -4,5 +4,5 @@ use Rattle.wjs_moves.proofs.waits.due_later.Goals as goal
 
 pub returns : goal.returns
 returns g c =
-    follows_due g.S.WorldStore.meaning c.args.config.now c.args.frame c.args.place c.push.new.self c.requires.runs.running.state c.requires.runs.running.base
-    c.requires.runs.there (put_on _ _ _ _ c.in_ok-push.ensures.ok c.set_place.ensures)
+    follows_due g.S.WorldStore.meaning c.args.config.now c.args.frame c.args.start c.push.new.self c.requires.runs.running.state c.requires.runs.running.base
+    c.requires.runs.there c.requires.start (put_on _ _ _ _ c.in_ok-push.ensures.ok c.set_phase.ensures)

@@ -9,8 +9,8 @@ pub returns : goal.returns
 returns g c =
     let old = c.args.config.now in
     let mid = old.frames ++ c.waiting_at-waiting.result ∷ [] in
-    follows_nested g.S.WorldStore.meaning old c.args.frame c.args.form c.args.node c.args.start c.args.held c.args.place mid c.push_ready.new.self
-    c.requires.runs.running.state c.requires.runs.running.base c.requires.runs.there c.requires.held c.requires.node c.requires.body
+    follows_nested g.S.WorldStore.meaning old c.args.frame c.args.point c.args.start c.args.node c.args.held mid c.push_ready.new.self
+    c.requires.runs.running.state c.requires.runs.running.base c.requires.runs.there c.requires.point c.requires.start c.requires.held c.requires.node
     (ap (λ (w : Frame). old.frames ++ w ∷ []) c.waiting_at-waiting.ensures)
-    (c.in_ok-push_ready.ensures ∙ (λ i. mid ++ record (begun_at (c.waiting_at-waiting.ensures i) c.args.form c.args.node c.args.start)
-    { phase = phases.Ready; held = c.args.held } ∷ []))
+    (c.in_ok-push_ready.ensures ∙ (λ i. mid ++ record (begun_at (c.waiting_at-waiting.ensures i) c.args.start c.args.node)
+    { phase = phases.Ready c.args.start; held = c.args.held } ∷ []))

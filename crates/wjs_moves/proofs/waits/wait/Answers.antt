@@ -3,9 +3,9 @@ use Rattle.wjs_moves.proofs.Moving.{nests_waiting, later_waiting}
 use Rattle.wjs_moves.proofs.waits.wait.Goals as goal
 
 pub returns-clause-nests : goal.returns-clause-nests
-returns-clause-nests g c = nests_waiting g.S.WorldStore.meaning c.args.config.now c.args.frame c.args.place c.push.new.self (put_on _ _ _ _ c.in_ok-push.ensures.ok c.waiting_at.ensures)
+returns-clause-nests g c = nests_waiting g.S.WorldStore.meaning c.args.config.now c.args.frame c.args.point c.push.new.self (put_on _ _ _ _ c.in_ok-push.ensures.ok c.waiting_at.ensures)
 
 pub returns-clause-later : goal.returns-clause-later
 returns-clause-later g c =
-    later_waiting g.S.WorldStore.meaning c.args.config.now c.args.frame c.args.place c.push.new.self c.requires.runs.running.base c.requires.runs.there
+    later_waiting g.S.WorldStore.meaning c.args.config.now c.args.frame c.args.point c.push.new.self c.requires.runs.running.base c.requires.runs.there c.requires.point
     (put_on _ _ _ _ c.in_ok-push.ensures.ok c.waiting_at.ensures)

@@ -1,5 +1,4 @@
 use Rattle.std.proofs.Common.{◌≡◌, Bool, true, false, List, [], sym, ap, ◌∙◌, subst, rules}
-use Rattle.wjs_arena.specs.declared.native.Native.TheVariants as native
 use Rattle.wjs_content.specs.Objects.{Arena, object_at}
 use Rattle.wjs_content.specs.Tables.{value_in}
 use Rattle.wjs_content.specs.Values.{Value}
@@ -10,9 +9,8 @@ use Rattle.wjs_model.specs.Soundness.{HasItems}
 use Rattle.wjs_moves.specs.Parts.{env_in}
 use Rattle.wjs_moves.proofs.Shorter.{follows_look}
 use Rattle.wjs_lines.proofs.Following.{follows_as, env_later}
-use Rattle.wjs_natives.proofs.Frames.{native_holds}
 use Rattle.wjs_native_core.proofs.Applying.{apply_starts, if_list}
-use Rattle.wjs_moves.proofs.Handling.{running_later}
+use Rattle.wjs_moves.proofs.Handling.{runs_later, runs_held}
 use Rattle.wjs_native_core.proofs.applies.apply_elements.Goals as goal
 
 pub returns-then-not-is_list_class : goal.returns-then-not-is_list_class
@@ -33,12 +31,7 @@ apply_rest-requires-clause-runs g c =
     let mid = c.get_known.new.config in
     let later = c.in_ok-length.ensures.later in
     let held = subst (λ (l : List Held). HasItems mid l) (sym c.in_ok-elements_for.ensures) ((later.objects c.args.function c.requires.function, later.values c.args.this c.requires.this), (later.objects c.args.object c.requires.object, tt)) in
-    record {
-      running = running_later _ _ _ c.requires.runs.running later;
-      there = rw c.set_held.ensures
-          (native_holds g.S.WorldStore.meaning mid c.args.frame c.in_ok-elements_for.field-0 (later.frames c.args.frame c.requires.runs.there) held native.Apply
-          c.requires.form);
-    }
+    rw c.set_held.ensures (runs_held _ mid c.args.frame c.in_ok-elements_for.field-0 (runs_later _ _ _ _ c.requires.runs later) held)
 
 pub returns : goal.returns
 returns g c =

@@ -1,8 +1,7 @@
-use Rattle.std.proofs.Common.{◌≡◌, suc, ◌+◌, ◌<◌, arith, rules}
+use Rattle.std.proofs.Common.{◌<◌, rules}
 use Rattle.wjs_model.specs.Contents.{elements_held}
-use Rattle.wjs_moves.specs.Parts.{env_in, node_now}
+use Rattle.wjs_moves.specs.Parts.{env_in}
 use Rattle.wjs_lines.proofs.Following.{follows_as}
-use Rattle.wjs_meaning.specs.Reading.{node_in}
 use Rattle.wjs_native_core.proofs.Applying.{apply_due}
 use Rattle.wjs_native_core.proofs.applies.apply_rest.Goals as goal
 
@@ -14,7 +13,4 @@ returns-then-read-count g c =
     let t = new.heap.texts in
     let f = c.args.frame in
     let less : c.args.read < (elements_held f.held).1 = search rules in
-    let after : c.args.read + 1 ≡ suc c.args.read = omega arith in
-    follows_as m _ _ old new c.due_later.result
-    (λ grows. apply_due t f.held (node_in t (node_now m old f)) f.form f.node.0 (c.args.read + 1) c.args.function c.args.this c.args.read (env_in m old t f) c.requires.form after c.requires.callee less)
-    c.due_later.ensures
+    follows_as m _ _ old new c.due_later.result (λ grows. apply_due t f.held c.args.function c.args.this c.args.read (env_in m old t f) c.requires.callee less) c.due_later.ensures

@@ -1,14 +1,14 @@
-use Rattle.std.proofs.Common.{◌≡◌, ◌+◌, get_or, ap, ◌∙◌, rules}
+use Rattle.std.proofs.Common.{◌≡◌, get_or, ap, ◌∙◌}
 use Rattle.std.proofs.lemmas.List.{get_or_read}
 use Rattle.wjs_base.specs.declared.values.Value.TheVariants as values
 use Rattle.wjs_content.specs.Tables.{value_in}
 use Rattle.wjs_meaning.specs.Deeds.{Act, Completion, Sub}
 use Rattle.wjs_model.specs.declared.frame.Activation.{Activation as Frame}
-use Rattle.wjs_model.specs.Contents.{new_held}
+use Rattle.wjs_model.specs.declared.point.Point.TheVariants as points
 use Rattle.wjs_model.specs.Rest.{begin_conversion}
-use Rattle.wjs_moves.specs.Parts.{env_in, node_now, then_at}
+use Rattle.wjs_moves.specs.Parts.{env_in, then_at}
+use Rattle.wjs_moves.proofs.Handling.{runs_held}
 use Rattle.wjs_lines.proofs.Following.{follows_as}
-use Rattle.wjs_natives.proofs.Frames.{native_holds}
 use Rattle.wjs_natives.proofs.Waiting.{waits_as}
 use Rattle.wjs_natives.proofs.conversions.wait_for.Goals as goal
 
@@ -23,19 +23,13 @@ returns g c =
     let at = c.args.at in
     let held : Frame = record f { held = c.in_ok-items_of.field-0 } in
     let env = env_in m old t f in
-    let place : c.in-Ok.place ≡ at + 1 = search rules in
     let value : c.index-values-at.result ≡ get_or vs at values.Undefined = get_or_read vs at c.index-values-at.result c.requires.at c.index-values-at.is values.Undefined in
-    let waits = waits_as t (node_now m old held) f.form c.args.native f.node.0 c.in-Ok.place at c.in_ok-items_of.field-0 vs (new_held f.held) env c.requires.form place c.in_ok-items_of.ensures.values (c.in_ok-items_of.ensures.by_new ∙ c.by_new-by_new.ensures) in
+    let waits = waits_as t c.args.native c.args.by_new c.in_ok-number.number at c.in_ok-items_of.field-0 vs env c.in_ok-number.ensures c.in_ok-items_of.ensures.values in
     follows_as m _ _ old new c.convert.result
     (λ grows.
-    ap (λ v. Sub (begin_conversion c.args.conversion (value_in t v) env) (then_at m old held c.in-Ok.place t env)) value
+    ap (λ v. Sub (begin_conversion c.args.conversion (value_in t v) env) (then_at m old held (points.Native c.args.native c.args.by_new c.in_ok-number.number) t env)) value
     ∙ ap (λ (go : Completion → Act). Sub (begin_conversion c.args.conversion (value_in t (get_or vs at values.Undefined)) env) go) waits)
     (rw c.set_held.ensures at c.convert.ensures)
 
 pub convert-requires-clause-runs : goal.convert-requires-clause-runs
-convert-requires-clause-runs g c = record {
-  running = c.requires.runs.running;
-  there = rw c.set_held.ensures
-      (native_holds g.S.WorldStore.meaning c.args.config.now c.args.frame c.in_ok-items_of.field-0 c.requires.runs.there c.in_ok-items_of.ensures.found
-      c.args.native c.requires.form);
-}
+convert-requires-clause-runs g c = rw c.set_held.ensures (runs_held _ _ _ _ c.requires.runs c.in_ok-items_of.ensures.found)

@@ -8,7 +8,7 @@ use Rattle.wjs_content.specs.Tables.{value_in}
 use Rattle.wjs_meaning.specs.Deeds.{Act}
 use Rattle.wjs_meaning.specs.Natives.{native_of}
 use Rattle.wjs_model.specs.Frames.{earliest_first}
-use Rattle.wjs_model.specs.Contents.{holding_in, values_held, new_held}
+use Rattle.wjs_model.specs.Contents.{holding_in, values_held}
 use Rattle.wjs_model.specs.Soundness.{HasValue}
 use Rattle.wjs_moves.specs.Parts.{env_in}
 use Rattle.wjs_moves.proofs.Held.{values_there}
@@ -41,7 +41,7 @@ returns g c =
     let given : c.len-given.result ≡ length c.in_ok-args.args.items = search rules in
     let said : c.in_ok-values.values.items ≡ f.this ∷ vs = c.in_ok-values.ensures ∙ ap (λ (v : Value). v ∷ c.in_ok-args.args.items) c.this.ensures ∙ ap (λ (l : List Value). f.this ∷ l) c.in_ok-args.ensures in
     let count = λ (t : Table). given ∙ ap length c.in_ok-args.ensures ∙ sym (length-map vs (value_in t)) ∙ ap length (sym (earliest-map (value_in t) (values_held f.held))) in
-    let begins : (t : Table) → converting k (new_held f.held) c.len-given.result (map (value_in t) c.in_ok-values.values.items) 0 (env_in m old t f) ≡ native_of k (holding_in t f.held).by_new (holding_in t f.held).values (env_in m old t f) = λ t.
-    ap (λ l. converting k (new_held f.held) c.len-given.result (map (value_in t) l) 0 (env_in m old t f)) said
-    ∙ begins_as k (new_held f.held) c.len-given.result (value_in t f.this) (map (value_in t) vs) (holding_in t f.held).values (env_in m old t f) refl (sym (earliest-map (value_in t) (values_held f.held))) (count t) in
-    subst (λ (deeds : Table → Act). IfOk c.convert_rest.result (λ p. Progresses m k f deeds p old new)) (λ i t. begins t i) c.convert_rest.ensures
+    let begins : (t : Table) → converting k c.args.by_new c.len-given.result (map (value_in t) c.in_ok-values.values.items) 0 (env_in m old t f) ≡ native_of k c.args.by_new (holding_in t f.held).values (env_in m old t f) = λ t.
+    ap (λ l. converting k c.args.by_new c.len-given.result (map (value_in t) l) 0 (env_in m old t f)) said
+    ∙ begins_as k c.args.by_new c.len-given.result (value_in t f.this) (map (value_in t) vs) (holding_in t f.held).values (env_in m old t f) refl (sym (earliest-map (value_in t) (values_held f.held))) (count t) in
+    subst (λ (deeds : Table → Act). IfOk c.convert_rest.result (λ p. Progresses m k c.args.by_new f deeds p old new)) (λ i t. begins t i) c.convert_rest.ensures

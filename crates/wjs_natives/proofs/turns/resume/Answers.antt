@@ -1,4 +1,4 @@
-use Rattle.std.proofs.Common.{◌-◌, sym, subst}
+use Rattle.std.proofs.Common.{sym, subst}
 use Rattle.std.specs.Prelude.{IfOk}
 use Rattle.wjs_meaning.specs.Deeds.{then_value}
 use Rattle.wjs_model.specs.declared.frame.Completion.{Completion}
@@ -14,4 +14,4 @@ returns g c =
     let old = c.args.config.now in
     let f = c.args.frame in
     let k = c.args.native in
-    subst (λ (e : Completion). IfOk c.resume_with.result (λ p. Progresses m k f (λ t. then_value (after_argument k (holding_in t f.held) (f.place - 1) (env_in m old t f)) (completion_in t e)) p old c.resume_with.new.config)) (sym c.in-Gives.is) c.resume_with.ensures
+    subst (λ (e : Completion). IfOk c.resume_with.result (λ p. Progresses m k c.args.by_new f (λ t. then_value (after_argument k c.args.by_new (holding_in t f.held).values c.args.at (env_in m old t f)) (completion_in t e)) p old c.resume_with.new.config)) (sym c.in-Gives.is) c.resume_with.ensures

@@ -6,7 +6,7 @@ use Rattle.wjs_base.specs.Text.{Table}
 use Rattle.wjs_content.specs.Tables.{value_in}
 use Rattle.wjs_meaning.specs.Deeds.{Act}
 use Rattle.wjs_model.specs.Frames.{earliest_first}
-use Rattle.wjs_model.specs.Contents.{holding_in, values_held, new_held}
+use Rattle.wjs_model.specs.Contents.{holding_in, values_held}
 use Rattle.wjs_model.specs.Soundness.{HasValue}
 use Rattle.wjs_model.specs.Waiting.{after_argument}
 use Rattle.wjs_moves.specs.Parts.{env_in}
@@ -22,7 +22,7 @@ convert_rest-requires-clause-values g c =
     let old = c.args.config.now in
     let held = c.args.frame.held in
     let vs = earliest_first (values_held held) in
-    let at = c.saturating_sub-at.result in
+    let at = c.args.at in
     let said : c.put.new.values.items ≡ placed vs at c.args.value = c.in_ok-put.ensures ∙ ap (λ (l : List Value). placed l at c.args.value) c.in_ok-values.ensures in
     subst (λ (l : List Value). All (HasValue old) l) (sym said) (all_placed old vs at c.args.value (values_there old held c.requires.runs.there.held)
     c.requires.value)
@@ -30,7 +30,7 @@ convert_rest-requires-clause-values g c =
 pub convert_rest-requires-clause-given : goal.convert_rest-requires-clause-given
 convert_rest-requires-clause-given g c = λ h.
     let vs = c.in_ok-values.values.items in
-    let at = c.saturating_sub-at.result in
+    let at = c.args.at in
     let given : c.saturating_sub-given.result ≡ length vs - 1 = search rules in
     let n = ap length c.in_ok-put.ensures in
     elim (cases_lt at (length vs)) [
@@ -46,13 +46,12 @@ returns g c =
     let f = c.args.frame in
     let k = c.args.native in
     let v = c.args.value in
-    let at = c.saturating_sub-at.result in
+    let at = c.args.at in
     let vs = c.in_ok-values.values.items in
     let given : c.saturating_sub-given.result ≡ length vs - 1 = search rules in
-    let place : f.place - 1 ≡ at = search rules in
-    let goes : (t : Table) → converting k (new_held f.held) c.saturating_sub-given.result (map (value_in t) c.put.new.values.items) (at + 1) (env_in m old t f) ≡ after_argument k (holding_in t f.held) (f.place - 1) (env_in m old t f) (value_in t v) = λ t.
-    ap (λ l. converting k (new_held f.held) c.saturating_sub-given.result (map (value_in t) l) (at + 1) (env_in m old t f)) c.in_ok-put.ensures
-    ∙ ap (λ l. converting k (new_held f.held) c.saturating_sub-given.result l (at + 1) (env_in m old t f)) (map-placed (value_in t) vs at v)
-    ∙ ap (λ n. converting k (new_held f.held) n (placed (map (value_in t) vs) at (value_in t v)) (at + 1) (env_in m old t f)) given
-    ∙ sym (argument_as t k f.held vs (new_held f.held) (f.place - 1) at (env_in m old t f) (value_in t v) (sym c.in_ok-values.ensures) refl place) in
-    subst (λ (deeds : Table → Act). IfOk c.convert_rest.result (λ p. Progresses m k f deeds p old new)) (λ i t. goes t i) c.convert_rest.ensures
+    let goes : (t : Table) → converting k c.args.by_new c.saturating_sub-given.result (map (value_in t) c.put.new.values.items) (at + 1) (env_in m old t f) ≡ after_argument k c.args.by_new (holding_in t f.held).values at (env_in m old t f) (value_in t v) = λ t.
+    ap (λ l. converting k c.args.by_new c.saturating_sub-given.result (map (value_in t) l) (at + 1) (env_in m old t f)) c.in_ok-put.ensures
+    ∙ ap (λ l. converting k c.args.by_new c.saturating_sub-given.result l (at + 1) (env_in m old t f)) (map-placed (value_in t) vs at v)
+    ∙ ap (λ n. converting k c.args.by_new n (placed (map (value_in t) vs) at (value_in t v)) (at + 1) (env_in m old t f)) given
+    ∙ sym (argument_as t k c.args.by_new f.held vs at at (env_in m old t f) (value_in t v) (sym c.in_ok-values.ensures) refl) in
+    subst (λ (deeds : Table → Act). IfOk c.convert_rest.result (λ p. Progresses m k c.args.by_new f deeds p old new)) (λ i t. goes t i) c.convert_rest.ensures

@@ -1,14 +1,14 @@
 use Rattle.std.proofs.Common.{refl, ◌∷◌}
 use Rattle.wjs_lines.proofs.Following.{follows_as}
-use Rattle.wjs_operators.proofs.Operators.{comparison_left}
+use Rattle.wjs_operators.proofs.Operators.{first_comparison}
 use Rattle.wjs_model.specs.declared.frame.Held.TheVariants as holds
 use Rattle.wjs_moves.proofs.Handling.{runs_held}
 use Rattle.wjs_operators.proofs.comparisons.compare_objects.Goals as goal
 
 pub returns : goal.returns
-returns g c = follows_as _ _ _ _ _ _ (λ grows. rw (c.in_ok-hold.ensures, c.requires.operates.left, comparison_left c.args.operator _ _ c.requires.comparison) refl) c.convert.ensures
+returns g c = follows_as _ _ _ _ _ _ (λ grows. rw (c.in_ok-hold.ensures, first_comparison c.args.operator _ _ c.requires.comparison) refl) c.convert.ensures
 
 pub convert-requires-clause-runs : goal.convert-requires-clause-runs
 convert-requires-clause-runs g c =
     rw c.in_ok-hold.ensures (runs_held g.S.WorldStore.meaning c.args.config.now c.args.frame (holds.Value c.args.right ∷ c.args.frame.held) c.requires.runs
-    (c.requires.right, c.requires.runs.there.held) c.requires.runs.there.stands.body)
+    (c.requires.right, c.requires.runs.there.held))

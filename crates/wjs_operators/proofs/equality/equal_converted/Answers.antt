@@ -1,14 +1,14 @@
 use Rattle.std.proofs.Common.{refl, ◌∷◌}
 use Rattle.wjs_lines.proofs.Following.{follows_as}
-use Rattle.wjs_operators.proofs.Operators.{equality_left}
+use Rattle.wjs_operators.proofs.Operators.{first_equality}
 use Rattle.wjs_model.specs.declared.frame.Held.TheVariants as holds
 use Rattle.wjs_moves.proofs.Handling.{runs_held}
 use Rattle.wjs_operators.proofs.equality.equal_converted.Goals as goal
 
 pub returns : goal.returns
-returns g c = follows_as _ _ _ _ _ _ (λ grows. rw (c.in_ok-hold.ensures, c.requires.operates.left, equality_left c.args.negated _ _) refl) c.convert.ensures
+returns g c = follows_as _ _ _ _ _ _ (λ grows. rw (c.in_ok-hold.ensures, c.operator_of-operator.ensures, first_equality c.args.negated _ _) refl) c.convert.ensures
 
 pub convert-requires-clause-runs : goal.convert-requires-clause-runs
 convert-requires-clause-runs g c =
     rw c.in_ok-hold.ensures (runs_held g.S.WorldStore.meaning c.args.config.now c.args.frame (holds.Value c.args.other ∷ c.args.frame.held) c.requires.runs
-    (c.requires.other, c.requires.runs.there.held) c.requires.runs.there.stands.body)
+    (c.requires.other, c.requires.runs.there.held))

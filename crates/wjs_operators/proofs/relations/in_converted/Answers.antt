@@ -6,9 +6,9 @@ use Rattle.wjs_base.specs.declared.values.Value.TheVariants as values
 use Rattle.wjs_operators.proofs.relations.in_converted.Goals as goal
 
 pub returns : goal.returns
-returns g c = follows_as _ _ _ _ _ _ (λ grows. rw (c.in_ok-hold.ensures, c.requires.operates.left) refl) c.convert.ensures
+returns g c = follows_as _ _ _ _ _ _ (λ grows. rw c.in_ok-hold.ensures refl) c.convert.ensures
 
 pub convert-requires-clause-runs : goal.convert-requires-clause-runs
 convert-requires-clause-runs g c =
     rw c.in_ok-hold.ensures (runs_held g.S.WorldStore.meaning c.args.config.now c.args.frame (holds.Value (values.Object c.args.object) ∷ c.args.frame.held)
-    c.requires.runs (c.requires.object, c.requires.runs.there.held) c.requires.runs.there.stands.body)
+    c.requires.runs (c.requires.object, c.requires.runs.there.held))

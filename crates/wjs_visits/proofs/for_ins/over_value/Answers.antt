@@ -1,4 +1,6 @@
 use Rattle.std.proofs.lemmas.Result.{MatchResult-at_ok, MatchResult-at_err}
+use Rattle.wjs_moves.proofs.Parting.{stands_later}
+use Rattle.wjs_visits.proofs.Standing.{stands_held}
 use Rattle.wjs_visits.proofs.Storing.{listed_follows, refused_follows}
 use Rattle.wjs_moves.proofs.Handling.{runs_over}
 use Rattle.wjs_visits.proofs.for_ins.over_value.Goals as goal
@@ -11,3 +13,10 @@ returns-in-Err g c = refused_follows g.S.WorldStore.meaning c.args.config.now c.
 
 pub visit_next-requires-clause-runs : goal.visit_next-requires-clause-runs
 visit_next-requires-clause-runs g c = runs_over _ _ _ _ _ c.requires.runs c.in_ok-hold_visits.ensures.later c.in_ok-hold_visits.ensures.there
+
+pub visit_next-requires-clause-body : goal.visit_next-requires-clause-body
+visit_next-requires-clause-body g c =
+    let m = g.S.WorldStore.meaning in
+    let mid = c.hold_visits.new.config in
+    stands_held m mid c.args.frame c.hold_visits.new.frame c.args.s c.in_ok-hold_visits.ensures.frame
+    (stands_later m c.args.config.now c.args.frame mid c.args.s c.in_ok-hold_visits.ensures.later c.requires.body)

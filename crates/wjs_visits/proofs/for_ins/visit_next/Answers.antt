@@ -1,4 +1,6 @@
 use Rattle.std.proofs.Common.{Some, None}
+use Rattle.wjs_moves.proofs.Parting.{stands_later}
+use Rattle.wjs_visits.proofs.Standing.{stands_held}
 use Rattle.wjs_visits.proofs.Storing.{reached_follows}
 use Rattle.wjs_moves.proofs.Handling.{runs_over}
 use Rattle.wjs_visits.proofs.for_ins.visit_next.Goals as goal
@@ -11,3 +13,10 @@ returns-in-None g c = reached_follows g.S.WorldStore.meaning c.args.config.now c
 
 pub visit-requires-clause-runs : goal.visit-requires-clause-runs
 visit-requires-clause-runs g c = runs_over _ _ _ _ _ c.requires.runs c.in_ok-slot.ensures.later c.in_ok-slot.ensures.there
+
+pub visit-requires-clause-body : goal.visit-requires-clause-body
+visit-requires-clause-body g c =
+    let m = g.S.WorldStore.meaning in
+    let mid = c.next_present.new.config in
+    stands_held m mid c.args.frame c.next_present.new.frame c.args.s c.in_ok-slot.ensures.frame
+    (stands_later m c.args.config.now c.args.frame mid c.args.s c.in_ok-slot.ensures.later c.requires.body)

@@ -9,7 +9,7 @@ use Rattle.wjs_model.specs.Contents.{reference_in}
 use Rattle.wjs_moves.specs.Following.{Follows}
 use Rattle.wjs_deeds.proofs.Later.{later_twice}
 use Rattle.wjs_visits.proofs.Storing.{named_follows, named_fails, body_entered, entered_later}
-use Rattle.wjs_visits.proofs.Standing.{body_stands_later}
+use Rattle.wjs_visits.proofs.Standing.{stands_twice}
 use Rattle.wjs_moves.proofs.Handling.{runs_later, running_later}
 use Rattle.wjs_visits.proofs.for_ins.visit_stored.Goals as goal
 
@@ -23,7 +23,7 @@ returns-in-Ok g c =
     let t = later.heap.texts in
     let f = c.args.frame in
     let P : Act → Type 0 = λ act. OnOk c.enter.result (Follows m act new later) in
-    let body : P (body_entered m t old f c.args.taker c.args.s) = subst P (entered_later m t old new f c.args.taker c.args.s c.requires.form c.requires.node (later_twice m old mid new c.in_ok-id.ensures.later c.in_ok-store.ensures.later)) c.enter.ensures in
+    let body : P (body_entered m t old f c.args.taker c.args.s) = subst P (entered_later m t old new f c.args.taker c.args.s c.requires.taker (later_twice m old mid new c.in_ok-id.ensures.later c.in_ok-store.ensures.later)) c.enter.ensures in
     named_follows m old mid new later c.enter.result f (λ u. name_in u c.args.slot.name) c.in_ok-id.id (λ u x e act. line.store (reference_in u c.args.reference) (String x) e act) (body_entered m t old f c.args.taker c.args.s)
     c.in_ok-id.ensures.does c.in_ok-id.ensures.later (MatchResult-at_ok _ _ c.in-Ok.field-0 c.in-Ok.is c.in_ok-store.ensures.does) body
 
@@ -38,8 +38,13 @@ returns-in-Err g c =
 
 pub enter-requires-clause-part : goal.enter-requires-clause-part
 enter-requires-clause-part g c =
-    body_stands_later g.S.WorldStore.meaning c.args.config.now c.args.frame c.args.taker c.args.s c.requires.runs.there c.requires.node c.text_of.new.config
-    c.store.new.config c.in_ok-id.ensures.later c.in_ok-store.ensures.later
+    stands_twice g.S.WorldStore.meaning c.args.config.now c.args.frame c.text_of.new.config c.store.new.config c.args.s c.in_ok-id.ensures.later
+    c.in_ok-store.ensures.later c.requires.body
+
+pub enter-requires-clause-point : goal.enter-requires-clause-point
+enter-requires-clause-point g c =
+    stands_twice g.S.WorldStore.meaning c.args.config.now c.args.frame c.text_of.new.config c.store.new.config c.args.s c.in_ok-id.ensures.later
+    c.in_ok-store.ensures.later c.requires.body
 
 pub store-requires-clause-there : goal.store-requires-clause-there
 store-requires-clause-there g c = c.in_ok-id.ensures.later.frames c.args.frame c.requires.runs.there

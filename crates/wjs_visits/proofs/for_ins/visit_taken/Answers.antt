@@ -1,5 +1,6 @@
 use Rattle.wjs_model.specs.Contents.{reference_in}
 use Rattle.wjs_lines.proofs.Following.{follows_as}
+use Rattle.wjs_visits.proofs.Standing.{stands_held}
 use Rattle.wjs_visits.proofs.Storing.{taken_same}
 use Rattle.wjs_moves.proofs.Handling.{runs_as}
 use Rattle.wjs_visits.proofs.for_ins.visit_taken.Goals as goal
@@ -12,3 +13,7 @@ returns-in-Some g c =
 
 pub visit_stored-requires-clause-runs : goal.visit_stored-requires-clause-runs
 visit_stored-requires-clause-runs g c = runs_as _ _ _ _ c.requires.runs c.in-Some.ensures.there
+
+pub visit_stored-requires-clause-body : goal.visit_stored-requires-clause-body
+visit_stored-requires-clause-body g c =
+    stands_held g.S.WorldStore.meaning c.args.config.now c.args.frame c.next_visit.new.frame c.args.s c.in-Some.ensures.frame c.requires.body

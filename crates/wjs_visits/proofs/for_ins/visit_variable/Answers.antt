@@ -14,19 +14,19 @@ use Rattle.wjs_deeds.proofs.Later.{later_twice}
 use Rattle.wjs_visits.specs.declared.for_ins.Taker.TheVariants.{Variable}
 use Rattle.wjs_visits.proofs.Knowing.{variable_known, variable_named}
 use Rattle.wjs_visits.proofs.Storing.{named_follows, named_fails, body_entered, entered_later}
-use Rattle.wjs_visits.proofs.Standing.{body_stands_later}
+use Rattle.wjs_visits.proofs.Standing.{stands_twice}
 use Rattle.wjs_moves.proofs.Handling.{runs_later, running_later}
 use Rattle.wjs_visits.proofs.for_ins.visit_variable.Goals as goal
 
 pub place_of-place-requires : goal.place_of-place-requires
-place_of-place-requires g c = record { named = variable_named g.S.WorldStore.meaning c.args.config.now c.args.frame c.args.name c.args.s c.requires.node }
+place_of-place-requires g c = record { named = variable_named g.S.WorldStore.meaning c.args.config.now c.args.frame c.args.name c.requires.taker }
 
 pub assign-requires-clause-name : goal.assign-requires-clause-name
 assign-requires-clause-name g c =
     let m = g.S.WorldStore.meaning in
     let old = c.args.config.now in
     Grows-Has old.heap.texts c.text_of.new.config.heap.texts c.args.name c.in_ok-id.ensures.later.texts
-    (variable_known m old c.args.frame c.args.name c.args.s c.requires.runs.running.base c.requires.node)
+    (variable_known m old c.args.frame c.args.name c.requires.taker c.requires.runs.running.base)
 
 pub returns-in-Ok : goal.returns-in-Ok
 returns-in-Ok g c =
@@ -42,7 +42,7 @@ returns-in-Ok g c =
     let P : Act → Type 0 = λ act. OnOk c.enter.result (Follows m act new later) in
     let O : Act → Type 0 = λ act. OnOk c.enter.result (Follows m act old later) in
     let act = body_entered m t old f (Variable name) c.args.s in
-    let body : P act = subst P (entered_later m t old new f (Variable name) c.args.s c.requires.form c.requires.node (later_twice m old mid new c.in_ok-id.ensures.later c.in_ok-assign.ensures.later)) c.enter.ensures in
+    let body : P act = subst P (entered_later m t old new f (Variable name) c.args.s c.requires.taker (later_twice m old mid new c.in_ok-id.ensures.later c.in_ok-assign.ensures.later)) c.enter.ensures in
     subst O (ap (λ (p : Place). line.reference_at p (text_in t name) env (λ r. line.store r (String (name_in t c.args.slot.name)) env act)) (sym (c.place_of-place.ensures t)))
     (named_follows m old mid new later c.enter.result f (λ u. name_in u c.args.slot.name) c.in_ok-id.id (λ u x e a. line.reference_at (place_in c.place_of-place.result) (text_in u name) e (λ r. line.store r (String x) e a)) act
     c.in_ok-id.ensures.does c.in_ok-id.ensures.later (MatchResult-at_ok _ _ c.in-Ok.field-0 c.in-Ok.is c.in_ok-assign.ensures.does) body)
@@ -64,8 +64,13 @@ returns-in-Err g c =
 
 pub enter-requires-clause-part : goal.enter-requires-clause-part
 enter-requires-clause-part g c =
-    body_stands_later g.S.WorldStore.meaning c.args.config.now c.args.frame (Variable c.args.name) c.args.s c.requires.runs.there c.requires.node
-    c.text_of.new.config c.assign.new.config c.in_ok-id.ensures.later c.in_ok-assign.ensures.later
+    stands_twice g.S.WorldStore.meaning c.args.config.now c.args.frame c.text_of.new.config c.assign.new.config c.args.s c.in_ok-id.ensures.later
+    c.in_ok-assign.ensures.later c.requires.body
+
+pub enter-requires-clause-point : goal.enter-requires-clause-point
+enter-requires-clause-point g c =
+    stands_twice g.S.WorldStore.meaning c.args.config.now c.args.frame c.text_of.new.config c.assign.new.config c.args.s c.in_ok-id.ensures.later
+    c.in_ok-assign.ensures.later c.requires.body
 
 pub assign-requires-clause-there : goal.assign-requires-clause-there
 assign-requires-clause-there g c = c.in_ok-id.ensures.later.frames c.args.frame c.requires.runs.there

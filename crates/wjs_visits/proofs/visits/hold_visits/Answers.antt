@@ -18,7 +18,7 @@ returns-in_ok-push_visits-in-Some-clause-there g c =
     let vs = c.in_ok-visits-in-Some.visits in
     let f = c.args.frame.now in
     let mid = c.visits.new.config in
-    holding_there m mid f c.push_visits.new.frame (visits_as_items vs ++ []) (c.in_ok-visits-in-Some.ensures.later.frames f c.requires.there) c.requires.form (items_there mid vs c.in_ok-visits-in-Some.ensures.found) (held_alone f c.push_visits.new.frame _ c.nothing_held.result (c.in_ok-push_visits-in-Some.ensures ∙ ap (λ (x : Frame). record x { held = visits_as_items c.in_ok-visits-in-Some.visits ++ x.held }) c.set_held.ensures) c.nothing_held.ensures).1
+    holding_there m mid f c.push_visits.new.frame (visits_as_items vs ++ []) (c.in_ok-visits-in-Some.ensures.later.frames f c.requires.there) (items_there mid vs c.in_ok-visits-in-Some.ensures.found) (held_alone f c.push_visits.new.frame _ c.nothing_held.result (c.in_ok-push_visits-in-Some.ensures ∙ ap (λ (x : Frame). record x { held = visits_as_items c.in_ok-visits-in-Some.visits ++ x.held }) c.set_held.ensures) c.nothing_held.ensures).1
 
 pub returns-in_ok-error-in-None-clause-there : goal.returns-in_ok-error-in-None-clause-there
 returns-in_ok-error-in-None-clause-there g c = c.in_ok-error-in-None.ensures.later.frames c.args.frame.now c.requires.there

@@ -1,0 +1,7 @@
+use Rattle.wjs_lines.proofs.Following.{follows_as}
+use Rattle.wjs_meaning.specs.Expressions.{minus_number}
+use Rattle.wjs_operators.proofs.Operators.{number_passes}
+use Rattle.wjs_assigns.proofs.prefixes.minus_converted.Goals as goal
+
+pub returns-in_default : goal.returns-in_default
+returns-in_default g c = follows_as _ _ _ _ _ _ (λ grows. number_passes minus_number c.finish.new.config.heap.texts c.args.value c.in_default.not-Number) c.finish.ensures

@@ -1,0 +1,24 @@
+use Rattle.std.proofs.Common.{Option, sym, ap, ◌∙◌}
+use Rattle.std.specs.Option.{option_map}
+use Rattle.wjs_tree.specs.declared.node.Handler.{Handler}
+use Rattle.wjs_meaning.specs.Reading.{number, handler_in}
+use Rattle.wjs_meaning.specs.Statements.{try_block}
+use Rattle.wjs_model.specs.Contents.{completion_in}
+use Rattle.wjs_moves.specs.Parts.{env_in, node_now}
+use Rattle.wjs_lines.proofs.Following.{follows_as}
+use Rattle.wjs_blocks.proofs.Catching.{handler_same}
+use Rattle.wjs_blocks.proofs.tries.try_block.Goals as goal
+
+pub returns : goal.returns
+returns g c =
+    let meaning = g.S.WorldStore.meaning in
+    let old = c.args.config.now in
+    let t = c.block_ended.new.config.heap.texts in
+    let env = env_in meaning old t c.args.frame in
+    let node = node_now meaning old c.args.frame in
+    follows_as meaning _ _ _ _ c.block_ended.result (λ grows.
+    ap (λ (h : Option Handler). try_block (option_map (handler_in t) h) (number c.args.last) env (completion_in t c.args.completion)) c.catch_of-handler.ensures.is
+    ∙ sym (ap (λ h. try_block h (number c.args.last) env (completion_in t c.args.completion)) (handler_same t node))) c.block_ended.ensures
+
+pub block_ended-requires-clause-handler : goal.block_ended-requires-clause-handler
+block_ended-requires-clause-handler g c = sym c.catch_of-handler.ensures.is

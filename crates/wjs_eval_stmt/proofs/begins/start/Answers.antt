@@ -1,6 +1,0 @@
-use Rattle.std.proofs.Common.{rules}
-use Rattle.wjs_eval_stmt.proofs.Standing.{entered_stands}
-use Rattle.wjs_eval_stmt.proofs.begins.start.Goals as goal
-
-pub enter-requires-clause-part : goal.enter-requires-clause-part
-enter-requires-clause-part g c = entered_stands g.S.WorldStore.meaning c.args.config.now c.args.frame _ c.requires.runs.there (search rules)

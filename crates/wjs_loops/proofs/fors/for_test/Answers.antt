@@ -1,6 +1,0 @@
-use Rattle.wjs_loops.proofs.Standing.{body_stands}
-use Rattle.wjs_loops.proofs.fors.for_test.Goals as goal
-
-pub enter-requires-clause-part : goal.enter-requires-clause-part
-enter-requires-clause-part g c =
-    body_stands g.S.WorldStore.meaning c.args.config.now c.args.frame c.args.t c.args.u c.args.s c.requires.runs.there c.requires.node
