@@ -2,7 +2,8 @@
 """Edits that the prover must refuse, beside those that each gate tries.
 
 `tests/edits/CRATE/*.edit` are written as `crates/CRATE/must-fail/*.edit` are. They turn inner crates, whose contracts the crates
-above pin down: a contract that let such a body through would leave those unproved, so no gate needs to try them.
+above pin down: a contract that let such a body through would leave those unproved, so no gate needs to try them. A few of the
+outermost crate tell what one that each gate tries tells, too.
 
     tests/edits.py CRATE..   tries the edits of these crates (none named: of all), and of no others, on a copy of the checkout
     tests/edits.py --gate    tries none; each edit, here and in crates/, can still be made: its old text stands in its file exactly once

@@ -31,12 +31,12 @@ TOO_LONG = {'case-16a', 'case-18', 'case-19', 'case-28', 'chain-of-200-worlds', 
 COPIED = {
     'wjs_num': ['Digits'],
     'wjs_store': ['Naming', 'State'],
-    'wjs_content': ['Rename', 'Values', 'Names', 'Objects', 'Plans', 'Conversions', 'Properties'],
+    'wjs_by_content': ['Rename', 'Values', 'Names', 'Objects', 'Plans', 'Conversions', 'Properties'],
     'wjs_meaning': None,
     'wjs_session': ['Along'],
     'wjs_alone': None,
 }
-LIBRARIES = ['wjs_base', 'wjs_num', 'wjs_arena', 'wjs_tree', 'wjs_store', 'wjs_content', 'wjs_meaning']
+LIBRARIES = ['wjs_base', 'wjs_num', 'wjs_arena', 'wjs_tree', 'wjs_store', 'wjs_by_content', 'wjs_meaning']
 LEFT_OUT = {'Lib', 'Laws', 'Reading', 'Views', 'Named', 'Fronts'}
 
 MAPS = open(os.path.join(HERE, 'Maps.antt.txt')).read()
@@ -104,7 +104,7 @@ def make_repository():
     write(os.path.join(rows, 'specs', 'Maps.antt'), MAPS)
     for crate, module, path in modules:
         text = open(path).read()
-        if (crate, module) == ('wjs_content', 'Rename'):
+        if (crate, module) == ('wjs_by_content', 'Rename'):
             text = re.sub(r'-- each entry.*?\n\n', '', text, flags=re.S)
         write(os.path.join(rows, 'specs', name_of(crate, module) + '.antt'), copy_of(text, modules))
     return rows

@@ -8,7 +8,7 @@ use Rattle.std.proofs.lemmas.Option.{same_Some, slice_get_within}
 use Rattle.wjs_base.specs.declared.ids.ObjId.{ObjId}
 use Rattle.wjs_store.specs.Meaning.{Meaning, View}
 use Rattle.wjs_arena.specs.Entries.{Entry}
-use Rattle.wjs_content.specs.Objects.{Arena}
+use Rattle.wjs_by_content.specs.Objects.{Arena}
 use Rattle.wjs_meaning.specs.Trees.{Tree}
 use Rattle.wjs_model.specs.declared.config.Config.{Config}
 use Rattle.wjs_model.specs.Apart.{is_apart}
@@ -22,26 +22,26 @@ use Rattle.wjs_session.specs.Returns.{Returns}
 use Rattle.wjs_alone.specs.Alone.{Copy}
 use Rattle.wjs_alone.specs.Opening.{trees_of, tree_number}
 use Rattle.wjs_alone.specs.Serial.{End}
-use Rattle.wjs_activity.specs.declared.common.Common.{Common}
-use Rattle.wjs_activity.specs.declared.common.Rested.{Rested}
+use Rattle.wjs_tries.specs.declared.common.Common.{Common}
+use Rattle.wjs_tries.specs.declared.common.Rested.{Rested}
 use Rattle.wjs_activity.specs.declared.activities.Activity.{Activity}
 use Rattle.wjs_activity.specs.declared.activities.Play.{Play}
-use Rattle.wjs_activity.specs.declared.turns.Came.{Came}
-use Rattle.wjs_activity.specs.declared.turns.Came.TheVariants as came
-use Rattle.wjs_activity.specs.Common.{IsCommon}
-use Rattle.wjs_activity.specs.Hiding.{no_owner, IsHidden, Unaware, MayList}
+use Rattle.wjs_tries.specs.declared.turns.Came.{Came}
+use Rattle.wjs_tries.specs.declared.turns.Came.TheVariants as came
+use Rattle.wjs_tries.specs.Common.{IsCommon}
+use Rattle.wjs_tries.specs.Hiding.{no_owner, IsHidden, Unaware, MayList}
 use Rattle.wjs_activity.specs.Listing.{entry_of, KeepsApart}
-use Rattle.wjs_activity.specs.Meant.{itself, Listed, resting}
-use Rattle.wjs_activity.specs.Passing.{Passes}
-use Rattle.wjs_activity.specs.Resting.{IsResting}
+use Rattle.wjs_tries.specs.Meant.{itself, Listed, resting}
+use Rattle.wjs_tries.specs.Passing.{Passes}
+use Rattle.wjs_tries.specs.Resting.{IsResting}
 use Rattle.wjs_activity.specs.SoFar.{times_owned, StandsBy, IsPlay}
-use Rattle.wjs_activity.specs.Turning.{HiddenIn, TurnsApart}
-use Rattle.wjs_activity.proofs.NotYet.{hidden_yet, unaware_yet}
-use Rattle.wjs_activity.proofs.Passed.{returns}
+use Rattle.wjs_tries.specs.Turning.{HiddenIn, TurnsApart}
+use Rattle.wjs_tries.proofs.NotYet.{hidden_yet, unaware_yet}
+use Rattle.wjs_tries.proofs.Passed.{returns}
 use Rattle.wjs_activity.proofs.Places.{set_other, set_there, there_at}
 use Rattle.wjs_activity.proofs.Standing.{by_place}
 use Rattle.wjs_activity.proofs.Standing as standing
-use Rattle.wjs_activity.proofs.Unawares.{unaware_still, kept_resting}
+use Rattle.wjs_tries.proofs.Unawares.{unaware_still, kept_resting}
 
 -- ---- lists
 

@@ -4,10 +4,10 @@ use Rattle.std.proofs.Common.{◌∙◌, subst, arith, append_assoc, append-nil,
 use Rattle.std.specs.Prelude.{slice_get}
 use Rattle.std.proofs.lemmas.Bool.{eqb-true, eq-eqb, false≢true}
 use Rattle.std.proofs.lemmas.Option.{same_Some}
+use Rattle.wjs_base.proofs.Booleans.{by_bool}
 use Rattle.wjs_io.specs.Streams.{Stream, stream, Got, Stops}
 use Rattle.wjs_io.proofs.Written.{Appends-nil, Appends-then}
-use Rattle.wjs_arena.proofs.Owners.{by_bool}
-use Rattle.wjs_content.specs.Tables.{arena_in}
+use Rattle.wjs_by_content.specs.Tables.{arena_in}
 use Rattle.wjs_machine.specs.declared.halt.Halt.{Halt}
 use Rattle.wjs_machine.specs.declared.halt.Halt.TheVariants as halts
 use Rattle.wjs_meaning.specs.Trees.{Tree}
@@ -21,7 +21,7 @@ use Rattle.wjs_activity.specs.declared.activities.Play.{Play}
 use Rattle.wjs_activity.specs.declared.activities.Rules.{Rules}
 use Rattle.wjs_activity.specs.SoFar.{SoFar, IsPlay}
 use Rattle.wjs_activity.specs.Exactly.{IsExactly, TurnIs}
-use Rattle.wjs_activity.specs.Turning.{first_in}
+use Rattle.wjs_tries.specs.Turning.{first_in}
 use Rattle.wjs_activity.specs.Rounds.{TurnsTo, HaltsIn, HaltsAt, OneTurn, LastTurn, LastHalts, LastIs, TurnMade, TurnAt, TurnPrints, Changes, Settled, Sooner}
 use Rattle.wjs_activity.specs.Rounds.{Becomes, Is, by_turn, at_place, last_is_due, After, MayTurn}
 use Rattle.wjs_activity.proofs.Standing.{by_place}

@@ -7,8 +7,8 @@ use Rattle.std.proofs.lemmas.Option.{slice_get_within, get_or_from_slice_get}
 use Rattle.wjs_base.specs.Text.{IsTable}
 use Rattle.wjs_io.specs.Streams.{Stream, stream, Got, Stops}
 use Rattle.wjs_io.proofs.Written.{Appends-nil, Appends-then}
-use Rattle.wjs_content.specs.Objects.{Arena}
-use Rattle.wjs_content.specs.Tables.{arena_in}
+use Rattle.wjs_by_content.specs.Objects.{Arena}
+use Rattle.wjs_by_content.specs.Tables.{arena_in}
 use Rattle.wjs_heap.specs.declared.heap.Heap.{Heap}
 use Rattle.wjs_machine.specs.declared.halt.Halt.{Halt}
 use Rattle.wjs_machine.specs.declared.halt.Halt.TheVariants as halts
@@ -27,20 +27,20 @@ use Rattle.wjs_alone.specs.Serial.{End, runs_of, copy_by, lines_from, Holds, IsS
 use Rattle.wjs_activity.specs.Unnamed.{NamesNone}
 use Rattle.wjs_alone.specs.Playing as defined
 use Rattle.wjs_alone.specs.Playing.{activities_from, play_behind, bytes_of}
-use Rattle.wjs_activity.specs.declared.common.Common.{Common}
+use Rattle.wjs_tries.specs.declared.common.Common.{Common}
 use Rattle.wjs_activity.specs.declared.activities.Activity.{Activity}
 use Rattle.wjs_activity.specs.declared.activities.Play.{Play}
 use Rattle.wjs_activity.specs.declared.activities.Rules.{Rules}
-use Rattle.wjs_activity.specs.declared.common.Rested.{Rested}
+use Rattle.wjs_tries.specs.declared.common.Rested.{Rested}
 use Rattle.wjs_activity.specs.declared.whole.PlayEnd.{PlayEnd}
 use Rattle.wjs_activity.specs.declared.whole.PlayEnd.TheVariants as endings
-use Rattle.wjs_activity.specs.Views.{held_in, KnowsView}
-use Rattle.wjs_activity.specs.Common.{IsCommon}
-use Rattle.wjs_activity.specs.Hiding.{no_owner}
+use Rattle.wjs_tries.specs.Views.{held_in, KnowsView}
+use Rattle.wjs_tries.specs.Common.{IsCommon}
+use Rattle.wjs_tries.specs.Hiding.{no_owner}
 use Rattle.wjs_activity.specs.Listing.{entry_of}
 use Rattle.wjs_activity.specs.Noting.{AllNew}
 use Rattle.wjs_activity.specs.SoFar.{TellsEnds, times_ended, StandsBy, IsPlay, left_by}
-use Rattle.wjs_activity.specs.Turning.{first_in}
+use Rattle.wjs_tries.specs.Turning.{first_in}
 use Rattle.wjs_activity.specs.Exactly.{IsActivity, Stands, Shows, none, on, IsExactly}
 use Rattle.wjs_activity.specs.Rounds.{first_number, Settled, IsGoing, ComesTo, TurnsTo, HaltsIn, Becomes, Is, WroteBy, by_all}
 use Rattle.wjs_activity.specs.Plays.{PlaysOut, WroteOf, BeginsAs, IsOpened, CanBegin, BegunFrom, ClosesAs, WritesLast}
@@ -48,7 +48,7 @@ use Rattle.wjs_activity.proofs.Appended.{holds_same}
 use Rattle.wjs_activity.proofs.Completing.{serial_all, front_of, completed}
 use Rattle.wjs_activity.proofs.Composed.{wrote_then}
 use Rattle.wjs_activity.proofs.Places.{there_at}
-use Rattle.wjs_activity.proofs.Soundly.{view_known}
+use Rattle.wjs_tries.proofs.Soundly.{view_known}
 
 -- ---- the begin
 

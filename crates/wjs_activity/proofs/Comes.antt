@@ -7,7 +7,7 @@ use Rattle.std.specs.Prelude.{IfSome, max, slice_get, map as each}
 use Rattle.std.specs.List.{sum, sum_by}
 use Rattle.std.proofs.lemmas.List.Sums.{sum-map, sum_by-set}
 use Rattle.std.proofs.lemmas.Option.{slice_get_within, get_or_from_slice_get, same_Some}
-use Rattle.wjs_content.specs.Objects.{Arena}
+use Rattle.wjs_by_content.specs.Objects.{Arena}
 use Rattle.wjs_meaning.specs.Trees.{Tree}
 use Rattle.wjs_model.specs.declared.config.Config.{Config}
 use Rattle.wjs_model.specs.Apart.{is_apart}
@@ -23,30 +23,30 @@ use Rattle.wjs_alone.specs.Opening.{trees_of, tree_number}
 use Rattle.wjs_alone.specs.Serial.{End}
 use Rattle.wjs_alone.specs.Playing as defined
 use Rattle.wjs_alone.specs.Playing.{try_of}
-use Rattle.wjs_activity.specs.declared.common.Common.{Common}
-use Rattle.wjs_activity.specs.declared.common.Rested.{Rested}
+use Rattle.wjs_tries.specs.declared.common.Common.{Common}
+use Rattle.wjs_tries.specs.declared.common.Rested.{Rested}
 use Rattle.wjs_activity.specs.declared.ends.Ended.{Ended}
 use Rattle.wjs_activity.specs.declared.activities.Activity.{Activity}
 use Rattle.wjs_activity.specs.declared.activities.Play.{Play}
 use Rattle.wjs_activity.specs.declared.activities.Rules.{Rules}
-use Rattle.wjs_activity.specs.declared.turns.Came.{Came}
-use Rattle.wjs_activity.specs.declared.turns.Came.TheVariants as came
-use Rattle.wjs_activity.specs.Hiding.{no_owner, IsHidden, MayList}
+use Rattle.wjs_tries.specs.declared.turns.Came.{Came}
+use Rattle.wjs_tries.specs.declared.turns.Came.TheVariants as came
+use Rattle.wjs_tries.specs.Hiding.{no_owner, IsHidden, MayList}
 use Rattle.wjs_activity.specs.Listing.{entry_of, KeepsApart}
-use Rattle.wjs_activity.specs.Meant.{itself, session_meaning, Listed, resting}
+use Rattle.wjs_tries.specs.Meant.{itself, session_meaning, Listed, resting}
 use Rattle.wjs_activity.specs.Noting.{Notes, NotesAt, Takes}
-use Rattle.wjs_activity.specs.Views.{KnowsView}
-use Rattle.wjs_activity.specs.Exact.{IsExact}
+use Rattle.wjs_tries.specs.Views.{KnowsView}
+use Rattle.wjs_tries.specs.Exact.{IsExact}
 use Rattle.wjs_activity.specs.Exactly.{IsActivity, IsExactly, TurnIs}
-use Rattle.wjs_activity.specs.Resting.{IsResting}
+use Rattle.wjs_tries.specs.Resting.{IsResting}
 use Rattle.wjs_activity.specs.SoFar.{GoesOn, StandsBy, IsPlay, times_owned}
-use Rattle.wjs_activity.specs.Turning.{IsLive, IsTurned, HiddenIn, TurnsApart, IsRest, HasLess, Begun, GoesOnAs}
+use Rattle.wjs_tries.specs.Turning.{IsLive, IsTurned, HiddenIn, TurnsApart, IsRest, HasLess, Begun, GoesOnAs}
 use Rattle.wjs_activity.specs.Rounds.{first_number, steps_left, fuel_by, fuel_of, fuel, left_of, turns_left, Sooner, MadeExactly, After, MayTurn, IsGoing}
 use Rattle.wjs_activity.specs.Rounds.{TurnMade}
 use Rattle.wjs_activity.proofs.Apart.{Emptied, Ran, rests_at, sound_resumed, may_list, apart_after}
-use Rattle.wjs_activity.proofs.Hidings.{hidden_same}
+use Rattle.wjs_tries.proofs.Hidings.{hidden_same}
 use Rattle.wjs_activity.proofs.Places.{set_other, set_there, set_twice}
-use Rattle.wjs_activity.proofs.Runs.{view_grows}
+use Rattle.wjs_tries.proofs.Runs.{view_grows}
 use Rattle.wjs_activity.proofs.Founds.{stands_at}
 use Rattle.wjs_activity.proofs.Steps.{stays_made, rests_step, drops_step, ends_made}
 use Rattle.wjs_activity.proofs.Taking.{Taken, passes_all, came_to, taken_begun, taken_resumed}

@@ -4,7 +4,7 @@ use Rattle.std.specs.Prelude.{Result, Ok, Err, IfErr}
 use Rattle.wjs_io.specs.Faults.{Rises}
 use Rattle.wjs_io.specs.Streams.{Stream, stream, Got}
 use Rattle.wjs_io.proofs.Written.{Appends-nil, Appends-then}
-use Rattle.wjs_content.specs.Objects.{Arena}
+use Rattle.wjs_by_content.specs.Objects.{Arena}
 use Rattle.wjs_machine.specs.declared.halt.Halt.{Halt}
 use Rattle.wjs_machine.specs.declared.halt.Halt.TheVariants as halts
 use Rattle.wjs_meaning.specs.Trees.{Tree}

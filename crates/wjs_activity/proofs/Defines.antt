@@ -1,17 +1,17 @@
 -- What one turn makes of a play is what the definition makes of it.
 use Rattle.std.proofs.Common.{◌≡◌, ℕ, ◌+◌, ◌==◌, true, false, cond, not, List, [], ◌∷◌, ◌++◌, set, Some, refl, sym, ap, ◌∙◌, subst, arith}
 use Rattle.std.specs.Prelude.{max, slice_get, map as each, filter}
-use Rattle.wjs_content.specs.Tables.{arena_in}
+use Rattle.wjs_by_content.specs.Tables.{arena_in}
 use Rattle.wjs_meaning.specs.Deeds.{St}
 use Rattle.wjs_meaning.specs.Programs.{Ending}
 use Rattle.wjs_alone.specs.Alone.{copy_after}
 use Rattle.wjs_alone.specs.Serial.{End}
 use Rattle.wjs_alone.specs.Playing as defined
 use Rattle.wjs_alone.specs.Playing.{goes_on, ends_with, end_of}
-use Rattle.wjs_activity.specs.declared.common.Common.{Common}
+use Rattle.wjs_tries.specs.declared.common.Common.{Common}
 use Rattle.wjs_activity.specs.declared.activities.Activity.{Activity}
 use Rattle.wjs_activity.specs.declared.activities.Play.{Play}
-use Rattle.wjs_activity.specs.Turning.{first_in}
+use Rattle.wjs_tries.specs.Turning.{first_in}
 use Rattle.wjs_activity.specs.Exactly.{IsRunning, IsActivity, IsAt, Stands, Shows, IsExactly}
 use Rattle.wjs_activity.proofs.Places.{set_other, set_there}
 use Rattle.wjs_activity.proofs.Showing.{replaced, left_out}

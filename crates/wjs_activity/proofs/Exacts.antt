@@ -3,8 +3,8 @@ use Rattle.std.proofs.Common.{◌≡◌, ℕ, ◌+◌, true, false, List, Option
 use Rattle.std.specs.Prelude.{min, max}
 use Rattle.wjs_base.specs.Text.{Grows}
 use Rattle.wjs_store.specs.State.{World}
-use Rattle.wjs_content.specs.Names.{content}
-use Rattle.wjs_content.specs.Tables.{arena_in}
+use Rattle.wjs_by_content.specs.Names.{content}
+use Rattle.wjs_by_content.specs.Tables.{arena_in}
 use Rattle.wjs_meaning.specs.Trees.{Tree}
 use Rattle.wjs_meaning.specs.Deeds.{St}
 use Rattle.wjs_meaning.specs.Programs.{Ending}
@@ -17,16 +17,16 @@ use Rattle.wjs_alone.specs.Opening.{trees_of, tree_number}
 use Rattle.wjs_alone.specs.Marks.{marked, own_view, agrees}
 use Rattle.wjs_alone.specs.Playing as defined
 use Rattle.wjs_alone.specs.Playing.{goes_on, ends_with, rests_with, drops, is_resting, turn_of_try}
-use Rattle.wjs_activity.specs.declared.common.Common.{Common}
-use Rattle.wjs_activity.specs.Meant.{session_meaning}
-use Rattle.wjs_activity.specs.Views.{held_in, KnowsView}
-use Rattle.wjs_activity.specs.Common.{IsCommon}
-use Rattle.wjs_activity.specs.Passing.{Passes}
-use Rattle.wjs_activity.specs.Turning.{common_of, first_in}
-use Rattle.wjs_activity.specs.Exact.{goes_on_after, run_of, marks_of, base_of}
-use Rattle.wjs_activity.proofs.Overs.{held_grows}
+use Rattle.wjs_tries.specs.declared.common.Common.{Common}
+use Rattle.wjs_tries.specs.Meant.{session_meaning}
+use Rattle.wjs_tries.specs.Views.{held_in, KnowsView}
+use Rattle.wjs_tries.specs.Common.{IsCommon}
+use Rattle.wjs_tries.specs.Passing.{Passes}
+use Rattle.wjs_tries.specs.Turning.{common_of, first_in}
+use Rattle.wjs_tries.specs.Exact.{goes_on_after, run_of, marks_of, base_of}
+use Rattle.wjs_tries.proofs.Overs.{held_grows}
 use Rattle.wjs_activity.proofs.Same.{same_resting, same_run, own_later}
-use Rattle.wjs_activity.proofs.Soundly.{view_known}
+use Rattle.wjs_tries.proofs.Soundly.{view_known}
 
 module _ (library : Option Tree) (parts : List Tree) (budget taken steps : ℕ) (common next : Common) (drawn : ℕ) (c : Config Session) (q : ℕ)
     (is : IsCommon common.texts common.arena common.units.items (worlds_in common.shared) drawn) (start : Passes q common (common_of c))

@@ -11,11 +11,11 @@ use Rattle.wjs_base.specs.declared.values.Value.TheVariants as values
 use Rattle.wjs_base.specs.Text.{Table}
 use Rattle.wjs_store.specs.Meaning.{View}
 use Rattle.wjs_arena.specs.Entries.{Objects, Entry, Keeps, has}
-use Rattle.wjs_content.specs.Names.{Slot}
-use Rattle.wjs_content.specs.Values.{Value}
-use Rattle.wjs_content.specs.Tables.{slot_in, value_in, entry_in, arena_in}
-use Rattle.wjs_content.specs.Telling.{names_of}
-use Rattle.wjs_content.proofs.ArenaMaps.{object_found}
+use Rattle.wjs_by_content.specs.Names.{Slot}
+use Rattle.wjs_by_content.specs.Values.{Value}
+use Rattle.wjs_by_content.specs.Tables.{slot_in, value_in, entry_in, arena_in}
+use Rattle.wjs_by_content.specs.Telling.{names_of}
+use Rattle.wjs_by_content.proofs.ArenaMaps.{object_found}
 use Rattle.wjs_heap.specs.Heap.{HasSlot, HasValue}
 use Rattle.wjs_meaning.specs.Trees.{Tree}
 use Rattle.wjs_model.specs.Others.{Other, OtherValue}
@@ -23,7 +23,7 @@ use Rattle.wjs_alone.specs.Alone.{Copy, copy_after}
 use Rattle.wjs_alone.specs.Serial.{Run, run_at, copy_by}
 use Rattle.wjs_activity.specs.Unnamed.{OthersValue, IsOthers, NamesOthers, NamesNone}
 use Rattle.wjs_alone.proofs.NamedMaps.{KnownKeys, get_named, is_named}
-use Rattle.wjs_activity.specs.Views.{held_in, KnowsView}
+use Rattle.wjs_tries.specs.Views.{held_in, KnowsView}
 
 -- ---- a slot by content is one by number
 

@@ -12,19 +12,18 @@ use Rattle.wjs_base.specs.Order.{obj_cmp, obj_total}
 use Rattle.wjs_base.specs.Text.{Table, Grows}
 use Rattle.wjs_base.proofs.TextLaws.{Grows-refl, Grows-trans}
 use Rattle.wjs_store.specs.Naming.{plain}
-use Rattle.wjs_store.specs.State.{World, find_world, has_world}
+use Rattle.wjs_store.specs.State.{World, find_world, has_world, first_world}
 use Rattle.wjs_store.specs.Shown.{first_of}
 use Rattle.wjs_store.specs.Fixed.{fixed, fresh}
 use Rattle.wjs_store.specs.Reached.{IsReached}
 use Rattle.wjs_store.specs.Meaning.{Meaning, Worlds}
 use Rattle.wjs_arena.specs.Entries.{Objects, Entry as Placed, has}
 use Rattle.wjs_arena.proofs.Owners.{key_is}
-use Rattle.wjs_content.specs.Objects.{Arena, Entry, Internals, next_number, entry_of, created}
-use Rattle.wjs_content.specs.Tables.{arena_in}
-use Rattle.wjs_content.specs.Values.{Text}
-use Rattle.wjs_content.specs.Worlds.{worlds_in as named_worlds}
-use Rattle.wjs_content.proofs.Growth.{worlds_grow}
-use Rattle.wjs_meaning.specs.Builtins.{first_world}
+use Rattle.wjs_by_content.specs.Objects.{Arena, Entry, Internals, next_number, entry_of, created}
+use Rattle.wjs_by_content.specs.Tables.{arena_in}
+use Rattle.wjs_by_content.specs.Values.{Text}
+use Rattle.wjs_by_content.specs.Worlds.{worlds_in as named_worlds}
+use Rattle.wjs_by_content.proofs.Growth.{worlds_grow}
 use Rattle.wjs_meaning.specs.Deeds.{St}
 use Rattle.wjs_meaning.specs.Programs.{Ending, StepsSpent}
 use Rattle.wjs_meaning.specs.Start.{properties, first_objects as start_objects, native_objects, first_arena}
@@ -42,9 +41,9 @@ use Rattle.wjs_model.specs.Soundness.{Base, Sound}
 use Rattle.wjs_model.specs.Texts.{KnowsUnit}
 use Rattle.wjs_model.specs.Units.{unit_in}
 use Rattle.wjs_model.proofs.Beside.{beside_nothing, there_in}
-use Rattle.wjs_moves.proofs.Growing.{left_alike}
-use Rattle.wjs_moves.proofs.NodesGrow.{unit_grows}
-use Rattle.wjs_moves.proofs.Lists.{each_alike}
+use Rattle.wjs_frames.proofs.Growing.{left_alike}
+use Rattle.wjs_frames.proofs.NodesGrow.{unit_grows}
+use Rattle.wjs_frames.proofs.Lists.{each_alike}
 use Rattle.wjs_overlay.specs.declared.overlay.Overlay.{Overlay}
 use Rattle.wjs_parts.specs.Opening.{StartsParts, units_of}
 use Rattle.wjs_parts.specs.Walking.{Stops, ended, paused, spent, Walks}
@@ -55,11 +54,11 @@ use Rattle.wjs_session.proofs.AnswerLaws.{overlay_reached}
 use Rattle.wjs_session.proofs.Worlds.{first_there, first_content}
 use Rattle.wjs_alone.specs.Alone.{copy_in}
 use Rattle.wjs_alone.specs.Opening.{trees_of, part_names, opening}
-use Rattle.wjs_activity.specs.Common.{IsCommon}
-use Rattle.wjs_activity.specs.Trying.{ending_in}
+use Rattle.wjs_tries.specs.Common.{IsCommon}
+use Rattle.wjs_tries.specs.Trying.{ending_in}
 use Rattle.wjs_activity.specs.Plays.{IsOpened, RanLibrary}
-use Rattle.wjs_activity.proofs.Overs.{copy_of_world}
-use Rattle.wjs_activity.proofs.Turned.{not_is}
+use Rattle.wjs_tries.proofs.Overs.{copy_of_world}
+use Rattle.wjs_tries.proofs.Turned.{not_is}
 
 abbrev pub overlay_meaning : Overlay → Meaning
 overlay_meaning s = fixed (worlds_in s) s.spent
@@ -113,7 +112,7 @@ module _ (c : Config Overlay) (base : Base overlay_meaning c) (owner : c.owner �
     arena_is = base.heap.arena;
     objects = base.heap.objects;
     slots = λ s v at. base.heap.slots first_world s v (sym (first_content F first_world s first_is) ∙ at);
-    builtins = λ n lt. (base.builtins n lt).0;
+    builtins = λ k. (base.builtins k).0;
     units_known = base.units;
     units_placed = base.places;
     functions = base.functions;

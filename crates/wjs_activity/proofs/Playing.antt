@@ -2,26 +2,26 @@
 use Rattle.std.proofs.Common.{◌≡◌, ℕ, ◌+◌, ◌≤◌, ◌==◌, true, false, cond, List, [], ◌∷◌, ◌++◌, Option, None, Some, refl, sym, ap, ◌∙◌, subst, arith}
 use Rattle.std.specs.Prelude.{IfSome, map as each}
 use Rattle.std.proofs.lemmas.Bool.{ne_eqb}
-use Rattle.wjs_content.specs.Objects.{Arena}
+use Rattle.wjs_by_content.specs.Objects.{Arena}
 use Rattle.wjs_meaning.specs.Trees.{Tree}
 use Rattle.wjs_model.specs.Texts.{KnowsUnit}
 use Rattle.wjs_model.specs.Units.{unit_in}
-use Rattle.wjs_moves.proofs.Lists.{each_alike}
-use Rattle.wjs_moves.proofs.NodesGrow.{unit_grows}
+use Rattle.wjs_frames.proofs.Lists.{each_alike}
+use Rattle.wjs_frames.proofs.NodesGrow.{unit_grows}
 use Rattle.wjs_session.specs.Stores.{worlds_in}
 use Rattle.wjs_alone.specs.Alone.{Copy}
 use Rattle.wjs_alone.specs.Opening.{trees_of, tree_number}
 use Rattle.wjs_alone.specs.Serial.{End}
-use Rattle.wjs_activity.specs.declared.common.Common.{Common}
-use Rattle.wjs_activity.specs.declared.common.Rested.{Rested}
+use Rattle.wjs_tries.specs.declared.common.Common.{Common}
+use Rattle.wjs_tries.specs.declared.common.Rested.{Rested}
 use Rattle.wjs_activity.specs.declared.ends.Ended.{Ended}
 use Rattle.wjs_activity.specs.declared.activities.Activity.{Activity}
 use Rattle.wjs_activity.specs.declared.activities.Play.{Play}
-use Rattle.wjs_activity.specs.Common.{IsCommon}
-use Rattle.wjs_activity.specs.Passing.{Passes}
-use Rattle.wjs_activity.specs.Resting.{IsResting}
+use Rattle.wjs_tries.specs.Common.{IsCommon}
+use Rattle.wjs_tries.specs.Passing.{Passes}
+use Rattle.wjs_tries.specs.Resting.{IsResting}
 use Rattle.wjs_activity.specs.SoFar.{TellsEnd, TellsEnds, times_ended, times_owned, GoesOn}
-use Rattle.wjs_activity.proofs.Passed.{rests_still}
+use Rattle.wjs_tries.proofs.Passed.{rests_still}
 use Rattle.wjs_activity.proofs.Stepped.{count_push}
 
 -- ---- ends

@@ -4,13 +4,13 @@ use Rattle.std.proofs.Common.{◌∙◌, subst, arith}
 use Rattle.std.specs.Prelude.{slice_get, All, get_or, IfSome}
 use Rattle.std.proofs.lemmas.Bool.{false≢true}
 use Rattle.std.proofs.lemmas.Option.{slice_get-get_or, get_or_from_slice_get, slice_get_within, same_Some}
-use Rattle.wjs_arena.proofs.Owners.{by_bool}
+use Rattle.wjs_base.proofs.Booleans.{by_bool}
 use Rattle.wjs_alone.specs.Opening.{trees_of, tree_number}
 use Rattle.wjs_activity.specs.declared.activities.Activity.{Activity}
 use Rattle.wjs_activity.specs.declared.activities.Play.{Play}
 use Rattle.wjs_activity.specs.declared.activities.Rules.{Rules}
-use Rattle.wjs_activity.specs.declared.common.Rested.{Rested}
-use Rattle.wjs_activity.specs.Resting.{IsResting}
+use Rattle.wjs_tries.specs.declared.common.Rested.{Rested}
+use Rattle.wjs_tries.specs.Resting.{IsResting}
 use Rattle.wjs_activity.specs.SoFar.{StandsBy, times_owned}
 use Rattle.wjs_activity.specs.Rounds.{fuel, left_of, turns_left, Within, Sooner, AllSooner, TurnAt, Settled, IsGoing}
 use Rattle.wjs_activity.proofs.Standing.{by_place}

@@ -6,14 +6,14 @@ use Rattle.wjs_base.specs.Text.{Grows}
 use Rattle.wjs_store.specs.Naming.{plain}
 use Rattle.wjs_store.specs.Meaning.{View, unseen}
 use Rattle.wjs_store.specs.State.{World, has_row}
-use Rattle.wjs_content.specs.Names.{Slot, slot_cmp, content}
-use Rattle.wjs_content.specs.Objects.{Arena}
-use Rattle.wjs_content.specs.Tables.{arena_in}
-use Rattle.wjs_content.proofs.ArenaGrowth.{arena_grows}
+use Rattle.wjs_by_content.specs.Names.{Slot, slot_cmp, content}
+use Rattle.wjs_by_content.specs.Objects.{Arena}
+use Rattle.wjs_by_content.specs.Tables.{arena_in}
+use Rattle.wjs_by_content.proofs.ArenaGrowth.{arena_grows}
 use Rattle.wjs_meaning.specs.Trees.{Tree}
 use Rattle.wjs_meaning.specs.Programs.{Ending, Done, Threw, StepsSpent}
 use Rattle.wjs_model.specs.declared.config.Config.{Config}
-use Rattle.wjs_moves.proofs.Growing.{arena_known}
+use Rattle.wjs_frames.proofs.Growing.{arena_known}
 use Rattle.wjs_session.specs.declared.session.Session.{Session}
 use Rattle.wjs_session.specs.Session.{world_at, first_copy, owned}
 use Rattle.wjs_session.specs.Stores.{worlds_in}
@@ -26,18 +26,18 @@ use Rattle.wjs_alone.specs.Named.{world_in}
 use Rattle.wjs_alone.specs.Playing as defined
 use Rattle.wjs_alone.proofs.NamedViews.{views_lem}
 use Rattle.wjs_alone.proofs.Objects.{left_out_lem}
-use Rattle.wjs_activity.specs.declared.common.Common.{Common}
-use Rattle.wjs_activity.specs.declared.common.Rested.{Rested}
-use Rattle.wjs_activity.specs.Meant.{session_meaning}
-use Rattle.wjs_activity.specs.Views.{held_in, KnowsView}
-use Rattle.wjs_activity.specs.Common.{IsCommon}
-use Rattle.wjs_activity.specs.Passing.{Passes}
-use Rattle.wjs_activity.specs.Turning.{common_of}
-use Rattle.wjs_activity.specs.Exact.{goes_on_after, run_of}
+use Rattle.wjs_tries.specs.declared.common.Common.{Common}
+use Rattle.wjs_tries.specs.declared.common.Rested.{Rested}
+use Rattle.wjs_tries.specs.Meant.{session_meaning}
+use Rattle.wjs_tries.specs.Views.{held_in, KnowsView}
+use Rattle.wjs_tries.specs.Common.{IsCommon}
+use Rattle.wjs_tries.specs.Passing.{Passes}
+use Rattle.wjs_tries.specs.Turning.{common_of}
+use Rattle.wjs_tries.specs.Exact.{goes_on_after, run_of}
 use Rattle.wjs_activity.specs.Exactly.{IsTry}
-use Rattle.wjs_activity.proofs.Beside.{same_in}
-use Rattle.wjs_activity.proofs.Opens.{heap_common}
-use Rattle.wjs_activity.proofs.Overs.{held_grows}
+use Rattle.wjs_tries.proofs.Beside.{same_in}
+use Rattle.wjs_tries.proofs.Opens.{heap_common}
+use Rattle.wjs_tries.proofs.Overs.{held_grows}
 
 -- whether it rests is asked alike
 pub same_resting : (library : Option Tree) (parts : List Tree) (budget taken : ℕ) (e : Ending)

@@ -4,8 +4,8 @@ use Rattle.std.specs.Prelude.{IfSome, slice_get, map as each}
 use Rattle.std.proofs.lemmas.Bool.{eqb-true, eqb-false, eq-eqb, ne_eqb}
 use Rattle.std.proofs.lemmas.List.Elements.{All-weaker, All-push}
 use Rattle.std.proofs.lemmas.Option.{same_Some}
-use Rattle.wjs_content.specs.Objects.{Arena}
-use Rattle.wjs_content.specs.Tables.{arena_in}
+use Rattle.wjs_by_content.specs.Objects.{Arena}
+use Rattle.wjs_by_content.specs.Tables.{arena_in}
 use Rattle.wjs_meaning.specs.Trees.{Tree}
 use Rattle.wjs_model.specs.Units.{unit_in}
 use Rattle.wjs_session.specs.Stores.{worlds_in}
@@ -13,17 +13,17 @@ use Rattle.wjs_alone.specs.Alone.{Copy}
 use Rattle.wjs_alone.specs.Opening.{trees_of, tree_number}
 use Rattle.wjs_alone.specs.Serial.{End, runs_of}
 use Rattle.wjs_activity.specs.Unnamed.{NamesNone}
-use Rattle.wjs_activity.specs.declared.common.Common.{Common}
-use Rattle.wjs_activity.specs.declared.common.Rested.{Rested}
+use Rattle.wjs_tries.specs.declared.common.Common.{Common}
+use Rattle.wjs_tries.specs.declared.common.Rested.{Rested}
 use Rattle.wjs_activity.specs.declared.ends.Ended.{Ended}
 use Rattle.wjs_activity.specs.declared.activities.Activity.{Activity}
 use Rattle.wjs_activity.specs.declared.activities.Play.{Play}
-use Rattle.wjs_activity.specs.Common.{IsCommon}
+use Rattle.wjs_tries.specs.Common.{IsCommon}
 use Rattle.wjs_activity.specs.Listing.{KeepsApart}
-use Rattle.wjs_activity.specs.Passing.{Passes}
-use Rattle.wjs_activity.specs.Resting.{IsResting}
+use Rattle.wjs_tries.specs.Passing.{Passes}
+use Rattle.wjs_tries.specs.Resting.{IsResting}
 use Rattle.wjs_activity.specs.SoFar.{TellsEnd, TellsEnds, times_ended, times_owned, SoFar, GoesOn, StandsBy, Differ, IsPlay}
-use Rattle.wjs_activity.specs.Turning.{first_in}
+use Rattle.wjs_tries.specs.Turning.{first_in}
 use Rattle.wjs_activity.proofs.Playing.{tells_push, ended_as_before, ended_once_more, trees_pass, other_goes_on, other_goes_on_behind}
 
 pub by_place : (i place : ℕ) (P : Type 0) → (i ≡ place → P) → (¬ (i ≡ place) → P) → P

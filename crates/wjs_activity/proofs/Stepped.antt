@@ -12,19 +12,19 @@ use Rattle.wjs_base.specs.declared.ids.ObjId.{ObjId}
 use Rattle.wjs_base.specs.declared.ids.WorldId.{WorldId}
 use Rattle.wjs_base.specs.Text.{Table, Grows}
 use Rattle.wjs_arena.specs.Entries.{Objects, Entry as Placed, Keeps}
-use Rattle.wjs_content.specs.Objects.{Arena, Entry}
-use Rattle.wjs_content.specs.Tables.{arena_in, entry_in, KnowsArena}
-use Rattle.wjs_content.proofs.ArenaGrowth.{arena_grows}
-use Rattle.wjs_content.proofs.ArenaMaps.{object_found}
+use Rattle.wjs_by_content.specs.Objects.{Arena, Entry}
+use Rattle.wjs_by_content.specs.Tables.{arena_in, entry_in, KnowsArena}
+use Rattle.wjs_by_content.proofs.ArenaGrowth.{arena_grows}
+use Rattle.wjs_by_content.proofs.ArenaMaps.{object_found}
 use Rattle.wjs_meaning.specs.Trees.{Tree}
 use Rattle.wjs_alone.specs.Alone.{Copy, Outcome, outcome_of, copy_after, printed}
 use Rattle.wjs_alone.specs.Opening.{trees_of, tree_number}
 use Rattle.wjs_alone.specs.Serial.{Run, End, runs_of, Holds, WorldsOwn, run_at, outcomes_by, printed_by, copy_by, ObjectsGrow}
-use Rattle.wjs_activity.specs.declared.common.Common.{Common}
-use Rattle.wjs_activity.specs.declared.ends.Outcome.{Outcome as Told}
-use Rattle.wjs_activity.specs.Meant.{session_meaning}
+use Rattle.wjs_tries.specs.declared.common.Common.{Common}
+use Rattle.wjs_tries.specs.declared.outcome.Outcome.{Outcome as Told}
+use Rattle.wjs_tries.specs.Meant.{session_meaning}
 use Rattle.wjs_activity.specs.SoFar.{left_by, SoFar, times_ended, times_owned}
-use Rattle.wjs_activity.specs.Turning.{EndsAlone, first_in}
+use Rattle.wjs_tries.specs.Turning.{EndsAlone, first_in}
 use Rattle.wjs_activity.proofs.Appended.{runs_then, told_then, holds_same, copy_then, outcomes_then, printed_then, left_then, grow_then}
 
 -- ---- objects

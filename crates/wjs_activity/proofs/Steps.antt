@@ -2,10 +2,10 @@
 use Rattle.std.proofs.Common.{◌≡◌, ℕ, ◌+◌, ◌≤◌, ◌<◌, true, false, List, [], ◌∷◌, ◌++◌, length, Option, None, Some, refl, sym, ap, ◌∙◌, subst, arith, append-nil}
 use Rattle.std.specs.Prelude.{IfSome, slice_get}
 use Rattle.std.proofs.lemmas.Option.{same_Some}
-use Rattle.wjs_content.specs.Objects.{Arena}
-use Rattle.wjs_content.specs.Tables.{arena_in}
+use Rattle.wjs_by_content.specs.Objects.{Arena}
+use Rattle.wjs_by_content.specs.Tables.{arena_in}
 use Rattle.wjs_meaning.specs.Trees.{Tree}
-use Rattle.wjs_moves.proofs.Growing.{arena_known}
+use Rattle.wjs_frames.proofs.Growing.{arena_known}
 use Rattle.wjs_model.specs.declared.config.Config.{Config}
 use Rattle.wjs_session.specs.declared.session.Session.{Session}
 use Rattle.wjs_session.specs.Session.{first_copy}
@@ -14,23 +14,23 @@ use Rattle.wjs_alone.specs.Alone.{Copy, outcome_of}
 use Rattle.wjs_alone.specs.Opening.{trees_of, tree_number}
 use Rattle.wjs_alone.specs.Serial.{Run, End, Holds, WorldsOwn, run_at, runs_of, printed_by}
 use Rattle.wjs_activity.specs.Unnamed.{NamesOthers, NamesNone}
-use Rattle.wjs_activity.specs.declared.common.Common.{Common}
-use Rattle.wjs_activity.specs.declared.common.Rested.{Rested}
-use Rattle.wjs_activity.specs.declared.ends.Outcome.{Outcome as Told}
+use Rattle.wjs_tries.specs.declared.common.Common.{Common}
+use Rattle.wjs_tries.specs.declared.common.Rested.{Rested}
+use Rattle.wjs_tries.specs.declared.outcome.Outcome.{Outcome as Told}
 use Rattle.wjs_activity.specs.declared.activities.Activity.{Activity}
 use Rattle.wjs_activity.specs.declared.activities.Play.{Play}
-use Rattle.wjs_activity.specs.declared.turns.Came.{Came}
+use Rattle.wjs_tries.specs.declared.turns.Came.{Came}
 use Rattle.wjs_activity.specs.Listing.{KeepsApart}
-use Rattle.wjs_activity.specs.Meant.{session_meaning}
-use Rattle.wjs_activity.specs.Resting.{IsResting}
+use Rattle.wjs_tries.specs.Meant.{session_meaning}
+use Rattle.wjs_tries.specs.Resting.{IsResting}
 use Rattle.wjs_activity.specs.SoFar.{times_owned, SoFar, GoesOn, StandsBy, IsPlay}
-use Rattle.wjs_activity.specs.Turning.{IsTurned, EndsAlone, first_in}
+use Rattle.wjs_tries.specs.Turning.{IsTurned, EndsAlone, first_in}
 use Rattle.wjs_activity.specs.Rounds.{Made}
 use Rattle.wjs_activity.proofs.Apart.{own_before}
 use Rattle.wjs_activity.proofs.Appended.{runs_then}
 use Rattle.wjs_activity.proofs.NamesNone.{names_others, named_then}
-use Rattle.wjs_activity.proofs.Opens.{heap_common}
-use Rattle.wjs_activity.proofs.Soundly.{view_known}
+use Rattle.wjs_tries.proofs.Opens.{heap_common}
+use Rattle.wjs_tries.proofs.Soundly.{view_known}
 use Rattle.wjs_activity.proofs.Standing.{was_on, plays_on, plays_behind}
 use Rattle.wjs_activity.proofs.Stepped.{holds_later, worlds_own_in, so_far_stays, so_far_then, prints_more}
 use Rattle.wjs_activity.proofs.Taking.{Taken, none_drawn, passes_all}

@@ -10,7 +10,7 @@ use Rattle.wjs_base.proofs.TextLaws.{Grows-refl}
 use Rattle.wjs_store.specs.Shown.{first_of}
 use Rattle.wjs_store.specs.Meaning.{Meaning, Worlds}
 use Rattle.wjs_arena.specs.Entries.{Objects, Keeps}
-use Rattle.wjs_content.specs.Objects.{Arena}
+use Rattle.wjs_by_content.specs.Objects.{Arena}
 use Rattle.wjs_meaning.specs.Trees.{Tree}
 use Rattle.wjs_model.specs.declared.config.Config.{Config}
 use Rattle.wjs_model.specs.Soundness.{Sound}
@@ -22,24 +22,24 @@ use Rattle.wjs_session.specs.Returns.{Returns}
 use Rattle.wjs_alone.specs.Alone.{Copy, world_of}
 use Rattle.wjs_alone.specs.Opening.{trees_of, tree_number}
 use Rattle.wjs_alone.specs.Serial.{End}
-use Rattle.wjs_activity.specs.declared.common.Common.{Common}
-use Rattle.wjs_activity.specs.declared.common.Rested.{Rested}
+use Rattle.wjs_tries.specs.declared.common.Common.{Common}
+use Rattle.wjs_tries.specs.declared.common.Rested.{Rested}
 use Rattle.wjs_activity.specs.declared.activities.Play.{Play}
-use Rattle.wjs_activity.specs.declared.turns.Came.{Came}
-use Rattle.wjs_activity.specs.Meant.{session_meaning, resting}
-use Rattle.wjs_activity.specs.Views.{held_in}
-use Rattle.wjs_activity.specs.Common.{IsCommon}
-use Rattle.wjs_activity.specs.Passing.{Passes}
-use Rattle.wjs_activity.specs.Resting.{IsResting}
-use Rattle.wjs_activity.specs.Trying.{IsTrying}
+use Rattle.wjs_tries.specs.declared.turns.Came.{Came}
+use Rattle.wjs_tries.specs.Meant.{session_meaning, resting}
+use Rattle.wjs_tries.specs.Views.{held_in}
+use Rattle.wjs_tries.specs.Common.{IsCommon}
+use Rattle.wjs_tries.specs.Passing.{Passes}
+use Rattle.wjs_tries.specs.Resting.{IsResting}
+use Rattle.wjs_tries.specs.Trying.{IsTrying}
 use Rattle.wjs_activity.specs.SoFar.{times_owned, IsPlay}
-use Rattle.wjs_activity.specs.Turning.{common_of, IsLive, IsTurned, CameTo, Begun, GoesOnAs, first_in}
-use Rattle.wjs_activity.proofs.GivenUp.{not_both}
-use Rattle.wjs_activity.proofs.Hidings.{trying_with}
-use Rattle.wjs_activity.proofs.Overs.{held_grows}
+use Rattle.wjs_tries.specs.Turning.{common_of, IsLive, IsTurned, CameTo, Begun, GoesOnAs, first_in}
+use Rattle.wjs_tries.proofs.GivenUp.{not_both}
+use Rattle.wjs_tries.proofs.Hidings.{trying_with}
+use Rattle.wjs_tries.proofs.Overs.{held_grows}
 use Rattle.wjs_activity.proofs.Playing.{trees_pass}
-use Rattle.wjs_activity.proofs.Soundly.{view_known}
-use Rattle.wjs_activity.proofs.Turned.{passes_then}
+use Rattle.wjs_tries.proofs.Soundly.{view_known}
+use Rattle.wjs_tries.proofs.Turned.{passes_then}
 
 -- an owner that was not drawn yet has no end
 pub none_drawn : (ends : List End) (drawn q : ℕ) → drawn < q → All (λ e. e.run.owner ≤ drawn) ends → times_owned q ends ≡ 0

@@ -9,9 +9,9 @@ use Rattle.wjs_base.specs.Unicode.{utf8_of}
 use Rattle.wjs_alone.specs.Alone.{Outcome, Committed, Threw, Spent}
 use Rattle.wjs_alone.specs.Serial.{End, outcome_text, line_of, line_at, lines_from}
 use Rattle.wjs_activity.specs.declared.ends.Ended.{Ended}
-use Rattle.wjs_activity.specs.declared.ends.Outcome.TheVariants as told
+use Rattle.wjs_tries.specs.declared.outcome.Outcome.TheVariants as told
 use Rattle.wjs_activity.specs.SoFar.{TellsEnd, TellsEnds}
-use Rattle.wjs_activity.specs.Turning.{Tells}
+use Rattle.wjs_tries.specs.Turning.{Tells}
 
 -- one line more
 pub lines_more : (n first : ℕ) (es : List End) → lines_from (suc n) first es ≡ lines_from n first es ++ line_at es (first + n)

@@ -3,14 +3,14 @@ use Rattle.std.proofs.Common.{◌≡◌, ℕ, Bool, true, [], ◌∷◌, Option,
 use Rattle.std.specs.FinMap as map
 use Rattle.wjs_base.specs.declared.values.Value.{Value}
 use Rattle.wjs_base.specs.Text.{Table, Grows}
+use Rattle.wjs_base.proofs.Booleans.{by_bool}
 use Rattle.wjs_store.specs.Naming.{plain}
 use Rattle.wjs_store.specs.Meaning.{View, unseen}
 use Rattle.wjs_store.specs.State.{World, has_row}
-use Rattle.wjs_store.proofs.Writes.{by_bool}
-use Rattle.wjs_content.specs.Names.{content}
-use Rattle.wjs_content.specs.Renamed.{Knows}
-use Rattle.wjs_content.specs.Telling.{names_of}
-use Rattle.wjs_content.proofs.Growth.{worlds_grow}
+use Rattle.wjs_by_content.specs.Names.{content}
+use Rattle.wjs_by_content.specs.Renamed.{Knows}
+use Rattle.wjs_by_content.specs.Telling.{names_of}
+use Rattle.wjs_by_content.proofs.Growth.{worlds_grow}
 use Rattle.wjs_session.specs.Session.{world_at, first_copy, owned}
 use Rattle.wjs_session.specs.Stores.{worlds_in}
 use Rattle.wjs_session.specs.Returns.{Returns}
@@ -19,11 +19,11 @@ use Rattle.wjs_alone.specs.Named.{world_in}
 use Rattle.wjs_alone.specs.Playing as defined
 use Rattle.wjs_alone.proofs.NamedChecks.{heads, known_head}
 use Rattle.wjs_alone.proofs.NamedViews.{from_base}
-use Rattle.wjs_activity.specs.declared.common.Common.{Common}
-use Rattle.wjs_activity.specs.declared.common.Rested.{Rested}
-use Rattle.wjs_activity.specs.Views.{KnowsView}
+use Rattle.wjs_tries.specs.declared.common.Common.{Common}
+use Rattle.wjs_tries.specs.declared.common.Rested.{Rested}
+use Rattle.wjs_tries.specs.Views.{KnowsView}
 use Rattle.wjs_activity.specs.Exactly.{IsTry}
-use Rattle.wjs_activity.proofs.Runs.{view_grows}
+use Rattle.wjs_tries.proofs.Runs.{view_grows}
 
 -- marks alone decide what a world takes a first world to hold
 owned_marks : (x y : World plain) (base : View) → unseen y ≡ unseen x → owned y base ≡ owned x base

@@ -6,9 +6,9 @@ use Rattle.std.proofs.Math.Nat.{min-le_left}
 use Rattle.std.proofs.lemmas.Option.{same_Some}
 use Rattle.wjs_store.specs.Meaning.{Meaning}
 use Rattle.wjs_store.specs.State.{World}
-use Rattle.wjs_content.specs.Names.{content}
-use Rattle.wjs_content.specs.Objects.{Arena}
-use Rattle.wjs_content.specs.Tables.{arena_in}
+use Rattle.wjs_by_content.specs.Names.{content}
+use Rattle.wjs_by_content.specs.Objects.{Arena}
+use Rattle.wjs_by_content.specs.Tables.{arena_in}
 use Rattle.wjs_meaning.specs.Trees.{Tree}
 use Rattle.wjs_meaning.specs.Deeds.{St}
 use Rattle.wjs_meaning.specs.Programs.{Ending}
@@ -23,30 +23,30 @@ use Rattle.wjs_alone.specs.Marks.{marked, own_view, agrees}
 use Rattle.wjs_alone.specs.Serial.{End, run_at}
 use Rattle.wjs_alone.specs.Playing as defined
 use Rattle.wjs_alone.specs.Playing.{activity_in, goes_on, ends_with, end_of, rests_with, drops, new_try, try_of}
-use Rattle.wjs_activity.specs.declared.common.Common.{Common}
-use Rattle.wjs_activity.specs.declared.common.Rested.{Rested}
+use Rattle.wjs_tries.specs.declared.common.Common.{Common}
+use Rattle.wjs_tries.specs.declared.common.Rested.{Rested}
 use Rattle.wjs_activity.specs.declared.ends.Ended.{Ended}
-use Rattle.wjs_activity.specs.declared.ends.Outcome.{Outcome as Told}
+use Rattle.wjs_tries.specs.declared.outcome.Outcome.{Outcome as Told}
 use Rattle.wjs_activity.specs.declared.activities.Activity.{Activity}
 use Rattle.wjs_activity.specs.declared.activities.Play.{Play}
-use Rattle.wjs_activity.specs.declared.turns.Came.{Came}
-use Rattle.wjs_activity.specs.declared.turns.Came.TheVariants as came
-use Rattle.wjs_activity.specs.Meant.{session_meaning}
-use Rattle.wjs_activity.specs.Views.{held_in, KnowsView}
-use Rattle.wjs_activity.specs.Passing.{Passes}
-use Rattle.wjs_activity.specs.Resting.{IsResting}
+use Rattle.wjs_tries.specs.declared.turns.Came.{Came}
+use Rattle.wjs_tries.specs.declared.turns.Came.TheVariants as came
+use Rattle.wjs_tries.specs.Meant.{session_meaning}
+use Rattle.wjs_tries.specs.Views.{held_in, KnowsView}
+use Rattle.wjs_tries.specs.Passing.{Passes}
+use Rattle.wjs_tries.specs.Resting.{IsResting}
 use Rattle.wjs_activity.specs.Noting.{Notes}
 use Rattle.wjs_activity.specs.SoFar.{IsPlay, times_owned}
-use Rattle.wjs_activity.specs.Turning.{first_in, CameTo, EndsAlone, IsTurned, Begun, GoesOnAs}
-use Rattle.wjs_activity.specs.Exact.{goes_on_after, HasMarks, IsExact, run_of, marks_of, base_of}
+use Rattle.wjs_tries.specs.Turning.{first_in, CameTo, EndsAlone, IsTurned, Begun, GoesOnAs}
+use Rattle.wjs_tries.specs.Exact.{goes_on_after, HasMarks, IsExact, run_of, marks_of, base_of}
 use Rattle.wjs_activity.specs.Exactly.{IsTry, IsRunning, IsActivity, Stands, IsExactly, TurnIs}
 use Rattle.wjs_activity.proofs.Places.{set_other, set_there}
 use Rattle.wjs_activity.proofs.Defines.{goes_on_exactly, ends_exactly}
 use Rattle.wjs_activity.proofs.Exacts.{run_is, outer_is, turn_rests, turn_drops, turn_ends}
-use Rattle.wjs_activity.proofs.LastRuns.{last_run}
-use Rattle.wjs_activity.proofs.Passed.{returns}
+use Rattle.wjs_tries.proofs.LastRuns.{last_run}
+use Rattle.wjs_tries.proofs.Passed.{returns}
 use Rattle.wjs_activity.proofs.Same.{own_new, own_rests}
-use Rattle.wjs_activity.proofs.Soundly.{view_known}
+use Rattle.wjs_tries.proofs.Soundly.{view_known}
 use Rattle.wjs_activity.proofs.Standing.{goes_on_old, apart}
 use Rattle.wjs_activity.proofs.Taking.{Taken, passes_all, held_before, came_to}
 use Rattle.wjs_activity.proofs.Tries.{stays_try}

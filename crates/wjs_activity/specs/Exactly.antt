@@ -1,18 +1,18 @@
 -- A play of the code is one of the definition.
 use Rattle.std.specs.Prelude.{◌≡◌, ℕ, ◌+◌, ◌⊎◌, true, false, List, [], ◌∷◌, ◌++◌, Option, None, Some, slice_get}
-use Rattle.wjs_content.specs.Tables.{arena_in}
+use Rattle.wjs_by_content.specs.Tables.{arena_in}
 use Rattle.wjs_meaning.specs.Trees.{Tree}
 use Rattle.wjs_session.specs.Session.{world_at}
 use Rattle.wjs_session.specs.Stores.{worlds_in}
 use Rattle.wjs_alone.specs.Serial.{End}
 use Rattle.wjs_alone.specs.Playing as defined
 use Rattle.wjs_alone.specs.Playing.{activity_in, goes_on, try_of, turn_of_try}
-use Rattle.wjs_activity.specs.declared.common.Common.{Common}
-use Rattle.wjs_activity.specs.declared.common.Rested.{Rested}
+use Rattle.wjs_tries.specs.declared.common.Common.{Common}
+use Rattle.wjs_tries.specs.declared.common.Rested.{Rested}
 use Rattle.wjs_activity.specs.declared.activities.Activity.{Activity}
 use Rattle.wjs_activity.specs.declared.activities.Play.{Play}
-use Rattle.wjs_activity.specs.Turning.{first_in}
-use Rattle.wjs_activity.specs.Exact.{HasMarks, KnowsRest}
+use Rattle.wjs_tries.specs.Turning.{first_in}
+use Rattle.wjs_tries.specs.Exact.{HasMarks, KnowsRest}
 
 -- a try that rests is the definition's: its owner, its steps, and its marks
 pub record IsTry (budget : ℕ) (common : Common) (rest : Rested) (t : defined.Try) : Type 0 where

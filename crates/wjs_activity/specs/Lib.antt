@@ -1,14 +1,5 @@
-pub mod Meant
-pub mod Views
-pub mod Trying
-pub mod Common
 pub mod Unnamed
-pub mod Hiding
 pub mod Listing
-pub mod Passing
-pub mod Resting
-pub mod Turning
-pub mod Exact
 pub mod Exactly
 pub mod Noting
 pub mod SoFar

@@ -1,9 +1,9 @@
 -- Tries that rest are kept apart from each other.
 use Rattle.std.specs.Prelude.{◌≡◌, ℕ, ◌<◌, length, Option, None, Some, slice_get}
-use Rattle.wjs_activity.specs.declared.common.Rested.{Rested}
+use Rattle.wjs_tries.specs.declared.common.Rested.{Rested}
 use Rattle.wjs_activity.specs.declared.activities.Activity.{Activity}
 use Rattle.wjs_activity.specs.declared.activities.Play.{Play}
-use Rattle.wjs_activity.specs.Hiding.{no_owner, IsHidden, Unaware}
+use Rattle.wjs_tries.specs.Hiding.{no_owner, IsHidden, Unaware}
 
 -- the entry of an activity
 abbrev pub entry_of : Option Rested → ℕ

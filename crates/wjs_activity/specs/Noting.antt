@@ -1,10 +1,10 @@
 -- What is noted of a turn.
 use Rattle.std.specs.Prelude.{◌≡◌, ℕ, ◌+◌, false, true, List, [], ◌∷◌, ◌++◌, set, All, Option, None, Some, slice_get}
 use Rattle.wjs_activity.specs.declared.activities.Activity.{Activity}
-use Rattle.wjs_activity.specs.declared.common.Rested.{Rested}
+use Rattle.wjs_tries.specs.declared.common.Rested.{Rested}
 use Rattle.wjs_activity.specs.declared.ends.Ended.{Ended}
-use Rattle.wjs_activity.specs.declared.turns.Came.{Came}
-use Rattle.wjs_activity.specs.declared.turns.Came.TheVariants as came
+use Rattle.wjs_tries.specs.declared.turns.Came.{Came}
+use Rattle.wjs_tries.specs.declared.turns.Came.TheVariants as came
 
 -- no try has begun
 abbrev pub AllNew : List Activity → Type 0

@@ -3,7 +3,7 @@ use Rattle.std.specs.Prelude.{◌≡◌, ℕ, ◌≤◌, ◌⊎◌, false, List,
 use Rattle.wjs_base.specs.Text.{IsTable}
 use Rattle.wjs_io.specs.Streams.{Stream, Got, GotPrefix, Stops}
 use Rattle.wjs_store.specs.Meaning.{Meaning}
-use Rattle.wjs_content.specs.Tables.{arena_in}
+use Rattle.wjs_by_content.specs.Tables.{arena_in}
 use Rattle.wjs_heap.specs.declared.heap.Heap.{Heap}
 use Rattle.wjs_machine.specs.declared.halt.Halt.{Halt}
 use Rattle.wjs_machine.specs.declared.halt.Halt.TheVariants as halts
@@ -27,9 +27,9 @@ use Rattle.wjs_activity.specs.declared.activities.Play.{Play}
 use Rattle.wjs_activity.specs.declared.activities.Rules.{Rules}
 use Rattle.wjs_activity.specs.declared.whole.PlayEnd.{PlayEnd}
 use Rattle.wjs_activity.specs.declared.whole.PlayEnd.TheVariants as endings
-use Rattle.wjs_activity.specs.Views.{held_in, KnowsView}
-use Rattle.wjs_activity.specs.Common.{IsCommon}
-use Rattle.wjs_activity.specs.Hiding.{no_owner}
+use Rattle.wjs_tries.specs.Views.{held_in, KnowsView}
+use Rattle.wjs_tries.specs.Common.{IsCommon}
+use Rattle.wjs_tries.specs.Hiding.{no_owner}
 use Rattle.wjs_activity.specs.Noting.{AllNew}
 use Rattle.wjs_activity.specs.SoFar.{TellsEnds, left_by, IsPlay}
 use Rattle.wjs_activity.specs.Exactly.{IsExactly}

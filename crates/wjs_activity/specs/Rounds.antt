@@ -3,7 +3,7 @@ use Rattle.std.specs.Prelude.{◌≡◌, ℕ, ◌+◌, ◌*◌, ◌-◌, ◌<◌
 use Rattle.std.specs.Prelude.{None, Some, slice_get}
 use Rattle.std.specs.List.{sum}
 use Rattle.wjs_io.specs.Streams.{Stream, Got, GotPrefix, Stops}
-use Rattle.wjs_content.specs.Objects.{Arena}
+use Rattle.wjs_by_content.specs.Objects.{Arena}
 use Rattle.wjs_meaning.specs.Trees.{Tree}
 use Rattle.wjs_machine.specs.declared.halt.Halt.{Halt}
 use Rattle.wjs_machine.specs.declared.halt.Halt.TheVariants as halts
@@ -12,7 +12,7 @@ use Rattle.wjs_alone.specs.Serial.{End, runs_of, printed_by}
 use Rattle.wjs_alone.specs.Playing as defined
 use Rattle.wjs_alone.specs.Playing.{activity_in, try_of, turn_of_try, turn, round, rounds}
 use Rattle.wjs_alone.specs.Fronts.{Fronts}
-use Rattle.wjs_activity.specs.declared.common.Rested.{Rested}
+use Rattle.wjs_tries.specs.declared.common.Rested.{Rested}
 use Rattle.wjs_activity.specs.declared.activities.Activity.{Activity}
 use Rattle.wjs_activity.specs.declared.activities.Play.{Play}
 use Rattle.wjs_activity.specs.declared.activities.Rules.{Rules}

@@ -1,8 +1,8 @@
 -- A play between turns: the ends so far stand in serial order, and each activity that has not ended rests, or will begin anew.
 use Rattle.std.specs.Prelude.{◌≡◌, ℕ, ◌+◌, ◌≤◌, ◌==◌, Bool, true, false, List, [], ◌∷◌, length, map as each, count_by, All, Option, None, Some, IfSome}
 use Rattle.std.specs.Prelude.{slice_get}
-use Rattle.wjs_content.specs.Objects.{Arena}
-use Rattle.wjs_content.specs.Tables.{arena_in}
+use Rattle.wjs_by_content.specs.Objects.{Arena}
+use Rattle.wjs_by_content.specs.Tables.{arena_in}
 use Rattle.wjs_meaning.specs.Trees.{Tree}
 use Rattle.wjs_model.specs.Units.{unit_in}
 use Rattle.wjs_session.specs.Stores.{worlds_in}
@@ -10,14 +10,14 @@ use Rattle.wjs_alone.specs.Alone.{Copy, copy_after}
 use Rattle.wjs_alone.specs.Opening.{trees_of, tree_number}
 use Rattle.wjs_alone.specs.Serial.{Run, End, runs_of, outcomes_of, Holds, run_at, outcomes_by, copy_by, ObjectsGrow}
 use Rattle.wjs_activity.specs.Unnamed.{NamesNone}
-use Rattle.wjs_activity.specs.declared.common.Rested.{Rested}
+use Rattle.wjs_tries.specs.declared.common.Rested.{Rested}
 use Rattle.wjs_activity.specs.declared.ends.Ended.{Ended}
 use Rattle.wjs_activity.specs.declared.activities.Activity.{Activity}
 use Rattle.wjs_activity.specs.declared.activities.Play.{Play}
-use Rattle.wjs_activity.specs.Common.{IsCommon}
+use Rattle.wjs_tries.specs.Common.{IsCommon}
 use Rattle.wjs_activity.specs.Listing.{KeepsApart}
-use Rattle.wjs_activity.specs.Resting.{IsResting}
-use Rattle.wjs_activity.specs.Turning.{Tells, first_in}
+use Rattle.wjs_tries.specs.Resting.{IsResting}
+use Rattle.wjs_tries.specs.Turning.{Tells, first_in}
 
 -- an end is told as it is
 pub record TellsEnd (told : Ended) (e : End) : Type 0 where

@@ -2,9 +2,9 @@
 use Rattle.std.specs.Prelude.{◌≡◌, ℕ, List, [], ◌∷◌, Option, Some, IsTrue}
 use Rattle.std.specs.FinMap as map
 use Rattle.wjs_base.specs.declared.ids.ObjId.{ObjId}
-use Rattle.wjs_content.specs.Names.{Slot}
-use Rattle.wjs_content.specs.Objects.{Arena}
-use Rattle.wjs_content.specs.Values.{Value, Object}
+use Rattle.wjs_by_content.specs.Names.{Slot}
+use Rattle.wjs_by_content.specs.Objects.{Arena}
+use Rattle.wjs_by_content.specs.Values.{Value, Object}
 use Rattle.wjs_meaning.specs.Trees.{Tree}
 use Rattle.wjs_alone.specs.Alone.{Copy, copy_after}
 use Rattle.wjs_alone.specs.Serial.{Run, run_at}

@@ -3,11 +3,10 @@ ghost use Rattle.std.specs.Prelude.{◌≡◌, ◌<◌, ◌-◌, ◌^◌, length
 ghost use Rattle.wjs_activity.specs.declared.activities.Activity.{Activity};
 ghost use Rattle.wjs_activity.specs.Noting.{Notes, NotesAt, Takes, AllNew};
 
-use crate::common::{Common, Rested};
 use crate::ends::{Ended, Ends};
-use crate::turns::Came;
 use std::alloc::Global;
 use wjs_base::OutOfMemory;
+use wjs_tries::{Came, Common, Rested};
 
 /// An activity: how many of its tries were dropped, the one that rests, if one does, and whether it has ended.
 #[derive(Drop)]
@@ -45,9 +44,7 @@ pub fn none_begun(alloc: Global, count: usize) -> Result<Vec<Activity>, OutOfMem
             running: None,
             ended: false,
         };
-        if list.push(activity).is_err() {
-            return Err(OutOfMemory);
-        }
+        list.push(activity)?;
     }
     Ok(list)
 }

@@ -4,51 +4,13 @@ ghost use Rattle.std.specs.Prelude.{◌≡◌, ◌<◌, ◌++◌, ◌∷◌, [],
 use std::alloc::Global;
 use std::marker::Model;
 use wjs_base::OutOfMemory;
+use wjs_tries::Outcome;
 
 /// A turn of an activity, of so many steps at most and of one at least. Activities are numbered from 1.
 #[derive(Clone, Copy, Debug, PartialEq, Eq)]
 pub struct PlayTurn {
     pub activity: u32,
     pub steps: u64,
-}
-
-/// The text of a value that an activity threw, in UTF-8. Contracts see its bytes.
-#[derive(Drop)]
-pub struct Shown {
-    list: Vec<u8>,
-}
-
-impl Model for Shown {
-    ghost use Rattle.std.specs.Prelude.{List, ℕ};
-
-    ghost Value = { List ℕ };
-
-    ghost view = { λ shown. shown.list.items };
-}
-
-impl Shown {
-    /// The text of these bytes.
-    pub(crate) fn new(list: Vec<u8>) -> Shown
-        ensures { result ≡ list.items }
-    {
-        Shown { list }
-    }
-
-    /// The bytes.
-    pub fn bytes(&self) -> &[u8]
-        ensures { result.now ≡ self.now }
-    {
-        self.list.as_slice()
-    }
-}
-
-/// How an activity ended, once and for all: what it did is in the first world, or it threw this or spent its budget and nothing of
-/// it is kept.
-#[derive(Drop)]
-pub enum Outcome {
-    Committed,
-    Threw(Shown),
-    Spent,
 }
 
 /// The end of an activity: the owner, from 1 on, of the objects and worlds that its last try made, and how many tries it took, from
@@ -94,10 +56,8 @@ impl Ends {
     pub(crate) fn push(&mut self, end: Ended) -> Result<(), OutOfMemory>
         ensures { OnOk result (self.new ≡ self.old ++ end ∷ []) }
     {
-        match self.list.push(end) {
-            Ok(()) => Ok(()),
-            Err(_) => Err(OutOfMemory),
-        }
+        self.list.push(end)?;
+        Ok(())
     }
 
     /// How many there are.

@@ -6,16 +6,11 @@
 #![tactic(auto)]
 
 mod activities;
-mod common;
-mod ending;
 mod ends;
-mod keeping;
 mod lines;
-mod opening;
-mod resuming;
 mod rounds;
-mod turns;
 mod whole;
 
-pub use ends::{Ended, Ends, Outcome, PlayTurn, Shown};
+pub use ends::{Ended, Ends, PlayTurn};
 pub use whole::{PlayEnd, play};
+pub use wjs_tries::{Outcome, Shown};

@@ -4,11 +4,12 @@ ghost use Rattle.std.specs.Fmt.{decimal};
 ghost use Rattle.wjs_alone.specs.Alone.{Outcome as Meant};
 ghost use Rattle.wjs_alone.specs.Serial.{End, outcome_text, line_at, line_of, lines_from};
 ghost use Rattle.wjs_activity.specs.SoFar.{TellsEnd, TellsEnds};
-ghost use Rattle.wjs_activity.specs.Turning.{Tells};
+ghost use Rattle.wjs_tries.specs.Turning.{Tells};
 
-use crate::ends::{Ended, Outcome, Shown};
+use crate::ends::Ended;
 use std::alloc::Global;
 use wjs_base::OutOfMemory;
+use wjs_tries::{Outcome, Shown};
 
 /// A line for each of so many activities, ascending: how it ended, and how many tries it took.
 pub fn lines(alloc: Global, count: u32, ends: &[Ended]) -> Result<Vec<u8>, OutOfMemory>
@@ -89,8 +90,6 @@ fn push_field(alloc: Global, text: &mut Vec<u8>, word: &str, number: u32) -> Res
 fn push(text: &mut Vec<u8>, bytes: &[u8]) -> Result<(), OutOfMemory>
     ensures { OnOk result (text.new.items ≡ text.old.items ++ bytes.now) }
 {
-    match text.extend_from_slice(bytes) {
-        Ok(()) => Ok(()),
-        Err(_) => Err(OutOfMemory),
-    }
+    text.extend_from_slice(bytes)?;
+    Ok(())
 }

@@ -7,23 +7,18 @@ ghost use Rattle.wjs_model.specs.Soundness.{Sound};
 ghost use Rattle.wjs_session.specs.Stores.{worlds_in};
 ghost use Rattle.wjs_session.specs.Resumed.{Rests};
 ghost use Rattle.wjs_activity.specs.declared.activities.Activity.{Activity};
-ghost use Rattle.wjs_activity.specs.declared.common.Rested.{Rested};
+ghost use Rattle.wjs_tries.specs.declared.common.Rested.{Rested};
 ghost use Rattle.wjs_activity.specs.declared.ends.PlayTurn.{PlayTurn};
-ghost use Rattle.wjs_activity.specs.Hiding.{no_owner, MayList};
-ghost use Rattle.wjs_activity.specs.Meant.{itself, Listed, resting};
-ghost use Rattle.wjs_activity.specs.Common.{IsCommon};
-ghost use Rattle.wjs_activity.specs.Turning.{Begun, GoesOnAs};
+ghost use Rattle.wjs_tries.specs.Hiding.{no_owner, MayList};
+ghost use Rattle.wjs_tries.specs.Meant.{itself, Listed, resting};
+ghost use Rattle.wjs_tries.specs.Common.{IsCommon};
+ghost use Rattle.wjs_tries.specs.Turning.{Begun, GoesOnAs};
 ghost use Rattle.wjs_activity.specs.Rounds.{IsGoing, Settled, last_is_due, MayTurn, TurnAt, TurnsTo, HaltsIn, HaltsAt, TurnMade, OneTurn, LastTurn};
 ghost use Rattle.wjs_activity.specs.Rounds.{LastHalts, AllSooner, fuel, at_place, by_turn, by_turns, by_round, by_rounds, Is};
 ghost use Rattle.wjs_activity.specs.Plays.{turn_in};
 
 use crate::activities::{Activity, Play, Rules, note_at, take_running};
-use crate::common::{Common, Rested};
 use crate::ends::PlayTurn;
-use crate::keeping::next_owner;
-use crate::opening::open;
-use crate::resuming::resume;
-use crate::turns::take_turn;
 use std::alloc::Global;
 use wjs_base::OutOfMemory;
 use wjs_io::{Sink, write_pieces};
@@ -31,6 +26,7 @@ use wjs_machine::Halt;
 use wjs_model::{Config, State};
 use wjs_session::Session;
 use wjs_store::WorldStore;
+use wjs_tries::{Common, Rested, next_owner, open, resume, take_turn};
 
 /// Takes the turns of a schedule. Those of activities that have ended, and of numbers that no activity has, are left out.
 pub fn scheduled<O: Sink>(

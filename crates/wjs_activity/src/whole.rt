@@ -17,9 +17,7 @@ ghost use Rattle.wjs_activity.specs.Rounds.{first_number, IsGoing, Settled, Turn
 ghost use Rattle.wjs_activity.specs.Plays.{turn_in, Plays, PlaysOut, BeginsAs, IsOpened, RanLibrary, CanBegin, BegunFrom, ClosesAs, WritesLast};
 
 use crate::activities::{Play, Rules, none_begun};
-use crate::common::Common;
 use crate::ends::{Ends, PlayTurn};
-use crate::keeping::none_apart;
 use crate::lines::lines;
 use crate::rounds::{rounds, scheduled};
 use std::alloc::Global;
@@ -31,6 +29,7 @@ use wjs_model::{Config, State, Unit};
 use wjs_overlay::Overlay;
 use wjs_parts::{start_parts, walk};
 use wjs_store::WorldStore;
+use wjs_tries::{Common, none_apart};
 
 /// How a play ends.
 #[derive(Drop)]

@@ -6,7 +6,7 @@ use Rattle.wjs_meaning.specs.Laws.{Within}
 use Rattle.wjs_meaning.specs.Programs.{entry, eval_to, eval, Done, StepsSpent, env_of_program, run_next}
 use Rattle.wjs_meaning.proofs.Steps.{within_interp, within_eval_to, entries_lem}
 use Rattle.wjs_meaning.specs.Builtins.{global_object}
-use Rattle.wjs_content.specs.Objects.{Arena}
+use Rattle.wjs_by_content.specs.Objects.{Arena}
 use Rattle.wjs_alone.specs.Alone.{Copy, world_of, before, alone}
 use Rattle.wjs_alone.specs.Laws.{OneEnding}
 

@@ -10,11 +10,11 @@ use Rattle.wjs_store.specs.Naming.{Naming, plain}
 use Rattle.wjs_store.specs.Meaning.{View}
 use Rattle.wjs_store.specs.State.{World, State, Act, read, write, list, commit, moved, differs, same_world, fault_in, moves, read_in, write_in, list_in, is_below, put, after_read, after_write, after_list, after}
 use Rattle.wjs_store.proofs.Writes.{same_self}
-use Rattle.wjs_content.specs.Rename.{renamed, shape}
-use Rattle.wjs_content.specs.Renamed.{Names, Known, Knows, KnowsContent, KnownAct, named_world, named_state, named_act}
-use Rattle.wjs_content.specs.Telling.{names_of}
-use Rattle.wjs_content.proofs.Keys.{empty_entries}
-use Rattle.wjs_content.proofs.RenamedKnown.{named_after, known_after, named_verdict}
+use Rattle.wjs_by_content.specs.Rename.{renamed, shape}
+use Rattle.wjs_by_content.specs.Renamed.{Names, Known, Knows, KnowsContent, KnownAct, named_world, named_state, named_act}
+use Rattle.wjs_by_content.specs.Telling.{names_of}
+use Rattle.wjs_by_content.proofs.Keys.{empty_entries}
+use Rattle.wjs_by_content.proofs.RenamedKnown.{named_after, known_after, named_verdict}
 use Rattle.wjs_session.specs.Session.{holding as session_holding, passes}
 use Rattle.wjs_session.specs.Along.{write_each}
 use Rattle.wjs_alone.specs.Views.{KnowsView}

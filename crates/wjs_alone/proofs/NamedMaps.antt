@@ -6,12 +6,12 @@ use Rattle.std.specs.Cmp.{tied_itself}
 use Rattle.std.specs.FinMap as map
 use Rattle.std.specs.FinMap.{FinMap}
 use Rattle.std.proofs.lemmas.Bool.{true≢false, false≢true}
+use Rattle.wjs_base.proofs.Booleans.{by_bool}
 use Rattle.wjs_store.specs.Naming.{Naming}
 use Rattle.wjs_store.proofs.Marks.{key_is}
-use Rattle.wjs_store.proofs.Writes.{by_bool}
-use Rattle.wjs_content.specs.Rename.{renamed}
-use Rattle.wjs_content.specs.Renamed.{Names, Holds}
-use Rattle.wjs_content.proofs.RenamedKnown.{entries_hold}
+use Rattle.wjs_by_content.specs.Rename.{renamed}
+use Rattle.wjs_by_content.specs.Renamed.{Names, Holds}
+use Rattle.wjs_by_content.proofs.RenamedKnown.{entries_hold}
 
 pub map_if : {A B : Type 0} (g : A → B) (b : Bool) (x : A) (o : Option A) → option_map g (cond b (Some x) o) ≡ cond b (Some (g x)) (option_map g o)
 map_if g true x o = refl

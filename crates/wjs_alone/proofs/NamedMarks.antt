@@ -6,9 +6,9 @@ use Rattle.wjs_base.specs.declared.ids.WorldId.{WorldId}
 use Rattle.wjs_store.specs.Naming.{Naming}
 use Rattle.wjs_store.specs.State.{World, State, Act, read, write, list, sprout, commit, same_world, find_world, fault_in, moves, read_in, write_in, with_parent, after}
 use Rattle.wjs_store.proofs.Commits.{pair_parts}
-use Rattle.wjs_content.specs.Renamed.{Names, Holds, Known, Knows, KnownAct, named_world, named_state, named_act}
-use Rattle.wjs_content.specs.Telling.{names_of}
-use Rattle.wjs_content.proofs.RenamedKnown.{named_after, known_after}
+use Rattle.wjs_by_content.specs.Renamed.{Names, Holds, Known, Knows, KnownAct, named_world, named_state, named_act}
+use Rattle.wjs_by_content.specs.Telling.{names_of}
+use Rattle.wjs_by_content.proofs.RenamedKnown.{named_after, known_after}
 use Rattle.wjs_session.specs.Along.{moved_into, write_each, marked_by, along}
 use Rattle.wjs_alone.specs.Named.{MarksByContent}
 use Rattle.wjs_alone.proofs.NamedMaps.{map_if}

@@ -5,17 +5,16 @@ use Rattle.std.specs.FinMap as map
 use Rattle.std.proofs.lemmas.Bool.{true≢false, false≢true}
 use Rattle.wjs_base.specs.declared.values.Slot.{Slot as NumberedSlot}
 use Rattle.wjs_base.specs.Text.{Table}
+use Rattle.wjs_base.proofs.Options.{some_map, with_some}
+use Rattle.wjs_base.proofs.Booleans.{by_bool}
 use Rattle.wjs_store.specs.Naming.{plain}
 use Rattle.wjs_store.specs.Meaning.{View}
 use Rattle.wjs_store.specs.State.{World, has_row}
-use Rattle.wjs_store.proofs.Writes.{by_bool}
-use Rattle.wjs_store.proofs.Commits.{with_some}
 use Rattle.wjs_session.specs.Session.{owned}
 use Rattle.wjs_session.specs.Maps.{own_by, get_own, get_owned}
-use Rattle.wjs_content.specs.Renamed.{Knows}
-use Rattle.wjs_content.specs.Tables.{slot_in, value_in, knows_slot}
-use Rattle.wjs_content.specs.Telling.{names_of}
-use Rattle.wjs_content.proofs.Maps.{some_map}
+use Rattle.wjs_by_content.specs.Renamed.{Knows}
+use Rattle.wjs_by_content.specs.Tables.{slot_in, value_in, knows_slot}
+use Rattle.wjs_by_content.specs.Telling.{names_of}
 use Rattle.wjs_alone.specs.Marks.{own_view}
 use Rattle.wjs_alone.specs.Views.{held_in, KnowsView}
 use Rattle.wjs_alone.specs.Named.{world_in, OwnViewsByContent}

@@ -4,7 +4,7 @@ use Rattle.std.specs.FinMap as map
 use Rattle.std.proofs.lemmas.Bool.{eqb-false}
 use Rattle.wjs_base.specs.declared.ids.ObjId.{ObjId}
 use Rattle.wjs_base.specs.Order.{obj_cmp, obj_total, obj_exact}
-use Rattle.wjs_content.specs.Objects.{Arena, created}
+use Rattle.wjs_by_content.specs.Objects.{Arena, created}
 use Rattle.wjs_meaning.specs.Builtins.{global_object}
 use Rattle.wjs_meaning.specs.WorldValues.{world_object_of}
 use Rattle.wjs_alone.specs.Alone.{world_of, without, before, part_run}

@@ -9,7 +9,7 @@ use Rattle.wjs_store.specs.State.{World, State, same_world, find_world, has_row,
 use Rattle.wjs_store.proofs.Invariant.{same_turned}
 use Rattle.wjs_store.proofs.Writes.{same_self}
 use Rattle.wjs_store.proofs.Commits.{find_head, find_tail}
-use Rattle.wjs_content.proofs.Keys.{firsts, empty_entries}
+use Rattle.wjs_by_content.proofs.Keys.{firsts, empty_entries}
 use Rattle.wjs_session.specs.Along.{write_each}
 
 cond_same : {A : Type 0} (b : Bool) (x : A) → cond b x x ≡ x

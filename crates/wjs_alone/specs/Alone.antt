@@ -6,9 +6,9 @@ use Rattle.std.specs.FinMap.{FinMap}
 use Rattle.wjs_base.specs.declared.ids.ObjId.{ObjId}
 use Rattle.wjs_base.specs.declared.ids.WorldId.{WorldId}
 use Rattle.wjs_store.specs.State.{World, State, find_world}
-use Rattle.wjs_content.specs.Values.{Text, Value}
-use Rattle.wjs_content.specs.Names.{slot_cmp, content}
-use Rattle.wjs_content.specs.Objects.{Arena, created}
+use Rattle.wjs_by_content.specs.Values.{Text, Value}
+use Rattle.wjs_by_content.specs.Names.{slot_cmp, content}
+use Rattle.wjs_by_content.specs.Objects.{Arena, created}
 use Rattle.wjs_meaning.specs.Builtins.{global_object}
 use Rattle.wjs_meaning.specs.Trees.{Tree}
 use Rattle.wjs_meaning.specs.Deeds.{St, AtProgram}

@@ -2,7 +2,7 @@
 use Rattle.std.specs.Prelude.{◌≡◌, ℕ, List, Option, None}
 use Rattle.std.specs.FinMap as map
 use Rattle.wjs_base.specs.declared.ids.ObjId.{ObjId}
-use Rattle.wjs_content.specs.Objects.{Arena}
+use Rattle.wjs_by_content.specs.Objects.{Arena}
 use Rattle.wjs_meaning.specs.Trees.{Tree}
 use Rattle.wjs_meaning.specs.Programs.{StepsSpent}
 use Rattle.wjs_alone.specs.Alone.{Copy, alone}

@@ -1,10 +1,9 @@
 -- The marks of a part's world under a first one, by the actions of its run alone.
 use Rattle.std.specs.Prelude.{ℕ, Bool, false, List, [], ◌∷◌, map as each, is_none}
-use Rattle.wjs_store.specs.State.{World, fault_in, child_of}
+use Rattle.wjs_store.specs.State.{World, fault_in, child_of, first_world}
 use Rattle.wjs_session.specs.Along.{along, own_of}
-use Rattle.wjs_content.specs.Names.{content}
-use Rattle.wjs_content.specs.Plans.{Told}
-use Rattle.wjs_meaning.specs.Builtins.{first_world}
+use Rattle.wjs_by_content.specs.Names.{content}
+use Rattle.wjs_by_content.specs.Plans.{Told}
 use Rattle.wjs_alone.specs.Alone.{Copy, world_of, holding}
 
 -- the owner's world under a first world that holds this, without marks

@@ -6,10 +6,10 @@ use Rattle.wjs_store.specs.State.{World}
 use Rattle.wjs_store.specs.Meaning.{View, Worlds, PlainAct}
 use Rattle.wjs_session.specs.Along.{along}
 use Rattle.wjs_session.specs.Session.{passes, owned}
-use Rattle.wjs_content.specs.Names.{content}
-use Rattle.wjs_content.specs.Renamed.{Holds, Knows, named_world}
-use Rattle.wjs_content.specs.Telling.{names_of}
-use Rattle.wjs_content.specs.Worlds.{worlds_in, act_in, KnowsWorlds, KnowsAct}
+use Rattle.wjs_by_content.specs.Names.{content}
+use Rattle.wjs_by_content.specs.Renamed.{Holds, Knows, named_world}
+use Rattle.wjs_by_content.specs.Telling.{names_of}
+use Rattle.wjs_by_content.specs.Worlds.{worlds_in, act_in, KnowsWorlds, KnowsAct}
 use Rattle.wjs_alone.specs.Marks.{own_view, agrees}
 use Rattle.wjs_alone.specs.Views.{held_in, KnowsView}
 

@@ -1,10 +1,9 @@
 -- A play: parts that run by turns, each try in a world of its own under one first world.
 use Rattle.std.specs.Prelude.{ℕ, zero, suc, ◌+◌, ◌*◌, min, max, ◌==◌, nat_lt, Bool, true, false, not, cond, List, [], ◌∷◌, ◌++◌, map as each, filter, fold, length, Option, None, Some, unwrap_or}
 use Rattle.std.specs.Option.{option_map_or}
-use Rattle.wjs_store.specs.State.{World}
-use Rattle.wjs_content.specs.Names.{content}
-use Rattle.wjs_content.specs.Objects.{Arena}
-use Rattle.wjs_meaning.specs.Builtins.{first_world}
+use Rattle.wjs_store.specs.State.{World, first_world}
+use Rattle.wjs_by_content.specs.Names.{content}
+use Rattle.wjs_by_content.specs.Objects.{Arena}
 use Rattle.wjs_meaning.specs.Trees.{Tree}
 use Rattle.wjs_meaning.specs.Deeds.{St}
 use Rattle.wjs_meaning.specs.Programs.{Ending, Done, Threw as ThrewValue, StepsSpent}

@@ -5,8 +5,8 @@ use Rattle.std.specs.FinMap as map
 use Rattle.wjs_base.specs.declared.ids.ObjId.{ObjId}
 use Rattle.wjs_base.specs.declared.ids.WorldId.{WorldId}
 use Rattle.wjs_base.specs.Unicode.{utf8_of}
-use Rattle.wjs_content.specs.Objects.{Arena, Entry}
-use Rattle.wjs_meaning.specs.Builtins.{first_world}
+use Rattle.wjs_by_content.specs.Objects.{Arena, Entry}
+use Rattle.wjs_store.specs.State.{first_world}
 use Rattle.wjs_meaning.specs.Trees.{Tree}
 use Rattle.wjs_meaning.specs.Deeds.{St}
 use Rattle.wjs_meaning.specs.Programs.{Ending}

@@ -5,9 +5,9 @@ use Rattle.wjs_base.specs.declared.values.Slot.{Slot}
 use Rattle.wjs_base.specs.declared.values.Value.{Value}
 use Rattle.wjs_base.specs.Text.{Table}
 use Rattle.wjs_store.specs.Meaning.{View}
-use Rattle.wjs_content.specs.Names.{slot_cmp}
-use Rattle.wjs_content.specs.Rename.{renamed}
-use Rattle.wjs_content.specs.Tables.{slot_in, value_in, knows_slot, knows_value}
+use Rattle.wjs_by_content.specs.Names.{slot_cmp}
+use Rattle.wjs_by_content.specs.Rename.{renamed}
+use Rattle.wjs_by_content.specs.Tables.{slot_in, value_in, knows_slot, knows_value}
 use Rattle.wjs_alone.specs.Alone.{Copy}
 
 -- what a view holds, by a table

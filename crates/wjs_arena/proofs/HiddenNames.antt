@@ -3,10 +3,11 @@ use Rattle.std.proofs.Common.{◌≡◌, ℕ, zero, suc, ◌+◌, ◌<◌, ◌�
 use Rattle.std.proofs.lemmas.Bool.Decides.{nat_tests}
 use Rattle.wjs_base.specs.declared.ids.TextId.{TextId}
 use Rattle.wjs_base.specs.declared.values.Name.TheVariants.{Index, Text}
+use Rattle.wjs_base.proofs.Booleans.{by_bool}
 use Rattle.wjs_arena.specs.declared.object.Flags.{Flags}
 use Rattle.wjs_arena.specs.AtName.{at_name}
 use Rattle.wjs_arena.specs.Hidden.{hidden, hidden_from}
-use Rattle.wjs_arena.proofs.Owners.{by_bool, owner_apart}
+use Rattle.wjs_arena.proofs.Owners.{owner_apart}
 
 past_it : (i k : ℕ) → (i == k) ≡ false → i ≤ k → i + 1 ≤ k
 past_it i k f l = grind (arith, nat_tests)

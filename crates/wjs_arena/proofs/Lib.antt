@@ -1,4 +1,3 @@
-pub mod Trees
 pub mod Owners
 pub mod Made
 pub mod Walks

@@ -7,11 +7,12 @@ use Rattle.std.specs.Cmp.{eq_by_cmp_equiv, Equal-is}
 use Rattle.wjs_base.specs.declared.ids.ObjId.{ObjId}
 use Rattle.wjs_base.specs.declared.ids.WorldId.{WorldId}
 use Rattle.wjs_base.specs.Order.{obj_cmp, obj_exact, obj_total, world_cmp, world_exact, world_total}
+use Rattle.wjs_base.proofs.Booleans.{by_bool}
 use Rattle.wjs_arena.specs.Entries.{Objects, Entry, has, prototype_of, scope_of, world_of, depth_at, depth_of, next_number, objects_of, entry_over, created, IsThere, IsBelow, IsArena, Keeps}
 use Rattle.wjs_arena.specs.declared.object.Object.{Object}
 use Rattle.wjs_arena.specs.Kept.{WorldObjects, IsKept, with_world, without_world}
-use Rattle.wjs_arena.proofs.Trees.{put_and_taken}
-use Rattle.wjs_arena.proofs.Owners.{by_bool, key_is, key_itself, key_apart}
+use Rattle.wjs_base.proofs.Trees.{put_and_taken}
+use Rattle.wjs_arena.proofs.Owners.{key_is, key_itself, key_apart}
 
 -- what an object names, if there is one
 link : (Object → Option ObjId) → Objects → ObjId → Option ObjId

@@ -1,5 +1,5 @@
 -- The finite map of all objects, by owner and serial.
-use Rattle.std.proofs.Common.{◌≡◌, ℕ, zero, suc, ◌+◌, ◌<◌, ◌==◌, Bool, true, false, not, cond, List, [], ◌∷◌, ◌++◌, length, Option, None, Some, refl, sym, ap, ◌∙◌, subst, arith, slice_get, IsTrue, ◌↔◌, is_some, eqb-true, eq-eqb, ltb, Result, Ok, Err, OnOk, OnErr, is_err, is_ok}
+use Rattle.std.proofs.Common.{◌≡◌, ℕ, zero, suc, ◌+◌, ◌<◌, ◌==◌, Bool, true, false, not, cond, List, [], ◌∷◌, ◌++◌, length, Option, None, Some, refl, sym, ap, ◌∙◌, subst, arith, slice_get, IsTrue, ◌↔◌, is_some, eqb-true, eq-eqb, ltb}
 use Rattle.std.specs.Option.{option_map_or, IsSome}
 use Rattle.std.specs.Ordering.{nat_cmp, eq_by_cmp}
 use Rattle.std.specs.Cmp.{eq_by_cmp_equiv, unsigned_tied, Equal-is}
@@ -9,12 +9,9 @@ use Rattle.std.specs.Map.{lookup}
 use Rattle.std.specs.BTreeMap.{is_at}
 use Rattle.wjs_base.specs.declared.ids.ObjId.{ObjId}
 use Rattle.wjs_base.specs.Order.{obj_cmp, obj_exact, obj_total}
+use Rattle.wjs_base.proofs.Booleans.{by_bool}
 use Rattle.wjs_arena.specs.Entries.{Objects, Entry, has, objects_of, next_number}
 use Rattle.wjs_arena.specs.Rows.{put_from, objects_in}
-
-pub by_bool : {P : Type 0} (b : Bool) → (b ≡ true → P) → (b ≡ false → P) → P
-by_bool true t f = t refl
-by_bool false t f = f refl
 
 -- ---- keys
 
@@ -264,22 +261,6 @@ module _ {V : Type 0} (items : V → List Entry) where
       get_objects ((0, first) ∷ xs) id ∙ ap (λ l. slice_get l id.serial) none ∙ sym (map.get-empty obj_cmp id))
 
 -- ---- answers
-
-pub at_ok : {T E : Type 0} (r : Result T E) (P : Type 0) → is_err r ≡ false → OnOk r P → P
-at_ok (Ok x) P e h = h
-at_ok (Err x) P e h = cc
-
-pub ok_of : {T E : Type 0} (r : Result T E) → is_err r ≡ false → is_ok r ≡ true
-ok_of (Ok x) e = refl
-ok_of (Err x) e = cc
-
-pub on_ok : {T E : Type 0} (r : Result T E) {P Q : Type 0} → (P → Q) → OnOk r P → OnOk r Q
-on_ok (Ok x) f h = f h
-on_ok (Err x) f h = tt
-
-pub on_err : {T E : Type 0} (r : Result T E) {P Q : Type 0} → (P → Q) → OnErr r P → OnErr r Q
-on_err (Ok x) f h = tt
-on_err (Err x) f h = f h
 
 -- ---- tests
 

@@ -27,7 +27,8 @@ pub struct Arena {
 impl Model for Arena {
     ghost use Rattle.std.specs.FinMap as map;
     ghost use Rattle.wjs_arena.specs.Entries.{Objects};
-    ghost use Rattle.wjs_arena.specs.Codes.{coded_object, coded_entry};
+    ghost use Rattle.wjs_base.specs.Codes.{coded_object};
+    ghost use Rattle.wjs_arena.specs.Codes.{coded_entry};
     ghost use Rattle.wjs_arena.specs.Kept.{IsKept};
 
     ghost Value = { Objects };

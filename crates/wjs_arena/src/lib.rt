@@ -21,6 +21,9 @@ pub use chain::Chain;
 pub use class::Class;
 pub use entry::Entry;
 pub use listed::Listed;
-pub use native::Native;
+pub use native::{
+    ArrayNative, BooleanNative, ErrorNative, FunctionNative, GlobalNative, MathNative, Native,
+    NumberNative, ObjectNative, StringNative, WorldNative,
+};
 pub use object::{Code, Flags, Object};
 pub use under::Under;

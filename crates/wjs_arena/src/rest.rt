@@ -56,13 +56,11 @@ fn listed_of(alloc: Global, object: Object) -> Result<Counted, OutOfMemory>
     ensures { IfOk result (λ counted. rare_in counted.count counted.rest ≡ rare_parts object) }
 {
     let _fixed = object.fixed;
-    match Box::new(alloc, object.flags) {
-        Ok(flags) => Ok(Counted {
-            rest: Rest::Listed(flags),
-            count: 0,
-        }),
-        Err(_) => Err(OutOfMemory),
-    }
+    let flags = Box::new(alloc, object.flags)?;
+    Ok(Counted {
+        rest: Rest::Listed(flags),
+        count: 0,
+    })
 }
 
 /// It, where it takes no memory of its own.
@@ -98,13 +96,11 @@ fn rare_of(alloc: Global, object: Object) -> Result<Counted, OutOfMemory>
         fixed: object.fixed,
         flags: object.flags,
     };
-    match Box::new(alloc, rare) {
-        Ok(rare) => Ok(Counted {
-            rest: Rest::Rare(rare),
-            count: 0,
-        }),
-        Err(_) => Err(OutOfMemory),
-    }
+    let rare = Box::new(alloc, rare)?;
+    Ok(Counted {
+        rest: Rest::Rare(rare),
+        count: 0,
+    })
 }
 
 /// Whether an object is no function, no wrapper, stands for no world and has no fixed properties.

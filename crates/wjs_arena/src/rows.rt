@@ -24,7 +24,8 @@ pub struct Rows {
 impl Model for Rows {
     ghost use Rattle.std.specs.FinMap as map;
     ghost use Rattle.wjs_arena.specs.Entries.{Objects};
-    ghost use Rattle.wjs_arena.specs.Codes.{coded_object, coded_entry};
+    ghost use Rattle.wjs_base.specs.Codes.{coded_object};
+    ghost use Rattle.wjs_arena.specs.Codes.{coded_entry};
     ghost use Rattle.wjs_arena.specs.Rows.{objects_in};
     ghost use Rattle.std.specs.Prelude.{◌∷◌};
 
@@ -113,10 +114,8 @@ fn push_last(rows: &mut Vec<Packed>, entry: Packed) -> Result<(), OutOfMemory>
     ensures ok { OnOk result (rows.new.items ≡ rows.old.items ++ entry ∷ []) }
     ensures err { OnErr result (rows.new.items ≡ rows.old.items) }
 {
-    match rows.push(entry) {
-        Ok(()) => Ok(()),
-        Err(_) => Err(OutOfMemory),
-    }
+    rows.push(entry)?;
+    Ok(())
 }
 
 /// Puts the first object of an owner.
@@ -130,11 +129,7 @@ fn push_first(
     ensures err { OnErr result (owners.new.entries ≡ owners.old.entries) }
 {
     let mut rows = Vec::new(alloc);
-    if rows.push(entry).is_err() {
-        return Err(OutOfMemory);
-    }
-    match owners.insert(owner, rows) {
-        Ok(_) => Ok(()),
-        Err(_) => Err(OutOfMemory),
-    }
+    rows.push(entry)?;
+    owners.insert(owner, rows)?;
+    Ok(())
 }

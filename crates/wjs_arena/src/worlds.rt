@@ -17,7 +17,7 @@ impl Model for Worlds {
     ghost use Rattle.std.specs.FinMap as map;
     ghost use Rattle.wjs_base.specs.Order.{world_cmp};
     ghost use Rattle.wjs_base.specs.declared.ids.ObjId.{ObjId};
-    ghost use Rattle.wjs_arena.specs.Codes.{coded_object, coded_world};
+    ghost use Rattle.wjs_base.specs.Codes.{coded_object, coded_world};
 
     ghost Value = { map.FinMap world_cmp ObjId };
 
@@ -45,9 +45,7 @@ impl Worlds {
         ensures ok { OnOk result (self.new ≡ map.insert self.old world object) }
         ensures err { OnErr result (self.new ≡ self.old) }
     {
-        if self.tree.insert(world, object).is_err() {
-            return Err(OutOfMemory);
-        }
+        self.tree.insert(world, object)?;
         Ok(())
     }
 

@@ -1,19 +1,19 @@
 //! Assignments (ECMA-262, 3rd edition, section 11.13).
 ghost use Rattle.std.specs.Prelude.{Some};
 ghost use Rattle.wjs_tree.specs.Operators.{compound};
-ghost use Rattle.wjs_content.specs.Tables.{value_in};
+ghost use Rattle.wjs_by_content.specs.Tables.{value_in};
 ghost use Rattle.wjs_meaning.specs.Deeds.{Eval, AtTarget, AtExpr, then_value, then_reference};
 ghost use Rattle.wjs_meaning.specs.Expressions as line;
 ghost use Rattle.wjs_model.specs.Contents.{reference_in, value_held, reference_held};
 ghost use Rattle.wjs_model.specs.Soundness.{HasValue, HasReference, StandsHere};
-ghost use Rattle.wjs_moves.specs.Handling.{Runs, IsAt, GoesOn};
+ghost use Rattle.wjs_frames.specs.Handling.{Runs, IsAt, GoesOn};
 
 use wjs_base::{OutOfMemory, Value};
-use wjs_deeds::value_of;
-use wjs_lines::{held_reference, held_value, store_and_give};
+use wjs_frames::{Part, enter, finish, hold, nest};
+use wjs_heap_steps::value_of;
 use wjs_model::{Completion, Config, ExprPoint, Frame, Held, Point, Reference, Start};
-use wjs_moves::{Part, enter, finish, hold, nest};
 use wjs_operators::quick;
+use wjs_step_common::{held_reference, held_value, store_and_give};
 use wjs_store::WorldStore;
 use wjs_tree::{AssignOperator, BinaryOperator, Node, NodeId};
 

@@ -1,14 +1,14 @@
 //! Conditions and commas (ECMA-262, 3rd edition, sections 11.12 and 11.14).
-ghost use Rattle.wjs_content.specs.Tables.{value_in};
+ghost use Rattle.wjs_by_content.specs.Tables.{value_in};
 ghost use Rattle.wjs_meaning.specs.Deeds.{Eval, AtExpr, then_value};
 ghost use Rattle.wjs_meaning.specs.Expressions as line;
 ghost use Rattle.wjs_model.specs.Soundness.{HasValue, StandsHere};
-ghost use Rattle.wjs_moves.specs.Handling.{Runs, IsAt, GoesOn};
+ghost use Rattle.wjs_frames.specs.Handling.{Runs, IsAt, GoesOn};
 
 use wjs_base::{OutOfMemory, Value};
-use wjs_lines::to_boolean;
+use wjs_frames::{Part, enter, enter_last};
 use wjs_model::{Config, ExprPoint, Frame, Point};
-use wjs_moves::{Part, enter, enter_last};
+use wjs_step_common::to_boolean;
 use wjs_store::WorldStore;
 use wjs_tree::{Node, NodeId};
 

@@ -1,21 +1,21 @@
 //! `delete` (ECMA-262, 3rd edition, section 11.4.1).
 ghost use Rattle.std.specs.Prelude.{◌≡◌, true};
 ghost use Rattle.wjs_base.specs.Text.{Table, Grows};
-ghost use Rattle.wjs_content.specs.Names.{length_name};
-ghost use Rattle.wjs_content.specs.Tables.{value_in, name_in};
-ghost use Rattle.wjs_content.specs.Values.{same_text};
+ghost use Rattle.wjs_by_content.specs.Names.{length_name};
+ghost use Rattle.wjs_by_content.specs.Tables.{value_in, name_in};
+ghost use Rattle.wjs_by_content.specs.Values.{same_text};
 ghost use Rattle.wjs_meaning.specs.Deeds.{Member};
 ghost use Rattle.wjs_meaning.specs.Expressions as line;
 ghost use Rattle.wjs_meaning.specs.Operators.{give_truth};
 ghost use Rattle.wjs_meaning.specs.Properties as properties;
 ghost use Rattle.wjs_model.specs.Contents.{reference_in};
 ghost use Rattle.wjs_model.specs.Soundness.{HasName, HasObject, HasReference, HasValue};
-ghost use Rattle.wjs_moves.specs.Handling.{Runs, IsRunning, GoesOn};
+ghost use Rattle.wjs_frames.specs.Handling.{Runs, IsRunning, GoesOn};
 
 use wjs_base::{Name, ObjId, OutOfMemory, Value};
-use wjs_deeds::{delete, units_of};
+use wjs_frames::finish;
+use wjs_heap_steps::{delete, units_of};
 use wjs_model::{Completion, Config, Frame, Reference};
-use wjs_moves::finish;
 use wjs_store::WorldStore;
 
 const LENGTH: [u16; 6] = [108, 101, 110, 103, 116, 104];

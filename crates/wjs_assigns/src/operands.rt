@@ -1,14 +1,14 @@
 //! Operands that may be targets (ECMA-262, 3rd edition, sections 8.7 and 11.4).
 ghost use Rattle.wjs_meaning.specs.Deeds.{Eval, AtExpr};
 ghost use Rattle.wjs_model.specs.Soundness.{HasPoint, StandsHere};
-ghost use Rattle.wjs_moves.specs.Parts.{then_at};
+ghost use Rattle.wjs_frames.specs.Parts.{then_at};
 ghost use Rattle.wjs_assigns.specs.Operands.{operand_at};
-ghost use Rattle.wjs_moves.specs.Handling.{Runs, GoesOn};
+ghost use Rattle.wjs_frames.specs.Handling.{Runs, GoesOn};
 
 use wjs_base::OutOfMemory;
+use wjs_frames::{Part, enter};
 use wjs_members::is_target;
 use wjs_model::{Config, ExprPoint, Frame, Point};
-use wjs_moves::{Part, enter};
 use wjs_store::WorldStore;
 use wjs_tree::NodeId;
 

@@ -1,20 +1,20 @@
 //! Operators before an operand (ECMA-262, 3rd edition, section 11.4).
-ghost use Rattle.wjs_content.specs.Tables.{value_in};
-ghost use Rattle.wjs_content.specs.Values.{Undefined};
+ghost use Rattle.wjs_by_content.specs.Tables.{value_in};
+ghost use Rattle.wjs_by_content.specs.Values.{Undefined};
 ghost use Rattle.wjs_meaning.specs.Conversions.{number_of_primitive};
 ghost use Rattle.wjs_meaning.specs.Deeds.{Gives, give, then_number};
 ghost use Rattle.wjs_meaning.specs.Expressions as line;
 ghost use Rattle.wjs_meaning.specs.Operators as operators;
 ghost use Rattle.wjs_model.specs.Soundness.{HasValue, StandsHere};
-ghost use Rattle.wjs_moves.specs.Handling.{Runs, IsRunning, GoesOn};
+ghost use Rattle.wjs_frames.specs.Handling.{Runs, IsRunning, GoesOn};
 
 use crate::operands::{enter_operand, enter_value};
 use crate::updates::update_start;
 use wjs_base::{OutOfMemory, Value, Whole};
-use wjs_lines::{is_object, to_boolean, to_number};
+use wjs_frames::{convert, finish};
 use wjs_model::{Completion, Config, Conversion, ExprPoint, Fix, Frame, Point};
-use wjs_moves::{convert, finish};
 use wjs_num::{bit_not, neg};
+use wjs_step_common::{is_object, to_boolean, to_number};
 use wjs_store::WorldStore;
 use wjs_tree::{NodeId, PrefixOperator, UpdateOperator};
 

@@ -1,20 +1,20 @@
 //! `typeof` (ECMA-262, 3rd edition, section 11.4.3).
 ghost use Rattle.std.specs.Prelude.{◌≡◌, ◌≤◌, length};
 ghost use Rattle.wjs_base.specs.Text.{Table, longest};
-ghost use Rattle.wjs_content.specs.Objects.{Arena};
-ghost use Rattle.wjs_content.specs.Tables.{value_in, name_in};
+ghost use Rattle.wjs_by_content.specs.Objects.{Arena};
+ghost use Rattle.wjs_by_content.specs.Tables.{value_in, name_in};
 ghost use Rattle.wjs_meaning.specs.Expressions as line;
 ghost use Rattle.wjs_meaning.specs.Properties.{get_value};
 ghost use Rattle.wjs_meaning.specs.References as references;
 ghost use Rattle.wjs_model.specs.Contents.{reference_in};
 ghost use Rattle.wjs_model.specs.Outside.{Sees};
 ghost use Rattle.wjs_model.specs.Soundness.{HasName, HasReference, HasValue};
-ghost use Rattle.wjs_moves.specs.Handling.{Runs, IsRunning, GoesOn};
+ghost use Rattle.wjs_frames.specs.Handling.{Runs, IsRunning, GoesOn};
 
 use wjs_base::{Name, OutOfMemory, Value};
-use wjs_deeds::{get_value, intern, is_callable, value_of};
+use wjs_frames::finish;
+use wjs_heap_steps::{get_value, intern, is_callable, value_of};
 use wjs_model::{Completion, Config, Frame, Reference};
-use wjs_moves::finish;
 use wjs_store::WorldStore;
 
 const UNDEFINED: [u16; 9] = [117, 110, 100, 101, 102, 105, 110, 101, 100];

@@ -1,7 +1,7 @@
 //! `++` and `--` (ECMA-262, 3rd edition, sections 11.3, 11.4.4 and 11.4.5).
 ghost use Rattle.std.specs.Prelude.{◌≡◌, Some, pos};
 ghost use Rattle.wjs_num.specs.Exact.{answer};
-ghost use Rattle.wjs_content.specs.Tables.{value_in};
+ghost use Rattle.wjs_by_content.specs.Tables.{value_in};
 ghost use Rattle.wjs_meaning.specs.Conversions as conversions;
 ghost use Rattle.wjs_meaning.specs.Deeds.{Gives, Sub, then_number};
 ghost use Rattle.wjs_meaning.specs.Errors as errors;
@@ -9,16 +9,16 @@ ghost use Rattle.wjs_meaning.specs.Expressions as line;
 ghost use Rattle.wjs_model.specs.Contents.{reference_in, reference_held};
 ghost use Rattle.wjs_model.specs.Soundness.{HasValue, HasReference, StandsHere};
 ghost use Rattle.wjs_model.specs.Waiting.{fix_in};
-ghost use Rattle.wjs_moves.specs.Handling.{Runs, GoesOn};
+ghost use Rattle.wjs_frames.specs.Handling.{Runs, GoesOn};
 
 use wjs_base::{OutOfMemory, Value, Whole};
-use wjs_deeds::value_of;
-use wjs_lines::{held_reference, is_object, store_and_give, throw, to_number};
+use wjs_frames::{Part, convert, enter, finish, hold};
+use wjs_heap_steps::value_of;
 use wjs_model::{
     Completion, Config, Conversion, ExprPoint, Fix, Frame, Held, Point, Reference, Trouble,
 };
-use wjs_moves::{Part, convert, enter, finish, hold};
 use wjs_num::{NumFault, add, sub};
+use wjs_step_common::{held_reference, is_object, store_and_give, throw, to_number};
 use wjs_store::WorldStore;
 use wjs_tree::{NodeId, UpdateOperator};
 

@@ -1,5 +1,5 @@
 -- Names that ascend, and the parts that spell them.
-use Rattle.std.proofs.Common.{◌≡◌, ℕ, zero, suc, ◌+◌, Bool, true, false, ◌&&◌, T, List, [], ◌∷◌, ◌++◌, map as each, length, slice_get, Some, refl, ap, sym, subst, ◌∙◌, append_assoc, arith, All, Ordering}
+use Rattle.std.proofs.Common.{◌≡◌, ℕ, zero, suc, ◌+◌, true, ◌&&◌, T, List, [], ◌∷◌, ◌++◌, map as each, length, slice_get, Some, refl, ap, sym, subst, ◌∙◌, append_assoc, arith, All, Ordering}
 use Rattle.std.specs.declared.cmp.Ordering.TheVariants.{Less, Equal, Greater}
 use Rattle.std.specs.Ordering.{is_lt}
 use Rattle.std.specs.FinMap as map
@@ -9,22 +9,11 @@ use Rattle.std.proofs.lemmas.List.Elements.{All-head, All-tail}
 use Rattle.wjs_base.specs.declared.ids.TextId.{TextId}
 use Rattle.wjs_base.specs.declared.values.Name.{Name}
 use Rattle.wjs_base.specs.Order.{name_cmp, name_total}
+use Rattle.wjs_base.proofs.Booleans.{left_true, right_true, both_true}
 use Rattle.wjs_store.specs.Ascends.{tagged, Ascends}
 use Rattle.wjs_audit.specs.Spelling.{name_text}
 use Rattle.wjs_audit.specs.Logs.{FitsName, KnowsName}
 use Rattle.wjs_audit.proofs.Spellings.{name_one, head_is, tail_is}
-
-both : (a b : Bool) → T a → T b → T (a && b)
-both true b p q = q
-both false b p q = p
-
-left : (a b : Bool) → T (a && b) → T a
-left true b h = tt
-left false b h = h
-
-right : (a b : Bool) → T (a && b) → T b
-right true b h = h
-right false b h = absurd h
 
 less_is : (o : Ordering) → T (is_lt o) → o ≡ Less
 less_is Less h = refl
@@ -37,31 +26,31 @@ is_less o e = subst (λ (x : Ordering). T (is_lt x)) (sym e) tt
 -- ---- one name more
 
 below_more : (x : Name) (ys : List Name) (y : Name) → T (below_all name_cmp x (tagged ys)) → T (is_lt (name_cmp x y)) → T (below_all name_cmp x (tagged (ys ++ y ∷ [])))
-below_more x [] y h l = both (is_lt (name_cmp x y)) true l tt
+below_more x [] y h l = both_true (is_lt (name_cmp x y)) true l tt
 below_more x (z ∷ ys) y h l =
-    both (is_lt (name_cmp x z)) (below_all name_cmp x (tagged (ys ++ y ∷ []))) (left (is_lt (name_cmp x z)) (below_all name_cmp x (tagged ys)) h) (below_more x ys y (right (is_lt (name_cmp x z)) (below_all name_cmp x (tagged ys)) h) l)
+    both_true (is_lt (name_cmp x z)) (below_all name_cmp x (tagged (ys ++ y ∷ []))) (left_true (is_lt (name_cmp x z)) (below_all name_cmp x (tagged ys)) h) (below_more x ys y (right_true (is_lt (name_cmp x z)) (below_all name_cmp x (tagged ys)) h) l)
 
 below_last : (x : Name) (ys : List Name) (y : Name) (more : List Name) → T (below_all name_cmp x (tagged (ys ++ y ∷ more))) → T (is_lt (name_cmp x y))
-below_last x [] y more h = left (is_lt (name_cmp x y)) (below_all name_cmp x (tagged more)) h
-below_last x (z ∷ ys) y more h = below_last x ys y more (right (is_lt (name_cmp x z)) (below_all name_cmp x (tagged (ys ++ y ∷ more))) h)
+below_last x [] y more h = left_true (is_lt (name_cmp x y)) (below_all name_cmp x (tagged more)) h
+below_last x (z ∷ ys) y more h = below_last x ys y more (right_true (is_lt (name_cmp x z)) (below_all name_cmp x (tagged (ys ++ y ∷ more))) h)
 
 below_front : (x : Name) (ys more : List Name) → T (below_all name_cmp x (tagged (ys ++ more))) → T (below_all name_cmp x (tagged ys))
 below_front x [] more h = tt
 below_front x (z ∷ ys) more h =
-    both (is_lt (name_cmp x z)) (below_all name_cmp x (tagged ys)) (left (is_lt (name_cmp x z)) (below_all name_cmp x (tagged (ys ++ more))) h) (below_front x ys more (right (is_lt (name_cmp x z)) (below_all name_cmp x (tagged (ys ++ more))) h))
+    both_true (is_lt (name_cmp x z)) (below_all name_cmp x (tagged ys)) (left_true (is_lt (name_cmp x z)) (below_all name_cmp x (tagged (ys ++ more))) h) (below_front x ys more (right_true (is_lt (name_cmp x z)) (below_all name_cmp x (tagged (ys ++ more))) h))
 
 -- a name that follows the last one follows all
 ascends_from : (x : Name) (xs : List Name) (last y : Name) → Ascends name_cmp (x ∷ xs) → slice_get (x ∷ xs) (length xs) ≡ Some last → name_cmp last y ≡ Less → Ascends name_cmp ((x ∷ xs) ++ y ∷ []) × (name_cmp x y ≡ Less)
 ascends_from x [] last y h at l =
     let same : x ≡ last = cc in
     let less : name_cmp x y ≡ Less = ap (λ (z : Name). name_cmp z y) same ∙ l in
-    (both (is_lt (name_cmp x y) && true) (true && true) (both (is_lt (name_cmp x y)) true (is_less (name_cmp x y) less) tt) tt, less)
+    (both_true (is_lt (name_cmp x y) && true) (true && true) (both_true (is_lt (name_cmp x y)) true (is_less (name_cmp x y) less) tt) tt, less)
 ascends_from x (z ∷ xs) last y h at l =
-    let below = left (below_all name_cmp x (tagged (z ∷ xs))) (map.is_sorted name_cmp (tagged (z ∷ xs))) h in
-    let later = ascends_from z xs last y (right (below_all name_cmp x (tagged (z ∷ xs))) (map.is_sorted name_cmp (tagged (z ∷ xs))) h) at l in
-    let first = less_is (name_cmp x z) (left (is_lt (name_cmp x z)) (below_all name_cmp x (tagged xs)) below) in
+    let below = left_true (below_all name_cmp x (tagged (z ∷ xs))) (map.is_sorted name_cmp (tagged (z ∷ xs))) h in
+    let later = ascends_from z xs last y (right_true (below_all name_cmp x (tagged (z ∷ xs))) (map.is_sorted name_cmp (tagged (z ∷ xs))) h) at l in
+    let first = less_is (name_cmp x z) (left_true (is_lt (name_cmp x z)) (below_all name_cmp x (tagged xs)) below) in
     let less = name_total.trans x z y first later.1 in
-    (both (below_all name_cmp x (tagged ((z ∷ xs) ++ y ∷ []))) (map.is_sorted name_cmp (tagged ((z ∷ xs) ++ y ∷ []))) (below_more x (z ∷ xs) y below (is_less (name_cmp x y) less)) later.0, less)
+    (both_true (below_all name_cmp x (tagged ((z ∷ xs) ++ y ∷ []))) (map.is_sorted name_cmp (tagged ((z ∷ xs) ++ y ∷ []))) (below_more x (z ∷ xs) y below (is_less (name_cmp x y) less)) later.0, less)
 
 pub ascends_more : (names : List Name) (i : ℕ) (last y : Name) → Ascends name_cmp names → i + 1 ≡ length names → slice_get names i ≡ Some last → name_cmp last y ≡ Less → Ascends name_cmp (names ++ y ∷ [])
 ascends_more [] i last y h e at l = absurd (omega arith)
@@ -73,8 +62,8 @@ ascends_at : (xs : List Name) (i : ℕ) (z y : Name) (more : List Name) → Asce
 ascends_at [] i z y more h at = cc
 ascends_at (x ∷ xs) zero z y more h at =
     let same : x ≡ z = cc in
-    ap (λ (w : Name). name_cmp w y) (sym same) ∙ less_is (name_cmp x y) (below_last x xs y more (left (below_all name_cmp x (tagged (xs ++ y ∷ more))) (map.is_sorted name_cmp (tagged (xs ++ y ∷ more))) h))
-ascends_at (x ∷ xs) (suc i) z y more h at = ascends_at xs i z y more (right (below_all name_cmp x (tagged (xs ++ y ∷ more))) (map.is_sorted name_cmp (tagged (xs ++ y ∷ more))) h) at
+    ap (λ (w : Name). name_cmp w y) (sym same) ∙ less_is (name_cmp x y) (below_last x xs y more (left_true (below_all name_cmp x (tagged (xs ++ y ∷ more))) (map.is_sorted name_cmp (tagged (xs ++ y ∷ more))) h))
+ascends_at (x ∷ xs) (suc i) z y more h at = ascends_at xs i z y more (right_true (below_all name_cmp x (tagged (xs ++ y ∷ more))) (map.is_sorted name_cmp (tagged (xs ++ y ∷ more))) h) at
 
 -- and one that does not follows none
 pub ascends_last : (names : List Name) (i : ℕ) (last y : Name) → slice_get names i ≡ Some last → Ascends name_cmp (names ++ y ∷ []) → name_cmp last y ≡ Less
@@ -84,8 +73,8 @@ ascends_last names i last y at h = ascends_at names i last y [] h at
 pub ascends_front : (xs more : List Name) → Ascends name_cmp (xs ++ more) → Ascends name_cmp xs
 ascends_front [] more h = tt
 ascends_front (x ∷ xs) more h =
-    both (below_all name_cmp x (tagged xs)) (map.is_sorted name_cmp (tagged xs)) (below_front x xs more (left (below_all name_cmp x (tagged (xs ++ more))) (map.is_sorted name_cmp (tagged (xs ++ more))) h))
-    (ascends_front xs more (right (below_all name_cmp x (tagged (xs ++ more))) (map.is_sorted name_cmp (tagged (xs ++ more))) h))
+    both_true (below_all name_cmp x (tagged xs)) (map.is_sorted name_cmp (tagged xs)) (below_front x xs more (left_true (below_all name_cmp x (tagged (xs ++ more))) (map.is_sorted name_cmp (tagged (xs ++ more))) h))
+    (ascends_front xs more (right_true (below_all name_cmp x (tagged (xs ++ more))) (map.is_sorted name_cmp (tagged (xs ++ more))) h))
 
 -- ---- names and their parts
 

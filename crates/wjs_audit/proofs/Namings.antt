@@ -7,7 +7,7 @@ use Rattle.wjs_audit.specs.declared.known.KnownTexts.{KnownTexts}
 use Rattle.wjs_audit.specs.Spelling.{Line, text, done}
 use Rattle.wjs_audit.specs.Logs.{Known, is_named, MayFollow, with_line}
 use Rattle.wjs_audit.specs.Reading.{Numbered, Holds, LineMay, Below}
-use Rattle.wjs_audit.proofs.Tabled.{deed_more}
+use Rattle.wjs_audit.proofs.Tabled.{named_more, deed_more}
 
 -- ---- what is known and what is named
 
@@ -34,18 +34,6 @@ module _ (s : KnownTexts) (known : Known) (h : Holds s known) where
   pub may_stand : (l : Line) → MayFollow known l → LineMay s l
   may_stand (text n units) m = (m.fits, m.is_text, sym (h.0 n) ∙ m.new_number, λ id there. m.new_text id (subst (λ (ts : Table). Denotes ts id units) h.1 there))
   may_stand (done d) m = (m.fits, deed_more (λ id. IsTrue (is_named known id.0)) (Numbered s) numbered_in d m.knows, m.in_order)
-
-named_more : (known : Known) (n : ℕ) (units : Units) (m : ℕ) → is_named (known ++ (n, units) ∷ []) m ≡ (is_named known m || n == m)
-named_more [] n units m = by (n == m)
-  where
-    by : (t : Bool) → (t || false) ≡ (false || t)
-    by true = refl
-    by false = refl
-named_more (e ∷ known) n units m = ap (λ t. e.0 == m || t) (named_more known n units m) ∙ by (e.0 == m) (is_named known m) (n == m)
-  where
-    by : (p q r : Bool) → (p || (q || r)) ≡ ((p || q) || r)
-    by true q r = refl
-    by false q r = refl
 
 -- below a line
 pub holds_below : (old : KnownTexts) (known : Known) (l : Line) (new : KnownTexts) → Holds old known → Below old l new → Holds new (with_line known l)

@@ -8,6 +8,7 @@ use Rattle.std.proofs.lemmas.Option.{slice_get_within, get_or_from_slice_get}
 use Rattle.wjs_base.specs.declared.ids.TextId.{TextId}
 use Rattle.wjs_base.specs.declared.values.Name.{Name}
 use Rattle.wjs_base.specs.Text.{Units, Table}
+use Rattle.wjs_base.proofs.Lists.{take_next}
 use Rattle.wjs_audit.specs.declared.deed.Deed.{Deed}
 use Rattle.wjs_audit.specs.declared.deed.Entry.{Entry}
 use Rattle.wjs_audit.specs.Spelling.{Line, done, name_text, unit_text, hex, spaced, line_text, log_text}
@@ -23,10 +24,6 @@ one_part before after part e = e ∙ ap (λ l. before ++ l) (sym (append-nil (32
 
 pub more_parts : (before mid after : List ℕ) (ps qs : List (List ℕ)) → mid ≡ before ++ spaced ps → after ≡ mid ++ spaced qs → after ≡ before ++ spaced (ps ++ qs)
 more_parts before mid after ps qs e f = two before mid after (spaced ps) (spaced qs) e f ∙ ap (λ l. before ++ l) (sym (flat_map-append (λ part. 32 ∷ part) ps qs))
-
--- one element more
-pub take_next : {X : Type 0} (xs : List X) (i : ℕ) (x : X) → slice_get xs i ≡ Some x → take (i + 1) xs ≡ take i xs ++ x ∷ []
-take_next xs i x e = take_more xs i x (slice_get_within xs i x e) ∙ ap (λ y. take i xs ++ y ∷ []) (get_or_from_slice_get xs i x x e)
 
 pub All-next : {X : Type 0} (P : X → Type 0) (xs : List X) (i : ℕ) (x : X) → slice_get xs i ≡ Some x → All P (take i xs) → P x → All P (take (i + 1) xs)
 All-next P xs i x e h p = All-more P xs i x (slice_get_within xs i x e) h (subst P (sym (get_or_from_slice_get xs i x x e)) p)

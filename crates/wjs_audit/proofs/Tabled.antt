@@ -7,6 +7,7 @@ use Rattle.std.proofs.lemmas.List.{length-replicate, get_or-replicate, get_or_pa
 use Rattle.std.proofs.lemmas.List.Elements.{All-nil, All-cons, All-append, All-head, All-tail, All-push}
 use Rattle.std.proofs.lemmas.List.Folds.{list_any_at}
 use Rattle.std.proofs.lemmas.Option.{slice_get_within, get_or_from_slice_get, slice_get-map}
+use Rattle.std.proofs.Math.Bool.{or-false, or-true}
 use Rattle.wjs_base.specs.declared.ids.TextId.{TextId}
 use Rattle.wjs_base.specs.declared.values.Name.{Name}
 use Rattle.wjs_base.specs.declared.values.Name.TheVariants.{Index, Text as Named}
@@ -26,6 +27,18 @@ use Rattle.wjs_audit.specs.Deeds.{InOrder, AreInOrder, deeds_of}
 use Rattle.wjs_audit.specs.Spelling.{Line, text, done, log_text}
 use Rattle.wjs_audit.specs.Logs.{FitsDeed, KnowsName, KnowsValue, KnowsContent, KnowsVerdict, KnowsDeed, KnowsLog, Known, is_named, TextMayFollow, with_line, known_after, IsLogFrom, entries_from, IsNamedBy, Spells}
 use Rattle.wjs_audit.specs.Tables.{name_ids, value_ids, content_ids, verdict_ids, deed_ids, text_line, lines_for, marks_after, lines_from, no_marks, needed_lines, NamesText, AreNeeded}
+
+pub named_more : (known : Known) (n : ℕ) (units : Units) (m : ℕ) → is_named (known ++ (n, units) ∷ []) m ≡ (is_named known m || n == m)
+named_more [] n units m = by (n == m)
+  where
+    by : (t : Bool) → (t || false) ≡ (false || t)
+    by true = refl
+    by false = refl
+named_more (e ∷ known) n units m = ap (λ t. e.0 == m || t) (named_more known n units m) ∙ by (e.0 == m) (is_named known m) (n == m)
+  where
+    by : (p q r : Bool) → (p || (q || r)) ≡ ((p || q) || r)
+    by true q r = refl
+    by false q r = refl
 
 -- ---- lines one after another
 
@@ -216,30 +229,10 @@ module _ (texts : Table) (table : IsTable texts) (few : length texts < 2 ^ 64) w
         true≢false (sym (named_by_text known marks id units i.0 (slice_get known i.0) h at refl (sym (slice_get-map (λ (e : ℕ × Units). e.1) known i.0) ∙ there)) ∙ h.names id.0 ∙ free);
   }
 
-  any_more : (known : Known) (n : ℕ) (units : Units) (m : ℕ) → is_named (known ++ (n, units) ∷ []) m ≡ (is_named known m || n == m)
-  any_more [] n units m = by (n == m)
-    where
-      by : (b : Bool) → (b || false) ≡ (false || b)
-      by true = refl
-      by false = refl
-  any_more (e ∷ known) n units m = ap (λ b. e.0 == m || b) (any_more known n units m) ∙ by (e.0 == m) (is_named known m) (n == m)
-    where
-      by : (p q r : Bool) → (p || (q || r)) ≡ ((p || q) || r)
-      by true q r = refl
-      by false q r = refl
-
-  or_true : (b : Bool) → (b || true) ≡ true
-  or_true true = refl
-  or_true false = refl
-
-  or_false : (b : Bool) → (b || false) ≡ b
-  or_false true = refl
-  or_false false = refl
-
   set_names : (known : Known) (marks : List Bool) (id : TextId) (units : Units) (n : ℕ) → Stands known marks → id.0 < length marks → is_named (known ++ (id.0, units) ∷ []) n ≡ get_or (set marks id.0 true) n false
-  set_names known marks id units n h within = any_more known id.0 units n ∙ elim (cases_eq n id.0) [
-    | inl e ↦ ap (λ b. is_named known n || b) (eq-eqb id.0 n (sym e)) ∙ or_true (is_named known n) ∙ sym (ap (λ k. get_or (set marks k true) n false) (sym e) ∙ get_or-set_same marks n true false (let w = within in omega (arith, e, w)))
-    | inr ne ↦ ap (λ b. is_named known n || b) (ne_eqb id.0 n (λ e. ne (sym e))) ∙ or_false (is_named known n) ∙ h.names n ∙ sym (get_or-set_other marks id.0 n true false ne)
+  set_names known marks id units n h within = named_more known id.0 units n ∙ elim (cases_eq n id.0) [
+    | inl e ↦ ap (λ b. is_named known n || b) (eq-eqb id.0 n (sym e)) ∙ or-true (is_named known n) ∙ sym (ap (λ k. get_or (set marks k true) n false) (sym e) ∙ get_or-set_same marks n true false (let w = within in omega (arith, e, w)))
+    | inr ne ↦ ap (λ b. is_named known n || b) (ne_eqb id.0 n (λ e. ne (sym e))) ∙ or-false (is_named known n) ∙ h.names n ∙ sym (get_or-set_other marks id.0 n true false ne)
   ]
 
   stands_more : (known : Known) (marks : List Bool) (id : TextId) (units : Units) → Stands known marks → Denotes texts id units → Has texts id → Stands (known ++ (id.0, units) ∷ []) (set marks id.0 true)
@@ -355,7 +348,7 @@ module _ (texts : Table) (table : IsTable texts) (few : length texts < 2 ^ 64) w
   in_all ids = from [] ids
     where
       more : (x : TextId) (ids : List TextId) (id : TextId) → IsTrue (list_any (λ (i : TextId). i.0 == id.0) ids) → IsTrue (list_any (λ (i : TextId). i.0 == id.0) (x ∷ ids))
-      more x ids id h = ap (λ b. x.0 == id.0 || b) h ∙ or_true (x.0 == id.0)
+      more x ids id h = ap (λ b. x.0 == id.0 || b) h ∙ or-true (x.0 == id.0)
 
       behind : (front : List TextId) (x : TextId) (ids : List TextId) → IsTrue (list_any (λ (i : TextId). i.0 == x.0) (front ++ x ∷ ids))
       behind [] x ids = ap (λ b. b || list_any (λ (i : TextId). i.0 == x.0) ids) (eq-eqb x.0 x.0 refl)

@@ -20,7 +20,8 @@ fn judge<S: WorldStore>(store: &mut S, entry: &Entry) -> Result<(), AuditFault>
     requires { IsTrue (not (S.meaning store.old).spent) }
     ensures right { OnOk result (Runs (S.meaning store.old) (action_of entry.now.deed ∷ []) (answer_of_deed entry.now.deed ∷ []) (S.meaning store.new)) }
     ensures line { (n : ℕ) → IsErrOf result (AuditFault.NotTheAnswer n) → n ≡ entry.now.line }
-    ensures wrong { (n : ℕ) → IsErrOf result (AuditFault.NotTheAnswer n) → ¬ (answer_in (worlds (S.meaning store.old)) (action_of entry.now.deed) ≡ answer_of_deed entry.now.deed) }
+    ensures wrong { (n : ℕ) → IsErrOf result (AuditFault.NotTheAnswer n)
+        → ¬ (answer_in (worlds (S.meaning store.old)) (action_of entry.now.deed) ≡ answer_of_deed entry.now.deed) }
     ensures never { (n : ℕ) → ¬ (IsErrOf result (AuditFault.NotALog n)) }
 {
     match act(store, entry.deed.action()) {

@@ -34,7 +34,8 @@ pub(crate) fn cut_at(bytes: &[u8], byte: u8) -> Option<(&[u8], &[u8])>
 
 /// The first part of a line, and what follows it.
 pub(crate) fn first_part(line: &[u8]) -> (&[u8], &[u8])
-    ensures parts { (part : List ℕ) (parts : List (List ℕ)) → Lacks 32 part → line.now ≡ part ++ spaced parts → (result.0.now ≡ part) × (result.1.now ≡ spaced parts) }
+    ensures parts { (part : List ℕ) (parts : List (List ℕ)) → Lacks 32 part
+        → line.now ≡ part ++ spaced parts → (result.0.now ≡ part) × (result.1.now ≡ spaced parts) }
     ensures shorter { length result.1.now ≤ length line.now }
 {
     line.split_at(place_of(line, SPACE))
@@ -42,7 +43,8 @@ pub(crate) fn first_part(line: &[u8]) -> (&[u8], &[u8])
 
 /// The next of the parts that follow, each with a space in front, and what follows it; None where there is none.
 pub(crate) fn next_part(tail: &[u8]) -> Option<(&[u8], &[u8])>
-    ensures parts { (parts : List (List ℕ)) → AreParts parts → tail.now ≡ spaced parts → MatchOption result (length parts ≡ 0) (λ p. (more : List (List ℕ)) × AreParts more × (parts ≡ p.0.now ∷ more) × (p.1.now ≡ spaced more)) }
+    ensures parts { (parts : List (List ℕ)) → AreParts parts → tail.now ≡ spaced parts → MatchOption result (length parts ≡ 0)
+        (λ p. (more : List (List ℕ)) × AreParts more × (parts ≡ p.0.now ∷ more) × (p.1.now ≡ spaced more)) }
     ensures shorter { IfSome result (λ p. length p.1.now < length tail.now) }
 {
     if tail.is_empty() {
@@ -53,7 +55,8 @@ pub(crate) fn next_part(tail: &[u8]) -> Option<(&[u8], &[u8])>
 
 /// The next two.
 pub(crate) fn next_two(tail: &[u8]) -> Option<(&[u8], &[u8], &[u8])>
-    ensures { (parts : List (List ℕ)) → AreParts parts → tail.now ≡ spaced parts → MatchOption result (length parts < 2) (λ p. (more : List (List ℕ)) × AreParts more × (parts ≡ p.0.now ∷ p.1.now ∷ more) × (p.2.now ≡ spaced more)) }
+    ensures { (parts : List (List ℕ)) → AreParts parts → tail.now ≡ spaced parts → MatchOption result (length parts < 2)
+        (λ p. (more : List (List ℕ)) × AreParts more × (parts ≡ p.0.now ∷ p.1.now ∷ more) × (p.2.now ≡ spaced more)) }
 {
     let (first, rest) = next_part(tail)?;
     let (second, rest) = next_part(rest)?;

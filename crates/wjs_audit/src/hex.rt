@@ -32,7 +32,8 @@ fn unit_of(first: u8, second: u8, third: u8, fourth: u8) -> Option<u16>
 
 /// Reads code units, which take the place of those that are there. Whether the part spells some.
 pub(crate) fn units_of(part: &[u8], units: &mut Vec<u16>) -> Result<bool, OutOfMemory>
-    ensures { IfOk result (λ spells. MatchBool spells (AreUnits units.new.items × (part.now ≡ hex units.new.items)) ((all : Units) → AreUnits all → ¬ (part.now ≡ hex all))) }
+    ensures { IfOk result (λ spells. MatchBool spells (AreUnits units.new.items × (part.now ≡ hex units.new.items))
+        ((all : Units) → AreUnits all → ¬ (part.now ≡ hex all))) }
 {
     units.clear();
     if part.len() % 4 != 0 {
@@ -43,10 +44,7 @@ pub(crate) fn units_of(part: &[u8], units: &mut Vec<u16>) -> Result<bool, OutOfM
         let Some(unit) = unit_of(part[at], part[at + 1], part[at + 2], part[at + 3]) else {
             return Ok(false);
         };
-        match units.push(unit) {
-            Ok(()) => {}
-            Err(_) => return Err(OutOfMemory),
-        }
+        units.push(unit)?;
     }
     Ok(true)
 }

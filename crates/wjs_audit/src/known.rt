@@ -46,16 +46,15 @@ impl KnownTexts {
             self.below = number + 1;
             return Ok(());
         }
-        match self.others.insert(number) {
-            Ok(_) => Ok(()),
-            Err(_) => Err(OutOfMemory),
-        }
+        self.others.insert(number)?;
+        Ok(())
     }
 
     /// Names a text by a number, where both are new and the text is none that is too long. Whether that is so: after false the
     /// texts are of no more use.
     pub(crate) fn add(&mut self, number: u64, units: &[u16]) -> Result<bool, OutOfMemory>
-        ensures { IfOk result (λ adds. MatchBool adds (TextMay self.old number units.now × Named self.old number units.now self.new) (¬ (TextMay self.old number units.now))) }
+        ensures { IfOk result (λ adds. MatchBool adds (TextMay self.old number units.now × Named self.old number units.now self.new)
+            (¬ (TextMay self.old number units.now))) }
     {
         if self.has(number) {
             return Ok(false);

@@ -142,7 +142,8 @@ fn sprout_of(tail: &[u8], known: &KnownTexts) -> Option<Deed>
 
 /// The verdict of a commit that was refused: the slot that differs.
 fn difference_of(tail: &[u8], known: &KnownTexts) -> Option<Verdict>
-    ensures { (parts : List (List ℕ)) → AreParts parts → tail.now ≡ spaced parts → IsReadAs verdict_parts (VerdictMay known.now) (codes "differs" ∷ parts) result }
+    ensures { (parts : List (List ℕ)) → AreParts parts → tail.now ≡ spaced parts
+        → IsReadAs verdict_parts (VerdictMay known.now) (codes "differs" ∷ parts) result }
 {
     let (object, name, rest) = next_two(tail)?;
     if !rest.is_empty() {

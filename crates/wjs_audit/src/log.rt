@@ -52,9 +52,7 @@ impl Log {
         ensures ok { OnOk result (self.new ≡ self.old ++ record { deed = deed; line = line } ∷ []) }
         ensures err { OnErr result (self.new ≡ self.old) }
     {
-        match self.entries.push(Entry { deed, line }) {
-            Ok(()) => Ok(()),
-            Err(_) => Err(OutOfMemory),
-        }
+        self.entries.push(Entry { deed, line })?;
+        Ok(())
     }
 }

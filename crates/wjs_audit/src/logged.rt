@@ -71,7 +71,8 @@ impl<S: WorldStore + Drop> Logged<S> {
     pub fn entries(&self) -> &Log
         ensures log { result.now ≡ self.now.log }
         ensures right { self.now.spent ≡ false → AreRight result.now }
-        ensures worlds { self.now.spent ≡ false → (v : View) → IsTrue ((S.meaning self.now.inner).admits v) → (S.meaning self.now.inner).full v ≡ after_all fresh (actions_of result.now) }
+        ensures worlds { self.now.spent ≡ false → (v : View) → IsTrue ((S.meaning self.now.inner).admits v)
+            → (S.meaning self.now.inner).full v ≡ after_all fresh (actions_of result.now) }
         ensures unnumbered { self.now.spent ≡ false → AreUnnumbered result.now }
     {
         &self.log

@@ -19,10 +19,7 @@ pub(crate) fn unmarked(alloc: Global, texts: &Texts) -> Result<Vec<bool>, OutOfM
     ensures few { length texts.now < 2 ^ 64 }
 {
     let count = texts.len();
-    match vec![in alloc; false; count] {
-        Ok(marks) => Ok(marks),
-        Err(_) => Err(OutOfMemory),
-    }
+    Ok(vec![in alloc; false; count]?)
 }
 
 /// Puts the line of a text of the table behind a text, where it doesn't stand there yet.
@@ -116,7 +113,8 @@ fn push_row_texts(
     requires name { KnowsName (Has texts.now) slot.name }
     requires content { KnowsContent (Has texts.now) content }
     requires long { length marks.old.items ≡ length texts.now }
-    ensures { OnOk result (Puts texts.now (name_ids slot.name ++ content_ids content) (string_bytes out.old) (string_bytes out.new) marks.old.items marks.new.items) }
+    ensures { OnOk result (Puts texts.now (name_ids slot.name ++ content_ids content)
+        (string_bytes out.old) (string_bytes out.new) marks.old.items marks.new.items) }
 {
     push_name_text(out, marks, texts, slot.name)?;
     push_content_text(out, marks, texts, content)?;

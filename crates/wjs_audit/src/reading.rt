@@ -42,7 +42,8 @@ impl Reading {
 
     /// Takes in a line, without what ends it. Whether it may stand there.
     fn add_line(&mut self, alloc: Global, line: &[u8], number: u64) -> Result<bool, OutOfMemory>
-        ensures { IfOk result (λ adds. MatchBool adds ((l : Line) × (line.now ≡ joined (line_parts l)) × Takes self.old number l self.new) ((l : Line) → LineMay self.old.known l → ¬ (line.now ≡ joined (line_parts l)))) }
+        ensures { IfOk result (λ adds. MatchBool adds ((l : Line) × (line.now ≡ joined (line_parts l)) × Takes self.old number l self.new)
+            ((l : Line) → LineMay self.old.known l → ¬ (line.now ≡ joined (line_parts l)))) }
     {
         let (word, tail) = first_part(line);
         if is_word(word, b"text") {
@@ -62,7 +63,8 @@ impl Reading {
         rest: &'a [u8],
         number: u64,
     ) -> Result<Option<&'a [u8]>, OutOfMemory>
-        ensures { IfOk result (λ found. MatchOption found ((l : Line) (behind : List ℕ) → LineMay self.old.known l → ¬ (rest.now ≡ line_text l ++ behind)) (λ behind. (l : Line) × (rest.now ≡ line_text l ++ behind.now) × Takes self.old number l self.new)) }
+        ensures { IfOk result (λ found. MatchOption found ((l : Line) (behind : List ℕ) → LineMay self.old.known l → ¬ (rest.now ≡ line_text l ++ behind))
+            (λ behind. (l : Line) × (rest.now ≡ line_text l ++ behind.now) × Takes self.old number l self.new)) }
     {
         let Some((line, behind)) = cut_at(rest, LINE_FEED) else {
             return Ok(None);

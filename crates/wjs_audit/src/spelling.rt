@@ -2,7 +2,8 @@
 ghost use Rattle.std.specs.Prelude.{◌≡◌, ◌<◌, ◌^◌, ◌++◌, ◌∷◌, [], length, OnOk, IfOk, All, map as each, decimal};
 ghost use Rattle.std.specs.String.{string_bytes};
 ghost use Rattle.wjs_base.specs.Text.{Has};
-ghost use Rattle.wjs_audit.specs.Spelling.{pair_text, world_text, object_text, name_text, number_text, value_text, content_text, kind_text, verdict_parts, unit_text, hex, hex_parts, spaced, joined, deed_parts, line_text, log_text, text, done};
+ghost use Rattle.wjs_audit.specs.Spelling.{pair_text, world_text, object_text, name_text, number_text, value_text, content_text, kind_text};
+ghost use Rattle.wjs_audit.specs.Spelling.{verdict_parts, unit_text, hex, hex_parts, spaced, joined, deed_parts, line_text, log_text, text, done};
 ghost use Rattle.wjs_audit.specs.Logs.{FitsPair, FitsWorld, FitsObject, FitsName, FitsValue, FitsContent, FitsVerdict, FitsDeed, KnowsDeed, KnowsLog, Spells};
 ghost use Rattle.wjs_audit.specs.Tables.{needed_lines, PutsDeed};
 
@@ -18,9 +19,7 @@ use wjs_store::Verdict;
 fn push_word(out: &mut String, word: &str) -> Result<(), OutOfMemory>
     ensures { OnOk result (string_bytes out.new ≡ string_bytes out.old ++ word.now) }
 {
-    if out.push_str(word).is_err() {
-        return Err(OutOfMemory);
-    }
+    out.push_str(word)?;
     Ok(())
 }
 
@@ -116,7 +115,8 @@ fn push_row(
     slot: Slot,
     content: Content,
 ) -> Result<(), OutOfMemory>
-    ensures text { OnOk result (string_bytes out.new ≡ string_bytes out.old ++ spaced (world_text world ∷ object_text slot.object ∷ name_text slot.name ∷ content_text content ∷ [])) }
+    ensures text { OnOk result (string_bytes out.new ≡ string_bytes out.old ++ spaced
+        (world_text world ∷ object_text slot.object ∷ name_text slot.name ∷ content_text content ∷ [])) }
     ensures fits { OnOk result (FitsWorld world × FitsObject slot.object × FitsName slot.name × FitsContent content) }
 {
     push_pair(out, " ", world.owner, world.serial)?;
@@ -179,7 +179,8 @@ fn push_sprout(
     strict: bool,
     child: WorldId,
 ) -> Result<(), OutOfMemory>
-    ensures text { OnOk result (string_bytes out.new ≡ string_bytes out.old ++ spaced (world_text world ∷ decimal owner ∷ kind_text strict ∷ world_text child ∷ [])) }
+    ensures text { OnOk result (string_bytes out.new ≡ string_bytes out.old ++ spaced
+        (world_text world ∷ decimal owner ∷ kind_text strict ∷ world_text child ∷ [])) }
     ensures fits { OnOk result (FitsWorld world × (owner < 2 ^ 32) × FitsWorld child) }
 {
     push_pair(out, " ", world.owner, world.serial)?;

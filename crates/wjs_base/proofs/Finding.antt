@@ -1,5 +1,5 @@
 -- Texts that are found by their keys.
-use Rattle.std.proofs.Common.{◌≡◌, ℕ, zero, suc, ◌+◌, ◌<◌, ◌≤◌, ◌⊎◌, ⊎_elim, inl, inr, Bool, true, false, cond, List, [], ◌∷◌, ◌++◌, Option, None, Some, length, map, slice_get, IsSome, is_some, refl, sym, ap, subst, ◌∙◌, true≢false, arith, append-nil}
+use Rattle.std.proofs.Common.{◌≡◌, ℕ, suc, ◌+◌, ◌<◌, ◌≤◌, ◌⊎◌, ⊎_elim, inl, inr, Bool, true, false, cond, [], ◌∷◌, ◌++◌, Option, None, Some, length, map, slice_get, IsSome, is_some, refl, sym, ap, subst, ◌∙◌, true≢false, arith, append-nil}
 use Rattle.std.proofs.lemmas.Bool.{cases_Bool, cases_lt, cases_order}
 use Rattle.std.proofs.lemmas.List.{length-map, map_push}
 use Rattle.std.proofs.lemmas.List.Elements.{All-push}
@@ -16,20 +16,10 @@ use Rattle.wjs_base.specs.Hash.{hash_of}
 use Rattle.wjs_base.specs.Keys.{Entries, key_of, same_key, at_key, texts_in, past_turns, IsEntry, AreFound, HasNone, IsFree}
 use Rattle.wjs_base.specs.Spans.{units_in, IsWithin, Stands}
 use Rattle.wjs_base.specs.Text.{Units, Table, Denotes, IsText, IsTable, Grows, Interns}
+use Rattle.wjs_base.proofs.Lists.{get_last, get_pushed}
 
 pub same_key_laws : IsEquivalence same_key
 same_key_laws = and_equiv (on_equiv (λ (k : Key). k.hash) nat_eq_equiv) (on_equiv (λ (k : Key). k.turn) nat_eq_equiv)
-
--- the last of a list is found behind the others
-push_cases : {X : Type 0} (xs : List X) (y : X) (i : ℕ) (x : X) → slice_get (xs ++ y ∷ []) i ≡ Some x → (slice_get xs i ≡ Some x) ⊎ ((i ≡ length xs) × (y ≡ x))
-push_cases [] y zero x at = let e : y ≡ x = cc in inr (refl, e)
-push_cases [] y (suc i) x at = cc
-push_cases (z ∷ zs) y zero x at = inl at
-push_cases (z ∷ zs) y (suc i) x at = ⊎_elim (λ h. inl h) (λ h. inr (ap suc h.0, h.1)) (push_cases zs y i x at)
-
-push_at : {X : Type 0} (xs : List X) (y : X) → slice_get (xs ++ y ∷ []) (length xs) ≡ Some y
-push_at [] y = refl
-push_at (x ∷ xs) y = push_at xs y
 
 -- a key that is there is there with an entry more
 some_more : (test : Key → Bool) (entries : Entries) (more : Entries) → IsSome (lookup test entries) → IsSome (lookup test (entries ++ more))
@@ -47,12 +37,12 @@ table_more table units is text none = record {
       (λ x. ⊎_elim
       (λ y. is.one_number a b us x y)
       (λ y. absurd (none a (x ∙ ap Some (sym y.1))))
-      (push_cases table units b.0 us other))
+      (get_pushed table units b.0 us other))
       (λ x. ⊎_elim
       (λ y. absurd (none b (y ∙ ap Some (sym x.1))))
       (λ y i. record { 0 = (x.0 ∙ sym y.0) i })
-      (push_cases table units b.0 us other))
-      (push_cases table units a.0 us at);
+      (get_pushed table units b.0 us other))
+      (get_pushed table units a.0 us at);
 }
 
 module _ (buffers : Table) (entries : Entries) where
@@ -188,14 +178,14 @@ module _ (old new : Table) (stands : Stands old new) where
         entry = λ place entry at. ⊎_elim
             (λ h. kept_entry entry (still_found.entry place entry h))
             (λ h. subst (IsEntry new (entries ++ (key, span) ∷ [])) h.1 new_entry)
-            (push_cases entries (key, span) place entry at);
+            (get_pushed entries (key, span) place entry at);
         table = subst IsTable (sym texts_more) (table_more (texts_in old entries) units found.table text free.none);
       }
 
       pub interned : (id : TextId) → id.0 ≡ length entries → Interns (texts_in old entries) (texts_in new (entries ++ (key, span) ∷ [])) units id
       interned id number = record {
         denotes = subst (λ (ts : Table). slice_get ts id.0 ≡ Some units) (sym texts_more)
-            (ap (slice_get (texts_in old entries ++ units ∷ [])) (number ∙ sym (length-map entries (λ (e : Key × Span). units_in old e.1))) ∙ push_at (texts_in old entries) units);
+            (ap (slice_get (texts_in old entries ++ units ∷ [])) (number ∙ sym (length-map entries (λ (e : Key × Span). units_in old e.1))) ∙ get_last (texts_in old entries) units);
         table = inr texts_more;
       }
 

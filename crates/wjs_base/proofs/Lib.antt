@@ -1,3 +1,9 @@
+pub mod Booleans
+pub mod Lists
+pub mod Numbers
+pub mod Options
+pub mod Results
+pub mod Trees
 pub mod Decimals
 mod Finding
 mod Hashes

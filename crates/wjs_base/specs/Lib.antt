@@ -1,3 +1,4 @@
+pub mod Codes
 pub mod Hash
 pub mod Keys
 pub mod Order

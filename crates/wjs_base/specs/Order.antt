@@ -1,9 +1,9 @@
--- The order of names, objects, worlds and slots, and the equality of values.
-use Rattle.std.specs.Prelude.{◌≡◌, ℕ, Bool, true, false, ◌==◌, Option, None, Some, ℤ, refl}
+-- The order of names, objects, worlds and slots.
+use Rattle.std.specs.Prelude.{◌≡◌, ℕ, Bool, false, ◌==◌, refl}
 use Rattle.std.specs.Cmp.{IsTotalOrder, then_total, on_total, nat_cmp_total, unsigned_tied}
 use Rattle.std.specs.declared.cmp.Ordering.{Ordering}
 use Rattle.std.specs.declared.cmp.Ordering.TheVariants.{Less, Equal, Greater}
-use Rattle.std.specs.Ordering.{nat_cmp, int_eq, ordering_then, then_cmp, on, is_eq}
+use Rattle.std.specs.Ordering.{nat_cmp, ordering_then, then_cmp, on, is_eq}
 use Rattle.std.proofs.Common.{◌∙◌, ap, sym}
 use Rattle.std.specs.FinMap.{IsAntisymmetric, nat_cmp-IsAntisymmetric}
 use Rattle.wjs_base.specs.declared.ids.TextId.{TextId}
@@ -87,10 +87,3 @@ slot_exact a b h =
 
 pub slot_total : IsTotalOrder slot_cmp
 slot_total = then_total (on_total (λ (x : Slot). x.object) obj_total) (on_total (λ (x : Slot). x.name) name_total)
-
--- whether two numbers, or NaNs, are one
-abbrev pub same_number : Option ℤ → Option ℤ → Bool
-same_number None None = true
-same_number (Some a) (Some b) = int_eq a b
-same_number None (Some b) = false
-same_number (Some a) None = false

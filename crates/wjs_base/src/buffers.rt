@@ -155,14 +155,12 @@ impl Buffers {
     {
         let len = front.len + back.len() as u32;
         let buffer = &mut self.buffers[front.buffer as usize];
-        match buffer.extend_from_slice(back) {
-            Ok(()) => Ok(Span {
-                buffer: front.buffer,
-                start: front.start,
-                len,
-            }),
-            Err(_) => Err(OutOfMemory),
-        }
+        buffer.extend_from_slice(back)?;
+        Ok(Span {
+            buffer: front.buffer,
+            start: front.start,
+            len,
+        })
     }
 
     /// Puts a text of its own into the buffers: a short one behind others, and a long one into a new buffer.
@@ -176,9 +174,7 @@ impl Buffers {
             let room = self.room()?;
             return self.append(room, units);
         }
-        let Ok(text) = Vec::from_slice(self.allocator(), units) else {
-            return Err(OutOfMemory);
-        };
+        let text = Vec::from_slice(self.allocator(), units)?;
         self.push(text)
     }
 
@@ -214,14 +210,12 @@ impl Buffers {
             return Err(OutOfMemory);
         }
         let len = text.len() as u32;
-        match self.buffers.push(text) {
-            Ok(()) => Ok(Span {
-                buffer: buffer as u32,
-                start: 0,
-                len,
-            }),
-            Err(_) => Err(OutOfMemory),
-        }
+        self.buffers.push(text)?;
+        Ok(Span {
+            buffer: buffer as u32,
+            start: 0,
+            len,
+        })
     }
 }
 

@@ -1,8 +1,22 @@
 //! The numbers that stand for texts, objects and worlds.
 
+use std::alloc::{AllocError, AllocFailed};
+
 /// Want of memory: the one refusal that no clause ties to a cause.
 #[derive(Clone, Copy, Debug, PartialEq, Eq)]
 pub struct OutOfMemory;
+
+impl From<AllocError> for OutOfMemory {
+    fn from(_: AllocError) -> Self {
+        OutOfMemory
+    }
+}
+
+impl<T: Drop> From<AllocFailed<T>> for OutOfMemory {
+    fn from(_: AllocFailed<T>) -> Self {
+        OutOfMemory
+    }
+}
 
 /// The number of an interned text. Texts of equal content have equal numbers.
 #[derive(Clone, Copy, PartialEq, Eq)]

@@ -300,8 +300,6 @@ fn add(spans: &mut IndexMap<Key, Span>, key: Key, span: Span) -> Result<TextId, 
     ensures err { OnErr result (spans.new.entries ≡ spans.old.entries) }
 {
     let place = spans.len();
-    match spans.insert(key, span) {
-        Ok(_) => Ok(TextId(place as u64)),
-        Err(_) => Err(OutOfMemory),
-    }
+    spans.insert(key, span)?;
+    Ok(TextId(place as u64))
 }

@@ -45,8 +45,6 @@ pub fn utf8_of_units(alloc: Global, units: &[u16]) -> Result<Vec<u8>, OutOfMemor
     // What is UTF-8 comes back from its units.
     ensures back { IfOk result (λ bytes. (text : List ℕ) → SameText text units.now → bytes.items ≡ text) }
 {
-    match String::from_utf16_lossy(alloc, units) {
-        Ok(text) => Ok(text.into_bytes()),
-        Err(_) => Err(OutOfMemory),
-    }
+    let text = String::from_utf16_lossy(alloc, units)?;
+    Ok(text.into_bytes())
 }

@@ -71,7 +71,8 @@ impl PartialOrd for Name {
 
     ghost partial_cmp = { as_partial_cmp name_cmp };
 
-    ghost laws = { partial_order_from_own_ties (Prim.search (comparing, rules)) (names_tied ⟦<Name as PartialEq>⟧.eq (λ _ _. refl) (λ _ _. refl) (λ _ _. refl) (λ _ _. refl)) };
+    ghost laws = { partial_order_from_own_ties (Prim.search (comparing, rules))
+        (names_tied ⟦<Name as PartialEq>⟧.eq (λ _ _. refl) (λ _ _. refl) (λ _ _. refl) (λ _ _. refl)) };
 
     fn partial_cmp(&self, other: &Name) -> Option<Ordering> {
         Some(self.cmp(other))

@@ -6,14 +6,14 @@ use Rattle.std.proofs.lemmas.List.{drop-drop}
 use Rattle.wjs_base.specs.Text.{Table}
 use Rattle.wjs_tree.specs.declared.node.NodeId.{NodeId}
 use Rattle.wjs_tree.specs.declared.node.Clause.{Clause}
-use Rattle.wjs_content.specs.Values.{Value}
+use Rattle.wjs_by_content.specs.Values.{Value}
 use Rattle.wjs_meaning.specs.Deeds.{Env, Eval, AtExpr, then_value}
 use Rattle.wjs_meaning.specs.Reading.{clause_in, number, numbers}
 use Rattle.wjs_meaning.specs.Statements.{switch_cases, from_default}
 use Rattle.wjs_model.specs.Waiting.{after_case}
-use Rattle.wjs_lines.specs.Lists.{statements_of_clauses}
+use Rattle.wjs_step_common.specs.Lists.{statements_of_clauses}
 use Rattle.wjs_blocks.specs.Switches.{case_goes}
-use Rattle.wjs_lines.proofs.Parts.{drop_at, each_at, each_past}
+use Rattle.wjs_step_common.proofs.Parts.{drop_at, each_at, each_past}
 
 module _ (t : Table) (clauses : List Clause) (at : ℕ) where
   abbrev all : List (Option ℕ × List ℕ)

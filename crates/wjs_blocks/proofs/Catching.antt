@@ -12,9 +12,9 @@ use Rattle.wjs_tree.specs.declared.node.Handler.{Handler}
 use Rattle.wjs_tree.specs.declared.node.Node.{Node}
 use Rattle.wjs_tree.specs.declared.node.Node.TheVariants as nodes
 use Rattle.wjs_store.specs.Meaning.{Meaning}
-use Rattle.wjs_content.specs.Values.{Text}
-use Rattle.wjs_content.specs.Names.{slot}
-use Rattle.wjs_content.specs.Tables.{text_in, name_in, value_in}
+use Rattle.wjs_by_content.specs.Values.{Text}
+use Rattle.wjs_by_content.specs.Names.{slot}
+use Rattle.wjs_by_content.specs.Tables.{text_in, name_in, value_in}
 use Rattle.wjs_heap.specs.Means.{nothing}
 use Rattle.wjs_meaning.specs.Reading.{node_in, number, handler_in}
 use Rattle.wjs_meaning.specs.Deeds.{Env, Act, Eval, Do, Create, Write, AtStmt}
@@ -28,13 +28,13 @@ use Rattle.wjs_model.specs.declared.unit.Unit.{Unit as Program}
 use Rattle.wjs_model.specs.Lists.{handler_of}
 use Rattle.wjs_model.specs.Standing.{Stands}
 use Rattle.wjs_model.specs.Soundness.{IsThere}
-use Rattle.wjs_moves.specs.Doing.{Does}
-use Rattle.wjs_moves.specs.Following.{Follows, Later}
-use Rattle.wjs_moves.specs.Parts.{env_in, node_among, node_now}
-use Rattle.wjs_moves.proofs.Parting.{caught_here, stands_later}
-use Rattle.wjs_deeds.proofs.Later.{later_twice}
-use Rattle.wjs_deeds.proofs.Composing.{env_later}
-use Rattle.wjs_lines.proofs.Following.{follows_as}
+use Rattle.wjs_frames.specs.Doing.{Does}
+use Rattle.wjs_frames.specs.Following.{Follows, Later}
+use Rattle.wjs_frames.specs.Parts.{env_in, node_among, node_now}
+use Rattle.wjs_frames.proofs.Parting.{caught_here, stands_later}
+use Rattle.wjs_heap_steps.proofs.Later.{later_twice}
+use Rattle.wjs_heap_steps.proofs.Composing.{env_later}
+use Rattle.wjs_step_common.proofs.Following.{follows_as}
 use Rattle.wjs_blocks.specs.Tries.{catch_in}
 
 module _ {S : Type 0} (meaning : S → Meaning) (old mid late new : Config S) (frame : Frame) (h : Handler) (last : Option NodeId) (v : NumberedValue) (scope : ObjId) (name : Name) (r : Result (Unit {0}) OutOfMemory) where

@@ -12,10 +12,10 @@ use Rattle.wjs_model.specs.declared.frame.Activation.{Activation as NumberedFram
 use Rattle.wjs_model.specs.Contents.{Frame, Run}
 use Rattle.wjs_model.specs.Rest.{under}
 use Rattle.wjs_model.specs.Configurations.{seen, tells, run_in, state_in, frames_in}
-use Rattle.wjs_moves.specs.Keeping.{rest_with, Keeps}
-use Rattle.wjs_moves.specs.Following.{Follows}
-use Rattle.wjs_moves.specs.Nesting.{Nests}
-use Rattle.wjs_moves.specs.Parts.{env_in}
+use Rattle.wjs_frames.specs.Keeping.{rest_with, Keeps}
+use Rattle.wjs_frames.specs.Following.{Follows}
+use Rattle.wjs_frames.specs.Nesting.{Nests}
+use Rattle.wjs_frames.specs.Parts.{env_in}
 use Rattle.wjs_model.specs.declared.frame.Held.{Held}
 
 then_ends : (o : Outcome) → then_do o (λ c st n. Ends c st n) ≡ o

@@ -3,3 +3,5 @@ pub mod Catching
 pub mod Inner
 pub mod Standing
 pub mod Switching
+pub mod Entries
+pub mod Parts

@@ -20,9 +20,9 @@ use Rattle.wjs_model.specs.declared.frame.Held.TheVariants as holds
 use Rattle.wjs_model.specs.Soundness.{HasObject, HasValue, HasCompletion, HasItems, HasWorld, IsThere, StandsHere}
 use Rattle.wjs_model.specs.Standing.{FrameStands, IsShown}
 use Rattle.wjs_model.proofs.Standing.{stands_inner, stands_fewer}
-use Rattle.wjs_moves.specs.Parts.{node_now}
-use Rattle.wjs_moves.proofs.Parting.{among_at, among_left, among_right, among_around, stands_here}
-use Rattle.wjs_lines.specs.Lists.{statements_in, clauses_in, statements_of_clauses}
+use Rattle.wjs_frames.specs.Parts.{node_now}
+use Rattle.wjs_frames.proofs.Parting.{among_at, among_left, among_right, among_around, stands_here}
+use Rattle.wjs_step_common.specs.Lists.{statements_in, clauses_in, statements_of_clauses}
 
 option_among : (o : Option NodeId) (e : NodeId) → o ≡ Some e → IsAmong (option_part o) e
 option_among o e q = subst (λ (x : Option NodeId). IsAmong (option_part x) e) (sym q) (inl refl)

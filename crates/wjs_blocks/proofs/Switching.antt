@@ -6,18 +6,18 @@ use Rattle.wjs_tree.specs.declared.node.NodeId.{NodeId}
 use Rattle.wjs_tree.specs.declared.node.Clause.{Clause}
 use Rattle.wjs_tree.specs.declared.node.Node.{Node as NumberedNode}
 use Rattle.wjs_tree.specs.declared.node.Node.TheVariants as nodes
-use Rattle.wjs_content.specs.Values.{Value}
+use Rattle.wjs_by_content.specs.Values.{Value}
 use Rattle.wjs_meaning.specs.Deeds.{Env, Act, Ret, Eval, AtStmt, AtExpr, Normal, then_value}
 use Rattle.wjs_meaning.specs.Reading.{node_in, clause_in, numbers}
 use Rattle.wjs_meaning.specs.Statements.{statements_of, switch_from, switch_next, switch_cases, from_default}
-use Rattle.wjs_content.specs.Conversions.{strictly_equal}
+use Rattle.wjs_by_content.specs.Conversions.{strictly_equal}
 use Rattle.std.proofs.lemmas.Option.{slice_get-get_or}
 use Rattle.wjs_model.specs.Lists.{clauses_of}
 use Rattle.wjs_model.specs.Waiting.{after_case}
 use Rattle.wjs_blocks.specs.declared.clauses.Case.{Case}
-use Rattle.wjs_lines.specs.Lists.{clauses_in, statements_of_clauses}
+use Rattle.wjs_step_common.specs.Lists.{clauses_in, statements_of_clauses}
 use Rattle.wjs_blocks.specs.Switches.{case_goes}
-use Rattle.wjs_lines.proofs.Parts.{each_at, each_past}
+use Rattle.wjs_step_common.proofs.Parts.{each_at, each_past}
 
 -- the clauses under a table
 pub clauses_same : (t : Table) (node : NumberedNode) → clauses_of (node_in t node) ≡ map (clause_in t) (clauses_in node)

@@ -1,6 +1,6 @@
 -- The cases of a `switch`.
 use Rattle.std.specs.Prelude.{ℕ, List, Option, None, Some, drop}
-use Rattle.wjs_content.specs.Values.{Value}
+use Rattle.wjs_by_content.specs.Values.{Value}
 use Rattle.wjs_meaning.specs.Deeds.{Env, Act, Eval, AtExpr, then_value}
 use Rattle.wjs_meaning.specs.Statements.{statements_of, switch_from, from_default}
 use Rattle.wjs_model.specs.Waiting.{after_case}

@@ -6,14 +6,14 @@ ghost use Rattle.wjs_meaning.specs.Statements.{block_from};
 ghost use Rattle.wjs_model.specs.Contents.{completion_in};
 ghost use Rattle.wjs_model.specs.Lists.{block_items};
 ghost use Rattle.wjs_model.specs.Soundness.{HasCompletion};
-ghost use Rattle.wjs_moves.specs.Parts.{node_now};
-ghost use Rattle.wjs_moves.specs.Handling.{Runs, GoesOn};
-ghost use Rattle.wjs_lines.specs.Lists.{statements_in};
+ghost use Rattle.wjs_frames.specs.Parts.{node_now};
+ghost use Rattle.wjs_frames.specs.Handling.{Runs, GoesOn};
+ghost use Rattle.wjs_step_common.specs.Lists.{statements_in};
 
 use wjs_base::OutOfMemory;
-use wjs_lines::number_after;
+use wjs_frames::{Part, enter, finish, node_of};
 use wjs_model::{Completion, Config, Frame, Point, StmtPoint};
-use wjs_moves::{Part, enter, finish, node_of};
+use wjs_step_common::number_after;
 use wjs_store::WorldStore;
 use wjs_tree::{Node, NodeId};
 

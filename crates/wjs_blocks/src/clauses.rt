@@ -2,11 +2,11 @@
 ghost use Rattle.std.specs.Prelude.{◌≡◌, ◌+◌, drop, slice_get, map, Some, IfOk, IfSome};
 ghost use Rattle.std.specs.Option.{option_and_then};
 ghost use Rattle.wjs_base.specs.Text.{Table};
-ghost use Rattle.wjs_content.specs.Values.{Value};
+ghost use Rattle.wjs_by_content.specs.Values.{Value};
 ghost use Rattle.wjs_meaning.specs.Deeds.{Env};
 ghost use Rattle.wjs_meaning.specs.Reading.{clause_in};
 ghost use Rattle.wjs_meaning.specs.Statements.{switch_cases, from_default};
-ghost use Rattle.wjs_lines.specs.Lists.{statements_of_clauses};
+ghost use Rattle.wjs_step_common.specs.Lists.{statements_of_clauses};
 ghost use Rattle.wjs_blocks.specs.Switches.{case_goes};
 
 use wjs_base::OutOfMemory;

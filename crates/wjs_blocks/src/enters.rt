@@ -4,13 +4,13 @@ ghost use Rattle.wjs_arena.specs.Entries.{scope_of};
 ghost use Rattle.wjs_meaning.specs.Deeds.{Eval, Ret};
 ghost use Rattle.wjs_model.specs.Soundness.{HasObject, HasPoint, HasWorld, StandsHere};
 ghost use Rattle.wjs_model.specs.Standing.{Stands, IsShown};
-ghost use Rattle.wjs_moves.specs.Parts.{then_at, goal_of, node_of};
-ghost use Rattle.wjs_moves.specs.Handling.{Runs, GoesOn};
+ghost use Rattle.wjs_frames.specs.Parts.{then_at, goal_of, node_of};
+ghost use Rattle.wjs_frames.specs.Handling.{Runs, GoesOn};
 
 use std::alloc::Global;
 use wjs_base::{ObjId, OutOfMemory, WorldId};
+use wjs_frames::{Part, enter_last, wait};
 use wjs_model::{Activation, Config, Frame, Items, Point};
-use wjs_moves::{Part, enter_last, wait};
 use wjs_store::WorldStore;
 
 /// The frame without what it holds, for a part that is run in another scope.

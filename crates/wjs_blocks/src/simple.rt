@@ -1,16 +1,16 @@
 //! Statements of one expression (sections 12.4, 12.5, 12.9 and 12.13).
-ghost use Rattle.wjs_content.specs.Tables.{value_in};
+ghost use Rattle.wjs_by_content.specs.Tables.{value_in};
 ghost use Rattle.wjs_meaning.specs.Deeds.{then_value};
 ghost use Rattle.wjs_meaning.specs.Reading.{number};
 ghost use Rattle.wjs_meaning.specs.Statements.{expr_done, if_test, else_of, return_value, throw_value};
 ghost use Rattle.wjs_model.specs.Contents.{completion_in};
 ghost use Rattle.wjs_model.specs.Soundness.{HasValue, HasCompletion, StandsHere, StandsIf};
-ghost use Rattle.wjs_moves.specs.Handling.{Runs, GoesOn};
+ghost use Rattle.wjs_frames.specs.Handling.{Runs, GoesOn};
 
 use wjs_base::{OutOfMemory, Value};
-use wjs_lines::to_boolean;
+use wjs_frames::{Part, enter_last, finish};
 use wjs_model::{Completion, Config, Frame};
-use wjs_moves::{Part, enter_last, finish};
+use wjs_step_common::to_boolean;
 use wjs_store::WorldStore;
 use wjs_tree::NodeId;
 

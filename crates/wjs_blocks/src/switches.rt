@@ -1,6 +1,6 @@
 //! The statement `switch` (section 12.11). Its value is held while the cases are compared.
 ghost use Rattle.std.specs.Prelude.{◌≡◌, drop};
-ghost use Rattle.wjs_content.specs.Tables.{value_in};
+ghost use Rattle.wjs_by_content.specs.Tables.{value_in};
 ghost use Rattle.wjs_meaning.specs.Deeds.{then_value};
 ghost use Rattle.wjs_meaning.specs.Reading.{node_in};
 ghost use Rattle.wjs_meaning.specs.Statements.{statements_of, switch_next, switch_from, switch_cases, switch_value};
@@ -8,15 +8,15 @@ ghost use Rattle.wjs_model.specs.Contents.{completion_in, holding_in};
 ghost use Rattle.wjs_model.specs.Lists.{clauses_of};
 ghost use Rattle.wjs_model.specs.Waiting.{after_case};
 ghost use Rattle.wjs_model.specs.Soundness.{HasValue, HasCompletion};
-ghost use Rattle.wjs_moves.specs.Parts.{node_now};
-ghost use Rattle.wjs_moves.specs.Handling.{Runs, GoesOn};
-ghost use Rattle.wjs_lines.specs.Lists.{clauses_in};
+ghost use Rattle.wjs_frames.specs.Parts.{node_now};
+ghost use Rattle.wjs_frames.specs.Handling.{Runs, GoesOn};
+ghost use Rattle.wjs_step_common.specs.Lists.{clauses_in};
 
 use crate::clauses::{case_from, default_of, statement_at, statements_before};
 use wjs_base::{OutOfMemory, Value};
-use wjs_lines::{held_value, number_after, number_of, strictly_equal};
+use wjs_frames::{Part, enter, finish, hold, node_of};
 use wjs_model::{Completion, Config, Frame, Held, Point, StmtPoint};
-use wjs_moves::{Part, enter, finish, hold, node_of};
+use wjs_step_common::{held_value, number_after, number_of, strictly_equal};
 use wjs_store::WorldStore;
 use wjs_tree::{Clause, Node};
 

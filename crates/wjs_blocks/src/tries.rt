@@ -2,21 +2,21 @@
 ghost use Rattle.std.specs.Prelude.{◌≡◌, Some, IfSome};
 ghost use Rattle.std.specs.Option.{option_map};
 ghost use Rattle.wjs_base.specs.Text.{Has};
-ghost use Rattle.wjs_content.specs.Tables.{text_in, value_in};
+ghost use Rattle.wjs_by_content.specs.Tables.{text_in, value_in};
 ghost use Rattle.wjs_meaning.specs.Reading.{node_in, number, handler_in};
 ghost use Rattle.wjs_meaning.specs.Statements.{try_block, try_catch, try_finally, finally_done};
 ghost use Rattle.wjs_model.specs.Contents.{completion_in, holding_in};
 ghost use Rattle.wjs_model.specs.Lists.{handler_of};
 ghost use Rattle.wjs_model.specs.Soundness.{Base, HasValue, HasCompletion, StandsIf};
-ghost use Rattle.wjs_moves.specs.Parts.{node_now};
-ghost use Rattle.wjs_moves.specs.Handling.{Runs, GoesOn};
+ghost use Rattle.wjs_frames.specs.Parts.{node_now};
+ghost use Rattle.wjs_frames.specs.Handling.{Runs, GoesOn};
 ghost use Rattle.wjs_blocks.specs.Tries.{catch_in};
 
 use crate::enters::enter_in;
 use wjs_base::{OutOfMemory, Value};
-use wjs_deeds::{create_scope, name_of, write};
+use wjs_frames::{Part, enter, finish, hold, node_of};
+use wjs_heap_steps::{create_scope, name_of, write};
 use wjs_model::{Completion, Config, Frame, Held, Point, StmtPoint};
-use wjs_moves::{Part, enter, finish, hold, node_of};
 use wjs_store::WorldStore;
 use wjs_tree::{Handler, Node, NodeId};
 

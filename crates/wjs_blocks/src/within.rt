@@ -1,16 +1,16 @@
 //! The statement `in`, whose block is run in a world ("Worlds: Controlling the Scope of Side Effects", ECOOP 2011).
-ghost use Rattle.wjs_content.specs.Tables.{value_in};
+ghost use Rattle.wjs_by_content.specs.Tables.{value_in};
 ghost use Rattle.wjs_meaning.specs.Deeds.{then_value};
 ghost use Rattle.wjs_meaning.specs.Statements.{within_value};
 ghost use Rattle.wjs_model.specs.Contents.{completion_in};
 ghost use Rattle.wjs_model.specs.Soundness.{HasValue, HasCompletion, StandsHere};
-ghost use Rattle.wjs_moves.specs.Handling.{Runs, GoesOn};
+ghost use Rattle.wjs_frames.specs.Handling.{Runs, GoesOn};
 
 use crate::enters::enter_within;
 use wjs_base::{OutOfMemory, Value};
-use wjs_deeds::world_of;
+use wjs_frames::{Part, finish};
+use wjs_heap_steps::world_of;
 use wjs_model::{Completion, Config, Frame};
-use wjs_moves::{Part, finish};
 use wjs_store::WorldStore;
 use wjs_tree::NodeId;
 

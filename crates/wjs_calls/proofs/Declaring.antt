@@ -6,15 +6,15 @@ use Rattle.wjs_base.specs.declared.ids.OutOfMemory.{OutOfMemory}
 use Rattle.wjs_base.specs.Text.{Table, Grows}
 use Rattle.wjs_store.specs.Meaning.{Meaning}
 use Rattle.wjs_tree.specs.declared.node.NodeId.{NodeId}
-use Rattle.wjs_content.specs.Values.{Text, Object}
-use Rattle.wjs_content.specs.Names.{slot}
+use Rattle.wjs_by_content.specs.Values.{Text, Object}
+use Rattle.wjs_by_content.specs.Names.{slot}
 use Rattle.wjs_meaning.specs.Trees.{name_of}
 use Rattle.wjs_meaning.specs.Reading.{numbers}
 use Rattle.wjs_meaning.specs.Deeds.{Env, Act, Do, Write, node_here}
 use Rattle.wjs_meaning.specs.Functions.{make_function_in, declare_functions}
 use Rattle.wjs_model.specs.declared.config.Config.{Config}
-use Rattle.wjs_moves.specs.Doing.{Does, DoesFirst}
-use Rattle.wjs_moves.specs.Following.{Follows}
+use Rattle.wjs_frames.specs.Doing.{Does, DoesFirst}
+use Rattle.wjs_frames.specs.Following.{Follows}
 use Rattle.wjs_calls.specs.Making.{declared_as, declare_one}
 
 -- of two facts

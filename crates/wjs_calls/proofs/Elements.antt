@@ -5,9 +5,9 @@ use Rattle.wjs_base.specs.declared.ids.ObjId.{ObjId}
 use Rattle.wjs_base.specs.declared.ids.WorldId.{WorldId}
 use Rattle.wjs_base.specs.declared.values.Value.{Value as NumberedValue}
 use Rattle.wjs_base.specs.Text.{Table}
-use Rattle.wjs_content.specs.Values.{Value}
-use Rattle.wjs_content.specs.Names.{Slot, slot, index_name}
-use Rattle.wjs_content.specs.Tables.{value_in}
+use Rattle.wjs_by_content.specs.Values.{Value}
+use Rattle.wjs_by_content.specs.Names.{Slot, slot, index_name}
+use Rattle.wjs_by_content.specs.Tables.{value_in}
 use Rattle.wjs_meaning.specs.Deeds.{Act, Do, Write, write_all}
 use Rattle.wjs_meaning.specs.NewObjects.{elements_from}
 

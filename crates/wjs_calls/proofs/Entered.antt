@@ -7,9 +7,9 @@ use Rattle.wjs_meaning.specs.Deeds.{Env, Goal, Ret, Tick, Eval, Outcome, Ends, S
 use Rattle.wjs_meaning.specs.Programs.{eval, entry}
 use Rattle.wjs_meaning.proofs.Steps.{entries_lem}
 use Rattle.wjs_model.specs.declared.config.Config.{Config}
-use Rattle.wjs_moves.specs.Following.{Follows}
-use Rattle.wjs_moves.specs.Shortening.{Shortens}
-use Rattle.wjs_moves.proofs.Shorter.{follows_shorter}
+use Rattle.wjs_frames.specs.Following.{Follows}
+use Rattle.wjs_frames.specs.Shortening.{Shortens}
+use Rattle.wjs_frames.proofs.Shorter.{follows_shorter}
 
 then_ret : (o : Outcome) → then_do o (λ c st n. Ends c st n) ≡ o
 then_ret (Ends c st n) = refl

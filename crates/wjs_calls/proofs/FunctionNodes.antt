@@ -8,8 +8,8 @@ use Rattle.wjs_meaning.specs.Trees as content
 use Rattle.wjs_meaning.specs.Reading.{node_in}
 use Rattle.wjs_model.specs.declared.unit.Unit.{Unit as Program}
 use Rattle.wjs_model.specs.Units.{unit_in}
-use Rattle.wjs_moves.specs.Parts.{node_among}
-use Rattle.wjs_moves.proofs.Places.{node_same}
+use Rattle.wjs_frames.specs.Parts.{node_among}
+use Rattle.wjs_frames.proofs.Places.{node_same}
 
 -- what a node among the units is by content
 pub node_is : (t : Table) (units : List Program) (tree : ℕ) (id : NodeId) (n : Node) → node_among units tree id ≡ n → content.node_at (content.tree_at (each (unit_in t) units) tree) id.0 ≡ node_in t n

@@ -11,15 +11,15 @@ use Rattle.wjs_arena.specs.declared.object.Code.TheVariants as code
 use Rattle.wjs_arena.specs.declared.object.Flags.{Flags}
 use Rattle.wjs_arena.specs.declared.object.Object.{Object}
 use Rattle.wjs_arena.specs.Entries.{Objects}
-use Rattle.wjs_content.specs.Values.{Text, whole}
-use Rattle.wjs_content.specs.Names.{length_name, prototype_name, constructor_name}
-use Rattle.wjs_content.specs.Objects.{object_of, hidden_flags, kept_flags}
-use Rattle.wjs_content.specs.Tables.{name_in, value_in, object_in}
+use Rattle.wjs_by_content.specs.Values.{Text, whole}
+use Rattle.wjs_by_content.specs.Names.{length_name, prototype_name, constructor_name}
+use Rattle.wjs_by_content.specs.Objects.{object_of, hidden_flags, kept_flags}
+use Rattle.wjs_by_content.specs.Tables.{name_in, value_in, object_in}
 use Rattle.wjs_heap.specs.Heap.{HasNamed}
 use Rattle.wjs_meaning.specs.Builtins.{object_prototype, function_prototype}
 use Rattle.wjs_meaning.specs.Functions.{prototype_object, function_object}
 use Rattle.wjs_model.specs.Apart.{IsNear, NamesNear}
-use Rattle.wjs_deeds.proofs.Making.{bare, number_there, number_near}
+use Rattle.wjs_heap_steps.proofs.Making.{bare, number_there, number_near}
 
 pub prototype_is : (t : Table) (x : Object) (p : ObjId) (flags : List (Name × Flags)) (name : Name) → x ≡ bare class.Plain (Some p) → p ≡ object_prototype → flags ≡ (name, hidden_flags) ∷ [] → name_in t name ≡ constructor_name → object_in t (record x { flags = flags }) ≡ prototype_object
 prototype_is t x p flags name ex ep ef en =

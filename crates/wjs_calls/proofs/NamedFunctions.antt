@@ -6,8 +6,8 @@ use Rattle.wjs_base.specs.Spelling.{IsName}
 use Rattle.wjs_base.specs.Text.{Table}
 use Rattle.wjs_arena.specs.declared.object.Object.{Object}
 use Rattle.wjs_arena.specs.Entries.{Objects, has}
-use Rattle.wjs_content.specs.Tables.{name_in, object_in}
-use Rattle.wjs_content.specs.Values.{Text, Object as ObjectValue}
+use Rattle.wjs_by_content.specs.Tables.{name_in, object_in}
+use Rattle.wjs_by_content.specs.Values.{Text, Object as ObjectValue}
 use Rattle.wjs_heap.specs.Heap.{HasNamed}
 use Rattle.wjs_meaning.specs.Functions.{name_scope}
 use Rattle.wjs_meaning.specs.NewObjects.{scope_object}

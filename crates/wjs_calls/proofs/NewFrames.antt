@@ -4,8 +4,8 @@ use Rattle.wjs_base.specs.declared.ids.ObjId.{ObjId}
 use Rattle.wjs_base.specs.declared.values.Value.{Value}
 use Rattle.wjs_base.specs.declared.values.Value.TheVariants as values
 use Rattle.wjs_base.specs.Text.{Table}
-use Rattle.wjs_content.specs.Tables.{value_in}
-use Rattle.wjs_content.specs.Values.{Value as Said}
+use Rattle.wjs_by_content.specs.Tables.{value_in}
+use Rattle.wjs_by_content.specs.Values.{Value as Said}
 use Rattle.wjs_meaning.specs.Builtins.{object_prototype}
 use Rattle.wjs_meaning.specs.Constructions.{new_prototype, new_on}
 use Rattle.wjs_meaning.specs.Deeds.{Env}

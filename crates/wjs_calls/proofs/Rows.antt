@@ -8,11 +8,11 @@ use Rattle.wjs_store.specs.Meaning.{Meaning}
 use Rattle.wjs_meaning.specs.Deeds.{Env, Act}
 use Rattle.wjs_model.specs.declared.config.Config.{Config}
 use Rattle.wjs_model.specs.declared.frame.Activation.{Activation as Frame}
-use Rattle.wjs_moves.specs.Doing.{DoesFirst}
-use Rattle.wjs_moves.specs.Following.{Follows, Later}
-use Rattle.wjs_moves.specs.Parts.{env_in}
-use Rattle.wjs_deeds.proofs.Composing.{env_later}
-use Rattle.wjs_deeds.proofs.Later.{later_twice}
+use Rattle.wjs_frames.specs.Doing.{DoesFirst}
+use Rattle.wjs_frames.specs.Following.{Follows, Later}
+use Rattle.wjs_frames.specs.Parts.{env_in}
+use Rattle.wjs_heap_steps.proofs.Composing.{env_later}
+use Rattle.wjs_heap_steps.proofs.Later.{later_twice}
 use Rattle.wjs_calls.specs.Leaving.{Leaves}
 
 module _ {S : Type 0} (meaning : S → Meaning) where

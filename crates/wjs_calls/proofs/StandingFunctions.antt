@@ -18,9 +18,9 @@ use Rattle.wjs_model.specs.declared.unit.Unit.{Unit as Program}
 use Rattle.wjs_model.specs.Soundness.{IsThere}
 use Rattle.wjs_model.specs.Standing.{Outwards, is_function, count_of, own_scopes, IsFunction, FunctionStands}
 use Rattle.wjs_model.proofs.Standing.{stands_kept, stands_inner, function_kept}
-use Rattle.wjs_moves.specs.Following.{Later}
-use Rattle.wjs_moves.specs.Parts.{node_now}
-use Rattle.wjs_moves.proofs.Parting.{among_is}
+use Rattle.wjs_frames.specs.Following.{Later}
+use Rattle.wjs_frames.specs.Parts.{node_now}
+use Rattle.wjs_frames.proofs.Parting.{among_is}
 use Rattle.wjs_calls.specs.Standing.{StandsNamed}
 use Rattle.wjs_calls.proofs.Rows.{same_units}
 

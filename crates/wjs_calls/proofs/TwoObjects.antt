@@ -15,14 +15,14 @@ use Rattle.wjs_base.specs.Spelling.{IsName}
 use Rattle.wjs_base.specs.Text.{Table, Grows}
 use Rattle.wjs_base.proofs.TextLaws.{Grows-refl}
 use Rattle.wjs_store.specs.Meaning.{Meaning}
-use Rattle.wjs_content.specs.Renamed.{Holds}
+use Rattle.wjs_by_content.specs.Renamed.{Holds}
 use Rattle.wjs_arena.specs.declared.object.Code.TheVariants as code
 use Rattle.wjs_arena.specs.declared.object.Object.{Object}
 use Rattle.wjs_arena.specs.Entries.{Objects, Entry, IsArena, IsThere, Keeps, has, created as numbered_created, next_number as number_of_next, entry_over, scope_of}
 use Rattle.wjs_arena.proofs.Owners.{key_itself}
-use Rattle.wjs_content.specs.Objects.{Internals, created, next_number}
-use Rattle.wjs_content.specs.Tables.{arena_in, object_in}
-use Rattle.wjs_content.proofs.ArenaMaps.{number_same, created_same}
+use Rattle.wjs_by_content.specs.Objects.{Internals, created, next_number}
+use Rattle.wjs_by_content.specs.Tables.{arena_in, object_in}
+use Rattle.wjs_by_content.proofs.ArenaMaps.{number_same, created_same}
 use Rattle.wjs_heap.specs.Heap.{HasNamed, HasValue, IsHeap}
 use Rattle.wjs_heap.specs.Means.{parts}
 use Rattle.wjs_meaning.specs.Deeds.{St, Do, Create, interp}
@@ -36,13 +36,13 @@ use Rattle.wjs_model.specs.Apart.{NamesNear}
 use Rattle.wjs_model.specs.Soundness.{Base}
 use Rattle.wjs_model.specs.Standing.{FunctionStands}
 use Rattle.wjs_model.proofs.Standing.{code_kept}
-use Rattle.wjs_moves.specs.Doing.{Does}
-use Rattle.wjs_moves.specs.Following.{Later}
-use Rattle.wjs_deeds.proofs.Composing.{does_then}
-use Rattle.wjs_deeds.proofs.Making.{no_code}
-use Rattle.wjs_deeds.proofs.Running.{Ran, does_ran, told_same}
-use Rattle.wjs_deeds.proofs.Steps.{there_named}
-use Rattle.wjs_deeds.proofs.Staying.{later_on}
+use Rattle.wjs_frames.specs.Doing.{Does}
+use Rattle.wjs_frames.specs.Following.{Later}
+use Rattle.wjs_heap_steps.proofs.Composing.{does_then}
+use Rattle.wjs_heap_steps.proofs.Making.{no_code}
+use Rattle.wjs_heap_steps.proofs.Running.{Ran, does_ran, told_same}
+use Rattle.wjs_heap_steps.proofs.Steps.{there_named}
+use Rattle.wjs_heap_steps.proofs.Staying.{later_on}
 use Rattle.wjs_calls.specs.TwoObjects.{second_number, NamesSecond, StandsSecond}
 
 -- ---- numbers

@@ -2,7 +2,7 @@
 use Rattle.std.specs.Prelude.{false, List}
 use Rattle.wjs_base.specs.declared.ids.ObjId.{ObjId}
 use Rattle.wjs_arena.specs.declared.native.Native.{Native}
-use Rattle.wjs_content.specs.Values.{Value, Object}
+use Rattle.wjs_by_content.specs.Values.{Value, Object}
 use Rattle.wjs_meaning.specs.Deeds.{Env, Act, Ret, Eval, AtBody, AtNative}
 use Rattle.wjs_meaning.specs.NewObjects.{to_object}
 use Rattle.wjs_meaning.specs.Calls.{this_or_global}

@@ -5,7 +5,7 @@ use Rattle.wjs_base.specs.Text.{Table}
 use Rattle.wjs_store.specs.Meaning.{Meaning}
 use Rattle.wjs_meaning.specs.Deeds.{Act}
 use Rattle.wjs_model.specs.declared.config.Config.{Config}
-use Rattle.wjs_moves.specs.Following.{Follows}
+use Rattle.wjs_frames.specs.Following.{Follows}
 
 module _ {S : Type 0} (meaning : S → Meaning) where
   -- of all deeds these are left: what is followed of them is followed of all

@@ -6,9 +6,9 @@ use Rattle.wjs_base.specs.declared.values.Value.TheVariants as values
 use Rattle.wjs_arena.specs.declared.class.Class.TheVariants as class
 use Rattle.wjs_arena.specs.declared.object.Code.TheVariants as code
 use Rattle.wjs_arena.specs.declared.object.Object.{Object as NumberedObject}
-use Rattle.wjs_content.specs.Values.{Text, Object}
-use Rattle.wjs_content.specs.Names.{slot, prototype_name, constructor_name}
-use Rattle.wjs_content.specs.Objects.{next_number}
+use Rattle.wjs_by_content.specs.Values.{Text, Object}
+use Rattle.wjs_by_content.specs.Names.{slot, prototype_name, constructor_name}
+use Rattle.wjs_by_content.specs.Objects.{next_number}
 use Rattle.wjs_meaning.specs.Trees.{name_of, formals_of}
 use Rattle.wjs_meaning.specs.Deeds.{Env, Act, Do, Create, Look, Write, write_all, node_here}
 use Rattle.wjs_meaning.specs.Functions.{prototype_object, function_object, name_scope, make_function_in}

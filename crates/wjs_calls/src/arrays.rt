@@ -1,18 +1,18 @@
 //! Arrays, and values at indices.
 ghost use Rattle.std.specs.Prelude.{◌≡◌, IfOk, OnOk, All, map, Some};
 ghost use Rattle.wjs_base.specs.Text.{Table};
-ghost use Rattle.wjs_content.specs.Names.{slot, index_name};
-ghost use Rattle.wjs_content.specs.Tables.{value_in};
-ghost use Rattle.wjs_content.specs.Values.{whole};
+ghost use Rattle.wjs_by_content.specs.Names.{slot, index_name};
+ghost use Rattle.wjs_by_content.specs.Tables.{value_in};
+ghost use Rattle.wjs_by_content.specs.Values.{whole};
 ghost use Rattle.wjs_meaning.specs.Deeds.{Do, Write, write_all};
 ghost use Rattle.wjs_meaning.specs.NewObjects as line;
 ghost use Rattle.wjs_model.specs.Soundness.{Base, IsThere, HasObject, HasValue};
-ghost use Rattle.wjs_moves.specs.Doing.{Does, DoesFirst};
-ghost use Rattle.wjs_moves.specs.Parts.{env_in};
-ghost use Rattle.wjs_moves.specs.Following.{Later};
+ghost use Rattle.wjs_frames.specs.Doing.{Does, DoesFirst};
+ghost use Rattle.wjs_frames.specs.Parts.{env_in};
+ghost use Rattle.wjs_frames.specs.Following.{Later};
 
 use wjs_base::{Name, ObjId, OutOfMemory, Value, Whole};
-use wjs_deeds::{Known, create_array, write, write_known};
+use wjs_heap_steps::{Known, create_array, write, write_known};
 use wjs_model::{Config, Frame};
 use wjs_store::WorldStore;
 

@@ -2,13 +2,13 @@
 ghost use Rattle.std.specs.Prelude.{◌≡◌, length, MatchOption};
 ghost use Rattle.std.specs.Option.{option_map};
 ghost use Rattle.wjs_base.specs.Text.{Table};
-ghost use Rattle.wjs_content.specs.Tables.{text_in};
+ghost use Rattle.wjs_by_content.specs.Tables.{text_in};
 ghost use Rattle.wjs_meaning.specs.Deeds.{node_here};
 ghost use Rattle.wjs_meaning.specs.Reading.{node_in};
 ghost use Rattle.wjs_meaning.specs.Trees.{formals_of, name_of};
 ghost use Rattle.wjs_model.specs.Soundness.{Base};
 ghost use Rattle.wjs_model.specs.Texts as known;
-ghost use Rattle.wjs_moves.specs.Parts.{env_in, node_among};
+ghost use Rattle.wjs_frames.specs.Parts.{env_in, node_among};
 
 use wjs_base::TextId;
 use wjs_model::{Config, Frame};

@@ -1,23 +1,23 @@
 //! Calls (ECMA-262, 3rd edition, sections 10.2.3, 11.2.3 and 13.2.1).
 ghost use Rattle.std.specs.Prelude.{◌≡◌, IfOk};
-ghost use Rattle.wjs_content.specs.Tables.{value_in};
+ghost use Rattle.wjs_by_content.specs.Tables.{value_in};
 ghost use Rattle.wjs_meaning.specs.Calls as line;
 ghost use Rattle.wjs_meaning.specs.Deeds.{Sub};
 ghost use Rattle.wjs_meaning.specs.Expressions as expressions;
 ghost use Rattle.wjs_model.specs.Contents.{holding_in};
 ghost use Rattle.wjs_calls.specs.Callees.{script_call, native_call};
 ghost use Rattle.wjs_model.specs.Soundness.{HasObject, HasValue, HasItems, HasPoint};
-ghost use Rattle.wjs_moves.specs.Parts.{then_at};
-ghost use Rattle.wjs_moves.specs.Handling.{Runs, GoesOn, Begins};
+ghost use Rattle.wjs_frames.specs.Parts.{then_at};
+ghost use Rattle.wjs_frames.specs.Handling.{Runs, GoesOn, Begins};
 
 use crate::enters::{enter_body, enter_native};
 use std::alloc::Global;
 use wjs_arena::{Code, Native};
 use wjs_base::{ObjId, OutOfMemory, Value};
-use wjs_deeds::{code_of, function_of};
-use wjs_lines::{held_callee, this_or_global, throw, to_object};
+use wjs_frames::{finish, wait};
+use wjs_heap_steps::{code_of, function_of};
 use wjs_model::{Activation, Completion, Config, Frame, Items, Phase, Point, Start, Trouble};
-use wjs_moves::{finish, wait};
+use wjs_step_common::{held_callee, this_or_global, throw, to_object};
 use wjs_store::WorldStore;
 
 /// Calls a function, with the values that the frame holds as its arguments: it is entered in the frame's place.

@@ -1,15 +1,15 @@
 //! The entry of functions, in the place of the frame that was taken off: the values that it holds are the arguments.
 ghost use Rattle.std.specs.Prelude.{true, false};
-ghost use Rattle.wjs_content.specs.Tables.{value_in};
+ghost use Rattle.wjs_by_content.specs.Tables.{value_in};
 ghost use Rattle.wjs_meaning.specs.Deeds.{Ret, Eval, AtBody, AtNative};
 ghost use Rattle.wjs_model.specs.Contents.{holding_in};
 ghost use Rattle.wjs_model.specs.Soundness.{HasObject, HasValue};
-ghost use Rattle.wjs_moves.specs.Handling.{Runs, GoesOn};
+ghost use Rattle.wjs_frames.specs.Handling.{Runs, GoesOn};
 
 use wjs_arena::Native;
 use wjs_base::{ObjId, OutOfMemory, Value};
+use wjs_frames::due_later;
 use wjs_model::{Config, Frame, Start};
-use wjs_moves::due_later;
 use wjs_store::WorldStore;
 
 /// The body of a function that a script made.

@@ -2,15 +2,15 @@
 ghost use Rattle.std.specs.Prelude.{◌≡◌, All, IfOk, OnOk, Some};
 ghost use Rattle.std.specs.Option.{option_map};
 ghost use Rattle.wjs_base.specs.Text.{Has};
-ghost use Rattle.wjs_content.specs.Tables.{text_in};
+ghost use Rattle.wjs_by_content.specs.Tables.{text_in};
 ghost use Rattle.wjs_model.specs.Texts.{HasText};
 ghost use Rattle.wjs_meaning.specs.Reading.{numbers};
 ghost use Rattle.wjs_meaning.specs.Functions as line;
 ghost use Rattle.wjs_model.specs.Soundness.{Base, IsThere, HasObject};
 ghost use Rattle.wjs_model.specs.Standing.{IsFunction};
-ghost use Rattle.wjs_moves.specs.Doing.{Does, DoesFirst};
-ghost use Rattle.wjs_moves.specs.Parts.{env_in};
-ghost use Rattle.wjs_moves.specs.Following.{Later};
+ghost use Rattle.wjs_frames.specs.Doing.{Does, DoesFirst};
+ghost use Rattle.wjs_frames.specs.Parts.{env_in};
+ghost use Rattle.wjs_frames.specs.Following.{Later};
 ghost use Rattle.wjs_calls.specs.Making.{prototype_given, declare_one, declared_as};
 ghost use Rattle.wjs_calls.specs.Standing.{StandsNamed};
 
@@ -18,7 +18,7 @@ use crate::bodies::own_name;
 use crate::makes::{create_function, create_prototype};
 use crate::named::create_named;
 use wjs_base::{ObjId, OutOfMemory, TextId, Value};
-use wjs_deeds::{Known, name_of, write, write_known};
+use wjs_heap_steps::{Known, name_of, write, write_known};
 use wjs_model::{Config, Frame};
 use wjs_store::WorldStore;
 use wjs_tree::NodeId;

@@ -1,8 +1,8 @@
 //! The objects that functions are made of (ECMA-262, 3rd edition, section 13.2).
 ghost use Rattle.std.specs.Prelude.{◌≡◌, ◌∷◌, [], IfOk, OnOk, None, Some, length};
 ghost use Rattle.wjs_base.specs.Text.{Table, Grows};
-ghost use Rattle.wjs_content.specs.Names.{length_name, prototype_name};
-ghost use Rattle.wjs_content.specs.Tables.{name_in, object_in};
+ghost use Rattle.wjs_by_content.specs.Names.{length_name, prototype_name};
+ghost use Rattle.wjs_by_content.specs.Tables.{name_in, object_in};
 ghost use Rattle.wjs_heap.specs.Heap.{HasNamed};
 ghost use Rattle.wjs_heap.specs.Means.{nothing};
 ghost use Rattle.wjs_meaning.specs.Builtins.{function_prototype};
@@ -12,16 +12,17 @@ ghost use Rattle.wjs_meaning.specs.Functions as line;
 ghost use Rattle.wjs_model.specs.Apart.{IsNear, NamesNear};
 ghost use Rattle.wjs_model.specs.Soundness.{Base, HasObject, HasName};
 ghost use Rattle.wjs_model.specs.Standing.{IsFunction};
-ghost use Rattle.wjs_moves.specs.Doing.{Does};
-ghost use Rattle.wjs_moves.specs.Parts.{env_in};
-ghost use Rattle.wjs_moves.specs.Following.{Later};
+ghost use Rattle.wjs_frames.specs.Doing.{Does};
+ghost use Rattle.wjs_frames.specs.Parts.{env_in};
+ghost use Rattle.wjs_frames.specs.Following.{Later};
 
 use crate::arrays::whole_value;
 use crate::bodies::formals_count;
 use std::alloc::Global;
 use wjs_arena::{Class, Code, Flags, Listed, Object};
-use wjs_base::{Name, NodeId as Body, ObjId, OutOfMemory, Value};
-use wjs_deeds::{Known, builtin, create, known_name, object_of, one_fixed};
+use wjs_base::{Name, NodeId as Body, ObjId, OutOfMemory};
+use wjs_heap_steps::{Known, builtin, create, known_name, object_of, one_fixed};
+use wjs_meaning::Builtin;
 use wjs_model::{Config, Frame};
 use wjs_store::WorldStore;
 use wjs_tree::NodeId;
@@ -81,7 +82,7 @@ pub(crate) fn function_object<S: WorldStore>(
     };
     let fixed = one_fixed(alloc, names.length, count)?;
     let flags = one_flag(alloc, names.prototype, kept)?;
-    let prototype = builtin(config, 1);
+    let prototype = builtin(config, Builtin::FunctionPrototype);
     let mut object = object_of(alloc, Class::Function, Some(prototype));
     object.scope = Some(scope);
     object.code = Code::Script {
@@ -123,7 +124,7 @@ pub(crate) fn create_prototype<S: WorldStore>(config: &mut Config<S>) -> Result<
     ensures found { IfOk result (λ o. HasObject config.new o) }
 {
     let name = known_name(config, Known::Constructor)?;
-    let prototype = builtin(config, 0);
+    let prototype = builtin(config, Builtin::ObjectPrototype);
     let alloc = config.heap.arena.allocator();
     let hidden = Flags {
         hidden: true,
@@ -139,11 +140,7 @@ pub(crate) fn create_prototype<S: WorldStore>(config: &mut Config<S>) -> Result<
 fn one_flag(alloc: Global, name: Name, flag: Flags) -> Result<Listed, OutOfMemory>
     ensures { IfOk result (λ under. under ≡ (name, flag) ∷ []) }
 {
-    let Ok(mut flags) = Vec::with_capacity(alloc, 1) else {
-        return Err(OutOfMemory);
-    };
-    match flags.push((name, flag)) {
-        Ok(()) => Ok(Listed::from_vec(flags)),
-        Err(_) => Err(OutOfMemory),
-    }
+    let mut flags = Vec::with_capacity(alloc, 1)?;
+    flags.push((name, flag))?;
+    Ok(Listed::from_vec(flags))
 }

@@ -1,11 +1,11 @@
 //! Functions with a name of their own (ECMA-262, 3rd edition, section 13).
 ghost use Rattle.std.specs.Prelude.{◌≡◌, IfOk, OnOk, Some};
 ghost use Rattle.wjs_base.specs.Text.{Has};
-ghost use Rattle.wjs_content.specs.Tables.{text_in};
+ghost use Rattle.wjs_by_content.specs.Tables.{text_in};
 ghost use Rattle.wjs_model.specs.Soundness.{Base, IsThere, HasObject};
-ghost use Rattle.wjs_moves.specs.Doing.{Does};
-ghost use Rattle.wjs_moves.specs.Parts.{env_in};
-ghost use Rattle.wjs_moves.specs.Following.{Later};
+ghost use Rattle.wjs_frames.specs.Doing.{Does};
+ghost use Rattle.wjs_frames.specs.Parts.{env_in};
+ghost use Rattle.wjs_frames.specs.Following.{Later};
 ghost use Rattle.wjs_calls.specs.Making.{named_made, scope_of_name};
 ghost use Rattle.wjs_calls.specs.Standing.{StandsNamed};
 
@@ -14,7 +14,7 @@ use crate::pairs::create_pair;
 use std::alloc::Global;
 use wjs_arena::{Class, Object};
 use wjs_base::{Name, ObjId, OutOfMemory, TextId, Value};
-use wjs_deeds::{name_of, next_number, object_of, one_fixed};
+use wjs_heap_steps::{name_of, next_number, object_of, one_fixed};
 use wjs_model::{Config, Frame};
 use wjs_store::WorldStore;
 use wjs_tree::NodeId;

@@ -1,22 +1,23 @@
 //! `new` (ECMA-262, 3rd edition, sections 11.2.2 and 13.2.2).
 ghost use Rattle.std.specs.Prelude.{◌≡◌};
-ghost use Rattle.wjs_content.specs.Names.{prototype_name};
-ghost use Rattle.wjs_content.specs.Tables.{value_in, arena_in};
-ghost use Rattle.wjs_content.specs.Objects.{object_at};
+ghost use Rattle.wjs_by_content.specs.Names.{prototype_name};
+ghost use Rattle.wjs_by_content.specs.Tables.{value_in, arena_in};
+ghost use Rattle.wjs_by_content.specs.Objects.{object_at};
 ghost use Rattle.wjs_meaning.specs.Properties.{get_value};
 ghost use Rattle.wjs_meaning.specs.Constructions as line;
 ghost use Rattle.wjs_model.specs.Contents.{holding_in};
 ghost use Rattle.wjs_model.specs.Soundness.{HasObject, HasValue};
-ghost use Rattle.wjs_moves.specs.Handling.{Runs, GoesOn};
+ghost use Rattle.wjs_frames.specs.Handling.{Runs, GoesOn};
 
 use crate::calls::call_below;
 use crate::enters::enter_constructor;
 use wjs_arena::{Class, Code, Native};
 use wjs_base::{ObjId, OutOfMemory, Value};
-use wjs_deeds::{Known, builtin, code_of, create, function_of, get_known, object_of};
-use wjs_lines::throw;
+use wjs_frames::hold;
+use wjs_heap_steps::{Known, builtin, code_of, create, function_of, get_known, object_of};
+use wjs_meaning::{Builtin, row_of};
 use wjs_model::{Config, ExprPoint, Frame, Held, Point, Trouble};
-use wjs_moves::hold;
+use wjs_step_common::throw;
 use wjs_store::WorldStore;
 
 /// The frame of a `new` makes an object and calls a function on it, with the values that the frame holds as the arguments. A
@@ -84,7 +85,7 @@ fn construct_script<S: WorldStore>(
     match found {
         Value::Object(prototype) => construct_on(config, frame, function, prototype),
         _ => {
-            let prototype = builtin(config, 0);
+            let prototype = builtin(config, Builtin::ObjectPrototype);
             construct_on(config, frame, function, prototype)
         }
     }
@@ -121,18 +122,5 @@ fn construct_on<S: WorldStore>(
 fn is_constructor(native: Native) -> bool
     ensures { result ≡ line.is_constructor native }
 {
-    matches!(
-        native,
-        Native::ObjectConstructor
-            | Native::FunctionConstructor
-            | Native::ErrorConstructor
-            | Native::TypeErrorConstructor
-            | Native::RangeErrorConstructor
-            | Native::ReferenceErrorConstructor
-            | Native::WorldConstructor
-            | Native::ArrayConstructor
-            | Native::StringConstructor
-            | Native::NumberConstructor
-            | Native::BooleanConstructor
-    )
+    row_of(native).prototype.is_some()
 }

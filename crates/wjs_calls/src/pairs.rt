@@ -3,13 +3,13 @@ ghost use Rattle.std.specs.Prelude.{◌≡◌, IfOk, OnOk, None, Some};
 ghost use Rattle.wjs_base.specs.declared.ids.ObjId.{ObjId};
 ghost use Rattle.wjs_base.specs.Text.{Table, Grows};
 ghost use Rattle.wjs_arena.specs.Entries.{IsThere, next_number};
-ghost use Rattle.wjs_content.specs.Objects.{Internals};
-ghost use Rattle.wjs_content.specs.Tables.{object_in};
+ghost use Rattle.wjs_by_content.specs.Objects.{Internals};
+ghost use Rattle.wjs_by_content.specs.Tables.{object_in};
 ghost use Rattle.wjs_meaning.specs.Deeds.{Do, Create};
 ghost use Rattle.wjs_model.specs.Apart.{NamesNear};
 ghost use Rattle.wjs_model.specs.Soundness.{Base, HasObject};
-ghost use Rattle.wjs_moves.specs.Doing.{Does};
-ghost use Rattle.wjs_moves.specs.Following.{Later};
+ghost use Rattle.wjs_frames.specs.Doing.{Does};
+ghost use Rattle.wjs_frames.specs.Following.{Later};
 ghost use Rattle.wjs_calls.specs.TwoObjects.{NamesSecond, StandsSecond};
 
 use wjs_arena::{Code, Object};

@@ -9,11 +9,11 @@ use Rattle.wjs_gen.specs.Script.{script}
 use Rattle.wjs_meaning.specs.Programs.{Ending, Done as EndsDone, Threw as EndsThrown, StepsSpent as EndsSpent}
 use Rattle.wjs_meaning.specs.Trees.{Tree}
 use Rattle.wjs_alone.specs.Playing.{Play, play}
-use Rattle.wjs_words.specs.Command.{command}
-use Rattle.wjs_words.specs.Lines.{IsUsageLine}
-use Rattle.wjs_words.specs.declared.answer.Options.{Options}
-use Rattle.wjs_words.specs.declared.mode.Mode.{Mode}
-use Rattle.wjs_words.specs.declared.mode.Mode.TheVariants as modes
+use Rattle.wjs_options.specs.Command.{command}
+use Rattle.wjs_options.specs.Lines.{IsUsageLine}
+use Rattle.wjs_options.specs.declared.answer.Options.{Options}
+use Rattle.wjs_options.specs.declared.mode.Mode.{Mode}
+use Rattle.wjs_options.specs.declared.mode.Mode.TheVariants as modes
 use Rattle.wjs_command.specs.declared.status.Status.{Status}
 use Rattle.wjs_command.specs.declared.status.Status.TheVariants as statuses
 use Rattle.wjs_command.specs.declared.report.Report.{Report}

@@ -7,9 +7,9 @@ use Rattle.wjs_base.specs.declared.ids.OutOfMemory.{OutOfMemory}
 use Rattle.wjs_base.specs.Text.{Table, Grows}
 use Rattle.wjs_base.proofs.TextLaws.{Grows-refl, Grows-trans}
 use Rattle.wjs_store.specs.Meaning.{Meaning, PlainAct, PlainReply, IsSound}
-use Rattle.wjs_content.specs.Carried.{tell}
-use Rattle.wjs_content.specs.Plans.{Told}
-use Rattle.wjs_content.specs.Worlds.{told_in, told_by}
+use Rattle.wjs_by_content.specs.Carried.{tell}
+use Rattle.wjs_by_content.specs.Plans.{Told}
+use Rattle.wjs_by_content.specs.Worlds.{told_in, told_by}
 use Rattle.wjs_meaning.specs.Trees.{Tree}
 use Rattle.wjs_meaning.specs.Programs.{machine}
 use Rattle.wjs_meaning.specs.Start.{properties}
@@ -21,8 +21,8 @@ use Rattle.wjs_model.specs.Soundness.{Sound}
 use Rattle.wjs_model.specs.Texts.{KnowsUnit, PlacesUnit}
 use Rattle.wjs_model.specs.Units.{unit_in}
 use Rattle.wjs_model.proofs.Placed.{placed_stay}
-use Rattle.wjs_moves.proofs.NodesGrow.{unit_grows}
-use Rattle.wjs_deeds.proofs.Staying.{units_stay}
+use Rattle.wjs_frames.proofs.NodesGrow.{unit_grows}
+use Rattle.wjs_heap_steps.proofs.Staying.{units_stay}
 use Rattle.wjs_start.specs.First.{writes_told}
 use Rattle.wjs_start.specs.Starting.{Starts}
 use Rattle.wjs_load.specs.Loading.{IsProgramOrNot}

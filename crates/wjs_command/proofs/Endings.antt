@@ -4,11 +4,11 @@ use Rattle.wjs_base.specs.declared.ids.OutOfMemory.{OutOfMemory as NoMemory}
 use Rattle.wjs_base.specs.declared.values.Value.{Value as NumberedValue}
 use Rattle.wjs_store.specs.Meaning.{Meaning}
 use Rattle.wjs_io.specs.Streams.{Stream, stream, Got}
-use Rattle.wjs_content.specs.Plans.{Told as Deed}
-use Rattle.wjs_content.specs.Tables.{value_in}
+use Rattle.wjs_by_content.specs.Plans.{Told as Deed}
+use Rattle.wjs_by_content.specs.Tables.{value_in}
 use Rattle.wjs_meaning.specs.Deeds.{St}
 use Rattle.wjs_meaning.specs.Programs.{Ending, Done, Threw, StepsSpent}
-use Rattle.wjs_meaning.specs.Builtins.{first_world}
+use Rattle.wjs_store.specs.State.{first_world}
 use Rattle.wjs_meaning.specs.Start.{properties}
 use Rattle.wjs_model.specs.declared.config.Config.{Config}
 use Rattle.wjs_model.specs.Configurations.{seen, after_done, tells}
@@ -20,7 +20,7 @@ use Rattle.wjs_machine.specs.declared.halt.Ending.{Ending as Outcome}
 use Rattle.wjs_machine.specs.declared.halt.Ending.TheVariants as outcomes
 use Rattle.wjs_machine.specs.Runs.{output_of, EndsAs, RunsTo}
 use Rattle.wjs_machine.proofs.Running.{stops_longer}
-use Rattle.wjs_words.specs.declared.mode.Mode.{Mode}
+use Rattle.wjs_options.specs.declared.mode.Mode.{Mode}
 use Rattle.wjs_command.specs.declared.report.Report.{Report}
 use Rattle.wjs_command.specs.declared.report.Stop.{Stop}
 use Rattle.wjs_command.specs.declared.report.Stop.TheVariants.{OutFault, OutOfMemory}

@@ -7,7 +7,7 @@ use Rattle.wjs_io.specs.Faults.{Rises}
 use Rattle.wjs_io.specs.Streams.{Stream, stream}
 use Rattle.wjs_io.proofs.Written.{Appends-nil}
 use Rattle.wjs_audit.specs.Recorded.{Recorded}
-use Rattle.wjs_content.specs.Worlds.{told_by}
+use Rattle.wjs_by_content.specs.Worlds.{told_by}
 use Rattle.wjs_logs.specs.Telling.{Tells, logged}
 use Rattle.wjs_meaning.specs.Deeds.{St}
 use Rattle.wjs_meaning.specs.Programs.{Ending, machine}

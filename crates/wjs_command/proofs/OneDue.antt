@@ -1,9 +1,9 @@
 -- At most one thing is due, in mode `log` up to the log.
 use Rattle.std.proofs.Common.{◌≡◌, ◌≢◌, ℕ, List, [], Option, refl, sym, ap, subst, ◌∙◌, arith}
 use Rattle.std.specs.Prelude.{unwrap_or}
-use Rattle.wjs_words.specs.declared.answer.Options.{Options}
-use Rattle.wjs_words.specs.declared.mode.Mode.{Mode}
-use Rattle.wjs_words.specs.declared.mode.Mode.TheVariants as modes
+use Rattle.wjs_options.specs.declared.answer.Options.{Options}
+use Rattle.wjs_options.specs.declared.mode.Mode.{Mode}
+use Rattle.wjs_options.specs.declared.mode.Mode.TheVariants as modes
 use Rattle.wjs_load.specs.declared.tokens.Refusal.{Refusal}
 use Rattle.wjs_load.specs.Laws.{OneRefusal, ProgramOrRefusal, OneAnswer}
 use Rattle.wjs_meaning.specs.Trees.{Tree}

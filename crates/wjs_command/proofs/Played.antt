@@ -9,7 +9,7 @@ use Rattle.wjs_meaning.specs.Trees.{Tree}
 use Rattle.wjs_model.specs.declared.unit.Unit.{Unit as Program}
 use Rattle.wjs_model.specs.Texts.{KnowsUnit}
 use Rattle.wjs_model.specs.Units.{unit_in}
-use Rattle.wjs_moves.proofs.NodesGrow.{unit_grows}
+use Rattle.wjs_frames.proofs.NodesGrow.{unit_grows}
 use Rattle.wjs_activity.specs.declared.whole.PlayEnd.{PlayEnd}
 use Rattle.wjs_activity.specs.declared.whole.PlayEnd.TheVariants as played
 use Rattle.wjs_alone.specs.Playing.{Play, play}
@@ -17,8 +17,8 @@ use Rattle.wjs_activity.specs.Plays.{Plays}
 use Rattle.wjs_division.specs.declared.input.InputFault.{InputFault}
 use Rattle.wjs_division.specs.declared.input.InputFault.TheVariants as inputs
 use Rattle.wjs_division.specs.Inputs.{HasFault, IsInput, IsNoInput}
-use Rattle.wjs_words.specs.declared.mode.Mode.{Mode}
-use Rattle.wjs_words.specs.declared.mode.Mode.TheVariants as modes
+use Rattle.wjs_options.specs.declared.mode.Mode.{Mode}
+use Rattle.wjs_options.specs.declared.mode.Mode.TheVariants as modes
 use Rattle.wjs_command.specs.declared.report.Report.{Report}
 use Rattle.wjs_command.specs.declared.report.Stop.{Stop}
 use Rattle.wjs_command.specs.declared.status.Status.TheVariants as statuses

@@ -12,9 +12,9 @@ use Rattle.wjs_model.specs.Units.{unit_in}
 use Rattle.wjs_audit.specs.declared.fault.AuditFault.{AuditFault}
 use Rattle.wjs_audit.specs.declared.fault.AuditFault.TheVariants.{NotALog, NotTheAnswer, OutOfMemory}
 use Rattle.wjs_logs.specs.Judging.{HasFault, Blames}
-use Rattle.wjs_words.specs.declared.answer.Options.{Options}
-use Rattle.wjs_words.specs.declared.mode.Mode.{Mode}
-use Rattle.wjs_words.specs.declared.mode.Mode.TheVariants as modes
+use Rattle.wjs_options.specs.declared.answer.Options.{Options}
+use Rattle.wjs_options.specs.declared.mode.Mode.{Mode}
+use Rattle.wjs_options.specs.declared.mode.Mode.TheVariants as modes
 use Rattle.wjs_command.specs.declared.report.Report.{Report}
 use Rattle.wjs_command.specs.declared.report.Stop.{Stop}
 use Rattle.wjs_command.specs.Table.{Told}

@@ -4,9 +4,9 @@ use Rattle.clap.specs.Words.{fault_of}
 use Rattle.wjs_base.specs.Text.{Table}
 use Rattle.wjs_store.specs.Meaning.{Meaning, worlds}
 use Rattle.wjs_io.specs.Streams.{Stream, Failed, Had, Gave, Got, GotPrefix, Stops}
-use Rattle.wjs_content.specs.Tables.{value_in, arena_in}
-use Rattle.wjs_content.specs.Worlds.{worlds_in, told_in}
-use Rattle.wjs_meaning.specs.Builtins.{first_world}
+use Rattle.wjs_by_content.specs.Tables.{value_in, arena_in}
+use Rattle.wjs_by_content.specs.Worlds.{worlds_in, told_in}
+use Rattle.wjs_store.specs.State.{first_world}
 use Rattle.wjs_meaning.specs.Deeds.{St}
 use Rattle.wjs_meaning.specs.Trees.{Tree}
 use Rattle.wjs_meaning.specs.Programs.{Ending, Done, Threw, StepsSpent, machine}
@@ -30,10 +30,10 @@ use Rattle.wjs_audit.specs.declared.fault.AuditFault.TheVariants as audits
 use Rattle.wjs_machine.specs.declared.halt.Ending.{Ending as Outcome}
 use Rattle.wjs_machine.specs.declared.halt.Ending.TheVariants as outcomes
 use Rattle.wjs_machine.specs.Runs.{run_of}
-use Rattle.wjs_words.specs.Command.{command}
-use Rattle.wjs_words.specs.declared.mode.Mode.{Mode}
-use Rattle.wjs_words.specs.declared.mode.Mode.TheVariants.{Play}
-use Rattle.wjs_words.specs.declared.answer.Options.{Options}
+use Rattle.wjs_options.specs.Command.{command}
+use Rattle.wjs_options.specs.declared.mode.Mode.{Mode}
+use Rattle.wjs_options.specs.declared.mode.Mode.TheVariants.{Play}
+use Rattle.wjs_options.specs.declared.answer.Options.{Options}
 use Rattle.wjs_command.specs.declared.status.Status.{Status}
 use Rattle.wjs_command.specs.declared.status.Status.TheVariants as statuses
 use Rattle.wjs_command.specs.declared.report.Report.{Report}

@@ -1,9 +1,9 @@
 -- What a run of the program ends with, for its words and the bytes of its source.
 use Rattle.std.specs.Prelude.{◌≡◌, ◌≢◌, ℕ, List, [], codes, ◌⊎◌}
 use Rattle.clap.specs.Words.{fault_of}
-use Rattle.wjs_words.specs.Command.{command}
-use Rattle.wjs_words.specs.declared.answer.Options.{Options}
-use Rattle.wjs_words.specs.declared.mode.Mode.TheVariants.{Play}
+use Rattle.wjs_options.specs.Command.{command}
+use Rattle.wjs_options.specs.declared.answer.Options.{Options}
+use Rattle.wjs_options.specs.declared.mode.Mode.TheVariants.{Play}
 use Rattle.wjs_io.specs.Streams.{Stream, Failed, Had, Gave, Got, GotPrefix, GotLess, Stops}
 use Rattle.wjs_command.specs.declared.status.Status.{Status}
 use Rattle.wjs_command.specs.declared.status.Status.TheVariants.{Done, Threw, StepsSpent, OutOfMemory, Refused, Usage, ReadFault, OutFault, ErrFault}

@@ -2,12 +2,12 @@
 use Rattle.std.specs.Prelude.{◌≡◌, ◌≢◌, ℕ, ◌+◌, ◌<◌, ◌≤◌, List, [], ◌++◌, length, take, codes, Option}
 use Rattle.std.specs.Fmt.{decimal}
 use Rattle.clap.specs.Words.{fault_of, matches_of}
-use Rattle.wjs_words.specs.Command.{command}
-use Rattle.wjs_words.specs.Lines.{IsUsageLine}
-use Rattle.wjs_words.specs.Options.{Gives}
-use Rattle.wjs_words.specs.declared.answer.Options.{Options}
-use Rattle.wjs_words.specs.declared.mode.Mode.{Mode}
-use Rattle.wjs_words.specs.declared.mode.Mode.TheVariants as modes
+use Rattle.wjs_options.specs.Command.{command}
+use Rattle.wjs_options.specs.Lines.{IsUsageLine}
+use Rattle.wjs_options.specs.Options.{Gives}
+use Rattle.wjs_options.specs.declared.answer.Options.{Options}
+use Rattle.wjs_options.specs.declared.mode.Mode.{Mode}
+use Rattle.wjs_options.specs.declared.mode.Mode.TheVariants as modes
 use Rattle.wjs_load.specs.declared.tokens.Refusal.{Refusal}
 use Rattle.wjs_load.specs.Loading.{Refuses}
 use Rattle.wjs_gen.specs.Script.{script}
@@ -15,7 +15,7 @@ use Rattle.wjs_audit.specs.declared.fault.AuditFault.{AuditFault}
 use Rattle.wjs_audit.specs.declared.fault.AuditFault.TheVariants.{NotALog, NotTheAnswer, OutOfMemory}
 use Rattle.wjs_logs.specs.Judging.{HasFault, IsRight}
 use Rattle.wjs_logs.specs.Telling.{Tells}
-use Rattle.wjs_content.specs.Plans.{Told as Deed}
+use Rattle.wjs_by_content.specs.Plans.{Told as Deed}
 use Rattle.wjs_meaning.specs.Trees.{Tree}
 use Rattle.wjs_meaning.specs.Programs.{machine}
 use Rattle.wjs_command.specs.declared.status.Status.TheVariants.{Done, Usage}

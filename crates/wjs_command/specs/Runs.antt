@@ -7,8 +7,8 @@ use Rattle.wjs_meaning.specs.Start.{properties}
 use Rattle.wjs_start.specs.First.{writes_told}
 use Rattle.wjs_logs.specs.Telling.{Tells}
 use Rattle.wjs_reports.specs.Lines.{lines_of}
-use Rattle.wjs_words.specs.declared.mode.Mode.{Mode}
-use Rattle.wjs_words.specs.declared.mode.Mode.TheVariants as modes
+use Rattle.wjs_options.specs.declared.mode.Mode.{Mode}
+use Rattle.wjs_options.specs.declared.mode.Mode.TheVariants as modes
 use Rattle.wjs_command.specs.declared.status.Status.{Status}
 use Rattle.wjs_command.specs.declared.status.Status.TheVariants as statuses
 use Rattle.wjs_command.specs.Table.{Told, line}

@@ -3,7 +3,7 @@ ghost use Rattle.std.specs.Prelude.{◌≡◌};
 ghost use Rattle.wjs_base.specs.Text.{IsTable};
 ghost use Rattle.wjs_io.specs.Streams.{over};
 ghost use Rattle.wjs_logs.specs.Telling.{logged};
-ghost use Rattle.wjs_meaning.specs.Builtins.{first_world};
+ghost use Rattle.wjs_store.specs.State.{first_world};
 ghost use Rattle.wjs_meaning.specs.Deeds.{St};
 ghost use Rattle.wjs_meaning.specs.Programs.{Ending as Meant};
 ghost use Rattle.wjs_model.specs.Soundness.{Sound};

@@ -17,9 +17,9 @@ use std::alloc::Global;
 use wjs_base::{OutOfMemory, Texts};
 use wjs_io::Sink;
 use wjs_load::{LoadFault, load};
+use wjs_options::{Mode, Options};
 use wjs_overlay::Overlay;
 use wjs_store::WorldStore;
-use wjs_words::{Mode, Options};
 
 /// Does what the options ask with the bytes, in sparse worlds.
 pub fn perform<O: Sink>(

@@ -3,8 +3,8 @@ ghost use Rattle.std.specs.Prelude.{◌≡◌, ◌≤◌, [], IfOk};
 ghost use Rattle.wjs_base.specs.Text.{IsTable};
 ghost use Rattle.wjs_store.specs.Meaning.{worlds};
 ghost use Rattle.wjs_io.specs.Streams.{over};
-ghost use Rattle.wjs_content.specs.Worlds.{worlds_in, KnowsWorlds};
-ghost use Rattle.wjs_meaning.specs.Builtins.{first_world};
+ghost use Rattle.wjs_by_content.specs.Worlds.{worlds_in, KnowsWorlds};
+ghost use Rattle.wjs_store.specs.State.{first_world};
 ghost use Rattle.wjs_meaning.specs.Deeds.{St};
 ghost use Rattle.wjs_meaning.specs.Programs.{Ending as Meant};
 ghost use Rattle.wjs_model.specs.Soundness.{Sound};
@@ -23,10 +23,10 @@ use wjs_io::{Sink, write_pieces};
 use wjs_load::library;
 use wjs_machine::{Ending, run};
 use wjs_model::{Config, Unit};
+use wjs_options::Mode;
 use wjs_reports::{show_thrown, world_lines};
 use wjs_start::start;
 use wjs_store::WorldStore;
-use wjs_words::Mode;
 
 /// Runs a script's program behind the library, with so many steps, over a new store. What stands behind its output goes by the mode.
 pub fn run_script<S: WorldStore + Drop, O: Sink>(

@@ -14,7 +14,7 @@ use std::alloc::Global;
 use wjs_base::OutOfMemory;
 use wjs_gen::script_of;
 use wjs_io::{ReadFault, Sink, Source, read_all, write_all_of};
-use wjs_words::{Mode, Options, WordsFault, options};
+use wjs_options::{Mode, Options, WordsFault, options};
 
 /// The most bytes that are read: those of a script, or of a log that is audited.
 fn most_bytes(mode: Mode) -> u64
@@ -136,7 +136,7 @@ fn finish<E: Sink>(err: &mut E, outcome: Result<Report, Stop>) -> Status
 /// or does what another mode asks for.
 ///
 /// The words are those of the command line, the program's name first: `worlds [--steps N] [--mode M] [--number K] [--turn Q]`, read
-/// by `clap`. The options, and what each mode does, are said by [`wjs_words::Options`] and [`wjs_words::Mode`]; what each status stands
+/// by `clap`. The options, and what each mode does, are said by [`wjs_options::Options`] and [`wjs_options::Mode`]; what each status stands
 /// for is said by [`Status`]. A status by a fault comes only where the count of faults of the source or the sink at fault rose in
 /// this call, and OutOfMemory where memory ran out.
 pub fn command<S: Source, O: Sink, E: Sink>(

@@ -1,15 +1,12 @@
--- Strict equality is sameness, but for NaN, and sameness of contents is that of their values.
+-- Strict equality is sameness, but for NaN.
 use Rattle.std.proofs.Common.{◌≡◌, true, not, ◌&&◌, None, Some, ap, sym, ◌∙◌, refl}
-use Rattle.wjs_base.specs.declared.values.Content.{Content}
-use Rattle.wjs_base.specs.declared.values.Content.TheVariants.{Absent, Present}
 use Rattle.wjs_base.specs.declared.values.Value.{Value as NumberedValue}
 use Rattle.wjs_base.specs.Same as numbered
 use Rattle.wjs_base.specs.Text.{Table}
-use Rattle.wjs_content.specs.Values.{Value, Number, same_value}
-use Rattle.wjs_store.specs.State.{same_content}
-use Rattle.wjs_content.specs.Tables.{value_in, content_in, knows_value, knows_content}
-use Rattle.wjs_content.proofs.Same.{same_values}
-use Rattle.wjs_content.specs.Conversions.{is_nan, strictly_equal}
+use Rattle.wjs_by_content.specs.Values.{Value, Number, same_value}
+use Rattle.wjs_by_content.specs.Tables.{value_in, knows_value}
+use Rattle.wjs_by_content.proofs.Same.{same_values}
+use Rattle.wjs_by_content.specs.Conversions.{is_nan, strictly_equal}
 
 strict_is : (x y : Value) → (not (is_nan x) && same_value x y) ≡ strictly_equal x y
 strict_is (Number None) (Number None) = refl
@@ -27,12 +24,3 @@ module _ (texts : Table) where
       ap (λ c. c && numbered.same_value a b) (sym n)
       ∙ ap (λ s. not (is_nan (value_in texts a)) && s) (same_values texts a b k l)
       ∙ strict_is (value_in texts a) (value_in texts b)
-
-  -- of contents that are both present
-  pub present_same : (a b : Content) (x y : NumberedValue) → a ≡ Present x → b ≡ Present y → knows_content texts a ≡ true → knows_content texts b ≡ true → numbered.same_value x y ≡ same_content same_value (content_in texts a) (content_in texts b)
-  present_same (Present u) (Present v) x y e f k l =
-      let p : x ≡ u = cc in
-      let q : y ≡ v = cc in
-      (λ i. numbered.same_value (p i) (q i)) ∙ same_values texts u v k l
-  present_same Absent b x y e f k l = cc
-  present_same (Present u) Absent x y e f k l = cc

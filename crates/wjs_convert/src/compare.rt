@@ -1,26 +1,13 @@
 //! Which values are equal, and which is less.
 ghost use Rattle.std.specs.Prelude.{◌≡◌, true};
 ghost use Rattle.wjs_base.specs.Text.{Table};
-ghost use Rattle.wjs_store.specs.State.{same_content};
-ghost use Rattle.wjs_content.specs.Values.{same_value};
-ghost use Rattle.wjs_content.specs.Tables.{content_in, value_in, knows_content, knows_value};
-ghost use Rattle.wjs_content.specs.Conversions.{alike, equal, is_nan, is_nullish, less_than, loosely_equal, strictly_equal};
+ghost use Rattle.wjs_by_content.specs.Tables.{value_in, knows_value};
+ghost use Rattle.wjs_by_content.specs.Conversions.{alike, equal, is_nan, is_nullish, less_than, loosely_equal, strictly_equal};
 
 use crate::convert::to_number;
 use std::cmp::Ordering;
-use wjs_base::{Content, Texts, Value, Whole, same_value};
+use wjs_base::{Texts, Value, Whole, same_value};
 use wjs_num::less;
-
-/// Whether two contents are one: both absent, or one value, where NaN is the same as NaN.
-pub fn same_content(a: Content, b: Content) -> bool
-    ensures { (texts : Table) → knows_content texts a ≡ true → knows_content texts b ≡ true → result ≡ same_content same_value (content_in texts a) (content_in texts b) }
-{
-    match (a, b) {
-        (Content::Absent, Content::Absent) => true,
-        (Content::Present(a), Content::Present(b)) => same_value(a, b),
-        _ => false,
-    }
-}
 
 /// `===` (ECMA-262, 3rd edition, section 11.9.6): one value, but NaN equals nothing. Objects are equal where they are one.
 #[inline(always)]

@@ -2,8 +2,8 @@
 ghost use Rattle.std.specs.Prelude.{◌≡◌, true, Some, IfOk, OnOk, OnErr};
 ghost use Rattle.wjs_base.specs.Range.{InRange};
 ghost use Rattle.wjs_base.specs.Text.{Table, Grows, Interns, IsTable};
-ghost use Rattle.wjs_content.specs.Tables.{value_in, knows_value};
-ghost use Rattle.wjs_content.specs.Conversions.{is_primitive, to_boolean, primitive_number, primitive_text};
+ghost use Rattle.wjs_by_content.specs.Tables.{value_in, knows_value};
+ghost use Rattle.wjs_by_content.specs.Conversions.{is_primitive, to_boolean, primitive_number, primitive_text};
 
 use std::alloc::Global;
 use wjs_base::{LONGEST_TEXT, OutOfMemory, TextId, Texts, Value, Whole};

@@ -7,5 +7,5 @@
 mod compare;
 mod convert;
 
-pub use compare::{less_than, loosely_equal, same_content, strictly_equal};
+pub use compare::{less_than, loosely_equal, strictly_equal};
 pub use convert::{is_primitive, to_boolean, to_number, to_text};

@@ -12,8 +12,8 @@ use Rattle.wjs_model.specs.declared.unit.Unit.{Unit as Program}
 use Rattle.wjs_model.specs.Texts.{KnowsUnit, PlacesUnit}
 use Rattle.wjs_model.specs.Units.{unit_in}
 use Rattle.wjs_model.proofs.Placed.{placed_stay}
-use Rattle.wjs_moves.proofs.NodesGrow.{unit_grows}
-use Rattle.wjs_deeds.proofs.Staying.{units_stay}
+use Rattle.wjs_frames.proofs.NodesGrow.{unit_grows}
+use Rattle.wjs_heap_steps.proofs.Staying.{units_stay}
 use Rattle.wjs_programs.specs.Programs.{IsProgram}
 use Rattle.wjs_division.specs.declared.division.Piece.{Piece}
 use Rattle.wjs_division.specs.declared.input.InputFault.{InputFault}

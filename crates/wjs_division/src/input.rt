@@ -31,7 +31,7 @@ pub enum InputFault {
     OutOfMemory,
 }
 
-/// The units of the parts that at most 16,777,216 bytes are divided into by lines that are `---`; their texts are put into the table,
+/// The loaded programs of the parts that at most 16,777,216 bytes are divided into by lines that are `---`; their texts are put into the table,
 /// in which what was there keeps its number, also after a fault. Each fault but want of memory comes exactly where it holds of the
 /// bytes.
 pub fn load_parts(alloc: Global, bytes: &[u8], texts: &mut Texts) -> Result<Vec<Unit>, InputFault>
@@ -81,7 +81,7 @@ fn are_too_many(pieces: &[Piece]) -> bool
     pieces.len() > MOST
 }
 
-/// The units of the parts, one after another, up to the first that is no script.
+/// The loaded programs of the parts, one after another, up to the first that is no script.
 fn load_pieces(
     alloc: Global,
     bytes: &[u8],
@@ -114,7 +114,7 @@ fn load_pieces(
     Ok(units)
 }
 
-/// The unit of a part.
+/// The loaded program of a part.
 fn load_piece(
     alloc: Global,
     bytes: &[u8],

@@ -6,9 +6,9 @@ use Rattle.wjs_base.specs.declared.ids.OutOfMemory.{OutOfMemory}
 use Rattle.wjs_base.specs.declared.values.Value.{Value as NumberedValue}
 use Rattle.wjs_base.specs.Text.{Table}
 use Rattle.wjs_store.specs.Meaning.{Meaning}
-use Rattle.wjs_content.specs.Objects.{Arena, function_of}
-use Rattle.wjs_content.specs.Tables.{value_in}
-use Rattle.wjs_content.specs.Values.{Text, Value, Object}
+use Rattle.wjs_by_content.specs.Objects.{Arena, function_of}
+use Rattle.wjs_by_content.specs.Tables.{value_in}
+use Rattle.wjs_by_content.specs.Values.{Text, Value, Object}
 use Rattle.wjs_meaning.specs.declared.trouble.Trouble.TheVariants.{NoPrimitiveValue}
 use Rattle.wjs_meaning.specs.Deeds.{Env, Act, Sub, Do, Look, then_value}
 use Rattle.wjs_meaning.specs.Calls.{call}
@@ -18,9 +18,9 @@ use Rattle.wjs_meaning.specs.Properties.{get_value}
 use Rattle.wjs_model.specs.declared.config.Config.{Config}
 use Rattle.wjs_model.specs.Outside.{Sees}
 use Rattle.wjs_model.specs.Waiting.{after_first}
-use Rattle.wjs_moves.specs.Doing.{Does}
-use Rattle.wjs_moves.specs.Following.{Follows}
-use Rattle.wjs_moves.proofs.Shorter.{follows_look}
+use Rattle.wjs_frames.specs.Doing.{Does}
+use Rattle.wjs_frames.specs.Following.{Follows}
+use Rattle.wjs_frames.proofs.Shorter.{follows_look}
 
 -- a method is called where it is a function
 abbrev pub method_then : ObjId → Env → Act → Option ObjId → Act

@@ -9,8 +9,8 @@ use Rattle.wjs_base.specs.declared.values.Value.{Value as NumberedValue}
 use Rattle.wjs_base.specs.Text.{Has}
 use Rattle.wjs_base.proofs.TextLaws.{Grows-Has}
 use Rattle.wjs_store.specs.Meaning.{Meaning}
-use Rattle.wjs_content.specs.Names.{arguments_name}
-use Rattle.wjs_content.specs.Values.{Text, Value}
+use Rattle.wjs_by_content.specs.Names.{arguments_name}
+use Rattle.wjs_by_content.specs.Values.{Text, Value}
 use Rattle.wjs_meaning.specs.Declarations.{Declared}
 use Rattle.wjs_meaning.specs.Trees.{has_text}
 use Rattle.wjs_meaning.specs.Deeds.{Env, Do, Create}
@@ -18,7 +18,7 @@ use Rattle.wjs_meaning.specs.Functions.{arguments_object, function_names, body_d
 use Rattle.wjs_model.specs.declared.config.Config.{Config}
 use Rattle.wjs_model.specs.Frames.{earliest_first}
 use Rattle.wjs_model.specs.Soundness.{HasValue}
-use Rattle.wjs_moves.specs.Following.{Later}
+use Rattle.wjs_frames.specs.Following.{Later}
 use Rattle.wjs_eval_call.specs.Filling.{arguments_written}
 
 -- ---- what was there is there after deeds

@@ -11,19 +11,19 @@ use Rattle.wjs_base.specs.declared.values.Value.{Value as NumberedValue}
 use Rattle.wjs_base.specs.declared.values.Value.TheVariants as values
 use Rattle.wjs_base.specs.Spelling.{IsName}
 use Rattle.wjs_base.specs.Text.{Table}
-use Rattle.wjs_content.specs.Renamed.{Holds}
+use Rattle.wjs_by_content.specs.Renamed.{Holds}
 use Rattle.wjs_arena.specs.declared.class.Class.TheVariants as class
 use Rattle.wjs_arena.specs.declared.object.Flags.{Flags}
 use Rattle.wjs_arena.specs.declared.object.Object.{Object}
 use Rattle.wjs_arena.specs.Entries.{Objects}
-use Rattle.wjs_content.specs.Names.{slot, index_name, callee_name, length_name}
-use Rattle.wjs_content.specs.Objects.{object_of, hidden_flags}
-use Rattle.wjs_content.specs.Tables.{text_in, name_in, value_in, under_in, object_in}
+use Rattle.wjs_by_content.specs.Names.{slot, index_name, callee_name, length_name}
+use Rattle.wjs_by_content.specs.Objects.{object_of, hidden_flags}
+use Rattle.wjs_by_content.specs.Tables.{text_in, name_in, value_in, under_in, object_in}
 use Rattle.wjs_heap.specs.Heap.{HasNamed}
 use Rattle.wjs_meaning.specs.Builtins.{object_prototype}
 use Rattle.wjs_meaning.specs.Deeds.{Env, Act, Do, Write, write_all}
 use Rattle.wjs_meaning.specs.Functions.{arguments_object, hidden_indices, formal_slots, declare_variables}
-use Rattle.wjs_deeds.proofs.Making.{bare, flagged_named}
+use Rattle.wjs_heap_steps.proofs.Making.{bare, flagged_named}
 use Rattle.wjs_calls.proofs.Elements.{left_here}
 use Rattle.wjs_arena.specs.Hidden.{hidden_from}
 use Rattle.wjs_eval_call.specs.Filling.{undefined_slots, variable_declared}

@@ -12,16 +12,16 @@ use Rattle.wjs_base.specs.declared.values.Content.TheVariants as contents
 use Rattle.wjs_base.specs.Text.{Table, Grows}
 use Rattle.wjs_base.proofs.TextLaws.{Grows-trans}
 use Rattle.wjs_store.specs.Meaning.{Meaning}
-use Rattle.wjs_content.specs.Names.{slot}
-use Rattle.wjs_content.specs.Tables.{text_in, name_in, value_in, content_in}
-use Rattle.wjs_content.specs.Values.{Text, Value, Undefined}
+use Rattle.wjs_by_content.specs.Names.{slot}
+use Rattle.wjs_by_content.specs.Tables.{text_in, name_in, value_in, content_in}
+use Rattle.wjs_by_content.specs.Values.{Text, Value, Undefined}
 use Rattle.wjs_heap.specs.Means.{nothing}
 use Rattle.wjs_meaning.specs.Deeds.{Act, Do, Read, Write}
 use Rattle.wjs_model.specs.declared.config.Config.{Config}
 use Rattle.wjs_model.specs.declared.frame.Activation.{Activation as Frame}
-use Rattle.wjs_moves.specs.Doing.{Does, DoesFirst}
-use Rattle.wjs_moves.specs.Following.{Follows, Later}
-use Rattle.wjs_moves.specs.Parts.{env_in}
+use Rattle.wjs_frames.specs.Doing.{Does, DoesFirst}
+use Rattle.wjs_frames.specs.Following.{Follows, Later}
+use Rattle.wjs_frames.specs.Parts.{env_in}
 use Rattle.wjs_eval_call.specs.Filling.{variable_declared}
 
 -- a call that answers nothing

@@ -8,9 +8,9 @@ use borrow.Author.Tests.{eqb-true}
 use Rattle.wjs_base.specs.declared.ids.TextId.{TextId}
 use Rattle.wjs_base.specs.Text.{Table, IsTable, Has, Grows}
 use Rattle.wjs_base.proofs.TextLaws.{Grows-Has}
-use Rattle.wjs_content.specs.Names.{arguments_name}
-use Rattle.wjs_content.specs.Values.{Text, same_text}
-use Rattle.wjs_content.specs.Tables.{text_in}
+use Rattle.wjs_by_content.specs.Names.{arguments_name}
+use Rattle.wjs_by_content.specs.Values.{Text, same_text}
+use Rattle.wjs_by_content.specs.Tables.{text_in}
 use Rattle.wjs_scope.specs.Declarations.{with_name}
 use Rattle.wjs_scope.specs.Scopes.{is_in}
 use Rattle.wjs_tree.specs.declared.node.NodeId.{NodeId}

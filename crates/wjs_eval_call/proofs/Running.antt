@@ -5,7 +5,7 @@ use Rattle.wjs_tree.specs.declared.node.NodeId.{NodeId}
 use Rattle.wjs_meaning.specs.Deeds.{Env, Eval, AtStmt, then_normal}
 use Rattle.wjs_meaning.specs.Functions.{program_from, body_from, body_next}
 use Rattle.wjs_meaning.specs.Reading.{numbers}
-use Rattle.wjs_lines.proofs.Parts.{drop_each}
+use Rattle.wjs_step_common.proofs.Parts.{drop_each}
 use Rattle.wjs_calls.proofs.Elements.{left_here, none_left}
 use Rattle.wjs_eval_call.specs.Elements.{NextIs}
 

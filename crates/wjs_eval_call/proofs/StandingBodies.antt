@@ -28,9 +28,9 @@ use Rattle.wjs_model.specs.Standing.{Stands, is_function, own_scopes, IsFunction
 use Rattle.wjs_model.specs.Soundness.{HasObject, StandsHere, IsThere, Base}
 use Rattle.wjs_model.specs.Lists.{program_elements}
 use Rattle.wjs_model.proofs.Standing.{stands_fewer, function_begins}
-use Rattle.wjs_moves.specs.Following.{Later}
-use Rattle.wjs_moves.specs.Parts.{node_now}
-use Rattle.wjs_moves.proofs.Parting.{among_around, among_is, stands_here, element_here, function_now}
+use Rattle.wjs_frames.specs.Following.{Later}
+use Rattle.wjs_frames.specs.Parts.{node_now}
+use Rattle.wjs_frames.proofs.Parting.{among_around, among_is, stands_here, element_here, function_now}
 use Rattle.wjs_calls.proofs.StandingFunctions.{function_later}
 use Rattle.wjs_eval_call.specs.Elements.{NextIs}
 

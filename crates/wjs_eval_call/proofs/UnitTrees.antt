@@ -9,7 +9,7 @@ use Rattle.wjs_meaning.specs.Trees.{Tree, empty_tree, tree_at}
 use Rattle.wjs_model.specs.declared.unit.Unit.{Unit as Program}
 use Rattle.wjs_model.specs.Units.{unit_in}
 use Rattle.wjs_model.specs.Texts.{KnowsUnit}
-use Rattle.wjs_deeds.proofs.Staying.{units_stay}
+use Rattle.wjs_heap_steps.proofs.Staying.{units_stay}
 
 got : {A : Type 0} (xs : List A) (i : ℕ) (x : A) → i < length xs → x ≡ slice_index_or xs i x → slice_get xs i ≡ Some x
 got [] i x lt e = absurd (omega arith)

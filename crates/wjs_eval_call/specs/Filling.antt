@@ -1,8 +1,8 @@
 -- The scope of a call is filled, before the body runs (ECMA-262, 3rd edition, section 10.2.3).
 use Rattle.std.specs.Prelude.{ℕ, List, [], ◌∷◌, ◌++◌, map as each, None, Some}
 use Rattle.wjs_base.specs.declared.ids.ObjId.{ObjId}
-use Rattle.wjs_content.specs.Values.{Text, Value, Undefined, Object}
-use Rattle.wjs_content.specs.Names.{Slot, slot, arguments_name}
+use Rattle.wjs_by_content.specs.Values.{Text, Value, Undefined, Object}
+use Rattle.wjs_by_content.specs.Names.{Slot, slot, arguments_name}
 use Rattle.wjs_meaning.specs.Deeds.{Env, Act, Do, Create, Read, Write, write_all}
 use Rattle.wjs_meaning.specs.Functions.{arguments_object, arguments_slots, formal_slots, declare_functions, declare_variables}
 use Rattle.wjs_meaning.specs.Declarations.{Declared}

@@ -1,10 +1,10 @@
 //! The scopes of calls (ECMA-262, 3rd edition, sections 10.1.6, 10.1.8 and 10.2.3).
 ghost use Rattle.std.specs.Prelude.{◌≡◌, ◌≤◌, ◌++◌, ◌∷◌, [], All, IfOk, OnOk, map, Some, slice_get, unwrap_or};
 ghost use Rattle.wjs_base.specs.Text.{Table, Grows, Has};
-ghost use Rattle.wjs_content.specs.Names.{slot, callee_name, length_name};
-ghost use Rattle.wjs_content.specs.Objects.{hidden_flags};
-ghost use Rattle.wjs_content.specs.Tables.{value_in, text_in, name_in};
-ghost use Rattle.wjs_content.specs.Values.{Object};
+ghost use Rattle.wjs_by_content.specs.Names.{slot, callee_name, length_name};
+ghost use Rattle.wjs_by_content.specs.Objects.{hidden_flags};
+ghost use Rattle.wjs_by_content.specs.Tables.{value_in, text_in, name_in};
+ghost use Rattle.wjs_by_content.specs.Values.{Object};
 ghost use Rattle.wjs_heap.specs.Means.{nothing};
 ghost use Rattle.wjs_meaning.specs.Deeds.{Do, Create, Write, write_all};
 ghost use Rattle.wjs_meaning.specs.Functions as line;
@@ -12,9 +12,9 @@ ghost use Rattle.wjs_meaning.specs.Reading.{numbers};
 ghost use Rattle.wjs_model.specs.Contents.{holding_in};
 ghost use Rattle.wjs_model.specs.Standing.{IsFunction};
 ghost use Rattle.wjs_model.specs.Soundness.{Base, IsThere, HasName, HasObject, HasValue};
-ghost use Rattle.wjs_moves.specs.Doing.{Does, DoesFirst};
-ghost use Rattle.wjs_moves.specs.Parts.{env_in};
-ghost use Rattle.wjs_moves.specs.Following.{Later};
+ghost use Rattle.wjs_frames.specs.Doing.{Does, DoesFirst};
+ghost use Rattle.wjs_frames.specs.Parts.{env_in};
+ghost use Rattle.wjs_frames.specs.Following.{Later};
 ghost use Rattle.wjs_arena.specs.Hidden.{hidden_from};
 ghost use Rattle.wjs_eval_call.specs.Filling.{arguments_written, undefined_slots};
 
@@ -22,13 +22,13 @@ use std::alloc::Global;
 use wjs_arena::{Class, Flags, Listed};
 use wjs_base::{Name, ObjId, OutOfMemory, TextId, Value};
 use wjs_calls::{declare_functions, whole_value, write_elements};
-use wjs_deeds::{
+use wjs_heap_steps::{
     Known, builtin, create, create_scope, known_name, name_of, object_of, write, write_known,
 };
+use wjs_meaning::Builtin;
 use wjs_model::{Config, Frame};
 use wjs_scope::Declared;
 use wjs_store::WorldStore;
-use wjs_tree::NodeId;
 
 /// The greatest array index (section 15.4).
 const GREATEST_INDEX: usize = 4_294_967_294;
@@ -62,7 +62,7 @@ fn create_arguments<S: WorldStore>(
     let names = arguments_names(config)?;
     let alloc = config.heap.arena.allocator();
     let flags = hidden_flags(alloc, names.0, names.1, values.len())?;
-    let prototype = builtin(config, 0);
+    let prototype = builtin(config, Builtin::ObjectPrototype);
     let mut object = object_of(alloc, Class::Arguments, Some(prototype));
     object.flags = flags;
     let id = create(config, object)?;
@@ -117,9 +117,7 @@ fn long_flags(
     ensures small { IfOk result (λ listed. count ≤ 4294967295) }
     ensures is { IfOk result (λ listed. listed ≡ (callee, hidden_flags) ∷ (length, hidden_flags) ∷ hidden_from 0 count) }
 {
-    let Ok(mut flags) = Vec::with_capacity(alloc, count.saturating_add(2)) else {
-        return Err(OutOfMemory);
-    };
+    let mut flags = Vec::with_capacity(alloc, count.saturating_add(2))?;
     push_hidden(&mut flags, callee)?;
     push_hidden(&mut flags, length)?;
     for index in 0..count {
@@ -145,10 +143,8 @@ fn push_hidden(flags: &mut Vec<(Name, Flags)>, name: Name) -> Result<(), OutOfMe
         hidden: true,
         kept: false,
     };
-    match flags.push((name, hidden)) {
-        Ok(()) => Ok(()),
-        Err(_) => Err(OutOfMemory),
-    }
+    flags.push((name, hidden))?;
+    Ok(())
 }
 
 /// Writes the formals, each with its argument; a missing one is undefined.

@@ -1,17 +1,17 @@
 //! Conversions of values (ECMA-262, 3rd edition, section 9).
-ghost use Rattle.wjs_content.specs.Tables.{value_in};
+ghost use Rattle.wjs_by_content.specs.Tables.{value_in};
 ghost use Rattle.wjs_meaning.specs.Conversions as line;
 ghost use Rattle.wjs_model.specs.Contents.{value_held};
 ghost use Rattle.wjs_model.specs.Soundness.{HasCompletion};
 ghost use Rattle.wjs_model.specs.Waiting.{hint_in};
-ghost use Rattle.wjs_moves.specs.Handling.{Runs, GoesOn, Begins, Resumes};
+ghost use Rattle.wjs_frames.specs.Handling.{Runs, GoesOn, Begins, Resumes};
 
 use crate::methods::try_first;
 use crate::values::{integer_of, text_of};
 use wjs_base::{OutOfMemory, Value};
-use wjs_lines::{held_value, to_number};
+use wjs_frames::{convert, finish};
 use wjs_model::{CallPoint, Completion, Config, Conversion, Frame, Hint, Point, Start};
-use wjs_moves::{convert, finish};
+use wjs_step_common::{held_value, to_number};
 use wjs_store::WorldStore;
 
 /// A conversion of the value that is held begins. A number, a text or a whole number is made of a primitive.

@@ -1,7 +1,7 @@
 //! What the body at a frame's node declares.
 ghost use Rattle.std.specs.Prelude.{◌≡◌, All, IfOk, OnOk, Some, map, slice_get};
 ghost use Rattle.wjs_base.specs.Text.{Table, Grows, Has, IsTable};
-ghost use Rattle.wjs_content.specs.Tables.{text_in};
+ghost use Rattle.wjs_by_content.specs.Tables.{text_in};
 ghost use Rattle.wjs_meaning.specs.Deeds.{tree_here};
 ghost use Rattle.wjs_meaning.specs.Declarations.{declared_by};
 ghost use Rattle.wjs_meaning.specs.Functions as line;
@@ -10,14 +10,14 @@ ghost use Rattle.wjs_model.specs.declared.unit.Unit.{Unit as Program};
 ghost use Rattle.wjs_model.specs.Soundness.{Base, IsThere};
 ghost use Rattle.wjs_scope.specs.Bodies.{elements_at};
 ghost use Rattle.wjs_scope.specs.Declarations.{functions_among};
-ghost use Rattle.wjs_moves.specs.Doing.{DoesFirst};
-ghost use Rattle.wjs_moves.specs.Parts.{env_in};
-ghost use Rattle.wjs_moves.specs.Following.{Later};
+ghost use Rattle.wjs_frames.specs.Doing.{DoesFirst};
+ghost use Rattle.wjs_frames.specs.Parts.{env_in};
+ghost use Rattle.wjs_frames.specs.Following.{Later};
 ghost use Rattle.wjs_eval_call.specs.Filling.{program_filled, variable_declared};
 
 use wjs_base::{Content, OutOfMemory, TextId, Value};
 use wjs_calls::declare_functions;
-use wjs_deeds::{name_of, read_content, write};
+use wjs_heap_steps::{name_of, read_content, write};
 use wjs_model::{Config, Frame};
 use wjs_scope::Declared;
 use wjs_store::WorldStore;

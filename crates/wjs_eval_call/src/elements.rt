@@ -4,11 +4,11 @@ ghost use Rattle.wjs_base.specs.Text.{Table};
 ghost use Rattle.wjs_meaning.specs.Trees.{elements_of};
 ghost use Rattle.wjs_meaning.specs.Reading.{node_in};
 ghost use Rattle.wjs_model.specs.Lists.{program_elements};
-ghost use Rattle.wjs_moves.specs.Parts.{node_now};
+ghost use Rattle.wjs_frames.specs.Parts.{node_now};
 ghost use Rattle.wjs_eval_call.specs.Elements.{NextIs};
 
+use wjs_frames::node_of;
 use wjs_model::{Config, Frame};
-use wjs_moves::node_of;
 use wjs_store::WorldStore;
 use wjs_tree::{Node, NodeId};
 

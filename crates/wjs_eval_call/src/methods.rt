@@ -1,7 +1,7 @@
 //! The methods by which an object is made a primitive (ECMA-262, 3rd edition, section 8.6.2.6).
 ghost use Rattle.std.specs.Prelude.{◌≡◌, []};
-ghost use Rattle.wjs_content.specs.Tables.{value_in};
-ghost use Rattle.wjs_content.specs.Values.{Object};
+ghost use Rattle.wjs_by_content.specs.Tables.{value_in};
+ghost use Rattle.wjs_by_content.specs.Values.{Object};
 ghost use Rattle.wjs_meaning.specs.Deeds.{Sub};
 ghost use Rattle.wjs_meaning.specs.Calls.{call};
 ghost use Rattle.wjs_meaning.specs.Conversions as line;
@@ -9,16 +9,16 @@ ghost use Rattle.wjs_meaning.specs.Errors as errors;
 ghost use Rattle.wjs_model.specs.Contents.{value_held};
 ghost use Rattle.wjs_model.specs.Waiting.{hint_in, after_first};
 ghost use Rattle.wjs_model.specs.Soundness.{HasObject, HasValue, HasCompletion, HasPoint};
-ghost use Rattle.wjs_moves.specs.Parts.{then_at};
-ghost use Rattle.wjs_deeds.specs.Known.{text_of};
-ghost use Rattle.wjs_moves.specs.Handling.{Runs, GoesOn, Resumes};
+ghost use Rattle.wjs_frames.specs.Parts.{then_at};
+ghost use Rattle.wjs_heap_steps.specs.Known.{text_of};
+ghost use Rattle.wjs_frames.specs.Handling.{Runs, GoesOn, Resumes};
 
 use wjs_base::{ObjId, OutOfMemory, Value};
 use wjs_calls::call_below;
-use wjs_deeds::{Known, function_of, get_known};
-use wjs_lines::{held_value, throw};
+use wjs_frames::finish;
+use wjs_heap_steps::{Known, function_of, get_known};
 use wjs_model::{CallPoint, Completion, Config, Frame, Hint, Point, Trouble};
-use wjs_moves::finish;
+use wjs_step_common::{held_value, throw};
 use wjs_store::WorldStore;
 
 /// Asks by the method that is tried first, and where it is no function by the other.

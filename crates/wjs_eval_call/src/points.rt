@@ -1,6 +1,6 @@
 //! What goes on after a part of a body or of a conversion.
 ghost use Rattle.wjs_model.specs.Soundness.{HasCompletion, HasPoint};
-ghost use Rattle.wjs_moves.specs.Handling.{Runs, Resumes};
+ghost use Rattle.wjs_frames.specs.Handling.{Runs, Resumes};
 
 use crate::bodies::after_body_element;
 use crate::conversions::{integer_of_primitive, number_of_primitive, text_of_primitive};

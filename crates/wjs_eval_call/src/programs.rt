@@ -6,16 +6,16 @@ ghost use Rattle.wjs_meaning.specs.Functions as line;
 ghost use Rattle.wjs_meaning.specs.Reading.{node_in};
 ghost use Rattle.wjs_model.specs.Lists.{program_elements};
 ghost use Rattle.wjs_model.specs.Soundness.{HasCompletion};
-ghost use Rattle.wjs_moves.specs.Parts.{node_now};
+ghost use Rattle.wjs_frames.specs.Parts.{node_now};
 ghost use Rattle.wjs_eval_call.specs.Elements.{NextIs};
-ghost use Rattle.wjs_moves.specs.Handling.{Runs, GoesOn, Begins, Resumes};
+ghost use Rattle.wjs_frames.specs.Handling.{Runs, GoesOn, Begins, Resumes};
 
 use crate::declarations::{declare_program, program_body};
 use crate::elements::program_element_at;
 use wjs_base::OutOfMemory;
-use wjs_lines::number_after;
+use wjs_frames::{Part, due_later, enter, finish};
 use wjs_model::{CallPoint, Completion, Config, Frame, Point, Start};
-use wjs_moves::{Part, due_later, enter, finish};
+use wjs_step_common::number_after;
 use wjs_store::WorldStore;
 use wjs_tree::NodeId;
 

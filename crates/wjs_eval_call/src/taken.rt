@@ -37,9 +37,7 @@ impl Taken {
     pub(crate) fn add(&mut self, name: TextId) -> Result<(), OutOfMemory>
         ensures { OnOk result (self.new ≡ with_name self.old name) }
     {
-        let Ok(_) = self.numbers.insert(name.0) else {
-            return Err(OutOfMemory);
-        };
+        self.numbers.insert(name.0)?;
         Ok(())
     }
 

@@ -1,16 +1,16 @@
 //! What values count as, in every table of texts that has grown from the one at hand.
 ghost use Rattle.std.specs.Prelude.{◌≡◌, Some, pos, unwrap_or, IfOk, OnOk};
 ghost use Rattle.wjs_base.specs.Text.{Table, Grows, Has};
-ghost use Rattle.wjs_content.specs.Tables.{text_in, value_in};
-ghost use Rattle.wjs_content.specs.Conversions as conversions;
+ghost use Rattle.wjs_by_content.specs.Tables.{text_in, value_in};
+ghost use Rattle.wjs_by_content.specs.Conversions as conversions;
 ghost use Rattle.wjs_model.specs.Soundness.{Base, HasValue};
 ghost use Rattle.wjs_heap.specs.Means.{nothing};
-ghost use Rattle.wjs_moves.specs.Doing.{Does};
-ghost use Rattle.wjs_moves.specs.Following.{Later};
+ghost use Rattle.wjs_frames.specs.Doing.{Does};
+ghost use Rattle.wjs_frames.specs.Following.{Later};
 
 use wjs_base::{OutOfMemory, TextId, Value, Whole};
-use wjs_lines::to_number;
 use wjs_model::Config;
+use wjs_step_common::to_number;
 use wjs_store::WorldStore;
 
 /// The whole number that a primitive counts as, where NaN becomes 0 (ECMA-262, 3rd edition, section 9.4).

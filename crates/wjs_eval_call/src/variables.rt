@@ -1,20 +1,20 @@
 //! The variables of a body that are undefined at first (ECMA-262, 3rd edition, section 10.1.3).
 ghost use Rattle.std.specs.Prelude.{◌≡◌, ◌∷◌, ◌++◌, [], All, IfOk, OnOk, filter, map, not, List};
 ghost use Rattle.wjs_base.specs.Text.{Table, Grows, Has, IsTable};
-ghost use Rattle.wjs_content.specs.Names.{arguments_name};
-ghost use Rattle.wjs_content.specs.Tables.{text_in};
-ghost use Rattle.wjs_content.specs.Values.{Text, same_text};
+ghost use Rattle.wjs_by_content.specs.Names.{arguments_name};
+ghost use Rattle.wjs_by_content.specs.Tables.{text_in};
+ghost use Rattle.wjs_by_content.specs.Values.{Text, same_text};
 ghost use Rattle.wjs_meaning.specs.Functions.{function_names};
 ghost use Rattle.wjs_meaning.specs.Reading.{numbers};
 ghost use Rattle.wjs_meaning.specs.Trees.{has_text};
 ghost use Rattle.wjs_model.specs.Soundness.{Base};
-ghost use Rattle.wjs_moves.specs.Parts.{env_in};
+ghost use Rattle.wjs_frames.specs.Parts.{env_in};
 ghost use Rattle.wjs_eval_call.specs.Taking.{Takes};
 
 use crate::taken::Taken;
 use wjs_base::{OutOfMemory, TextId};
 use wjs_calls::own_name;
-use wjs_deeds::units_of;
+use wjs_heap_steps::units_of;
 use wjs_model::{Config, Frame};
 use wjs_scope::Declared;
 use wjs_store::WorldStore;
@@ -81,10 +81,8 @@ fn push_other<S: WorldStore>(
     if is_arguments(config, name) || taken.contains(name) {
         return Ok(());
     }
-    match others.push(name) {
-        Ok(()) => Ok(()),
-        Err(_) => Err(OutOfMemory),
-    }
+    others.push(name)?;
+    Ok(())
 }
 
 /// Whether the text is `arguments`.

@@ -7,8 +7,8 @@ use Rattle.wjs_base.specs.declared.values.Value.{Value as NumberedValue}
 use Rattle.wjs_base.specs.declared.values.Value.TheVariants as values
 use Rattle.wjs_base.specs.Text.{Table}
 use Rattle.wjs_tree.specs.declared.operators.BinaryOperator.{BinaryOperator}
-use Rattle.wjs_content.specs.Values.{Undefined}
-use Rattle.wjs_content.specs.Tables.{value_in}
+use Rattle.wjs_by_content.specs.Values.{Undefined}
+use Rattle.wjs_by_content.specs.Tables.{value_in}
 use Rattle.wjs_meaning.specs.Deeds.{Env}
 use Rattle.wjs_meaning.specs.NativesOfObjects.{value_at}
 use Rattle.wjs_model.specs.Frames.{earliest_first}
@@ -16,7 +16,7 @@ use Rattle.wjs_model.specs.declared.config.Config.{Config}
 use Rattle.wjs_model.specs.declared.frame.Held.{Held}
 use Rattle.wjs_model.specs.Contents.{values_held}
 use Rattle.wjs_model.specs.Soundness.{HasItems, HasValue}
-use Rattle.wjs_moves.proofs.Held.{values_there}
+use Rattle.wjs_frames.proofs.Held.{values_there}
 use Rattle.wjs_meaning.specs.Operators.{operate}
 
 -- ---- the values that are held

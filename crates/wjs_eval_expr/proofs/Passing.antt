@@ -7,7 +7,7 @@ use Rattle.wjs_tree.specs.declared.operators.UpdateOperator.{UpdateOperator}
 use Rattle.wjs_tree.specs.declared.operators.BinaryOperator.{BinaryOperator}
 use Rattle.wjs_tree.specs.declared.operators.BinaryOperator.TheVariants as binary
 use Rattle.wjs_tree.specs.declared.operators.AssignOperator.{AssignOperator}
-use Rattle.wjs_content.specs.Values.{Value}
+use Rattle.wjs_by_content.specs.Values.{Value}
 use Rattle.wjs_meaning.specs.Trees.{Node}
 use Rattle.wjs_meaning.specs.Deeds.{Env, Ret, Reference, Completion, Gives, Refers}
 use Rattle.wjs_model.specs.declared.frame.Completion.{Completion as NumberedCompletion}

@@ -1,8 +1,8 @@
 -- What expressions begin with in links: each link has the lines of some forms, and its last leads on to the next (ECMA-262, 3rd edition, section 11).
 use Rattle.std.specs.Prelude.{ℕ, []}
 use Rattle.wjs_tree.specs.Operators.{compound}
-use Rattle.wjs_content.specs.Values.{Undefined, Null, Boolean, Number, String, Object}
-use Rattle.wjs_content.specs.Objects.{world_object}
+use Rattle.wjs_by_content.specs.Values.{Undefined, Null, Boolean, Number, String, Object}
+use Rattle.wjs_by_content.specs.Objects.{world_object}
 use Rattle.wjs_meaning.specs.Trees.{Node, Name, NumberLit, TextLit, This, ThisWorld, NullLit, BoolLit, Paren, ArrayLit, ObjectLit, Function, Dot, At, Call, NewWith, NewBare, Postfix, Prefix, Binary, Cond, Assign, Comma}
 use Rattle.wjs_meaning.specs.Deeds.{Env, Act, Ret, Eval, Do, Look, Create, AtExpr, AtTarget, Normal, give, then_value, then_reference}
 use Rattle.wjs_meaning.specs.NewObjects.{plain_object, array_object}

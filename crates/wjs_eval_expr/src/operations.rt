@@ -1,6 +1,6 @@
 //! The operation of an assignment with an operator (ECMA-262, 3rd edition, section 11.13.2), in a frame of its own.
 ghost use Rattle.std.specs.Prelude.{◌≡◌, slice_index_or};
-ghost use Rattle.wjs_moves.specs.Handling.{Runs, Begins};
+ghost use Rattle.wjs_frames.specs.Handling.{Runs, Begins};
 
 use wjs_base::{OutOfMemory, Value};
 use wjs_model::{Config, Frame, Start};

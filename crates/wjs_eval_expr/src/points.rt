@@ -1,6 +1,6 @@
 //! What an expression does after each part that it waits for (ECMA-262, 3rd edition, section 11).
 ghost use Rattle.wjs_model.specs.Soundness.{HasCompletion, HasPoint, HasReference, HasValue};
-ghost use Rattle.wjs_moves.specs.Handling.{Runs, Resumes};
+ghost use Rattle.wjs_frames.specs.Handling.{Runs, Resumes};
 
 use wjs_assigns::{
     assign_reference, assign_value, comma_left, complement_converted, complement_value,
@@ -9,13 +9,13 @@ use wjs_assigns::{
     update_reference, void_value,
 };
 use wjs_base::{OutOfMemory, Value};
+use wjs_frames::finish;
 use wjs_literals::{
     array_item, call_argument, call_callee, call_reference, new_argument, new_callee, new_made,
     object_item,
 };
 use wjs_members::{at_base, at_converted, at_index, dot_base};
 use wjs_model::{Completion, Config, ExprPoint, Frame, Point, Reference};
-use wjs_moves::finish;
 use wjs_operators::{binary_left, binary_right, operand_first, operand_second};
 use wjs_store::WorldStore;
 

@@ -1,17 +1,17 @@
 //! What an expression begins with (ECMA-262, 3rd edition, section 11).
 ghost use Rattle.wjs_meaning.specs.Reading.{node_in};
-ghost use Rattle.wjs_moves.specs.Parts.{node_now};
+ghost use Rattle.wjs_frames.specs.Parts.{node_now};
 ghost use Rattle.wjs_eval_expr.specs.Links.{primary_of, member_of, operator_of};
-ghost use Rattle.wjs_moves.specs.Handling.{Runs, Begins, GoesOn};
+ghost use Rattle.wjs_frames.specs.Handling.{Runs, Begins, GoesOn};
 
 use wjs_assigns::{assign_start, comma_start, cond_start, prefix_start, update_start};
 use wjs_base::{OutOfMemory, Value};
+use wjs_frames::{Part, enter_last, finish, node_of};
 use wjs_literals::{
     array_start, call_start, function_start, new_start, object_start, text, this, this_world,
 };
 use wjs_members::{at_start, dot_start, name_value};
 use wjs_model::{Completion, Config, Fix, Frame, Purpose, Start};
-use wjs_moves::{Part, enter_last, finish, node_of};
 use wjs_operators::binary_start;
 use wjs_store::WorldStore;
 use wjs_tree::Node;

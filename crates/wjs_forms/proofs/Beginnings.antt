@@ -21,7 +21,7 @@ use Rattle.wjs_forms.specs.declared.forms.Form.TheVariants as forms
 use Rattle.wjs_forms.specs.declared.forms.Control.TheVariants as controls
 use Rattle.wjs_forms.specs.Classes.{class_of, class_at}
 use Rattle.wjs_forms.specs.States.{State, state, step, step_at, Runs, halts, goes}
-use Rattle.wjs_forms.proofs.Runs.{class_here, joined_here, lift, lift_here, step_on, no_step}
+use Rattle.wjs_forms.proofs.Runs.{class_here, joined_here, lift, lift_here, step_on, no_step, no_state}
 
 -- a list of statements or elements is open innermost
 abbrev pub holds_list : List Form → Bool
@@ -127,12 +127,9 @@ no_finally [] j = refl
 no_finally (forms.Then ∷ rest) j = no_finally rest j
 no_finally (f ∷ rest) j = refl
 
-none_some : (o : Option State) (r : State) → o ≡ None → o ≡ Some r → ⊥
-none_some o r p q = cc
-
 label_step : (k : Class) (j : Bool) (s : List Form) (r : State) → step k j (forms.Value ∷ s) (controls.Have places.Whole true) ≡ Some r → step k j (forms.Value ∷ s) controls.NameOrLabel ≡ Some r
 label_step classes.Colon true s r h = cc
-label_step classes.Colon false s r h = absurd (none_some _ r (no_colon s false) h)
+label_step classes.Colon false s r h = absurd (no_state _ r (no_colon s false) h)
 label_step _ j s r h = h
 
 -- behind a name that begins an expression
@@ -148,7 +145,7 @@ pub then_runs : (toks : List Tok) (i : ℕ) (s : List Form) → (class_here toks
 then_runs toks i s bar run = lift_here toks i (state controls.Done s) (state controls.Done (forms.Then ∷ s)) (λ r h. then_step (class_here toks i) (joined_here toks i) s r bar h) run
 
 finally_step : (k : Class) (j : Bool) (s : List Form) (r : State) → step k j s controls.Done ≡ Some r → step k j s controls.FinallyOrDone ≡ Some r
-finally_step classes.Finally j s r h = absurd (none_some _ r (no_finally s j) h)
+finally_step classes.Finally j s r h = absurd (no_state _ r (no_finally s j) h)
 finally_step _ j s r h = h
 
 pub finally_runs : (toks : List Tok) (i : ℕ) (s : List Form) → Runs toks i (state controls.Done s) → Runs toks i (state controls.FinallyOrDone s)
@@ -276,7 +273,7 @@ word_begins toks i s token r b h e run (inr w) = goes token r h (begin_step (cla
 no_end : (toks : List Tok) (i : ℕ) (s : List Form) (r : State) → token_at toks i ≡ None → step_at toks i (state (controls.Want places.Whole) (forms.Value ∷ s)) ≡ Some r → ⊥
 no_end toks i s r h e =
     let q = subst (λ (z : Option Token). step (class_at z) (joined_here toks i) (forms.Value ∷ s) (controls.Want places.Whole) ≡ Some r) h e in
-    none_some None r refl q
+    no_state None r refl q
 
 -- an expression that is a statement
 pub begin_runs : (toks : List Tok) (i : ℕ) (s : List Form) → is_brace (class_here toks i) ≡ false → Runs toks i (state (controls.Want places.Whole) (forms.Value ∷ s)) → Runs toks i (state controls.Body s)

@@ -1,5 +1,6 @@
 -- Where a statement ends.
-use Rattle.std.proofs.Common.{◌≡◌, ℕ, ◌+◌, ◌⊎◌, inl, inr, Bool, true, false, not, ◌&&◌, ◌||◌, List, [], ◌∷◌, Option, Some, None, slice_get, refl, sym, ap, ◌∙◌, subst}
+use Rattle.std.proofs.Common.{◌≡◌, ℕ, ◌+◌, ◌⊎◌, inl, inr, Bool, true, false, not, ◌&&◌, List, [], ◌∷◌, Option, Some, None, slice_get, refl, sym, ap, ◌∙◌, subst}
+use Rattle.std.proofs.lemmas.Bool.{or_parts}
 use Rattle.wjs_tree.specs.declared.tokens.Tok.{Tok}
 use Rattle.wjs_tree.specs.declared.tokens.Token.{Token}
 use Rattle.wjs_tree.specs.declared.tokens.Token.TheVariants as tokens
@@ -78,11 +79,6 @@ Ended Complete k = Unit {0}
 Ended InName k = continues_name_class k ≡ false
 Ended (InExpr update) k = (is_operator_class k ≡ false) × (is_suffix_class k ≡ true → update ≡ true)
 
-both_false : (a b : Bool) → (a || b) ≡ false → (a ≡ false) × (b ≡ false)
-both_false true b h = cc
-both_false false true h = cc
-both_false false false h = (refl, refl)
-
 update_of_suffix : (a update : Bool) → (a && not update) ≡ false → a ≡ true → update ≡ true
 update_of_suffix a true h g = refl
 update_of_suffix true false h g = cc
@@ -92,7 +88,7 @@ offending_ended : (ending : Ending) (t : Token) → continues ending t ≡ false
 offending_ended Complete t h = tt
 offending_ended InName t h = sym (name_class t) ∙ h
 offending_ended (InExpr update) t h =
-    let w = both_false (is_operator t) (is_suffix t && not update) h in
+    let w = or_parts (is_operator t) (is_suffix t && not update) h in
     (sym (operator_class t) ∙ w.0, λ g. update_of_suffix (is_suffix t) update w.1 (suffix_class t ∙ g))
 
 at_end_ended : (ending : Ending) → Ended ending classes.End

@@ -44,7 +44,7 @@ same_state o a b p q = cc
 no_token : (o : Option Token) (t : Token) → o ≡ None → o ≡ Some t → ⊥
 no_token o t p q = cc
 
-no_state : (o : Option State) (a : State) → o ≡ None → o ≡ Some a → ⊥
+pub no_state : (o : Option State) (a : State) → o ≡ None → o ≡ Some a → ⊥
 no_state o a p q = cc
 
 -- what is behind a token whose step is known

@@ -1,6 +1,7 @@
 -- A run is read backward: statements, by the token that begins them, and what is behind them.
 use Rattle.std.proofs.Common.{◌≡◌, ℕ, zero, suc, ◌+◌, ◌≤◌, ◌⊎◌, inl, inr, Bool, true, false, not, List, [], ◌∷◌, length, Option, Some, None, refl, sym, ap, ◌∙◌, subst, arith}
 use Rattle.wjs_base.specs.declared.ids.TextId.{TextId}
+use Rattle.wjs_forms.proofs.Heads.{place_sign, place_word}
 use Rattle.wjs_tree.specs.declared.tokens.Tok.{Tok}
 use Rattle.wjs_tree.specs.declared.tokens.Token.{Token}
 use Rattle.wjs_tree.specs.declared.tokens.Token.TheVariants as tokens
@@ -35,7 +36,7 @@ use Rattle.wjs_forms.proofs.Standing.{Has, Is}
 use Rattle.wjs_forms.proofs.Beginnings.{is_brace}
 use Rattle.wjs_forms.proofs.Rests.{Rests, Nested, Whole, First, BodyRest, CompleteRest, BlockRest, ElementsRest, ClausesRest, ClauseRest, CaughtRest, TriedRest, ThenRest, InitRest, ProgramRest, ListRest, HaveRest, NameOrFormalsRest, DeclaredNameRest, rests, RestOf, Rest, value_rest as ValueRest}
 use Rattle.wjs_forms.proofs.SpelledEnds.{written, at_end, at_brace, at_line}
-use Rattle.wjs_forms.proofs.SpelledStmt.{sign_at, key_at, word_at, block, empty, expr_stmt, variables, label, if_stmt, while_stmt, do_stmt, switch_stmt, within_stmt, jump_stmt, return_none, return_value, throw_value, for_stmt, try_stmt, cons_block, cons_clause, cons_elements, nil_block, nil_elements, nil_clauses, case_clauses, default_clauses, in_clause, cons_declared, cons_program, declared_program}
+use Rattle.wjs_forms.proofs.SpelledStmt.{key_at, block, empty, expr_stmt, variables, label, if_stmt, while_stmt, do_stmt, switch_stmt, within_stmt, jump_stmt, return_none, return_value, throw_value, for_stmt, try_stmt, cons_block, cons_clause, cons_elements, nil_block, nil_elements, nil_clauses, case_clauses, default_clauses, in_clause, cons_declared, cons_program, declared_program}
 use Rattle.wjs_forms.proofs.SpelledExpr.{back, got, value_rest}
 
 abbrev Again : Type 0
@@ -192,7 +193,7 @@ module _ (toks : List Tok) where
       let z = y.1 in
       let b = z.4 in
       let e = b.1 refl in
-      cons_declared toks done x.0 z.0 i z.1 k x.1 (sign_at toks (i + 1 + 1) (i + 2) signs.OpenParen (omega arith) y.0) (subst (λ (v : ℕ). FormalsStand toks z.0 v z.1) (let q : i + 1 + 1 + 1 ≡ i + 3 = omega arith in q) z.2) z.3 b.0
+      cons_declared toks done x.0 z.0 i z.1 k x.1 (place_sign toks (i + 1 + 1) (i + 2) signs.OpenParen (omega arith) y.0) (subst (λ (v : ℕ). FormalsStand toks z.0 v z.1) (let q : i + 1 + 1 + 1 ≡ i + 3 = omega arith in q) z.2) z.3 b.0
       (e.0, e.1, e.2, subst (λ (v : ℕ). ElementsStand toks e.0 v e.1) (let q : z.1 + 1 + 1 ≡ z.1 + 2 = omega arith in q) e.3, e.4, f (e.1 + 1) e.5)
 
   declared_at_top : (i : ℕ) → HasKey toks i keys.Function → DeclaredNameRest toks (forms.Declaration ∷ []) (i + 1) → ProgramRest toks i
@@ -201,7 +202,7 @@ module _ (toks : List Tok) where
       let z = y.1 in
       let b = z.4 in
       let e = b.1 refl in
-      declared_program toks x.0 z.0 i z.1 k x.1 (sign_at toks (i + 1 + 1) (i + 2) signs.OpenParen (omega arith) y.0) (subst (λ (v : ℕ). FormalsStand toks z.0 v z.1) (let q : i + 1 + 1 + 1 ≡ i + 3 = omega arith in q) z.2) z.3 b.0
+      declared_program toks x.0 z.0 i z.1 k x.1 (place_sign toks (i + 1 + 1) (i + 2) signs.OpenParen (omega arith) y.0) (subst (λ (v : ℕ). FormalsStand toks z.0 v z.1) (let q : i + 1 + 1 + 1 ≡ i + 3 = omega arith in q) z.2) z.3 b.0
       (e.0, e.1, e.2, subst (λ (v : ℕ). ElementsStand toks e.0 v e.1) (let q : z.1 + 1 + 1 ≡ z.1 + 2 = omega arith in q) e.3, e.4, e.5 refl)
 
   declares_list : (i : ℕ) (s : List Form) (g : Again) (r : State) → HasKey toks i keys.Function → act (declares (top s)) s g ≡ Some r → Rest toks r (i + 1) → (rests toks s).done i

@@ -1,10 +1,10 @@
 -- A run is read backward: statements and their lists.
 use Rattle.std.proofs.Common.{◌≡◌, ℕ, zero, suc, ◌+◌, ◌≤◌, ◌⊎◌, inl, inr, Bool, true, false, not, List, [], ◌∷◌, length, Option, Some, None, slice_get, refl, sym, ap, ◌∙◌, subst, arith}
 use Rattle.wjs_base.specs.declared.ids.TextId.{TextId}
+use Rattle.wjs_forms.proofs.Heads.{place_sign, place_word}
 use Rattle.wjs_tree.specs.declared.tokens.Tok.{Tok}
 use Rattle.wjs_tree.specs.declared.tokens.Token.{Token}
 use Rattle.wjs_tree.specs.declared.tokens.Token.TheVariants as tokens
-use Rattle.wjs_tree.specs.declared.signs.Sign.{Sign}
 use Rattle.wjs_tree.specs.declared.signs.Sign.TheVariants as signs
 use Rattle.wjs_tree.specs.declared.keys.Key.{Key}
 use Rattle.wjs_tree.specs.declared.keys.Key.TheVariants as keys
@@ -24,15 +24,8 @@ use Rattle.wjs_forms.proofs.Runs.{class_here, joined_here}
 use Rattle.wjs_forms.proofs.Declared.{part_ending, final, last_is}
 use Rattle.wjs_forms.proofs.Rests.{Rests, Nested, Reading, Whole, BodyRest, CompleteRest, ValueEnd, BlockRest, ElementsRest, ClausesRest, ClauseRest, FinallyRest, CaughtRest, CatchOpenRest, TriedRest, ThenRest, EachRest, DoWhileRest, UpdateRest, TestRest, InitRest, MoreRest, NamedRest, VarEnd, HeaderEnd, ProgramRest, ListRest, rests, rests_by, is_list}
 
--- a place that is said otherwise
-pub sign_at : (toks : List Tok) (i j : ℕ) (s : Sign) → i ≡ j → HasSign toks i s → HasSign toks j s
-sign_at toks i j s e h = subst (λ (z : ℕ). HasSign toks z s) e h
-
 pub key_at : (toks : List Tok) (i j : ℕ) (k : Key) → i ≡ j → HasKey toks i k → HasKey toks j k
 key_at toks i j k e h = subst (λ (z : ℕ). HasKey toks z k) e h
-
-pub word_at : (toks : List Tok) (i j : ℕ) (x : TextId) → i ≡ j → HasToken toks i (tokens.Word x) → HasToken toks j (tokens.Word x)
-word_at toks i j x e h = subst (λ (z : ℕ). HasToken toks z (tokens.Word x)) e h
 
 pub closed_if : (P : Type 0) → false ≡ true → P
 closed_if P h = absurd (cc)
@@ -121,7 +114,7 @@ module _ (toks : List Tok) (done : ℕ → Type 0) where
         ForVarIn w.0 e.0 b.0,
         b.1,
         (e.2, b.2),
-        (e.1, k, o, w.1, word_at toks (i + 2 + 1) (i + 3) w.0 (omega arith) w.2, key_at toks (i + 2 + 2) (i + 4) keys.In (omega arith) w.3, subst (λ (z : ℕ). Stands toks e.0 z e.1) (let q : i + 2 + 3 ≡ i + 5 = omega arith in q) e.3, e.4, b.3),
+        (e.1, k, o, w.1, place_word toks (i + 2 + 1) (i + 3) w.0 (omega arith) w.2, key_at toks (i + 2 + 2) (i + 4) keys.In (omega arith) w.3, subst (λ (z : ℕ). Stands toks e.0 z e.1) (let q : i + 2 + 3 ≡ i + 5 = omega arith in q) e.3, e.4, b.3),
         b.4,
         b.5,
       )
@@ -135,7 +128,7 @@ module _ (toks : List Tok) (done : ℕ → Type 0) where
       caught x a p w q u c n f s z (inl y) =
           let d = y.2 in
           plain_stmt (TryBoth b.0 x c d.0) i (d.1 + 1) refl (b.2, f, d.2)
-          (b.1, n, d.1, k, o, b.3, b.4, a, p, w, q, u, s, z, y.0, sign_at toks (n + 1 + 1) (n + 2) signs.OpenBrace (omega arith) y.1, subst (λ (v : ℕ). StmtsStand toks d.0 v d.1) (let e : n + 1 + 2 ≡ n + 3 = omega arith in e) d.3, d.4, refl) d.5
+          (b.1, n, d.1, k, o, b.3, b.4, a, p, w, q, u, s, z, y.0, place_sign toks (n + 1 + 1) (n + 2) signs.OpenBrace (omega arith) y.1, subst (λ (v : ℕ). StmtsStand toks d.0 v d.1) (let e : n + 1 + 2 ≡ n + 3 = omega arith in e) d.3, d.4, refl) d.5
       caught x a p w q u c n f s z (inr y) = plain_stmt (TryCatch b.0 x c) i (n + 1) refl (b.2, f) (b.1, n, k, o, b.3, b.4, a, p, w, q, u, s, z, refl) y
 
       pick : TriedRest toks done (b.1 + 1) → BodyRest toks done i
@@ -144,12 +137,12 @@ module _ (toks : List Tok) (done : ℕ → Type 0) where
           let w = p.1 in
           let q = w.2 in
           let c = q.2 in
-          caught w.0 y.0 (sign_at toks (b.1 + 1 + 1) (b.1 + 2) signs.OpenParen (omega arith) p.0) (word_at toks (b.1 + 1 + 1 + 1) (b.1 + 3) w.0 (omega arith) w.1) (sign_at toks (b.1 + 1 + 1 + 1 + 1) (b.1 + 4) signs.CloseParen (omega arith) q.0)
-          (sign_at toks (b.1 + 1 + 1 + 1 + 1 + 1) (b.1 + 5) signs.OpenBrace (omega arith) q.1) c.0 c.1 c.2 (subst (λ (v : ℕ). StmtsStand toks c.0 v c.1) (let e : b.1 + 1 + 1 + 1 + 1 + 2 ≡ b.1 + 6 = omega arith in e) c.3) c.4 c.5
+          caught w.0 y.0 (place_sign toks (b.1 + 1 + 1) (b.1 + 2) signs.OpenParen (omega arith) p.0) (place_word toks (b.1 + 1 + 1 + 1) (b.1 + 3) w.0 (omega arith) w.1) (place_sign toks (b.1 + 1 + 1 + 1 + 1) (b.1 + 4) signs.CloseParen (omega arith) q.0)
+          (place_sign toks (b.1 + 1 + 1 + 1 + 1 + 1) (b.1 + 5) signs.OpenBrace (omega arith) q.1) c.0 c.1 c.2 (subst (λ (v : ℕ). StmtsStand toks c.0 v c.1) (let e : b.1 + 1 + 1 + 1 + 1 + 2 ≡ b.1 + 6 = omega arith in e) c.3) c.4 c.5
       pick (inr y) =
           let d = y.2 in
           plain_stmt (TryFinally b.0 d.0) i (d.1 + 1) refl (b.2, d.2)
-          (b.1, d.1, k, o, b.3, b.4, y.0, sign_at toks (b.1 + 1 + 1) (b.1 + 2) signs.OpenBrace (omega arith) y.1, subst (λ (v : ℕ). StmtsStand toks d.0 v d.1) (let e : b.1 + 1 + 2 ≡ b.1 + 3 = omega arith in e) d.3, d.4, refl) d.5
+          (b.1, d.1, k, o, b.3, b.4, y.0, place_sign toks (b.1 + 1 + 1) (b.1 + 2) signs.OpenBrace (omega arith) y.1, subst (λ (v : ℕ). StmtsStand toks d.0 v d.1) (let e : b.1 + 1 + 2 ≡ b.1 + 3 = omega arith in e) d.3, d.4, refl) d.5
 
   -- lists that begin with a statement, or are none
   pub cons_block : (i : ℕ) → BodyRest toks (BlockRest toks done) i → BlockRest toks done i

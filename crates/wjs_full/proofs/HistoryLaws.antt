@@ -11,23 +11,24 @@ use Rattle.wjs_base.specs.declared.values.Slot.{Slot}
 use Rattle.wjs_base.specs.declared.values.Value.{Value}
 use Rattle.wjs_base.specs.declared.values.Content.{Content}
 use Rattle.wjs_base.specs.Order.{world_cmp, world_total, world_exact}
+use Rattle.wjs_base.proofs.Booleans.{by_bool}
 use Rattle.wjs_store.specs.declared.action.Action.{Action}
 use Rattle.wjs_store.specs.declared.action.Action.TheVariants.{Read, Write, List as ListOf, Sprout, Commit}
 use Rattle.wjs_store.specs.declared.action.Answer.{Answer}
 use Rattle.wjs_store.specs.declared.action.Answer.TheVariants.{Committed, NoWorld}
 use Rattle.wjs_store.specs.Naming.{plain}
-use Rattle.wjs_store.specs.State.{World, same_world, find_world, has_world, count_of, parent_of, with_parent, fault_in, verdict_at, answer_to, after, after_read, after_list, after_write, after_sprout, after_commit, write_at, write_all, at_world, read_in, list_in, child_of, next_id, moves, reads_of, hand_entries, hand_objects, clear_marks, settle, no_parent, differs}
+use Rattle.wjs_store.specs.State.{World, same_world, find_world, has_world, count_of, parent_of, with_parent, fault_in, verdict_at, answer_to, after, after_read, after_list, after_write, after_sprout, after_commit, write_at, write_all, at_world, read_in, list_in, child_of, next_id, moves, reads_of, hand_entries, hand_objects, clear_marks, settle, no_parent, differs, first_world}
 use Rattle.wjs_store.specs.Reached.{IsReached}
 use Rattle.wjs_store.specs.Meaning.{View, PlainAct, Worlds}
 use Rattle.wjs_store.specs.Shown.{content_of, shown_verdict}
 use Rattle.wjs_store.specs.Run.{act_of, answer_of, is_done, answer_in, after_in, after_all, answers_in}
 use Rattle.wjs_store.specs.Fixed.{fresh}
 use Rattle.wjs_store.specs.Replay.{plain_reply, plain_after}
-use Rattle.wjs_full.specs.History.{Histories, no_histories, places_of, emptied, put_places, put_place, move_places, noted, histories_from, first_world, serial_places, replay_answers, replay_end, IsSerial}
+use Rattle.wjs_full.specs.History.{Histories, no_histories, places_of, emptied, put_places, put_place, move_places, noted, histories_from, serial_places, replay_answers, replay_end, IsSerial}
 use Rattle.wjs_store.proofs.States.{find_each}
 use Rattle.wjs_store.proofs.Marks.{key_is, marks_read, marks_list}
-use Rattle.wjs_store.proofs.Writes.{by_bool, by_one, world_is, same_self, found_id, write_id, write_parent, serial_below, has_head}
-use Rattle.wjs_store.proofs.Commits.{reached_fresh, pair_parts, no_fault, entries_ids, entries_parents, objects_ids, objects_parents, parent_other, find_head}
+use Rattle.wjs_store.proofs.Writes.{by_one, world_is, same_self, found_id, write_id, write_parent, serial_below, has_head}
+use Rattle.wjs_store.proofs.Commits.{reached_fresh, pair_parts, no_fault, entries_ids, entries_parents, objects_ids, objects_parents, parent_other, find_head, find_nil}
 use Rattle.wjs_store.proofs.Keeps.{reached_after, has_world_after}
 use Rattle.wjs_store.proofs.Parents.{commit_alone, commit_fault, commit_moves}
 use Rattle.wjs_store.proofs.Replays.{Holds, Answered, ends}
@@ -308,7 +309,7 @@ linked_fresh look = record {
     nothing i = ap (λ o. unwrap_or o []) (map.get-empty world_cmp i)
 
     find_none : (i : WorldId) → parent_of {n = plain} [] i ≡ None
-    find_none i = ap (option_and_then (λ (x : World plain). x.parent)) (worlds.find_in_nothing i)
+    find_none i = ap (option_and_then (λ (x : World plain). x.parent)) (find_nil i)
 
     by : (b : Bool) {o : Option WorldId} → o ≡ None → cond b None o ≡ None
     by true e = refl

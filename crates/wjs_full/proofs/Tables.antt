@@ -1,9 +1,10 @@
 -- A list of rows, as a list of worlds.
-use Rattle.std.proofs.Common.{◌≡◌, ℕ, zero, suc, ◌+◌, ◌-◌, ◌<◌, ◌≤◌, Bool, not, ◌&&◌, ◌||◌, slice_get, IfSome, subst, ◌==◌, length-drop, add-zero, true, false, cond, List, [], ◌∷◌, ◌++◌, length, take, drop, get_or, set, refl, ap, sym, ◌∙◌, map, None, Some, reverse, arith}
+use Rattle.std.proofs.Common.{◌≡◌, ℕ, ◌+◌, ◌-◌, ◌<◌, ◌≤◌, Bool, not, ◌&&◌, ◌||◌, slice_get, IfSome, subst, ◌==◌, length-drop, add-zero, true, false, cond, List, [], ◌∷◌, ◌++◌, length, take, drop, get_or, set, refl, ap, sym, ◌∙◌, map, None, Some, reverse, arith}
 use Rattle.std.proofs.lemmas.List.{take_more, take_more_set, drop_more, map-append, append_assoc, reverse-append, drop-set-lt, take_all, drop_all, append-nil, get_or-map, get_or-drop}
 use Rattle.std.proofs.lemmas.Grind.{reverse_onto}
 use Rattle.wjs_base.specs.declared.ids.WorldId.{WorldId}
 use Rattle.wjs_base.specs.declared.values.Slot.{Slot}
+use Rattle.wjs_base.proofs.Lists.{get_there}
 use Rattle.wjs_full.specs.declared.rows.Row.{Row}
 use Rattle.wjs_store.specs.Naming.{plain}
 use Rattle.std.specs.Option.{option_map, option_map_or, option_and_then}
@@ -157,16 +158,11 @@ row_at rows w i r l is found = found ∙ ap (option_map world_in) (slice_get_at 
 pub worlds_at_read : (rows : List Row) (i j : ℕ) (r q : Row) → i < length rows → j < length rows → r ≡ get_or rows i r → q ≡ get_or rows j q → worlds_at rows (i, j) ≡ Some (world_in r, world_in q)
 worlds_at_read rows i j r q l m is at = worlds_at_is rows i j r q l m ∙ ap (λ x. Some (world_in x, world_in (get_or rows j q))) (sym is) ∙ ap (λ y. Some (world_in r, world_in y)) (sym at)
 
-some_row : {R : Type 0} (xs : List R) (i : ℕ) → i < length xs → (r : R) × (slice_get xs i ≡ Some r)
-some_row [] i l = absurd (omega arith)
-some_row (x ∷ xs) zero l = (x, refl)
-some_row (x ∷ xs) (suc i) l = some_row xs i (omega arith)
-
 some_pair : (rows : List Row) (i j : ℕ) → i < length rows → j < length rows → (e : World plain × World plain) × (worlds_at rows (i, j) ≡ Some e)
 unfolding worlds_at
 some_pair rows i j l m =
-    let r = some_row rows i l in
-    let q = some_row rows j m in
+    let r = get_there rows i l in
+    let q = get_there rows j m in
     ((world_in r.0, world_in q.0), ap (option_and_then (λ (x : Row). option_map (λ (y : Row). (world_in x, world_in y)) (slice_get rows j))) r.1 ∙ ap (option_map (λ (y : Row). (world_in r.0, world_in y))) q.1)
 
 module _ (rows : List Row) (w : WorldId) (i j : ℕ) (l : i < length rows) (m : j < length rows) (h : with_parent (worlds_in rows) w ≡ worlds_at rows (i, j)) where

@@ -11,7 +11,7 @@ use Rattle.wjs_store.specs.declared.action.Answer.{Answer}
 use Rattle.wjs_store.specs.declared.action.Answer.TheVariants.{Sprouted, Committed, NoWorld}
 use Rattle.wjs_store.specs.declared.store.Verdict.TheVariants.{Moved}
 use Rattle.wjs_store.specs.Naming.{plain}
-use Rattle.wjs_store.specs.State.{World, find_world}
+use Rattle.wjs_store.specs.State.{World, find_world, first_world}
 use Rattle.wjs_store.specs.Replay.{plain_reply, plain_after}
 use Rattle.wjs_store.specs.Meaning.{View}
 use Rattle.wjs_store.specs.Run.{act_of, answer_of, after_all}
@@ -58,9 +58,6 @@ abbrev pub histories_from : ℕ → List Action → List Answer → Histories �
 histories_from place [] rs H = H
 histories_from place (a ∷ acts) [] H = H
 histories_from place (a ∷ acts) (r ∷ rs) H = histories_from (place + 1) acts rs (noted place a r H)
-
-abbrev pub first_world : WorldId
-first_world = record { owner = 0; serial = 0 }
 
 -- the places of the first world's history, in replay order
 abbrev pub serial_places : List Action → List Answer → List ℕ

@@ -3,13 +3,10 @@ use Rattle.std.specs.Prelude.{ℕ, List, refl}
 use Rattle.std.specs.Coded.{Coded, code_by, coded×, coded_ℕ, coded_list}
 use Rattle.std.specs.FinMap as map
 use Rattle.std.specs.FinMap.{FinMap}
-use Rattle.wjs_base.specs.contracts.ids.WorldId as world
 use Rattle.wjs_base.specs.declared.ids.WorldId.{WorldId}
 use Rattle.wjs_base.specs.Order.{world_cmp}
+use Rattle.wjs_base.specs.Codes.{coded_world}
 use Rattle.wjs_full.specs.History.{Histories}
-
-abbrev coded_world : Coded WorldId
-coded_world = (world.the_row).coded
 
 abbrev pub histories_code : Coded Histories
 histories_code =

@@ -37,19 +37,15 @@ impl Places {
     fn push(&mut self, place: u64) -> Result<(), OutOfMemory>
         ensures ok { OnOk result (self.new ≡ self.old ++ place ∷ []) }
     {
-        match self.items.push(place) {
-            Ok(()) => Ok(()),
-            Err(_) => Err(OutOfMemory),
-        }
+        self.items.push(place)?;
+        Ok(())
     }
 
     fn extend(&mut self, more: &Places) -> Result<(), OutOfMemory>
         ensures ok { OnOk result (self.new ≡ self.old ++ more.now) }
     {
-        match self.items.extend_from_slice(more.items.as_slice()) {
-            Ok(()) => Ok(()),
-            Err(_) => Err(OutOfMemory),
-        }
+        self.items.extend_from_slice(more.items.as_slice())?;
+        Ok(())
     }
 
     fn into_items(self) -> Vec<u64>
@@ -104,9 +100,7 @@ impl Histories {
     fn set(&mut self, world: WorldId, places: Places) -> Result<(), OutOfMemory>
         ensures ok { OnOk result (self.new ≡ record self.old { places = map.insert self.old.places world places }) }
     {
-        if self.places.insert(world, places).is_err() {
-            return Err(OutOfMemory);
-        }
+        self.places.insert(world, places)?;
         Ok(())
     }
 
@@ -131,9 +125,7 @@ impl Histories {
     fn set_parent(&mut self, child: WorldId, parent: WorldId) -> Result<(), OutOfMemory>
         ensures ok { OnOk result (self.new ≡ record self.old { parents = map.insert self.old.parents child parent }) }
     {
-        if self.parents.insert(child, parent).is_err() {
-            return Err(OutOfMemory);
-        }
+        self.parents.insert(child, parent)?;
         Ok(())
     }
 

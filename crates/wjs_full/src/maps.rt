@@ -19,7 +19,7 @@ pub struct SlotMap<V> {
 impl<V> Model for SlotMap<V> {
     ghost use Rattle.std.specs.FinMap as map;
     ghost use Rattle.wjs_base.specs.Order.{slot_cmp};
-    ghost use Rattle.wjs_full.specs.Maps.{coded_slot};
+    ghost use Rattle.wjs_base.specs.Codes.{coded_slot};
 
     ghost Value = { map.FinMap slot_cmp V };
 
@@ -37,9 +37,7 @@ fn entries_of<V: Copy>(
 {
     let mut all = Vec::new(alloc);
     for (slot, value) in tree.iter() {
-        if all.push((*slot, *value)).is_err() {
-            return Err(OutOfMemory);
-        }
+        all.push((*slot, *value))?;
     }
     Ok(all)
 }
@@ -68,9 +66,7 @@ impl<V: Copy> SlotMap<V> {
     pub fn insert(&mut self, slot: Slot, value: V) -> Result<(), OutOfMemory>
         ensures ok { OnOk result (self.new ≡ map.insert self.old slot value) }
     {
-        if self.tree.insert(slot, value).is_err() {
-            return Err(OutOfMemory);
-        }
+        self.tree.insert(slot, value)?;
         Ok(())
     }
 
@@ -110,10 +106,7 @@ impl<V: Copy> SlotMap<V> {
         ensures { IfOk result (λ all. all.items ≡ map.keys self.now) }
     {
         let entries = self.entries(alloc)?;
-        match entries.iter().map(|entry| entry.0).collect(alloc) {
-            Ok(all) => Ok(all),
-            Err(_) => Err(OutOfMemory),
-        }
+        Ok(entries.iter().map(|entry| entry.0).collect(alloc)?)
     }
 }
 
@@ -121,10 +114,8 @@ impl SlotMap<Value> {
     pub fn copied(&self) -> Result<SlotMap<Value>, OutOfMemory>
         ensures { IfOk result (λ m. m ≡ self.now) }
     {
-        match self.tree.clone() {
-            Ok(tree) => Ok(SlotMap { tree }),
-            Err(_) => Err(OutOfMemory),
-        }
+        let tree = self.tree.clone()?;
+        Ok(SlotMap { tree })
     }
 }
 
@@ -140,7 +131,7 @@ impl Model for ObjSet {
     ghost use base.Stored.{coded_unit};
     ghost use Rattle.wjs_base.specs.Order.{obj_cmp};
     ghost use Rattle.wjs_store.specs.State.{KeySet};
-    ghost use Rattle.wjs_full.specs.Maps.{coded_object};
+    ghost use Rattle.wjs_base.specs.Codes.{coded_object};
 
     ghost Value = { KeySet obj_cmp };
 
@@ -167,9 +158,7 @@ impl ObjSet {
     pub fn insert(&mut self, object: ObjId) -> Result<(), OutOfMemory>
         ensures ok { OnOk result (self.new ≡ map.insert self.old object tt) }
     {
-        if self.tree.insert(object, ()).is_err() {
-            return Err(OutOfMemory);
-        }
+        self.tree.insert(object, ())?;
         Ok(())
     }
 
@@ -183,9 +172,6 @@ impl ObjSet {
     pub fn objects(&self, alloc: Global) -> Result<Vec<ObjId>, OutOfMemory>
         ensures { IfOk result (λ all. all.items ≡ map.keys self.now) }
     {
-        match self.tree.keys().copied().collect(alloc) {
-            Ok(all) => Ok(all),
-            Err(_) => Err(OutOfMemory),
-        }
+        Ok(self.tree.keys().copied().collect(alloc)?)
     }
 }

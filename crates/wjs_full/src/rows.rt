@@ -2,7 +2,9 @@
 ghost use Rattle.std.specs.Prelude.{◌≡◌, ◌++◌, ◌∷◌, [], OnOk, IfOk, map as each, fold, filter, unwrap_or};
 ghost use Rattle.std.specs.FinMap as map;
 ghost use Rattle.wjs_base.specs.declared.values.Slot.{Slot};
-ghost use Rattle.wjs_store.specs.State.{World, is_touched, has_row, read_in, write_in, list_in, slots_in, close_in, read_all, hand_entries, hand_objects, clear_marks, child_of, same_content, same_object, fails, lesser, least, fault_in, moves, reads_of};
+ghost use Rattle.wjs_store.specs.State.{World, is_touched, has_row, read_in, write_in, list_in, slots_in, close_in, read_all, hand_entries};
+ghost use Rattle.wjs_store.specs.State.{hand_objects, clear_marks, child_of, same_content, same_object, fails, lesser, least, fault_in, moves};
+ghost use Rattle.wjs_store.specs.State.{reads_of};
 ghost use Rattle.wjs_base.specs.Order.{slot_cmp};
 ghost use Rattle.wjs_base.specs.Same.{same_value};
 ghost use Rattle.wjs_full.specs.Rows.{world_in};
@@ -86,15 +88,13 @@ impl Row {
         ensures { IfOk result (λ all. all.items ≡ slots_in object (world_in self.now)) }
     {
         let entries = self.copy.entries(alloc)?;
-        match entries
-            .iter()
-            .map(|entry| entry.0)
-            .filter(|slot| slot.object == object)
-            .collect(alloc)
-        {
-            Ok(all) => Ok(all),
-            Err(_) => Err(OutOfMemory),
-        }
+        Ok(
+            entries
+                .iter()
+                .map(|entry| entry.0)
+                .filter(|slot| slot.object == object)
+                .collect(alloc)?,
+        )
     }
 
     fn read_all(&mut self, slots: &[Slot]) -> Result<(), OutOfMemory>
@@ -214,9 +214,7 @@ impl Row {
         let reads = self.first.keys(alloc)?;
         let present = parent.copy.keys(alloc)?;
         let mut all = reads;
-        if all.extend_from_slice(present.as_slice()).is_err() {
-            return Err(OutOfMemory);
-        }
+        all.extend_from_slice(present.as_slice())?;
         Ok(all)
     }
 
@@ -233,14 +231,12 @@ impl Row {
         ensures { IfOk result (λ all. all.items ≡ moves (world_in self.now)) }
     {
         let slots = self.written.keys(alloc)?;
-        match slots
-            .iter()
-            .map(|slot| (*slot, self.copy.get(*slot)))
-            .collect(alloc)
-        {
-            Ok(all) => Ok(all),
-            Err(_) => Err(OutOfMemory),
-        }
+        Ok(
+            slots
+                .iter()
+                .map(|slot| (*slot, self.copy.get(*slot)))
+                .collect(alloc)?,
+        )
     }
 
     /// The read that was recorded of a slot.
@@ -258,14 +254,12 @@ impl Row {
         ensures { IfOk result (λ all. all.items ≡ reads_of (world_in self.now)) }
     {
         let slots = self.first.keys(alloc)?;
-        match slots
-            .iter()
-            .map(|slot| (*slot, self.read_of(*slot)))
-            .collect(alloc)
-        {
-            Ok(all) => Ok(all),
-            Err(_) => Err(OutOfMemory),
-        }
+        Ok(
+            slots
+                .iter()
+                .map(|slot| (*slot, self.read_of(*slot)))
+                .collect(alloc)?,
+        )
     }
 }
 

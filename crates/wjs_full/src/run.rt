@@ -62,9 +62,7 @@ pub fn run_actions<S: WorldStore>(
     let mut answers = Vec::new(alloc);
     for action in actions {
         let answer = act(store, *action)?;
-        if answers.push(answer).is_err() {
-            return Err(OutOfMemory);
-        }
+        answers.push(answer)?;
     }
     Ok(answers)
 }

@@ -6,7 +6,9 @@ ghost use Rattle.wjs_full.specs.declared.rows.Row.{Row};
 ghost use Rattle.wjs_store.specs.Naming.{plain};
 ghost use Rattle.wjs_store.specs.Fixed.{fresh};
 ghost use Rattle.wjs_store.specs.Shown.{slots_of, verdict_of, counts_of};
-ghost use Rattle.wjs_store.specs.State.{World, find_world, is_below, same_world, put, write_in, content_at, slots_at, next_id, count_of, after_read, after_write, after_list, after_sprout, at_world, hand_entries, hand_objects, clear_marks, write_all, settle, with_parent, fault_in, verdict_at, after_commit, parent_of};
+ghost use Rattle.wjs_store.specs.State.{World, find_world, is_below, same_world, put, write_in, content_at, slots_at, next_id, count_of, after_read};
+ghost use Rattle.wjs_store.specs.State.{after_write, after_list, after_sprout, at_world, hand_entries, hand_objects, clear_marks, write_all, settle};
+ghost use Rattle.wjs_store.specs.State.{with_parent, fault_in, verdict_at, after_commit, parent_of};
 ghost use Rattle.wjs_full.specs.Rows.{world_in, worlds_in, worlds_at};
 
 use crate::rows::Row;
@@ -20,9 +22,7 @@ pub fn new(alloc: Global) -> Result<Vec<Row>, OutOfMemory>
     ensures len { IfOk result (λ table. 0 < length table.items) }
 {
     let mut table = Vec::new(alloc);
-    if table.push(Row::first(alloc)).is_err() {
-        return Err(OutOfMemory);
-    }
+    table.push(Row::first(alloc))?;
     Ok(table)
 }
 
@@ -99,14 +99,12 @@ fn all_below(
 ) -> Result<Vec<bool>, OutOfMemory>
     ensures { IfOk result (λ hits. hits.items ≡ each (λ (row : Row). is_below world slot (worlds_in table.now) row.id) table.now) }
 {
-    match table
-        .iter()
-        .map(|row| is_below(table, world, slot, row.id))
-        .collect(alloc)
-    {
-        Ok(hits) => Ok(hits),
-        Err(_) => Err(OutOfMemory),
-    }
+    Ok(
+        table
+            .iter()
+            .map(|row| is_below(table, world, slot, row.id))
+            .collect(alloc)?,
+    )
 }
 
 fn write_row(
@@ -116,7 +114,8 @@ fn write_row(
     content: Option<Value>,
     hit: bool,
 ) -> Result<(), OutOfMemory>
-    ensures { OnOk result (world_in row.new ≡ cond (same_world row.old.id world) (write_in slot content (world_in row.old)) (cond hit (record (world_in row.old) { copy = put row.old.copy slot content }) (world_in row.old))) }
+    ensures { OnOk result (world_in row.new ≡ cond (same_world row.old.id world) (write_in slot content (world_in row.old))
+        (cond hit (record (world_in row.old) { copy = put row.old.copy slot content }) (world_in row.old))) }
 {
     if row.id == world {
         row.write(slot, content)?;
@@ -221,9 +220,7 @@ pub fn sprout(
         None => Ok(id),
         Some(place) => {
             let child = table[place].child(alloc, id, strict)?;
-            if table.push(child).is_err() {
-                return Err(OutOfMemory);
-            }
+            table.push(child)?;
             Ok(id)
         }
     }
@@ -289,7 +286,8 @@ fn settle_marks(
     writes: &[(Slot, Option<Value>)],
     objects: &[ObjId],
 ) -> Result<(), OutOfMemory>
-    ensures after { OnOk result (worlds_in table.new.items ≡ at_world world clear_marks (at_world parent (hand_objects objects.now) (write_all parent writes.now (at_world parent (hand_entries reads.now) (worlds_in table.old.items))))) }
+    ensures after { OnOk result (worlds_in table.new.items ≡ at_world world clear_marks (at_world parent (hand_objects objects.now)
+        (write_all parent writes.now (at_world parent (hand_entries reads.now) (worlds_in table.old.items))))) }
     ensures len { length table.old.items ≤ length table.new.items }
 {
     hand_reads(table.as_mut_slice(), parent, reads)?;
@@ -307,7 +305,8 @@ pub fn settle(
     parent: WorldId,
 ) -> Result<(), OutOfMemory>
     requires { place < length table.old.items }
-    ensures after { OnOk result (IfSome (slice_get table.old.items place) (λ (row : Row). worlds_in table.new.items ≡ settle (world_in row) parent (worlds_in table.old.items))) }
+    ensures after { OnOk result (IfSome (slice_get table.old.items place)
+        (λ (row : Row). worlds_in table.new.items ≡ settle (world_in row) parent (worlds_in table.old.items))) }
     ensures len { length table.old.items ≤ length table.new.items }
 {
     let row = &table[place];
@@ -419,7 +418,8 @@ fn settle_at(
 ) -> Result<(), OutOfMemory>
     requires place { place < length table.old.items }
     requires above { above < length table.old.items }
-    ensures after { OnOk result (IfSome (worlds_at table.old.items (place, above)) (λ (e : World plain × World plain). worlds_in table.new.items ≡ settle e.0 e.1.id (worlds_in table.old.items))) }
+    ensures after { OnOk result (IfSome (worlds_at table.old.items (place, above))
+        (λ (e : World plain × World plain). worlds_in table.new.items ≡ settle e.0 e.1.id (worlds_in table.old.items))) }
     ensures len { length table.old.items ≤ length table.new.items }
 {
     let parent = table[above].id;

@@ -21,10 +21,8 @@ pub fn script_of(alloc: Global, number: u64) -> Result<Vec<u8>, OutOfMemory>
     ensures short { IfOk result (λ bytes. length bytes.items ≤ 1000) }
 {
     let rest = rest();
-    match format!(in alloc; "var n = {number}{rest}") {
-        Ok(text) => Ok(text.into_bytes()),
-        Err(_) => Err(OutOfMemory),
-    }
+    let text = format!(in alloc; "var n = {number}{rest}")?;
+    Ok(text.into_bytes())
 }
 
 /// What stands after the number.

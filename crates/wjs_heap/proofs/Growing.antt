@@ -13,7 +13,7 @@ use Rattle.wjs_base.specs.declared.values.Value.TheVariants as value
 use Rattle.wjs_base.specs.Order.{obj_cmp, obj_total}
 use Rattle.wjs_base.specs.Spelling.{IsName}
 use Rattle.wjs_base.specs.Text.{Table, IsTable, Grows}
-use Rattle.wjs_base.proofs.TextLaws.{Grows-Has, Grows-IsName}
+use Rattle.wjs_base.proofs.TextLaws.{Grows-Has, Grows-IsName, Grows-trans}
 use Rattle.wjs_arena.specs.declared.object.Object.{Object}
 use Rattle.wjs_arena.specs.declared.object.Flags.{Flags}
 use Rattle.wjs_arena.specs.Entries.{Objects, Entry, IsArena, Keeps, has, created, next_number, entry_over}
@@ -21,16 +21,15 @@ use Rattle.wjs_store.specs.Naming.{plain}
 use Rattle.wjs_store.specs.State.{World, same_world, find_world, content_at}
 use Rattle.wjs_store.specs.Fixed.{fresh}
 use Rattle.wjs_store.specs.Meaning.{Worlds, worlds}
-use Rattle.wjs_content.specs.Renamed.{Holds}
-use Rattle.wjs_content.specs.Plans.{Plan}
-use Rattle.wjs_content.specs.Tables.{arena_in}
-use Rattle.wjs_content.proofs.ArenaMaps.{number_same, created_same}
-use Rattle.wjs_content.proofs.Growth.{worlds_grow}
+use Rattle.wjs_by_content.specs.Renamed.{Holds}
+use Rattle.wjs_by_content.specs.Plans.{Plan}
+use Rattle.wjs_by_content.specs.Tables.{arena_in}
+use Rattle.wjs_by_content.proofs.ArenaMaps.{number_same, created_same}
+use Rattle.wjs_by_content.proofs.Growth.{worlds_grow}
 use Rattle.wjs_heap.specs.Heap.{Parts, HasValue, HasSlot, HasNamed, IsHeap, Performs}
 use Rattle.wjs_heap.specs.Acts.{Creates}
 use Rattle.wjs_heap.specs.HeapLaws.{with_texts, with_arena}
 use Rattle.wjs_heap.proofs.Told.{told_stays}
-use Rattle.wjs_heap.proofs.Turns.{grows_twice}
 
 module _ (old new : Table) (g : Grows old new) (arena : Objects) where
   pub value_stays : (v : Value) → HasValue old arena v → HasValue new arena v
@@ -71,7 +70,7 @@ module _ (h : Parts) (new : Table) (table : IsTable new) (g : Grows h.texts new)
     carries = λ t u gt gu v ok k. f.carries t u gt gu v ok k;
     marks = λ k. f.marks (worlds_grow h.texts new g (worlds h.store) k).0;
     told = λ k d. f.told (worlds_grow h.texts new g (worlds h.store) k).0 (told_stays h.texts new g h.store.told d);
-    texts = grows_twice h.texts new after.texts g f.texts;
+    texts = Grows-trans h.texts new after.texts g f.texts;
     arena = f.arena;
     own = f.own;
     around = f.around;

@@ -3,11 +3,11 @@ use Rattle.std.proofs.Common.{◌≡◌, List, [], ◌∷◌, ◌++◌, Option, 
 use Rattle.std.specs.Option.{option_map}
 use Rattle.wjs_base.specs.Text.{Table, Grows}
 use Rattle.wjs_store.specs.Meaning.{Meaning, PlainAct, PlainReply, Does}
-use Rattle.wjs_content.specs.Renamed.{Holds}
-use Rattle.wjs_content.proofs.Found.{holds_append}
-use Rattle.wjs_content.specs.Plans.{Told}
-use Rattle.wjs_content.specs.Worlds.{told_in, told_by, KnowsWorlds, KnowsAct, KnowsReply}
-use Rattle.wjs_content.proofs.Replies.{answer_knows, act_grows, reply_grows}
+use Rattle.wjs_by_content.specs.Renamed.{Holds}
+use Rattle.wjs_by_content.proofs.Found.{holds_append}
+use Rattle.wjs_by_content.specs.Plans.{Told}
+use Rattle.wjs_by_content.specs.Worlds.{told_in, told_by, KnowsWorlds, KnowsAct, KnowsReply}
+use Rattle.wjs_by_content.proofs.Replies.{answer_knows, act_grows, reply_grows}
 use Rattle.wjs_heap.specs.Heap.{KnowsTold}
 
 -- an action that was done is known, and its answer

@@ -1,17 +1,12 @@
 -- One deed after another.
-use Rattle.std.proofs.Common.{◌≡◌, ◌++◌, [], refl, sym, ap, ◌∙◌, subst, append_assoc, append-nil}
+use Rattle.std.proofs.Common.{◌≡◌, refl, ◌∙◌, subst}
 use Rattle.wjs_base.specs.declared.ids.WorldId.{WorldId}
 use Rattle.wjs_base.specs.Text.{Table, Grows}
-use Rattle.wjs_content.specs.Plans.{Plan, Gives, then_plan}
-use Rattle.wjs_content.specs.Carried.{Carries}
-use Rattle.wjs_content.proofs.Carrying.{carries_nothing, carries_then}
+use Rattle.wjs_base.proofs.TextLaws.{Grows-refl, Grows-trans}
+use Rattle.wjs_by_content.specs.Plans.{Plan, Gives, then_plan}
+use Rattle.wjs_by_content.specs.Carried.{Carries}
+use Rattle.wjs_by_content.proofs.Carrying.{carries_nothing, carries_then}
 use Rattle.wjs_heap.specs.Heap.{Parts, IsHeap, Performs}
-
-pub grows_itself : (t : Table) → Grows t t
-grows_itself t = ([], sym (append-nil t))
-
-pub grows_twice : (a b c : Table) → Grows a b → Grows b c → Grows a c
-grows_twice a b c f g = (f.0 ++ g.0, g.1 ∙ ap (λ (x : Table). x ++ g.0) f.1 ∙ append_assoc a f.0 g.0)
 
 -- nothing is done
 pub performs_nothing : {A : Type 0} (w : WorldId) (a : Table → A) (h : Parts) → IsHeap h → Performs w (λ t. Gives (a t)) a h h
@@ -20,7 +15,7 @@ performs_nothing w a h heap = record {
   carries = λ t u g gu v ok k. carries_nothing u w (a t) h.store v k;
   marks = λ k. k;
   told = λ k d. d;
-  texts = grows_itself h.texts;
+  texts = Grows-refl h.texts;
   arena = refl;
   own = refl;
   around = refl;
@@ -35,11 +30,11 @@ pub performs_then : {A B : Type 0} (w : WorldId) (p : Table → Plan A) (go : Ta
 performs_then w p go a b old mid new f s = record {
   narrows = λ v ok. f.narrows v (s.narrows v ok);
   carries = λ t u g gu v ok k.
-      let first = f.carries t u (grows_twice mid.texts new.texts t s.texts g) gu v (s.narrows v ok) k in
+      let first = f.carries t u (Grows-trans mid.texts new.texts t s.texts g) gu v (s.narrows v ok) k in
       carries_then u w (p t) (go t) (a t) (b t) old.store mid.store new.store v first (s.carries t u g gu v ok first.knows);
   marks = λ k. s.marks (f.marks k);
   told = λ k d. s.told (f.marks k) (f.told k d);
-  texts = grows_twice old.texts mid.texts new.texts f.texts s.texts;
+  texts = Grows-trans old.texts mid.texts new.texts f.texts s.texts;
   arena = s.arena ∙ f.arena;
   own = s.own ∙ f.own;
   around = s.around ∙ f.around;

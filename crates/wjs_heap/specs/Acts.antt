@@ -7,13 +7,13 @@ use Rattle.wjs_store.specs.State.{Act, has_world, answer_to, after}
 use Rattle.wjs_store.specs.Meaning.{Meaning, View, worlds}
 use Rattle.wjs_arena.specs.declared.object.Object.{Object}
 use Rattle.wjs_arena.specs.Entries as numbered
-use Rattle.wjs_content.specs.Names.{Slot}
-use Rattle.wjs_content.specs.Objects.{next_number, created}
-use Rattle.wjs_content.specs.Tables.{arena_in, object_in}
-use Rattle.wjs_content.specs.Values.{Value}
-use Rattle.wjs_content.specs.Plans.{Heard, heard, told_of}
-use Rattle.wjs_content.specs.Worlds.{worlds_in, told_by, KnowsWorlds}
-use Rattle.wjs_content.specs.Carried.{tell}
+use Rattle.wjs_by_content.specs.Names.{Slot}
+use Rattle.wjs_by_content.specs.Objects.{next_number, created}
+use Rattle.wjs_by_content.specs.Tables.{arena_in, object_in}
+use Rattle.wjs_by_content.specs.Values.{Value}
+use Rattle.wjs_by_content.specs.Plans.{Heard, heard, told_of}
+use Rattle.wjs_by_content.specs.Worlds.{worlds_in, told_by, KnowsWorlds}
+use Rattle.wjs_by_content.specs.Carried.{tell}
 use Rattle.wjs_heap.specs.Heap.{Parts, IsHeap, KnowsTold}
 
 -- a store went from one meaning to another by an action, under a view and in the contents that the table gives

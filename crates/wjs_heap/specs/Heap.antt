@@ -12,10 +12,10 @@ use Rattle.wjs_store.specs.State.{has_world, content_at}
 use Rattle.wjs_store.specs.Meaning.{Meaning, View, PlainAct, PlainReply, worlds}
 use Rattle.wjs_arena.specs.declared.object.Object.{Object}
 use Rattle.wjs_arena.specs.Entries.{Objects, Entry, IsArena, has}
-use Rattle.wjs_content.specs.Renamed.{Holds}
-use Rattle.wjs_content.specs.Plans.{Plan}
-use Rattle.wjs_content.specs.Worlds.{KnowsWorlds, KnowsAct, KnowsReply}
-use Rattle.wjs_content.specs.Carried.{Carries}
+use Rattle.wjs_by_content.specs.Renamed.{Holds}
+use Rattle.wjs_by_content.specs.Plans.{Plan}
+use Rattle.wjs_by_content.specs.Worlds.{KnowsWorlds, KnowsAct, KnowsReply}
+use Rattle.wjs_by_content.specs.Carried.{Carries}
 
 -- what a heap means: its texts, its objects, and what its store means
 pub record Parts : Type 0 where

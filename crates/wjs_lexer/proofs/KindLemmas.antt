@@ -343,7 +343,7 @@ quote_kind c h = quote_or c (quote_cases c h)
 zero_digit : (c : ℕ) → c ≡ 48 → is_decimal c ≡ true
 zero_digit c h = rw h refl
 
-other_digit : (c : ℕ) → is_in_range 49 57 c ≡ true → is_decimal c ≡ true
+pub other_digit : (c : ℕ) → is_in_range 49 57 c ≡ true → is_decimal c ≡ true
 other_digit c h = grind (arith, nat_tests)
 
 numeral_digit : (base : Base) (cs : List ℕ) (i n v c : ℕ) → slice_get cs i ≡ Some c → IsNumeral base cs i n v → is_decimal c ≡ true

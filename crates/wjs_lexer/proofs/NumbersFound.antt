@@ -19,7 +19,7 @@ use Rattle.wjs_lexer.specs.Numbers.{radix, digits_from, is_x, Opens, IsNumeral, 
 use Rattle.wjs_lexer.specs.Pieces.{Piece, number, StandsAt, PieceAt, NoPieceAt}
 use Rattle.wjs_lexer.specs.Cursors.{digit_here, DigitsEnd, TooBig}
 use Rattle.wjs_lexer.proofs.Ranges.{range_none, range_more, pass_more, clash, same_char}
-use Rattle.wjs_lexer.proofs.KindLemmas.{fits, fits_kind, digit_kind, hex_bound}
+use Rattle.wjs_lexer.proofs.KindLemmas.{fits, fits_kind, digit_kind, hex_bound, other_digit}
 
 -- a digit that stands at a place
 chosen : (b : Bool) (x d : ℕ) → Some d ≡ (if b then Some x else None) → (b ≡ true) × (d ≡ x)
@@ -128,12 +128,9 @@ numeral_only : (base : Base) (cs : List ℕ) (i m w : ℕ) → Opens base cs i �
 numeral_only base cs i m w o nx (inl z) = absurd (zero_not base cs i m o z.0 z.1.0 nx)
 numeral_only base cs i m w o nx (inr (d, h)) = subst (λ (b : Base). IsNumeral b cs i m w) (one_base base d cs i o h.opens) h
 
-wide : (c : ℕ) → is_in_range 49 57 c ≡ true → is_decimal c ≡ true
-wide c h = grind (arith, nat_tests)
-
 first : (cs : List ℕ) (i : ℕ) (o : Option ℕ) → slice_get cs i ≡ o → passes (λ c. is_in_range 49 57 c) o ≡ true → (c : ℕ) × ((slice_get cs i ≡ Some c) × (is_decimal c ≡ true))
 first cs i None e h = cc
-first cs i (Some c) e h = (c, (e, wide c h))
+first cs i (Some c) e h = (c, (e, other_digit c h))
 
 opens_digit : (base : Base) (cs : List ℕ) (i : ℕ) → Opens base cs i → (c : ℕ) × ((slice_get cs i ≡ Some c) × (is_decimal c ≡ true))
 opens_digit bases.Decimal cs i h = first cs i (slice_get cs i) refl h

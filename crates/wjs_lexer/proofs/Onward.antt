@@ -153,9 +153,6 @@ piece_of_text cs ds i n p e h = subst (λ (xs : List ℕ). PieceAt xs i n p) e h
 pub none_of_text : (cs ds : List ℕ) (i : ℕ) → ds ≡ cs → NoPieceAt ds i → NoPieceAt cs i
 none_of_text cs ds i e h = subst (λ (xs : List ℕ). NoPieceAt xs i) e h
 
-pub grown : (a b c : Table) → Grows a b → Grows b c → Grows a c
-grown a b c g h = (g.0 ++ h.0, h.1 ∙ ap (λ (ts : Table). ts ++ h.0) g.1 ∙ append_assoc a g.0 h.0)
-
 tok_is : (cs : List ℕ) (i b l : ℕ) (after : Bool) (t : Token) → b ≡ byte_at cs i → l ≡ line_at cs i
     → ◌≡◌ {A = Tok} (record { token = t; byte = b; line = l; after_line = after }) (record { token = t; byte = byte_at cs i; line = line_at cs i; after_line = after })
 tok_is cs i b l after t e f = λ k. record { token = t; byte = e k; line = f k; after_line = after }

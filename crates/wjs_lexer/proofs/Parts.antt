@@ -7,6 +7,7 @@ use Rattle.std.proofs.lemmas.Bool.{and_parts}
 use Rattle.std.proofs.lemmas.Bool.Decides.{nat_tests}
 use Rattle.std.proofs.lemmas.List.{length-take}
 use Rattle.std.proofs.lemmas.Option.{slice_get_within, slice_get-get_or}
+use Rattle.wjs_base.proofs.Numbers.{equal_from_test}
 use Rattle.wjs_lexer.specs.declared.strings.Part.{Part}
 use Rattle.wjs_lexer.specs.declared.strings.Stands.{Stands}
 use Rattle.wjs_lexer.specs.declared.strings.Stands.TheVariants as stands
@@ -87,13 +88,10 @@ hex_if : (b : Bool) (v size : ℕ) (p : Part) → hex_part size (if b then Some 
 hex_if true v size p h = (refl, h)
 hex_if false v size p h = cc
 
-count_is : (a b : ℕ) → (a == b) ≡ true → a ≡ b
-count_is a b h = grind (arith, nat_tests)
-
 hex_sized : (cs : List ℕ) (i a b count size : ℕ) (p : Part) → hex_part size (hex_unit count (slice_range cs a b)) ≡ Some p → a ≡ i + 2 → size ≡ count + 2 → 0 < count → Sized cs i p
 hex_sized cs i a b count size p h at is some =
     let k = hex_if _ _ size p h in
-    let e = count_is (length (slice_range cs a b)) count (and_parts _ _ k.0).0 in
+    let e = equal_from_test (length (slice_range cs a b)) count (and_parts _ _ k.0).0 in
     let f = range_fits cs a b count some e in
     sized_short cs i size _ p k.1 (omega arith) (omega arith) (omega arith)
 

@@ -1,7 +1,8 @@
 -- The longest sign is reached character by character, since what begins a sign is a sign.
 use Rattle.std.proofs.Common.{◌≡◌, ℕ, ◌+◌, ◌<◌, ◌⊎◌, inl, inr, Bool, true, false, cond, ◌==◌, refl, subst, arith, List, [], ◌∷◌, ◌++◌, Option, Some, None, length}
 use Rattle.std.specs.Prelude.{slice_get}
-use Rattle.std.proofs.lemmas.Bool.Decides.{nat_tests}
+use Rattle.wjs_base.proofs.Numbers.{equal_from_test}
+use Rattle.wjs_lexer.proofs.Ranges.{same_char}
 use Rattle.wjs_tree.specs.declared.signs.Sign.{Sign}
 use Rattle.wjs_tree.specs.declared.signs.Sign.TheVariants as signs
 use Rattle.wjs_tree.specs.Signs.{spelling}
@@ -140,9 +141,6 @@ grown_none s r x t h e = let z = subst (λ (o : Option Sign). bind o (λ r'. gro
 first_more : (r first : Sign) (x : ℕ) (t : List ℕ) → read (x ∷ t) ≡ Some r → sign_of x ≡ Some first → grown first t ≡ Some r
 first_more r first x t h e = subst (λ (o : Option Sign). bind o (λ r'. grown r' t) ≡ Some r) e h
 
-same_char : (a b : ℕ) (o : Option ℕ) → o ≡ Some a → o ≡ Some b → a ≡ b
-same_char a b o x y = cc
-
 begins : (cs : List ℕ) (i ch : ℕ) (first r : Sign) (m : ℕ) (t : List ℕ) → slice_get cs i ≡ Some ch → sign_of ch ≡ Some first → read t ≡ Some r → Spells cs t i m
     → (m < i + 1) ⊎ Growth cs first (i + 1) r m
 begins cs i ch first r m [] e f g h = cc
@@ -232,35 +230,32 @@ chosen : {X : Type 0} (b : Bool) (x y z : X) → cond b x y ≡ z → ((b ≡ tr
 chosen true x y z h = inl (refl, h)
 chosen false x y z h = inr (refl, h)
 
-equals : (c k : ℕ) → (c == k) ≡ true → c ≡ k
-equals c k h = grind (arith, nat_tests)
-
 by_equals : (s r : Sign) (c : ℕ) (rest : Option Sign) → (rest ≡ Some r → spelling r ≡ spelling s ++ c ∷ []) → (((c == 61) ≡ true) × (with_equals s ≡ Some r)) ⊎ (((c == 61) ≡ false) × (rest ≡ Some r)) → spelling r ≡ spelling s ++ c ∷ []
-by_equals s r c rest f (inl (e, h)) = rw (equals c 61 e) (with_equals_spelling s r h)
+by_equals s r c rest f (inl (e, h)) = rw (equal_from_test c 61 e) (with_equals_spelling s r h)
 by_equals s r c rest f (inr (e, h)) = f h
 
 by_plus : (s r : Sign) (c : ℕ) (rest : Option Sign) → (rest ≡ Some r → spelling r ≡ spelling s ++ c ∷ []) → (((c == 43) ≡ true) × (with_plus s ≡ Some r)) ⊎ (((c == 43) ≡ false) × (rest ≡ Some r)) → spelling r ≡ spelling s ++ c ∷ []
-by_plus s r c rest f (inl (e, h)) = rw (equals c 43 e) (with_plus_spelling s r h)
+by_plus s r c rest f (inl (e, h)) = rw (equal_from_test c 43 e) (with_plus_spelling s r h)
 by_plus s r c rest f (inr (e, h)) = f h
 
 by_minus : (s r : Sign) (c : ℕ) (rest : Option Sign) → (rest ≡ Some r → spelling r ≡ spelling s ++ c ∷ []) → (((c == 45) ≡ true) × (with_minus s ≡ Some r)) ⊎ (((c == 45) ≡ false) × (rest ≡ Some r)) → spelling r ≡ spelling s ++ c ∷ []
-by_minus s r c rest f (inl (e, h)) = rw (equals c 45 e) (with_minus_spelling s r h)
+by_minus s r c rest f (inl (e, h)) = rw (equal_from_test c 45 e) (with_minus_spelling s r h)
 by_minus s r c rest f (inr (e, h)) = f h
 
 by_less : (s r : Sign) (c : ℕ) (rest : Option Sign) → (rest ≡ Some r → spelling r ≡ spelling s ++ c ∷ []) → (((c == 60) ≡ true) × (with_less s ≡ Some r)) ⊎ (((c == 60) ≡ false) × (rest ≡ Some r)) → spelling r ≡ spelling s ++ c ∷ []
-by_less s r c rest f (inl (e, h)) = rw (equals c 60 e) (with_less_spelling s r h)
+by_less s r c rest f (inl (e, h)) = rw (equal_from_test c 60 e) (with_less_spelling s r h)
 by_less s r c rest f (inr (e, h)) = f h
 
 by_greater : (s r : Sign) (c : ℕ) (rest : Option Sign) → (rest ≡ Some r → spelling r ≡ spelling s ++ c ∷ []) → (((c == 62) ≡ true) × (with_greater s ≡ Some r)) ⊎ (((c == 62) ≡ false) × (rest ≡ Some r)) → spelling r ≡ spelling s ++ c ∷ []
-by_greater s r c rest f (inl (e, h)) = rw (equals c 62 e) (with_greater_spelling s r h)
+by_greater s r c rest f (inl (e, h)) = rw (equal_from_test c 62 e) (with_greater_spelling s r h)
 by_greater s r c rest f (inr (e, h)) = f h
 
 by_and : (s r : Sign) (c : ℕ) (rest : Option Sign) → (rest ≡ Some r → spelling r ≡ spelling s ++ c ∷ []) → (((c == 38) ≡ true) × (with_and s ≡ Some r)) ⊎ (((c == 38) ≡ false) × (rest ≡ Some r)) → spelling r ≡ spelling s ++ c ∷ []
-by_and s r c rest f (inl (e, h)) = rw (equals c 38 e) (with_and_spelling s r h)
+by_and s r c rest f (inl (e, h)) = rw (equal_from_test c 38 e) (with_and_spelling s r h)
 by_and s r c rest f (inr (e, h)) = f h
 
 by_or : (s r : Sign) (c : ℕ) (rest : Option Sign) → (rest ≡ Some r → spelling r ≡ spelling s ++ c ∷ []) → (((c == 124) ≡ true) × (with_or s ≡ Some r)) ⊎ (((c == 124) ≡ false) × (rest ≡ Some r)) → spelling r ≡ spelling s ++ c ∷ []
-by_or s r c rest f (inl (e, h)) = rw (equals c 124 e) (with_or_spelling s r h)
+by_or s r c rest f (inl (e, h)) = rw (equal_from_test c 124 e) (with_or_spelling s r h)
 by_or s r c rest f (inr (e, h)) = f h
 
 longer_spelling : (s r : Sign) (c : ℕ) → longer s c ≡ Some r → spelling r ≡ spelling s ++ c ∷ []
@@ -275,7 +270,7 @@ pub spelled_more : (cs : List ℕ) (i n c : ℕ) (s r : Sign) → longer s c ≡
 spelled_more cs i n c s r f h e = rw (longer_spelling s r c f) (spells_push cs (spelling s) i n c h e)
 
 by_first : (s : Sign) (c k : ℕ) (first : Sign) (rest : Option Sign) → spelling first ≡ k ∷ [] → (rest ≡ Some s → spelling s ≡ c ∷ []) → (((c == k) ≡ true) × (Some first ≡ Some s)) ⊎ (((c == k) ≡ false) × (rest ≡ Some s)) → spelling s ≡ c ∷ []
-by_first s c k first rest e f (inl (t, h)) = let z : s ≡ first = cc in rw (z, equals c k t) e
+by_first s c k first rest e f (inl (t, h)) = let z : s ≡ first = cc in rw (z, equal_from_test c k t) e
 by_first s c k first rest e f (inr (t, h)) = f h
 
 first_spelling_of : (s : Sign) (c : ℕ) → sign_of c ≡ Some s → spelling s ≡ c ∷ []

@@ -5,6 +5,8 @@ use Rattle.std.specs.List.{list_any}
 use Rattle.std.proofs.lemmas.Bool.{cases_order}
 use Rattle.std.proofs.lemmas.Bool.Decides.{nat_tests}
 use Rattle.std.proofs.lemmas.List.Folds.{list_any-append}
+use Rattle.std.proofs.Math.Bool.{or-false}
+use Rattle.wjs_base.proofs.Numbers.{test_from_equal}
 use Rattle.wjs_tree.specs.declared.signs.Sign.{Sign}
 use Rattle.wjs_tree.specs.declared.signs.Sign.TheVariants as signs
 use Rattle.wjs_tree.specs.Signs.{spelling}
@@ -73,12 +75,9 @@ slash_sign : (s : Sign) (cs : List ℕ) (i m c : ℕ) → IsSign cs i m s → sl
 slash_sign s cs i m c h e b n (inl k) = let g = subst (λ (r : Sign). IsSign cs i m r) k h in divide_next cs i m c g.spelled e b g.next
 slash_sign s cs i m c h e b n (inr k) = let g = subst (λ (r : Sign). IsSign cs i m r) k h in assign_next cs i m c g.spelled e n
 
-tested : (a b : ℕ) → a ≡ b → (a == b) ≡ true
-tested a b e = rw e (same b)
-
 -- where a comment begins no sign stands
 no_sign : (s : Sign) (cs : List ℕ) (i m c : ℕ) → slice_get cs i ≡ Some 47 → IsSign cs i m s → slice_get cs (i + 1) ≡ Some c → is_bound_to signs.Divide c ≡ true → (61 == c) ≡ false → ⊥
-no_sign s cs i m c f h e b n = slash_sign s cs i m c h e b n (slash_signs s (tested (get_or (spelling s) 0 0) 47 (sym (sign_first s cs i m 47 f h.spelled))))
+no_sign s cs i m c f h e b n = slash_sign s cs i m c h e b n (slash_signs s (test_from_equal (get_or (spelling s) 0 0) 47 (sym (sign_first s cs i m 47 f h.spelled))))
 
 line_ends : (cs : List ℕ) (i n m : ℕ) (q : Piece) → i + 2 ≤ n → passes (λ x. not (is_line_end x)) (slice_get cs n) ≡ false
     → q ≡ line_comment → LineComment cs i m → AllPass (λ x. not (is_line_end x)) cs (i + 2) n → (m ≡ n) ⊎ ((m < n) ⊎ (n < m)) → (m < n) ⊎ ((m ≡ n) × (q ≡ line_comment))
@@ -128,17 +127,13 @@ unclosed_or cs i m q e f n (inr (inr k)) = no_sign k.which cs i m 42 e k.stands 
 pub unclosed : (cs : List ℕ) (i : ℕ) → slice_get cs i ≡ Some 47 → slice_get cs (i + 1) ≡ Some 42 → ((k : ℕ) → i + 2 ≤ k → Closes cs k → ⊥) → NoPieceAt cs i
 unclosed cs i e f n = record { none = λ m q h. unclosed_or cs i m q e f n (at_slash cs i m q e h) }
 
-or_false : (b : Bool) → (b || false) ≡ b
-or_false true = refl
-or_false false = refl
-
 twice : (b : Bool) → b ≡ ((b || is_line_end 42) || is_line_end 47)
 twice true = refl
 twice false = refl
 
 -- whether a line ends in a comment that grows
 pub any_more : (cs : List ℕ) (i n c : ℕ) (b : Bool) → i ≤ n → slice_get cs n ≡ Some c → b ≡ list_any is_line_end (slice_range cs i n) → (b || is_line_end c) ≡ list_any is_line_end (slice_range cs i (n + 1))
-any_more cs i n c b le h e = rw (range_more cs i n c le h, list_any-append is_line_end (slice_range cs i n) (c ∷ []), ← e) (ap (λ (x : Bool). b || x) (sym (or_false (is_line_end c))))
+any_more cs i n c b le h e = rw (range_more cs i n c le h, list_any-append is_line_end (slice_range cs i n) (c ∷ []), ← e) (ap (λ (x : Bool). b || x) (sym (or-false (is_line_end c))))
 
 pub opened : (cs : List ℕ) (i : ℕ) → slice_get cs i ≡ Some 47 → slice_get cs (i + 1) ≡ Some 42 → false ≡ list_any is_line_end (slice_range cs i (i + 2))
 opened cs i e f =

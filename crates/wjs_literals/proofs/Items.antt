@@ -8,8 +8,8 @@ use Rattle.wjs_tree.specs.declared.node.NodeId.{NodeId}
 use Rattle.wjs_tree.specs.declared.node.Property.{Property}
 use Rattle.wjs_tree.specs.declared.node.Node.{Node}
 use Rattle.wjs_tree.specs.declared.node.Node.TheVariants as nodes
-use Rattle.wjs_content.specs.Values.{Value, Object}
-use Rattle.wjs_content.specs.Names.{slot, index_name}
+use Rattle.wjs_by_content.specs.Values.{Value, Object}
+use Rattle.wjs_by_content.specs.Names.{slot, index_name}
 use Rattle.wjs_meaning.specs.Reading.{node_in, number, key_in}
 use Rattle.wjs_meaning.specs.Deeds.{Env, Ret, Normal, Eval, Do, Write, AtExpr, give, then_value}
 use Rattle.wjs_meaning.specs.Expressions.{array_from, key_name, object_from}
@@ -18,9 +18,9 @@ use Rattle.wjs_model.specs.Contents.{Holding}
 use Rattle.wjs_model.specs.Lists.{items_of, pairs_of}
 use Rattle.wjs_model.specs.Texts.{KnowsKey, KnowsNode, KnowsUnit}
 use Rattle.wjs_model.specs.Waiting.{array_rest, array_item, object_rest, object_item}
-use Rattle.wjs_moves.specs.Parts.{node_among}
-use Rattle.wjs_lines.proofs.Parts.{each_at, each_past}
-use Rattle.wjs_moves.proofs.Places.{node_known}
+use Rattle.wjs_frames.specs.Parts.{node_among}
+use Rattle.wjs_step_common.proofs.Parts.{each_at, each_past}
+use Rattle.wjs_frames.proofs.Places.{node_known}
 use Rattle.wjs_literals.specs.Parts.{items_in, properties_in}
 use Rattle.wjs_literals.proofs.Lists.{items_same, items_at, pairs_at, pairs_past}
 

@@ -8,10 +8,10 @@ use Rattle.wjs_meaning.specs.Deeds.{Env, Act}
 use Rattle.wjs_model.specs.declared.config.Config.{Config}
 use Rattle.wjs_model.specs.declared.frame.Activation.{Activation as Frame}
 use Rattle.wjs_model.specs.declared.unit.Unit.{Unit as Program}
-use Rattle.wjs_moves.specs.Doing.{Does}
-use Rattle.wjs_moves.specs.Following.{Follows, Later}
-use Rattle.wjs_moves.specs.Parts.{env_in}
-use Rattle.wjs_deeds.proofs.Composing.{env_later}
+use Rattle.wjs_frames.specs.Doing.{Does}
+use Rattle.wjs_frames.specs.Following.{Follows, Later}
+use Rattle.wjs_frames.specs.Parts.{env_in}
+use Rattle.wjs_heap_steps.proofs.Composing.{env_later}
 
 units_later : {S : Type 0} (meaning : S → Meaning) (old mid : Config S) → Later meaning old mid → mid.units.items ≡ old.units.items
 units_later meaning old mid l = λ i. (l.units i).items

@@ -8,7 +8,7 @@ use Rattle.wjs_tree.specs.declared.node.Node.{Node}
 use Rattle.wjs_tree.specs.declared.node.Node.TheVariants as nodes
 use Rattle.wjs_meaning.specs.Reading.{node_in, number, numbers, pair_in}
 use Rattle.wjs_model.specs.Lists.{items_of, pairs_of, arguments_of}
-use Rattle.wjs_lines.proofs.Parts.{each_at, each_past}
+use Rattle.wjs_step_common.proofs.Parts.{each_at, each_past}
 use Rattle.wjs_literals.specs.Arguments.{arguments_in}
 use Rattle.wjs_literals.specs.Parts.{items_in, properties_in}
 

@@ -12,8 +12,8 @@ use Rattle.wjs_scope.specs.Nesting.{Around, option_part, item_parts, property_pa
 use Rattle.wjs_model.specs.declared.config.Config.{Config}
 use Rattle.wjs_model.specs.declared.frame.Activation.{Activation as Frame}
 use Rattle.wjs_model.specs.Soundness.{StandsHere, IsThere}
-use Rattle.wjs_moves.specs.Parts.{node_now}
-use Rattle.wjs_moves.proofs.Parting.{among_at, among_left, among_right, among_around, among_is, stands_here}
+use Rattle.wjs_frames.specs.Parts.{node_now}
+use Rattle.wjs_frames.proofs.Parting.{among_at, among_left, among_right, among_around, among_is, stands_here}
 use Rattle.wjs_calls.specs.Standing.{StandsNamed}
 use Rattle.wjs_literals.specs.Arguments.{arguments_in}
 use Rattle.wjs_literals.specs.Parts.{items_in, properties_in}

@@ -1,10 +1,10 @@
 //! The arguments of calls and `new` (ECMA-262, 3rd edition, section 11.2.4).
 ghost use Rattle.std.specs.Prelude.{◌≡◌, slice_get};
-ghost use Rattle.wjs_moves.specs.Parts.{node_now};
+ghost use Rattle.wjs_frames.specs.Parts.{node_now};
 ghost use Rattle.wjs_literals.specs.Arguments.{arguments_in};
 
+use wjs_frames::node_of;
 use wjs_model::{Config, Frame};
-use wjs_moves::node_of;
 use wjs_store::WorldStore;
 use wjs_tree::{Node, NodeId};
 

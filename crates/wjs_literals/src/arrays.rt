@@ -1,6 +1,6 @@
 //! Literals of arrays (ECMA-262, 3rd edition, section 11.1.4): the items from left to right, and then the length.
 ghost use Rattle.std.specs.Prelude.{◌≡◌, [], drop, slice_get};
-ghost use Rattle.wjs_content.specs.Tables.{value_in};
+ghost use Rattle.wjs_by_content.specs.Tables.{value_in};
 ghost use Rattle.wjs_meaning.specs.Deeds.{Do, Create};
 ghost use Rattle.wjs_meaning.specs.Expressions as line;
 ghost use Rattle.wjs_meaning.specs.NewObjects.{array_object};
@@ -9,16 +9,16 @@ ghost use Rattle.wjs_model.specs.Contents.{holding_in, value_held};
 ghost use Rattle.wjs_model.specs.Lists.{items_of};
 ghost use Rattle.wjs_model.specs.Soundness.{HasObject, HasValue};
 ghost use Rattle.wjs_model.specs.Waiting as after;
-ghost use Rattle.wjs_moves.specs.Parts.{node_now};
+ghost use Rattle.wjs_frames.specs.Parts.{node_now};
 ghost use Rattle.wjs_literals.specs.Parts.{items_in, Skips};
-ghost use Rattle.wjs_moves.specs.Handling.{Runs, GoesOn};
+ghost use Rattle.wjs_frames.specs.Handling.{Runs, GoesOn};
 
 use wjs_base::{Name, ObjId, OutOfMemory, Value};
 use wjs_calls::whole_value;
-use wjs_deeds::{Known, create_array, write, write_known};
-use wjs_lines::{held_value, number_after, number_of};
+use wjs_frames::{Part, enter, finish, hold, node_of};
+use wjs_heap_steps::{Known, create_array, write, write_known};
 use wjs_model::{Completion, Config, ExprPoint, Frame, Held, Point};
-use wjs_moves::{Part, enter, finish, hold, node_of};
+use wjs_step_common::{held_value, number_after, number_of};
 use wjs_store::WorldStore;
 use wjs_tree::{Node, NodeId};
 

@@ -1,7 +1,7 @@
 //! Calls (ECMA-262, 3rd edition, section 11.2.3): the callee, and then the arguments from left to right.
 ghost use Rattle.std.specs.Prelude.{◌≡◌, drop};
-ghost use Rattle.wjs_content.specs.Tables.{value_in};
-ghost use Rattle.wjs_content.specs.Values.{Undefined};
+ghost use Rattle.wjs_by_content.specs.Tables.{value_in};
+ghost use Rattle.wjs_by_content.specs.Values.{Undefined};
 ghost use Rattle.wjs_base.specs.Text.{Table};
 ghost use Rattle.wjs_meaning.specs.Expressions as line;
 ghost use Rattle.wjs_meaning.specs.Reading.{node_in};
@@ -9,17 +9,17 @@ ghost use Rattle.wjs_model.specs.Contents.{holding_in, reference_in};
 ghost use Rattle.wjs_model.specs.Lists.{arguments_of};
 ghost use Rattle.wjs_model.specs.Waiting as after;
 ghost use Rattle.wjs_model.specs.Soundness.{HasReference, HasValue, StandsHere};
-ghost use Rattle.wjs_moves.specs.Parts.{node_now};
-ghost use Rattle.wjs_moves.specs.Handling.{Runs, GoesOn};
+ghost use Rattle.wjs_frames.specs.Parts.{node_now};
+ghost use Rattle.wjs_frames.specs.Handling.{Runs, GoesOn};
 
 use crate::arguments::argument;
 use wjs_base::{OutOfMemory, Value};
 use wjs_calls::call_value;
-use wjs_deeds::value_of;
-use wjs_lines::{held_callee, number_after};
+use wjs_frames::{Part, enter, finish, hold};
+use wjs_heap_steps::value_of;
 use wjs_members::is_target;
 use wjs_model::{Completion, Config, ExprPoint, Frame, Held, Point, Reference};
-use wjs_moves::{Part, enter, finish, hold};
+use wjs_step_common::{held_callee, number_after};
 use wjs_store::WorldStore;
 use wjs_tree::NodeId;
 

@@ -1,16 +1,16 @@
 //! Function expressions (ECMA-262, 3rd edition, section 13).
-ghost use Rattle.wjs_content.specs.Values.{Object};
+ghost use Rattle.wjs_by_content.specs.Values.{Object};
 ghost use Rattle.wjs_meaning.specs.Deeds.{give};
 ghost use Rattle.wjs_meaning.specs.Functions as line;
 ghost use Rattle.wjs_meaning.specs.Reading.{label_in};
 ghost use Rattle.wjs_model.specs.Texts.{HasText};
 ghost use Rattle.wjs_calls.specs.Standing.{StandsNamed};
-ghost use Rattle.wjs_moves.specs.Handling.{Runs, GoesOn};
+ghost use Rattle.wjs_frames.specs.Handling.{Runs, GoesOn};
 
 use wjs_base::{OutOfMemory, TextId, Value};
 use wjs_calls::make_function;
+use wjs_frames::finish;
 use wjs_model::{Completion, Config, Frame};
-use wjs_moves::finish;
 use wjs_store::WorldStore;
 
 /// A function expression: the function is made, where it has a name of its own in a scope that holds this name.

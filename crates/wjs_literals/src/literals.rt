@@ -1,18 +1,18 @@
 //! Literals of texts (ECMA-262, 3rd edition, section 7.8.4), `this` (section 11.1.1) and `thisWorld` ("Worlds: Controlling the
 //! Scope of Side Effects", ECOOP 2011).
 ghost use Rattle.std.specs.Prelude.{IfSome};
-ghost use Rattle.wjs_content.specs.Objects as objects;
-ghost use Rattle.wjs_content.specs.Tables.{text_in};
-ghost use Rattle.wjs_content.specs.Values.{String};
+ghost use Rattle.wjs_by_content.specs.Objects as objects;
+ghost use Rattle.wjs_by_content.specs.Tables.{text_in};
+ghost use Rattle.wjs_by_content.specs.Values.{String};
 ghost use Rattle.wjs_meaning.specs.Deeds.{Do, Look, give};
 ghost use Rattle.wjs_meaning.specs.Expressions as line;
 ghost use Rattle.wjs_model.specs.Soundness.{HasObject};
-ghost use Rattle.wjs_moves.specs.Handling.{Runs, IsRunning, IsAt, GoesOn};
+ghost use Rattle.wjs_frames.specs.Handling.{Runs, IsRunning, IsAt, GoesOn};
 
 use wjs_base::{ObjId, OutOfMemory, TextId, Value};
-use wjs_deeds::world_object;
+use wjs_frames::finish;
+use wjs_heap_steps::world_object;
 use wjs_model::{Completion, Config, Frame};
-use wjs_moves::finish;
 use wjs_store::WorldStore;
 use wjs_tree::Node;
 

@@ -1,6 +1,6 @@
 //! `new` (ECMA-262, 3rd edition, section 11.2.2): the callee, and then the arguments from left to right.
 ghost use Rattle.std.specs.Prelude.{drop};
-ghost use Rattle.wjs_content.specs.Tables.{value_in};
+ghost use Rattle.wjs_by_content.specs.Tables.{value_in};
 ghost use Rattle.wjs_meaning.specs.Constructions.{construct, new_result};
 ghost use Rattle.wjs_meaning.specs.Deeds.{Eval, AtExpr, then_value};
 ghost use Rattle.wjs_meaning.specs.Expressions as line;
@@ -9,14 +9,14 @@ ghost use Rattle.wjs_model.specs.Contents.{holding_in, value_held};
 ghost use Rattle.wjs_model.specs.Lists.{arguments_of};
 ghost use Rattle.wjs_model.specs.Waiting as after;
 ghost use Rattle.wjs_model.specs.Soundness.{HasObject, HasValue, StandsHere};
-ghost use Rattle.wjs_moves.specs.Parts.{node_now};
-ghost use Rattle.wjs_moves.specs.Handling.{Runs, IsRunning, GoesOn};
+ghost use Rattle.wjs_frames.specs.Parts.{node_now};
+ghost use Rattle.wjs_frames.specs.Handling.{Runs, IsRunning, GoesOn};
 
 use crate::arguments::argument;
 use wjs_base::{ObjId, OutOfMemory, Value};
-use wjs_lines::{held_callee, held_value, number_after};
+use wjs_frames::{Part, enter, finish, hold};
 use wjs_model::{Completion, Config, ExprPoint, Frame, Held, Point};
-use wjs_moves::{Part, enter, finish, hold};
+use wjs_step_common::{held_callee, held_value, number_after};
 use wjs_store::WorldStore;
 use wjs_tree::NodeId;
 

@@ -1,7 +1,7 @@
 //! Literals of objects (ECMA-262, 3rd edition, section 11.1.5): the values from left to right, each written under its key.
 ghost use Rattle.std.specs.Prelude.{◌≡◌, ◌+◌, Some, drop, slice_get};
-ghost use Rattle.wjs_content.specs.Names.{slot};
-ghost use Rattle.wjs_content.specs.Tables.{value_in};
+ghost use Rattle.wjs_by_content.specs.Names.{slot};
+ghost use Rattle.wjs_by_content.specs.Tables.{value_in};
 ghost use Rattle.wjs_meaning.specs.Deeds.{Do, Create, Write};
 ghost use Rattle.wjs_meaning.specs.Expressions as line;
 ghost use Rattle.wjs_meaning.specs.NewObjects.{plain_object};
@@ -11,16 +11,16 @@ ghost use Rattle.wjs_model.specs.Lists.{pairs_of};
 ghost use Rattle.wjs_model.specs.Texts.{KnowsKey};
 ghost use Rattle.wjs_model.specs.Soundness.{HasObject, HasValue};
 ghost use Rattle.wjs_model.specs.Waiting as after;
-ghost use Rattle.wjs_moves.specs.Parts.{node_now};
+ghost use Rattle.wjs_frames.specs.Parts.{node_now};
 ghost use Rattle.wjs_literals.specs.Parts.{properties_in};
-ghost use Rattle.wjs_moves.specs.Handling.{Runs, GoesOn};
+ghost use Rattle.wjs_frames.specs.Handling.{Runs, GoesOn};
 
 use wjs_base::{ObjId, OutOfMemory, Value};
-use wjs_deeds::{create_plain, write};
-use wjs_lines::{held_value, number_after};
+use wjs_frames::{Part, enter, finish, hold, node_of};
+use wjs_heap_steps::{create_plain, write};
 use wjs_members::name_of_key;
 use wjs_model::{Completion, Config, ExprPoint, Frame, Held, Point};
-use wjs_moves::{Part, enter, finish, hold, node_of};
+use wjs_step_common::{held_value, number_after};
 use wjs_store::WorldStore;
 use wjs_tree::{Node, Property, PropertyKey};
 

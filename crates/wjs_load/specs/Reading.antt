@@ -19,7 +19,7 @@ use Rattle.wjs_load.specs.declared.tokens.LoadFault.{LoadFault}
 use Rattle.wjs_load.specs.declared.tokens.LoadFault.TheVariants as faults
 use Rattle.wjs_load.specs.Stops.{StopsOn}
 
--- the unit is that of the one program that the tokens spell: its nodes in order, with the place of each name
+-- the loaded program is the one that the tokens spell: its nodes in order, with the place of each name
 pub record IsRead (texts : Table) (toks : List Tok) (unit : Program) : Type 0 where
   pub program : Elements
   pub reading : ProgramReading toks program

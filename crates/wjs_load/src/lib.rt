@@ -1,4 +1,4 @@
-//! Scripts that are loaded: bytes as units of a run.
+//! Scripts that are loaded: bytes as programs of a run.
 #![tactic(auto)]
 
 mod laws;

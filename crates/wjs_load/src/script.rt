@@ -18,7 +18,7 @@ use wjs_parse_expr::ParseFault;
 use wjs_scope::{declared_bodies, places};
 use wjs_tree::{Program, Tok};
 
-/// The unit of the program that the tokens spell, whose names are those of the table of texts. They are refused exactly where no
+/// The loaded program that the tokens spell, whose names are those of the table of texts. They are refused exactly where no
 /// well-formed program spells them (ECMA-262, 3rd edition, section 14): as unexpected on a line where they can't go on, and as no
 /// script where no token is at fault.
 pub(crate) fn read(alloc: Global, texts: &Texts, toks: Vec<Tok>) -> Result<Unit, LoadFault>

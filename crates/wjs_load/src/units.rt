@@ -1,4 +1,4 @@
-//! Units of bytes, and of the library's text.
+//! Loaded programs of bytes, and of the library's text.
 ghost use Rattle.std.specs.Prelude.{◌≤◌, ◌^◌, length, IfOk, IfErr, IfSome};
 ghost use Rattle.std.specs.Option.{option_map};
 ghost use Rattle.wjs_base.specs.Text.{Grows, IsTable};
@@ -13,9 +13,9 @@ use std::alloc::Global;
 use wjs_base::{OutOfMemory, Texts};
 use wjs_model::{LIBRARY, Unit};
 
-/// The unit whose tree is that of the program that at most 16,777,216 bytes spell; its texts are put into the table, in which
-/// what was there keeps its number, also after a fault. Each refusal comes exactly where it holds of the bytes (ECMA-262, 3rd
-/// edition, sections 6, 7 and 14).
+/// The loaded program that at most 16,777,216 bytes spell; its texts are put into the table, in which what was there keeps its
+/// number, also after a fault. Each refusal comes exactly where it holds of the bytes (ECMA-262, 3rd edition, sections 6, 7
+/// and 14).
 pub fn load(alloc: Global, bytes: &[u8], texts: &mut Texts) -> Result<Unit, LoadFault>
     requires { length bytes.now ≤ 2 ^ 24 }
     ensures ok { IfOk result (λ unit. IsProgram bytes.now (unit_in texts.new unit)) }
@@ -29,7 +29,7 @@ pub fn load(alloc: Global, bytes: &[u8], texts: &mut Texts) -> Result<Unit, Load
     read(alloc, texts, toks)
 }
 
-/// The unit of the library's text, which runs before a script. None exactly where the text is no script.
+/// The loaded program of the library's text, which runs before a script. None exactly where the text is no script.
 pub fn library(alloc: Global, texts: &mut Texts) -> Result<Option<Unit>, OutOfMemory>
     ensures ok { IfOk result (λ library. IsProgramOrNot LIBRARY.now (option_map (unit_in texts.new) library)) }
     ensures known { IfOk result (λ library. IfSome library (KnowsUnit texts.new)) }

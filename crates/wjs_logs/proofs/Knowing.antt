@@ -13,11 +13,11 @@ use Rattle.wjs_base.specs.Text.{Table, Has}
 use Rattle.wjs_store.specs.declared.store.Verdict.{Verdict}
 use Rattle.wjs_store.specs.declared.store.Verdict.TheVariants.{Moved, Disagrees, NoParent}
 use Rattle.wjs_store.specs.Shown.{content_of, slots_of, verdict_of}
-use Rattle.wjs_content.specs.Renamed.{Holds, KnowsContent as ContentKnown}
-use Rattle.wjs_content.specs.Tables.{knows_name, knows_value, knows_slot}
-use Rattle.wjs_content.specs.Telling.{names_of}
-use Rattle.wjs_content.specs.Worlds.{told_in, KnowsAct, KnowsReply, KnowsVerdict as VerdictKnown}
-use Rattle.wjs_content.proofs.Known.{text_known_is_there, name_known_is_name}
+use Rattle.wjs_by_content.specs.Renamed.{Holds, KnowsContent as ContentKnown}
+use Rattle.wjs_by_content.specs.Tables.{knows_name, knows_value, knows_slot}
+use Rattle.wjs_by_content.specs.Telling.{names_of}
+use Rattle.wjs_by_content.specs.Worlds.{told_in, KnowsAct, KnowsReply, KnowsVerdict as VerdictKnown}
+use Rattle.wjs_by_content.proofs.Known.{text_known_is_there, name_known_is_name}
 use Rattle.wjs_audit.specs.declared.deed.Deed.{Deed}
 use Rattle.wjs_audit.specs.declared.deed.Deed.TheVariants.{Read, Write, List as ListOf, Sprout, Commit}
 use Rattle.wjs_audit.specs.declared.deed.Entry.{Entry}

@@ -21,11 +21,11 @@ use Rattle.wjs_store.specs.State.{read, write}
 use Rattle.wjs_store.specs.Run.{answers_in}
 use Rattle.wjs_store.specs.Fixed.{fresh}
 use Rattle.wjs_store.specs.Meaning.{PlainAct, PlainReply}
-use Rattle.wjs_content.specs.Values as content
-use Rattle.wjs_content.specs.Names as names
-use Rattle.wjs_content.specs.Plans.{Told, Found, Listed, Wrote}
-use Rattle.wjs_content.specs.Tables.{text_in, name_in, value_in, slot_in}
-use Rattle.wjs_content.specs.Worlds.{told_in, in_order}
+use Rattle.wjs_by_content.specs.Values as content
+use Rattle.wjs_by_content.specs.Names as names
+use Rattle.wjs_by_content.specs.Plans.{Told, Found, Listed, Wrote}
+use Rattle.wjs_by_content.specs.Tables.{text_in, name_in, value_in, slot_in}
+use Rattle.wjs_by_content.specs.Worlds.{told_in, in_order}
 use Rattle.wjs_audit.specs.declared.deed.Deed.{Deed}
 use Rattle.wjs_audit.specs.declared.deed.Deed.TheVariants.{Read, Write, List as ListOf, Sprout, Commit}
 use Rattle.wjs_audit.specs.declared.deed.Entry.{Entry}

@@ -7,8 +7,8 @@ use Rattle.wjs_audit.specs.Deeds.{told_of}
 use Rattle.wjs_audit.specs.Logs.{Spells}
 use Rattle.wjs_audit.specs.Recorded.{Recorded, telling}
 use Rattle.wjs_audit.specs.Right.{AreRight}
-use Rattle.wjs_content.specs.Plans.{Told}
-use Rattle.wjs_content.specs.Worlds.{told_in}
+use Rattle.wjs_by_content.specs.Plans.{Told}
+use Rattle.wjs_by_content.specs.Worlds.{told_in}
 use Rattle.wjs_heap.specs.Heap.{KnowsTold}
 use Rattle.wjs_logs.specs.Judging.{IsRight}
 

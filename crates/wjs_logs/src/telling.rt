@@ -1,7 +1,7 @@
 //! The log of a store.
 ghost use Rattle.std.specs.Prelude.{◌≡◌, false, map as each, Some, IfOk};
 ghost use Rattle.wjs_audit.specs.Deeds.{told_of};
-ghost use Rattle.wjs_content.specs.Worlds.{told_in};
+ghost use Rattle.wjs_by_content.specs.Worlds.{told_in};
 ghost use Rattle.wjs_heap.specs.Heap.{KnowsTold};
 ghost use Rattle.wjs_logs.specs.Telling.{Tells};
 

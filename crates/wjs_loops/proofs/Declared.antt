@@ -11,8 +11,8 @@ use Rattle.wjs_tree.specs.declared.node.ForInit.TheVariants as inits
 use Rattle.wjs_tree.specs.declared.node.Node.{Node as NumberedNode}
 use Rattle.wjs_tree.specs.declared.node.Node.TheVariants as nodes
 use Rattle.wjs_scope.specs.Places.{declarator_names, placed_names}
-use Rattle.wjs_content.specs.Values.{Text, Value}
-use Rattle.wjs_content.specs.Tables.{text_in}
+use Rattle.wjs_by_content.specs.Values.{Text, Value}
+use Rattle.wjs_by_content.specs.Tables.{text_in}
 use Rattle.wjs_meaning.specs.Trees.{Place, name_place}
 use Rattle.wjs_meaning.specs.Deeds.{Env, Act, Ret, Eval, AtExpr, Normal, then_value, tree_here}
 use Rattle.wjs_meaning.specs.References.{reference_at, store}
@@ -22,7 +22,7 @@ use Rattle.wjs_model.specs.Lists.{variables_of}
 use Rattle.wjs_model.specs.Waiting.{after_variable, store_variable}
 use Rattle.wjs_loops.specs.declared.declarators.Initialiser.{Initialiser}
 use Rattle.wjs_loops.specs.Variables.{declarators_in, initialiser_goes}
-use Rattle.wjs_lines.proofs.Parts.{each_at, each_past}
+use Rattle.wjs_step_common.proofs.Parts.{each_at, each_past}
 
 module _ (t : Table) (here : ℕ) (env : Env) (ds : List Declarator) (at : ℕ) where
   abbrev all : List (Text × Option ℕ)

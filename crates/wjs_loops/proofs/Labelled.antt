@@ -4,8 +4,8 @@ use Rattle.wjs_base.specs.declared.ids.TextId.{TextId}
 use Rattle.wjs_base.specs.Text.{Table}
 use Rattle.wjs_tree.specs.declared.node.Node.{Node as NumberedNode}
 use Rattle.wjs_tree.specs.declared.node.Node.TheVariants as nodes
-use Rattle.wjs_content.specs.Values.{Text}
-use Rattle.wjs_content.specs.Tables.{text_in}
+use Rattle.wjs_by_content.specs.Values.{Text}
+use Rattle.wjs_by_content.specs.Tables.{text_in}
 use Rattle.wjs_meaning.specs.Reading.{node_in}
 use Rattle.wjs_meaning.specs.Deeds.{Act, Ret, Normal}
 use Rattle.wjs_model.specs.Lists.{if_label}

@@ -3,3 +3,7 @@ pub mod Labelled
 pub mod Standing
 pub mod Storing
 pub mod Walks
+pub mod Knowing
+pub mod ForInParts
+pub mod ForInNames
+pub mod Visiting

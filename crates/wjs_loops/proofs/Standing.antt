@@ -12,8 +12,8 @@ use Rattle.wjs_scope.specs.Nesting.{Around, option_part, initialisers, plain_par
 use Rattle.wjs_model.specs.declared.config.Config.{Config}
 use Rattle.wjs_model.specs.declared.frame.Activation.{Activation as Frame}
 use Rattle.wjs_model.specs.Soundness.{IsThere, StandsHere}
-use Rattle.wjs_moves.specs.Parts.{node_now}
-use Rattle.wjs_moves.proofs.Parting.{among_left, among_right, among_around, stands_here}
+use Rattle.wjs_frames.specs.Parts.{node_now}
+use Rattle.wjs_frames.proofs.Parting.{among_left, among_right, among_around, stands_here}
 use Rattle.wjs_loops.specs.Variables.{declarators_in}
 
 option_among : (o : Option NodeId) (e : NodeId) → o ≡ Some e → IsAmong (option_part o) e

@@ -9,7 +9,7 @@ use Rattle.wjs_base.specs.Text.{Table}
 use Rattle.wjs_store.specs.Meaning.{Meaning}
 use Rattle.wjs_tree.specs.declared.node.Declarator.{Declarator}
 use Rattle.wjs_scope.specs.declared.place.Place.{Place as Found}
-use Rattle.wjs_content.specs.Tables.{text_in, value_in}
+use Rattle.wjs_by_content.specs.Tables.{text_in, value_in}
 use Rattle.wjs_meaning.specs.Trees.{name_place}
 use Rattle.wjs_meaning.specs.Deeds.{Env, Act, Ret, Throws, tree_here}
 use Rattle.wjs_meaning.specs.Reading.{node_in}
@@ -21,11 +21,11 @@ use Rattle.wjs_model.specs.declared.unit.Unit.{Unit as Program}
 use Rattle.wjs_model.specs.Units.{place_in}
 use Rattle.wjs_model.specs.Lists.{variables_of}
 use Rattle.wjs_model.specs.Waiting.{store_variable}
-use Rattle.wjs_moves.specs.Parts.{env_in, node_now, node_among}
-use Rattle.wjs_moves.specs.Doing.{DoesFirst, FailsFirst}
-use Rattle.wjs_moves.specs.Following.{Follows, Later}
+use Rattle.wjs_frames.specs.Parts.{env_in, node_now, node_among}
+use Rattle.wjs_frames.specs.Doing.{DoesFirst, FailsFirst}
+use Rattle.wjs_frames.specs.Following.{Follows, Later}
 use Rattle.wjs_loops.specs.Variables.{declarators_in}
-use Rattle.wjs_deeds.proofs.Composing.{env_later}
+use Rattle.wjs_heap_steps.proofs.Composing.{env_later}
 use Rattle.wjs_loops.proofs.Declared.{variable_stores}
 
 module _ {S : Type 0} (meaning : S → Meaning) (old mid later : Config S) (r : Result (Unit {0}) OutOfMemory) (f : Frame) (at : ℕ) (place : Found) (name : TextId) (v : NumberedValue) where

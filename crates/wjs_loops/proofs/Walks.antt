@@ -7,15 +7,15 @@ use Rattle.wjs_base.specs.declared.ids.TextId.{TextId}
 use Rattle.wjs_base.specs.Text.{Table, Has}
 use Rattle.wjs_tree.specs.declared.node.Node.{Node as NumberedNode}
 use Rattle.wjs_tree.specs.declared.node.Node.TheVariants as form
-use Rattle.wjs_content.specs.Values.{Text, same_text}
-use Rattle.wjs_content.specs.Tables.{text_in}
+use Rattle.wjs_by_content.specs.Values.{Text, same_text}
+use Rattle.wjs_by_content.specs.Tables.{text_in}
 use Rattle.wjs_meaning.specs.Reading.{node_in}
 use Rattle.wjs_meaning.specs.Trees.{Node, first_labels, labels, has_text}
 use Rattle.wjs_model.specs.declared.unit.Unit.{Unit as Program}
 use Rattle.wjs_model.specs.Texts.{KnowsNode, KnowsUnit}
 use Rattle.wjs_model.specs.Units.{node_of, unit_in}
 use Rattle.wjs_loops.specs.Labels.{label_of}
-use Rattle.wjs_lines.proofs.Parts.{each_at, each_past}
+use Rattle.wjs_step_common.proofs.Parts.{each_at, each_past}
 
 -- the label is there
 label_there : (t : Table) (n : NumberedNode) (found : TextId) → label_of n ≡ Some found → KnowsNode t n → Has t found

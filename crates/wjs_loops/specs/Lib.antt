@@ -1,3 +1,4 @@
 pub mod Bodies
 pub mod Labels
 pub mod Variables
+pub mod ForIns

@@ -4,7 +4,7 @@ use Rattle.wjs_tree.specs.declared.node.Declarator.{Declarator}
 use Rattle.wjs_tree.specs.declared.node.ForInit.TheVariants as inits
 use Rattle.wjs_tree.specs.declared.node.Node.{Node as NumberedNode}
 use Rattle.wjs_tree.specs.declared.node.Node.TheVariants as nodes
-use Rattle.wjs_content.specs.Values.{Text}
+use Rattle.wjs_by_content.specs.Values.{Text}
 use Rattle.wjs_meaning.specs.Deeds.{Env, Act, Ret, Eval, AtExpr, Normal, then_value}
 use Rattle.wjs_model.specs.Waiting.{store_variable}
 use Rattle.wjs_loops.specs.declared.declarators.Initialiser.{Initialiser}

@@ -1,16 +1,16 @@
 //! Stores to declared names.
 ghost use Rattle.std.specs.Prelude.{IfOk, OnOk, MatchResult};
 ghost use Rattle.wjs_base.specs.Text.{Has};
-ghost use Rattle.wjs_content.specs.Tables.{text_in, value_in};
+ghost use Rattle.wjs_by_content.specs.Tables.{text_in, value_in};
 ghost use Rattle.wjs_meaning.specs.References as line;
 ghost use Rattle.wjs_model.specs.Soundness.{Base, IsThere, HasValue};
 ghost use Rattle.wjs_model.specs.Units.{place_in};
-ghost use Rattle.wjs_moves.specs.Doing.{DoesFirst, FailsFirst};
-ghost use Rattle.wjs_moves.specs.Following.{Later};
-ghost use Rattle.wjs_moves.specs.Parts.{env_in};
+ghost use Rattle.wjs_frames.specs.Doing.{DoesFirst, FailsFirst};
+ghost use Rattle.wjs_frames.specs.Following.{Later};
+ghost use Rattle.wjs_frames.specs.Parts.{env_in};
 
 use wjs_base::{OutOfMemory, TextId, Value};
-use wjs_deeds::{reference_at, store};
+use wjs_heap_steps::{reference_at, store};
 use wjs_model::{Config, Frame};
 use wjs_scope::Place;
 use wjs_store::WorldStore;

@@ -1,13 +1,13 @@
 //! The end of a loop's body (sections 12.6, 12.7 and 12.8).
 ghost use Rattle.std.specs.Prelude.{◌≡◌};
 ghost use Rattle.wjs_base.specs.Text.{Table, Grows, Has};
-ghost use Rattle.wjs_content.specs.Tables.{text_in};
+ghost use Rattle.wjs_by_content.specs.Tables.{text_in};
 ghost use Rattle.wjs_meaning.specs.Trees.{labels, has_text};
 ghost use Rattle.wjs_meaning.specs.Deeds.{Act, tree_here};
 ghost use Rattle.wjs_meaning.specs.Loops.{after_body};
 ghost use Rattle.wjs_model.specs.Contents.{completion_in};
 ghost use Rattle.wjs_model.specs.Soundness.{Base, HasCompletion};
-ghost use Rattle.wjs_moves.specs.Parts.{env_in};
+ghost use Rattle.wjs_frames.specs.Parts.{env_in};
 ghost use Rattle.wjs_loops.specs.Bodies.{goes_on, Leaves};
 
 use crate::labels::has_label;

@@ -1,25 +1,25 @@
 //! The loop `for` (section 12.6.3). Its `var`s are run by a frame of their own.
-ghost use Rattle.wjs_content.specs.Tables.{value_in};
+ghost use Rattle.wjs_by_content.specs.Tables.{value_in};
 ghost use Rattle.wjs_meaning.specs.Deeds.{Sub, then_normal, then_value};
 ghost use Rattle.wjs_meaning.specs.Reading.{node_in, number};
 ghost use Rattle.wjs_meaning.specs.Loops.{loop_body, loop_test, loop_from, loop_update, loop_updated, for_started};
-ghost use Rattle.wjs_meaning.specs.Statements.{vars_from, turn_from};
+ghost use Rattle.wjs_meaning.specs.Statements.{vars_from, iteration_from};
 ghost use Rattle.wjs_model.specs.Contents.{completion_in};
 ghost use Rattle.wjs_model.specs.Lists.{variables_of};
 ghost use Rattle.wjs_model.specs.Soundness.{HasCompletion, HasValue, StandsHere, StandsIf};
-ghost use Rattle.wjs_moves.specs.Parts.{node_now};
-ghost use Rattle.wjs_moves.specs.Handling.{Runs, GoesOn};
+ghost use Rattle.wjs_frames.specs.Parts.{node_now};
+ghost use Rattle.wjs_frames.specs.Handling.{Runs, GoesOn};
 
 use crate::bodies::{AfterBody, after_body};
-use crate::turns::{expr_turn, stmt_turn};
+use crate::iterations::{expr_iteration, stmt_iteration};
 use wjs_base::{OutOfMemory, Value};
-use wjs_lines::to_boolean;
+use wjs_frames::{Part, enter, enter_last, finish, nest};
 use wjs_model::{Completion, Config, Frame, Point, Start, StmtPoint};
-use wjs_moves::{Part, enter, enter_last, finish, nest};
+use wjs_step_common::to_boolean;
 use wjs_store::WorldStore;
 use wjs_tree::NodeId;
 
-/// The first turn: the test is entered, or without one the body.
+/// The first iteration: the test is entered, or without one the body.
 pub fn for_from<S: WorldStore>(
     config: &mut Config<S>,
     frame: Frame,
@@ -45,7 +45,7 @@ pub fn for_from<S: WorldStore>(
     }
 }
 
-/// A later turn: the test begins, or without one the body.
+/// A later iteration: the test begins, or without one the body.
 pub fn for_again<S: WorldStore>(
     config: &mut Config<S>,
     frame: Frame,
@@ -57,21 +57,21 @@ pub fn for_again<S: WorldStore>(
     requires test { StandsIf config.old frame test }
     requires update { StandsIf config.old frame update }
     requires body { StandsHere config.old frame s }
-    ensures { GoesOn S.meaning frame config.old config.new result (λ t env. turn_from frame.node.0 (number test) (number update) s.0 env) }
+    ensures { GoesOn S.meaning frame config.old config.new result (λ t env. iteration_from frame.node.0 (number test) (number update) s.0 env) }
 {
     match test {
         Some(e) => {
             let point = Point::Stmt(StmtPoint::ForTest(update, s));
-            expr_turn(config, frame, point, e)
+            expr_iteration(config, frame, point, e)
         }
         None => {
             let point = Point::Stmt(StmtPoint::ForBody(update));
-            stmt_turn(config, frame, point, s)
+            stmt_iteration(config, frame, point, s)
         }
     }
 }
 
-/// The `var`s begin, before the first turn.
+/// The `var`s begin, before the first iteration.
 pub fn for_variables<S: WorldStore>(
     config: &mut Config<S>,
     frame: Frame,
@@ -200,7 +200,7 @@ pub fn for_body<S: WorldStore>(
     }
 }
 
-/// The update, if there is one, and then the next turn.
+/// The update, if there is one, and then the next iteration.
 fn for_update<S: WorldStore>(
     config: &mut Config<S>,
     frame: Frame,
@@ -224,7 +224,7 @@ fn for_update<S: WorldStore>(
     }
 }
 
-/// After the update: the next turn.
+/// After the update: the next iteration.
 pub fn for_updated<S: WorldStore>(
     config: &mut Config<S>,
     frame: Frame,

@@ -1,20 +1,20 @@
 //! Labels, and the jumps that name them (section 12.12).
 ghost use Rattle.std.specs.Prelude.{◌≡◌, IfSome};
 ghost use Rattle.wjs_base.specs.Text.{Has};
-ghost use Rattle.wjs_content.specs.Tables.{text_in};
+ghost use Rattle.wjs_by_content.specs.Tables.{text_in};
 ghost use Rattle.wjs_meaning.specs.Reading.{node_in};
 ghost use Rattle.wjs_meaning.specs.Statements.{label_done};
 ghost use Rattle.wjs_model.specs.Contents.{completion_in};
 ghost use Rattle.wjs_model.specs.Lists.{if_label};
 ghost use Rattle.wjs_model.specs.Soundness.{Base, HasCompletion};
-ghost use Rattle.wjs_moves.specs.Parts.{node_now};
-ghost use Rattle.wjs_moves.specs.Handling.{Runs, GoesOn};
+ghost use Rattle.wjs_frames.specs.Parts.{node_now};
+ghost use Rattle.wjs_frames.specs.Handling.{Runs, GoesOn};
 ghost use Rattle.wjs_loops.specs.Labels.{label_of};
 
 use crate::labels::same_label;
 use wjs_base::{OutOfMemory, TextId};
+use wjs_frames::{finish, node_of};
 use wjs_model::{Completion, Config, Frame};
-use wjs_moves::{finish, node_of};
 use wjs_store::WorldStore;
 use wjs_tree::Node;
 

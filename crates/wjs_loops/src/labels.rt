@@ -2,14 +2,14 @@
 //! (section 12.12).
 ghost use Rattle.std.specs.Prelude.{◌≡◌};
 ghost use Rattle.wjs_base.specs.Text.{Table, Grows, Has, IsTable};
-ghost use Rattle.wjs_content.specs.Values.{same_text};
-ghost use Rattle.wjs_content.specs.Tables.{text_in};
+ghost use Rattle.wjs_by_content.specs.Values.{same_text};
+ghost use Rattle.wjs_by_content.specs.Tables.{text_in};
 ghost use Rattle.wjs_meaning.specs.Trees.{labels, has_text};
 ghost use Rattle.wjs_meaning.specs.Deeds.{tree_here};
 ghost use Rattle.wjs_model.specs.Soundness.{Base};
 ghost use Rattle.wjs_model.specs.Texts.{KnowsUnit};
 ghost use Rattle.wjs_model.specs.Units.{node_of, unit_in};
-ghost use Rattle.wjs_moves.specs.Parts.{env_in};
+ghost use Rattle.wjs_frames.specs.Parts.{env_in};
 ghost use Rattle.wjs_loops.specs.Labels.{label_of};
 
 use wjs_base::{TextId, Texts, Value, same_value};

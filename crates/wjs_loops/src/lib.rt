@@ -1,22 +1,23 @@
-//! Loops, labels and variables (ECMA-262, 3rd edition, sections 12.2, 12.6 and 12.12). A `for`-`in` is run by `wjs_visits`.
+//! Loops, `for`-`in` among them, labels and variables (ECMA-262, 3rd edition, sections 12.2, 12.6 and 12.12).
 #![tactic(auto)]
 
 mod assigns;
 mod bodies;
 mod declarators;
+mod for_ins;
 mod fors;
+mod iterations;
 mod jumps;
 mod labels;
-mod turns;
 mod variables;
+mod visits;
 mod whiles;
 
-pub use assigns::assign;
-pub use bodies::{AfterBody, after_body};
+pub use for_ins::{visit_body, visit_target, visits_object};
 pub use fors::{
     for_again, for_body, for_declared, for_from, for_started, for_test, for_updated, for_variables,
 };
+pub use iterations::{expr_iteration, stmt_iteration};
 pub use jumps::label_body;
-pub use turns::{expr_turn, stmt_turn};
-pub use variables::{place_of, variable_value, variables_from};
+pub use variables::{variable_value, variables_from};
 pub use whiles::{do_body, do_test, while_body, while_test};

@@ -3,7 +3,7 @@ ghost use Rattle.std.specs.Prelude.{◌≡◌, ◌<◌, ◌+◌, ◌^◌, length
 ghost use Rattle.std.specs.Option.{option_map};
 ghost use Rattle.wjs_base.specs.Text.{Table, Has};
 ghost use Rattle.wjs_scope.specs.Places.{placed_names};
-ghost use Rattle.wjs_content.specs.Tables.{value_in};
+ghost use Rattle.wjs_by_content.specs.Tables.{value_in};
 ghost use Rattle.wjs_meaning.specs.Trees.{name_place};
 ghost use Rattle.wjs_meaning.specs.Deeds.{tree_here, then_value};
 ghost use Rattle.wjs_meaning.specs.Reading.{node_in};
@@ -13,17 +13,17 @@ ghost use Rattle.wjs_model.specs.Lists.{variables_of};
 ghost use Rattle.wjs_model.specs.Soundness.{Base, HasValue, HasCompletion};
 ghost use Rattle.wjs_model.specs.Units.{place_in};
 ghost use Rattle.wjs_model.specs.Waiting.{after_variable, store_variable};
-ghost use Rattle.wjs_moves.specs.Parts.{env_in, node_now};
-ghost use Rattle.wjs_moves.specs.Handling.{Runs, GoesOn};
+ghost use Rattle.wjs_frames.specs.Parts.{env_in, node_now};
+ghost use Rattle.wjs_frames.specs.Handling.{Runs, GoesOn};
 ghost use Rattle.wjs_loops.specs.Variables.{declarators_in};
 
 use crate::assigns::assign;
 use crate::declarators::initialiser_from;
 use wjs_base::{OutOfMemory, TextId, Value};
-use wjs_lines::number_of;
+use wjs_frames::{Part, enter, finish, node_of};
 use wjs_model::{Completion, Config, Frame, Point, StmtPoint};
-use wjs_moves::{Part, enter, finish, node_of};
 use wjs_scope::Place;
+use wjs_step_common::number_of;
 use wjs_store::WorldStore;
 use wjs_tree::{Declarator, ForInit, Node};
 
@@ -56,7 +56,7 @@ pub fn place_of<S: WorldStore>(config: &Config<S>, frame: &Frame, at: usize) -> 
     requires named { at < length (placed_names (node_now S.meaning config.now frame.now)) }
     ensures { (t : Table) → name_place (tree_here (env_in S.meaning config.now t frame.now)) frame.now.node.0 at ≡ place_in result }
 {
-    wjs_moves::place_at(config, frame, frame.node(), at)
+    wjs_frames::place_at(config, frame, frame.node(), at)
 }
 
 /// The variables from one of a number on: the first initialiser is entered.

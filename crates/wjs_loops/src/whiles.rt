@@ -1,17 +1,17 @@
 //! The loops `while` and `do` (sections 12.6.1 and 12.6.2).
 ghost use Rattle.std.specs.Prelude.{None};
-ghost use Rattle.wjs_content.specs.Tables.{value_in};
+ghost use Rattle.wjs_by_content.specs.Tables.{value_in};
 ghost use Rattle.wjs_meaning.specs.Deeds.{then_value};
 ghost use Rattle.wjs_meaning.specs.Loops.{loop_body, loop_test, do_body, do_test};
 ghost use Rattle.wjs_model.specs.Contents.{completion_in};
 ghost use Rattle.wjs_model.specs.Soundness.{HasCompletion, HasValue, StandsHere};
-ghost use Rattle.wjs_moves.specs.Handling.{Runs, GoesOn};
+ghost use Rattle.wjs_frames.specs.Handling.{Runs, GoesOn};
 
 use crate::bodies::{AfterBody, after_body};
 use wjs_base::{OutOfMemory, Value};
-use wjs_lines::to_boolean;
+use wjs_frames::{Part, enter, enter_last, finish};
 use wjs_model::{Completion, Config, Frame, Point, StmtPoint};
-use wjs_moves::{Part, enter, enter_last, finish};
+use wjs_step_common::to_boolean;
 use wjs_store::WorldStore;
 use wjs_tree::NodeId;
 
@@ -107,7 +107,7 @@ pub fn do_test<S: WorldStore>(
     }
 }
 
-/// The next turn, or the end.
+/// The next iteration, or the end.
 fn do_tested<S: WorldStore>(
     config: &mut Config<S>,
     frame: Frame,

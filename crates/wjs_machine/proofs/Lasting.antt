@@ -6,8 +6,8 @@ use Rattle.wjs_base.specs.Text.{Table}
 use Rattle.wjs_store.specs.Meaning.{Meaning, PlainAct, PlainReply}
 use Rattle.wjs_io.specs.Streams.{Stream, stream, Got, Stops}
 use Rattle.wjs_io.proofs.Written.{Appends-then}
-use Rattle.wjs_content.specs.Tables.{value_in, arena_in}
-use Rattle.wjs_content.specs.Worlds.{told_by}
+use Rattle.wjs_by_content.specs.Tables.{value_in, arena_in}
+use Rattle.wjs_by_content.specs.Worlds.{told_by}
 use Rattle.wjs_meaning.specs.Deeds.{St}
 use Rattle.wjs_meaning.specs.Programs.{Ending, Done, Threw, StepsSpent}
 use Rattle.wjs_model.specs.declared.config.Config.{Config}
@@ -16,8 +16,8 @@ use Rattle.wjs_model.specs.declared.config.State.TheVariants as states
 use Rattle.wjs_model.proofs.Beside.{beside_nothing}
 use Rattle.wjs_model.specs.Configurations.{rest_by, seen, tells, run_in, frames_in, state_in}
 use Rattle.wjs_model.specs.Soundness.{HasThrown, Sound}
-use Rattle.wjs_moves.specs.Reaching.{own_view}
-use Rattle.wjs_moves.proofs.Reaching.{stays_on}
+use Rattle.wjs_frames.specs.Reaching.{own_view}
+use Rattle.wjs_frames.proofs.Reaching.{stays_on}
 use Rattle.wjs_machine.specs.Flushing.{FlushesAll}
 use Rattle.wjs_machine.specs.Runs.{run_of, output_of, Reaches, EndsAs, RunsTo, ending_of}
 use Rattle.wjs_machine.specs.declared.halt.Ending.{Ending as Outcome}

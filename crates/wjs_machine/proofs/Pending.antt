@@ -10,7 +10,7 @@ use Rattle.wjs_model.specs.declared.config.State.{State}
 use Rattle.wjs_model.specs.declared.config.State.TheVariants as states
 use Rattle.wjs_model.specs.Configurations.{Stays}
 use Rattle.wjs_model.specs.Soundness.{Sound, HasThrown}
-use Rattle.wjs_deeds.proofs.Later.{base_out}
+use Rattle.wjs_heap_steps.proofs.Later.{base_out}
 
 module _ {S : Type 0} (meaning : S → Meaning) (old new : Config S) where
   thrown_out : (s : State) → HasThrown old s → HasThrown (record old { pending = new.pending }) s

@@ -10,10 +10,10 @@ use Rattle.wjs_model.specs.declared.config.Config.{Config}
 use Rattle.wjs_model.specs.Outside.{alone}
 use Rattle.wjs_model.specs.Configurations.{rest, turns}
 use Rattle.wjs_model.specs.Soundness.{Sound}
-use Rattle.wjs_moves.specs.Taking.{Turns}
-use Rattle.wjs_moves.specs.Reaching.{own_view, AdmitsOwn, Reaches, Falls, turns_now}
-use Rattle.wjs_moves.proofs.Reaching.{turn_reaches, stays_on}
-use Rattle.wjs_moves.proofs.Growing.{left_alike, later_alike}
+use Rattle.wjs_frames.specs.Taking.{Turns}
+use Rattle.wjs_frames.specs.Reaching.{own_view, AdmitsOwn, Reaches, Falls, turns_now}
+use Rattle.wjs_frames.proofs.Reaching.{turn_reaches, stays_on}
+use Rattle.wjs_frames.proofs.Growing.{left_alike, later_alike}
 use Rattle.wjs_machine.specs.Flushing.{after_output, GoesOut, Flushes}
 use Rattle.wjs_machine.specs.Runs.{run_of, output_of, Advances}
 use Rattle.wjs_machine.proofs.Flushes.{output_lem, turns_lem, output_first}

@@ -8,8 +8,8 @@ use Rattle.wjs_model.specs.declared.config.Config.{Config}
 use Rattle.wjs_model.specs.declared.config.State.{State}
 use Rattle.wjs_model.specs.declared.config.State.TheVariants as states
 use Rattle.wjs_model.specs.Soundness.{Sound}
-use Rattle.wjs_moves.specs.Reaching.{Falls, turns_now}
-use Rattle.wjs_moves.proofs.Reaching.{stays_on}
+use Rattle.wjs_frames.specs.Reaching.{Falls, turns_now}
+use Rattle.wjs_frames.proofs.Reaching.{stays_on}
 use Rattle.wjs_machine.specs.Flushing.{after_output}
 use Rattle.wjs_machine.specs.Runs.{run_of, output_of, Advances, Halts, HaltsAfter, Reaches, ReachesStep, weight, weight_by}
 use Rattle.wjs_machine.specs.declared.halt.Halt.{Halt}

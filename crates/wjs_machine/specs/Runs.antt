@@ -2,8 +2,8 @@
 use Rattle.std.specs.Prelude.{◌≡◌, ℕ, suc, ◌<◌, List, [], length, unwrap_or}
 use Rattle.wjs_store.specs.Meaning.{Meaning, worlds}
 use Rattle.wjs_io.specs.Streams.{Stream, Got, GotPrefix, Stops}
-use Rattle.wjs_content.specs.Tables.{value_in, arena_in}
-use Rattle.wjs_content.specs.Worlds.{worlds_in, told_by}
+use Rattle.wjs_by_content.specs.Tables.{value_in, arena_in}
+use Rattle.wjs_by_content.specs.Worlds.{worlds_in, told_by}
 use Rattle.wjs_meaning.specs.Deeds.{St}
 use Rattle.wjs_meaning.specs.Programs.{Ending, Done, Threw, StepsSpent}
 use Rattle.wjs_model.specs.declared.config.Config.{Config}
@@ -11,7 +11,7 @@ use Rattle.wjs_model.specs.declared.config.State.{State}
 use Rattle.wjs_model.specs.declared.config.State.TheVariants as states
 use Rattle.wjs_model.specs.Configurations.{rest, Stays, Turned}
 use Rattle.wjs_model.specs.Soundness.{HasValue, Sound}
-use Rattle.wjs_moves.specs.Reaching.{own_view, Falls}
+use Rattle.wjs_frames.specs.Reaching.{own_view, Falls}
 use Rattle.wjs_machine.specs.declared.halt.Halt.{Halt}
 use Rattle.wjs_machine.specs.declared.halt.Halt.TheVariants as halts
 use Rattle.wjs_machine.specs.declared.halt.Ending.{Ending as Outcome}

@@ -1,18 +1,18 @@
 //! The turn of the frame on top: it begins, or it goes on.
 ghost use Rattle.std.specs.Prelude.{◌≡◌, OnOk};
 ghost use Rattle.wjs_model.specs.Soundness.{HasStart, HasPoint, HasCompletion, Sound};
-ghost use Rattle.wjs_moves.specs.Handling.{Runs, Begins, Resumes};
-ghost use Rattle.wjs_moves.specs.Taking.{Turns};
+ghost use Rattle.wjs_frames.specs.Handling.{Runs, Begins, Resumes};
+ghost use Rattle.wjs_frames.specs.Taking.{Turns};
 
 use wjs_arena::Native;
 use wjs_base::OutOfMemory;
+use wjs_blocks::{again, statement, stmt_after, variables};
 use wjs_calls::call_held;
-use wjs_deeds::operand_completion;
 use wjs_eval_call::{body, call_after, conversion, program};
 use wjs_eval_expr::{expr, expr_after, operation, target};
-use wjs_eval_stmt::{again, statement, stmt_after, variables};
+use wjs_frames::{Top, take_top};
+use wjs_heap_steps::operand_completion;
 use wjs_model::{Completion, Config, Frame, Point, Start, State};
-use wjs_moves::{Top, take_top};
 use wjs_native_core::{apply_element, begin_core, resume_core};
 use wjs_native_text::{begin_text, glue_element, resume_text};
 use wjs_natives::is_core;

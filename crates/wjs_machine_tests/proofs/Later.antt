@@ -7,15 +7,15 @@ use Rattle.wjs_base.specs.Order.{obj_cmp}
 use Rattle.wjs_base.specs.Text.{Table, Grows}
 use Rattle.wjs_base.proofs.TextLaws.{Grows-refl, Grows-trans}
 use Rattle.wjs_store.specs.Meaning.{Meaning, View}
-use Rattle.wjs_content.specs.Objects.{Entry}
+use Rattle.wjs_by_content.specs.Objects.{Entry}
 use Rattle.wjs_model.specs.declared.config.Config.{Config}
 use Rattle.wjs_model.specs.declared.config.State.TheVariants as states
 use Rattle.wjs_model.specs.Outside.{Admits, alone}
 use Rattle.wjs_model.specs.Configurations.{rest, Stays, Turned, quietly, by_step, stopped, Quiet, Stepped, Stopped}
 use Rattle.wjs_model.specs.Soundness.{Sound}
-use Rattle.wjs_moves.specs.Growing.{MoreTextsChangeNothing}
-use Rattle.wjs_moves.specs.Taking.{Turns}
-use Rattle.wjs_moves.proofs.Taking.{seen_spent}
+use Rattle.wjs_frames.specs.Growing.{MoreTextsChangeNothing}
+use Rattle.wjs_frames.specs.Taking.{Turns}
+use Rattle.wjs_frames.proofs.Taking.{seen_spent}
 use Rattle.wjs_machine_tests.specs.Later.{Meets, Leaves}
 
 no_entry : (r : Option Entry) (e : Entry) → r ≡ None → r ≡ Some e → ⊥

@@ -16,8 +16,8 @@ use Rattle.wjs_model.specs.declared.unit.Unit.{Unit as Program}
 use Rattle.wjs_model.specs.Configurations.{seen, after_done}
 use Rattle.wjs_model.specs.Texts.{KnowsUnit}
 use Rattle.wjs_model.specs.Units.{unit_in}
-use Rattle.wjs_moves.proofs.NodesGrow.{unit_grows}
-use Rattle.wjs_moves.specs.Reaching.{AdmitsOwn}
+use Rattle.wjs_frames.proofs.NodesGrow.{unit_grows}
+use Rattle.wjs_frames.specs.Reaching.{AdmitsOwn}
 use Rattle.wjs_start.specs.First.{writes_told}
 use Rattle.wjs_start.specs.Starting.{Starts}
 use Rattle.wjs_machine.specs.declared.halt.Ending.{Ending as Outcome}

@@ -10,7 +10,7 @@ use Rattle.wjs_model.specs.declared.config.State.TheVariants as states
 use Rattle.wjs_model.specs.declared.frame.Activation.{Activation as Frame}
 use Rattle.wjs_model.specs.declared.unit.Unit.{Unit as Program}
 use Rattle.wjs_model.specs.Soundness.{HasWorld, IsStacked, Base, Sound}
-use Rattle.wjs_moves.proofs.Keeping.{none_taken}
+use Rattle.wjs_frames.proofs.Keeping.{none_taken}
 use Rattle.wjs_parts.specs.Entering.{Enters}
 use Rattle.wjs_parts.specs.Walking.{Walks}
 

@@ -2,7 +2,7 @@
 use Rattle.std.specs.Prelude.{◌≡◌, IsTrue}
 use Rattle.wjs_base.specs.Text.{Table, Grows}
 use Rattle.wjs_store.specs.Meaning.{Meaning, View}
-use Rattle.wjs_content.specs.Worlds.{KnowsWorlds}
+use Rattle.wjs_by_content.specs.Worlds.{KnowsWorlds}
 use Rattle.wjs_model.specs.declared.config.Config.{Config}
 use Rattle.wjs_model.specs.Outside.{alone}
 use Rattle.wjs_model.specs.Configurations.{rest}

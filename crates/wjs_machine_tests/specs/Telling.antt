@@ -1,8 +1,8 @@
 -- What a store tells of a run.
 use Rattle.std.specs.Prelude.{◌≡◌, List, [], ◌++◌, Option, None, Some, unwrap_or}
 use Rattle.wjs_store.specs.Meaning.{Meaning, PlainAct, PlainReply}
-use Rattle.wjs_content.specs.Plans.{Told}
-use Rattle.wjs_content.specs.Worlds.{told_by}
+use Rattle.wjs_by_content.specs.Plans.{Told}
+use Rattle.wjs_by_content.specs.Worlds.{told_by}
 use Rattle.wjs_meaning.specs.Deeds.{St}
 use Rattle.wjs_meaning.specs.Programs.{Ending}
 use Rattle.wjs_meaning.specs.Start.{properties}

@@ -9,5 +9,5 @@ mod walks;
 
 pub use owners::{is_of_owner, world_of_object};
 pub use runs::{run_program, run_unheard};
-pub use turns::{turn, two_turns};
+pub use turns::{turn, turn_heard, two_turns};
 pub use walks::{enter_below, run_part, walk_on};

@@ -8,7 +8,7 @@ ghost use Rattle.wjs_start.specs.First.{IsNew};
 
 use std::alloc::Global;
 use wjs_base::{OutOfMemory, Texts};
-use wjs_deeds::sprout;
+use wjs_heap_steps::sprout;
 use wjs_model::{Config, Frames, State, Unit};
 use wjs_parts::{enter, start_parts, walk};
 use wjs_store::WorldStore;
@@ -66,9 +66,7 @@ pub fn run_part<S: WorldStore + Drop>(
 {
     let number = number_behind(&library);
     let mut parts = Vec::new(alloc);
-    let Ok(()) = parts.push(part) else {
-        return Err(OutOfMemory);
-    };
+    parts.push(part)?;
     let mut config = start_parts(alloc, texts, store, library, parts, budget)?;
     walk_on(&mut config, budget)?;
     enter_below(&mut config, number, budget)?;

@@ -3,10 +3,10 @@ use Rattle.std.specs.Prelude.{if◌then◌else◌, false, List, Option, None, So
 use Rattle.wjs_base.specs.declared.ids.ObjId.{ObjId}
 use Rattle.wjs_arena.specs.declared.object.Code.{Code}
 use Rattle.wjs_arena.specs.declared.object.Code.TheVariants as code
-use Rattle.wjs_content.specs.Values.{Value, Object}
-use Rattle.wjs_content.specs.Objects.{object_at}
+use Rattle.wjs_by_content.specs.Values.{Value, Object}
+use Rattle.wjs_by_content.specs.Objects.{object_at}
 use Rattle.wjs_meaning.specs.declared.trouble.Trouble.TheVariants.{NotAFunction}
-use Rattle.wjs_content.specs.Conversions.{is_nullish}
+use Rattle.wjs_by_content.specs.Conversions.{is_nullish}
 use Rattle.wjs_meaning.specs.Deeds.{Env, Act, Ret, Eval, Do, Look, AtBody, AtNative}
 use Rattle.wjs_meaning.specs.Errors.{throw}
 use Rattle.wjs_meaning.specs.NewObjects.{to_object}

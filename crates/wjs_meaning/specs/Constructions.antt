@@ -1,35 +1,24 @@
 -- `new` (ECMA-262, 3rd edition, sections 11.2.2 and 13.2.2).
-use Rattle.std.specs.Prelude.{Bool, true, false, List, Option, None, Some}
+use Rattle.std.specs.Prelude.{Bool, true, false, List, Option, None, Some, is_some}
 use Rattle.wjs_base.specs.declared.ids.ObjId.{ObjId}
 use Rattle.wjs_arena.specs.declared.class.Class.TheVariants as class
 use Rattle.wjs_arena.specs.declared.object.Code.{Code}
 use Rattle.wjs_arena.specs.declared.object.Code.TheVariants as code
 use Rattle.wjs_arena.specs.declared.native.Native.{Native}
-use Rattle.wjs_arena.specs.declared.native.Native.TheVariants as native
-use Rattle.wjs_content.specs.Values.{Value, Undefined, Object}
-use Rattle.wjs_content.specs.Names.{prototype_name}
-use Rattle.wjs_content.specs.Objects.{Arena, object_of, object_at, function_of}
+use Rattle.wjs_by_content.specs.Values.{Value, Undefined, Object}
+use Rattle.wjs_by_content.specs.Names.{prototype_name}
+use Rattle.wjs_by_content.specs.Objects.{Arena, object_of, object_at, function_of}
 use Rattle.wjs_meaning.specs.declared.trouble.Trouble.TheVariants.{NotAConstructor}
 use Rattle.wjs_meaning.specs.Builtins.{object_prototype}
 use Rattle.wjs_meaning.specs.Deeds.{Env, Act, Ret, Eval, Sub, Do, Look, Create, AtNative, give, then_value}
 use Rattle.wjs_meaning.specs.Properties.{get_value}
 use Rattle.wjs_meaning.specs.Errors.{throw}
 use Rattle.wjs_meaning.specs.Calls.{call}
+use Rattle.wjs_meaning.specs.Table.{row_of}
 
--- the natives that `new` takes
+-- `new` takes the natives that have a prototype object
 abbrev pub is_constructor : Native → Bool
-is_constructor native.ObjectConstructor = true
-is_constructor native.FunctionConstructor = true
-is_constructor native.ErrorConstructor = true
-is_constructor native.TypeErrorConstructor = true
-is_constructor native.RangeErrorConstructor = true
-is_constructor native.ReferenceErrorConstructor = true
-is_constructor native.WorldConstructor = true
-is_constructor native.ArrayConstructor = true
-is_constructor native.StringConstructor = true
-is_constructor native.NumberConstructor = true
-is_constructor native.BooleanConstructor = true
-is_constructor _ = false
+is_constructor k = is_some (row_of k).prototype
 
 -- a result that is an object replaces the new one
 abbrev pub new_result : ObjId → Value → Act

@@ -1,11 +1,11 @@
 -- Conversions of values that may be objects (ECMA-262, 3rd edition, section 9). They may call script code.
 use Rattle.std.specs.Prelude.{[], None, Some, pos, unwrap_or}
 use Rattle.wjs_base.specs.declared.ids.ObjId.{ObjId}
-use Rattle.wjs_content.specs.Values.{Text, Value, Number, String, Object}
-use Rattle.wjs_content.specs.Names.{to_string_name, value_of_name}
-use Rattle.wjs_content.specs.Objects.{function_of}
+use Rattle.wjs_by_content.specs.Values.{Text, Value, Number, String, Object}
+use Rattle.wjs_by_content.specs.Names.{to_string_name, value_of_name}
+use Rattle.wjs_by_content.specs.Objects.{function_of}
 use Rattle.wjs_meaning.specs.declared.trouble.Trouble.TheVariants.{NoPrimitiveValue}
-use Rattle.wjs_content.specs.Conversions.{primitive_number, primitive_text}
+use Rattle.wjs_by_content.specs.Conversions.{primitive_number, primitive_text}
 use Rattle.wjs_meaning.specs.Deeds.{Env, Act, Sub, Do, Look, give, then_value}
 use Rattle.wjs_meaning.specs.Properties.{get_value}
 use Rattle.wjs_meaning.specs.Errors.{throw}

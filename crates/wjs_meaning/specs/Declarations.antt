@@ -1,6 +1,6 @@
 -- What a body declares (ECMA-262, 3rd edition, sections 10.1.3 and 12.2).
 use Rattle.std.specs.Prelude.{ℕ, zero, suc, Bool, true, false, List, [], ◌∷◌, ◌++◌, map as each, filter, flat_map, Option, None, Some}
-use Rattle.wjs_content.specs.Values.{Text}
+use Rattle.wjs_by_content.specs.Values.{Text}
 use Rattle.wjs_meaning.specs.Trees.{Node, Init, InitVar, Block, Var, If, DoWhile, While, For, ForIn, ForVarIn, Label, Switch, Try, Within, FunctionDecl, Tree, node_at, formals_of, elements_of, has_text}
 
 -- a body's formals, its FunctionDecls in order, and the names of its `var`s in order of first occurrence

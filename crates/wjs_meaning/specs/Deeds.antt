@@ -3,12 +3,12 @@ use Rattle.std.specs.Prelude.{ℕ, zero, suc, List, [], ◌∷◌, ◌++◌, Boo
 use Rattle.wjs_base.specs.declared.ids.ObjId.{ObjId}
 use Rattle.wjs_base.specs.declared.ids.WorldId.{WorldId}
 use Rattle.wjs_store.specs.State.{State, Verdict, Act as Action, read, write, list, sprout, commit, content_at, next_id, verdict_at, has_world, after}
-use Rattle.wjs_content.specs.Rename.{shape}
+use Rattle.wjs_by_content.specs.Rename.{shape}
 use Rattle.wjs_arena.specs.declared.native.Native.{Native}
-use Rattle.wjs_content.specs.Values.{Text, Whole, Value, Number, String}
-use Rattle.wjs_content.specs.Names.{Slot, content}
-use Rattle.wjs_content.specs.Plans.{Told, told_of, names_at, Plan, Gives as Answers, Reads, Writes, Lists}
-use Rattle.wjs_content.specs.Objects.{Arena, Internals, created, next_number}
+use Rattle.wjs_by_content.specs.Values.{Text, Whole, Value, Number, String}
+use Rattle.wjs_by_content.specs.Names.{Slot, content}
+use Rattle.wjs_by_content.specs.Plans.{Told, told_of, names_at, Plan, Gives as Answers, Reads, Writes, Lists}
+use Rattle.wjs_by_content.specs.Objects.{Arena, Internals, created, next_number}
 use Rattle.wjs_meaning.specs.Trees.{Tree, Node, tree_at, node_at}
 
 -- ---- what there is

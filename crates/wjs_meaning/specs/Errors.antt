@@ -5,11 +5,11 @@ use Rattle.wjs_base.specs.Text.{longest}
 use Rattle.wjs_num.specs.declared.arithmetic.NumFault.{NumFault}
 use Rattle.wjs_num.specs.declared.arithmetic.NumFault.TheVariants as faults
 use Rattle.wjs_arena.specs.declared.class.Class.TheVariants as class
-use Rattle.wjs_content.specs.Values.{Text, Whole, Value, Number, String, Object}
-use Rattle.wjs_content.specs.Names.{name_name, message_name}
+use Rattle.wjs_by_content.specs.Values.{Text, Whole, Value, Number, String, Object}
+use Rattle.wjs_by_content.specs.Names.{name_name, message_name}
 use Rattle.wjs_meaning.specs.declared.trouble.Trouble.{Trouble}
 use Rattle.wjs_meaning.specs.declared.trouble.Trouble.TheVariants.{NotDefined, NotAnObject, NotAFunction, NotAConstructor, NotAWorld, NoParentWorld, NoPrimitiveValue, BadRightOperand, WrongReceiver, NoCodeFromText, OutOfRange, NotWhole, InvalidArrayLength, TextTooLong, InvalidRadix, CommitFailed}
-use Rattle.wjs_content.specs.Objects.{Internals, object_of}
+use Rattle.wjs_by_content.specs.Objects.{Internals, object_of}
 use Rattle.wjs_meaning.specs.Builtins.{error_prototype, type_error_prototype, range_error_prototype, reference_error_prototype}
 use Rattle.wjs_meaning.specs.Deeds.{Env, Act, Ret, Do, Create, Throws, give}
 

@@ -12,11 +12,11 @@ use Rattle.wjs_tree.specs.declared.operators.PrefixOperator.TheVariants as prefi
 use Rattle.wjs_tree.specs.declared.operators.BinaryOperator.{BinaryOperator}
 use Rattle.wjs_tree.specs.declared.operators.BinaryOperator.TheVariants as binary
 use Rattle.wjs_tree.specs.Operators.{compound}
-use Rattle.wjs_content.specs.Values.{Text, Whole, Value, Undefined, Null, Boolean, Number, String, Object, whole, same_text}
-use Rattle.wjs_content.specs.Names.{slot, length_name, index_name}
-use Rattle.wjs_content.specs.Objects.{Arena, function_of, is_callable, world_object}
+use Rattle.wjs_by_content.specs.Values.{Text, Whole, Value, Undefined, Null, Boolean, Number, String, Object, whole, same_text}
+use Rattle.wjs_by_content.specs.Names.{slot, length_name, index_name}
+use Rattle.wjs_by_content.specs.Objects.{Arena, function_of, is_callable, world_object}
 use Rattle.wjs_meaning.specs.declared.trouble.Trouble.TheVariants.{NotAnObject}
-use Rattle.wjs_content.specs.Conversions.{to_boolean, is_nullish}
+use Rattle.wjs_by_content.specs.Conversions.{to_boolean, is_nullish}
 use Rattle.wjs_meaning.specs.Trees.{Node, Key, Spelled, Numeral, Name, NumberLit, TextLit, This, ThisWorld, NullLit, BoolLit, Paren, ArrayLit, ObjectLit, Function, Dot, At, Call, NewWith, NewBare, Postfix, Prefix, Binary, Cond, Assign, Comma, is_target, name_place}
 use Rattle.wjs_meaning.specs.Deeds.{Env, Act, Ret, Eval, Sub, Do, Write, Look, Create, AtExpr, AtTarget, Reference, Local, Global, Member, Refers, Normal, give, then_value, then_number, then_text, then_reference, tree_here, node_here}
 use Rattle.wjs_meaning.specs.Properties.{get_value, delete}

@@ -5,9 +5,9 @@ use Rattle.wjs_arena.specs.declared.class.Class.TheVariants as class
 use Rattle.wjs_arena.specs.declared.object.Code.{Code}
 use Rattle.wjs_arena.specs.declared.object.Code.TheVariants as code
 use Rattle.wjs_arena.specs.declared.object.Flags.{Flags}
-use Rattle.wjs_content.specs.Values.{Text, Value, Undefined, Object, whole}
-use Rattle.wjs_content.specs.Names.{Slot, slot, length_name, prototype_name, constructor_name, arguments_name, callee_name, index_name}
-use Rattle.wjs_content.specs.Objects.{Internals, object_of, object_at, next_number, hidden_flags, kept_flags}
+use Rattle.wjs_by_content.specs.Values.{Text, Value, Undefined, Object, whole}
+use Rattle.wjs_by_content.specs.Names.{Slot, slot, length_name, prototype_name, constructor_name, arguments_name, callee_name, index_name}
+use Rattle.wjs_by_content.specs.Objects.{Internals, object_of, object_at, next_number, hidden_flags, kept_flags}
 use Rattle.wjs_meaning.specs.declared.trouble.Trouble.TheVariants.{NotAFunction}
 use Rattle.wjs_meaning.specs.Builtins.{object_prototype, function_prototype}
 use Rattle.wjs_meaning.specs.Trees.{name_of, formals_of, elements_of, has_text}

@@ -1,18 +1,18 @@
 -- The loops (ECMA-262, 3rd edition, section 12.6).
 use Rattle.std.specs.Prelude.{ℕ, true, false, List, [], ◌∷◌, Option, None, Some}
 use Rattle.wjs_base.specs.declared.ids.ObjId.{ObjId}
-use Rattle.wjs_content.specs.Values.{Text, Value, Undefined, Null, Object, String}
-use Rattle.wjs_content.specs.Names.{Slot}
+use Rattle.wjs_by_content.specs.Values.{Text, Value, Undefined, Null, Object, String}
+use Rattle.wjs_by_content.specs.Names.{Slot}
 use Rattle.wjs_meaning.specs.declared.trouble.Trouble.TheVariants.{NotAnObject}
 use Rattle.wjs_meaning.specs.Builtins.{class_prototype}
-use Rattle.wjs_content.specs.Conversions.{to_boolean}
+use Rattle.wjs_by_content.specs.Conversions.{to_boolean}
 use Rattle.wjs_meaning.specs.Trees.{labels, has_text, name_place}
 use Rattle.wjs_meaning.specs.Deeds.{Env, Act, Ret, Eval, Do, Read, AtExpr, AtTarget, AtStmt, Again, Reference, Completion, Normal, Breaks, Continues, then_value, then_reference, tree_here}
 use Rattle.wjs_meaning.specs.Properties.{visits}
 use Rattle.wjs_meaning.specs.Errors.{throw}
 use Rattle.wjs_meaning.specs.References.{reference_at, store}
 
--- after a loop's body: the next turn, or the loop's end; a `continue` with a label is meant where the label is the loop's
+-- after a loop's body: the next iteration, or the loop's end; a `continue` with a label is meant where the label is the loop's
 abbrev pub after_body : ℕ → Env → Act → Completion → Act
 after_body here env again Normal = again
 after_body here env again (Continues None) = again
@@ -20,7 +20,7 @@ after_body here env again (Continues (Some label)) = elim (has_text (labels (tre
 after_body here env again (Breaks None) = Ret Normal
 after_body here env again c = Ret c
 
--- the next turn
+-- the next iteration
 abbrev pub loop_again : ℕ → Env → Act
 loop_again here env = Eval (Again here) env Ret
 

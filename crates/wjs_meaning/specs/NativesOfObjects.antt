@@ -8,14 +8,14 @@ use Rattle.wjs_arena.specs.declared.class.Class.TheVariants as class
 use Rattle.wjs_arena.specs.declared.object.Code.{Code}
 use Rattle.wjs_arena.specs.declared.object.Code.TheVariants as code
 use Rattle.wjs_arena.specs.declared.native.Native.{Native}
-use Rattle.wjs_content.specs.Values.{Text, Whole, Value, Undefined, Null, Number, String, Object, whole}
-use Rattle.wjs_content.specs.Names.{slot, length_name, name_name, message_name, index_name}
-use Rattle.wjs_content.specs.Objects.{Arena, object_of, object_at, fixed, is_hidden, is_past, is_array, function_of}
+use Rattle.wjs_by_content.specs.Values.{Text, Whole, Value, Undefined, Null, Number, String, Object, whole}
+use Rattle.wjs_by_content.specs.Names.{slot, length_name, name_name, message_name, index_name}
+use Rattle.wjs_by_content.specs.Objects.{Arena, object_of, object_at, fixed, is_hidden, is_past, is_array, function_of}
 use Rattle.wjs_meaning.specs.declared.trouble.Trouble.TheVariants.{NotAnObject, NotAFunction, NoParentWorld, WrongReceiver, InvalidArrayLength, CommitFailed}
 use Rattle.wjs_meaning.specs.Builtins.{shown_class}
-use Rattle.wjs_content.specs.Conversions.{primitive_number, primitive_text}
+use Rattle.wjs_by_content.specs.Conversions.{primitive_number, primitive_text}
 use Rattle.wjs_meaning.specs.Trees.{tree_at, node_at, name_of}
-use Rattle.wjs_content.specs.Properties.{length_of_value}
+use Rattle.wjs_by_content.specs.Properties.{length_of_value}
 use Rattle.wjs_meaning.specs.Deeds.{Env, Act, Tick, Do, Read, Write, Look, Create, Sprout, Commit, give}
 use Rattle.wjs_meaning.specs.Properties.{get, get_value}
 use Rattle.wjs_meaning.specs.Errors.{throw, give_text}

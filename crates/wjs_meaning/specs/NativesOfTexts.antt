@@ -5,12 +5,12 @@ use Rattle.wjs_base.specs.Unicode.{utf8_of}
 use Rattle.wjs_num.specs.Bits.{uint32}
 use Rattle.wjs_num.specs.Digits.{text_of_number}
 use Rattle.wjs_num.specs.Numerals.{is_radix}
-use Rattle.wjs_content.specs.Values.{Text, Whole, Value, Undefined, Boolean, Number, String, Object, whole, value_or_undefined, same_text}
-use Rattle.wjs_content.specs.Names.{slot, index_name}
-use Rattle.wjs_content.specs.Objects.{object_at}
+use Rattle.wjs_by_content.specs.Values.{Text, Whole, Value, Undefined, Boolean, Number, String, Object, whole, value_or_undefined, same_text}
+use Rattle.wjs_by_content.specs.Names.{slot, index_name}
+use Rattle.wjs_by_content.specs.Objects.{object_at}
 use Rattle.wjs_meaning.specs.declared.trouble.Trouble.TheVariants.{NotAnObject, WrongReceiver, OutOfRange, InvalidRadix}
 use Rattle.wjs_meaning.specs.Builtins.{wrapper_of}
-use Rattle.wjs_content.specs.Conversions.{primitive_text}
+use Rattle.wjs_by_content.specs.Conversions.{primitive_text}
 use Rattle.wjs_meaning.specs.Deeds.{Env, Act, Tick, Do, Read, Look, Create, Emit, give}
 use Rattle.wjs_meaning.specs.Errors.{throw, give_text}
 use Rattle.wjs_meaning.specs.NewObjects.{make_array}

@@ -2,9 +2,9 @@
 use Rattle.std.specs.Prelude.{ℕ, ◌+◌, true, List, [], ◌∷◌, ◌++◌, length, None, Some}
 use Rattle.wjs_base.specs.declared.ids.ObjId.{ObjId}
 use Rattle.wjs_arena.specs.declared.class.Class.TheVariants as class
-use Rattle.wjs_content.specs.Values.{Value, Undefined, Null, Object, whole}
-use Rattle.wjs_content.specs.Names.{Slot, slot, length_name, index_name}
-use Rattle.wjs_content.specs.Objects.{Internals, object_of, hidden_kept_flags}
+use Rattle.wjs_by_content.specs.Values.{Value, Undefined, Null, Object, whole}
+use Rattle.wjs_by_content.specs.Names.{Slot, slot, length_name, index_name}
+use Rattle.wjs_by_content.specs.Objects.{Internals, object_of, hidden_kept_flags}
 use Rattle.wjs_meaning.specs.declared.trouble.Trouble.TheVariants.{NotAnObject}
 use Rattle.wjs_meaning.specs.Builtins.{object_prototype, array_prototype, wrapper_of}
 use Rattle.wjs_meaning.specs.Deeds.{Env, Act, Do, Create, write_all}

@@ -6,11 +6,11 @@ use Rattle.wjs_num.specs.Exact.{sum, difference, product, quotient, remainder}
 use Rattle.wjs_num.specs.Bits.{shifted_left, shifted_right, shifted_unsigned, by_bits}
 use Rattle.wjs_tree.specs.declared.operators.BinaryOperator.{BinaryOperator}
 use Rattle.wjs_tree.specs.declared.operators.BinaryOperator.TheVariants as binary
-use Rattle.wjs_content.specs.Values.{Text, Whole, Value, Boolean, Object}
-use Rattle.wjs_content.specs.Names.{prototype_name}
-use Rattle.wjs_content.specs.Objects.{function_of, is_past}
+use Rattle.wjs_by_content.specs.Values.{Text, Whole, Value, Boolean, Object}
+use Rattle.wjs_by_content.specs.Names.{prototype_name}
+use Rattle.wjs_by_content.specs.Objects.{function_of, is_past}
 use Rattle.wjs_meaning.specs.declared.trouble.Trouble.TheVariants.{BadRightOperand}
-use Rattle.wjs_content.specs.Conversions.{to_boolean, primitive_number, primitive_text, strictly_equal, loosely_equal, less_than, is_nullish, is_text}
+use Rattle.wjs_by_content.specs.Conversions.{to_boolean, primitive_number, primitive_text, strictly_equal, loosely_equal, less_than, is_nullish, is_text}
 use Rattle.wjs_meaning.specs.Deeds.{Env, Act, Sub, Do, Look, give, then_value, then_number, then_text}
 use Rattle.wjs_meaning.specs.Properties.{get_value, has}
 use Rattle.wjs_meaning.specs.Errors.{throw, give_result, give_text}

@@ -2,11 +2,12 @@
 use Rattle.std.specs.Prelude.{ℕ, zero, suc, ◌+◌, List, [], ◌∷◌, ◌++◌, Option, None, Some}
 use Rattle.wjs_base.specs.declared.ids.ObjId.{ObjId}
 use Rattle.wjs_base.specs.declared.ids.WorldId.{WorldId}
-use Rattle.wjs_content.specs.Values.{Text, Value, Object, String}
+use Rattle.wjs_by_content.specs.Values.{Text, Value, Object, String}
 use Rattle.wjs_meaning.specs.Trees.{Tree, tree_at}
 use Rattle.wjs_meaning.specs.Declarations.{declared_by}
 use Rattle.wjs_meaning.specs.Deeds.{St, Env, Goal, AtExpr, AtTarget, AtStmt, Again, AtBody, AtProgram, AtNative, Act, Tick, Gives, Throws, Outcome, Ends, Spent, Next, interp, node_here, give}
-use Rattle.wjs_meaning.specs.Builtins.{global_object, first_world}
+use Rattle.wjs_store.specs.State.{first_world}
+use Rattle.wjs_meaning.specs.Builtins.{global_object}
 use Rattle.wjs_meaning.specs.Functions.{body_of, program_of, function_names}
 use Rattle.wjs_meaning.specs.Expressions.{expr_at, target_of}
 use Rattle.wjs_meaning.specs.Statements.{stmt_at, again_of}

@@ -1,10 +1,10 @@
 -- The operations on properties (ECMA-262, 3rd edition, section 8.6.2) in the current world; each goes on with its answer.
 use Rattle.std.specs.Prelude.{Bool, List, Option}
 use Rattle.wjs_base.specs.declared.ids.ObjId.{ObjId}
-use Rattle.wjs_content.specs.Values.{Text, Value, value_or_undefined}
-use Rattle.wjs_content.specs.Names.{Slot}
-use Rattle.wjs_content.specs.declared.answers.PutAnswer.{PutAnswer}
-use Rattle.wjs_content.specs.Properties as plans
+use Rattle.wjs_by_content.specs.Values.{Text, Value, value_or_undefined}
+use Rattle.wjs_by_content.specs.Names.{Slot}
+use Rattle.wjs_by_content.specs.declared.answers.PutAnswer.{PutAnswer}
+use Rattle.wjs_by_content.specs.Properties as plans
 use Rattle.wjs_meaning.specs.Deeds.{Env, Act, Do, Look, carry_out}
 
 -- [[Get]] (8.6.2.1)

@@ -17,8 +17,8 @@ use Rattle.wjs_tree.specs.declared.node.Handler.{Handler}
 use Rattle.wjs_tree.specs.declared.node.Node.{Node as NumberedNode}
 use Rattle.wjs_tree.specs.declared.node.Node.TheVariants as form
 use Rattle.wjs_tree.specs.Keys.{spelling}
-use Rattle.wjs_content.specs.Values.{Text}
-use Rattle.wjs_content.specs.Tables.{text_in}
+use Rattle.wjs_by_content.specs.Values.{Text}
+use Rattle.wjs_by_content.specs.Tables.{text_in}
 use Rattle.wjs_meaning.specs.Trees.{Key, Spelled, Numeral, Init, NoInit, InitExpr, InitVar, Node, Name, NumberLit, TextLit, This, ThisWorld, NullLit, BoolLit, Paren, ArrayLit, ObjectLit, Function, Dot, At, Call, NewWith, NewBare, Postfix, Prefix, Binary, Cond, Assign, Comma, Block, Var, Empty, Expr, If, DoWhile, While, For, ForIn, ForVarIn, Continue, Break, Return, Throw, Label, Switch, Try, Within, FunctionDecl, Program, Place, Tree}
 
 -- the numbers of nodes

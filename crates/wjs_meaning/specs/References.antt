@@ -1,14 +1,14 @@
 -- References: what a name or a member stands for, its value, and a store to it (ECMA-262, 3rd edition, section 8.7).
 use Rattle.std.specs.Prelude.{true, false, length, Option, None, Some}
-use Rattle.wjs_content.specs.Values.{Text, Value, String, Object, whole, value_or_undefined, same_text}
-use Rattle.wjs_content.specs.Names.{slot, length_name}
-use Rattle.wjs_content.specs.Objects.{fixed, scope_up}
+use Rattle.wjs_by_content.specs.Values.{Text, Value, String, Object, whole, value_or_undefined, same_text}
+use Rattle.wjs_by_content.specs.Names.{slot, length_name}
+use Rattle.wjs_by_content.specs.Objects.{fixed, scope_up}
 use Rattle.wjs_meaning.specs.declared.trouble.Trouble.TheVariants.{NotDefined, InvalidArrayLength}
 use Rattle.wjs_meaning.specs.Builtins.{class_prototype}
 use Rattle.wjs_meaning.specs.Trees.{Place}
 use Rattle.wjs_meaning.specs.Deeds.{Env, Act, Do, Read, Write, Look, Reference, Local, Global, Member}
-use Rattle.wjs_content.specs.declared.answers.PutAnswer.{PutAnswer}
-use Rattle.wjs_content.specs.declared.answers.PutAnswer.TheVariants.{Done, Ignored, BadLength}
+use Rattle.wjs_by_content.specs.declared.answers.PutAnswer.{PutAnswer}
+use Rattle.wjs_by_content.specs.declared.answers.PutAnswer.TheVariants.{Done, Ignored, BadLength}
 use Rattle.wjs_meaning.specs.Properties.{get, get_value, put}
 use Rattle.wjs_meaning.specs.Errors.{throw, throw_named}
 

@@ -3,18 +3,19 @@ use Rattle.std.specs.Prelude.{ℕ, ◌+◌, Bool, true, false, ◌||◌, List, [
 use Rattle.std.specs.FinMap as map
 use Rattle.std.specs.FinMap.{FinMap}
 use Rattle.wjs_base.specs.declared.ids.ObjId.{ObjId}
-use Rattle.wjs_store.specs.State.{State}
+use Rattle.wjs_store.specs.State.{State, same_object, first_world}
 use Rattle.wjs_arena.specs.declared.class.Class.{Class}
 use Rattle.wjs_arena.specs.declared.class.Class.TheVariants as class
-use Rattle.wjs_arena.specs.declared.native.Native.TheVariants.{FunctionPrototype}
-use Rattle.wjs_content.specs.Values.{Text, Value, Undefined, Boolean, Number, String, Object, whole, same_object}
-use Rattle.wjs_content.specs.Names.{Slot, slot, slot_cmp, content, length_name, prototype_name, constructor_name, name_name, message_name}
+use Rattle.wjs_arena.specs.declared.native.Native.TheVariants as native
+use Rattle.wjs_arena.specs.declared.native.FunctionNative.TheVariants as function
+use Rattle.wjs_by_content.specs.Values.{Text, Value, Undefined, Boolean, Number, String, Object, whole}
+use Rattle.wjs_by_content.specs.Names.{Slot, slot, slot_cmp, content, length_name, prototype_name, constructor_name, name_name, message_name}
 use Rattle.wjs_arena.specs.declared.object.Code.TheVariants as code
 use Rattle.wjs_arena.specs.declared.object.Flags.{Flags}
-use Rattle.wjs_content.specs.Objects.{Arena, Internals, object_of, hidden_flags, kept_flags, created}
+use Rattle.wjs_by_content.specs.Objects.{Arena, Internals, object_of, hidden_flags, kept_flags, created}
 use Rattle.wjs_meaning.specs.Trees.{has_text}
 use Rattle.wjs_meaning.specs.Deeds.{St}
-use Rattle.wjs_meaning.specs.Builtins.{builtin, object_prototype, function_prototype, global_object, array_prototype, string_prototype, number_prototype, boolean_prototype, world_prototype, error_prototype, type_error_prototype, range_error_prototype, reference_error_prototype, math_object, first_world}
+use Rattle.wjs_meaning.specs.Builtins.{first_object, object_prototype, function_prototype, global_object, array_prototype, string_prototype, number_prototype, boolean_prototype, world_prototype, error_prototype, type_error_prototype, range_error_prototype, reference_error_prototype, math_object}
 use Rattle.wjs_meaning.specs.WorldValues.{world_object_of}
 use Rattle.wjs_arena.specs.declared.native.Native.{Native}
 use Rattle.wjs_meaning.specs.Table.{Row, natives, row_of, first_native}
@@ -46,7 +47,7 @@ row_properties r f = property r.holder r.name (Object f) ∷ constructor_propert
 
 abbrev pub native_properties : ℕ → List Native → List Property
 native_properties n [] = []
-native_properties n (k ∷ ks) = row_properties (row_of k) (builtin n) ++ native_properties (n + 1) ks
+native_properties n (k ∷ ks) = row_properties (row_of k) (first_object n) ++ native_properties (n + 1) ks
 
 -- the name and the empty message of an error's prototype object
 abbrev pub error_properties : ObjId → Text → List Property
@@ -101,7 +102,7 @@ fixed_length n = (length_name, whole n) ∷ []
 abbrev pub first_objects : List Text → List Internals
 first_objects declared =
     with_flags object_prototype (object_of class.Plain None) ∷
-    record (on_object class.Function function_prototype) { code = code.Native FunctionPrototype; fixed = fixed_length 0 } ∷
+    record (on_object class.Function function_prototype) { code = code.Native (native.Function function.Prototype); fixed = fixed_length 0 } ∷
     record (object_of class.Global (Some object_prototype)) { flags = flags_on global_object declared ++ each (λ name. (name, kept_flags)) declared } ∷
     record (object_of class.Array (Some object_prototype)) { flags = flags_on array_prototype [] ++ each (λ name. (name, hidden_flags)) library_names } ∷
     record (wrapping class.Text (String []) string_prototype) { fixed = fixed_length 0 } ∷
@@ -130,7 +131,7 @@ native_object k f = record (with_flags f (object_of class.Function (Some functio
 -- those of the table, the first being object n
 abbrev pub native_objects : ℕ → List Native → List Internals
 native_objects n [] = []
-native_objects n (k ∷ ks) = native_object k (builtin n) ∷ native_objects (n + 1) ks
+native_objects n (k ∷ ks) = native_object k (first_object n) ∷ native_objects (n + 1) ks
 
 -- all objects of the start, each made after those that it names as prototype
 abbrev pub first_arena : List Text → Arena

@@ -1,9 +1,9 @@
 -- What each form of statement does, after the step of its entry (ECMA-262, 3rd edition, section 12).
 use Rattle.std.specs.Prelude.{ℕ, ◌+◌, true, false, List, [], ◌∷◌, ◌++◌, Option, None, Some}
 use Rattle.wjs_base.specs.declared.ids.WorldId.{WorldId}
-use Rattle.wjs_content.specs.Values.{Text, Value, Undefined, same_text}
-use Rattle.wjs_content.specs.Names.{slot}
-use Rattle.wjs_content.specs.Conversions.{to_boolean, strictly_equal}
+use Rattle.wjs_by_content.specs.Values.{Text, Value, Undefined, same_text}
+use Rattle.wjs_by_content.specs.Names.{slot}
+use Rattle.wjs_by_content.specs.Conversions.{to_boolean, strictly_equal}
 use Rattle.wjs_meaning.specs.Trees.{Node, Init, NoInit, InitExpr, InitVar, Block, Var, Expr, If, DoWhile, While, For, ForIn, ForVarIn, Continue, Break, Return, Throw, Label, Switch, Try, Within, name_place}
 use Rattle.wjs_meaning.specs.Deeds.{Env, Act, Ret, Eval, Sub, Do, Write, Create, AtExpr, AtStmt, Completion, Normal, Breaks, Continues, Returns, Throws, then_value, then_normal, tree_here, node_here}
 use Rattle.wjs_meaning.specs.NewObjects.{scope_object}
@@ -159,15 +159,15 @@ stmt_of here _ env = Ret Normal
 abbrev pub stmt_at : ℕ → Env → Act
 stmt_at s env = stmt_of s (node_here env s) env
 
--- ---- a loop at its next turn: its test, or without one its body, is entered by this step, and what follows it follows
+-- ---- a loop at its next iteration: its test, or without one its body, is entered by this step, and what follows it follows
 
-abbrev pub turn_from : ℕ → Option ℕ → Option ℕ → ℕ → Env → Act
-turn_from here None u s env = Sub (stmt_at s env) (loop_body here u env)
-turn_from here (Some e) u s env = Sub (expr_at e env) (then_value (loop_test here u s env))
+abbrev pub iteration_from : ℕ → Option ℕ → Option ℕ → ℕ → Env → Act
+iteration_from here None u s env = Sub (stmt_at s env) (loop_body here u env)
+iteration_from here (Some e) u s env = Sub (expr_at e env) (then_value (loop_test here u s env))
 
 -- one line per loop
 abbrev pub again_of : ℕ → Node → Env → Act
-again_of here (While e s) env = turn_from here (Some e) None s env
-again_of here (For init t u s) env = turn_from here t u s env
+again_of here (While e s) env = iteration_from here (Some e) None s env
+again_of here (For init t u s) env = iteration_from here t u s env
 again_of here (DoWhile s e) env = Sub (stmt_at s env) (do_body here e env)
 again_of here _ env = Ret Normal

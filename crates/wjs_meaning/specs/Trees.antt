@@ -4,7 +4,7 @@ use Rattle.wjs_tree.specs.declared.operators.UpdateOperator.{UpdateOperator}
 use Rattle.wjs_tree.specs.declared.operators.PrefixOperator.{PrefixOperator}
 use Rattle.wjs_tree.specs.declared.operators.BinaryOperator.{BinaryOperator}
 use Rattle.wjs_tree.specs.declared.operators.AssignOperator.{AssignOperator}
-use Rattle.wjs_content.specs.Values.{Text, Whole, same_text}
+use Rattle.wjs_by_content.specs.Values.{Text, Whole, same_text}
 
 -- the key of a property: how a word, a text or a reserved word is spelled, or a number (ECMA-262, 3rd edition, section 11.1.5)
 pub data Key : Type 0 where

@@ -2,8 +2,8 @@
 use Rattle.std.specs.Prelude.{true, false, Option, None, Some}
 use Rattle.wjs_base.specs.declared.ids.WorldId.{WorldId}
 use Rattle.wjs_arena.specs.declared.class.Class.TheVariants as class
-use Rattle.wjs_content.specs.Values.{Value, Object}
-use Rattle.wjs_content.specs.Objects.{Internals, object_of, object_at}
+use Rattle.wjs_by_content.specs.Values.{Value, Object}
+use Rattle.wjs_by_content.specs.Objects.{Internals, object_of, object_at}
 use Rattle.wjs_meaning.specs.declared.trouble.Trouble.TheVariants.{NotAWorld}
 use Rattle.wjs_meaning.specs.Builtins.{world_prototype}
 use Rattle.wjs_meaning.specs.Deeds.{Env, Act, Do, Look, HasWorld}

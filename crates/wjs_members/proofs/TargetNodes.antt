@@ -10,8 +10,8 @@ use Rattle.wjs_meaning.specs.Reading.{node_in}
 use Rattle.wjs_meaning.specs.Trees.{is_target_form, is_target_to}
 use Rattle.wjs_model.specs.declared.config.Config.{Config}
 use Rattle.wjs_model.specs.declared.frame.Activation.{Activation as Frame}
-use Rattle.wjs_moves.specs.Parts.{env_in, node_among}
-use Rattle.wjs_moves.proofs.Places.{node_same}
+use Rattle.wjs_frames.specs.Parts.{env_in, node_among}
+use Rattle.wjs_frames.proofs.Places.{node_same}
 use Rattle.wjs_members.specs.declared.targets.TargetForm.{TargetForm}
 use Rattle.wjs_members.specs.declared.targets.TargetForm.TheVariants as forms
 use Rattle.wjs_members.specs.Targets.{target_form}

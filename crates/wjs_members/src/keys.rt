@@ -1,19 +1,19 @@
 //! The names that keys are: a word behind a dot or before a colon (ECMA-262, 5th edition, section 11.2.1), a text or a number
 //! before a colon (3rd edition, section 11.1.5).
 ghost use Rattle.std.specs.Prelude.{◌≡◌, ◌++◌, ◌∷◌, [], OnOk, IfOk};
-ghost use Rattle.wjs_content.specs.Tables.{name_in};
+ghost use Rattle.wjs_by_content.specs.Tables.{name_in};
 ghost use Rattle.wjs_meaning.specs.Expressions as line;
 ghost use Rattle.wjs_meaning.specs.Reading.{spelt_in, key_in};
 ghost use Rattle.wjs_model.specs.Texts.{KnowsSpelt, KnowsKey};
 ghost use Rattle.wjs_model.specs.Soundness.{Base, HasName};
-ghost use Rattle.wjs_moves.specs.Doing.{Does};
-ghost use Rattle.wjs_moves.specs.Following.{Later};
+ghost use Rattle.wjs_frames.specs.Doing.{Does};
+ghost use Rattle.wjs_frames.specs.Following.{Later};
 
 use std::alloc::Global;
 use wjs_base::{LONGEST_TEXT, Name, OutOfMemory, Value};
-use wjs_deeds::{intern, name_of};
-use wjs_lines::name_of_value;
+use wjs_heap_steps::{intern, name_of};
 use wjs_model::Config;
+use wjs_step_common::name_of_value;
 use wjs_store::WorldStore;
 use wjs_tree::{Key, PropertyKey, Spelt};
 
@@ -82,8 +82,6 @@ fn units_of_word(alloc: Global, word: &str) -> Result<Vec<u16>, OutOfMemory>
 fn push_unit(units: &mut Vec<u16>, unit: u16) -> Result<(), OutOfMemory>
     ensures { OnOk result (units.new.items ≡ units.old.items ++ unit ∷ []) }
 {
-    match units.push(unit) {
-        Ok(()) => Ok(()),
-        Err(_) => Err(OutOfMemory),
-    }
+    units.push(unit)?;
+    Ok(())
 }

@@ -1,7 +1,7 @@
 //! Members by name and by value (ECMA-262, 3rd edition, section 11.2.1), for their value and as targets.
 ghost use Rattle.wjs_base.specs.Text.{Has};
-ghost use Rattle.wjs_content.specs.Tables.{value_in, text_in, name_in};
-ghost use Rattle.wjs_content.specs.Conversions.{primitive_text};
+ghost use Rattle.wjs_by_content.specs.Tables.{value_in, text_in, name_in};
+ghost use Rattle.wjs_by_content.specs.Conversions.{primitive_text};
 ghost use Rattle.wjs_meaning.specs.Conversions.{to_text};
 ghost use Rattle.wjs_meaning.specs.Deeds as deed;
 ghost use Rattle.wjs_meaning.specs.Deeds.{Eval, AtExpr, Sub, Gives, then_value, then_text};
@@ -12,17 +12,17 @@ ghost use Rattle.wjs_model.specs.Lists.{if_dot};
 ghost use Rattle.wjs_model.specs.Texts.{KnowsSpelt};
 ghost use Rattle.wjs_model.specs.Waiting.{taken};
 ghost use Rattle.wjs_model.specs.Soundness.{HasName, HasValue, StandsHere};
-ghost use Rattle.wjs_moves.specs.Parts.{node_now};
-ghost use Rattle.wjs_moves.specs.Handling.{Runs, IsAt, GoesOn};
+ghost use Rattle.wjs_frames.specs.Parts.{node_now};
+ghost use Rattle.wjs_frames.specs.Handling.{Runs, IsAt, GoesOn};
 
 use crate::keys::spelt_name;
 use wjs_base::{Name, OutOfMemory, TextId, Value};
-use wjs_deeds::name_of;
-use wjs_lines::{give_value_of, held_value, is_nullish, is_object, name_of_value, throw};
+use wjs_frames::{Part, convert, enter, finish, hold, node_of};
+use wjs_heap_steps::name_of;
 use wjs_model::{
     Completion, Config, Conversion, ExprPoint, Frame, Held, Point, Purpose, Reference, Trouble,
 };
-use wjs_moves::{Part, convert, enter, finish, hold, node_of};
+use wjs_step_common::{give_value_of, held_value, is_nullish, is_object, name_of_value, throw};
 use wjs_store::WorldStore;
 use wjs_tree::{Node, NodeId, Spelt};
 

@@ -2,21 +2,21 @@
 ghost use Rattle.std.specs.Prelude.{◌≡◌, ◌<◌, length};
 ghost use Rattle.wjs_base.specs.Text.{Table};
 ghost use Rattle.wjs_scope.specs.Places.{placed_names};
-ghost use Rattle.wjs_content.specs.Tables.{text_in};
+ghost use Rattle.wjs_by_content.specs.Tables.{text_in};
 ghost use Rattle.wjs_meaning.specs.Deeds.{tree_here};
 ghost use Rattle.wjs_meaning.specs.Expressions as line;
 ghost use Rattle.wjs_meaning.specs.Trees.{Name, name_place};
 ghost use Rattle.wjs_model.specs.Units.{place_in};
 ghost use Rattle.wjs_model.specs.Waiting.{refer};
-ghost use Rattle.wjs_moves.specs.Parts.{env_in, node_now};
-ghost use Rattle.wjs_moves.specs.Handling.{Runs, IsAt, GoesOn};
+ghost use Rattle.wjs_frames.specs.Parts.{env_in, node_now};
+ghost use Rattle.wjs_frames.specs.Handling.{Runs, IsAt, GoesOn};
 
 use wjs_base::{OutOfMemory, TextId};
-use wjs_deeds::reference_at;
-use wjs_lines::give_value_of;
+use wjs_frames::{finish, place_at};
+use wjs_heap_steps::reference_at;
 use wjs_model::{Completion, Config, Frame};
-use wjs_moves::{finish, place_at};
 use wjs_scope::Place;
+use wjs_step_common::give_value_of;
 use wjs_store::WorldStore;
 use wjs_tree::Node;
 

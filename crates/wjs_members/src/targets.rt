@@ -4,15 +4,15 @@ ghost use Rattle.std.specs.Prelude.{◌≡◌, MatchOption};
 ghost use Rattle.wjs_base.specs.Text.{Table};
 ghost use Rattle.wjs_meaning.specs.Deeds.{tree_here};
 ghost use Rattle.wjs_meaning.specs.Trees as trees;
-ghost use Rattle.wjs_moves.specs.Parts.{env_in, node_among};
+ghost use Rattle.wjs_frames.specs.Parts.{env_in, node_among};
 ghost use Rattle.wjs_members.specs.Targets.{target_form};
-ghost use Rattle.wjs_moves.specs.Handling.{Runs, Begins};
+ghost use Rattle.wjs_frames.specs.Handling.{Runs, Begins};
 
 use crate::members::{at_start, dot_start};
 use crate::names::name_target;
 use wjs_base::OutOfMemory;
+use wjs_frames::{Part, enter_last, finish, node_of};
 use wjs_model::{Completion, Config, Frame, Purpose, Start};
-use wjs_moves::{Part, enter_last, finish, node_of};
 use wjs_store::WorldStore;
 use wjs_tree::{Node, NodeId};
 

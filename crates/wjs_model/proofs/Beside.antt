@@ -12,10 +12,10 @@ use Rattle.wjs_base.specs.Text.{Table}
 use Rattle.wjs_arena.specs.declared.class.Class.TheVariants as class
 use Rattle.wjs_arena.specs.Entries as numbered
 use Rattle.wjs_arena.specs.Entries.{Entry as Placed, Objects, IsArena}
-use Rattle.wjs_content.specs.Objects.{Arena, Entry, Internals, object_of, has_object, object_at, depth_at, depth_of, next_number, entry_of, created, chain_of, chain, prototypes, scope_up, world_object}
-use Rattle.wjs_content.specs.Tables.{arena_in, entry_in}
-use Rattle.wjs_content.proofs.ArenaMaps.{object_found, prototype_same, scope_same}
-use Rattle.wjs_content.proofs.WorldObjects.{world_at, object_has_world, no_object_no_world}
+use Rattle.wjs_by_content.specs.Objects.{Arena, Entry, Internals, object_of, has_object, object_at, depth_at, depth_of, next_number, entry_of, created, chain_of, chain, prototypes, scope_up, world_object}
+use Rattle.wjs_by_content.specs.Tables.{arena_in, entry_in}
+use Rattle.wjs_by_content.proofs.ArenaMaps.{object_found, prototype_same, scope_same}
+use Rattle.wjs_by_content.proofs.WorldObjects.{world_at, object_has_world, no_object_no_world}
 use Rattle.wjs_model.specs.Outside.{beside}
 
 -- ---- maps

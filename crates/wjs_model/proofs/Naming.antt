@@ -9,7 +9,7 @@ use Rattle.wjs_base.specs.Text.{Table, IsTable, Has}
 use Rattle.wjs_tree.specs.declared.node.NodeId.{NodeId}
 use Rattle.wjs_tree.specs.declared.node.Node.{Node}
 use Rattle.wjs_tree.specs.declared.node.Node.TheVariants as form
-use Rattle.wjs_content.specs.Tables.{text_in}
+use Rattle.wjs_by_content.specs.Tables.{text_in}
 use Rattle.wjs_meaning.specs.Trees as content
 use Rattle.wjs_meaning.specs.Declarations as content_names
 use Rattle.wjs_meaning.specs.Declarations.{declared_by}

@@ -8,7 +8,7 @@ use Rattle.wjs_base.specs.declared.values.Name.{Name}
 use Rattle.wjs_base.specs.declared.values.Value.{Value}
 use Rattle.wjs_base.specs.declared.values.Value.TheVariants as values
 use Rattle.wjs_store.specs.Meaning.{Meaning}
-use Rattle.wjs_content.specs.Renamed.{Holds}
+use Rattle.wjs_by_content.specs.Renamed.{Holds}
 use Rattle.wjs_arena.specs.declared.object.Object.{Object}
 use Rattle.wjs_arena.specs.Entries.{Entry}
 use Rattle.wjs_meaning.specs.Builtins.{builtin}
@@ -298,7 +298,7 @@ module _ {S : Type 0} (c new : Config S) where
             works = b.works;
             global = object_listed c.global b.global (λ u a. (kept u a).global);
             world = b.world;
-            builtins = λ n l. object_listed (builtin n) (b.builtins n l) first;
+            builtins = λ k. object_listed (builtin k) (b.builtins k) first;
             units = b.units;
             places = b.places;
             functions = b.functions;

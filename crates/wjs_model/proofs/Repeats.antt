@@ -8,8 +8,8 @@ use Rattle.std.proofs.lemmas.List.Elements.{All-head, All-tail}
 use Rattle.wjs_base.specs.declared.ids.TextId.{TextId}
 use Rattle.wjs_base.specs.Text.{Table, IsTable, Has, Denotes}
 use Rattle.wjs_base.proofs.TextLaws.{Has-Denotes}
-use Rattle.wjs_content.specs.Values.{Text, same_text, text_Decides}
-use Rattle.wjs_content.specs.Tables.{text_in}
+use Rattle.wjs_by_content.specs.Values.{Text, same_text, text_Decides}
+use Rattle.wjs_by_content.specs.Tables.{text_in}
 use Rattle.wjs_meaning.specs.Trees.{has_text}
 use Rattle.wjs_meaning.specs.Declarations.{without_repeats}
 use Rattle.wjs_scope.specs.Declarations.{with_names}

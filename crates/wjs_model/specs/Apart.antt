@@ -9,7 +9,7 @@ use Rattle.wjs_base.specs.declared.values.Value.TheVariants as values
 use Rattle.wjs_store.specs.State.{content_at}
 use Rattle.wjs_store.specs.Meaning.{Worlds}
 use Rattle.wjs_arena.specs.declared.object.Object.{Object}
-use Rattle.wjs_content.specs.Renamed.{Holds}
+use Rattle.wjs_by_content.specs.Renamed.{Holds}
 
 module _ (apart : List ℕ) where
   abbrev pub is_apart : ℕ → Bool

@@ -1,5 +1,5 @@
 -- Frames that begin, and what they go on with.
-use Rattle.std.specs.Prelude.{[]}
+use Rattle.std.specs.Prelude.{[], Bool, true, false, Option, Some}
 use Rattle.wjs_model.specs.declared.point.Start.{Start}
 use Rattle.wjs_model.specs.declared.frame.Activation.{Activation as Frame}
 use Rattle.wjs_model.specs.declared.frame.Completion.{Completion}
@@ -15,3 +15,9 @@ begun_at at start node = record { tree = at.tree; node = node; phase = phases.Du
 abbrev pub resumed : Phase → Completion → Phase
 resumed (phases.Waiting point) c = phases.Given point c
 resumed phase c = phase
+
+-- whether a step is due
+abbrev pub is_due : Option Phase → Bool
+is_due (Some (phases.Due start)) = true
+is_due (Some (phases.Entering point o)) = true
+is_due _ = false

@@ -8,7 +8,7 @@ use Rattle.wjs_base.specs.Text.{Table, IsTable, Has}
 use Rattle.wjs_tree.specs.contracts.node.NodeId as node
 use Rattle.wjs_tree.specs.declared.node.Node.{Node}
 use Rattle.wjs_tree.specs.declared.node.NodeId.{NodeId}
-use Rattle.wjs_content.specs.Tables.{text_in}
+use Rattle.wjs_by_content.specs.Tables.{text_in}
 use Rattle.wjs_scope.specs.declared.declarations.Declarations.{Declarations}
 use Rattle.wjs_scope.specs.Declarations.{formals_of, functions_among}
 use Rattle.wjs_scope.specs.Bodies.{node_at, elements_at, declared_in}

@@ -5,9 +5,9 @@ use Rattle.wjs_base.specs.declared.ids.ObjId.{ObjId}
 use Rattle.wjs_base.specs.Text.{Table, Grows}
 use Rattle.wjs_store.specs.Meaning.{Meaning}
 use Rattle.wjs_arena.specs.Entries.{Entry}
-use Rattle.wjs_content.specs.Tables.{value_in, arena_in}
-use Rattle.wjs_content.specs.Plans.{Told}
-use Rattle.wjs_content.specs.Worlds.{worlds_in, told_by}
+use Rattle.wjs_by_content.specs.Tables.{value_in, arena_in}
+use Rattle.wjs_by_content.specs.Plans.{Told}
+use Rattle.wjs_by_content.specs.Worlds.{worlds_in, told_by}
 use Rattle.wjs_meaning.specs.Deeds.{St}
 use Rattle.wjs_meaning.specs.Programs.{Ending, Done, Threw, StepsSpent}
 use Rattle.wjs_model.specs.declared.config.Config.{Config}
@@ -71,7 +71,7 @@ module _ {S : Type 0} (meaning : S → Meaning) where
 
   -- ---- what a call on a configuration keeps
 
-  -- the units, the global object, the world, the owner and who is kept apart; the numbers of texts; the objects, to which the owner's may be added; the store's own view and its surroundings; what is admitted outside was admitted before
+  -- the loaded programs, the global object, the world, the owner and who is kept apart; the numbers of texts; the objects, to which the owner's may be added; the store's own view and its surroundings; what is admitted outside was admitted before
   pub record Stays (old new : Config S) : Type 0 where
     pub units : new.units ≡ old.units
     pub global : new.global ≡ old.global

@@ -8,9 +8,9 @@ use Rattle.wjs_base.specs.declared.values.Slot.{Slot as NumberedSlot}
 use Rattle.wjs_base.specs.declared.values.Value.{Value as NumberedValue}
 use Rattle.wjs_base.specs.declared.values.Value.TheVariants as values
 use Rattle.wjs_base.specs.Text.{Table}
-use Rattle.wjs_content.specs.Values.{Text, Value, Undefined}
-use Rattle.wjs_content.specs.Names.{Slot, index_name}
-use Rattle.wjs_content.specs.Tables.{text_in, name_in, value_in, slot_in}
+use Rattle.wjs_by_content.specs.Values.{Text, Value, Undefined}
+use Rattle.wjs_by_content.specs.Names.{Slot, index_name}
+use Rattle.wjs_by_content.specs.Tables.{text_in, name_in, value_in, slot_in}
 use Rattle.wjs_meaning.specs.Trees.{Tree, Place}
 use Rattle.wjs_meaning.specs.Deeds.{Env, Reference, Local, Global, Member, Completion, Gives, Refers, Normal, Breaks, Continues, Returns, Throws}
 use Rattle.wjs_model.specs.Frames.{earliest_first}

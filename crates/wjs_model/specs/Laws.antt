@@ -1,7 +1,8 @@
 -- Laws of what is left to do.
 use Rattle.std.specs.Prelude.{◌≡◌, ℕ, List, [], ◌∷◌, ◌++◌, Option, None, Some}
-use Rattle.wjs_content.specs.Values.{Object}
-use Rattle.wjs_meaning.specs.Builtins.{global_object, first_world}
+use Rattle.wjs_by_content.specs.Values.{Object}
+use Rattle.wjs_store.specs.State.{first_world}
+use Rattle.wjs_meaning.specs.Builtins.{global_object}
 use Rattle.wjs_meaning.specs.Trees.{Tree}
 use Rattle.wjs_meaning.specs.Deeds.{St, Completion, Ret}
 use Rattle.wjs_meaning.specs.Programs.{declared_names, machine}

@@ -1,6 +1,6 @@
 -- The lists and names of a node, which its points tell by number. Where the node is of another form there are none.
 use Rattle.std.specs.Prelude.{ℕ, List, [], Option, None, Some}
-use Rattle.wjs_content.specs.Values.{Text}
+use Rattle.wjs_by_content.specs.Values.{Text}
 use Rattle.wjs_meaning.specs.Trees.{Node, Key, InitVar, ArrayLit, ObjectLit, Dot, Call, NewWith, Block, Var, For, ForIn, ForVarIn, Label, Switch, Try, Program}
 use Rattle.wjs_meaning.specs.Deeds.{Act, Ret, Normal}
 use Rattle.wjs_meaning.specs.Loops.{Taker, TargetNode, VarName}

@@ -1,6 +1,6 @@
 -- What an operand does, with what follows its completion (ECMA-262, 3rd edition, sections 11.1.1 to 11.1.3 and 8.7.1).
 use Rattle.std.specs.Prelude.{Option, None, Some}
-use Rattle.wjs_content.specs.Values.{Text, Value, Object}
+use Rattle.wjs_by_content.specs.Values.{Text, Value, Object}
 use Rattle.wjs_meaning.specs.declared.trouble.Trouble.TheVariants.{NotDefined}
 use Rattle.wjs_meaning.specs.Trees.{Place}
 use Rattle.wjs_meaning.specs.Deeds.{Env, Reference, Local, Global, Member, Completion, Gives, Refers, Throws, Act, Do, Create}

@@ -8,7 +8,7 @@ use Rattle.wjs_base.specs.declared.values.Value.{Value}
 use Rattle.wjs_base.specs.declared.values.Value.TheVariants as values
 use Rattle.wjs_store.specs.State.{content_at}
 use Rattle.wjs_store.specs.Meaning.{Meaning, worlds}
-use Rattle.wjs_content.specs.Renamed.{Holds}
+use Rattle.wjs_by_content.specs.Renamed.{Holds}
 use Rattle.wjs_arena.specs.declared.object.Object.{Object}
 use Rattle.wjs_arena.specs.Entries.{Entry}
 use Rattle.wjs_model.specs.declared.frame.Reference.{Reference}

@@ -7,9 +7,9 @@ use Rattle.wjs_base.specs.Text.{Table, Grows}
 use Rattle.wjs_store.specs.State.{has_world}
 use Rattle.wjs_store.specs.Meaning.{Meaning, View, worlds}
 use Rattle.wjs_arena.specs.Entries.{Objects}
-use Rattle.wjs_content.specs.Objects.{Arena, Entry}
-use Rattle.wjs_content.specs.Tables.{arena_in}
-use Rattle.wjs_content.specs.Worlds.{KnowsWorlds}
+use Rattle.wjs_by_content.specs.Objects.{Arena, Entry}
+use Rattle.wjs_by_content.specs.Tables.{arena_in}
+use Rattle.wjs_by_content.specs.Worlds.{KnowsWorlds}
 use Rattle.wjs_model.specs.declared.config.Config.{Config}
 
 pub record Outside : Type 0 where

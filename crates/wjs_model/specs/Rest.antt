@@ -1,8 +1,8 @@
 -- What is left to do of a configuration, and in how many turns.
 use Rattle.std.specs.Prelude.{ℕ, suc, ◌+◌, ◌-◌, List, [], ◌∷◌, ◌++◌, drop, Option, None, Some}
 use Rattle.wjs_base.specs.declared.ids.ObjId.{ObjId}
-use Rattle.wjs_content.specs.Values.{Value, Object, value_or_undefined}
-use Rattle.wjs_content.specs.Names.{slot, index_name}
+use Rattle.wjs_by_content.specs.Values.{Value, Object, value_or_undefined}
+use Rattle.wjs_by_content.specs.Names.{slot, index_name}
 use Rattle.wjs_meaning.specs.Trees.{Node}
 use Rattle.wjs_meaning.specs.Deeds.{St, Env, Completion, Normal, Act, Ret, Tick, Eval, Sub, Do, Read, Outcome, Ends, interp, then_do, answer_of, state_after, node_here}
 use Rattle.wjs_meaning.specs.Properties.{get_value}

@@ -16,10 +16,11 @@ use Rattle.wjs_tree.specs.declared.node.NodeId.{NodeId}
 use Rattle.wjs_store.specs.State.{has_world}
 use Rattle.wjs_store.specs.Meaning.{Meaning, worlds}
 use Rattle.wjs_arena.specs.Entries.{Entry, has}
-use Rattle.wjs_content.specs.Worlds.{KnowsWorlds}
+use Rattle.wjs_by_content.specs.Worlds.{KnowsWorlds}
 use Rattle.wjs_heap.specs.Heap.{IsHeap, KnowsTold}
 use Rattle.wjs_heap.specs.Means.{parts}
 use Rattle.wjs_meaning.specs.Builtins.{builtin}
+use Rattle.wjs_meaning.specs.declared.builtin.Builtin.{Builtin}
 use Rattle.wjs_model.specs.declared.frame.Reference.{Reference}
 use Rattle.wjs_model.specs.declared.frame.Reference.TheVariants as references
 use Rattle.wjs_model.specs.declared.frame.Completion.{Completion}
@@ -151,7 +152,7 @@ module _ {S : Type 0} (meaning : S → Meaning) where
     pub global : HasObject c c.global
     pub world : HasWorld c c.world
     -- the objects that were there before the first step are there
-    pub builtins : (n : ℕ) → n < 14 → HasObject c (builtin n)
+    pub builtins : (b : Builtin) → HasObject c (builtin b)
     -- the texts of its programs are there, and the places of their names are right
     pub units : All (KnowsUnit c.heap.texts) c.units.items
     pub places : All (PlacesUnit c.heap.texts) c.units.items

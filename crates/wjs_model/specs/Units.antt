@@ -38,6 +38,6 @@ abbrev pub rows_from : Unit → ℕ → List Node → List (List Place)
 rows_from u k [] = []
 rows_from u k (node ∷ nodes) = places_from u k 0 (placed_names node) ∷ rows_from u (suc k) nodes
 
--- the tree of a unit under a table
+-- the tree of a loaded program under a table
 abbrev pub unit_in : Table → Unit → Tree
 unit_in t u = tree_in t u.program.nodes u.program.body (rows_from u 0 u.program.nodes)

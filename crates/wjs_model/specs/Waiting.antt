@@ -4,8 +4,8 @@ use Rattle.wjs_tree.specs.declared.operators.BinaryOperator.{BinaryOperator}
 use Rattle.wjs_tree.specs.declared.operators.BinaryOperator.TheVariants as binary
 use Rattle.wjs_tree.specs.Operators.{compound}
 use Rattle.wjs_arena.specs.declared.native.Native.{Native}
-use Rattle.wjs_content.specs.Values.{Text, Value, Undefined, Object}
-use Rattle.wjs_content.specs.Names.{Slot, slot, index_name}
+use Rattle.wjs_by_content.specs.Values.{Text, Value, Undefined, Object}
+use Rattle.wjs_by_content.specs.Names.{Slot, slot, index_name}
 use Rattle.wjs_meaning.specs.declared.trouble.Trouble.TheVariants.{NoPrimitiveValue}
 use Rattle.wjs_meaning.specs.Reading.{number}
 use Rattle.wjs_meaning.specs.Trees.{Node, Key, elements_of, name_place}
@@ -19,9 +19,10 @@ use Rattle.wjs_meaning.specs.Operators.{give_truth, give_opposite, not_value, ar
 use Rattle.wjs_meaning.specs.Constructions.{new_result, construct}
 use Rattle.wjs_meaning.specs.Expressions.{Fix, Post, Pre, dot_base, at_base, at_index, at_name, give_value_of, array_from, key_name, object_from, values_from, call_values, call_callee, call_reference, new_callee, update_reference, update_number, delete_reference, delete_value, typeof_reference, typeof_value, void_value, plus_value, minus_value, minus_number, complement_value, complement_number, binary_left, binary_right, cond_test, assign_reference, assign_value, compound_value, comma_left}
 use Rattle.wjs_meaning.specs.Loops.{Taker, after_body, loop_body, loop_test, loop_from, loop_updated, for_started, do_body, do_test, for_in_value, visit_body, visits_from}
-use Rattle.wjs_content.specs.Conversions.{strictly_equal}
+use Rattle.wjs_by_content.specs.Conversions.{strictly_equal}
 use Rattle.wjs_meaning.specs.Statements.{block_from, vars_from, expr_done, if_test, return_value, throw_value, label_done, statements_of, switch_next, switch_from, switch_cases, switch_value, finally_done, try_finally, try_block, within_value}
-use Rattle.wjs_meaning.specs.Natives.{kinds, kind_of_this, with_kinds, convert_from}
+use Rattle.wjs_meaning.specs.Kinds.{with_kinds}
+use Rattle.wjs_meaning.specs.Natives.{kinds, kind_of_this, convert_from}
 use Rattle.wjs_model.specs.declared.point.Purpose.{Purpose}
 use Rattle.wjs_model.specs.declared.point.Purpose.TheVariants as purposes
 use Rattle.wjs_model.specs.declared.point.Hint.{Hint as NumberedHint}

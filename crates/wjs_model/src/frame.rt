@@ -1,7 +1,7 @@
 //! What a configuration has still to do, a frame for each node that is being run.
 
-ghost use Rattle.std.specs.Prelude.{◌≡◌, ◌++◌, ◌∷◌, [], IfOk, OnOk, OnErr, is_some, option_map, true};
-ghost use Rattle.wjs_model.specs.Begun.{begun_at, resumed};
+ghost use Rattle.std.specs.Prelude.{◌≡◌, ◌++◌, ◌∷◌, [], IfOk, OnOk, OnErr, is_some, option_map, Some, true};
+ghost use Rattle.wjs_model.specs.Begun.{begun_at, is_due, resumed};
 ghost use Rattle.wjs_model.specs.Frames.{last, on_last, Pops, Uncovers};
 
 use crate::operand::Operand;
@@ -134,10 +134,8 @@ fn push_last(list: &mut Vec<Held>, item: Held) -> Result<(), OutOfMemory>
     ensures err { OnErr result (list.new.items ≡ list.old.items) }
 {
     make_room(list)?;
-    match list.push(item) {
-        Ok(()) => Ok(()),
-        Err(_) => Err(OutOfMemory),
-    }
+    list.push(item)?;
+    Ok(())
 }
 
 /// Takes room for one item where there is none. A list that is pushed to takes room for four, and a frame of a native that waits for
@@ -148,10 +146,8 @@ fn make_room(list: &mut Vec<Held>) -> Result<(), OutOfMemory>
     if !list.is_empty() {
         return Ok(());
     }
-    match list.reserve_exact(1) {
-        Ok(()) => Ok(()),
-        Err(_) => Err(OutOfMemory),
-    }
+    list.reserve_exact(1)?;
+    Ok(())
 }
 
 /// What a frame is.
@@ -190,10 +186,8 @@ impl Frame {
     pub fn new(alloc: Global, activation: Activation) -> Result<Frame, OutOfMemory>
         ensures { IfOk result (λ frame. frame ≡ activation) }
     {
-        match Box::new(alloc, activation) {
-            Ok(at) => Ok(Frame { at }),
-            Err(_) => Err(OutOfMemory),
-        }
+        let at = Box::new(alloc, activation)?;
+        Ok(Frame { at })
     }
 
     pub fn tree(&self) -> u32
@@ -212,6 +206,14 @@ impl Frame {
         ensures { result ≡ self.now.phase }
     {
         self.at.phase
+    }
+
+    /// Whether a step is due before it goes on.
+    #[inline(always)]
+    fn is_due(&self) -> bool
+        ensures { result ≡ is_due (Some self.now.phase) }
+    {
+        matches!(self.at.phase, Phase::Due(_) | Phase::Entering(_, _))
     }
 
     pub fn scope(&self) -> ObjId
@@ -376,10 +378,8 @@ impl Frames {
         ensures ok { OnOk result (self.new ≡ self.old ++ frame ∷ []) }
         ensures err { OnErr result (self.new ≡ self.old) }
     {
-        match self.list.push(frame) {
-            Ok(()) => Ok(()),
-            Err(_) => Err(OutOfMemory),
-        }
+        self.list.push(frame)?;
+        Ok(())
     }
 
     /// The frame on top, which is taken off; None exactly where there is no frame.
@@ -461,12 +461,12 @@ impl Frames {
         Items::new(*self.list.allocator())
     }
 
-    /// When the frame that runs goes on; None exactly where there is no frame.
+    /// Whether a step is due before the frame that runs goes on; none is where there is no frame.
     #[inline(always)]
-    pub fn phase(&self) -> Option<Phase>
-        ensures { result ≡ option_map (λ f. f.phase) (last self.now) }
+    pub fn is_due(&self) -> bool
+        ensures { result ≡ is_due (option_map (λ f. f.phase) (last self.now)) }
     {
-        phase_of(self.list.as_slice())
+        is_due_of(self.list.as_slice())
     }
 }
 
@@ -512,13 +512,13 @@ fn give_last(frames: &mut [Frame], completion: Completion) -> bool
     true
 }
 
-/// When the last frame goes on.
+/// Whether a step is due before the last frame goes on.
 #[inline(always)]
-fn phase_of(frames: &[Frame]) -> Option<Phase>
-    ensures { result ≡ option_map (λ f. f.phase) (last frames.now) }
+fn is_due_of(frames: &[Frame]) -> bool
+    ensures { result ≡ is_due (option_map (λ f. f.phase) (last frames.now)) }
 {
     match frames.last() {
-        Some(frame) => Some(frame.phase()),
-        None => None,
+        Some(frame) => frame.is_due(),
+        None => false,
     }
 }

@@ -81,10 +81,8 @@ fn add_value(values: &mut Vec<Value>, item: Held) -> Result<(), OutOfMemory>
     let Held::Value(value) = item else {
         return Ok(());
     };
-    match values.push(value) {
-        Ok(()) => Ok(()),
-        Err(_) => Err(OutOfMemory),
-    }
+    values.push(value)?;
+    Ok(())
 }
 
 fn latest_reference(items: &[Held]) -> Reference

@@ -1,7 +1,7 @@
-//! What the nodes of a unit are, where their names are found, and what its bodies declare.
+//! What the nodes of a loaded program are, where their names are found, and what its bodies declare.
 ghost use Rattle.std.specs.Prelude.{◌≡◌, ◌<◌, length, map, All, IfOk, MatchOption};
 ghost use Rattle.wjs_base.specs.Text.{Table, Has, IsTable};
-ghost use Rattle.wjs_content.specs.Tables.{text_in};
+ghost use Rattle.wjs_by_content.specs.Tables.{text_in};
 ghost use Rattle.wjs_scope.specs.Bodies.{elements_at};
 ghost use Rattle.wjs_scope.specs.Declarations.{functions_among};
 ghost use Rattle.wjs_scope.specs.Places.{placed_names};
@@ -36,13 +36,14 @@ impl Unit {
         place_or_global(self.places.get(node, at))
     }
 
-    /// What the body at a node declares; nothing where the node is no body's. It was found when the unit was made, and takes no
+    /// What the body at a node declares; nothing where the node is no body's. It was found at loading, and takes no
     /// memory.
     pub fn declared(&self, body: NodeId) -> Result<Declared, OutOfMemory>
         ensures formals { IfOk result (λ d. (t : Table) → map (text_in t) d.formals ≡ (declared_by (unit_in t self.now) body.0).formals) }
         ensures functions { IfOk result (λ d. (t : Table) → numbers d.functions ≡ (declared_by (unit_in t self.now) body.0).functions) }
         ensures numbered { IfOk result (λ d. d.functions ≡ functions_among self.now.program.nodes (elements_at self.now.program.nodes body.0)) }
-        ensures variables { IfOk result (λ d. (t : Table) → IsTable t → KnowsUnit t self.now → map (text_in t) d.variables ≡ (declared_by (unit_in t self.now) body.0).vars) }
+        ensures variables { IfOk result (λ d. (t : Table) → IsTable t → KnowsUnit t self.now
+            → map (text_in t) d.variables ≡ (declared_by (unit_in t self.now) body.0).vars) }
         ensures formals_found { IfOk result (λ d. (t : Table) → KnowsUnit t self.now → All (Has t) d.formals) }
         ensures variables_found { IfOk result (λ d. (t : Table) → KnowsUnit t self.now → All (Has t) d.variables) }
     {

@@ -46,7 +46,7 @@ pub enum Start {
     /// The operation of an operator, on the two values that are held.
     Operation(BinaryOperator),
     Stmt,
-    /// A loop, at its next turn.
+    /// A loop, at its next iteration.
     Again,
     /// The `var`s of a `for`.
     Variables,

@@ -1,4 +1,4 @@
-//! Units of a run: programs with the places of their names, and with what their bodies declare.
+//! Loaded programs: with the places of their names, and with what their bodies declare.
 ghost use Rattle.std.specs.Prelude.{◌≡◌, ◌+◌, length};
 ghost use Rattle.wjs_model.specs.Bodies.{AreMeant, AreMeant-prop};
 

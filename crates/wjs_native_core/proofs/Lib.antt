@@ -1,4 +1,3 @@
-pub mod Groups
 pub mod Showing
 pub mod Looking
 pub mod Listing

@@ -5,9 +5,9 @@ use Rattle.wjs_base.specs.declared.number.Whole.{Whole as NumberedWhole}
 use Rattle.wjs_base.specs.declared.values.Value.{Value as NumberedValue}
 use Rattle.wjs_base.specs.declared.values.Value.TheVariants as values
 use Rattle.wjs_base.specs.Text.{Table}
-use Rattle.wjs_content.specs.Tables.{value_in}
-use Rattle.wjs_content.specs.Values.{Number}
-use Rattle.wjs_content.specs.Properties.{length_of_value}
+use Rattle.wjs_by_content.specs.Tables.{value_in}
+use Rattle.wjs_by_content.specs.Values.{Number}
+use Rattle.wjs_by_content.specs.Properties.{length_of_value}
 use Rattle.wjs_meaning.specs.Deeds.{Env}
 use Rattle.wjs_meaning.specs.NewObjects.{make_array}
 use Rattle.wjs_meaning.specs.NativesOfObjects as line

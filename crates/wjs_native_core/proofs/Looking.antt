@@ -5,9 +5,9 @@ use Rattle.std.specs.Option.{option_map}
 use Rattle.wjs_base.specs.declared.ids.ObjId.{ObjId}
 use Rattle.wjs_arena.specs.declared.class.Class.{Class}
 use Rattle.wjs_arena.specs.declared.class.Class.TheVariants as class
-use Rattle.wjs_content.specs.Values.{Text, Value, Undefined, Null, Boolean, Number, String, Object}
-use Rattle.wjs_content.specs.Names.{slot}
-use Rattle.wjs_content.specs.Objects.{fixed}
+use Rattle.wjs_by_content.specs.Values.{Text, Value, Undefined, Null, Boolean, Number, String, Object}
+use Rattle.wjs_by_content.specs.Names.{slot}
+use Rattle.wjs_by_content.specs.Objects.{fixed}
 use Rattle.wjs_meaning.specs.Builtins.{shown_class}
 use Rattle.wjs_meaning.specs.Deeds.{Env, Act, Do, Read}
 use Rattle.wjs_meaning.specs.Operators.{give_truth}

@@ -1,9 +1,9 @@
 -- What is looked up of an object that is there.
 use Rattle.std.specs.Prelude.{Bool, true, false, not, ◌&&◌, ◌++◌, [], Option, None, Some, is_some, codes}
 use Rattle.wjs_base.specs.declared.ids.ObjId.{ObjId}
-use Rattle.wjs_content.specs.Values.{Text, Value, String}
-use Rattle.wjs_content.specs.Names.{slot, length_name}
-use Rattle.wjs_content.specs.Objects.{object_at, fixed, is_hidden}
+use Rattle.wjs_by_content.specs.Values.{Text, Value, String}
+use Rattle.wjs_by_content.specs.Names.{slot, length_name}
+use Rattle.wjs_by_content.specs.Objects.{object_at, fixed, is_hidden}
 use Rattle.wjs_meaning.specs.declared.trouble.Trouble.TheVariants.{NotAnObject}
 use Rattle.wjs_meaning.specs.Builtins.{shown_class}
 use Rattle.wjs_meaning.specs.Deeds.{Env, Act, Do, Look, Read, give}

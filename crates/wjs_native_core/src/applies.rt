@@ -1,23 +1,23 @@
 //! `apply`: the elements of a list are read, one step each, and then the call is made (ECMA-262, 3rd edition, section 15.3.4.3).
 ghost use Rattle.std.specs.Prelude.{◌≡◌, ◌-◌, All, map};
 ghost use Rattle.wjs_base.specs.Text.{Table, Grows};
-ghost use Rattle.wjs_content.specs.Tables.{value_in};
+ghost use Rattle.wjs_by_content.specs.Tables.{value_in};
 ghost use Rattle.wjs_meaning.specs.NativesOfObjects as line;
 ghost use Rattle.wjs_model.specs.Contents.{holding_in, callee_held, elements_held};
 ghost use Rattle.wjs_model.specs.Soundness.{Base, HasObject, HasValue};
 ghost use Rattle.wjs_native_core.specs.Owning.{apply_elements};
-ghost use Rattle.wjs_moves.specs.Handling.{Runs, GoesOn, Begins};
+ghost use Rattle.wjs_frames.specs.Handling.{Runs, GoesOn, Begins};
 
 use crate::items::{elements_for, hold_element};
 use wjs_arena::Class;
 use wjs_base::{Name, ObjId, OutOfMemory, Value};
 use wjs_calls::call;
-use wjs_deeds::{Known, class_of, function_of, get_known, get_value};
-use wjs_lines::{held_callee, held_elements, number_after, throw, to_number};
+use wjs_frames::{due_later, finish};
+use wjs_heap_steps::{Known, class_of, function_of, get_known, get_value};
 use wjs_model::{Completion, Config, Frame, Start, Trouble};
-use wjs_moves::{due_later, finish};
 use wjs_natives::value_at;
 use wjs_num::to_uint32;
+use wjs_step_common::{held_callee, held_elements, number_after, throw, to_number};
 use wjs_store::WorldStore;
 
 /// Calls the receiver on a list of arguments.

@@ -1,21 +1,21 @@
 //! The native functions of Array (ECMA-262, 3rd edition, section 15.4).
 ghost use Rattle.std.specs.Prelude.{◌≡◌, MatchOption, All, map};
 ghost use Rattle.wjs_base.specs.Text.{Table};
-ghost use Rattle.wjs_content.specs.Tables.{value_in};
-ghost use Rattle.wjs_content.specs.Values.{Number};
-ghost use Rattle.wjs_content.specs.Properties as plans;
+ghost use Rattle.wjs_by_content.specs.Tables.{value_in};
+ghost use Rattle.wjs_by_content.specs.Values.{Number};
+ghost use Rattle.wjs_by_content.specs.Properties as plans;
 ghost use Rattle.wjs_meaning.specs.Deeds.{Env};
 ghost use Rattle.wjs_meaning.specs.NativesOfObjects as line;
 ghost use Rattle.wjs_meaning.specs.NewObjects as made;
 ghost use Rattle.wjs_model.specs.Soundness.{HasValue};
-ghost use Rattle.wjs_moves.specs.Handling.{Runs, GoesOn};
+ghost use Rattle.wjs_frames.specs.Handling.{Runs, GoesOn};
 
 use wjs_base::{OutOfMemory, Value, Whole};
 use wjs_calls::{make_array, whole_value};
-use wjs_deeds::{Known, create_array, is_array, write_known};
-use wjs_lines::{give, throw};
+use wjs_heap_steps::{Known, create_array, is_array, write_known};
 use wjs_model::{Config, Frame, Trouble};
 use wjs_natives::value_at;
+use wjs_step_common::{give, throw};
 use wjs_store::WorldStore;
 
 /// An Array: of a length, where one number is given, and else of the arguments (sections 15.4.1 and 15.4.2).

@@ -1,14 +1,14 @@
 //! How these native functions end.
 ghost use Rattle.std.specs.Prelude.{◌≤◌, length};
 ghost use Rattle.wjs_base.specs.Text.{longest};
-ghost use Rattle.wjs_content.specs.Values.{String};
+ghost use Rattle.wjs_by_content.specs.Values.{String};
 ghost use Rattle.wjs_meaning.specs.Deeds as line;
-ghost use Rattle.wjs_moves.specs.Handling.{IsRunning, GoesOn};
+ghost use Rattle.wjs_frames.specs.Handling.{IsRunning, GoesOn};
 
 use wjs_base::{OutOfMemory, Value};
-use wjs_deeds::intern;
-use wjs_lines::give;
+use wjs_heap_steps::intern;
 use wjs_model::{Config, Frame};
+use wjs_step_common::give;
 use wjs_store::WorldStore;
 
 /// Ends with a text that is not too long.

@@ -3,31 +3,32 @@ ghost use Rattle.std.specs.Prelude.{◌≡◌, ◌<◌, OnOk, IfOk, IfSome, Some
 ghost use Rattle.std.specs.Option.{option_map};
 ghost use Rattle.wjs_arena.specs.declared.class.Class.TheVariants as class;
 ghost use Rattle.wjs_base.specs.Text.{Table, Grows, Has};
-ghost use Rattle.wjs_content.specs.Objects as content;
-ghost use Rattle.wjs_content.specs.Tables.{text_in, value_in, content_in};
-ghost use Rattle.wjs_content.specs.Values.{String};
-ghost use Rattle.wjs_content.specs.Conversions.{primitive_text};
-ghost use Rattle.wjs_deeds.specs.Known.{text_of};
+ghost use Rattle.wjs_by_content.specs.Objects as content;
+ghost use Rattle.wjs_by_content.specs.Tables.{text_in, value_in, content_in};
+ghost use Rattle.wjs_by_content.specs.Values.{String};
+ghost use Rattle.wjs_by_content.specs.Conversions.{primitive_text};
+ghost use Rattle.wjs_heap_steps.specs.Known.{text_of};
 ghost use Rattle.wjs_meaning.specs.Builtins as first;
 ghost use Rattle.wjs_meaning.specs.Deeds.{Do, Create};
 ghost use Rattle.wjs_meaning.specs.Errors as errors;
 ghost use Rattle.wjs_meaning.specs.NativesOfObjects as line;
 ghost use Rattle.wjs_meaning.specs.Properties as properties;
 ghost use Rattle.wjs_model.specs.Soundness.{Base, IsThere, HasObject, HasValue, HasContent};
-ghost use Rattle.wjs_moves.specs.Doing.{Does};
-ghost use Rattle.wjs_moves.specs.Parts.{env_in};
-ghost use Rattle.wjs_moves.specs.Following.{Later};
+ghost use Rattle.wjs_frames.specs.Doing.{Does};
+ghost use Rattle.wjs_frames.specs.Parts.{env_in};
+ghost use Rattle.wjs_frames.specs.Following.{Later};
 ghost use Rattle.wjs_native_core.specs.Owning.{thrown_object, found_text};
-ghost use Rattle.wjs_moves.specs.Handling.{Runs, GoesOn};
+ghost use Rattle.wjs_frames.specs.Handling.{Runs, GoesOn};
 
 use crate::classes::class_name;
 use wjs_arena::Class;
 use wjs_base::{Content, ObjId, OutOfMemory, TextId, Value};
-use wjs_deeds::{
+use wjs_heap_steps::{
     Known, builtin, class_of, create, get, intern, known_name, object_of, units_of, write_known,
 };
-use wjs_lines::{give, give_text, join};
+use wjs_meaning::Builtin;
 use wjs_model::{Config, Frame};
+use wjs_step_common::{give, give_text, join};
 use wjs_store::WorldStore;
 use wjs_strings::fault_text;
 
@@ -35,11 +36,10 @@ use wjs_strings::fault_text;
 pub(crate) fn new_error<S: WorldStore>(
     config: &mut Config<S>,
     frame: Frame,
-    prototype: u64,
+    prototype: Builtin,
     message: Value,
 ) -> Result<(), OutOfMemory>
     requires runs { Runs S.meaning config.old frame }
-    requires prototype { prototype < 14 }
     requires message { HasValue config.old message }
     ensures { GoesOn S.meaning frame config.old config.new result (λ t env. line.new_error (first.builtin prototype) (value_in t message) env) }
 {
@@ -51,9 +51,11 @@ pub(crate) fn new_error<S: WorldStore>(
 }
 
 /// Makes an error on a prototype.
-fn create_fault<S: WorldStore>(config: &mut Config<S>, prototype: u64) -> Result<ObjId, OutOfMemory>
+fn create_fault<S: WorldStore>(
+    config: &mut Config<S>,
+    prototype: Builtin,
+) -> Result<ObjId, OutOfMemory>
     requires base { Base S.meaning config.old }
-    requires prototype { prototype < 14 }
     ensures does { IfOk result (λ o. Does S.meaning (λ t go. Do (Create config.old.owner (content.object_of class.Fault (Some (first.builtin prototype)))) go)
         (λ t. o) config.old config.new) }
     ensures later { OnOk result (Later S.meaning config.old config.new) }

@@ -1,19 +1,19 @@
 //! The native functions of Function (ECMA-262, 3rd edition, section 15.3).
 ghost use Rattle.std.specs.Prelude.{All, Some, map};
-ghost use Rattle.wjs_content.specs.Tables.{value_in, arena_in};
+ghost use Rattle.wjs_by_content.specs.Tables.{value_in, arena_in};
 ghost use Rattle.wjs_meaning.specs.Expressions.{call_values};
 ghost use Rattle.wjs_meaning.specs.NativesOfObjects as line;
 ghost use Rattle.wjs_meaning.specs.Table.{row_of};
 ghost use Rattle.wjs_model.specs.Soundness.{HasObject, HasValue};
-ghost use Rattle.wjs_moves.specs.Handling.{Runs, GoesOn};
+ghost use Rattle.wjs_frames.specs.Handling.{Runs, GoesOn};
 
 use crate::sources::source_of;
 use wjs_base::{ObjId, OutOfMemory, Value};
 use wjs_calls::call_value;
-use wjs_deeds::{code_of, function_of};
-use wjs_lines::{give_text, throw};
+use wjs_heap_steps::{code_of, function_of};
 use wjs_model::{Config, Frame, Trouble};
 use wjs_natives::items_of;
+use wjs_step_common::{give_text, throw};
 use wjs_store::WorldStore;
 
 /// `toString`: the name of the receiver, which must be a function (section 15.3.4.2).

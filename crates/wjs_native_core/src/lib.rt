@@ -9,7 +9,6 @@ mod ends;
 mod errors;
 mod functions;
 mod items;
-mod names;
 mod objects;
 mod runs;
 mod sources;

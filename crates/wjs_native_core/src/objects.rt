@@ -1,24 +1,26 @@
 //! The native functions of Object (ECMA-262, 3rd edition, section 15.2).
 ghost use Rattle.std.specs.Prelude.{◌≡◌, ◌&&◌, not, is_some, OnOk, IfOk, All, map};
 ghost use Rattle.wjs_base.specs.Text.{Table, Grows};
-ghost use Rattle.wjs_content.specs.Tables.{value_in, name_in, content_in};
-ghost use Rattle.wjs_content.specs.Values.{Object};
+ghost use Rattle.wjs_by_content.specs.Tables.{value_in, name_in, content_in};
+ghost use Rattle.wjs_by_content.specs.Values.{Object};
 ghost use Rattle.wjs_meaning.specs.NativesOfObjects as line;
 ghost use Rattle.wjs_meaning.specs.NewObjects as made;
 ghost use Rattle.wjs_model.specs.Soundness.{Base, HasObject, HasName, HasValue};
-ghost use Rattle.wjs_moves.specs.Doing.{Does};
-ghost use Rattle.wjs_moves.specs.Following.{Later};
+ghost use Rattle.wjs_frames.specs.Doing.{Does};
+ghost use Rattle.wjs_frames.specs.Following.{Later};
 ghost use Rattle.wjs_native_core.specs.Owning.{class_shown, own_property};
-ghost use Rattle.wjs_moves.specs.Handling.{Runs, IsRunning, GoesOn};
+ghost use Rattle.wjs_frames.specs.Handling.{Runs, IsRunning, GoesOn};
 
 use crate::classes::class_name;
 use crate::ends::give_short;
 use wjs_base::{Content, Name, ObjId, OutOfMemory, Value};
-use wjs_deeds::{class_of, create_plain, fixed, intern, is_hidden, is_past, name_of, read_content};
-use wjs_lines::{give, to_object};
+use wjs_frames::finish;
+use wjs_heap_steps::{
+    class_of, create_plain, fixed, intern, is_hidden, is_past, name_of, read_content,
+};
 use wjs_model::{Completion, Config, Frame};
-use wjs_moves::finish;
 use wjs_natives::value_at;
+use wjs_step_common::{give, to_object};
 use wjs_store::WorldStore;
 use wjs_strings::object_text;
 

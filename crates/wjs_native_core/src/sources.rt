@@ -2,20 +2,20 @@
 ghost use Rattle.std.specs.Prelude.{◌≡◌, ◌++◌, ◌∷◌, [], IfOk, OnOk, MatchOption, codes};
 ghost use Rattle.std.specs.Option.{option_map};
 ghost use Rattle.wjs_base.specs.Text.{Table, Grows};
-ghost use Rattle.wjs_content.specs.Tables.{text_in};
+ghost use Rattle.wjs_by_content.specs.Tables.{text_in};
 ghost use Rattle.wjs_meaning.specs.NativesOfObjects as line;
 ghost use Rattle.wjs_meaning.specs.Reading.{node_in};
 ghost use Rattle.wjs_meaning.specs.Table.{row_of};
 ghost use Rattle.wjs_meaning.specs.Trees as trees;
 ghost use Rattle.wjs_model.specs.Soundness.{Base};
 ghost use Rattle.wjs_model.specs.Texts as known;
-ghost use Rattle.wjs_moves.specs.Parts.{env_in, node_among};
+ghost use Rattle.wjs_frames.specs.Parts.{env_in, node_among};
 
-use crate::names::native_name;
 use std::alloc::Global;
-use wjs_arena::Code;
+use wjs_arena::{Code, Native};
 use wjs_base::{OutOfMemory, TextId};
-use wjs_deeds::units_of;
+use wjs_heap_steps::units_of;
+use wjs_meaning::row_of;
 use wjs_model::{Config, Frame};
 use wjs_store::WorldStore;
 use wjs_strings::function_text;
@@ -43,6 +43,13 @@ pub(crate) fn source_of<S: WorldStore>(
             function_text(alloc, name.as_slice())
         }
     }
+}
+
+/// The name of a native function, in ASCII.
+fn native_name(native: Native) -> &'static [u8]
+    ensures { result.now ≡ (row_of native).name }
+{
+    row_of(native).name
 }
 
 /// The name of the function of a node.
@@ -110,8 +117,6 @@ fn units_of_ascii(alloc: Global, bytes: &[u8]) -> Result<Vec<u16>, OutOfMemory>
 fn push_ascii(units: &mut Vec<u16>, byte: u8) -> Result<(), OutOfMemory>
     ensures { OnOk result (units.new.items ≡ units.old.items ++ byte ∷ []) }
 {
-    match units.push(byte as u16) {
-        Ok(()) => Ok(()),
-        Err(_) => Err(OutOfMemory),
-    }
+    units.push(byte as u16)?;
+    Ok(())
 }

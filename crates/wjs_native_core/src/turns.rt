@@ -1,7 +1,7 @@
 //! A turn of a native function of Object, Function, Error, World or Array: its conversions, and then it runs.
 ghost use Rattle.std.specs.Prelude.{◌≡◌, true};
 ghost use Rattle.wjs_model.specs.Soundness.{HasCompletion};
-ghost use Rattle.wjs_moves.specs.Handling.{Runs, Begins, Resumes};
+ghost use Rattle.wjs_frames.specs.Handling.{Runs, Begins, Resumes};
 ghost use Rattle.wjs_natives.specs.Cores.{is_core};
 
 use crate::runs::run;

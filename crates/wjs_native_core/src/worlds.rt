@@ -1,16 +1,16 @@
 //! The native functions of World ("Worlds: Controlling the Scope of Side Effects", ECOOP 2011, section 2).
-ghost use Rattle.wjs_content.specs.Tables.{value_in};
+ghost use Rattle.wjs_by_content.specs.Tables.{value_in};
 ghost use Rattle.wjs_meaning.specs.Deeds as deed;
 ghost use Rattle.wjs_meaning.specs.NativesOfObjects as line;
 ghost use Rattle.wjs_meaning.specs.WorldValues.{world_object_of};
 ghost use Rattle.wjs_model.specs.Soundness.{HasValue, HasWorld};
-ghost use Rattle.wjs_moves.specs.Handling.{Runs, GoesOn};
+ghost use Rattle.wjs_frames.specs.Handling.{Runs, GoesOn};
 
 use wjs_base::{OutOfMemory, Value, WorldId};
-use wjs_deeds::{commit, create_world_object, sprout, world_of};
-use wjs_lines::{give, throw};
+use wjs_frames::finish;
+use wjs_heap_steps::{commit, create_world_object, sprout, world_of};
 use wjs_model::{Completion, Config, Frame, Trouble};
-use wjs_moves::finish;
+use wjs_step_common::{give, throw};
 use wjs_store::{Verdict, WorldStore};
 
 /// `sprout` and `sproutStrict`: a child of the receiver's world, as a World object.

@@ -8,9 +8,9 @@ use Rattle.wjs_base.specs.declared.ids.ObjId.{ObjId}
 use Rattle.wjs_base.specs.declared.values.Value.{Value as NumberedValue}
 use Rattle.wjs_base.specs.declared.values.Value.TheVariants as values
 use Rattle.wjs_base.specs.Text.{Table}
-use Rattle.wjs_content.specs.Names.{slot, index_name}
-use Rattle.wjs_content.specs.Tables.{value_in}
-use Rattle.wjs_content.specs.Values.{Text, Value, value_or_undefined}
+use Rattle.wjs_by_content.specs.Names.{slot, index_name}
+use Rattle.wjs_by_content.specs.Tables.{value_in}
+use Rattle.wjs_by_content.specs.Values.{Text, Value, value_or_undefined}
 use Rattle.wjs_meaning.specs.Deeds.{Env, Act, Tick, Do, Read}
 use Rattle.wjs_meaning.specs.NativesOfObjects.{text_of}
 use Rattle.wjs_meaning.specs.NativesOfTexts.{glue_from, glued, joined}
@@ -20,7 +20,7 @@ use Rattle.wjs_model.specs.declared.frame.Held.TheVariants as holds
 use Rattle.wjs_model.specs.Contents.{Holding, holding_in, value_held, values_held, elements_held}
 use Rattle.wjs_model.specs.Frames.{earliest_first}
 use Rattle.wjs_natives.proofs.Waiting.{earliest-map}
-use Rattle.wjs_native_lines.proofs.Joining.{joined-append}
+use Rattle.wjs_native_text.proofs.Joining.{joined-append}
 use Rattle.wjs_model.specs.declared.config.Config.{Config}
 use Rattle.wjs_model.specs.Soundness.{HasValue}
 use Rattle.wjs_model.specs.Rest.{glue_next}

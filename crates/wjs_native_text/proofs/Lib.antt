@@ -1,2 +1,6 @@
-pub mod Groups
 pub mod Gluing
+pub mod Receiving
+pub mod Lengths
+pub mod Joining
+pub mod Limits
+pub mod Interning

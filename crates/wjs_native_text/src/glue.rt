@@ -1,20 +1,20 @@
 //! `String.glue`: the texts in the slots of an object, one step each, with a separator between them.
 ghost use Rattle.std.specs.Prelude.{◌≡◌, ◌∷◌, OnOk, All, map, false};
-ghost use Rattle.wjs_content.specs.Tables.{value_in};
-ghost use Rattle.wjs_content.specs.Values.{Undefined};
+ghost use Rattle.wjs_by_content.specs.Tables.{value_in};
+ghost use Rattle.wjs_by_content.specs.Values.{Undefined};
 ghost use Rattle.wjs_meaning.specs.Natives.{native_line};
 ghost use Rattle.wjs_model.specs.Soundness.{HasValue};
-ghost use Rattle.wjs_moves.specs.Handling.{Runs, GoesOn, Begins};
+ghost use Rattle.wjs_frames.specs.Handling.{Runs, GoesOn, Begins};
 
-use wjs_arena::Native;
+use crate::strings::give_joined;
+use wjs_arena::{Native, StringNative};
 use wjs_base::{Name, ObjId, OutOfMemory, Value};
-use wjs_deeds::read;
-use wjs_lines::{give_text, held_elements, held_value, number_after, throw};
+use wjs_frames::due_later;
+use wjs_heap_steps::read;
 use wjs_model::{Config, Frame, Held, Start, Trouble};
-use wjs_moves::due_later;
-use wjs_native_lines::give_joined;
 use wjs_natives::{value_at, whole_at};
 use wjs_num::to_uint32;
+use wjs_step_common::{give_text, held_elements, held_value, number_after, throw};
 use wjs_store::WorldStore;
 
 /// Begins with the first slot, where there is one: a step is due, in which it is read.
@@ -25,7 +25,8 @@ pub(crate) fn glue<S: WorldStore>(
 ) -> Result<(), OutOfMemory>
     requires runs { Runs S.meaning config.old frame }
     requires args { All (HasValue config.old) args.now }
-    ensures { GoesOn S.meaning frame config.old config.new result (λ t env. native_line Native.Glue false Undefined (map (value_in t) args.now) env) }
+    ensures { GoesOn S.meaning frame config.old config.new result (λ t env.
+        native_line (Native.String StringNative.Glue) false Undefined (map (value_in t) args.now) env) }
 {
     let Value::Object(object) = value_at(args, 0) else {
         return throw(config, frame, Trouble::NotAnObject);

@@ -1,7 +1,7 @@
 //! A turn of a native function on texts or numbers: its conversions, and then it runs.
 ghost use Rattle.std.specs.Prelude.{◌≡◌, false};
 ghost use Rattle.wjs_model.specs.Soundness.{HasCompletion};
-ghost use Rattle.wjs_moves.specs.Handling.{Runs, Begins, Resumes};
+ghost use Rattle.wjs_frames.specs.Handling.{Runs, Begins, Resumes};
 ghost use Rattle.wjs_natives.specs.Cores.{is_core};
 
 use crate::runs::run;

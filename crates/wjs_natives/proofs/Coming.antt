@@ -10,24 +10,26 @@ use Rattle.wjs_base.specs.declared.values.Value.TheVariants as values
 use Rattle.wjs_base.specs.Text.{Table, Grows}
 use Rattle.wjs_store.specs.Meaning.{Meaning}
 use Rattle.wjs_arena.specs.declared.native.Native.{Native}
-use Rattle.wjs_content.specs.Values.{Value, Undefined}
-use Rattle.wjs_content.specs.Tables.{value_in}
-use Rattle.wjs_content.specs.Conversions.{is_object}
+use Rattle.wjs_by_content.specs.Values.{Value, Undefined}
+use Rattle.wjs_by_content.specs.Tables.{value_in}
+use Rattle.wjs_by_content.specs.Conversions.{is_object}
 use Rattle.wjs_heap.specs.Means.{nothing}
 use Rattle.wjs_meaning.specs.Deeds.{Env, Act, Sub, Gives, give, then_value}
-use Rattle.wjs_meaning.specs.Natives.{Kind, convert, native_run}
+use Rattle.wjs_meaning.specs.declared.kinds.Kind.{Kind}
+use Rattle.wjs_meaning.specs.Kinds.{convert}
+use Rattle.wjs_meaning.specs.Natives.{native_run}
 use Rattle.wjs_model.specs.declared.config.Config.{Config}
 use Rattle.wjs_model.specs.declared.frame.Activation.{Activation as Frame}
 use Rattle.wjs_model.specs.declared.point.Conversion.{Conversion}
 use Rattle.wjs_model.specs.Rest.{begin_conversion}
 use Rattle.wjs_model.specs.Soundness.{Base, HasValue}
-use Rattle.wjs_moves.specs.Doing.{Does}
-use Rattle.wjs_moves.specs.Following.{Follows, Later}
-use Rattle.wjs_moves.specs.Shortening.{Shortens}
-use Rattle.wjs_moves.specs.Parts.{env_in}
-use Rattle.wjs_moves.proofs.Shorter.{follows_shorter, shorten_ended}
-use Rattle.wjs_deeds.proofs.Later.{later_same, later_twice}
-use Rattle.wjs_lines.proofs.Following.{env_later}
+use Rattle.wjs_frames.specs.Doing.{Does}
+use Rattle.wjs_frames.specs.Following.{Follows, Later}
+use Rattle.wjs_frames.specs.Shortening.{Shortens}
+use Rattle.wjs_frames.specs.Parts.{env_in}
+use Rattle.wjs_frames.proofs.Shorter.{follows_shorter, shorten_ended}
+use Rattle.wjs_heap_steps.proofs.Later.{later_same, later_twice}
+use Rattle.wjs_step_common.proofs.Following.{env_later}
 use Rattle.wjs_natives.specs.Kinds.{conversions}
 use Rattle.wjs_natives.specs.Converting.{placed, converting, ComesTo, IsReady}
 use Rattle.wjs_natives.proofs.Pairs.{converting_next, converting_end, map-placed, placed_length, placed_longer, placed_within, placed_past}

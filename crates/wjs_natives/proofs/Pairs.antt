@@ -5,9 +5,11 @@ use Rattle.std.proofs.lemmas.Bool.{cases_lt, lt-ltb}
 use Rattle.std.proofs.lemmas.Bool.Decides.{leb_tells}
 use Rattle.std.proofs.lemmas.List.{get_or-set_other, get_or_past, take_more_set, take_all, length-set, length_push, length-map, map-set, map-append}
 use Rattle.wjs_arena.specs.declared.native.Native.{Native}
-use Rattle.wjs_content.specs.Values.{Value, Undefined}
+use Rattle.wjs_by_content.specs.Values.{Value, Undefined}
 use Rattle.wjs_meaning.specs.Deeds.{Env, Act, Sub, then_value}
-use Rattle.wjs_meaning.specs.Natives.{Kind, with_kinds, convert, convert_from, native_run}
+use Rattle.wjs_meaning.specs.declared.kinds.Kind.{Kind}
+use Rattle.wjs_meaning.specs.Kinds.{with_kinds, convert}
+use Rattle.wjs_meaning.specs.Natives.{convert_from, native_run}
 use Rattle.wjs_natives.specs.Kinds.{conversions}
 use Rattle.wjs_natives.specs.Converting.{placed, converting}
 

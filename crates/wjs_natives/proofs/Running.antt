@@ -6,15 +6,15 @@ use Rattle.wjs_base.specs.declared.values.Value.{Value}
 use Rattle.wjs_base.specs.Text.{Table}
 use Rattle.wjs_store.specs.Meaning.{Meaning}
 use Rattle.wjs_arena.specs.declared.native.Native.{Native}
-use Rattle.wjs_content.specs.Tables.{value_in}
+use Rattle.wjs_by_content.specs.Tables.{value_in}
 use Rattle.wjs_meaning.specs.Deeds.{Act}
 use Rattle.wjs_meaning.specs.Natives.{native_run}
 use Rattle.wjs_model.specs.declared.config.Config.{Config}
 use Rattle.wjs_model.specs.declared.frame.Activation.{Activation as Frame}
-use Rattle.wjs_moves.specs.Following.{Follows}
-use Rattle.wjs_moves.specs.Handling.{Runs}
-use Rattle.wjs_moves.specs.Parts.{env_in}
-use Rattle.wjs_moves.proofs.Handling.{runs_later}
+use Rattle.wjs_frames.specs.Following.{Follows}
+use Rattle.wjs_frames.specs.Handling.{Runs}
+use Rattle.wjs_frames.specs.Parts.{env_in}
+use Rattle.wjs_frames.proofs.Handling.{runs_later}
 use Rattle.wjs_natives.specs.Converting.{IsReady}
 
 module _ {S : Type 0} (meaning : S → Meaning) (native : Native) (by_new : Bool) (frame same : Frame) (deeds : Table → Act) (values : List Value) (old mid : Config S) where

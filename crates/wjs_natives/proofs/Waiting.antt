@@ -5,10 +5,11 @@ use Rattle.std.proofs.lemmas.List.{map-append, length-map}
 use Rattle.wjs_base.specs.declared.values.Value.{Value as NumberedValue}
 use Rattle.wjs_base.specs.Text.{Table}
 use Rattle.wjs_arena.specs.declared.native.Native.{Native}
-use Rattle.wjs_content.specs.Tables.{value_in}
-use Rattle.wjs_content.specs.Values.{Value}
+use Rattle.wjs_by_content.specs.Tables.{value_in}
+use Rattle.wjs_by_content.specs.Values.{Value}
 use Rattle.wjs_meaning.specs.Deeds.{Env, Act, Ret, then_value}
-use Rattle.wjs_meaning.specs.Natives.{with_kinds, convert_from, native_of}
+use Rattle.wjs_meaning.specs.Kinds.{with_kinds}
+use Rattle.wjs_meaning.specs.Natives.{convert_from, native_of}
 use Rattle.wjs_model.specs.declared.frame.Held.{Held}
 use Rattle.wjs_model.specs.declared.frame.Completion.{Completion as NumberedCompletion}
 use Rattle.wjs_model.specs.declared.frame.Completion.TheVariants as completions

@@ -5,15 +5,16 @@ use Rattle.wjs_base.specs.declared.values.Value.{Value as NumberedValue}
 use Rattle.wjs_base.specs.Text.{Table}
 use Rattle.wjs_store.specs.Meaning.{Meaning}
 use Rattle.wjs_arena.specs.declared.native.Native.{Native}
-use Rattle.wjs_content.specs.Values.{Value}
-use Rattle.wjs_content.specs.Tables.{value_in}
+use Rattle.wjs_by_content.specs.Values.{Value}
+use Rattle.wjs_by_content.specs.Tables.{value_in}
 use Rattle.wjs_meaning.specs.Deeds.{Env, Act}
-use Rattle.wjs_meaning.specs.Natives.{with_kinds, convert_from, native_run}
+use Rattle.wjs_meaning.specs.Kinds.{with_kinds}
+use Rattle.wjs_meaning.specs.Natives.{convert_from, native_run}
 use Rattle.wjs_model.specs.declared.config.Config.{Config}
 use Rattle.wjs_model.specs.declared.frame.Activation.{Activation as Frame}
 use Rattle.wjs_model.specs.Soundness.{HasValue}
-use Rattle.wjs_moves.specs.Following.{Follows, Later}
-use Rattle.wjs_moves.specs.Parts.{env_in}
+use Rattle.wjs_frames.specs.Following.{Follows, Later}
+use Rattle.wjs_frames.specs.Parts.{env_in}
 use Rattle.wjs_natives.specs.declared.conversions.Progress.{Progress}
 use Rattle.wjs_natives.specs.declared.conversions.Progress.TheVariants as progress
 use Rattle.wjs_natives.specs.Kinds.{conversions}

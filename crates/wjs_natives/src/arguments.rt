@@ -1,12 +1,12 @@
 //! What native functions read of converted values.
 ghost use Rattle.std.specs.Prelude.{◌≡◌, ◌≤◌, All, map, length, slice_index_or};
 ghost use Rattle.wjs_base.specs.Text.{Table, Grows, longest};
-ghost use Rattle.wjs_content.specs.Tables.{value_in};
+ghost use Rattle.wjs_by_content.specs.Tables.{value_in};
 ghost use Rattle.wjs_meaning.specs.NativesOfObjects as line;
 ghost use Rattle.wjs_model.specs.Soundness.{HasValue};
 
 use wjs_base::{Value, Whole};
-use wjs_deeds::units_of;
+use wjs_heap_steps::units_of;
 use wjs_model::Config;
 use wjs_store::WorldStore;
 

@@ -1,30 +1,30 @@
 //! The conversions of a native function's receiver and arguments, one after another.
 ghost use Rattle.std.specs.Prelude.{◌≡◌, ◌+◌, ◌-◌, ◌^◌, ◌<◌, IfOk, OnOk, MatchResult, All, map, length, slice_index_or, true};
 ghost use Rattle.wjs_base.specs.Text.{Table, Grows};
-ghost use Rattle.wjs_content.specs.Tables.{value_in};
-ghost use Rattle.wjs_content.specs.Conversions.{is_object};
+ghost use Rattle.wjs_by_content.specs.Tables.{value_in};
+ghost use Rattle.wjs_by_content.specs.Conversions.{is_object};
 ghost use Rattle.wjs_meaning.specs.Deeds.{Env, Sub, give, then_value};
-ghost use Rattle.wjs_meaning.specs.Natives.{convert};
+ghost use Rattle.wjs_meaning.specs.Kinds.{convert};
 ghost use Rattle.wjs_model.specs.Rest.{begin_conversion};
-ghost use Rattle.wjs_moves.specs.Doing.{Does};
-ghost use Rattle.wjs_moves.specs.Shortening.{Shortens};
+ghost use Rattle.wjs_frames.specs.Doing.{Does};
+ghost use Rattle.wjs_frames.specs.Shortening.{Shortens};
 ghost use Rattle.wjs_heap.specs.Means.{nothing};
 ghost use Rattle.wjs_model.specs.Soundness.{Base, HasValue};
-ghost use Rattle.wjs_moves.specs.Parts.{env_in};
-ghost use Rattle.wjs_moves.specs.Following.{Later};
+ghost use Rattle.wjs_frames.specs.Parts.{env_in};
+ghost use Rattle.wjs_frames.specs.Following.{Later};
 ghost use Rattle.wjs_natives.specs.Converting.{converting, placed, Progresses};
-ghost use Rattle.wjs_natives.specs.Kinds.{kind_in};
-ghost use Rattle.wjs_moves.specs.Handling.{Runs, GoesOn};
+ghost use Rattle.wjs_frames.specs.Handling.{Runs, GoesOn};
 
 use crate::arguments::value_at;
 use crate::items::items_of;
-use crate::kinds::{Kind, conversion_of, kind_at};
+use crate::kinds::{conversion_of, kind_at};
 use crate::primitives::convert_primitive;
 use wjs_arena::Native;
 use wjs_base::{OutOfMemory, Value};
-use wjs_lines::number_of;
+use wjs_frames::convert;
+use wjs_meaning::Kind;
 use wjs_model::{Config, Conversion, Frame, Point};
-use wjs_moves::convert;
+use wjs_step_common::number_of;
 use wjs_store::WorldStore;
 
 /// Where a turn of a native function is.
@@ -82,8 +82,8 @@ fn convert_now<S: WorldStore>(
     ensures found { IfOk result (λ answer. IfOk answer (λ converted. HasValue config.new converted)) }
     ensures converts { IfOk result
         (λ answer. MatchResult answer (λ converted. (t : Table) → Grows config.new.heap.texts t → (env : Env) →
-        Shortens (convert (kind_in kind) (value_in t value) env) (give (value_in t converted)))
-        (λ conversion. ((t : Table) (env : Env) → convert (kind_in kind) (value_in t value) env ≡ begin_conversion conversion (value_in t value) env) ×
+        Shortens (convert kind (value_in t value) env) (give (value_in t converted)))
+        (λ conversion. ((t : Table) (env : Env) → convert kind (value_in t value) env ≡ begin_conversion conversion (value_in t value) env) ×
         ((t : Table) → is_object (value_in t value) ≡ true))) }
 {
     let Some(conversion) = conversion_of(kind, value) else {
@@ -104,10 +104,8 @@ pub(crate) fn put(values: &mut Vec<Value>, at: usize, value: Value) -> Result<()
         values[at] = value;
         return Ok(());
     }
-    match values.push(value) {
-        Ok(()) => Ok(()),
-        Err(_) => Err(OutOfMemory),
-    }
+    values.push(value)?;
+    Ok(())
 }
 
 /// The frame waits while the value at a place is converted, and holds all values.

@@ -10,27 +10,10 @@ pub fn is_core(native: Native) -> bool
 {
     matches!(
         native,
-        Native::ObjectConstructor
-            | Native::ObjectToString
-            | Native::ObjectValueOf
-            | Native::HasOwnProperty
-            | Native::PropertyIsEnumerable
-            | Native::IsPrototypeOf
-            | Native::FunctionConstructor
-            | Native::FunctionPrototype
-            | Native::FunctionToString
-            | Native::Call
-            | Native::Apply
-            | Native::ErrorConstructor
-            | Native::TypeErrorConstructor
-            | Native::RangeErrorConstructor
-            | Native::ReferenceErrorConstructor
-            | Native::ErrorToString
-            | Native::WorldConstructor
-            | Native::Sprout
-            | Native::SproutStrict
-            | Native::Commit
-            | Native::ArrayConstructor
-            | Native::IsArray
+        Native::Object(_)
+            | Native::Function(_)
+            | Native::Error(_)
+            | Native::World(_)
+            | Native::Array(_)
     )
 }

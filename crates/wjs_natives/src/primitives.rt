@@ -1,20 +1,20 @@
 //! Primitives are converted at once, with no frame (ECMA-262, 3rd edition, section 9).
 ghost use Rattle.std.specs.Prelude.{◌≡◌, IfOk, OnOk, false, Some, pos, unwrap_or};
 ghost use Rattle.wjs_base.specs.Text.{Table, Grows};
-ghost use Rattle.wjs_content.specs.Tables.{value_in};
-ghost use Rattle.wjs_content.specs.Values.{Number, String};
-ghost use Rattle.wjs_content.specs.Conversions.{is_object, primitive_number, primitive_text};
+ghost use Rattle.wjs_by_content.specs.Tables.{value_in};
+ghost use Rattle.wjs_by_content.specs.Values.{Number, String};
+ghost use Rattle.wjs_by_content.specs.Conversions.{is_object, primitive_number, primitive_text};
 ghost use Rattle.wjs_meaning.specs.Deeds.{Env, give};
 ghost use Rattle.wjs_model.specs.Rest.{begin_conversion};
 ghost use Rattle.wjs_model.specs.Soundness.{Base, HasValue};
-ghost use Rattle.wjs_moves.specs.Doing.{Does};
-ghost use Rattle.wjs_moves.specs.Following.{Later};
-ghost use Rattle.wjs_moves.specs.Shortening.{Shortens};
+ghost use Rattle.wjs_frames.specs.Doing.{Does};
+ghost use Rattle.wjs_frames.specs.Following.{Later};
+ghost use Rattle.wjs_frames.specs.Shortening.{Shortens};
 ghost use Rattle.wjs_heap.specs.Means.{nothing};
 
 use wjs_base::{OutOfMemory, Value, Whole};
-use wjs_lines::to_number;
 use wjs_model::{Config, Conversion};
+use wjs_step_common::to_number;
 use wjs_store::WorldStore;
 
 /// What a conversion makes of a primitive. No deed is done; a text that is new is put last.

@@ -1,20 +1,20 @@
 //! A turn of a native function, up to where it runs.
 ghost use Rattle.std.specs.Prelude.{◌≡◌, ◌∷◌, IfOk};
-ghost use Rattle.wjs_content.specs.Tables.{value_in};
+ghost use Rattle.wjs_by_content.specs.Tables.{value_in};
 ghost use Rattle.wjs_meaning.specs.Deeds.{then_value};
 ghost use Rattle.wjs_meaning.specs.Natives.{native_of};
 ghost use Rattle.wjs_model.specs.Contents.{completion_in, holding_in};
 ghost use Rattle.wjs_model.specs.Soundness.{HasValue, HasCompletion};
 ghost use Rattle.wjs_model.specs.Waiting.{after_argument};
-ghost use Rattle.wjs_moves.specs.Parts.{env_in};
+ghost use Rattle.wjs_frames.specs.Parts.{env_in};
 ghost use Rattle.wjs_natives.specs.Converting.{Progresses};
-ghost use Rattle.wjs_moves.specs.Handling.{Runs};
+ghost use Rattle.wjs_frames.specs.Handling.{Runs};
 
 use crate::conversions::{Progress, convert_rest, put};
 use wjs_arena::Native;
 use wjs_base::{OutOfMemory, Value};
+use wjs_frames::finish;
 use wjs_model::{Completion, Config, Frame};
-use wjs_moves::finish;
 use wjs_store::WorldStore;
 
 /// Begins a native function with the conversions of its receiver and of the arguments that the frame holds.
@@ -39,10 +39,8 @@ pub fn begin<S: WorldStore>(
 fn with_receiver(this: Value, mut args: Vec<Value>) -> Result<Vec<Value>, OutOfMemory>
     ensures { IfOk result (λ values. values.items ≡ this ∷ args.items) }
 {
-    match args.insert(0, this) {
-        Ok(()) => Ok(args),
-        Err(_) => Err(OutOfMemory),
-    }
+    args.insert(0, this)?;
+    Ok(args)
 }
 
 /// Goes on after the conversion of the value of a number, the receiver's being 0; a completion of another kind ends the function.

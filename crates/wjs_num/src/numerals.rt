@@ -5,7 +5,8 @@ ghost use Rattle.std.specs.List.{prefix_len};
 ghost use Rattle.std.specs.Option.{option_copied};
 ghost use Rattle.std.specs.Str.Parse.{digits_value};
 ghost use Rattle.wjs_num.specs.Exact.{answer};
-ghost use Rattle.wjs_num.specs.Numerals.{is_blank, trimmed_front, trimmed_end, after_hex_prefix, has_minus, after_sign, text_spells, spelled, or_nan, number_of_text, meant_radix, past_prefix, integer_of_text};
+ghost use Rattle.wjs_num.specs.Numerals.{is_blank, trimmed_front, trimmed_end, after_hex_prefix, has_minus, after_sign, text_spells, spelled, or_nan};
+ghost use Rattle.wjs_num.specs.Numerals.{number_of_text, meant_radix, past_prefix, integer_of_text};
 
 use crate::arithmetic::{NumFault, fit, whole};
 use wjs_base::Whole;

@@ -1,6 +1,7 @@
 //! What a token does within an expression (ECMA-262, 3rd edition, section 11).
 ghost use Rattle.std.specs.Prelude.{◌≡◌, Some};
-ghost use Rattle.wjs_forms.specs.Table.{unless, after_update, bars_operator, operand, ends, bars_in, comma, behind_top, behind, call, postfix, assigns, target_in, target_closed, target, bare_top, bare, have};
+ghost use Rattle.wjs_forms.specs.Table.{unless, after_update, bars_operator, operand, ends, bars_in, comma, behind_top, behind, call, postfix};
+ghost use Rattle.wjs_forms.specs.Table.{assigns, target_in, target_closed, target, bare_top, bare, have};
 ghost use Rattle.wjs_forms.specs.Table.{on_colon, on_semicolon, on_open_paren, on_close_paren, on_close_bracket, on_open_brace, on_close_brace, on_word};
 ghost use Rattle.wjs_forms.specs.declared.forms.Move.TheVariants as moves;
 ghost use Rattle.wjs_forms.specs.declared.forms.Control.TheVariants as controls;

@@ -37,9 +37,7 @@ impl Forms {
     pub(crate) fn push(&mut self, form: Form) -> Result<(), OutOfMemory>
         ensures { OnOk result (self.new ≡ form ∷ self.old) }
     {
-        let Ok(()) = self.items.push(form) else {
-            return Err(OutOfMemory);
-        };
+        self.items.push(form)?;
         Ok(())
     }
 

@@ -1,7 +1,8 @@
 //! What a token does in literals, arguments, formals, variables and headers (ECMA-262, 3rd edition, sections 11.1, 11.2, 12.2,
 //! 12.6 and 13).
 ghost use Rattle.std.specs.Prelude.{◌≡◌};
-ghost use Rattle.wjs_forms.specs.Moves.{ends_operand, argument_or_end, item, named_key, key_or_end, dotted, name_or_formals, formal_or_end, formal_behind, named, init, for_named, test, update};
+ghost use Rattle.wjs_forms.specs.Moves.{ends_operand, argument_or_end, item, named_key, key_or_end, dotted, name_or_formals, formal_or_end};
+ghost use Rattle.wjs_forms.specs.Moves.{formal_behind, named, init, for_named, test, update};
 
 use crate::class::is_name;
 use crate::expressions::{ends, operand};

@@ -1,6 +1,8 @@
 //! What a token does at statements and their ends (ECMA-262, 3rd edition, sections 7.9, 12 and 14).
 ghost use Rattle.std.specs.Prelude.{◌≡◌};
-ghost use Rattle.wjs_forms.specs.Moves.{opened, value, statement, at_end, closes, declares, in_clauses, listed, else_or_done, on_while, done, inserted, complete, label, label_or_end, joined_value, joined_value_or_end, value_or_end, catch_or_finally, finally_or_done, clause_or_end, name_or_label};
+ghost use Rattle.wjs_forms.specs.Moves.{opened, value, statement, at_end, closes, declares, in_clauses, listed, else_or_done, on_while, done};
+ghost use Rattle.wjs_forms.specs.Moves.{inserted, complete, label, label_or_end, joined_value, joined_value_or_end, value_or_end, catch_or_finally};
+ghost use Rattle.wjs_forms.specs.Moves.{finally_or_done, clause_or_end, name_or_label};
 
 use crate::expressions::{have, operand};
 use wjs_forms::{Class, Control, Form, Move, Place};

@@ -4,24 +4,24 @@ use Rattle.wjs_base.specs.declared.number.Whole.{Whole as NumberedWhole}
 use Rattle.wjs_base.specs.declared.values.Value.{Value as NumberedValue}
 use Rattle.wjs_base.specs.declared.values.Value.TheVariants as values
 use Rattle.wjs_base.specs.Text.{Table}
-use Rattle.wjs_content.specs.Tables.{value_in}
+use Rattle.wjs_by_content.specs.Tables.{value_in}
 use Rattle.wjs_num.specs.declared.arithmetic.NumFault.{NumFault}
 use Rattle.wjs_num.specs.Exact.{sum}
 use Rattle.wjs_meaning.specs.Errors.{give_result}
 use Rattle.wjs_tree.specs.declared.operators.BinaryOperator.{BinaryOperator}
 use Rattle.wjs_tree.specs.declared.operators.BinaryOperator.TheVariants as binary
-use Rattle.wjs_content.specs.Values.{Value, Whole, Undefined, Null, Boolean, Number, String, Object}
-use Rattle.wjs_content.specs.Conversions.{is_object, primitive_number, strictly_equal, loosely_equal}
+use Rattle.wjs_by_content.specs.Values.{Value, Whole, Undefined, Null, Boolean, Number, String, Object}
+use Rattle.wjs_by_content.specs.Conversions.{is_object, primitive_number, strictly_equal, loosely_equal}
 use Rattle.wjs_meaning.specs.Deeds.{Env, Act, Ret, Eval, AtExpr, Completion, Gives, give, then_value, then_number}
 use Rattle.wjs_meaning.specs.Conversions.{HintNumber}
 use Rattle.wjs_meaning.specs.NativesOfObjects.{whole_of}
 use Rattle.wjs_meaning.specs.Expressions.{binary_left, binary_right}
 use Rattle.wjs_meaning.specs.Operators.{arithmetic, operate, arithmetic_values, arithmetic_first, arithmetic_second, add_values, add_first, add_second, compare_values, compare_first, compare_second, equal_primitive, equal_values}
 use Rattle.wjs_model.specs.Waiting.{operand_first, operand_second}
-use Rattle.wjs_moves.specs.Shortening.{Shortens}
-use Rattle.wjs_moves.proofs.Shorter.{shorten_trans}
+use Rattle.wjs_frames.specs.Shortening.{Shortens}
+use Rattle.wjs_frames.proofs.Shorter.{shorten_trans}
 use Rattle.wjs_operators.specs.Operating.{is_comparison, is_arithmetic, is_calculation, equality, tells, equal_with}
-use Rattle.wjs_lines.proofs.Converting.{primitive_shortens, number_shortens}
+use Rattle.wjs_step_common.proofs.Converting.{primitive_shortens, number_shortens}
 
 pub arithmetic_shortens : (op : BinaryOperator) (a b : Value) (env : Env) → is_object a ≡ false → is_object b ≡ false → Shortens (arithmetic_values op a b env) (arithmetic_second op (primitive_number a) env (primitive_number b))
 arithmetic_shortens op a b env p q = shorten_trans _ _ _ (number_shortens a env (arithmetic_first op b env) p) (number_shortens b env (arithmetic_second op (primitive_number a) env) q)

@@ -2,8 +2,8 @@
 use Rattle.std.specs.Prelude.{Bool, true, false}
 use Rattle.wjs_tree.specs.declared.operators.BinaryOperator.{BinaryOperator}
 use Rattle.wjs_tree.specs.declared.operators.BinaryOperator.TheVariants as binary
-use Rattle.wjs_content.specs.Values.{Value}
-use Rattle.wjs_content.specs.Conversions.{is_nullish}
+use Rattle.wjs_by_content.specs.Values.{Value}
+use Rattle.wjs_by_content.specs.Conversions.{is_nullish}
 use Rattle.wjs_meaning.specs.Deeds.{Env, Act, Sub, then_value}
 use Rattle.wjs_meaning.specs.Conversions.{HintNumber, to_primitive}
 use Rattle.wjs_meaning.specs.Operators.{give_truth, give_opposite, equal_primitive}

@@ -1,15 +1,15 @@
 //! `+` (ECMA-262, 3rd edition, section 11.6.1): a text on either side joins the texts of both.
-ghost use Rattle.wjs_content.specs.Tables.{value_in};
+ghost use Rattle.wjs_by_content.specs.Tables.{value_in};
 ghost use Rattle.wjs_meaning.specs.Errors.{give_result};
 ghost use Rattle.wjs_meaning.specs.Operators as line;
 ghost use Rattle.wjs_model.specs.Contents.{value_held};
 ghost use Rattle.wjs_model.specs.Soundness.{HasValue};
-ghost use Rattle.wjs_moves.specs.Handling.{Runs, GoesOn};
+ghost use Rattle.wjs_frames.specs.Handling.{Runs, GoesOn};
 
 use wjs_base::{OutOfMemory, Value};
-use wjs_lines::{are_primitives, give_result, held_value, is_text, join, to_number};
+use wjs_frames::{convert, hold};
 use wjs_model::{Config, Conversion, ExprPoint, Frame, Held, Point};
-use wjs_moves::{convert, hold};
+use wjs_step_common::{are_primitives, give_result, held_value, is_text, join, to_number};
 use wjs_store::WorldStore;
 use wjs_tree::BinaryOperator;
 

@@ -1,16 +1,16 @@
 //! Operators between two operands (ECMA-262, 3rd edition, sections 11.5 to 11.11).
-ghost use Rattle.wjs_content.specs.Tables.{value_in};
+ghost use Rattle.wjs_by_content.specs.Tables.{value_in};
 ghost use Rattle.wjs_meaning.specs.Deeds.{Eval, AtExpr, then_value};
 ghost use Rattle.wjs_meaning.specs.Expressions as line;
 ghost use Rattle.wjs_model.specs.Contents.{value_held};
 ghost use Rattle.wjs_model.specs.Soundness.{HasValue, StandsHere};
-ghost use Rattle.wjs_moves.specs.Handling.{Runs, IsAt, GoesOn};
+ghost use Rattle.wjs_frames.specs.Handling.{Runs, IsAt, GoesOn};
 
 use crate::operations::operate;
 use wjs_base::{OutOfMemory, Value};
-use wjs_lines::{held_value, to_boolean};
+use wjs_frames::{Part, enter, enter_last, finish, hold};
 use wjs_model::{Completion, Config, ExprPoint, Frame, Held, Point};
-use wjs_moves::{Part, enter, enter_last, finish, hold};
+use wjs_step_common::{held_value, to_boolean};
 use wjs_store::WorldStore;
 use wjs_tree::{BinaryOperator, Node, NodeId};
 

@@ -1,17 +1,17 @@
 //! Comparisons by order (ECMA-262, 3rd edition, sections 11.8.1 to 11.8.5).
 ghost use Rattle.std.specs.Prelude.{◌≡◌, true, false, not, option_map, unwrap_or};
 ghost use Rattle.wjs_base.specs.Text.{Table, Grows};
-ghost use Rattle.wjs_content.specs.Tables.{value_in};
+ghost use Rattle.wjs_by_content.specs.Tables.{value_in};
 ghost use Rattle.wjs_meaning.specs.Operators as line;
 ghost use Rattle.wjs_model.specs.Contents.{value_held};
 ghost use Rattle.wjs_model.specs.Soundness.{Base, HasValue};
 ghost use Rattle.wjs_operators.specs.Operating.{is_comparison};
-ghost use Rattle.wjs_moves.specs.Handling.{Runs, GoesOn};
+ghost use Rattle.wjs_frames.specs.Handling.{Runs, GoesOn};
 
 use wjs_base::{OutOfMemory, Value};
-use wjs_lines::{are_primitives, held_value, less_than};
+use wjs_frames::{convert, finish, hold};
 use wjs_model::{Completion, Config, Conversion, ExprPoint, Frame, Held, Point};
-use wjs_moves::{convert, finish, hold};
+use wjs_step_common::{are_primitives, held_value, less_than};
 use wjs_store::WorldStore;
 use wjs_tree::BinaryOperator;
 

@@ -1,20 +1,20 @@
 //! Equality (ECMA-262, 3rd edition, section 11.9): an object against a primitive is converted while the frame waits.
 ghost use Rattle.std.specs.Prelude.{◌≡◌, true, false};
-ghost use Rattle.wjs_content.specs.Tables.{value_in};
+ghost use Rattle.wjs_by_content.specs.Tables.{value_in};
 ghost use Rattle.wjs_base.specs.Text.{Table};
-ghost use Rattle.wjs_content.specs.Conversions as conversions;
+ghost use Rattle.wjs_by_content.specs.Conversions as conversions;
 ghost use Rattle.wjs_meaning.specs.Conversions.{HintNumber, to_primitive};
 ghost use Rattle.wjs_meaning.specs.Deeds.{Sub, then_value};
 ghost use Rattle.wjs_meaning.specs.Operators as line;
 ghost use Rattle.wjs_model.specs.Contents.{value_held};
 ghost use Rattle.wjs_model.specs.Soundness.{HasValue};
 ghost use Rattle.wjs_operators.specs.Operating.{equality, tells, equal_with};
-ghost use Rattle.wjs_moves.specs.Handling.{Runs, IsRunning, GoesOn};
+ghost use Rattle.wjs_frames.specs.Handling.{Runs, IsRunning, GoesOn};
 
 use wjs_base::{OutOfMemory, Value};
-use wjs_lines::{held_value, is_nullish, is_object, loosely_equal, strictly_equal};
+use wjs_frames::{convert, finish, hold};
 use wjs_model::{Completion, Config, Conversion, ExprPoint, Frame, Held, Point};
-use wjs_moves::{convert, finish, hold};
+use wjs_step_common::{held_value, is_nullish, is_object, loosely_equal, strictly_equal};
 use wjs_store::WorldStore;
 use wjs_tree::BinaryOperator;
 

@@ -3,20 +3,20 @@
 ghost use Rattle.std.specs.Prelude.{◌≡◌, true};
 ghost use Rattle.wjs_num.specs.Exact.{answer};
 ghost use Rattle.wjs_base.specs.Text.{Table};
-ghost use Rattle.wjs_content.specs.Tables.{value_in};
+ghost use Rattle.wjs_by_content.specs.Tables.{value_in};
 ghost use Rattle.wjs_meaning.specs.Deeds.{Gives, then_number};
 ghost use Rattle.wjs_meaning.specs.NativesOfObjects.{whole_of};
 ghost use Rattle.wjs_meaning.specs.Operators as line;
 ghost use Rattle.wjs_model.specs.Contents.{value_held};
 ghost use Rattle.wjs_model.specs.Soundness.{HasValue};
 ghost use Rattle.wjs_operators.specs.Operating.{is_arithmetic};
-ghost use Rattle.wjs_moves.specs.Handling.{Runs, IsRunning, GoesOn};
+ghost use Rattle.wjs_frames.specs.Handling.{Runs, IsRunning, GoesOn};
 
 use wjs_base::{OutOfMemory, Value, Whole};
-use wjs_lines::{are_primitives, give_result, held_value, to_number};
+use wjs_frames::{convert, finish, hold};
 use wjs_model::{Completion, Config, Conversion, ExprPoint, Frame, Held, Point};
-use wjs_moves::{convert, finish, hold};
 use wjs_num::{NumFault, bit_and, bit_or, bit_xor, div, mul, rem, shl, shr, sub, ushr};
+use wjs_step_common::{are_primitives, give_result, held_value, to_number};
 use wjs_store::WorldStore;
 use wjs_tree::BinaryOperator;
 

@@ -1,12 +1,12 @@
 //! The operation of an operator on two values (ECMA-262, 3rd edition, sections 11.5 to 11.10), and what follows the
 //! conversions of its operands.
-ghost use Rattle.wjs_content.specs.Tables.{value_in};
+ghost use Rattle.wjs_by_content.specs.Tables.{value_in};
 ghost use Rattle.wjs_meaning.specs.Deeds.{Gives};
 ghost use Rattle.wjs_meaning.specs.Operators as line;
 ghost use Rattle.wjs_model.specs.Contents.{value_held};
 ghost use Rattle.wjs_model.specs.Waiting as after;
 ghost use Rattle.wjs_model.specs.Soundness.{HasValue};
-ghost use Rattle.wjs_moves.specs.Handling.{Runs, GoesOn};
+ghost use Rattle.wjs_frames.specs.Handling.{Runs, GoesOn};
 
 use crate::additions::{add, add_both, add_right};
 use crate::comparisons::{compare, compare_both, compare_right};

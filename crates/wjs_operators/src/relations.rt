@@ -1,24 +1,24 @@
 //! `in` and `instanceof` (ECMA-262, 3rd edition, sections 11.8.6, 11.8.7 and 15.3.5.3).
 ghost use Rattle.std.specs.Prelude.{◌≡◌, false, Some};
-ghost use Rattle.wjs_content.specs.Names.{prototype_name};
-ghost use Rattle.wjs_content.specs.Objects.{is_past};
+ghost use Rattle.wjs_by_content.specs.Names.{prototype_name};
+ghost use Rattle.wjs_by_content.specs.Objects.{is_past};
 ghost use Rattle.wjs_meaning.specs.Properties.{get_value};
-ghost use Rattle.wjs_content.specs.Tables.{value_in, text_in, name_in};
+ghost use Rattle.wjs_by_content.specs.Tables.{value_in, text_in, name_in};
 ghost use Rattle.wjs_meaning.specs.Operators as line;
 ghost use Rattle.wjs_model.specs.Waiting.{in_right};
 ghost use Rattle.wjs_model.specs.Contents.{value_held};
 ghost use Rattle.wjs_model.specs.Soundness.{HasObject, HasName, HasValue};
 ghost use Rattle.wjs_base.specs.Text.{Table, Has};
-ghost use Rattle.wjs_content.specs.Conversions.{is_object, primitive_text};
+ghost use Rattle.wjs_by_content.specs.Conversions.{is_object, primitive_text};
 ghost use Rattle.wjs_meaning.specs.Conversions.{to_text};
 ghost use Rattle.wjs_meaning.specs.Deeds.{Do, Look, Sub, Gives, then_text};
-ghost use Rattle.wjs_moves.specs.Handling.{Runs, GoesOn};
+ghost use Rattle.wjs_frames.specs.Handling.{Runs, GoesOn};
 
 use wjs_base::{Name, ObjId, OutOfMemory, TextId, Value};
-use wjs_deeds::{Known, function_of, get_known, has, is_past, name_of};
-use wjs_lines::{held_value, is_object, name_of_value, throw};
+use wjs_frames::{convert, finish, hold};
+use wjs_heap_steps::{Known, function_of, get_known, has, is_past, name_of};
 use wjs_model::{Completion, Config, Conversion, ExprPoint, Frame, Held, Point, Trouble};
-use wjs_moves::{convert, finish, hold};
+use wjs_step_common::{held_value, is_object, name_of_value, throw};
 use wjs_store::WorldStore;
 use wjs_tree::BinaryOperator;
 

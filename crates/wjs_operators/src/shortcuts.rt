@@ -1,11 +1,11 @@
 //! Operators with `=` on two numbers, which need no frame (ECMA-262, 3rd edition, section 11.13.2).
 ghost use Rattle.std.specs.Prelude.{◌≡◌, true, IfSome};
 ghost use Rattle.wjs_base.specs.Text.{Table};
-ghost use Rattle.wjs_content.specs.Tables.{value_in};
-ghost use Rattle.wjs_content.specs.Values.{Number};
+ghost use Rattle.wjs_by_content.specs.Tables.{value_in};
+ghost use Rattle.wjs_by_content.specs.Values.{Number};
 ghost use Rattle.wjs_meaning.specs.Deeds.{Env, give};
 ghost use Rattle.wjs_meaning.specs.Operators as line;
-ghost use Rattle.wjs_moves.specs.Shortening.{Shortens};
+ghost use Rattle.wjs_frames.specs.Shortening.{Shortens};
 ghost use Rattle.wjs_operators.specs.Operating.{is_calculation};
 
 use crate::operands::arithmetic;

@@ -3,11 +3,12 @@ use Rattle.std.specs.Prelude.{◌≡◌, ℕ, zero, suc, ◌+◌, ◌<◌, ◌�
 use Rattle.std.proofs.Common.{refl, sym, ap, subst, ◌∙◌, arith, get_or, length-append}
 use Rattle.std.proofs.lemmas.List.{drop_all}
 use Rattle.std.proofs.lemmas.Option.{slice_get_within}
+use Rattle.wjs_base.proofs.Lists.{get_last}
 use Rattle.wjs_tree.specs.declared.node.Node.{Node}
 use Rattle.wjs_tree.specs.declared.node.NodeId.{NodeId}
 use Rattle.wjs_tree.specs.Children.{ChildrenBelow}
 use Rattle.wjs_tree.specs.Shows.{Has, Keeps}
-use Rattle.wjs_tree.proofs.Adding.{get-last, keeps_added}
+use Rattle.wjs_tree.proofs.Adding.{keeps_added}
 use Rattle.wjs_scope.specs.Nesting.{IsAmong}
 use Rattle.wjs_order.specs.Order.{falling}
 use Rattle.wjs_order.specs.Moves.{id_of, Moves, AreBehind}
@@ -43,7 +44,7 @@ module _ (old : List Node) (g : ℕ → ℕ) where
       let others : map g more ≡ falling (length more) = cc in
       let long : length h.1 ≡ g k = made_length more h.1 h.4 ∙ sym first in
       let all : List Node = h.1 ++ renumbered g h.0 ∷ [] in
-      let last : Has all (id_of (g k)) (renumbered g h.0) = subst (λ z. Has all (id_of z) (renumbered g h.0)) long (get-last h.1 (renumbered g h.0)) in
+      let last : Has all (id_of (g k)) (renumbered g h.0) = subst (λ z. Has all (id_of z) (renumbered g h.0)) long (get_last h.1 (renumbered g h.0)) in
       subst (λ z. Moves old z g (k ∷ more)) (sym h.3) (
         λ node has. (let there = h.2 in let same : h.0 ≡ node = cc in subst (λ (z : Node). Has all (id_of (g k)) (renumbered g z)) same last),
         kept h.1 all (keeps_added h.1 (renumbered g h.0)) more (made_moves more h.1 h.4 others),

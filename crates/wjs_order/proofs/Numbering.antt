@@ -1,6 +1,7 @@
 -- The nodes that have been put in order are numbered as the tree is spelled.
 use Rattle.std.specs.Prelude.{◌≡◌, ℕ, suc, List, [], ◌∷◌, ◌++◌, map, length, Some, slice_get}
 use Rattle.std.proofs.Common.{sym, ap, subst, ◌∙◌, arith, length-append}
+use Rattle.wjs_base.proofs.Lists.{get_last}
 use Rattle.wjs_tree.specs.declared.node.Node.{Node}
 use Rattle.wjs_tree.specs.declared.node.NodeId.{NodeId}
 use Rattle.wjs_tree.specs.declared.node.Node.TheVariants as nodes
@@ -8,7 +9,7 @@ use Rattle.wjs_tree.specs.Trees.{Elements}
 use Rattle.wjs_tree.specs.Shows.{Has, Keeps, IsBody}
 use Rattle.wjs_tree.specs.Children.{ChildrenBelow}
 use Rattle.wjs_tree.specs.Used.{IsOnce}
-use Rattle.wjs_tree.proofs.Adding.{get-last, keeps_added}
+use Rattle.wjs_tree.proofs.Adding.{keeps_added}
 use Rattle.wjs_tree.proofs.Kept.{elements_kept}
 use Rattle.wjs_scope.specs.Places.{IsScript}
 use Rattle.wjs_order.specs.Order.{falling, IsNumbered}
@@ -25,7 +26,7 @@ numbered old ms ns g body last node made tree is has same moves falls long added
     let form : node ≡ nodes.Program is.list = cc in
     let program : made ≡ nodes.Program (map (new_id g) is.list) = same ∙ ap (renumbered g) form in
     let keeps : Keeps ms ns = subst (Keeps ms) (sym added) (keeps_added ms made) in
-    let here : slice_get ns last.0 ≡ Some made = subst (λ z. slice_get z last.0 ≡ Some made) (sym added) (subst (λ z. slice_get (ms ++ made ∷ []) z ≡ Some made) (sym at) (get-last ms made)) in
+    let here : slice_get ns last.0 ≡ Some made = subst (λ z. slice_get z last.0 ≡ Some made) (sym added) (subst (λ z. slice_get (ms ++ made ∷ []) z ≡ Some made) (sym at) (get_last ms made)) in
     let count : length ns ≡ suc (length ms) = (let all = ap length added in omega (arith, length-append ms (made ∷ []))) in
     record {
       is = record {

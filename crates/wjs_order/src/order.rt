@@ -20,9 +20,7 @@ pub fn order(alloc: Global, nodes: &Nodes, body: NodeId) -> Result<Vec<u64>, Out
     let mut stack = Stack::new(alloc);
     push_parts(nodes.node(body), &mut stack)?;
     'walk: while let Some(id) = stack.pop() {
-        let Ok(()) = order.push(id.0) else {
-            return Err(OutOfMemory);
-        };
+        order.push(id.0)?;
         push_parts(nodes.node(id), &mut stack)?;
     }
     Ok(order)

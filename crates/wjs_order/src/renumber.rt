@@ -1,6 +1,7 @@
 //! Nodes whose parts have other numbers.
 ghost use Rattle.std.specs.Prelude.{◌≡◌, ◌<◌, length, map, option_map, IfOk};
-ghost use Rattle.wjs_tree.specs.Children.{ChildrenBelow, AreBelow, OptionBelow, ItemsBelow, PropertiesBelow, DeclaratorsBelow, ClausesBelow, InitBelow, HandlerBelow};
+ghost use Rattle.wjs_tree.specs.Children.{ChildrenBelow, AreBelow, OptionBelow, ItemsBelow, PropertiesBelow, DeclaratorsBelow, ClausesBelow};
+ghost use Rattle.wjs_tree.specs.Children.{InitBelow, HandlerBelow};
 ghost use Rattle.wjs_order.specs.Renumbered.{number_in, new_id, new_option, new_property, new_declarator, new_init, new_clause, new_handler, renumbered};
 
 use std::alloc::Global;
@@ -113,9 +114,7 @@ fn init(alloc: Global, to: &[u64], init: &ForInit) -> Result<ForInit, OutOfMemor
 fn copied(alloc: Global, names: &[TextId]) -> Result<Sequence<TextId>, OutOfMemory>
     ensures { IfOk result (λ made. made ≡ names.now) }
 {
-    let Ok(names) = Vec::from_slice(alloc, names) else {
-        return Err(OutOfMemory);
-    };
+    let names = Vec::from_slice(alloc, names)?;
     Ok(Sequence::from_vec(names))
 }
 
@@ -125,9 +124,7 @@ fn list(alloc: Global, to: &[u64], nodes: &[NodeId]) -> Result<Sequence<NodeId>,
 {
     let mut made = Vec::new(alloc);
     for node in nodes {
-        let Ok(()) = made.push(id(to, *node)) else {
-            return Err(OutOfMemory);
-        };
+        made.push(id(to, *node))?;
     }
     Ok(Sequence::from_vec(made))
 }
@@ -142,9 +139,7 @@ fn items(
 {
     let mut made = Vec::new(alloc);
     for item in items {
-        let Ok(()) = made.push(option(to, *item)) else {
-            return Err(OutOfMemory);
-        };
+        made.push(option(to, *item))?;
     }
     Ok(Sequence::from_vec(made))
 }
@@ -163,9 +158,7 @@ fn properties(
             key: property.key,
             value: id(to, property.value),
         };
-        let Ok(()) = made.push(property) else {
-            return Err(OutOfMemory);
-        };
+        made.push(property)?;
     }
     Ok(Sequence::from_vec(made))
 }
@@ -184,9 +177,7 @@ fn declarators(
             name: declarator.name,
             value: option(to, declarator.value),
         };
-        let Ok(()) = made.push(declarator) else {
-            return Err(OutOfMemory);
-        };
+        made.push(declarator)?;
     }
     Ok(Sequence::from_vec(made))
 }
@@ -198,9 +189,7 @@ fn clauses(alloc: Global, to: &[u64], clauses: &[Clause]) -> Result<Sequence<Cla
     let mut made = Vec::new(alloc);
     for clause in clauses {
         let clause = clause_of(alloc, to, clause)?;
-        let Ok(()) = made.push(clause) else {
-            return Err(OutOfMemory);
-        };
+        made.push(clause)?;
     }
     Ok(Sequence::from_vec(made))
 }

@@ -36,9 +36,7 @@ impl Stack {
     pub fn push(&mut self, id: NodeId) -> Result<(), OutOfMemory>
         ensures { OnOk result (self.new ≡ id ∷ self.old) }
     {
-        let Ok(()) = self.items.push(id) else {
-            return Err(OutOfMemory);
-        };
+        self.items.push(id)?;
         Ok(())
     }
 

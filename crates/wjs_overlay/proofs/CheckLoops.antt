@@ -11,19 +11,19 @@ use Rattle.wjs_base.specs.declared.ids.WorldId.{WorldId}
 use Rattle.wjs_base.specs.declared.values.Slot.{Slot}
 use Rattle.wjs_base.specs.Order.{slot_cmp, slot_total, slot_exact, obj_cmp, obj_total, obj_exact, name_cmp}
 use Rattle.wjs_base.specs.Same.{same_value, object_Decides}
+use Rattle.wjs_base.proofs.Booleans.{by_bool}
 use Rattle.wjs_rows.specs.Order.{is_after}
 use Rattle.wjs_store.specs.Naming.{plain}
 use Rattle.wjs_store.specs.State.{World, find_world, content_at, same_content, same_object, has_row}
-use Rattle.wjs_store.proofs.Writes.{by_bool}
-use Rattle.wjs_overlay.specs.declared.maps.Row.{Row}
-use Rattle.wjs_overlay.specs.declared.layer.Spot.{Spot}
-use Rattle.wjs_overlay.specs.declared.layer.Layer.{Layer}
-use Rattle.wjs_overlay.specs.Sparse.{read_of, full_of, Keeps, IsSparse, IsAt}
+use Rattle.wjs_layers.specs.declared.maps.Row.{Row}
+use Rattle.wjs_layers.specs.declared.layer.Spot.{Spot}
+use Rattle.wjs_layers.specs.declared.layer.Layer.{Layer}
+use Rattle.wjs_layers.specs.Sparse.{read_of, full_of, Keeps, IsSparse, IsAt}
 use Rattle.wjs_overlay.specs.Check.{IsLeast, differs, is_unseen, object_before}
-use Rattle.wjs_overlay.specs.Cursor.{is_before, to_come, IsNextSlot}
-use Rattle.wjs_overlay.proofs.Places.{some_is, no_none}
-use Rattle.wjs_overlay.proofs.Full.{by_option, row_none, row_some}
-use Rattle.wjs_overlay.proofs.HandLaws.{above_some}
+use Rattle.wjs_layers.specs.Cursor.{is_before, to_come, IsNextSlot}
+use Rattle.wjs_layers.proofs.Places.{some_is, no_none}
+use Rattle.wjs_layers.proofs.Full.{by_option, row_none, row_some}
+use Rattle.wjs_layers.proofs.HandLaws.{above_some}
 use Rattle.wjs_overlay.proofs.Keyed.{Found, key_of, by_order}
 
 and_no : (b : Bool) → (b && false) ≡ false

@@ -10,18 +10,18 @@ use Rattle.std.specs.List.{list_any}
 use Rattle.std.proofs.lemmas.Bool.{true≢false, false≢true, and_parts}
 use Rattle.wjs_base.specs.declared.values.Slot.{Slot}
 use Rattle.wjs_base.specs.Order.{slot_cmp, slot_total, slot_exact}
+use Rattle.wjs_base.proofs.Booleans.{by_bool}
 use Rattle.wjs_store.specs.Naming.{plain}
 use Rattle.wjs_store.specs.State.{World, fails, fault_in, lesser}
 use Rattle.wjs_store.proofs.Marks.{key_is, or_case, any_filter}
-use Rattle.wjs_store.proofs.Writes.{by_bool}
 use Rattle.wjs_store.proofs.Commits.{no_fault}
-use Rattle.wjs_overlay.specs.declared.maps.Row.{Row}
+use Rattle.wjs_layers.specs.declared.maps.Row.{Row}
 use Rattle.wjs_overlay.specs.Check.{IsLeast, differs, is_unseen}
-use Rattle.wjs_overlay.specs.Cursor.{is_before, lesser_of}
-use Rattle.wjs_overlay.proofs.Places.{some_is, no_none}
-use Rattle.wjs_overlay.proofs.Full.{by_option}
-use Rattle.wjs_overlay.proofs.Cursors.{not_self, lt_trans}
-use Rattle.wjs_overlay.proofs.Scans.{lesser_from, before_both}
+use Rattle.wjs_layers.specs.Cursor.{is_before, lesser_of}
+use Rattle.wjs_layers.proofs.Places.{some_is, no_none}
+use Rattle.wjs_layers.proofs.Full.{by_option}
+use Rattle.wjs_layers.proofs.Cursors.{not_self, lt_trans}
+use Rattle.wjs_layers.proofs.Scans.{lesser_from, before_both}
 
 -- the slot of an entry
 abbrev pub slot_of : Option (Slot × Row) → Option Slot

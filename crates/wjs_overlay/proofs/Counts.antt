@@ -5,9 +5,9 @@ use Rattle.std.specs.Ordering.{eq_by_cmp}
 use Rattle.std.specs.List.{list_any}
 use Rattle.std.specs.FinMap.{IsAntisymmetric}
 use Rattle.std.proofs.lemmas.Bool.{false≢true}
+use Rattle.wjs_base.proofs.Booleans.{by_bool}
 use Rattle.wjs_store.proofs.Marks.{key_is}
-use Rattle.wjs_store.proofs.Writes.{by_bool}
-use Rattle.wjs_overlay.specs.Cursor.{count_passing}
+use Rattle.wjs_layers.specs.Cursor.{count_passing}
 
 pub count_le : {K : Type 0} (p q : K → Bool) (ss : List K) → ((s : K) → q s ≡ true → p s ≡ true) → count_passing q ss ≤ count_passing p ss
 count_le p q [] f = omega arith

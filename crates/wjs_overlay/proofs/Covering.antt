@@ -1,14 +1,14 @@
 -- What bounds cover.
-use Rattle.std.proofs.Common.{◌≡◌, ℕ, ◌+◌, ◌-◌, ◌<◌, ◌≤◌, Bool, true, false, ◌&&◌, ◌||◌, nat_le, List, [], ◌∷◌, ◌++◌, length, take, get_or, Some, None, slice_get, suc, zero, refl, ap, sym, ◌∙◌, arith}
+use Rattle.std.proofs.Common.{◌≡◌, ℕ, ◌+◌, ◌-◌, ◌<◌, ◌≤◌, true, false, ◌&&◌, ◌||◌, nat_le, List, [], ◌∷◌, ◌++◌, length, take, get_or, Some, None, slice_get, suc, zero, refl, ap, sym, ◌∙◌, arith}
 use Rattle.std.proofs.lemmas.Bool.{and_parts, false≢true, or_right}
 use Rattle.std.proofs.lemmas.Bool.Decides.{nat_tests}
 use Rattle.std.specs.List.Sorted.{IsNonDecreasingBy}
+use Rattle.wjs_base.proofs.Booleans.{by_bool}
 use Rattle.wjs_store.proofs.Marks.{or_case}
 use Rattle.wjs_store.proofs.Parents.{slice_get_at}
-use Rattle.wjs_store.proofs.Writes.{by_bool}
 use Rattle.wjs_overlay.specs.declared.bounds.Bound.{Bound}
 use Rattle.wjs_overlay.specs.Covers.{covers, IsRising, IsCount, Grows}
-use Rattle.wjs_overlay.proofs.Places.{some_is, no_none}
+use Rattle.wjs_layers.proofs.Places.{some_is, no_none}
 
 -- ---- tests
 

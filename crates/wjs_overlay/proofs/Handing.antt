@@ -1,27 +1,28 @@
 -- A commit hands up what was touched, and bounds that cover it there go on covering.
-use Rattle.std.proofs.Common.{◌≡◌, ℕ, ◌<◌, Bool, true, false, cond, not, ◌&&◌, ◌||◌, List, Option, None, Some, is_some, refl, ap, sym, ◌∙◌, subst, arith}
+use Rattle.std.proofs.Common.{◌≡◌, ℕ, ◌<◌, Bool, true, false, cond, not, ◌&&◌, ◌||◌, List, Option, Some, is_some, refl, ap, sym, ◌∙◌, subst, arith}
 use Rattle.std.specs.Option.{option_map, option_map_or, option_and_then}
 use Rattle.std.specs.FinMap as map
-use Rattle.std.proofs.lemmas.Bool.{true≢false, false≢true}
+use Rattle.std.proofs.lemmas.Bool.{true≢false, or_parts}
 use Rattle.wjs_base.specs.declared.ids.WorldId.{WorldId}
 use Rattle.wjs_base.specs.declared.values.Slot.{Slot}
+use Rattle.wjs_base.proofs.Booleans.{by_bool}
 use Rattle.wjs_store.specs.Marked.{recorded_at, is_written, is_listed, is_strict}
 use Rattle.wjs_store.specs.MarksMoved.{MarksMoved, hands_read}
 use Rattle.wjs_store.specs.Meaning.{unseen}
 use Rattle.wjs_store.specs.Naming.{plain}
 use Rattle.wjs_store.specs.Reached.{IsReached}
-use Rattle.wjs_store.specs.State.{World, State, find_world, parent_of, same_world, content_at, is_touched, with_parent, fault_in, after_commit, verdict_at, moved}
+use Rattle.wjs_store.specs.State.{World, State, find_world, parent_of, same_world, content_at, is_touched, with_parent, fault_in, after_commit}
 use Rattle.wjs_store.proofs.MarksLaw.{marks_moved}
 use Rattle.wjs_store.proofs.Moved.{pass}
 use Rattle.wjs_store.proofs.Parents.{commit_alone, commit_fault, commit_moves}
-use Rattle.wjs_store.proofs.Writes.{by_bool, or_false, world_is}
+use Rattle.wjs_store.proofs.Writes.{world_is}
 use Rattle.wjs_overlay.specs.declared.bounds.Bound.{Bound}
 use Rattle.wjs_overlay.specs.Covers.{covers, Grows}
-use Rattle.wjs_overlay.specs.Sparse.{place_of}
+use Rattle.wjs_layers.specs.Sparse.{place_of}
 use Rattle.wjs_overlay.specs.Touched.{Covered}
-use Rattle.wjs_overlay.proofs.Full.{by_option}
-use Rattle.wjs_overlay.proofs.Looks.{found_at}
-use Rattle.wjs_overlay.proofs.Places.{some_is}
+use Rattle.wjs_layers.proofs.Full.{by_option}
+use Rattle.wjs_layers.proofs.Looks.{found_at}
+use Rattle.wjs_layers.proofs.Places.{some_is}
 use Rattle.wjs_overlay.proofs.StoreLaws.{place_ids, ids_commit}
 use Rattle.wjs_overlay.proofs.Touching.{covered_more}
 
@@ -52,10 +53,10 @@ module _ (F : State plain) (w p : WorldId) (G : State plain) (m : MarksMoved F w
   -- and its parent nothing that neither had touched
   handed_none : touched_at F p s ≡ false → touched_at F w s ≡ false → touched_at G p s ≡ false
   handed_none above below =
-      let a = or_false (is_some (recorded_at F p s) || is_written F p s) (is_listed F p s.object) above in
-      let b = or_false (is_some (recorded_at F p s)) (is_written F p s) a.0 in
-      let c = or_false (is_some (recorded_at F w s) || is_written F w s) (is_listed F w s.object) below in
-      let d = or_false (is_some (recorded_at F w s)) (is_written F w s) c.0 in
+      let a = or_parts (is_some (recorded_at F p s) || is_written F p s) (is_listed F p s.object) above in
+      let b = or_parts (is_some (recorded_at F p s)) (is_written F p s) a.0 in
+      let c = or_parts (is_some (recorded_at F w s) || is_written F w s) (is_listed F w s.object) below in
+      let d = or_parts (is_some (recorded_at F w s)) (is_written F w s) c.0 in
       let hands : hands_read F w p s ≡ false =
       ap (λ r. (r && not (is_listed F p s.object)) || (is_written F w s && (is_listed F p s.object || is_strict F p))) d.0
       ∙ ap (λ r. r && (is_listed F p s.object || is_strict F p)) d.1 in

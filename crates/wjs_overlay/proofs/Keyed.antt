@@ -9,13 +9,13 @@ use Rattle.std.specs.FinMap as map
 use Rattle.std.specs.FinMap.{FinMap, IsAntisymmetric}
 use Rattle.std.specs.Map.{lookup_entry}
 use Rattle.std.proofs.lemmas.Bool.{true≢false, false≢true}
+use Rattle.wjs_base.proofs.Booleans.{by_bool}
 use Rattle.wjs_rows.specs.Order.{is_after}
-use Rattle.wjs_store.proofs.Writes.{by_bool}
-use Rattle.wjs_overlay.specs.Cursor.{is_prior, count_passing}
-use Rattle.wjs_overlay.proofs.Places.{some_is, no_none}
-use Rattle.wjs_overlay.proofs.Full.{by_option}
+use Rattle.wjs_layers.specs.Cursor.{is_prior, count_passing}
+use Rattle.wjs_layers.proofs.Places.{some_is, no_none}
+use Rattle.wjs_layers.proofs.Full.{by_option}
 use Rattle.wjs_overlay.proofs.Counts.{count_lt}
-use Rattle.wjs_overlay.proofs.Cursors.{first_is, not_self, lt_trans}
+use Rattle.wjs_layers.proofs.Cursors.{first_is, not_self, lt_trans}
 
 -- the key of an entry
 abbrev pub key_of : {K V : Type 0} → Option (K × V) → Option K

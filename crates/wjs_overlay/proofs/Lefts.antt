@@ -1,6 +1,5 @@
 -- What a walk has still to do.
-use Rattle.std.proofs.Common.{◌≡◌, ℕ, ◌+◌, ◌*◌, ◌≤◌, Bool, true, false, not, ◌&&◌, List, [], ◌∷◌, Option, None, Some, is_some, length, slice_get, map as each, refl, ap, sym, ◌∙◌, arith, suc}
-use Rattle.std.specs.Option.{option_map}
+use Rattle.std.proofs.Common.{◌≡◌, ℕ, ◌+◌, ◌*◌, ◌≤◌, Bool, true, false, not, ◌&&◌, Option, None, Some, length, refl, ap, sym, ◌∙◌, arith}
 use Rattle.std.specs.Ordering.{is_lt}
 use Rattle.std.specs.FinMap as map
 use Rattle.std.proofs.lemmas.Bool.{true≢false, false≢true, and_parts}
@@ -9,19 +8,16 @@ use Rattle.wjs_base.specs.declared.ids.WorldId.{WorldId}
 use Rattle.wjs_base.specs.declared.values.Slot.{Slot}
 use Rattle.wjs_base.specs.Order.{obj_cmp, obj_total, obj_exact}
 use Rattle.wjs_base.specs.Same.{object_Decides}
+use Rattle.wjs_base.proofs.Booleans.{by_bool}
 use Rattle.wjs_rows.specs.Order.{is_after}
 use Rattle.wjs_store.specs.Naming.{plain}
-use Rattle.wjs_store.specs.State.{World, State, KeySet, find_world, same_object}
-use Rattle.wjs_store.proofs.Writes.{by_bool}
+use Rattle.wjs_store.specs.State.{State, KeySet, same_object}
 use Rattle.wjs_overlay.specs.Check.{object_before}
-use Rattle.wjs_overlay.specs.Cursor.{comes_on, count_passing}
-use Rattle.wjs_overlay.specs.Work.{row_slots, kept_from}
-use Rattle.wjs_overlay.specs.declared.layer.Spot.{Spot}
-use Rattle.wjs_overlay.specs.declared.layer.Layer.{Layer}
-use Rattle.wjs_overlay.specs.Sparse.{full_of, Keeps, IsSparse, IsAt}
-use Rattle.wjs_overlay.proofs.Cursors.{not_self}
+use Rattle.wjs_layers.specs.Cursor.{comes_on, count_passing}
+use Rattle.wjs_layers.specs.Work.{kept_from}
+use Rattle.wjs_layers.proofs.Cursors.{not_self}
 use Rattle.wjs_overlay.proofs.Keyed.{Found, key_of, prior_next, self_prior, fewer}
-use Rattle.wjs_overlay.proofs.Works.{kept_two, times_le, count_most, rows_many, length_keys}
+use Rattle.wjs_layers.proofs.Works.{kept_two, times_le, count_most}
 
 -- the slots of listed objects that are still to come
 abbrev pub comes_closed : KeySet obj_cmp → Option ObjId → Slot → Bool
@@ -84,32 +80,3 @@ module _ (closed : KeySet obj_cmp) (o : ObjId) (there : map.contains_key closed 
       let a = times_le j _ _ objects_less in
       let b = times_le k _ _ (slots_less F w) in
       omega (arith, a, b)
-
-pub length_closed : (m : KeySet obj_cmp) → length (map.keys m) ≡ map.len m
-length_closed m = length_each (λ e. e.0) (map.entries m) ∙ sym (map.len-entries m)
-  where
-    length_each : {A B : Type 0} (f : A → B) (xs : List A) → length (each f xs) ≡ length xs
-    length_each f [] = refl
-    length_each f (x ∷ xs) = ap suc (length_each f xs)
-
-module _ (layers : List Layer) (h : IsSparse layers) (at : Spot) (here : IsAt layers at) (r : Layer) (s : slice_get layers at.place ≡ Some r) (x : World plain) (f : find_world (full_of layers) at.world ≡ Some x) where
-  kept_x : Keeps r x
-  kept_x = h.kept.at at.world at.place x r here f s
-
-  -- the layer's listed objects are the world's
-  pub closed_work : (w : WorldId) (j k : ℕ) → length (map.keys r.closed) * j + kept_from (λ (t : Slot). map.contains_key r.closed t.object) (full_of layers) w * k ≡ map.len x.closed * j + kept_from (λ (t : Slot). map.contains_key x.closed t.object) (full_of layers) w * k
-  closed_work w j k =
-      ap (λ n. n * j + kept_from (λ (t : Slot). map.contains_key r.closed t.object) (full_of layers) w * k) (length_closed r.closed)
-      ∙ ap (λ m. map.len m * j + kept_from (λ (t : Slot). map.contains_key m t.object) (full_of layers) w * k) (sym kept_x.closed)
-
-  pub rows_work : (k : ℕ) → is_some x.parent ≡ true → length (map.keys r.rows) * k ≤ length (row_slots x) * k
-  rows_work k p = times_le k _ _ (rows_many r x kept_x p)
-
-  pub rows_least : is_some x.parent ≡ true → length (map.entries r.rows) ≤ length (row_slots x)
-  rows_least p = let a = rows_many r x kept_x p in let b = length_keys r.rows in omega (arith, a, b)
-
-  pub rows_under : (a : Spot) → r.above ≡ Some a → length (map.entries r.rows) ≤ length (row_slots x)
-  rows_under a u = rows_least (ap is_some (kept_x.parent ∙ ap (option_map (λ (b : Spot). b.world)) u))
-
-  pub closed_many : length (map.keys r.closed) ≡ map.len x.closed
-  closed_many = length_closed r.closed ∙ ap (λ m. map.len m) (sym kept_x.closed)

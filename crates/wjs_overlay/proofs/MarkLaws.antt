@@ -10,13 +10,13 @@ use Rattle.wjs_store.specs.Naming.{plain}
 use Rattle.wjs_store.specs.State.{World}
 use Rattle.wjs_store.specs.Shown.{content_of, counts_of, Counts}
 use Rattle.wjs_store.specs.declared.store.Counts.{Counts as Numbers}
-use Rattle.wjs_overlay.specs.declared.maps.Row.{Row}
-use Rattle.wjs_overlay.specs.declared.layer.Spot.{Spot}
-use Rattle.wjs_overlay.specs.declared.layer.Layer.{Layer}
-use Rattle.wjs_overlay.specs.Marks.{reads_in, writes_in}
-use Rattle.wjs_overlay.specs.Sparse.{read_of, mark_of, full_of, Keeps, IsSparse, IsAt}
-use Rattle.wjs_overlay.proofs.Looks.{world_at, keeps_at}
-use Rattle.wjs_overlay.proofs.SettleLaws.{entry_is, mark_keys, row_there}
+use Rattle.wjs_layers.specs.declared.maps.Row.{Row}
+use Rattle.wjs_layers.specs.declared.layer.Spot.{Spot}
+use Rattle.wjs_layers.specs.declared.layer.Layer.{Layer}
+use Rattle.wjs_layers.specs.Marks.{reads_in, writes_in}
+use Rattle.wjs_layers.specs.Sparse.{read_of, mark_of, full_of, Keeps, IsSparse, IsAt}
+use Rattle.wjs_layers.proofs.Looks.{world_at, keeps_at}
+use Rattle.wjs_layers.proofs.SettleLaws.{entry_is, mark_keys, row_there}
 
 pub not_none : {A : Type 0} (o : Option A) → is_none o ≡ false → is_some o ≡ true
 not_none None e = absurd (true≢false e)

@@ -1,26 +1,26 @@
 -- What the layer of a world keeps of an object that is past what the bounds cover.
-use Rattle.std.proofs.Common.{◌≡◌, ℕ, ◌<◌, true, false, List, [], ◌∷◌, length, None, Some, is_some, slice_get, refl, ap, sym, ◌∙◌, arith}
+use Rattle.std.proofs.Common.{◌≡◌, ℕ, ◌<◌, true, false, List, [], ◌∷◌, length, None, Some, is_some, slice_get, ap, sym, ◌∙◌, arith}
 use Rattle.std.specs.Option.{option_map}
 use Rattle.std.specs.FinMap as map
-use Rattle.std.proofs.lemmas.Bool.{true≢false}
+use Rattle.std.proofs.lemmas.Bool.{true≢false, or_parts}
 use Rattle.wjs_base.specs.declared.values.Slot.{Slot}
 use Rattle.wjs_base.specs.declared.ids.WorldId.{WorldId}
+use Rattle.wjs_base.proofs.Booleans.{by_bool}
+use Rattle.wjs_base.proofs.Options.{with_some}
 use Rattle.wjs_store.specs.Naming.{plain}
 use Rattle.wjs_store.specs.Reached.{IsReached}
 use Rattle.wjs_store.specs.State.{World, State, find_world, same_world, is_touched}
 use Rattle.wjs_store.specs.Fixed.{begun}
-use Rattle.wjs_store.proofs.Commits.{with_some}
-use Rattle.wjs_store.proofs.Writes.{by_bool, or_false}
 use Rattle.wjs_overlay.specs.declared.bounds.Bound.{Bound}
-use Rattle.wjs_overlay.specs.declared.layer.Layer.{Layer}
-use Rattle.wjs_overlay.specs.declared.layer.Spot.{Spot}
+use Rattle.wjs_layers.specs.declared.layer.Layer.{Layer}
+use Rattle.wjs_layers.specs.declared.layer.Spot.{Spot}
 use Rattle.wjs_overlay.specs.Covers.{covers}
-use Rattle.wjs_overlay.specs.Look.{IsUntouched}
-use Rattle.wjs_overlay.specs.Sparse.{full_of, place_of, IsSparse, IsAt}
+use Rattle.wjs_layers.specs.Look.{IsUntouched}
+use Rattle.wjs_layers.specs.Sparse.{full_of, place_of, IsSparse, IsAt}
 use Rattle.wjs_overlay.specs.Touched.{Covered, IsCovered}
-use Rattle.wjs_overlay.proofs.Full.{by_option, closed_same, row_some}
-use Rattle.wjs_overlay.proofs.Looks.{above_at, world_at, keeps_at}
-use Rattle.wjs_overlay.proofs.Places.{some_is, no_none, place_none, place_head, place_tail, place_below, find_top, find_rest}
+use Rattle.wjs_layers.proofs.Full.{by_option, closed_same, row_some}
+use Rattle.wjs_layers.proofs.Looks.{above_at, world_at, keeps_at}
+use Rattle.wjs_layers.proofs.Places.{some_is, no_none, place_none, place_head, place_tail, place_below, find_top, find_rest}
 use Rattle.wjs_overlay.proofs.StoreLaws.{first_layer, first_stand}
 
 -- a world at a later place than the first has a parent
@@ -39,7 +39,7 @@ untouched_past bs layers h k at here l r s q past =
     let x = world_at layers h at here r s in
     let kr = keeps_at layers h at here r s in
     let bare : is_touched x.0 q ≡ false = by_bool (is_touched x.0 q) (λ t. absurd (true≢false (sym (k at.world at.place x.0 q here x.1 l t) ∙ past))) (λ t. t) in
-    let parts = or_false _ _ bare in
+    let parts = or_parts _ _ bare in
     let up : is_some r.above ≡ true = by_option r.above
     (λ u. absurd (has_parent (full_of layers) at.world at.place x.0 h.reached here x.1 l (kr.parent ∙ ap (option_map (λ (a : Spot). a.world)) u)))
     (λ a u. ap is_some u) in

@@ -1,21 +1,21 @@
 -- A look at a slot that leaves the store as it is.
-use Rattle.std.proofs.Common.{◌≡◌, Bool, false, not, List, ap, ◌∙◌, Option, None, Some, Ok, IfSome, IsTrue, slice_get}
+use Rattle.std.proofs.Common.{◌≡◌, Bool, false, List, ap, ◌∙◌, Option, None, Some, Ok, IfSome, slice_get}
 use Rattle.std.specs.Option.{option_map, option_and_then}
 use Rattle.std.specs.FinMap as map
 use Rattle.wjs_base.specs.declared.ids.WorldId.{WorldId}
 use Rattle.wjs_base.specs.declared.values.Content.{Content}
 use Rattle.wjs_base.specs.declared.values.Slot.{Slot}
 use Rattle.wjs_store.specs.State.{content_at, read, found, after_read}
-use Rattle.wjs_store.specs.Meaning.{Meaning, Answers}
+use Rattle.wjs_store.specs.Meaning.{Answers}
 use Rattle.wjs_store.specs.Fixed.{fixed}
 use Rattle.wjs_store.specs.Shown.{content_of}
-use Rattle.wjs_overlay.specs.declared.maps.Row.{Row}
-use Rattle.wjs_overlay.specs.declared.layer.Spot.{Spot}
-use Rattle.wjs_overlay.specs.declared.layer.Layer.{Layer}
-use Rattle.wjs_overlay.specs.Sparse.{now_of, full_of, IsSparse, IsAt, StandFor}
+use Rattle.wjs_layers.specs.declared.maps.Row.{Row}
+use Rattle.wjs_layers.specs.declared.layer.Spot.{Spot}
+use Rattle.wjs_layers.specs.declared.layer.Layer.{Layer}
+use Rattle.wjs_layers.specs.Sparse.{now_of, full_of, IsSparse, IsAt, StandFor}
 use Rattle.wjs_overlay.specs.Store.{worlds_of}
-use Rattle.wjs_overlay.proofs.Looks.{content_kept, content_now}
-use Rattle.wjs_overlay.proofs.ReadLaws.{read_first, read_now}
+use Rattle.wjs_layers.proofs.Looks.{content_kept, content_now}
+use Rattle.wjs_layers.proofs.ReadLaws.{read_first, read_now}
 use Rattle.wjs_overlay.proofs.StoreLaws.{answers_same}
 
 module _ (spent : Bool) (live : spent ≡ false) (layers : List Layer) (h : IsSparse layers) (at : Spot) (here : IsAt layers at) (r : Layer) (s : slice_get layers at.place ≡ Some r) (w : WorldId) (is : at.world ≡ w) (q : Slot) where

@@ -15,13 +15,14 @@ use Rattle.wjs_store.specs.Naming.{plain}
 use Rattle.wjs_store.specs.State.{World, State, find_world, has_world, same_world, count_of, at_world, write_all, settle, moves, reads_of, hand_entries, hand_objects, clear_marks, with_parent, fault_in, after_read, after_write, after_list, after_commit, write_at, read_in, list_in}
 use Rattle.wjs_store.specs.Reached.{IsReached}
 use Rattle.wjs_store.proofs.Marks.{key_is, marks_read, marks_list, marks_at}
-use Rattle.wjs_store.proofs.Writes.{by_bool, by_one, same_self, world_is, write_id, entries_id, objects_id}
-use Rattle.wjs_overlay.specs.declared.layer.Layer.{Layer}
-use Rattle.wjs_overlay.specs.Sparse.{place_of, full_of, IsSparse, AreKept, StandFor}
+use Rattle.wjs_store.proofs.Writes.{by_one, same_self, world_is, write_id, entries_id, objects_id}
+use Rattle.wjs_layers.specs.declared.layer.Layer.{Layer}
+use Rattle.wjs_layers.specs.Sparse.{place_of, full_of, AreKept, StandFor}
 use Rattle.wjs_overlay.specs.Store.{IsStore}
 use Rattle.std.specs.Option.{IsSome}
 use Rattle.std.proofs.Common.{IsTrue, slice_get, ◌&&◌}
 use Rattle.wjs_base.specs.Order.{slot_cmp, obj_cmp}
+use Rattle.wjs_base.proofs.Booleans.{by_bool}
 use Rattle.wjs_store.specs.State.{parent_of, child_of, next_id, after_sprout, answer_to, after}
 use Rattle.wjs_store.specs.Meaning.{PlainAct, PlainReply, Does}
 use Rattle.wjs_store.specs.Fixed.{fixed, begun, fresh}
@@ -29,15 +30,15 @@ use Rattle.wjs_store.specs.Shown.{first_of, counts_of, Counts}
 use Rattle.wjs_store.proofs.FixedStore.{answers_full}
 use Rattle.wjs_store.proofs.Commits.{reached_begun}
 use Rattle.wjs_store.proofs.Writes.{found_id}
-use Rattle.wjs_overlay.specs.declared.layer.Spot.{Spot}
-use Rattle.wjs_overlay.specs.Sparse.{Keeps, IsAt, read_of, mark_of}
+use Rattle.wjs_layers.specs.declared.layer.Spot.{Spot}
+use Rattle.wjs_layers.specs.Sparse.{Keeps, IsAt, read_of, mark_of}
 use Rattle.wjs_overlay.specs.Store.{worlds_of, first_id}
-use Rattle.wjs_overlay.proofs.Places.{some_is, no_none, place_none, place_head, place_older}
-use Rattle.wjs_overlay.proofs.Changes.{kept_push}
-use Rattle.wjs_overlay.proofs.Looks.{found_at, world_at, keeps_at}
-use Rattle.wjs_overlay.proofs.Puts.{stand_by}
-use Rattle.wjs_overlay.proofs.SproutLaws.{sprout_is}
-use Rattle.wjs_overlay.proofs.ListLaws.{at_id}
+use Rattle.wjs_layers.proofs.Places.{some_is, no_none, place_none, place_head, place_older}
+use Rattle.wjs_layers.proofs.Changes.{kept_push}
+use Rattle.wjs_layers.proofs.Looks.{found_at}
+use Rattle.wjs_layers.proofs.Puts.{stand_by}
+use Rattle.wjs_layers.proofs.SproutLaws.{sprout_is}
+use Rattle.wjs_layers.proofs.ListLaws.{at_id}
 
 -- ---- numbers
 
@@ -223,9 +224,6 @@ first_placed layers places owners r k s =
     let l : 0 < length (full_of layers) = omega (arith, k.some, k.sparse.kept.many) in
     let f = first_any (full_of layers) k.sparse.reached l in
     subst (λ i. place_of (full_of layers) i ≡ Some 0) (some_is f.0 r.id (sym f.1 ∙ first_at layers places owners r k s)) f.2
-
-pub parent_at : (layers : List Layer) (h : IsSparse layers) (at : Spot) (here : IsAt layers at) (r : Layer) (s : slice_get layers at.place ≡ Some r) → parent_of (full_of layers) at.world ≡ option_map (λ (a : Spot). a.world) r.above
-parent_at layers h at here r s = let x = world_at layers h at here r s in ap (option_and_then (λ (z : World plain). z.parent)) x.1 ∙ (keeps_at layers h at here r s).parent
 
 -- ---- a spent store
 

@@ -1,6 +1,6 @@
 -- What worlds touch, and that bounds go on covering it.
-use Rattle.std.proofs.Common.{◌≡◌, ℕ, ◌<◌, ◌≤◌, ◌+◌, Bool, true, false, cond, not, ◌&&◌, ◌||◌, List, [], ◌∷◌, length, filter, map as each, Option, None, Some, is_some, slice_get, refl, ap, sym, ◌∙◌, subst, arith}
-use Rattle.std.specs.Option.{option_map, option_map_or, option_and_then}
+use Rattle.std.proofs.Common.{◌≡◌, ℕ, ◌<◌, ◌≤◌, ◌+◌, Bool, true, false, cond, not, ◌&&◌, ◌||◌, List, [], ◌∷◌, length, filter, map as each, Option, None, Some, is_some, refl, ap, sym, ◌∙◌, subst, arith}
+use Rattle.std.specs.Option.{option_map_or, option_and_then}
 use Rattle.std.specs.Ordering.{eq_by_cmp}
 use Rattle.std.specs.List.{list_any}
 use Rattle.std.specs.FinMap as map
@@ -12,22 +12,24 @@ use Rattle.wjs_base.specs.declared.values.Slot.{Slot}
 use Rattle.wjs_base.specs.declared.values.Value.{Value}
 use Rattle.wjs_base.specs.Order.{obj_cmp, obj_total, obj_exact, slot_cmp, slot_total, slot_exact}
 use Rattle.wjs_base.specs.Same.{object_Decides}
+use Rattle.wjs_base.proofs.Booleans.{by_bool}
+use Rattle.wjs_base.proofs.Options.{with_some}
 use Rattle.wjs_store.specs.Naming.{plain}
-use Rattle.wjs_store.specs.State.{World, State, find_world, has_world, same_world, same_object, content_at, has_row, is_touched, is_below, put, read_in, read_all, write_in, write_at, close_in, list_in, slots_in, child_of, next_id, after_read, after_write, after_list, after_sprout}
+use Rattle.wjs_store.specs.State.{World, State, find_world, same_world, same_object, content_at, has_row, is_touched, is_below, put, read_in, read_all, write_in, write_at, list_in, slots_in, child_of, next_id, after_read, after_write, after_list, after_sprout}
 use Rattle.wjs_store.specs.Reached.{IsReached}
-use Rattle.wjs_store.proofs.Commits.{find_nil, with_some}
+use Rattle.wjs_store.proofs.Commits.{find_nil}
 use Rattle.wjs_store.proofs.Marks.{contains_insert, key_is, or_case, marks_read, marks_list, marks_at}
 use Rattle.wjs_store.proofs.States.{find_each}
-use Rattle.wjs_store.proofs.Writes.{by_bool, by_one, by_two, found_id, not_older, same_self, world_is, write_id}
+use Rattle.wjs_store.proofs.Writes.{by_one, found_id, world_is, write_id}
 use Rattle.wjs_overlay.specs.declared.bounds.Bound.{Bound}
 use Rattle.wjs_overlay.specs.Covers.{covers, Grows}
-use Rattle.wjs_overlay.specs.Sparse.{place_of, depth_of}
+use Rattle.wjs_layers.specs.Sparse.{place_of, depth_of}
 use Rattle.wjs_overlay.specs.Touched.{Covered}
-use Rattle.wjs_overlay.proofs.Changes.{mapped}
+use Rattle.wjs_layers.proofs.Changes.{mapped}
 use Rattle.wjs_overlay.proofs.Covering.{covers_later, by_le}
-use Rattle.wjs_overlay.proofs.Looks.{depth_top, depth_rest, found_at}
-use Rattle.wjs_overlay.proofs.Places.{some_is, no_none, place_none, place_head, place_tail, place_older, place_below, place_one, place_each, place_find, find_top, find_rest, find_older}
-use Rattle.wjs_overlay.proofs.SproutLaws.{sprout_is}
+use Rattle.wjs_layers.proofs.Looks.{depth_top, depth_rest, found_at}
+use Rattle.wjs_layers.proofs.Places.{some_is, no_none, place_none, place_head, place_tail, place_older, place_below, place_one, place_each, place_find, find_top, find_rest, find_older}
+use Rattle.wjs_layers.proofs.SproutLaws.{sprout_is}
 
 -- ---- marks at other slots and of other objects
 

@@ -6,22 +6,22 @@ use Rattle.std.specs.FinMap.{FinMap}
 use Rattle.std.proofs.lemmas.Bool.{true≢false, false≢true}
 use Rattle.wjs_base.specs.declared.values.Slot.{Slot}
 use Rattle.wjs_base.specs.Order.{slot_cmp, slot_total, slot_exact}
+use Rattle.wjs_base.proofs.Booleans.{by_bool}
 use Rattle.wjs_store.specs.Naming.{plain}
 use Rattle.wjs_store.specs.State.{World}
-use Rattle.wjs_store.proofs.Writes.{by_bool}
-use Rattle.wjs_overlay.specs.declared.maps.Row.{Row}
-use Rattle.wjs_overlay.specs.declared.layer.Spot.{Spot}
-use Rattle.wjs_overlay.specs.declared.layer.Layer.{Layer}
+use Rattle.wjs_layers.specs.declared.maps.Row.{Row}
+use Rattle.wjs_layers.specs.declared.layer.Spot.{Spot}
+use Rattle.wjs_layers.specs.declared.layer.Layer.{Layer}
 use Rattle.wjs_overlay.specs.Check.{IsLeast}
-use Rattle.wjs_overlay.specs.Cursor.{is_before, to_come, count_passing}
-use Rattle.wjs_overlay.specs.Marks.{is_written, has_written}
-use Rattle.wjs_overlay.specs.Sparse.{mark_of, full_of, IsSparse, IsAt}
-use Rattle.wjs_overlay.proofs.Places.{some_is, no_none}
+use Rattle.wjs_layers.specs.Cursor.{is_before, to_come, count_passing}
+use Rattle.wjs_layers.specs.Marks.{is_written, has_written}
+use Rattle.wjs_layers.specs.Sparse.{mark_of, full_of, IsSparse, IsAt}
+use Rattle.wjs_layers.proofs.Places.{some_is, no_none}
 use Rattle.wjs_overlay.proofs.Counts.{count_lt}
-use Rattle.wjs_overlay.proofs.Cursors.{not_self}
+use Rattle.wjs_layers.proofs.Cursors.{not_self}
 use Rattle.wjs_overlay.proofs.Keyed.{Found, key_of, by_order}
-use Rattle.wjs_overlay.proofs.Looks.{world_at, keeps_at}
-use Rattle.wjs_overlay.proofs.Scans.{to_come_on}
+use Rattle.wjs_layers.proofs.Looks.{world_at, keeps_at}
+use Rattle.wjs_layers.proofs.Scans.{to_come_on}
 
 and_no : (b : Bool) → (b && false) ≡ false
 and_no true = refl

@@ -8,7 +8,7 @@ use Rattle.wjs_base.specs.Order.{obj_cmp}
 use Rattle.wjs_base.specs.Same.{same_value}
 use Rattle.wjs_store.specs.Naming.{plain}
 use Rattle.wjs_store.specs.State.{World, has_row, same_content}
-use Rattle.wjs_overlay.specs.Cursor.{is_before, is_prior}
+use Rattle.wjs_layers.specs.Cursor.{is_before, is_prior}
 
 -- the slot passes, and no slot before it does; none where no slot passes
 pub record IsLeast (p : Slot → Bool) (least : Option Slot) : Type 0 where

@@ -5,7 +5,7 @@ use Rattle.std.specs.FinMap.{FinMap}
 use Rattle.wjs_base.specs.Order.{world_cmp}
 use Rattle.wjs_store.specs.Meaning.{IsSound}
 use Rattle.wjs_store.specs.Fixed.{fixed}
-use Rattle.wjs_overlay.specs.declared.layer.Layer.{Layer}
+use Rattle.wjs_layers.specs.declared.layer.Layer.{Layer}
 use Rattle.wjs_overlay.specs.Store.{IsStore, worlds_of}
 
 pub sound_store : (spent : Bool) (layers : List Layer) (places : FinMap world_cmp ℕ) (owners : FinMap nat_cmp ℕ) → (spent ≡ false → IsStore layers places owners) → IsTrue (not spent) → IsSound (fixed (worlds_of spent layers) spent)

@@ -17,9 +17,9 @@ use Rattle.wjs_store.specs.Naming.{plain}
 use Rattle.wjs_store.specs.State.{World, State, KeySet, with_parent, fault_in, count_of}
 use Rattle.wjs_store.specs.Fixed.{fresh}
 use Rattle.wjs_store.specs.Kept.{IsReached-prop}
-use Rattle.wjs_overlay.specs.declared.layer.Layer.{Layer}
-use Rattle.wjs_overlay.specs.Codes.{coded_world, coded_object}
-use Rattle.wjs_overlay.specs.Sparse.{full_of, place_of, Keeps, AreKept, IsSparse}
+use Rattle.wjs_layers.specs.declared.layer.Layer.{Layer}
+use Rattle.wjs_base.specs.Codes.{coded_world, coded_object}
+use Rattle.wjs_layers.specs.Sparse.{full_of, place_of, Keeps, AreKept, IsSparse}
 
 -- the number of the first world
 abbrev pub first_id : WorldId

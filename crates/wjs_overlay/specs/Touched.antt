@@ -6,9 +6,9 @@ use Rattle.wjs_base.specs.declared.values.Slot.{Slot}
 use Rattle.wjs_store.specs.Naming.{plain}
 use Rattle.wjs_store.specs.State.{World, State, find_world, is_touched}
 use Rattle.wjs_overlay.specs.declared.bounds.Bound.{Bound}
-use Rattle.wjs_overlay.specs.declared.layer.Layer.{Layer}
+use Rattle.wjs_layers.specs.declared.layer.Layer.{Layer}
 use Rattle.wjs_overlay.specs.Covers.{covers, IsRising}
-use Rattle.wjs_overlay.specs.Sparse.{full_of, place_of}
+use Rattle.wjs_layers.specs.Sparse.{full_of, place_of}
 
 -- each slot that was read, written or listed in a world but the first is one of an object that the bounds cover there
 abbrev pub Covered : List Bound → State plain → Type 0

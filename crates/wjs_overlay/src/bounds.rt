@@ -72,10 +72,8 @@ fn put(bounds: &mut Vec<Bound>, place: usize, serial: u64) -> Result<(), OutOfMe
     let serial = greater(list, serial);
     let count = count_to(list, place - 1);
     bounds.truncate(count);
-    match bounds.push(Bound { place, serial }) {
-        Ok(()) => Ok(()),
-        Err(_) => Err(OutOfMemory),
-    }
+    bounds.push(Bound { place, serial })?;
+    Ok(())
 }
 
 /// Lets the world at a place touch an object with this serial number. The first world's place needs no bound.

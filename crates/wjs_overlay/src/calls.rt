@@ -1,22 +1,21 @@
 //! The calls of the store on its layers.
 ghost use Rattle.std.specs.Prelude.{◌≡◌, ◌+◌, ◌*◌, ◌≤◌, true, false, OnOk, IfOk, IfSome, is_some, length, slice_get};
-ghost use Rattle.wjs_overlay.specs.Reset.{has_child, after_reset};
-ghost use Rattle.wjs_overlay.specs.declared.layer.Layer.{Layer};
-ghost use Rattle.wjs_overlay.specs.Look.{IsUntouched};
-ghost use Rattle.wjs_store.specs.State.{parent_of, content_at, slots_at, next_id, verdict_at, after_read, after_write, after_list, after_sprout, after_commit};
+ghost use Rattle.wjs_layers.specs.Reset.{has_child, after_reset};
+ghost use Rattle.wjs_layers.specs.declared.layer.Layer.{Layer};
+ghost use Rattle.wjs_layers.specs.Look.{IsUntouched};
+ghost use Rattle.wjs_store.specs.State.{parent_of, content_at, slots_at, verdict_at, after_read, after_write, after_list, after_commit};
 ghost use Rattle.wjs_store.specs.Shown.{content_of, slots_of, verdict_of};
-ghost use Rattle.wjs_overlay.specs.Sparse.{IsSparse, IsAt, StandFor, full_of, depth_of};
+ghost use Rattle.wjs_layers.specs.Sparse.{IsSparse, IsAt, StandFor, full_of, depth_of};
 ghost use Rattle.wjs_base.specs.declared.values.Slot.{Slot};
 ghost use Rattle.std.specs.Prelude.{map as each, ◌<◌};
 ghost use Rattle.wjs_overlay.specs.Store.{check_of};
-ghost use Rattle.wjs_overlay.specs.Work.{rows_of, closed_of, rows_above};
+ghost use Rattle.wjs_layers.specs.Work.{rows_of, closed_of, rows_above};
 
 use crate::check::fault;
-use crate::layer::{Layer, Spot};
-use crate::layers;
 use std::alloc::Global;
 use std::sync::ledger::{Blank, Ledger};
 use wjs_base::{Content, Names, ObjId, OutOfMemory, Slot};
+use wjs_layers::{Layer, Spot, layers};
 use wjs_rows::Steps;
 use wjs_store::Verdict;
 

@@ -1,36 +1,24 @@
 //! The check of a world against its parent.
-ghost use Rattle.std.specs.Prelude.{◌≡◌, ◌+◌, ◌*◌, ◌&&◌, ◌<◌, ◌≤◌, not, true, false, length, Some, None, is_some, slice_get};
+ghost use Rattle.std.specs.Prelude.{◌≡◌, ◌+◌, ◌*◌, ◌&&◌, ◌<◌, ◌≤◌, not, true, false, length, Some, None, is_some};
 ghost use Rattle.std.specs.Option.{option_map_or};
 ghost use Rattle.std.specs.FinMap as map;
 ghost use Rattle.wjs_base.specs.Same.{same_value};
 ghost use Rattle.wjs_store.specs.Naming.{plain};
 ghost use Rattle.wjs_store.specs.State.{World, find_world, content_at, same_content, same_object, fault_in};
-ghost use Rattle.wjs_store.specs.Shown.{content_of};
 ghost use Rattle.wjs_base.specs.declared.values.Slot.{Slot};
-ghost use Rattle.wjs_overlay.specs.declared.layer.Layer.{Layer};
-ghost use Rattle.wjs_overlay.specs.Sparse.{IsSparse, IsAt, full_of, depth_of, read_of};
-ghost use Rattle.wjs_overlay.specs.Work.{row_slots, kept_from};
-ghost use Rattle.wjs_overlay.specs.Cursor.{comes_on};
+ghost use Rattle.wjs_layers.specs.declared.layer.Layer.{Layer};
+ghost use Rattle.wjs_layers.specs.Sparse.{IsSparse, IsAt, full_of, depth_of, read_of};
+ghost use Rattle.wjs_layers.specs.Work.{row_slots, kept_from};
+ghost use Rattle.wjs_layers.specs.Cursor.{comes_on};
 ghost use Rattle.wjs_overlay.specs.Check.{IsLeast, differs, is_unseen};
 
-use crate::layer::{Layer, Spot};
-use crate::layers::{content, lesser, next_slot};
-use crate::maps::{Row, least_object};
 use std::sync::ledger::Ledger;
-use wjs_base::{Content, ObjId, Slot, same_value};
+use wjs_base::{Content, ObjId, Slot};
+use wjs_layers::layers::{content, lesser, next_slot};
+use wjs_layers::{Layer, Row, Spot, least_object};
 use wjs_rows::Steps;
 use wjs_slots::least_slot;
-
-/// Whether two contents agree: both absent, or one value.
-fn same_content(a: Content, b: Content) -> bool
-    ensures { result ≡ same_content same_value (content_of a) (content_of b) }
-{
-    match (a, b) {
-        (Content::Absent, Content::Absent) => true,
-        (Content::Present(a), Content::Present(b)) => same_value(a, b),
-        _ => false,
-    }
-}
+use wjs_store::same_content;
 
 /// Whether a row's recorded read is not what a world holds.
 fn row_differs<L: Ledger>(

@@ -5,13 +5,12 @@ ghost use Rattle.std.specs.Prelude.{◌&&◌};
 ghost use Rattle.std.specs.Map.{lookup_entry};
 ghost use Rattle.wjs_base.specs.declared.values.Slot.{Slot};
 ghost use Rattle.wjs_overlay.specs.Check.{IsLeast};
-ghost use Rattle.wjs_overlay.specs.Cursor.{to_come};
-ghost use Rattle.wjs_overlay.specs.Marks.{reads_in, writes_in, has_written};
+ghost use Rattle.wjs_layers.specs.Cursor.{to_come};
+ghost use Rattle.wjs_layers.specs.Marks.{reads_in, writes_in, has_written};
 
-use crate::layer::Layer;
-use crate::maps::Row;
 use std::sync::ledger::{Blank, Ledger};
 use wjs_base::Slot;
+use wjs_layers::{Layer, Row};
 use wjs_rows::Steps;
 use wjs_slots::least_slot;
 use wjs_store::Counts;

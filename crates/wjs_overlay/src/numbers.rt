@@ -19,7 +19,7 @@ impl Model for Places {
     ghost use Rattle.std.specs.Coded.{coded_ℕ};
     ghost use Rattle.std.specs.FinMap as map;
     ghost use Rattle.wjs_base.specs.Order.{world_cmp};
-    ghost use Rattle.wjs_overlay.specs.Codes.{coded_world};
+    ghost use Rattle.wjs_base.specs.Codes.{coded_world};
 
     ghost Value = { map.FinMap world_cmp ℕ };
 
@@ -46,9 +46,7 @@ impl Places {
     pub fn insert(&mut self, world: WorldId, place: usize) -> Result<(), OutOfMemory>
         ensures ok { OnOk result (self.new ≡ map.insert self.old world place) }
     {
-        if self.tree.insert(world, place).is_err() {
-            return Err(OutOfMemory);
-        }
+        self.tree.insert(world, place)?;
         Ok(())
     }
 }
@@ -90,9 +88,7 @@ impl Owners {
     pub fn insert(&mut self, owner: u32, count: u64) -> Result<(), OutOfMemory>
         ensures ok { OnOk result (self.new ≡ map.insert self.old owner count) }
     {
-        if self.tree.insert(owner, count).is_err() {
-            return Err(OutOfMemory);
-        }
+        self.tree.insert(owner, count)?;
         Ok(())
     }
 }

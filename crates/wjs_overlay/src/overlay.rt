@@ -4,14 +4,14 @@ ghost use Rattle.wjs_overlay.specs.Store.{IsStore, store_prop, first_id};
 ghost use Rattle.wjs_overlay.specs.Touched.{IsCovered, covered_prop};
 
 use crate::bounds::{Bound, covers, hand_up, reach};
-use crate::layer::{Layer, Spot};
 use crate::marks::count_marks;
 use crate::numbers::{Owners, Places};
-use crate::{calls, layers, marks, uncounted};
+use crate::{calls, marks, uncounted};
 use std::alloc::Global;
 use std::marker::Brand;
 use std::sync::ledger::{Blank, Ledger};
 use wjs_base::{Content, Names, ObjId, OutOfMemory, Slot, WorldId};
+use wjs_layers::{Layer, Spot, layers};
 use wjs_rows::Steps;
 use wjs_store::{Counts, Verdict, WorldStore};
 
@@ -50,15 +50,15 @@ impl Overlay {
     ghost use Rattle.wjs_store.specs.Meaning.{Answers, worlds};
     ghost use Rattle.wjs_store.specs.State.{has_world, read, write, list, sprout, commit, found, wrote, listed, sprouted, committed};
     ghost use Rattle.wjs_store.specs.Shown.{content_of, slots_of, verdict_of};
-    ghost use Rattle.wjs_overlay.specs.Sparse.{IsAt, full_of, place_of, depth_of};
+    ghost use Rattle.wjs_layers.specs.Sparse.{IsAt, full_of, place_of, depth_of};
     ghost use Rattle.wjs_overlay.specs.Store.{check_of};
-    ghost use Rattle.wjs_overlay.specs.Work.{rows_of, closed_of, rows_above};
+    ghost use Rattle.wjs_layers.specs.Work.{rows_of, closed_of, rows_above};
     ghost use Rattle.std.specs.Prelude.{IsSome, IfSome, Ok, ◌&&◌};
     ghost use Rattle.wjs_base.specs.declared.values.Slot.{Slot};
     ghost use Rattle.wjs_overlay.specs.Check.{IsLeast};
-    ghost use Rattle.wjs_overlay.specs.Cursor.{to_come};
-    ghost use Rattle.wjs_overlay.specs.Marks.{is_written};
-    ghost use Rattle.wjs_overlay.specs.Reset.{has_child, after_reset};
+    ghost use Rattle.wjs_layers.specs.Cursor.{to_come};
+    ghost use Rattle.wjs_layers.specs.Marks.{is_written};
+    ghost use Rattle.wjs_layers.specs.Reset.{has_child, after_reset};
     ghost use Rattle.wjs_store.specs.State.{parent_of};
 
     /// A store with the first world alone, which is owner 0's.
@@ -80,9 +80,7 @@ impl Overlay {
         let bounds = Vec::new(alloc);
         places.insert(first, 0)?;
         owners.insert(first.owner, 1)?;
-        if layers.push(Layer::first(alloc, first)).is_err() {
-            return Err(OutOfMemory);
-        }
+        layers.push(Layer::first(alloc, first))?;
         Ok(Overlay {
             alloc,
             layers,

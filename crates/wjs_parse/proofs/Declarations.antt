@@ -15,11 +15,11 @@ use Rattle.wjs_tree.proofs.Kept.{elements_kept}
 use Rattle.wjs_parse_expr.specs.declared.functions.Functions.{Functions}
 use Rattle.wjs_parse_expr.specs.Readings.{FunctionReading, is_function}
 use Rattle.wjs_parse_expr.specs.Table.{entry_at, MayBegin, Holds}
-use Rattle.wjs_parse_stmt.specs.declared.parts.Piece.{Piece}
-use Rattle.wjs_parse_stmt.specs.Kinds.{kind_of}
-use Rattle.wjs_parse_stmt.specs.Readings.{StmtReading, Stops}
-use Rattle.wjs_parse_stmt.specs.Answers.{FindsStmt}
-use Rattle.wjs_parse_stmt.proofs.Simple.{nothing_none}
+use Rattle.wjs_parse_simple.specs.declared.parts.Piece.{Piece}
+use Rattle.wjs_parse_simple.specs.Kinds.{kind_of}
+use Rattle.wjs_parse_simple.specs.Readings.{StmtReading, Stops}
+use Rattle.wjs_parse_simple.specs.Answers.{FindsStmt}
+use Rattle.wjs_parse_simple.proofs.Simple.{nothing_none}
 use Rattle.wjs_parse.specs.Readings.{Element, Plain, Declared, ElementReading, ElementStops}
 use Rattle.wjs_parse.specs.Answers.{FindsElement}
 

@@ -13,11 +13,12 @@ use Rattle.wjs_tree.specs.Ends.{HasSign}
 use Rattle.wjs_tree.specs.Spelling.{ElementsStand}
 use Rattle.wjs_tree.specs.Shows.{Has, ElementsShow, Keeps}
 use Rattle.wjs_tree.proofs.Kept.{elements_kept}
-use Rattle.wjs_jumps.specs.Forms.{AreElements}
-use Rattle.wjs_jumps.specs.Answers.{ElementsThere, ElementsAnswer}
+use Rattle.wjs_labels.specs.Forms.{AreElements}
+use Rattle.wjs_labels.specs.Answers.{ElementsThere, ElementsAnswer}
 use Rattle.wjs_parse_expr.specs.Readings.{FunctionReading}
 use Rattle.wjs_parse_stmt.specs.declared.parts.Listed.{Listed}
-use Rattle.wjs_parse_stmt.specs.Readings.{ElementsForm, is_closer}
+use Rattle.wjs_parse_simple.specs.Readings.{is_closer}
+use Rattle.wjs_parse_stmt.specs.Readings.{ElementsForm}
 use Rattle.wjs_parse.specs.declared.formals.Head.{Head}
 use Rattle.wjs_parse.specs.Readings.{HeaderForm, BodyForm}
 use Rattle.wjs_parse.specs.Answers.{FindsElements, FindsHeader, FindsBody, FindsFunction}

@@ -16,8 +16,9 @@ use Rattle.wjs_tree.specs.Shows.{ElementsShow, Keeps}
 use Rattle.wjs_tree.proofs.Kept.{stmt_kept, elements_kept, keeps_self, keeps_both}
 use Rattle.wjs_parse_expr.specs.declared.found.Found.{Found}
 use Rattle.wjs_parse_stmt.specs.declared.parts.Listed.{Listed}
-use Rattle.wjs_parse_stmt.specs.Readings.{Stops, ElementsForm, is_closer}
-use Rattle.wjs_parse_stmt.proofs.Forms.{starting, no_start, start_stops, close_stops}
+use Rattle.wjs_parse_simple.specs.Readings.{Stops, is_closer}
+use Rattle.wjs_parse_stmt.specs.Readings.{ElementsForm}
+use Rattle.wjs_parse_simple.proofs.Forms.{starting, no_start, start_stops, close_stops}
 use Rattle.wjs_parse.specs.Readings.{Element, Plain, Declared, before, element_height, ElementFormed, ElementStands, ElementShows, ElementReading, ElementStops}
 use Rattle.wjs_parse.specs.Answers.{FindsElement, FindsElements}
 

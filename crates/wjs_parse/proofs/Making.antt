@@ -12,8 +12,8 @@ use Rattle.wjs_parse_expr.specs.declared.functions.Functions.{Functions}
 use Rattle.wjs_tree.specs.Used.{IsUsed, IsOnce}
 use Rattle.wjs_parse_expr.specs.Table.{entry_at, Holds, IsOfEntry}
 use Rattle.wjs_parse_expr.proofs.Owning.{own_entry}
-use Rattle.wjs_parse_stmt.specs.Made.{Span, ExprMade, StmtMade}
-use Rattle.wjs_parse_stmt.proofs.Spans.{Added, span_none, span_wide, span_both, span_top}
+use Rattle.wjs_parse_simple.specs.Made.{Span, ExprMade, StmtMade}
+use Rattle.wjs_parse_simple.proofs.Spans.{Added, span_none, span_wide, span_both, span_top}
 use Rattle.wjs_parse.specs.Readings.{Element, Plain, Declared, before, ElementShows}
 use Rattle.wjs_parse.specs.Made.{ElementMade, ElementsMade}
 use Rattle.wjs_parse.proofs.Items.{before_show}

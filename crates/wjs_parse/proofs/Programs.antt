@@ -17,8 +17,9 @@ use Rattle.wjs_tree.proofs.OneUse.{elements_one_use}
 use Rattle.wjs_tree.proofs.Within.{elements_within}
 use Rattle.wjs_parse_expr.specs.declared.functions.Functions.{Functions}
 use Rattle.wjs_parse_stmt.specs.declared.parts.Listed.{Listed}
-use Rattle.wjs_parse_stmt.specs.Readings.{ElementsForm, is_closer}
-use Rattle.wjs_parse_stmt.proofs.Spans.{Added}
+use Rattle.wjs_parse_simple.specs.Readings.{is_closer}
+use Rattle.wjs_parse_stmt.specs.Readings.{ElementsForm}
+use Rattle.wjs_parse_simple.proofs.Spans.{Added}
 use Rattle.wjs_parse.specs.Readings.{ProgramReading}
 use Rattle.wjs_parse.specs.Made.{ElementsMade}
 use Rattle.wjs_parse.specs.Answers.{FindsElements, FindsProgram}

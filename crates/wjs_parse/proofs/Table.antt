@@ -19,7 +19,7 @@ use Rattle.wjs_parse_expr.specs.Table.{entry_at, IsEntry, MayBegin, Holds, Owns}
 use Rattle.wjs_parse_expr.proofs.Entries.{held}
 use Rattle.wjs_parse_expr.proofs.Adding.{own_apart, added_holds}
 use Rattle.wjs_parse_expr.proofs.Readings.{token_within}
-use Rattle.wjs_parse_stmt.specs.Made.{ExprMade}
+use Rattle.wjs_parse_simple.specs.Made.{ExprMade}
 use Rattle.wjs_parse.specs.Answers.{FindsFunction, AreBehind}
 
 -- A place where no function may begin, or none is read, needs no entry.

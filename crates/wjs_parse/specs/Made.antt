@@ -11,7 +11,7 @@ use Rattle.wjs_tree.specs.Shows.{ElementsShow}
 use Rattle.wjs_parse_expr.specs.declared.functions.Functions.{Functions}
 use Rattle.wjs_parse_expr.specs.declared.found.Found.{Found}
 use Rattle.wjs_parse_stmt.specs.declared.parts.Listed.{Listed}
-use Rattle.wjs_parse_stmt.specs.Made.{Span, ExprMade}
+use Rattle.wjs_parse_simple.specs.Made.{Span, ExprMade}
 use Rattle.wjs_parse.specs.Readings.{Element, ElementShows}
 
 pub record ElementMade (functions : Functions) (old new : List Node) (i : ℕ) (node : NodeId) (n : ℕ) : Type 0 where

@@ -14,7 +14,7 @@ use Rattle.wjs_tree.specs.Formed.{StmtFormed, ElementsFormed, ProgramFormed}
 use Rattle.wjs_tree.specs.Ends.{HasSign, HasKey}
 use Rattle.wjs_tree.specs.Spelling.{NameStands, FormalsStand, Stands, StmtStands, ElementsStand}
 use Rattle.wjs_tree.specs.Shows.{Has, StmtShows, ElementsShow}
-use Rattle.wjs_parse_stmt.specs.Readings.{Stops}
+use Rattle.wjs_parse_simple.specs.Readings.{Stops}
 
 -- one element of a program or a function (section 14): a statement, or a function with its name, formals and body
 pub data Element : Type 0 where

@@ -5,7 +5,7 @@ ghost use Rattle.wjs_parse.specs.Answers.{WordAnswers, NameAnswers, FormalsAnswe
 use std::alloc::Global;
 use wjs_base::{OutOfMemory, TextId};
 use wjs_parse_expr::{has_key, has_sign, token_at};
-use wjs_parse_stmt::push_last;
+use wjs_parse_simple::push_last;
 use wjs_tree::{Key, Sequence, Sign, Tok, Token};
 
 /// Formals, and the place after them.
@@ -24,7 +24,7 @@ pub struct Head {
 }
 
 /// `function`, a name or none, formals in parentheses, and `{`: no others are read there. None exactly where none are.
-pub fn header(alloc: Global, toks: &[Tok], at: usize) -> Result<Option<Head>, OutOfMemory>
+pub fn function_header(alloc: Global, toks: &[Tok], at: usize) -> Result<Option<Head>, OutOfMemory>
     ensures ends { HeaderEnds toks.now at result }
     ensures answer { HeaderAnswers toks.now at result }
 {
@@ -35,7 +35,7 @@ pub fn header(alloc: Global, toks: &[Tok], at: usize) -> Result<Option<Head>, Ou
     if !has_sign(toks, place, Sign::OpenParen) {
         return Ok(None);
     }
-    let Some(found) = formals(alloc, toks, place + 1)? else {
+    let Some(found) = formal_parameters(alloc, toks, place + 1)? else {
         return Ok(None);
     };
     if !has_sign(toks, found.next, Sign::CloseParen) {
@@ -65,7 +65,11 @@ fn name_at(toks: &[Tok], at: usize) -> (Option<TextId>, usize)
 
 /// The formals from the place: no others are read there before a closing parenthesis, and where there are none no formals
 /// are.
-fn formals(alloc: Global, toks: &[Tok], at: usize) -> Result<Option<ListedFormals>, OutOfMemory>
+fn formal_parameters(
+    alloc: Global,
+    toks: &[Tok],
+    at: usize,
+) -> Result<Option<ListedFormals>, OutOfMemory>
     ensures ends { FormalsEnds toks.now at result }
     ensures answer { FormalsAnswers toks.now at result }
 {

@@ -5,11 +5,11 @@ ghost use Rattle.wjs_parse_expr.specs.Table.{Holds, MayBegin};
 ghost use Rattle.wjs_parse.specs.Answers.{FunctionAnswers, BodyAnswers, FoundEnds, BodyEnds};
 ghost use Rattle.wjs_parse.specs.Made.{FunctionOwn, ElementsOwn};
 
-use crate::formals::header;
-use crate::list::elements;
+use crate::formals::function_header;
+use crate::list::source_elements;
 use std::alloc::Global;
 use wjs_base::OutOfMemory;
-use wjs_jumps::jumps_are_right;
+use wjs_labels::jumps_are_right;
 use wjs_parse_expr::{Found, Functions, has_sign};
 use wjs_parse_stmt::Listed;
 use wjs_tree::{Node, Nodes, Sign, Tok};
@@ -30,7 +30,7 @@ pub fn function_at(
     ensures answer { FunctionAnswers toks.now at nodes.new result }
     ensures own { FunctionOwn functions.now nodes.old nodes.new at result }
 {
-    let Some(head) = header(alloc, toks, at)? else {
+    let Some(head) = function_header(alloc, toks, at)? else {
         return Ok(None);
     };
     let Some(body) = function_body(alloc, toks, head.next, functions, nodes)? else {
@@ -59,7 +59,7 @@ fn function_body(
     ensures answer { BodyAnswers toks.now at nodes.new result }
     ensures own { ElementsOwn functions.now nodes.old nodes.new at result }
 {
-    let Some(found) = elements(alloc, toks, at, 199, functions, nodes)? else {
+    let Some(found) = source_elements(alloc, toks, at, 199, functions, nodes)? else {
         return Ok(None);
     };
     if !has_sign(toks, found.next, Sign::CloseBrace) {

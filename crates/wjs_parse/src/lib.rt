@@ -7,5 +7,5 @@ mod list;
 mod whole;
 
 pub use function::function_at;
-pub use list::elements;
+pub use list::source_elements;
 pub use whole::program;

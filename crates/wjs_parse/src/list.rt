@@ -11,13 +11,14 @@ ghost use Rattle.wjs_parse.specs.Made.{ElementsOwn, ElementOwn};
 use std::alloc::Global;
 use wjs_base::OutOfMemory;
 use wjs_parse_expr::{Found, Functions, has_key};
-use wjs_parse_stmt::{Listed, is_closed, push_last, statement};
+use wjs_parse_simple::{is_closed, push_last};
+use wjs_parse_stmt::{Listed, statement};
 use wjs_tree::{Key, Node, NodeId, Nodes, Sequence, Tok};
 
 /// The elements from the place up to a token that closes them, of at most the height `room`: no others are read there.
 /// None exactly where none are. No node stands at two places of them, and each is new or one of a function that was read
 /// before within their tokens.
-pub fn elements(
+pub fn source_elements(
     alloc: Global,
     toks: &[Tok],
     at: usize,
@@ -35,7 +36,7 @@ pub fn elements(
     let mut list: Vec<NodeId> = Vec::new(alloc);
     let mut place = at;
     while !is_closed(toks, place) {
-        let Some(item) = element(alloc, toks, place, room, functions, nodes)? else {
+        let Some(item) = source_element(alloc, toks, place, room, functions, nodes)? else {
             return Ok(None);
         };
         push_last(&mut list, item.node)?;
@@ -48,7 +49,7 @@ pub fn elements(
 }
 
 /// An element.
-fn element(
+fn source_element(
     alloc: Global,
     toks: &[Tok],
     at: usize,
@@ -64,7 +65,7 @@ fn element(
     ensures own { ElementOwn functions.now nodes.old nodes.new at result }
 {
     if has_key(toks, at, Key::Function) {
-        return declaration(alloc, toks, at, room, functions, nodes);
+        return function_declaration(alloc, toks, at, room, functions, nodes);
     }
     let Some(found) = statement(alloc, toks, at, room, functions, nodes)? else {
         return Ok(None);
@@ -76,7 +77,7 @@ fn element(
 }
 
 /// The function that is read already at the place, as an element.
-fn declaration(
+fn function_declaration(
     alloc: Global,
     toks: &[Tok],
     at: usize,
@@ -98,7 +99,7 @@ fn declaration(
     if nodes.height(function) > room {
         return Ok(None);
     }
-    let Some(made) = declared(alloc, nodes, function)? else {
+    let Some(made) = declaration_of(alloc, nodes, function)? else {
         return Ok(None);
     };
     let node = nodes.add(made)?;
@@ -106,7 +107,11 @@ fn declaration(
 }
 
 /// The element with the name, the formals and the body of a function; none exactly where it has no name.
-fn declared(alloc: Global, nodes: &Nodes, function: NodeId) -> Result<Option<Node>, OutOfMemory>
+fn declaration_of(
+    alloc: Global,
+    nodes: &Nodes,
+    function: NodeId,
+) -> Result<Option<Node>, OutOfMemory>
     requires there { function.0 < length nodes.now }
     ensures below { DeclaredBelow (length nodes.now) result }
     ensures answer { DeclaredAnswers nodes.now function result }
@@ -124,8 +129,6 @@ fn declared(alloc: Global, nodes: &Nodes, function: NodeId) -> Result<Option<Nod
 fn copied<T: Copy + Drop>(alloc: Global, list: &Sequence<T>) -> Result<Sequence<T>, OutOfMemory>
     ensures { IfOk result (λ copy. copy ≡ list.now) }
 {
-    match Vec::from_slice(alloc, list.as_slice()) {
-        Ok(items) => Ok(Sequence::from_vec(items)),
-        Err(_) => Err(OutOfMemory),
-    }
+    let items = Vec::from_slice(alloc, list.as_slice())?;
+    Ok(Sequence::from_vec(items))
 }

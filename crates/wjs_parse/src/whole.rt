@@ -7,10 +7,10 @@ ghost use Rattle.wjs_parse_expr.specs.Table.{Holds, MayBegin};
 ghost use Rattle.wjs_parse.specs.Answers.{ProgramAnswers, WholeAnswers, AreBehind};
 
 use crate::function::function_at;
-use crate::list::elements;
+use crate::list::source_elements;
 use std::alloc::Global;
 use wjs_base::OutOfMemory;
-use wjs_jumps::jumps_are_right;
+use wjs_labels::jumps_are_right;
 use wjs_parse_expr::{Functions, ParseFault, has_key, has_sign};
 use wjs_tree::{Key, Node, NodeId, Nodes, Program, Sign, Tok};
 
@@ -22,7 +22,7 @@ pub fn program(alloc: Global, toks: &[Tok]) -> Result<Program, ParseFault>
     ensures last { IfOk result (λ p. length p.nodes ≡ p.body.0 + 1) }
 {
     let mut nodes = Nodes::new(alloc);
-    match body(alloc, toks, &mut nodes) {
+    match program_body(alloc, toks, &mut nodes) {
         Ok(Some(body)) => Ok(Program { nodes, body }),
         Ok(None) => Err(ParseFault::NotAScript),
         Err(_) => Err(ParseFault::OutOfMemory),
@@ -30,13 +30,17 @@ pub fn program(alloc: Global, toks: &[Tok]) -> Result<Program, ParseFault>
 }
 
 /// The node of the program that all the tokens spell, which is the last.
-fn body(alloc: Global, toks: &[Tok], nodes: &mut Nodes) -> Result<Option<NodeId>, OutOfMemory>
+fn program_body(
+    alloc: Global,
+    toks: &[Tok],
+    nodes: &mut Nodes,
+) -> Result<Option<NodeId>, OutOfMemory>
     requires { nodes.old ≡ [] }
     ensures answer { WholeAnswers toks.now nodes.new result }
     ensures last { IfOk result (λ found. IfSome found (λ node. length nodes.new ≡ node.0 + 1)) }
 {
     let functions = functions(alloc, toks, nodes)?;
-    let Some(found) = elements(alloc, toks, 0, 200, &functions, nodes)? else {
+    let Some(found) = source_elements(alloc, toks, 0, 200, &functions, nodes)? else {
         return Ok(None);
     };
     if found.next != toks.len() {

@@ -13,7 +13,7 @@ use crate::adds::add_postfix;
 use crate::found::{Found, ParseFault};
 use crate::functions::Functions;
 use crate::look::{assign_at, binary_at, has_sign, is_update, prefix_at, update_at};
-use crate::member::{chain, target};
+use crate::member::{member_chain, target};
 use crate::parts::Part;
 use std::alloc::Global;
 use wjs_base::OutOfMemory;
@@ -38,7 +38,7 @@ pub fn expression(
     ensures ends { IfOk result (λ p. (at < p.next) × (p.next ≤ length toks.now) × (p.node.0 < length nodes.new)) }
     ensures answer { IsExpression toks.now functions.now no_in at nodes.old nodes.new result }
 {
-    match comma(alloc, toks, at, no_in, 200, functions, nodes) {
+    match comma_expression(alloc, toks, at, no_in, 200, functions, nodes) {
         Ok(Some(part)) => Ok(Found {
             node: part.node,
             next: part.next,
@@ -51,7 +51,7 @@ pub fn expression(
 /// The longest expression from the place of at most the height `room`: any other is shorter and stands before a token that
 /// may continue it. None exactly where none begins there.
 #[cycle(expression)]
-pub fn comma(
+pub fn comma_expression(
     alloc: Global,
     toks: &[Tok],
     at: usize,
@@ -66,7 +66,8 @@ pub fn comma(
     ensures ends { PartEnds toks.now at nodes.new result }
     ensures answer { Answers (from toks.now functions.now nodes.old at) toks.now 0 no_in room at nodes.new result }
 {
-    let Some(mut left) = assignment(alloc, toks, at, no_in, room, functions, nodes)? else {
+    let Some(mut left) = assignment_expression(alloc, toks, at, no_in, room, functions, nodes)?
+    else {
         return Ok(None);
     };
     while let Some(longer) = after_comma(alloc, toks, left, no_in, room, functions, nodes)? {
@@ -96,7 +97,7 @@ fn after_comma(
     if room == 0 || !has_sign(toks, left.next, Sign::Comma) {
         return Ok(None);
     }
-    let Some(right) = assignment(
+    let Some(right) = assignment_expression(
         alloc,
         toks,
         left.next + 1,
@@ -119,7 +120,7 @@ fn after_comma(
 /// The longest assignment expression from the place of at most the height `room` (section 11.13): any other is shorter and
 /// stands before a token that may continue it. None exactly where none begins there.
 #[cycle(expression)]
-pub fn assignment(
+pub fn assignment_expression(
     alloc: Global,
     toks: &[Tok],
     at: usize,
@@ -134,11 +135,11 @@ pub fn assignment(
     ensures ends { PartEnds toks.now at nodes.new result }
     ensures answer { Answers (from toks.now functions.now nodes.old at) toks.now 1 no_in room at nodes.new result }
 {
-    let Some(left) = binary(alloc, toks, at, 3, no_in, room, functions, nodes)? else {
+    let Some(left) = binary_expression(alloc, toks, at, 3, no_in, room, functions, nodes)? else {
         return Ok(None);
     };
     if has_sign(toks, left.next, Sign::Question) {
-        let longer = choice(alloc, toks, left, no_in, room, functions, nodes)?;
+        let longer = conditional_expression(alloc, toks, left, no_in, room, functions, nodes)?;
         return match longer {
             Some(part) => Ok(Some(part)),
             None => Ok(Some(left)),
@@ -147,7 +148,7 @@ pub fn assignment(
     if !left.is_target {
         return Ok(Some(left));
     }
-    let longer = assigned(alloc, toks, left, no_in, room, functions, nodes)?;
+    let longer = assignment_to_target(alloc, toks, left, no_in, room, functions, nodes)?;
     match longer {
         Some(part) => Ok(Some(part)),
         None => Ok(Some(left)),
@@ -157,7 +158,7 @@ pub fn assignment(
 /// The left operand with `?` and both choices, where these follow.
 #[cycle(expression)]
 #[inline(never)]
-fn choice(
+fn conditional_expression(
     alloc: Global,
     toks: &[Tok],
     left: Part,
@@ -176,7 +177,7 @@ fn choice(
     if room == 0 {
         return Ok(None);
     }
-    let Some(yes) = assignment(
+    let Some(yes) = assignment_expression(
         alloc,
         toks,
         left.next + 1,
@@ -191,7 +192,16 @@ fn choice(
     if !has_sign(toks, yes.next, Sign::Colon) {
         return Ok(None);
     }
-    let Some(no) = assignment(alloc, toks, yes.next + 1, no_in, room - 1, functions, nodes)? else {
+    let Some(no) = assignment_expression(
+        alloc,
+        toks,
+        yes.next + 1,
+        no_in,
+        room - 1,
+        functions,
+        nodes,
+    )?
+    else {
         return Ok(None);
     };
     let node = nodes.add(Node::Cond(left.node, yes.node, no.node))?;
@@ -205,7 +215,7 @@ fn choice(
 /// The target with an assignment sign and the value, where these follow.
 #[cycle(expression)]
 #[inline(never)]
-fn assigned(
+fn assignment_to_target(
     alloc: Global,
     toks: &[Tok],
     left: Part,
@@ -226,7 +236,7 @@ fn assigned(
     if room == 0 {
         return Ok(None);
     }
-    let Some(value) = assignment(
+    let Some(value) = assignment_expression(
         alloc,
         toks,
         left.next + 1,
@@ -250,7 +260,7 @@ fn assigned(
 /// first, then the others level by level in one loop: a level that has no operator takes no stack.
 #[cycle(expression)]
 #[inline(always)]
-fn binary(
+fn binary_expression(
     alloc: Global,
     toks: &[Tok],
     at: usize,
@@ -268,7 +278,7 @@ fn binary(
     ensures ends { PartEnds toks.now at nodes.new result }
     ensures answer { Answers (from toks.now functions.now nodes.old at) toks.now level no_in room at nodes.new result }
 {
-    let Some(mut left) = unary(alloc, toks, at, no_in, room, functions, nodes)? else {
+    let Some(mut left) = unary_expression(alloc, toks, at, no_in, room, functions, nodes)? else {
         return Ok(None);
     };
     if level > 12 {
@@ -276,7 +286,7 @@ fn binary(
     }
     let mut reached = 12;
     'levels: loop {
-        if let Some(longer) = operation(
+        if let Some(longer) = binary_operation(
             alloc, toks, left, reached, no_in, room, functions, nodes,
         )? {
             left = longer;
@@ -291,7 +301,7 @@ fn binary(
 /// The left operand with an operator of the level and its right operand, where these follow.
 #[cycle(expression)]
 #[inline(never)]
-fn operation(
+fn binary_operation(
     alloc: Global,
     toks: &[Tok],
     left: Part,
@@ -315,7 +325,7 @@ fn operation(
     if room == 0 || op.level() != level {
         return Ok(None);
     }
-    let Some(right) = binary(
+    let Some(right) = binary_expression(
         alloc,
         toks,
         left.next + 1,
@@ -339,7 +349,7 @@ fn operation(
 /// An operand behind operators.
 #[cycle(expression)]
 #[inline(always)]
-fn unary(
+fn unary_expression(
     alloc: Global,
     toks: &[Tok],
     at: usize,
@@ -355,15 +365,15 @@ fn unary(
     ensures answer { Answers (from toks.now functions.now nodes.old at) toks.now 13 no_in room at nodes.new result }
 {
     match prefix_at(toks, at) {
-        Some(op) => prefixed(alloc, toks, at, op, no_in, room, functions, nodes),
-        None => postfix(alloc, toks, at, no_in, room, functions, nodes),
+        Some(op) => prefix_expression(alloc, toks, at, op, no_in, room, functions, nodes),
+        None => postfix_expression(alloc, toks, at, no_in, room, functions, nodes),
     }
 }
 
 /// An operator that stands there, with its operand.
 #[cycle(expression)]
 #[inline(never)]
-fn prefixed(
+fn prefix_expression(
     alloc: Global,
     toks: &[Tok],
     at: usize,
@@ -382,7 +392,8 @@ fn prefixed(
     if room == 0 {
         return Ok(None);
     }
-    let Some(inner) = operand(alloc, toks, at + 1, op, no_in, room - 1, functions, nodes)? else {
+    let Some(inner) = prefix_operand(alloc, toks, at + 1, op, no_in, room - 1, functions, nodes)?
+    else {
         return Ok(None);
     };
     let node = nodes.add(Node::Prefix(op, inner.node))?;
@@ -396,7 +407,7 @@ fn prefixed(
 /// What an operator stands before: a target, where it is `++` or `--`.
 #[cycle(expression)]
 #[inline(always)]
-fn operand(
+fn prefix_operand(
     alloc: Global,
     toks: &[Tok],
     at: usize,
@@ -415,14 +426,14 @@ fn operand(
     if is_update(op) {
         target(alloc, toks, at, no_in, room, functions, nodes)
     } else {
-        unary(alloc, toks, at, no_in, room, functions, nodes)
+        unary_expression(alloc, toks, at, no_in, room, functions, nodes)
     }
 }
 
 /// A call, and a target with `++` or `--` behind it on its line.
 #[cycle(expression)]
 #[inline(always)]
-fn postfix(
+fn postfix_expression(
     alloc: Global,
     toks: &[Tok],
     at: usize,
@@ -437,7 +448,7 @@ fn postfix(
     ensures ends { PartEnds toks.now at nodes.new result }
     ensures answer { Answers (from toks.now functions.now nodes.old at) toks.now 14 no_in room at nodes.new result }
 {
-    let Some(head) = chain(alloc, toks, at, true, no_in, room, functions, nodes)? else {
+    let Some(head) = member_chain(alloc, toks, at, true, no_in, room, functions, nodes)? else {
         return Ok(None);
     };
     let left = head.part;

@@ -31,10 +31,8 @@ impl Functions {
         ensures ok { OnOk result ((p : ℕ) → entry_at self.new p ≡ (if place == p then Some (node, next) else entry_at self.old p)) }
         ensures err { OnErr result (self.new.entries.entries ≡ self.old.entries.entries) }
     {
-        match self.entries.insert(place, (node, next)) {
-            Ok(_) => Ok(()),
-            Err(_) => Err(OutOfMemory),
-        }
+        self.entries.insert(place, (node, next))?;
+        Ok(())
     }
 
     /// The node of the function that begins at the place, and the place after it; None exactly where no finished function

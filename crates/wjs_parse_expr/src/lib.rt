@@ -10,7 +10,7 @@ mod member;
 mod parts;
 mod primary;
 
-pub use expr::{assignment, comma, expression};
+pub use expr::{assignment_expression, comma_expression, expression};
 pub use found::{Found, ParseFault};
 pub use functions::Functions;
 pub use look::{has_key, has_sign, token_at};

@@ -10,11 +10,11 @@ ghost use Rattle.wjs_parse_expr.specs.Table.{Holds, MayBegin};
 ghost use Rattle.wjs_parse_expr.specs.declared.functions.Functions.{Functions};
 
 use crate::adds::{add_at, add_call, add_new_bare, add_new_with};
-use crate::expr::{assignment, comma};
+use crate::expr::{assignment_expression, comma_expression};
 use crate::functions::Functions;
 use crate::look::{has_key, has_sign, spelt_at, token_at};
 use crate::parts::{Head, Listed, Part, push_last};
-use crate::primary::primary;
+use crate::primary::primary_expression;
 use std::alloc::Global;
 use wjs_base::OutOfMemory;
 use wjs_tree::{Key, Node, NodeId, Nodes, Sequence, Sign, Tok, Token};
@@ -37,7 +37,7 @@ pub fn target(
     ensures ends { PartEnds toks.now at nodes.new result }
     ensures answer { TargetAnswers (from toks.now functions.now nodes.old at) toks.now no_in room at nodes.new result }
 {
-    let Some(head) = beginning(alloc, toks, at, no_in, room, functions, nodes)? else {
+    let Some(head) = chain_head(alloc, toks, at, no_in, room, functions, nodes)? else {
         return Ok(None);
     };
     if head.is_bare {
@@ -45,7 +45,7 @@ pub fn target(
     }
     let mut left = head.part;
     let mut last = if_target(left, None);
-    while let Some(longer) = suffix(alloc, toks, left, true, room, functions, nodes)? {
+    while let Some(longer) = chain_suffix(alloc, toks, left, true, room, functions, nodes)? {
         left = longer;
         last = if_target(left, last);
     }
@@ -61,7 +61,7 @@ fn if_target(part: Part, last: Option<Part>) -> Option<Part>
 /// Names behind dots, indices, and arguments where calls are meant, from the left to the right.
 #[cycle(expression)]
 #[inline(always)]
-pub fn chain(
+pub fn member_chain(
     alloc: Global,
     toks: &[Tok],
     at: usize,
@@ -77,14 +77,14 @@ pub fn chain(
     ensures ends { HeadEnds toks.now at nodes.new result }
     ensures answer { ChainAnswers (from toks.now functions.now nodes.old at) toks.now calls no_in room at nodes.new result }
 {
-    let Some(head) = beginning(alloc, toks, at, no_in, room, functions, nodes)? else {
+    let Some(head) = chain_head(alloc, toks, at, no_in, room, functions, nodes)? else {
         return Ok(None);
     };
     if head.is_bare {
         return Ok(Some(head));
     }
     let mut left = head.part;
-    while let Some(longer) = suffix(alloc, toks, left, calls, room, functions, nodes)? {
+    while let Some(longer) = chain_suffix(alloc, toks, left, calls, room, functions, nodes)? {
         left = longer;
     }
     Ok(Some(Head {
@@ -96,7 +96,7 @@ pub fn chain(
 /// `new` with what it makes, or a primary expression.
 #[cycle(expression)]
 #[inline(always)]
-fn beginning(
+fn chain_head(
     alloc: Global,
     toks: &[Tok],
     at: usize,
@@ -112,9 +112,9 @@ fn beginning(
     ensures answer { HeadAnswers (from toks.now functions.now nodes.old at) toks.now no_in room at nodes.new result }
 {
     if has_key(toks, at, Key::New) {
-        return created(alloc, toks, at, no_in, room, functions, nodes);
+        return new_expression(alloc, toks, at, no_in, room, functions, nodes);
     }
-    let Some(part) = primary(alloc, toks, at, no_in, room, functions, nodes)? else {
+    let Some(part) = primary_expression(alloc, toks, at, no_in, room, functions, nodes)? else {
         return Ok(None);
     };
     Ok(Some(Head {
@@ -126,7 +126,7 @@ fn beginning(
 /// `new` with what it makes, and with arguments where they follow.
 #[cycle(expression)]
 #[inline(never)]
-fn created(
+fn new_expression(
     alloc: Global,
     toks: &[Tok],
     at: usize,
@@ -144,10 +144,10 @@ fn created(
     if room == 0 {
         return Ok(None);
     }
-    let Some(callee) = uncalled(alloc, toks, at + 1, no_in, room - 1, functions, nodes)? else {
+    let Some(callee) = new_callee(alloc, toks, at + 1, no_in, room - 1, functions, nodes)? else {
         return Ok(None);
     };
-    let Some(items) = given(alloc, toks, callee, room, functions, nodes)? else {
+    let Some(items) = new_arguments(alloc, toks, callee, room, functions, nodes)? else {
         let node = add_new_bare(nodes, callee.part.node)?;
         let part = Part {
             node,
@@ -175,7 +175,7 @@ fn created(
 /// Names behind dots and indices, without calls, from the left to the right.
 #[cycle(expression)]
 #[inline(never)]
-fn uncalled(
+fn new_callee(
     alloc: Global,
     toks: &[Tok],
     at: usize,
@@ -190,12 +190,12 @@ fn uncalled(
     ensures ends { HeadEnds toks.now at nodes.new result }
     ensures answer { ChainAnswers (from toks.now functions.now nodes.old at) toks.now false no_in room at nodes.new result }
 {
-    chain(alloc, toks, at, false, no_in, room, functions, nodes)
+    member_chain(alloc, toks, at, false, no_in, room, functions, nodes)
 }
 
 /// The arguments for what `new` makes, where they follow.
 #[cycle(expression)]
-fn given(
+fn new_arguments(
     alloc: Global,
     toks: &[Tok],
     callee: Head,
@@ -221,7 +221,7 @@ fn given(
 /// The base with what follows it: a name behind a dot, an index or arguments.
 #[cycle(expression)]
 #[inline(always)]
-fn suffix(
+fn chain_suffix(
     alloc: Global,
     toks: &[Tok],
     left: Part,
@@ -234,17 +234,17 @@ fn suffix(
     requires there { left.node.0 < length nodes.old }
     ensures keeps { Keeps nodes.old nodes.new }
     ensures ends { PartEnds toks.now left.next nodes.new result }
-    ensures answer { Steps functions.now (SuffixStep toks.now calls room) (λ y p. ⊥) nodes.old nodes.new left result }
+    ensures answer { Steps functions.now (SuffixStep toks.now calls room) (λ tree place. ⊥) nodes.old nodes.new left result }
 {
     if room == 0 {
         return Ok(None);
     }
     match token_at(toks, left.next) {
-        Some(Token::Sign(Sign::Dot)) => named(toks, left, calls, room, nodes),
-        Some(Token::Sign(Sign::OpenBracket)) => indexed(
+        Some(Token::Sign(Sign::Dot)) => dot_access(toks, left, calls, room, nodes),
+        Some(Token::Sign(Sign::OpenBracket)) => index_access(
             alloc, toks, left, calls, room, functions, nodes,
         ),
-        Some(Token::Sign(Sign::OpenParen)) => called(
+        Some(Token::Sign(Sign::OpenParen)) => call_expression(
             alloc, toks, left, calls, room, functions, nodes,
         ),
         _ => Ok(None),
@@ -253,7 +253,7 @@ fn suffix(
 
 /// The base with a dot and a name.
 #[inline(never)]
-fn named(
+fn dot_access(
     toks: &[Tok],
     left: Part,
     calls: bool,
@@ -265,7 +265,7 @@ fn named(
     requires sign { HasSign toks.now left.next signs.Dot }
     ensures keeps { Keeps nodes.old nodes.new }
     ensures ends { PartEnds toks.now left.next nodes.new result }
-    ensures answer { (functions : Functions) → Steps functions (SuffixStep toks.now calls room) (λ y p. ⊥) nodes.old nodes.new left result }
+    ensures answer { (functions : Functions) → Steps functions (SuffixStep toks.now calls room) (λ tree place. ⊥) nodes.old nodes.new left result }
 {
     let Some(name) = spelt_at(toks, left.next + 1) else {
         return Ok(None);
@@ -281,7 +281,7 @@ fn named(
 /// The base with an index in brackets.
 #[cycle(expression)]
 #[inline(never)]
-fn indexed(
+fn index_access(
     alloc: Global,
     toks: &[Tok],
     left: Part,
@@ -296,9 +296,9 @@ fn indexed(
     requires sign { HasSign toks.now left.next signs.OpenBracket }
     ensures keeps { Keeps nodes.old nodes.new }
     ensures ends { PartEnds toks.now left.next nodes.new result }
-    ensures answer { Steps functions.now (SuffixStep toks.now calls room) (λ y p. ⊥) nodes.old nodes.new left result }
+    ensures answer { Steps functions.now (SuffixStep toks.now calls room) (λ tree place. ⊥) nodes.old nodes.new left result }
 {
-    let Some(place) = comma(
+    let Some(place) = comma_expression(
         alloc,
         toks,
         left.next + 1,
@@ -324,7 +324,7 @@ fn indexed(
 /// The base with arguments, where calls are meant.
 #[cycle(expression)]
 #[inline(never)]
-fn called(
+fn call_expression(
     alloc: Global,
     toks: &[Tok],
     left: Part,
@@ -339,7 +339,7 @@ fn called(
     requires sign { HasSign toks.now left.next signs.OpenParen }
     ensures keeps { Keeps nodes.old nodes.new }
     ensures ends { PartEnds toks.now left.next nodes.new result }
-    ensures answer { Steps functions.now (SuffixStep toks.now calls room) (λ y p. ⊥) nodes.old nodes.new left result }
+    ensures answer { Steps functions.now (SuffixStep toks.now calls room) (λ tree place. ⊥) nodes.old nodes.new left result }
 {
     if !calls {
         return Ok(None);
@@ -383,7 +383,16 @@ fn arguments(
     }
     let mut place = at;
     loop {
-        let Some(item) = assignment(alloc, toks, place, false, room - 1, functions, nodes)? else {
+        let Some(item) = assignment_expression(
+            alloc,
+            toks,
+            place,
+            false,
+            room - 1,
+            functions,
+            nodes,
+        )?
+        else {
             return Ok(None);
         };
         push_last(&mut list, item.node)?;

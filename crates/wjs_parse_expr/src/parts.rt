@@ -48,8 +48,6 @@ pub fn push_last<T: Drop>(list: &mut Vec<T>, item: T) -> Result<(), OutOfMemory>
     ensures ok { OnOk result (list.new.items ≡ list.old.items ++ item ∷ []) }
     ensures err { OnErr result (list.new.items ≡ list.old.items) }
 {
-    match list.push(item) {
-        Ok(()) => Ok(()),
-        Err(_) => Err(OutOfMemory),
-    }
+    list.push(item)?;
+    Ok(())
 }

@@ -10,7 +10,7 @@ ghost use Rattle.wjs_parse_expr.specs.Reserved.{kind_of};
 ghost use Rattle.wjs_parse_expr.specs.Table.{Holds, MayBegin};
 
 use crate::adds::{add_array, add_object, add_paren};
-use crate::expr::{assignment, comma};
+use crate::expr::{assignment_expression, comma_expression};
 use crate::functions::Functions;
 use crate::look::{has_sign, property_at, token_at};
 use crate::parts::{ListedItems, ListedProperties, Part, push_last};
@@ -48,7 +48,7 @@ fn kind_of(key: Key) -> Reserved
 /// A name, a literal, a function, or what stands in brackets.
 #[cycle(expression)]
 #[inline(always)]
-pub fn primary(
+pub fn primary_expression(
     alloc: Global,
     toks: &[Tok],
     at: usize,
@@ -67,13 +67,13 @@ pub fn primary(
         return Ok(None);
     }
     if has_sign(toks, at, Sign::OpenParen) {
-        return parens(alloc, toks, at, no_in, room, functions, nodes);
+        return parenthesized_expression(alloc, toks, at, no_in, room, functions, nodes);
     }
     if has_sign(toks, at, Sign::OpenBracket) {
-        return array(alloc, toks, at, no_in, room, functions, nodes);
+        return array_literal(alloc, toks, at, no_in, room, functions, nodes);
     }
     if has_sign(toks, at, Sign::OpenBrace) {
-        return object(alloc, toks, at, no_in, room, functions, nodes);
+        return object_literal(alloc, toks, at, no_in, room, functions, nodes);
     }
     atom(toks, at, no_in, room, functions, nodes)
 }
@@ -99,16 +99,16 @@ fn atom(
     ensures answer { Answers (from toks.now functions.now nodes.old at) toks.now 18 no_in room at nodes.new result }
 {
     match token_at(toks, at) {
-        Some(Token::Word(text)) => leaf(nodes, Node::Name(text), at + 1, true),
-        Some(Token::Number(value)) => leaf(nodes, Node::Number(value), at + 1, false),
-        Some(Token::Text(text)) => leaf(nodes, Node::Text(text), at + 1, false),
-        Some(Token::Key(key)) => keyed(toks, at, key, no_in, room, functions, nodes),
+        Some(Token::Word(text)) => add_leaf(nodes, Node::Name(text), at + 1, true),
+        Some(Token::Number(value)) => add_leaf(nodes, Node::Number(value), at + 1, false),
+        Some(Token::Text(text)) => add_leaf(nodes, Node::Text(text), at + 1, false),
+        Some(Token::Key(key)) => reserved_word(toks, at, key, no_in, room, functions, nodes),
         Some(Token::Sign(_)) => Ok(None),
         None => Ok(None),
     }
 }
 
-fn leaf(
+fn add_leaf(
     nodes: &mut Nodes,
     node: Node,
     next: usize,
@@ -127,7 +127,7 @@ fn leaf(
 }
 
 /// A reserved word that is an expression, or begins a function.
-fn keyed(
+fn reserved_word(
     toks: &[Tok],
     at: usize,
     key: Key,
@@ -145,17 +145,17 @@ fn keyed(
     ensures answer { Answers (from toks.now functions.now nodes.old at) toks.now 18 no_in room at nodes.new result }
 {
     match kind_of(key) {
-        Reserved::This => leaf(nodes, Node::This, at + 1, false),
-        Reserved::ThisWorld => leaf(nodes, Node::ThisWorld, at + 1, false),
-        Reserved::Null => leaf(nodes, Node::Null, at + 1, false),
-        Reserved::Bool(b) => leaf(nodes, Node::Bool(b), at + 1, false),
-        Reserved::Function => Ok(function(toks, at, no_in, room, functions, nodes)),
+        Reserved::This => add_leaf(nodes, Node::This, at + 1, false),
+        Reserved::ThisWorld => add_leaf(nodes, Node::ThisWorld, at + 1, false),
+        Reserved::Null => add_leaf(nodes, Node::Null, at + 1, false),
+        Reserved::Bool(b) => add_leaf(nodes, Node::Bool(b), at + 1, false),
+        Reserved::Function => Ok(function_expression(toks, at, no_in, room, functions, nodes)),
         Reserved::Other => Ok(None),
     }
 }
 
 /// The function that is read already at the place.
-fn function(
+fn function_expression(
     toks: &[Tok],
     at: usize,
     no_in: bool,
@@ -185,7 +185,7 @@ fn function(
 /// An expression in parentheses.
 #[cycle(expression)]
 #[inline(never)]
-fn parens(
+fn parenthesized_expression(
     alloc: Global,
     toks: &[Tok],
     at: usize,
@@ -201,7 +201,8 @@ fn parens(
     ensures ends { PartEnds toks.now at nodes.new result }
     ensures answer { Answers (from toks.now functions.now nodes.old at) toks.now 18 no_in room at nodes.new result }
 {
-    let Some(inner) = comma(alloc, toks, at + 1, false, room - 1, functions, nodes)? else {
+    let Some(inner) = comma_expression(alloc, toks, at + 1, false, room - 1, functions, nodes)?
+    else {
         return Ok(None);
     };
     if !has_sign(toks, inner.next, Sign::CloseParen) {
@@ -218,7 +219,7 @@ fn parens(
 /// An array literal.
 #[cycle(expression)]
 #[inline(never)]
-fn array(
+fn array_literal(
     alloc: Global,
     toks: &[Tok],
     at: usize,
@@ -234,7 +235,7 @@ fn array(
     ensures ends { PartEnds toks.now at nodes.new result }
     ensures answer { Answers (from toks.now functions.now nodes.old at) toks.now 18 no_in room at nodes.new result }
 {
-    let Some(found) = items(alloc, toks, at + 1, room, functions, nodes)? else {
+    let Some(found) = array_elements(alloc, toks, at + 1, room, functions, nodes)? else {
         return Ok(None);
     };
     let next = found.next + 1;
@@ -248,7 +249,7 @@ fn array(
 
 /// Items up to the closing bracket.
 #[cycle(expression)]
-fn items(
+fn array_elements(
     alloc: Global,
     toks: &[Tok],
     at: usize,
@@ -272,7 +273,15 @@ fn items(
             tail = false;
             place += 1;
         } else {
-            let Some(item) = assignment(alloc, toks, place, false, room - 1, functions, nodes)?
+            let Some(item) = assignment_expression(
+                alloc,
+                toks,
+                place,
+                false,
+                room - 1,
+                functions,
+                nodes,
+            )?
             else {
                 return Ok(None);
             };
@@ -301,7 +310,7 @@ fn items(
 /// An object literal.
 #[cycle(expression)]
 #[inline(never)]
-fn object(
+fn object_literal(
     alloc: Global,
     toks: &[Tok],
     at: usize,
@@ -401,7 +410,8 @@ fn property(
     if !has_sign(toks, at + 1, Sign::Colon) {
         return Ok(None);
     }
-    let Some(value) = assignment(alloc, toks, at + 2, false, room - 1, functions, nodes)? else {
+    let Some(value) = assignment_expression(alloc, toks, at + 2, false, room - 1, functions, nodes)?
+    else {
         return Ok(None);
     };
     Ok(Some((key, value)))

@@ -17,18 +17,20 @@ use Rattle.wjs_tree.specs.Spelling.{Stands, StmtsStand, ClausesStand}
 use Rattle.wjs_tree.specs.Shows.{Has, OptionalShows, StmtsShow, ClausesShow, Keeps}
 use Rattle.wjs_tree.proofs.Kept.{kept, optional_kept, stmts_kept, clauses_kept, keeps_self, keeps_both}
 use Rattle.wjs_parse_expr.proofs.Readings.{same_token}
-use Rattle.wjs_parse_stmt.specs.declared.kind.Kind.TheVariants as kinds
-use Rattle.wjs_parse_stmt.specs.declared.parts.Spot.{Spot}
-use Rattle.wjs_parse_stmt.specs.declared.parts.Maybe.{Maybe}
+use Rattle.wjs_parse_simple.specs.declared.kind.Kind.TheVariants as kinds
+use Rattle.wjs_parse_simple.specs.declared.parts.Spot.{Spot}
+use Rattle.wjs_parse_simple.specs.declared.parts.Maybe.{Maybe}
 use Rattle.wjs_parse_stmt.specs.declared.parts.Listed.{Listed}
 use Rattle.wjs_parse_stmt.specs.declared.parts.Arm.{Arm}
 use Rattle.wjs_parse_stmt.specs.declared.parts.ListedClauses.{ListedClauses}
-use Rattle.wjs_parse_stmt.specs.Kinds.{kind_of_stmt}
-use Rattle.wjs_parse_stmt.specs.Readings.{StmtReading, Stops, TestForm, UpTo, StmtsForm, ClauseHead, ClauseForm, ClausesForm, is_closer}
-use Rattle.wjs_parse_stmt.specs.Answers.{KindIs, FindsStmt, FindsStmts, FindsExpr, FindsMaybe}
+use Rattle.wjs_parse_simple.specs.Kinds.{kind_of_stmt}
+use Rattle.wjs_parse_simple.specs.Readings.{StmtReading, Stops, TestForm, UpTo, is_closer}
+use Rattle.wjs_parse_stmt.specs.Readings.{StmtsForm, ClauseHead, ClauseForm, ClausesForm}
+use Rattle.wjs_parse_simple.specs.Answers.{KindIs, FindsStmt, FindsExpr, FindsMaybe}
+use Rattle.wjs_parse_stmt.specs.Answers.{FindsStmts}
 use Rattle.wjs_parse_stmt.specs.Branches.{FindsArm, FindsClauses}
 use Rattle.wjs_tree.proofs.Forward.{forward}
-use Rattle.wjs_parse_stmt.proofs.Forms.{told, of_kind}
+use Rattle.wjs_parse_simple.proofs.Forms.{told, of_kind}
 
 two_keys : (toks : List Tok) (i : ℕ) (a b : Token) → HasToken toks i a → HasToken toks i b → (a ≡ b → ⊥) → ⊥
 two_keys toks i a b h g nay = nay (same_token _ a b h g)

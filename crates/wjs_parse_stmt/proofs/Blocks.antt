@@ -12,14 +12,16 @@ use Rattle.wjs_tree.specs.Ends.{token_at, HasSign}
 use Rattle.wjs_tree.specs.Spelling.{StmtsStand}
 use Rattle.wjs_tree.specs.Shows.{Has, StmtsShow, Keeps}
 use Rattle.wjs_tree.proofs.Kept.{stmt_kept, stmts_kept, keeps_self, keeps_both}
-use Rattle.wjs_parse_stmt.specs.declared.kind.Kind.TheVariants as kinds
-use Rattle.wjs_parse_stmt.specs.declared.parts.Piece.{Piece}
-use Rattle.wjs_parse_stmt.specs.declared.parts.Spot.{Spot}
+use Rattle.wjs_parse_simple.specs.declared.kind.Kind.TheVariants as kinds
+use Rattle.wjs_parse_simple.specs.declared.parts.Piece.{Piece}
+use Rattle.wjs_parse_simple.specs.declared.parts.Spot.{Spot}
 use Rattle.wjs_parse_stmt.specs.declared.parts.Listed.{Listed}
-use Rattle.wjs_parse_stmt.specs.Kinds.{kind_of_stmt}
-use Rattle.wjs_parse_stmt.specs.Readings.{StmtReading, Stops, StmtsForm, BlockForm, is_closer}
-use Rattle.wjs_parse_stmt.specs.Answers.{KindIs, FindsStmt, FindsStmts, FindsBlock}
-use Rattle.wjs_parse_stmt.proofs.Forms.{of_kind, starting, no_start, start_stops, close_stops}
+use Rattle.wjs_parse_simple.specs.Kinds.{kind_of_stmt}
+use Rattle.wjs_parse_simple.specs.Readings.{StmtReading, Stops, is_closer}
+use Rattle.wjs_parse_stmt.specs.Readings.{StmtsForm, BlockForm}
+use Rattle.wjs_parse_simple.specs.Answers.{KindIs, FindsStmt}
+use Rattle.wjs_parse_stmt.specs.Answers.{FindsStmts, FindsBlock}
+use Rattle.wjs_parse_simple.proofs.Forms.{of_kind, starting, no_start, start_stops, close_stops}
 
 -- The statements before a place are read, and each list goes through them.
 pub record Gathered (toks : List Tok) (room at : ℕ) (ns : List Node) (list : List NodeId) (place : ℕ) : Type 0 where

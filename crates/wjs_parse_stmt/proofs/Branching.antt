@@ -14,16 +14,16 @@ use Rattle.wjs_tree.specs.Spelling.{Stands, StmtStands}
 use Rattle.wjs_tree.specs.Shows.{Has, Keeps}
 use Rattle.wjs_tree.proofs.Kept.{kept, stmt_kept}
 use Rattle.wjs_parse_expr.proofs.Readings.{same_token}
-use Rattle.wjs_parse_stmt.specs.declared.kind.Kind.TheVariants as kinds
-use Rattle.wjs_parse_stmt.specs.declared.parts.Piece.{Piece}
-use Rattle.wjs_parse_stmt.specs.declared.parts.Spot.{Spot}
+use Rattle.wjs_parse_simple.specs.declared.kind.Kind.TheVariants as kinds
+use Rattle.wjs_parse_simple.specs.declared.parts.Piece.{Piece}
+use Rattle.wjs_parse_simple.specs.declared.parts.Spot.{Spot}
 use Rattle.wjs_parse_stmt.specs.declared.parts.Branch.{Branch}
-use Rattle.wjs_parse_stmt.specs.Kinds.{kind_of, kind_of_stmt}
-use Rattle.wjs_parse_stmt.specs.Readings.{StmtReading, Stops, TestForm}
-use Rattle.wjs_parse_stmt.specs.Answers.{KindIs, FindsStmt, FindsExpr}
+use Rattle.wjs_parse_simple.specs.Kinds.{kind_of, kind_of_stmt}
+use Rattle.wjs_parse_simple.specs.Readings.{StmtReading, Stops, TestForm}
+use Rattle.wjs_parse_simple.specs.Answers.{KindIs, FindsStmt, FindsExpr}
 use Rattle.wjs_parse_stmt.specs.Branches.{BranchForm, FindsBranch}
 use Rattle.wjs_parse_stmt.specs.Chains.{Head, chain, HeadsShow, IsChained}
-use Rattle.wjs_parse_stmt.proofs.Forms.{of_kind}
+use Rattle.wjs_parse_simple.proofs.Forms.{of_kind}
 use Rattle.wjs_parse_stmt.proofs.Chaining.{heads_kept, heads_last, chain_last}
 
 -- ---- the test and the statement

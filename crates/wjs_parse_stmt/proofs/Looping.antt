@@ -19,18 +19,19 @@ use Rattle.wjs_tree.specs.Shows.{Has, Keeps}
 use Rattle.wjs_tree.proofs.Kept.{kept, stmt_kept, optional_kept, variables_kept, keeps_both}
 use Rattle.wjs_parse_expr.specs.Readings.{Reading}
 use Rattle.wjs_parse_expr.proofs.Readings.{same_token}
-use Rattle.wjs_parse_stmt.specs.declared.kind.Kind.TheVariants as kinds
-use Rattle.wjs_parse_stmt.specs.declared.parts.Piece.{Piece}
-use Rattle.wjs_parse_stmt.specs.declared.parts.Spot.{Spot}
-use Rattle.wjs_parse_stmt.specs.declared.parts.Maybe.{Maybe}
+use Rattle.wjs_parse_simple.specs.declared.kind.Kind.TheVariants as kinds
+use Rattle.wjs_parse_simple.specs.declared.parts.Piece.{Piece}
+use Rattle.wjs_parse_simple.specs.declared.parts.Spot.{Spot}
+use Rattle.wjs_parse_simple.specs.declared.parts.Maybe.{Maybe}
 use Rattle.wjs_parse_stmt.specs.declared.parts.Rest.{Rest}
-use Rattle.wjs_parse_stmt.specs.declared.parts.ListedVariables.{ListedVariables}
-use Rattle.wjs_parse_stmt.specs.Kinds.{kind_of_stmt}
-use Rattle.wjs_parse_stmt.specs.Readings.{StmtReading, Stops, UpTo, MaybeForm, RestForm, VariablesForm, ShutList}
-use Rattle.wjs_parse_stmt.specs.Answers.{KindIs, FindsStmt, FindsExpr, FindsMaybe}
+use Rattle.wjs_parse_simple.specs.declared.parts.ListedVariables.{ListedVariables}
+use Rattle.wjs_parse_simple.specs.Kinds.{kind_of_stmt}
+use Rattle.wjs_parse_simple.specs.Readings.{StmtReading, Stops, UpTo, MaybeForm, VariablesForm, ShutList}
+use Rattle.wjs_parse_stmt.specs.Readings.{RestForm}
+use Rattle.wjs_parse_simple.specs.Answers.{KindIs, FindsStmt, FindsExpr, FindsMaybe}
 use Rattle.wjs_parse_stmt.specs.Branches.{FindsRest, FindsFirst}
-use Rattle.wjs_parse_stmt.specs.Lists.{FindsVariables}
-use Rattle.wjs_parse_stmt.proofs.Forms.{told, of_kind}
+use Rattle.wjs_parse_simple.specs.Lists.{FindsVariables}
+use Rattle.wjs_parse_simple.proofs.Forms.{told, of_kind}
 use Rattle.wjs_tree.specs.Formed.{InitFormed, AreSome}
 use Rattle.wjs_tree.specs.Height.{init_height}
 use Rattle.wjs_tree.specs.Spelling.{InitStands, MoreVariablesStand}
@@ -44,8 +45,8 @@ use Rattle.wjs_parse_expr.proofs.Reach.{binary_bounds}
 use Rattle.wjs_parse_expr.proofs.Heads.{bare_level}
 use Rattle.wjs_parse_expr.proofs.Assignments.{target_level}
 use Rattle.wjs_parse_expr.proofs.Unaries.{never_begins}
-use Rattle.wjs_parse_stmt.specs.Readings.{last_value, Shut}
-use Rattle.wjs_parse_stmt.proofs.Ending.{same_expr, reach_shuts}
+use Rattle.wjs_parse_simple.specs.Readings.{last_value, Shut}
+use Rattle.wjs_parse_simple.proofs.Ending.{same_expr, reach_shuts}
 
 clash : (toks : List Tok) (i : ℕ) (a b : Token) → HasToken toks i a → HasToken toks i b → (a ≡ b → ⊥) → ⊥
 clash toks i a b h g nay = nay (same_token _ a b h g)

@@ -16,15 +16,17 @@ use Rattle.wjs_tree.specs.Ends.{HasSign, HasKey, Complete, Ends}
 use Rattle.wjs_tree.specs.Spelling.{Stands, StmtStands}
 use Rattle.wjs_tree.specs.Shows.{Has, Keeps}
 use Rattle.wjs_tree.proofs.Kept.{kept, stmt_kept, stmts_kept, keeps_both}
-use Rattle.wjs_parse_stmt.specs.declared.kind.Kind.TheVariants as kinds
-use Rattle.wjs_parse_stmt.specs.declared.parts.Piece.{Piece}
-use Rattle.wjs_parse_stmt.specs.declared.parts.Spot.{Spot}
-use Rattle.wjs_parse_stmt.specs.declared.parts.Ended.{Ended}
-use Rattle.wjs_parse_stmt.specs.Kinds.{kind_of_stmt}
-use Rattle.wjs_parse_stmt.specs.Readings.{StmtReading, Stops, TestForm, UpTo, BlockForm}
-use Rattle.wjs_parse_stmt.specs.Answers.{KindIs, FindsStmt, FindsExpr, FindsBlock}
-use Rattle.wjs_parse_stmt.proofs.Forms.{told, of_kind, start_stops}
-use Rattle.wjs_parse_stmt.proofs.Ending.{one_end}
+use Rattle.wjs_parse_simple.specs.declared.kind.Kind.TheVariants as kinds
+use Rattle.wjs_parse_simple.specs.declared.parts.Piece.{Piece}
+use Rattle.wjs_parse_simple.specs.declared.parts.Spot.{Spot}
+use Rattle.wjs_parse_simple.specs.declared.parts.Ended.{Ended}
+use Rattle.wjs_parse_simple.specs.Kinds.{kind_of_stmt}
+use Rattle.wjs_parse_simple.specs.Readings.{StmtReading, Stops, TestForm, UpTo}
+use Rattle.wjs_parse_stmt.specs.Readings.{BlockForm}
+use Rattle.wjs_parse_simple.specs.Answers.{KindIs, FindsStmt, FindsExpr}
+use Rattle.wjs_parse_stmt.specs.Answers.{FindsBlock}
+use Rattle.wjs_parse_simple.proofs.Forms.{told, of_kind, start_stops}
+use Rattle.wjs_parse_simple.proofs.Ending.{one_end}
 
 two : (i : ℕ) → (i + 1) + 1 ≡ i + 2
 two i = omega arith

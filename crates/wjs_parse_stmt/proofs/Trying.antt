@@ -17,14 +17,16 @@ use Rattle.wjs_tree.specs.Spelling.{StmtsStand}
 use Rattle.wjs_tree.specs.Shows.{Has, Keeps}
 use Rattle.wjs_tree.proofs.Kept.{stmts_kept, keeps_both}
 use Rattle.wjs_parse_expr.proofs.Readings.{same_token}
-use Rattle.wjs_parse_stmt.specs.declared.kind.Kind.TheVariants as kinds
-use Rattle.wjs_parse_stmt.specs.declared.parts.Spot.{Spot}
+use Rattle.wjs_parse_simple.specs.declared.kind.Kind.TheVariants as kinds
+use Rattle.wjs_parse_simple.specs.declared.parts.Spot.{Spot}
 use Rattle.wjs_parse_stmt.specs.declared.parts.Handled.{Handled}
-use Rattle.wjs_parse_stmt.specs.Kinds.{kind_of_stmt}
-use Rattle.wjs_parse_stmt.specs.Readings.{StmtReading, Stops, BlockForm, HandlerForm}
-use Rattle.wjs_parse_stmt.specs.Answers.{KindIs, FindsStmt, FindsBlock}
+use Rattle.wjs_parse_simple.specs.Kinds.{kind_of_stmt}
+use Rattle.wjs_parse_simple.specs.Readings.{StmtReading, Stops}
+use Rattle.wjs_parse_stmt.specs.Readings.{BlockForm, HandlerForm}
+use Rattle.wjs_parse_simple.specs.Answers.{KindIs, FindsStmt}
+use Rattle.wjs_parse_stmt.specs.Answers.{FindsBlock}
 use Rattle.wjs_parse_stmt.specs.Branches.{FindsHandler}
-use Rattle.wjs_parse_stmt.proofs.Forms.{told, of_kind}
+use Rattle.wjs_parse_simple.proofs.Forms.{told, of_kind}
 
 -- ---- `catch`
 

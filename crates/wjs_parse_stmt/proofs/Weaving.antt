@@ -13,8 +13,9 @@ use Rattle.wjs_parse_expr.specs.declared.functions.Functions.{Functions}
 use Rattle.wjs_parse_expr.specs.Table.{Holds}
 use Rattle.wjs_parse_stmt.specs.declared.parts.Branch.{Branch}
 use Rattle.wjs_parse_stmt.specs.Chains.{Head}
-use Rattle.wjs_parse_stmt.specs.Made.{Span, StmtMade, BranchMade, HeadsUse, HeadsMade, ChainMade, IsWoven}
-use Rattle.wjs_parse_stmt.proofs.Spans.{Added, span_none, span_wide, span_both, span_top}
+use Rattle.wjs_parse_simple.specs.Made.{Span, StmtMade}
+use Rattle.wjs_parse_stmt.specs.Made.{BranchMade, HeadsUse, HeadsMade, ChainMade, IsWoven}
+use Rattle.wjs_parse_simple.proofs.Spans.{Added, span_none, span_wide, span_both, span_top}
 
 -- ---- the same numbers in another order
 

@@ -20,7 +20,8 @@ use Rattle.wjs_parse_stmt.specs.declared.parts.Branch.{Branch}
 use Rattle.wjs_parse_stmt.specs.declared.parts.Handled.{Handled}
 use Rattle.wjs_parse_stmt.specs.declared.parts.Arm.{Arm}
 use Rattle.wjs_parse_stmt.specs.declared.parts.ListedClauses.{ListedClauses}
-use Rattle.wjs_parse_stmt.specs.Readings.{StmtReading, Stops, TestForm, RestForm, HandlerForm, ClauseForm, ClausesForm}
+use Rattle.wjs_parse_simple.specs.Readings.{StmtReading, Stops, TestForm}
+use Rattle.wjs_parse_stmt.specs.Readings.{RestForm, HandlerForm, ClauseForm, ClausesForm}
 
 -- the longest expression at the head of a `for`, where no `in` stands outside brackets
 pub record FindsFirst (toks : List Tok) (room i : ℕ) (ns : List Node) (p : Part) : Type 0 where

@@ -1,7 +1,5 @@
-pub mod Kinds
 pub mod Readings
 pub mod Answers
-pub mod Lists
 pub mod Branches
 pub mod Chains
 pub mod Made

@@ -1,6 +1,6 @@
 -- What is read is made of nodes of its own: no node stands at two places of it, and each is new or one of a function that
 -- was read before within its tokens.
-use Rattle.std.specs.Prelude.{◌≡◌, ℕ, ◌≤◌, List, [], ◌∷◌, ◌++◌, Option, Some}
+use Rattle.std.specs.Prelude.{◌≡◌, ℕ, List, [], ◌∷◌, ◌++◌, Option, Some}
 use Rattle.std.specs.declared.result.Result.{Result}
 use Rattle.std.specs.declared.result.Result.TheVariants.{Ok}
 use Rattle.wjs_base.specs.declared.ids.OutOfMemory.{OutOfMemory}
@@ -8,61 +8,27 @@ use Rattle.wjs_tree.specs.declared.tokens.Tok.{Tok}
 use Rattle.wjs_tree.specs.declared.node.Node.{Node}
 use Rattle.wjs_tree.specs.declared.node.Node.TheVariants as nodes
 use Rattle.wjs_tree.specs.declared.node.NodeId.{NodeId}
-use Rattle.wjs_tree.specs.declared.node.Declarator.{Declarator}
 use Rattle.wjs_tree.specs.declared.node.ForInit.{ForInit}
 use Rattle.wjs_tree.specs.declared.node.Clause.{Clause}
-use Rattle.wjs_tree.specs.Trees.{Expr, Optional, Variables, Init, Stmt, Stmts, Clauses}
-use Rattle.wjs_tree.specs.Shows.{Has, Shows, OptionalShows, VariablesShow, InitShows, StmtShows, StmtsShow, ClausesShow, Keeps}
+use Rattle.wjs_tree.specs.Trees.{Expr, Optional, Init, Stmt, Stmts, Clauses}
+use Rattle.wjs_tree.specs.Shows.{Has, Shows, OptionalShows, InitShows, StmtShows, StmtsShow, ClausesShow}
 use Rattle.wjs_parse_expr.specs.declared.functions.Functions.{Functions}
-use Rattle.wjs_parse_expr.specs.Table.{Holds, Owns}
-use Rattle.wjs_parse_stmt.specs.declared.parts.Piece.{Piece}
-use Rattle.wjs_parse_stmt.specs.declared.parts.Spot.{Spot}
-use Rattle.wjs_parse_stmt.specs.declared.parts.Valued.{Valued}
-use Rattle.wjs_parse_stmt.specs.declared.parts.Maybe.{Maybe}
+use Rattle.wjs_parse_expr.specs.Table.{Holds}
+use Rattle.wjs_parse_simple.specs.declared.parts.Piece.{Piece}
+use Rattle.wjs_parse_simple.specs.declared.parts.Spot.{Spot}
+use Rattle.wjs_parse_simple.specs.Made.{Span, ExprMade, StmtMade, StmtOwn}
 use Rattle.wjs_parse_stmt.specs.declared.parts.Rest.{Rest}
-use Rattle.wjs_parse_stmt.specs.declared.parts.Declared.{Declared}
 use Rattle.wjs_parse_stmt.specs.declared.parts.Branch.{Branch}
 use Rattle.wjs_parse_stmt.specs.declared.parts.Handled.{Handled}
 use Rattle.wjs_parse_stmt.specs.declared.parts.Arm.{Arm}
 use Rattle.wjs_parse_stmt.specs.declared.parts.Listed.{Listed}
-use Rattle.wjs_parse_stmt.specs.declared.parts.ListedVariables.{ListedVariables}
 use Rattle.wjs_parse_stmt.specs.declared.parts.ListedClauses.{ListedClauses}
 use Rattle.wjs_parse_stmt.specs.Chains.{Head}
-
--- the nodes of what the tokens from i up to n spell, where the nodes that were there stay
-pub record Span (functions : Functions) (old new : List Node) (i n : ℕ) (used : List ℕ) : Type 0 where
-  pub own : Owns functions old new i n used
-  pub keeps : Keeps old new
-  pub forward : i ≤ n
-
-pub record ExprMade (functions : Functions) (old new : List Node) (i : ℕ) (node : NodeId) (n : ℕ) : Type 0 where
-  pub tree : Expr
-  pub used : List ℕ
-  pub shows : Shows new tree node used
-  pub span : Span functions old new i n used
-
-pub record OptionalMade (functions : Functions) (old new : List Node) (i : ℕ) (node : Option NodeId) (n : ℕ) : Type 0 where
-  pub tree : Optional
-  pub used : List ℕ
-  pub shows : OptionalShows new tree node used
-  pub span : Span functions old new i n used
-
-pub record VariablesMade (functions : Functions) (old new : List Node) (i : ℕ) (list : List Declarator) (n : ℕ) : Type 0 where
-  pub trees : Variables
-  pub used : List ℕ
-  pub shows : VariablesShow new trees list used
-  pub span : Span functions old new i n used
 
 pub record InitMade (functions : Functions) (old new : List Node) (i : ℕ) (init : ForInit) (n : ℕ) : Type 0 where
   pub tree : Init
   pub used : List ℕ
   pub shows : InitShows new tree init used
-  pub span : Span functions old new i n used
-
-pub record StmtMade (functions : Functions) (old new : List Node) (i : ℕ) (node : NodeId) (n : ℕ) : Type 0 where
-  pub tree : Stmt
-  pub used : List ℕ
-  pub shows : StmtShows new tree node used
   pub span : Span functions old new i n used
 
 pub record StmtsMade (functions : Functions) (old new : List Node) (i : ℕ) (list : List NodeId) (n : ℕ) : Type 0 where
@@ -146,30 +112,6 @@ pub record IsWoven (old : List Node) (list : List Branch) (last : NodeId) (new :
 
 -- ---- what readers answer
 
-abbrev pub ExprOwn : Functions → List Node → List Node → ℕ → Result (Option Spot) OutOfMemory → Type 0
-ExprOwn functions old new i (Ok (Some p)) = ExprMade functions old new i p.node p.next
-ExprOwn functions old new i _ = Unit {0}
-
-abbrev pub ValueOwn : Functions → List Node → List Node → ℕ → Result (Option Valued) OutOfMemory → Type 0
-ValueOwn functions old new i (Ok (Some p)) = ExprMade functions old new i p.node p.next
-ValueOwn functions old new i _ = Unit {0}
-
-abbrev pub MaybeOwn : Functions → List Node → List Node → ℕ → Result (Option Maybe) OutOfMemory → Type 0
-MaybeOwn functions old new i (Ok (Some p)) = OptionalMade functions old new i p.node p.next
-MaybeOwn functions old new i _ = Unit {0}
-
-abbrev pub VariableOwn : Functions → List Node → List Node → ℕ → Result (Option Declared) OutOfMemory → Type 0
-VariableOwn functions old new i (Ok (Some p)) = OptionalMade functions old new i p.declarator.value p.next
-VariableOwn functions old new i _ = Unit {0}
-
-abbrev pub VariablesOwn : Functions → List Node → List Node → ℕ → Result (Option ListedVariables) OutOfMemory → Type 0
-VariablesOwn functions old new i (Ok (Some p)) = VariablesMade functions old new i p.list p.next
-VariablesOwn functions old new i _ = Unit {0}
-
-abbrev pub StmtOwn : Functions → List Node → List Node → ℕ → Result (Option Piece) OutOfMemory → Type 0
-StmtOwn functions old new i (Ok (Some p)) = StmtMade functions old new i p.node p.next
-StmtOwn functions old new i _ = Unit {0}
-
 abbrev pub StmtsOwn : Functions → List Node → List Node → ℕ → Result (Option Listed) OutOfMemory → Type 0
 StmtsOwn functions old new i (Ok (Some p)) = StmtsMade functions old new i p.list p.next
 StmtsOwn functions old new i _ = Unit {0}
@@ -204,7 +146,3 @@ BehindBlock toks functions at room old i node n new r = (start : List Node) → 
 
 abbrev pub BehindExpr : List Tok → Functions → ℕ → ℕ → List Node → ℕ → NodeId → ℕ → List Node → Result (Option Piece) OutOfMemory → Type 0
 BehindExpr toks functions at room old i node n new r = (start : List Node) → Holds toks functions at room start → ExprMade functions start old i node n → StmtOwn functions start new at r
-
--- a statement without parts
-abbrev pub LeafOwn : List Node → List Node → ℕ → Result (Option Piece) OutOfMemory → Type 0
-LeafOwn old new i r = (functions : Functions) → StmtOwn functions old new i r

@@ -2,29 +2,33 @@
 ghost use Rattle.std.specs.Prelude.{◌≡◌, ◌+◌, ◌<◌};
 ghost use Rattle.wjs_tree.specs.Shows.{Keeps};
 ghost use Rattle.wjs_parse_expr.specs.Table.{Holds};
-ghost use Rattle.wjs_parse_stmt.specs.declared.kind.Kind.TheVariants as kinds;
+ghost use Rattle.wjs_parse_simple.specs.declared.kind.Kind.TheVariants as kinds;
 ghost use Rattle.std.specs.Prelude.{◌-◌};
 ghost use Rattle.wjs_tree.specs.Ends.{HasKey};
 ghost use Rattle.wjs_tree.specs.declared.keys.Key.TheVariants as keys;
-ghost use Rattle.wjs_parse_stmt.specs.Answers.{KindIs, StmtAnswers, PieceEnds, FindsBlock, EndsBy};
+ghost use Rattle.wjs_parse_simple.specs.Answers.{KindIs, StmtAnswers, PieceEnds, MaybeAnswers, MaybeEnds, EndsBy};
+ghost use Rattle.wjs_parse_stmt.specs.Answers.{FindsBlock};
 ghost use Rattle.wjs_parse_stmt.specs.Branches.{BranchAnswers, BranchEnds, HandlerAnswers, HandlerEnds, ArmAnswers, ArmEnds, ClausesAnswers, ClausesEnds};
-ghost use Rattle.wjs_parse_stmt.specs.Made.{StmtOwn, BranchOwn, ClausesOwn, ArmOwn, HandlerOwn, BehindBlock};
+ghost use Rattle.wjs_parse_simple.specs.Made.{StmtOwn, MaybeOwn};
+ghost use Rattle.wjs_parse_stmt.specs.Readings.{ClauseHead};
+ghost use Rattle.wjs_parse_stmt.specs.Made.{BranchOwn, ClausesOwn, ArmOwn, HandlerOwn, BehindBlock};
 
-use crate::chain::chained;
+use crate::chain::chain_ifs;
 use crate::lists::{block, statements};
-use crate::parts::{Arm, Branch, Handled, ListedClauses, Piece, Spot, push_last};
-use crate::stmt::{other, statement};
-use crate::values::{arm_head, test};
-use crate::variables::word_at;
+use crate::parts::{Arm, Branch, Handled, ListedClauses};
+use crate::stmt::{statement, statement_by_kind};
 use std::alloc::Global;
 use wjs_base::OutOfMemory;
 use wjs_parse_expr::{Functions, has_key, has_sign};
+use wjs_parse_simple::{
+    Maybe, Piece, Spot, expression_up_to, parenthesized_expression, push_last, word_at,
+};
 use wjs_tree::{Clause, Handler, Key, Node, Nodes, Sequence, Sign, Tok};
 
 /// `if`, with all that stands behind its `else`s.
 #[cycle(statement)]
 #[inline(never)]
-pub fn conditional(
+pub fn if_statement(
     alloc: Global,
     toks: &[Tok],
     at: usize,
@@ -48,7 +52,7 @@ pub fn conditional(
         };
         if !has_key(toks, head.next, Key::Else) {
             let last = nodes.add(Node::If(head.test, head.body, None))?;
-            let node = chained(heads, last, nodes)?;
+            let node = chain_ifs(heads, last, nodes)?;
             return Ok(Some(Piece {
                 node,
                 next: head.next,
@@ -61,10 +65,10 @@ pub fn conditional(
         push_last(&mut heads, head)?;
         place = head.next + 1;
     }
-    let Some(last) = other(alloc, toks, place, room, functions, nodes)? else {
+    let Some(last) = statement_by_kind(alloc, toks, place, room, functions, nodes)? else {
         return Ok(None);
     };
-    let node = chained(heads, last.node, nodes)?;
+    let node = chain_ifs(heads, last.node, nodes)?;
     Ok(Some(Piece {
         node,
         next: last.next,
@@ -89,7 +93,7 @@ fn branch(
     ensures answer { BranchAnswers toks.now room at nodes.new result }
     ensures own { BranchOwn functions.now nodes.old nodes.new at result }
 {
-    let Some(test) = test(alloc, toks, at + 1, room, functions, nodes)? else {
+    let Some(test) = parenthesized_expression(alloc, toks, at + 1, room, functions, nodes)? else {
         return Ok(None);
     };
     let Some(body) = statement(alloc, toks, test.next, room, functions, nodes)? else {
@@ -106,7 +110,7 @@ fn branch(
 /// `switch`.
 #[cycle(statement)]
 #[inline(never)]
-pub fn cases(
+pub fn switch_statement(
     alloc: Global,
     toks: &[Tok],
     at: usize,
@@ -122,13 +126,14 @@ pub fn cases(
     ensures answer { StmtAnswers toks.now room at nodes.new result }
     ensures own { StmtOwn functions.now nodes.old nodes.new at result }
 {
-    let Some(test) = test(alloc, toks, at + 1, room - 1, functions, nodes)? else {
+    let Some(test) = parenthesized_expression(alloc, toks, at + 1, room - 1, functions, nodes)?
+    else {
         return Ok(None);
     };
     if !has_sign(toks, test.next, Sign::OpenBrace) {
         return Ok(None);
     }
-    let Some(found) = clauses(alloc, toks, test.next + 1, room - 1, functions, nodes)? else {
+    let Some(found) = case_clauses(alloc, toks, test.next + 1, room - 1, functions, nodes)? else {
         return Ok(None);
     };
     let next = found.next + 1;
@@ -142,7 +147,7 @@ pub fn cases(
 
 /// Clauses up to the closing brace.
 #[cycle(statement)]
-fn clauses(
+fn case_clauses(
     alloc: Global,
     toks: &[Tok],
     at: usize,
@@ -159,7 +164,7 @@ fn clauses(
     let mut list: Vec<Clause> = Vec::new(alloc);
     let mut place = at;
     while !has_sign(toks, place, Sign::CloseBrace) {
-        let Some(item) = arm(alloc, toks, place, room, functions, nodes)? else {
+        let Some(item) = case_clause(alloc, toks, place, room, functions, nodes)? else {
             return Ok(None);
         };
         place = item.next;
@@ -173,7 +178,7 @@ fn clauses(
 
 /// One clause.
 #[cycle(statement)]
-fn arm(
+fn case_clause(
     alloc: Global,
     toks: &[Tok],
     at: usize,
@@ -187,7 +192,7 @@ fn arm(
     ensures answer { ArmAnswers toks.now room at nodes.new result }
     ensures own { ArmOwn functions.now nodes.old nodes.new at result }
 {
-    let Some(head) = arm_head(alloc, toks, at, room, functions, nodes)? else {
+    let Some(head) = case_head(alloc, toks, at, room, functions, nodes)? else {
         return Ok(None);
     };
     let Some(body) = statements(alloc, toks, head.next, room, functions, nodes)? else {
@@ -203,10 +208,48 @@ fn arm(
     }))
 }
 
+/// `case` with its expression, or `default`, and the colon.
+#[inline(never)]
+fn case_head(
+    alloc: Global,
+    toks: &[Tok],
+    at: usize,
+    room: u64,
+    functions: &Functions,
+    nodes: &mut Nodes,
+) -> Result<Option<Maybe>, OutOfMemory>
+    requires held { Holds toks.now functions.now at room nodes.old }
+    ensures keeps { Keeps nodes.old nodes.new }
+    ensures ends { MaybeEnds toks.now at nodes.new result }
+    ensures answer { MaybeAnswers (ClauseHead toks.now room at) nodes.new result }
+    ensures own { MaybeOwn functions.now nodes.old nodes.new at result }
+{
+    if has_key(toks, at, Key::Default) {
+        if !has_sign(toks, at + 1, Sign::Colon) {
+            return Ok(None);
+        }
+        return Ok(Some(Maybe {
+            node: None,
+            next: at + 2,
+        }));
+    }
+    if !has_key(toks, at, Key::Case) {
+        return Ok(None);
+    }
+    let Some(value) = expression_up_to(alloc, toks, at + 1, Sign::Colon, room, functions, nodes)?
+    else {
+        return Ok(None);
+    };
+    Ok(Some(Maybe {
+        node: Some(value.node),
+        next: value.next + 1,
+    }))
+}
+
 /// `try`, with `catch`, `finally` or both.
 #[cycle(statement)]
 #[inline(never)]
-pub fn trial(
+pub fn try_statement(
     alloc: Global,
     toks: &[Tok],
     at: usize,
@@ -226,7 +269,7 @@ pub fn trial(
         return Ok(None);
     };
     if has_key(toks, body.next, Key::Catch) {
-        return caught(alloc, toks, at, body, room, functions, nodes);
+        return try_with_catch(alloc, toks, at, body, room, functions, nodes);
     }
     if !has_key(toks, body.next, Key::Finally) {
         return Ok(None);
@@ -245,7 +288,7 @@ pub fn trial(
 /// `try` whose block is read, with `catch` and perhaps `finally`.
 #[cycle(statement)]
 #[inline(never)]
-fn caught(
+fn try_with_catch(
     alloc: Global,
     toks: &[Tok],
     at: usize,
@@ -265,7 +308,7 @@ fn caught(
     ensures answer { StmtAnswers toks.now room at nodes.new result }
     ensures own { BehindBlock toks.now functions.now at room nodes.old (at + 1) body.node body.next nodes.new result }
 {
-    let Some(found) = handler(alloc, toks, body.next, room - 1, functions, nodes)? else {
+    let Some(found) = catch_clause(alloc, toks, body.next, room - 1, functions, nodes)? else {
         return Ok(None);
     };
     if !has_key(toks, found.next, Key::Finally) {
@@ -289,7 +332,7 @@ fn caught(
 
 /// `catch` with its name and block.
 #[cycle(statement)]
-fn handler(
+fn catch_clause(
     alloc: Global,
     toks: &[Tok],
     at: usize,

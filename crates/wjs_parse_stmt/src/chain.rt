@@ -9,7 +9,7 @@ use wjs_base::OutOfMemory;
 use wjs_tree::{Node, NodeId, Nodes};
 
 /// The `if`s, each behind the `else` of the one before it, and the last statement behind them all.
-pub fn chained(heads: Vec<Branch>, last: NodeId, nodes: &mut Nodes) -> Result<NodeId, OutOfMemory>
+pub fn chain_ifs(heads: Vec<Branch>, last: NodeId, nodes: &mut Nodes) -> Result<NodeId, OutOfMemory>
     requires below { BranchesBelow (length nodes.old) heads.items }
     requires there { last.0 < length nodes.old }
     ensures keeps { Keeps nodes.old nodes.new }

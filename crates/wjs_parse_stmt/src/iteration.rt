@@ -2,29 +2,31 @@
 ghost use Rattle.std.specs.Prelude.{◌≡◌, ◌+◌, ◌<◌};
 ghost use Rattle.wjs_tree.specs.Shows.{Keeps};
 ghost use Rattle.wjs_parse_expr.specs.Table.{Holds};
-ghost use Rattle.wjs_parse_stmt.specs.declared.kind.Kind.TheVariants as kinds;
+ghost use Rattle.wjs_parse_simple.specs.declared.kind.Kind.TheVariants as kinds;
 ghost use Rattle.std.specs.Prelude.{◌-◌};
 ghost use Rattle.wjs_tree.specs.Ends.{HasSign, HasKey};
 ghost use Rattle.wjs_tree.specs.declared.signs.Sign.TheVariants as signs;
 ghost use Rattle.wjs_tree.specs.declared.keys.Key.TheVariants as keys;
-ghost use Rattle.wjs_parse_stmt.specs.Answers.{KindIs, StmtAnswers, PieceEnds, EndsBy};
+ghost use Rattle.wjs_parse_simple.specs.Answers.{KindIs, StmtAnswers, PieceEnds, EndsBy};
 ghost use Rattle.wjs_parse_stmt.specs.Branches.{FindsFirst, RestAnswers, RestEnds};
-ghost use Rattle.wjs_parse_stmt.specs.Made.{StmtOwn, RestOwn, BehindExpr};
+ghost use Rattle.wjs_parse_simple.specs.Made.{StmtOwn};
+ghost use Rattle.wjs_parse_stmt.specs.Made.{RestOwn, BehindExpr};
 
-use crate::ends::end_at;
-use crate::parts::{Piece, Rest, Stop};
+use crate::parts::Rest;
 use crate::stmt::statement;
-use crate::values::{maybe, test, up_to};
-use crate::variables::{variables, word_at};
 use std::alloc::Global;
 use wjs_base::OutOfMemory;
-use wjs_parse_expr::{Functions, Part, comma, has_key, has_sign};
+use wjs_parse_expr::{Functions, Part, comma_expression, has_key, has_sign};
+use wjs_parse_simple::{
+    Piece, Stop, end_at, expression_up_to, optional_expression, parenthesized_expression,
+    variable_declarations, word_at,
+};
 use wjs_tree::{ForInit, Key, Node, Nodes, Sign, Tok};
 
 /// `while`.
 #[cycle(statement)]
 #[inline(never)]
-pub fn repeated(
+pub fn while_statement(
     alloc: Global,
     toks: &[Tok],
     at: usize,
@@ -40,7 +42,8 @@ pub fn repeated(
     ensures answer { StmtAnswers toks.now room at nodes.new result }
     ensures own { StmtOwn functions.now nodes.old nodes.new at result }
 {
-    let Some(test) = test(alloc, toks, at + 1, room - 1, functions, nodes)? else {
+    let Some(test) = parenthesized_expression(alloc, toks, at + 1, room - 1, functions, nodes)?
+    else {
         return Ok(None);
     };
     let Some(body) = statement(alloc, toks, test.next, room - 1, functions, nodes)? else {
@@ -57,7 +60,7 @@ pub fn repeated(
 /// `do` with its statement, `while` with its test, and the end.
 #[cycle(statement)]
 #[inline(never)]
-pub fn until(
+pub fn do_while_statement(
     alloc: Global,
     toks: &[Tok],
     at: usize,
@@ -79,7 +82,15 @@ pub fn until(
     if !has_key(toks, body.next, Key::While) {
         return Ok(None);
     }
-    let Some(test) = test(alloc, toks, body.next + 1, room - 1, functions, nodes)? else {
+    let Some(test) = parenthesized_expression(
+        alloc,
+        toks,
+        body.next + 1,
+        room - 1,
+        functions,
+        nodes,
+    )?
+    else {
         return Ok(None);
     };
     let Some(ended) = end_at(toks, test.next, Stop::Complete) else {
@@ -96,7 +107,7 @@ pub fn until(
 /// `for`, by its header.
 #[cycle(statement)]
 #[inline(never)]
-pub fn counted(
+pub fn for_statement(
     alloc: Global,
     toks: &[Tok],
     at: usize,
@@ -116,18 +127,18 @@ pub fn counted(
         return Ok(None);
     }
     if !has_key(toks, at + 2, Key::Var) {
-        return by_value(alloc, toks, at, room, functions, nodes);
+        return for_without_var(alloc, toks, at, room, functions, nodes);
     }
     if has_key(toks, at + 4, Key::In) {
-        return each_variable(alloc, toks, at, room, functions, nodes);
+        return for_var_in(alloc, toks, at, room, functions, nodes);
     }
-    by_variables(alloc, toks, at, room, functions, nodes)
+    for_with_variables(alloc, toks, at, room, functions, nodes)
 }
 
 /// `for` over the names of an object, each in a variable.
 #[cycle(statement)]
 #[inline(never)]
-fn each_variable(
+fn for_var_in(
     alloc: Global,
     toks: &[Tok],
     at: usize,
@@ -149,7 +160,7 @@ fn each_variable(
     let Some(name) = word_at(toks, at + 3) else {
         return Ok(None);
     };
-    let Some(object) = up_to(
+    let Some(object) = expression_up_to(
         alloc,
         toks,
         at + 5,
@@ -175,7 +186,7 @@ fn each_variable(
 /// `for` whose header begins with variables.
 #[cycle(statement)]
 #[inline(never)]
-fn by_variables(
+fn for_with_variables(
     alloc: Global,
     toks: &[Tok],
     at: usize,
@@ -194,10 +205,11 @@ fn by_variables(
     ensures answer { StmtAnswers toks.now room at nodes.new result }
     ensures own { StmtOwn functions.now nodes.old nodes.new at result }
 {
-    let Some(first) = variables(alloc, toks, at + 3, true, room - 1, functions, nodes)? else {
+    let Some(first) = variable_declarations(alloc, toks, at + 3, true, room - 1, functions, nodes)?
+    else {
         return Ok(None);
     };
-    let Some(rest) = rest(alloc, toks, first.next, room - 1, functions, nodes)? else {
+    let Some(rest) = for_rest(alloc, toks, first.next, room - 1, functions, nodes)? else {
         return Ok(None);
     };
     let node = nodes.add(Node::For(ForInit::Var(first.list), rest.test, rest.update, rest.node))?;
@@ -211,7 +223,7 @@ fn by_variables(
 /// `for` whose header begins with an expression or nothing.
 #[cycle(statement)]
 #[inline(always)]
-fn by_value(
+fn for_without_var(
     alloc: Global,
     toks: &[Tok],
     at: usize,
@@ -230,21 +242,22 @@ fn by_value(
     ensures own { StmtOwn functions.now nodes.old nodes.new at result }
 {
     if has_sign(toks, at + 2, Sign::Semicolon) {
-        return unstarted(alloc, toks, at, room, functions, nodes);
+        return for_without_first(alloc, toks, at, room, functions, nodes);
     }
-    let Some(first) = comma(alloc, toks, at + 2, true, room - 1, functions, nodes)? else {
+    let Some(first) = comma_expression(alloc, toks, at + 2, true, room - 1, functions, nodes)?
+    else {
         return Ok(None);
     };
     if !has_key(toks, first.next, Key::In) {
-        return started(alloc, toks, at, first, room, functions, nodes);
+        return for_with_expression(alloc, toks, at, first, room, functions, nodes);
     }
-    each(alloc, toks, at, first, room, functions, nodes)
+    for_in(alloc, toks, at, first, room, functions, nodes)
 }
 
 /// `for` whose header begins with `;`.
 #[cycle(statement)]
 #[inline(never)]
-fn unstarted(
+fn for_without_first(
     alloc: Global,
     toks: &[Tok],
     at: usize,
@@ -262,7 +275,7 @@ fn unstarted(
     ensures answer { StmtAnswers toks.now room at nodes.new result }
     ensures own { StmtOwn functions.now nodes.old nodes.new at result }
 {
-    let Some(rest) = rest(alloc, toks, at + 2, room - 1, functions, nodes)? else {
+    let Some(rest) = for_rest(alloc, toks, at + 2, room - 1, functions, nodes)? else {
         return Ok(None);
     };
     let node = nodes.add(Node::For(ForInit::Nothing, rest.test, rest.update, rest.node))?;
@@ -276,7 +289,7 @@ fn unstarted(
 /// `for` whose header begins with the expression.
 #[cycle(statement)]
 #[inline(never)]
-fn started(
+fn for_with_expression(
     alloc: Global,
     toks: &[Tok],
     at: usize,
@@ -299,7 +312,7 @@ fn started(
     ensures answer { StmtAnswers toks.now room at nodes.new result }
     ensures own { BehindExpr toks.now functions.now at room nodes.old (at + 2) first.node first.next nodes.new result }
 {
-    let Some(rest) = rest(alloc, toks, first.next, room - 1, functions, nodes)? else {
+    let Some(rest) = for_rest(alloc, toks, first.next, room - 1, functions, nodes)? else {
         return Ok(None);
     };
     let node = nodes.add(Node::For(ForInit::Expr(first.node), rest.test, rest.update, rest.node))?;
@@ -313,7 +326,7 @@ fn started(
 /// `for` over the names of an object, each put to the target.
 #[cycle(statement)]
 #[inline(never)]
-fn each(
+fn for_in(
     alloc: Global,
     toks: &[Tok],
     at: usize,
@@ -338,7 +351,7 @@ fn each(
     if !first.is_target {
         return Ok(None);
     }
-    let Some(object) = up_to(
+    let Some(object) = expression_up_to(
         alloc,
         toks,
         first.next + 1,
@@ -364,7 +377,7 @@ fn each(
 /// What stands behind the first part of the header of a `for`: both other parts and the statement.
 #[cycle(statement)]
 #[inline(always)]
-fn rest(
+fn for_rest(
     alloc: Global,
     toks: &[Tok],
     at: usize,
@@ -381,10 +394,19 @@ fn rest(
     if !has_sign(toks, at, Sign::Semicolon) {
         return Ok(None);
     }
-    let Some(test) = maybe(alloc, toks, at + 1, Sign::Semicolon, room, functions, nodes)? else {
+    let Some(test) = optional_expression(
+        alloc,
+        toks,
+        at + 1,
+        Sign::Semicolon,
+        room,
+        functions,
+        nodes,
+    )?
+    else {
         return Ok(None);
     };
-    let Some(update) = maybe(
+    let Some(update) = optional_expression(
         alloc,
         toks,
         test.next + 1,

@@ -3,16 +3,10 @@
 
 mod branch;
 mod chain;
-mod ends;
 mod iteration;
-mod kind;
-mod leaf;
 mod lists;
 mod parts;
 mod stmt;
-mod values;
-mod variables;
 
-pub use ends::is_closed;
-pub use parts::{Listed, Piece, push_last};
+pub use parts::Listed;
 pub use stmt::statement;

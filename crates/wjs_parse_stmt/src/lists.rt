@@ -2,15 +2,16 @@
 ghost use Rattle.std.specs.Prelude.{◌≡◌};
 ghost use Rattle.wjs_tree.specs.Shows.{Keeps};
 ghost use Rattle.wjs_parse_expr.specs.Table.{Holds};
-ghost use Rattle.wjs_parse_stmt.specs.Answers.{BlockAnswers, SpotEnds, StmtsAnswers, ListEnds};
+ghost use Rattle.wjs_parse_simple.specs.Answers.{SpotEnds};
+ghost use Rattle.wjs_parse_stmt.specs.Answers.{BlockAnswers, StmtsAnswers, ListEnds};
 ghost use Rattle.wjs_parse_stmt.specs.Made.{BlockOwn, StmtsOwn};
 
-use crate::ends::is_closed;
-use crate::parts::{Listed, Spot, push_last};
+use crate::parts::Listed;
 use crate::stmt::statement;
 use std::alloc::Global;
 use wjs_base::OutOfMemory;
 use wjs_parse_expr::{Functions, has_sign};
+use wjs_parse_simple::{Spot, is_closed, push_last};
 use wjs_tree::{Node, NodeId, Nodes, Sequence, Sign, Tok};
 
 /// A block.

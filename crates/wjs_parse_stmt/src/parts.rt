@@ -1,57 +1,6 @@
-//! What readers of statements hand to each other.
+//! What readers of statements with statements in them hand to each other.
 
-ghost use Rattle.std.specs.Prelude.{◌≡◌, ◌++◌, ◌∷◌, [], OnOk, OnErr};
-
-use wjs_base::OutOfMemory;
-use wjs_tree::{Clause, Declarator, End, Handler, NodeId, Sequence};
-
-/// A statement, the place after it, and whether an `else` there would belong to an `if` in it.
-#[derive(Clone, Copy)]
-pub struct Piece {
-    pub node: NodeId,
-    pub next: usize,
-    pub is_open: bool,
-}
-
-/// A node, and the place after its tokens.
-#[derive(Clone, Copy)]
-pub struct Spot {
-    pub node: NodeId,
-    pub next: usize,
-}
-
-/// The end of a statement, and the place after it.
-#[derive(Clone, Copy)]
-pub struct Ended {
-    pub end: End,
-    pub next: usize,
-}
-
-/// An expression with the end of its statement, and the place after it.
-#[derive(Clone, Copy)]
-pub struct Valued {
-    pub node: NodeId,
-    pub end: End,
-    pub next: usize,
-}
-
-/// An expression or nothing, and the place after it.
-#[derive(Clone, Copy)]
-pub struct Maybe {
-    pub node: Option<NodeId>,
-    pub next: usize,
-}
-
-/// What a statement ends in before its end.
-#[derive(Clone, Copy)]
-pub enum Stop {
-    /// Nothing continues it.
-    Complete,
-    /// The name of a variable without initialiser.
-    InName,
-    /// An expression, whose last token may be `++` or `--`.
-    InExpr(bool),
-}
+use wjs_tree::{Clause, Handler, NodeId, Sequence};
 
 /// Both parts of the header of a `for` behind its first, and the statement with the place after it.
 #[derive(Clone, Copy)]
@@ -61,14 +10,6 @@ pub struct Rest {
     pub node: NodeId,
     pub next: usize,
     pub is_open: bool,
-}
-
-/// A variable, the place after it, and what it ends in.
-#[derive(Clone, Copy)]
-pub struct Declared {
-    pub declarator: Declarator,
-    pub next: usize,
-    pub stop: Stop,
 }
 
 /// An `if` without what stands behind `else`: the test, the statement, the place after it, and whether an `else` there
@@ -102,28 +43,9 @@ pub struct Listed {
     pub next: usize,
 }
 
-/// Variables, the place after them, and what they end in.
-#[derive(Drop)]
-pub struct ListedVariables {
-    pub list: Sequence<Declarator>,
-    pub next: usize,
-    pub stop: Stop,
-}
-
 /// The clauses of a `switch`, and the place of the brace that closes them.
 #[derive(Drop)]
 pub struct ListedClauses {
     pub list: Sequence<Clause>,
     pub next: usize,
-}
-
-/// Puts an element last; after a refusal the list is as it was.
-pub fn push_last<T: Drop>(list: &mut Vec<T>, item: T) -> Result<(), OutOfMemory>
-    ensures ok { OnOk result (list.new.items ≡ list.old.items ++ item ∷ []) }
-    ensures err { OnErr result (list.new.items ≡ list.old.items) }
-{
-    match list.push(item) {
-        Ok(()) => Ok(()),
-        Err(_) => Err(OutOfMemory),
-    }
 }

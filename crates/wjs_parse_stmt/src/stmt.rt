@@ -4,20 +4,20 @@ ghost use Rattle.wjs_tree.specs.Ends.{HasKey};
 ghost use Rattle.wjs_tree.specs.declared.keys.Key.TheVariants as keys;
 ghost use Rattle.wjs_tree.specs.Shows.{Keeps};
 ghost use Rattle.wjs_parse_expr.specs.Table.{Holds};
-ghost use Rattle.wjs_parse_stmt.specs.declared.kind.Kind.TheVariants as kinds;
-ghost use Rattle.wjs_parse_stmt.specs.Answers.{KindIs, StmtAnswers, PieceEnds};
-ghost use Rattle.wjs_parse_stmt.specs.Made.{StmtOwn};
+ghost use Rattle.wjs_parse_simple.specs.declared.kind.Kind.TheVariants as kinds;
+ghost use Rattle.wjs_parse_simple.specs.Answers.{KindIs, StmtAnswers, PieceEnds};
+ghost use Rattle.wjs_parse_simple.specs.Made.{StmtOwn};
 
-use crate::branch::{cases, conditional, trial};
-use crate::iteration::{counted, repeated, until};
-use crate::kind::{Kind, kind_at};
-use crate::leaf::{broken, continued, declared, empty, plain, returned, thrown};
+use crate::branch::{if_statement, switch_statement, try_statement};
+use crate::iteration::{do_while_statement, for_statement, while_statement};
 use crate::lists::block;
-use crate::parts::Piece;
-use crate::values::up_to;
 use std::alloc::Global;
 use wjs_base::{OutOfMemory, TextId};
 use wjs_parse_expr::{Functions, has_key};
+use wjs_parse_simple::{
+    Kind, Piece, break_statement, continue_statement, empty_statement, expression_statement,
+    expression_up_to, kind_at, return_statement, throw_statement, variable_statement,
+};
 use wjs_tree::{Key, Node, Nodes, Sign, Tok};
 
 /// The statement from the place of at most the height `room`: any other that is read there could be longer. None exactly
@@ -42,15 +42,15 @@ pub fn statement(
         return Ok(None);
     }
     if has_key(toks, at, Key::If) {
-        return conditional(alloc, toks, at, room, functions, nodes);
+        return if_statement(alloc, toks, at, room, functions, nodes);
     }
-    other(alloc, toks, at, room, functions, nodes)
+    statement_by_kind(alloc, toks, at, room, functions, nodes)
 }
 
 /// The statement from the place, by its kind, where it is no `if`.
 #[cycle(statement)]
 #[inline(always)]
-pub fn other(
+pub fn statement_by_kind(
     alloc: Global,
     toks: &[Tok],
     at: usize,
@@ -67,30 +67,30 @@ pub fn other(
     ensures own { StmtOwn functions.now nodes.old nodes.new at result }
 {
     match kind_at(toks, at) {
-        Kind::Block => braced(alloc, toks, at, room, functions, nodes),
-        Kind::Variables => declared(alloc, toks, at, room, functions, nodes),
-        Kind::Empty => empty(toks, at, room, nodes),
+        Kind::Block => block_statement(alloc, toks, at, room, functions, nodes),
+        Kind::Variables => variable_statement(alloc, toks, at, room, functions, nodes),
+        Kind::Empty => empty_statement(toks, at, room, nodes),
         Kind::If => Ok(None),
-        Kind::Do => until(alloc, toks, at, room, functions, nodes),
-        Kind::While => repeated(alloc, toks, at, room, functions, nodes),
-        Kind::For => counted(alloc, toks, at, room, functions, nodes),
-        Kind::Continue => continued(toks, at, room, nodes),
-        Kind::Break => broken(toks, at, room, nodes),
-        Kind::Return => returned(alloc, toks, at, room, functions, nodes),
-        Kind::Throw => thrown(alloc, toks, at, room, functions, nodes),
-        Kind::Label(text) => labelled(alloc, toks, at, text, room, functions, nodes),
-        Kind::Switch => cases(alloc, toks, at, room, functions, nodes),
-        Kind::Try => trial(alloc, toks, at, room, functions, nodes),
-        Kind::Within => within(alloc, toks, at, room, functions, nodes),
+        Kind::Do => do_while_statement(alloc, toks, at, room, functions, nodes),
+        Kind::While => while_statement(alloc, toks, at, room, functions, nodes),
+        Kind::For => for_statement(alloc, toks, at, room, functions, nodes),
+        Kind::Continue => continue_statement(toks, at, room, nodes),
+        Kind::Break => break_statement(toks, at, room, nodes),
+        Kind::Return => return_statement(alloc, toks, at, room, functions, nodes),
+        Kind::Throw => throw_statement(alloc, toks, at, room, functions, nodes),
+        Kind::Label(text) => labelled_statement(alloc, toks, at, text, room, functions, nodes),
+        Kind::Switch => switch_statement(alloc, toks, at, room, functions, nodes),
+        Kind::Try => try_statement(alloc, toks, at, room, functions, nodes),
+        Kind::Within => within_statement(alloc, toks, at, room, functions, nodes),
         Kind::Nothing => Ok(None),
-        Kind::Plain => plain(alloc, toks, at, room, functions, nodes),
+        Kind::Plain => expression_statement(alloc, toks, at, room, functions, nodes),
     }
 }
 
 /// A statement in braces.
 #[cycle(statement)]
 #[inline(never)]
-fn braced(
+fn block_statement(
     alloc: Global,
     toks: &[Tok],
     at: usize,
@@ -119,7 +119,7 @@ fn braced(
 /// A statement behind a label.
 #[cycle(statement)]
 #[inline(never)]
-fn labelled(
+fn labelled_statement(
     alloc: Global,
     toks: &[Tok],
     at: usize,
@@ -150,7 +150,7 @@ fn labelled(
 /// `in`, an expression, and the block that runs in its world.
 #[cycle(statement)]
 #[inline(never)]
-fn within(
+fn within_statement(
     alloc: Global,
     toks: &[Tok],
     at: usize,
@@ -166,7 +166,7 @@ fn within(
     ensures answer { StmtAnswers toks.now room at nodes.new result }
     ensures own { StmtOwn functions.now nodes.old nodes.new at result }
 {
-    let Some(world) = up_to(
+    let Some(world) = expression_up_to(
         alloc,
         toks,
         at + 1,

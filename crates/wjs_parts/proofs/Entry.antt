@@ -15,8 +15,8 @@ use Rattle.wjs_arena.specs.declared.object.Object.{Object}
 use Rattle.wjs_arena.specs.declared.class.Class.TheVariants as class
 use Rattle.wjs_arena.specs.Entries.{Entry, Objects, next_number, entry_over, created, world_of, IsThere as IsThereIn}
 use Rattle.wjs_arena.proofs.Owners.{key_itself}
-use Rattle.wjs_content.specs.Objects.{created as made_in}
-use Rattle.wjs_content.specs.Tables.{arena_in}
+use Rattle.wjs_by_content.specs.Objects.{created as made_in}
+use Rattle.wjs_by_content.specs.Tables.{arena_in}
 use Rattle.wjs_heap.specs.declared.heap.Heap.{Heap}
 use Rattle.wjs_heap.specs.Acts.{Creates}
 use Rattle.wjs_heap.specs.Means.{parts}
@@ -38,10 +38,10 @@ use Rattle.wjs_model.specs.Outside.{Outside}
 use Rattle.wjs_model.specs.Soundness.{HasObject, HasWorld, IsStacked, Base, Sound}
 use Rattle.wjs_model.specs.Standing.{Stands, IsShown}
 use Rattle.wjs_model.specs.Units.{unit_in}
-use Rattle.wjs_moves.proofs.Sounding.{base_framed}
-use Rattle.wjs_deeds.proofs.Later.{later_create}
-use Rattle.wjs_deeds.proofs.Making.{bare as bare_object, world_object_is, near_world, no_code}
-use Rattle.wjs_deeds.proofs.Steps.{ran_create}
+use Rattle.wjs_frames.proofs.Sounding.{base_framed}
+use Rattle.wjs_heap_steps.proofs.Later.{later_create}
+use Rattle.wjs_heap_steps.proofs.Making.{bare as bare_object, world_object_is, near_world, no_code}
+use Rattle.wjs_heap_steps.proofs.Steps.{ran_create}
 use Rattle.wjs_alone.specs.Alone.{part_run}
 use Rattle.wjs_parts.specs.Entering.{ShowsWorld, Enters, body_frame}
 

@@ -7,12 +7,12 @@ use Rattle.wjs_model.specs.declared.config.Config.{Config}
 use Rattle.wjs_model.specs.declared.config.State.TheVariants as states
 use Rattle.wjs_model.specs.Configurations.{rest, Turned, quietly, by_step, stopped, Quiet, Stepped, Stopped}
 use Rattle.wjs_model.specs.Soundness.{Sound}
-use Rattle.wjs_moves.specs.Reaching.{Falls}
-use Rattle.wjs_moves.specs.Taking.{Turns}
-use Rattle.wjs_moves.proofs.Growing.{left_alike}
-use Rattle.wjs_moves.proofs.Keeping.{none_taken}
-use Rattle.wjs_moves.proofs.Reaching.{stays_on, turn_reaches}
-use Rattle.wjs_deeds.proofs.Steps.{stays_same}
+use Rattle.wjs_frames.specs.Reaching.{Falls}
+use Rattle.wjs_frames.specs.Taking.{Turns}
+use Rattle.wjs_frames.proofs.Growing.{left_alike}
+use Rattle.wjs_frames.proofs.Keeping.{none_taken}
+use Rattle.wjs_frames.proofs.Reaching.{stays_on, turn_reaches}
+use Rattle.wjs_heap_steps.proofs.Steps.{stays_same}
 use Rattle.wjs_machine.specs.Runs.{weight}
 use Rattle.wjs_machine.proofs.Running.{own_admitted}
 use Rattle.wjs_machine.proofs.Stepping.{Left, left_falls, less_over}

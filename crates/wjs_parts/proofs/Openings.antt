@@ -12,15 +12,18 @@ use Rattle.wjs_base.specs.Text.{Table, Has, IsTable, Grows}
 use Rattle.wjs_base.proofs.TextLaws.{Grows-refl}
 use Rattle.wjs_store.specs.Meaning.{Meaning, View, PlainAct, PlainReply, worlds}
 use Rattle.wjs_arena.specs.Entries.{Entry, world_of}
-use Rattle.wjs_content.specs.Carried.{tell}
-use Rattle.wjs_content.specs.Plans.{Told}
-use Rattle.wjs_content.specs.Tables.{text_in, arena_in}
-use Rattle.wjs_content.specs.Worlds.{told_in, told_by}
+use Rattle.wjs_by_content.specs.Carried.{tell}
+use Rattle.wjs_by_content.specs.Plans.{Told}
+use Rattle.wjs_by_content.specs.Tables.{text_in, arena_in}
+use Rattle.wjs_by_content.specs.Worlds.{told_in, told_by}
 use Rattle.wjs_heap.specs.declared.heap.Heap.{Heap}
 use Rattle.wjs_heap.specs.Means.{parts}
 use Rattle.wjs_meaning.specs.Trees.{Tree}
 use Rattle.wjs_meaning.specs.Deeds.{St}
-use Rattle.wjs_meaning.specs.Builtins.{builtin, global_object, first_world}
+use Rattle.wjs_meaning.specs.declared.builtin.Builtin.{Builtin}
+use Rattle.wjs_meaning.specs.declared.builtin.Builtin.TheVariants as initial
+use Rattle.wjs_store.specs.State.{first_world}
+use Rattle.wjs_meaning.specs.Builtins.{builtin, global_object, object_prototype, first_world_object}
 use Rattle.wjs_meaning.specs.Programs.{Done, declared_names}
 use Rattle.wjs_meaning.specs.Start.{start, first_arena, properties}
 use Rattle.wjs_model.specs.declared.config.Config.{Config}
@@ -36,7 +39,7 @@ use Rattle.wjs_model.specs.Soundness.{HasObject, HasThrown, HasWorld, IsStacked,
 use Rattle.wjs_model.specs.Texts.{KnowsUnit, PlacesUnit}
 use Rattle.wjs_model.specs.Units.{unit_in}
 use Rattle.wjs_model.proofs.Placed.{placed_stay}
-use Rattle.wjs_deeds.proofs.Staying.{units_stay}
+use Rattle.wjs_heap_steps.proofs.Staying.{units_stay}
 use Rattle.wjs_start.proofs.NoneApart.{all_near, objects_near, slots_near}
 use Rattle.wjs_start.proofs.Readiness.{code_stands, some_map, silent_told, told_behind}
 use Rattle.wjs_start.specs.Declaring.{declared_by_tree}
@@ -166,19 +169,19 @@ module _ {S : Type 0} (meaning : S → Meaning) (texts : Table) (before : Meanin
     spent = is.spent;
   }
 
-  builtin_there : (n : ℕ) → n < 64 → HasObject c (builtin n)
-  builtin_there n lt = (is.builtins n lt, all_near apart.items none_kept (builtin n))
+  builtin_there : (k : Builtin) → HasObject c (builtin k)
+  builtin_there k = (is.builtins k, all_near apart.items none_kept (builtin k))
 
   due_there : (first : Program) → library ≡ Some first → IsStacked meaning c (frame_at 0 (body_of first) begins)
   due_there first e = record {
     there = record {
-      scope = builtin_there 2 (omega arith);
-      this = builtin_there 2 (omega arith);
+      scope = builtin_there initial.Global;
+      this = builtin_there initial.Global;
       world = is.first;
       held = tt;
       stands = record {
         node = record { unit = first; found = found; arguments = None; scopes = []; around = ([], (refl, refl)); outwards = tt };
-        shown = (builtin 13, is.shown);
+        shown = (first_world_object, is.shown);
       };
     };
     phase = tt;
@@ -201,23 +204,23 @@ module _ {S : Type 0} (meaning : S → Meaning) (texts : Table) (before : Meanin
   worlds_by_owner : (o : ObjId) (w : WorldId) → world_of h.arena o ≡ Some w → w.owner ≡ o.owner
   worlds_by_owner o w at =
       let first = is.own_worlds o w at in
-      let same = is.heap.arena.one_object o (builtin 13) first_world (at ∙ ap Some first) is.shown in
+      let same = is.heap.arena.one_object o first_world_object first_world (at ∙ ap Some first) is.shown in
       ap (λ (x : WorldId). x.owner) first ∙ sym (ap (λ (x : ObjId). x.owner) same)
 
   base_so : Base meaning c
   base_so = record {
     heap = is.heap;
     works = ap not is.spent ∙ new.works;
-    global = builtin_there 2 (omega arith);
+    global = builtin_there initial.Global;
     world = is.first;
-    builtins = λ n lt. builtin_there n (omega (arith, lt));
+    builtins = builtin_there;
     units = subst (All (KnowsUnit t)) (sym units_are) all_known;
     places = subst (All (PlacesUnit t)) (sym units_are) all_placed;
     functions = λ o e q. code_stands units.items h.arena (e.object).code (e.object).scope (is.codes o e q);
     worlds_own = λ w there. ap (λ (x : WorldId). x.owner) (is.no_other w there);
     worlds_by = λ o e w q r. worlds_by_owner o w (stands o e w q r);
     own_worlds = λ o e w q r s. subst (HasWorld meaning c) (sym (is.own_worlds o w (stands o e w q r))) is.first;
-    own = all_near apart.items none_kept (builtin 0);
+    own = all_near apart.items none_kept object_prototype;
     near_objects = λ o e q n. objects_near apart.items none_kept e.object;
     near_slots = slots_near apart.items none_kept (worlds (meaning h.store));
     frames = subst (All (IsStacked meaning c)) (sym frames_there) (all_there library refl);

@@ -8,7 +8,7 @@ use Rattle.wjs_model.specs.declared.config.State.{State}
 use Rattle.wjs_model.specs.declared.config.State.TheVariants as states
 use Rattle.wjs_model.specs.Configurations.{Stays, RestIs, Stopped}
 use Rattle.wjs_model.specs.Soundness.{HasThrown, Sound}
-use Rattle.wjs_moves.proofs.Sounding.{base_framed}
+use Rattle.wjs_frames.proofs.Sounding.{base_framed}
 use Rattle.wjs_parts.specs.Going.{Goes, Way, goes, stops, again}
 use Rattle.wjs_parts.specs.Walking.{going, IsDue, Stops, ended, paused, spent, Walks}
 use Rattle.wjs_parts.proofs.Going.{way_left}

@@ -4,8 +4,8 @@ use Rattle.wjs_base.specs.declared.values.Value.TheVariants as values
 use Rattle.wjs_base.specs.Text.{Table}
 use Rattle.wjs_tree.specs.declared.node.NodeId.{NodeId}
 use Rattle.wjs_store.specs.Meaning.{Meaning}
-use Rattle.wjs_content.specs.Objects.{created}
-use Rattle.wjs_content.specs.Tables.{arena_in}
+use Rattle.wjs_by_content.specs.Objects.{created}
+use Rattle.wjs_by_content.specs.Tables.{arena_in}
 use Rattle.wjs_meaning.specs.WorldValues.{world_object_of}
 use Rattle.wjs_model.specs.declared.config.Config.{Config}
 use Rattle.wjs_model.specs.declared.config.State.TheVariants as states

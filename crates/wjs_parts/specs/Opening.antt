@@ -3,9 +3,10 @@ use Rattle.std.specs.Prelude.{◌≡◌, ℕ, List, [], ◌∷◌, Option, None,
 use Rattle.std.specs.Option.{option_map}
 use Rattle.wjs_base.specs.Text.{Table, Grows}
 use Rattle.wjs_store.specs.Meaning.{Meaning, View}
-use Rattle.wjs_content.specs.Carried.{tell}
-use Rattle.wjs_content.specs.Worlds.{told_by}
-use Rattle.wjs_meaning.specs.Builtins.{global_object, first_world}
+use Rattle.wjs_by_content.specs.Carried.{tell}
+use Rattle.wjs_by_content.specs.Worlds.{told_by}
+use Rattle.wjs_store.specs.State.{first_world}
+use Rattle.wjs_meaning.specs.Builtins.{global_object}
 use Rattle.wjs_meaning.specs.Start.{start, properties}
 use Rattle.wjs_model.specs.declared.config.Config.{Config}
 use Rattle.wjs_model.specs.declared.config.State.{State}

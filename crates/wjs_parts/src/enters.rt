@@ -8,7 +8,8 @@ ghost use Rattle.wjs_parts.specs.Entering.{Enters, ShowsWorld, body_frame};
 
 use wjs_arena::Class;
 use wjs_base::{OutOfMemory, Value};
-use wjs_deeds::{builtin, object_of};
+use wjs_heap_steps::{builtin, object_of};
+use wjs_meaning::Builtin;
 use wjs_model::{Activation, Config, Frame, Items, Phase, Start, State};
 use wjs_store::WorldStore;
 use wjs_tree::NodeId;
@@ -49,7 +50,7 @@ fn show_world<S: WorldStore>(config: &mut Config<S>) -> Result<(), OutOfMemory>
     requires fresh { (o : ObjId) → ¬ (world_of config.old.heap.arena o ≡ Some config.old.world) }
     ensures { OnOk result (ShowsWorld S.meaning config.old config.new) }
 {
-    let prototype = builtin(config, 7);
+    let prototype = builtin(config, Builtin::WorldPrototype);
     let alloc = config.heap.arena.allocator();
     let mut object = object_of(alloc, Class::World, Some(prototype));
     object.world = Some(config.world);

@@ -1,7 +1,7 @@
 //! What there is before the first part of a play.
 ghost use Rattle.std.specs.Prelude.{◌≡◌, ◌++◌, ◌∷◌, [], All, map, IfOk, IfSome, OnOk};
 ghost use Rattle.wjs_base.specs.Text.{Table, Has, IsTable};
-ghost use Rattle.wjs_content.specs.Tables.{text_in};
+ghost use Rattle.wjs_by_content.specs.Tables.{text_in};
 ghost use Rattle.wjs_meaning.specs.Programs.{declared_names};
 ghost use Rattle.wjs_model.specs.Soundness.{Sound};
 ghost use Rattle.wjs_model.specs.Texts.{KnowsUnit, PlacesUnit};
@@ -76,10 +76,8 @@ fn add_names(alloc: Global, names: &mut Vec<TextId>, part: &Unit) -> Result<(), 
     ensures found { OnOk result ((t : Table) → KnowsUnit t part.now → All (Has t) names.old.items → All (Has t) names.new.items) }
 {
     let more = script_names(alloc, part)?;
-    match names.extend_from_slice(more.as_slice()) {
-        Ok(()) => Ok(()),
-        Err(_) => Err(OutOfMemory),
-    }
+    names.extend_from_slice(more.as_slice())?;
+    Ok(())
 }
 
 /// The library's body, with its step due.
@@ -109,9 +107,9 @@ fn units_of(library: Option<Unit>, mut parts: Vec<Unit>) -> Result<Vec<Unit>, Ou
 {
     match library {
         None => Ok(parts),
-        Some(library) => match parts.insert(0, library) {
-            Ok(()) => Ok(parts),
-            Err(_) => Err(OutOfMemory),
-        },
+        Some(library) => {
+            parts.insert(0, library)?;
+            Ok(parts)
+        }
     }
 }

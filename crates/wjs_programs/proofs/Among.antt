@@ -13,7 +13,7 @@ use Rattle.wjs_scope.specs.Declarations.{variables}
 use Rattle.wjs_scope.specs.Scopes.{Scope, function_names, function_scope, in_function}
 use Rattle.wjs_scope.specs.Nesting.{Side, Around, Caught, Inside, parts, IsAmong, Enters, Leads, StandsAmong}
 use Rattle.wjs_scope.specs.Places.{arguments_text}
-use Rattle.wjs_content.specs.Tables.{text_in}
+use Rattle.wjs_by_content.specs.Tables.{text_in}
 use Rattle.wjs_model.specs.Texts.{KnowsNode}
 use Rattle.wjs_programs.specs.Numbered.{Scopes, names_within, within}
 use Rattle.wjs_programs.proofs.Scopes.{AreAlike, AllAlike, name_alike, function_alike, within_alike}

@@ -20,8 +20,8 @@ use Rattle.wjs_scope.specs.declared.declarations.Declarations.{Declarations}
 use Rattle.wjs_scope.specs.Declarations.{variable_names, init_names, names_declared, all_declared, clauses_declared, elements_declared, with_name, with_names, variables, is_body, elements_of}
 use Rattle.wjs_scope.specs.Bodies.{node_at, BodiesStand}
 use Rattle.wjs_scope.specs.Places.{KnowsPlaced, declarator_names}
-use Rattle.wjs_content.specs.Values.{Text}
-use Rattle.wjs_content.specs.Tables.{text_in}
+use Rattle.wjs_by_content.specs.Values.{Text}
+use Rattle.wjs_by_content.specs.Tables.{text_in}
 use Rattle.wjs_meaning.specs.Trees as content
 use Rattle.wjs_meaning.specs.Trees.{Tree}
 use Rattle.wjs_meaning.specs.Declarations.{names_of, vars_of_init, vars_of_form, vars_to, without_repeats, declared_by}

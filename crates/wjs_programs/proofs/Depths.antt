@@ -6,9 +6,9 @@ use Rattle.std.proofs.lemmas.List.{length-map, length-reverse}
 use Rattle.std.proofs.lemmas.Option.{none-some}
 use mathlib.Core.List.{reverse-cons}
 use Rattle.wjs_base.specs.Text.{Table}
+use Rattle.wjs_base.proofs.Lists.{get_pushed}
 use Rattle.wjs_tree.specs.Trees.{Elements}
-use Rattle.wjs_tree.proofs.Adding.{get-append}
-use Rattle.wjs_content.specs.Values.{Text}
+use Rattle.wjs_by_content.specs.Values.{Text}
 use Rattle.wjs_meaning.specs.Trees.{Node, Tree, node_at, is_target_form, is_target_to}
 use Rattle.wjs_meaning.specs.Trees as node
 use Rattle.wjs_meaning.specs.Declarations.{vars_of_option, vars_of_handler, vars_of_init, vars_of_form, vars_to}
@@ -27,7 +27,7 @@ each_over : (l : List Entry) → AreOver (length l - 1) l → (k : ℕ) (n : Nod
 each_over [] a k n h = absurd (none-some n h)
 each_over (e ∷ l) a k n h =
     either (λ p. each_over l (subst (λ (z : ℕ). AreOver z l) (let e : suc (length l) - 1 - 1 ≡ length l - 1 = omega arith in e) a.1) k n p)
-    (get-append (reverse (each node_of l)) e.node k n (subst (λ z. slice_get z k ≡ Some n) (reverse-cons e.node (each node_of l)) h))
+    (get_pushed (reverse (each node_of l)) e.node k n (subst (λ z. slice_get z k ≡ Some n) (reverse-cons e.node (each node_of l)) h))
   where
     either : (slice_get (reverse (each node_of l)) k ≡ Some n → IsOver k n) → (slice_get (reverse (each node_of l)) k ≡ Some n) ⊎ ((k ≡ length (reverse (each node_of l))) × (e.node ≡ n)) → IsOver k n
     either more (inl p) = more p

@@ -14,8 +14,8 @@ use Rattle.wjs_tree.specs.Shows.{Has, Shows, OptionalShows, ArgumentsShow, Items
 use Rattle.wjs_scope.specs.Declarations.{variable_names, init_names}
 use Rattle.wjs_scope.specs.Nesting.{Around, parts, on_side, IsAmong, option_part, item_parts, property_parts, initialisers, init_parts, clause_parts}
 use Rattle.wjs_scope.specs.Places.{placed_names}
-use Rattle.wjs_content.specs.Values.{Text as Units}
-use Rattle.wjs_content.specs.Tables.{text_in}
+use Rattle.wjs_by_content.specs.Values.{Text as Units}
+use Rattle.wjs_by_content.specs.Tables.{text_in}
 use Rattle.wjs_meaning.specs.Trees.{Key, Node}
 use Rattle.wjs_meaning.specs.Trees as node
 use Rattle.wjs_meaning.specs.Reading.{numbers, number, spelt_in, key_in, pair_in, variable_in, init_in, clause_in, label_in, node_in}

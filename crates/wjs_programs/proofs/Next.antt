@@ -8,7 +8,7 @@ use Rattle.wjs_tree.specs.Shows.{Has}
 use Rattle.wjs_tree.specs.declared.node.Node.{Node as NumberedNode}
 use Rattle.wjs_tree.specs.declared.node.NodeId.{NodeId}
 use Rattle.wjs_order.specs.Order.{IsNumbered}
-use Rattle.wjs_content.specs.Values.{Text}
+use Rattle.wjs_by_content.specs.Values.{Text}
 use Rattle.wjs_meaning.specs.Trees.{Node, Tree, node_at, first_labels, labels}
 use Rattle.wjs_meaning.specs.Trees as node
 use Rattle.wjs_meaning.specs.Reading.{node_in}

@@ -12,8 +12,8 @@ use Rattle.wjs_tree.specs.Trees.{Variables, Init, Stmt, Stmts, Clauses, Elements
 use Rattle.wjs_scope.specs.Declarations.{variable_names, init_names, names_declared, all_declared, clauses_declared, elements_declared}
 use Rattle.wjs_scope.specs.Places.{arguments_text}
 use Rattle.wjs_scope.specs.Contents.{resolve_text}
-use Rattle.wjs_content.specs.Values.{same_text}
-use Rattle.wjs_content.specs.Tables.{text_in}
+use Rattle.wjs_by_content.specs.Values.{same_text}
+use Rattle.wjs_by_content.specs.Tables.{text_in}
 use Rattle.wjs_meaning.specs.Trees.{Spelled}
 use Rattle.wjs_meaning.specs.Reading.{spelt_in, key_in, label_in}
 use Rattle.wjs_model.specs.Units.{place_in}

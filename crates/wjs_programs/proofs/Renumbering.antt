@@ -4,8 +4,8 @@ use Rattle.std.proofs.Common.{refl, sym, ◌∙◌, ap, subst, cond, true≢fals
 use Rattle.std.proofs.lemmas.Option.{slice_get_within, slice_get_past}
 use Rattle.wjs_base.specs.declared.ids.TextId.{TextId}
 use Rattle.wjs_base.specs.Text.{Units, Table, Denotes, IsTable}
-use Rattle.wjs_content.specs.Values.{same_text, text_Decides}
-use Rattle.wjs_content.specs.Tables.{text_in}
+use Rattle.wjs_by_content.specs.Values.{same_text, text_Decides}
+use Rattle.wjs_by_content.specs.Tables.{text_in}
 
 -- the numbers of one table's texts go to numbers of the same texts in a third table, and to different ones; a text that the
 -- other table holds too goes to the number that it has there

@@ -11,8 +11,8 @@ use Rattle.wjs_tree.specs.Shows.{Has}
 use Rattle.wjs_scope.specs.declared.place.Place.{Place as Found}
 use Rattle.wjs_scope.specs.Places.{ArePlaces, arguments_text, placed_names}
 use Rattle.wjs_scope.specs.Contents.{resolve_text}
-use Rattle.wjs_content.specs.Values.{same_text}
-use Rattle.wjs_content.specs.Tables.{text_in}
+use Rattle.wjs_by_content.specs.Values.{same_text}
+use Rattle.wjs_by_content.specs.Tables.{text_in}
 use Rattle.wjs_meaning.specs.Trees.{Place}
 use Rattle.wjs_meaning.specs.Reading.{node_in}
 use Rattle.wjs_model.specs.Texts.{KnowsUnit}

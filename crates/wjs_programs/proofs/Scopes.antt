@@ -15,8 +15,8 @@ use Rattle.wjs_scope.specs.Scopes.{Scope, is_in, place_past, some_name, function
 use Rattle.wjs_scope.specs.Places.{arguments_text}
 use Rattle.wjs_scope.specs.Contents.{text_place_past}
 use Rattle.wjs_scope.proofs.Texts.{by_text}
-use Rattle.wjs_content.specs.Values.{same_text, text_Decides}
-use Rattle.wjs_content.specs.Tables.{text_in}
+use Rattle.wjs_by_content.specs.Values.{same_text, text_Decides}
+use Rattle.wjs_by_content.specs.Tables.{text_in}
 use Rattle.wjs_model.specs.Texts.{HasText}
 use Rattle.wjs_programs.specs.Numbered.{Scopes, functions_declared, names_within, within}
 

@@ -12,7 +12,7 @@ use Rattle.wjs_tree.specs.Trees.{Elements}
 use Rattle.wjs_tree.specs.Shows.{Has, ElementsShow}
 use Rattle.wjs_scope.specs.Nesting.{Side, Around, parts, on_side, IsAmong}
 use Rattle.wjs_scope.specs.Places.{placed_names}
-use Rattle.wjs_content.specs.Tables.{text_in}
+use Rattle.wjs_by_content.specs.Tables.{text_in}
 use Rattle.wjs_meaning.specs.Reading.{node_in}
 use Rattle.wjs_programs.specs.Numbered.{Scopes, Entry, places_of, within}
 use Rattle.wjs_programs.proofs.Over.{all_apart as both_apart}

@@ -25,7 +25,7 @@ abbrev pub NodesAreKnown : Type 0
 NodesAreKnown =
     (bytes : List ℕ) (texts : Table) (toks : List Tok) (tree : Elements) (ns : List Node) (body : NodeId) → HasTokens bytes texts toks → ElementsStand toks tree 0 (length toks) → IsNumbered ns tree body → All (KnowsNode texts) ns
 
--- a unit with the places of its names is the tree of the program that its nodes stand for
+-- a loaded program with the places of its names is the tree of the program that its nodes stand for
 abbrev pub UnitsAreTrees : Type 0
 UnitsAreTrees =
     (texts : Table) (unit : Program) (tree : Elements) (arguments : Option TextId) → IsTable texts → IsNumbered unit.program.nodes tree unit.program.body → KnowsUnit texts unit → Finds texts arguments_text arguments

@@ -7,8 +7,8 @@ use Rattle.wjs_tree.specs.Trees.{Expr, Optional, Arguments, Items, Properties, V
 use Rattle.wjs_scope.specs.Declarations.{variable_names, init_names, elements_declared}
 use Rattle.wjs_scope.specs.Places.{arguments_text}
 use Rattle.wjs_scope.specs.Contents.{resolve_text}
-use Rattle.wjs_content.specs.Values.{Text as Units, same_text}
-use Rattle.wjs_content.specs.Tables.{text_in}
+use Rattle.wjs_by_content.specs.Values.{Text as Units, same_text}
+use Rattle.wjs_by_content.specs.Tables.{text_in}
 use Rattle.wjs_meaning.specs.Trees.{Key, Node, Place, Tree}
 use Rattle.wjs_meaning.specs.Trees as node
 use Rattle.wjs_meaning.specs.Reading.{spelt_in, key_in, label_in}

@@ -8,7 +8,7 @@ use Rattle.wjs_tree.specs.declared.node.Node.{Node}
 use Rattle.wjs_tree.specs.declared.node.Node.TheVariants as form
 use Rattle.wjs_tree.specs.declared.node.NodeId.{NodeId}
 use Rattle.wjs_order.specs.Order.{IsNumbered}
-use Rattle.wjs_content.specs.Values.{Text}
+use Rattle.wjs_by_content.specs.Values.{Text}
 use Rattle.wjs_meaning.specs.Trees.{Label, Tree, node_at, is_target, is_target_to, labels}
 use Rattle.wjs_meaning.specs.Declarations.{vars_to}
 use Rattle.wjs_programs.specs.Numbered.{tree_of}

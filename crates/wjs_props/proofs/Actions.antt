@@ -12,34 +12,34 @@ use Rattle.wjs_base.specs.declared.values.Value.TheVariants as value
 use Rattle.wjs_base.specs.Order.{slot_cmp}
 use Rattle.wjs_base.specs.Spelling.{IsName}
 use Rattle.wjs_base.specs.Text.{Table, IsTable, Grows}
+use Rattle.wjs_base.proofs.TextLaws.{Grows-refl, Grows-trans}
 use Rattle.wjs_store.specs.State.{Act, slots_at, read, write, list, sprout, commit, found, wrote, listed, sprouted, committed, after, answer_to, has_world, content_at}
 use Rattle.wjs_store.specs.Meaning.{Meaning, View, Worlds, PlainAct, PlainReply, Does, IsSound, worlds}
 use Rattle.wjs_store.specs.Shown.{content_of, slots_of, verdict_of}
 use Rattle.wjs_store.specs.declared.store.Verdict.{Verdict}
 use Rattle.wjs_store.proofs.Contents.{own_view}
-use Rattle.wjs_content.specs.Ascends.{Ascends}
-use Rattle.wjs_content.specs.Renamed.{Holds, KnowsContent}
-use Rattle.wjs_content.specs.Rename.{shape}
-use Rattle.wjs_content.proofs.Sorted.{slots_ascend}
+use Rattle.wjs_by_content.specs.Ascends.{Ascends}
+use Rattle.wjs_by_content.specs.Renamed.{Holds, KnowsContent}
+use Rattle.wjs_by_content.specs.Rename.{shape}
+use Rattle.wjs_by_content.proofs.Sorted.{slots_ascend}
 use Rattle.wjs_arena.specs.Entries.{Objects}
-use Rattle.wjs_content.specs.Names as content
-use Rattle.wjs_content.specs.Values as values
-use Rattle.wjs_content.specs.Plans.{Plan, Gives, Reads, Writes, Lists, Heard, Sprouted, Committed, heard, told_of}
-use Rattle.wjs_content.specs.Tables.{slot_in, content_in, knows_slot, knows_value}
-use Rattle.wjs_content.specs.Telling.{names_of}
-use Rattle.wjs_content.specs.Worlds.{in_order, listing, worlds_in, act_in, heard_in, told_by, KnowsWorlds, KnowsAct}
-use Rattle.wjs_content.specs.Carried.{Carries, tell}
-use Rattle.wjs_content.proofs.Carrying.{carries_read, carries_write, carries_list, heard_so, told_so, worlds_so, knows_so}
-use Rattle.wjs_content.proofs.Growth.{slot_grows, value_grows}
-use Rattle.wjs_content.proofs.Known.{text_known, name_known}
-use Rattle.wjs_content.proofs.Replies.{slots_grow}
+use Rattle.wjs_by_content.specs.Names as content
+use Rattle.wjs_by_content.specs.Values as values
+use Rattle.wjs_by_content.specs.Plans.{Plan, Gives, Reads, Writes, Lists, Heard, Sprouted, Committed, heard, told_of}
+use Rattle.wjs_by_content.specs.Tables.{slot_in, content_in, knows_slot, knows_value}
+use Rattle.wjs_by_content.specs.Telling.{names_of}
+use Rattle.wjs_by_content.specs.Worlds.{in_order, listing, worlds_in, act_in, heard_in, told_by, KnowsWorlds, KnowsAct}
+use Rattle.wjs_by_content.specs.Carried.{Carries, tell}
+use Rattle.wjs_by_content.proofs.Carrying.{carries_read, carries_write, carries_list, heard_so, told_so, worlds_so, knows_so}
+use Rattle.wjs_by_content.proofs.Growth.{slot_grows, value_grows}
+use Rattle.wjs_by_content.proofs.Known.{text_known, name_known}
+use Rattle.wjs_by_content.proofs.Replies.{slots_grow}
 use Rattle.wjs_heap.specs.Heap.{Parts, HasValue, HasContent, HasSlot, IsHeap, Performs}
 use Rattle.wjs_heap.specs.Acts.{Acts, ActsBy}
 use Rattle.wjs_heap.specs.Means.{nothing}
 use Rattle.wjs_props.proofs.Kept.{Within, has_child, within_read, within_write, within_list, within_sprout, within_commit}
 use Rattle.wjs_props.proofs.Listed.{listed_hold, names_hold}
 use Rattle.wjs_heap.proofs.Told.{told_after}
-use Rattle.wjs_heap.proofs.Turns.{grows_itself, grows_twice}
 
 -- ---- what is there is known
 
@@ -87,11 +87,11 @@ module _ (h : Parts) (new : Meaning) (heap : IsHeap h) (sound : IsSound new) whe
   did w a answer plan shows does carries known still alike slots = record {
     narrows = does.narrows;
     carries = λ t u g gu v ok k.
-        let both = grows_twice h.texts t u g gu in
+        let both = Grows-trans h.texts t u g gu in
         subst (λ p. Carries u w p (shows t) h.store new v) (still u both ∙ sym (still t g)) (subst (λ x. Carries u w (plan u) x h.store new v) (alike u both ∙ sym (alike t g)) (carries u both v ok k));
-    marks = λ k. (carries h.texts (grows_itself h.texts) new.own sound.admits_own (own_known a answer does k)).knows;
+    marks = λ k. (carries h.texts (Grows-refl h.texts) new.own sound.admits_own (own_known a answer does k)).knows;
     told = λ k. told_after h.texts h.store a answer new does sound.admits_own (own_known a answer does k) known;
-    texts = grows_itself h.texts;
+    texts = Grows-refl h.texts;
     arena = refl;
     own = does.own;
     around = does.around;
@@ -123,7 +123,7 @@ module _ (h : Parts) (new : Meaning) (heap : IsHeap h) (sound : IsSound new) whe
       → Performs w (λ t. Reads (slot_in t s) Gives) (λ t. content_in t c) h (record { texts = h.texts; arena = h.arena; store = new })
   did_read w s c has does = did w (read w s) (found (content_of c)) _ _ does
       (λ t g v ok k. carries_read t w s c h.store new does v ok k (slot_knows h.texts t h.arena s heap.table g has))
-      (slot_knows h.texts h.texts h.arena s heap.table (grows_itself h.texts) has)
+      (slot_knows h.texts h.texts h.arena s heap.table (Grows-refl h.texts) has)
       (λ t g. ap (λ (x : content.Slot). Reads x Gives) (slot_still t g s has))
       (λ t g. content_still t g c (found_there w s c does))
       (within_read IsHeld (worlds h.store) w s heap.slots)
@@ -132,7 +132,7 @@ module _ (h : Parts) (new : Meaning) (heap : IsHeap h) (sound : IsSound new) whe
       → Performs w (λ t. Writes (slot_in t s) (content_in t c) (Gives nothing)) (λ t. nothing) h (record { texts = h.texts; arena = h.arena; store = new })
   did_write w s c has there does = did w (write w s (content_of c)) wrote _ _ does
       (λ t g v ok k. carries_write t w s c h.store new does v ok k (slot_knows h.texts t h.arena s heap.table g has) (content_knows h.texts t h.arena (content_of c) heap.table g there))
-      (slot_knows h.texts h.texts h.arena s heap.table (grows_itself h.texts) has, content_knows h.texts h.texts h.arena (content_of c) heap.table (grows_itself h.texts) there)
+      (slot_knows h.texts h.texts h.arena s heap.table (Grows-refl h.texts) has, content_knows h.texts h.texts h.arena (content_of c) heap.table (Grows-refl h.texts) there)
       (λ t g i. Writes (slot_still t g s has i) (content_still t g c there i) (Gives nothing))
       (λ t g. refl)
       (within_write IsHeld (worlds h.store) w s (content_of c) (λ v e. (has, subst (HasContent h.texts h.arena) e there)) heap.slots)
@@ -150,7 +150,7 @@ module _ (h : Parts) (new : Meaning) (heap : IsHeap h) (sound : IsSound new) whe
   listing_still : (t : Table) → Grows h.texts t → (w : WorldId) (o : ObjId) (names : List Name) → Does h.store (list w o) (listed (slots_of o names)) new → listing t o names ≡ listing h.texts o names
   listing_still t g w o names does =
       let known : Slot → Type 0 = λ s. knows_slot h.texts s ≡ true in
-      let all = listed_hold (worlds h.store) w o known (λ s v e. slot_knows h.texts h.texts h.arena s heap.table (grows_itself h.texts) (heap.slots w s v e).0) in
+      let all = listed_hold (worlds h.store) w o known (λ s v e. slot_knows h.texts h.texts h.arena s heap.table (Grows-refl h.texts) (heap.slots w s v e).0) in
       ap (λ (ss : List content.Slot). each (λ s. s.name) (in_order ss)) (slots_grow h.texts t g (slots_of o names) (subst (Holds known) (listed_so w o names does) all)).1
 
   pub did_list : (w : WorldId) (o : ObjId) (names : List Name) → Does h.store (list w o) (listed (slots_of o names)) new

@@ -1,5 +1,5 @@
 -- What the arena of a heap answers by number it answers by content, since what the heap names is known.
-use Rattle.std.proofs.Common.{◌≡◌, ℕ, Bool, true, false, List, [], ◌∷◌, refl, ap, eqb-true, eq-eqb}
+use Rattle.std.proofs.Common.{◌≡◌, ℕ, true, List, [], ◌∷◌, refl, ap, eqb-true, eq-eqb}
 use Rattle.std.specs.Option.{option_map}
 use Rattle.wjs_base.specs.declared.ids.ObjId.{ObjId}
 use Rattle.wjs_base.specs.declared.values.Name.{Name}
@@ -7,16 +7,16 @@ use Rattle.wjs_base.specs.declared.values.Name.TheVariants as name
 use Rattle.wjs_base.specs.declared.values.Value.{Value}
 use Rattle.wjs_base.specs.Spelling.{IsName}
 use Rattle.wjs_base.specs.Text.{Table, Grows}
-use Rattle.wjs_content.specs.Renamed.{Holds}
+use Rattle.wjs_by_content.specs.Renamed.{Holds}
 use Rattle.wjs_arena.specs.declared.object.Flags.{Flags}
 use Rattle.wjs_arena.specs.declared.object.Object.{Object}
 use Rattle.wjs_arena.specs.AtName.{same_name}
 use Rattle.wjs_arena.specs.Chains as numbered
-use Rattle.wjs_content.specs.Objects.{fixed, flags, is_puttable}
-use Rattle.wjs_content.specs.Tables.{name_in, value_in, arena_in, knows_name, knows_value, KnowsUnder, KnowsObject, KnowsArena}
-use Rattle.wjs_content.proofs.Fixed as content
-use Rattle.wjs_content.proofs.Growth.{name_grows, value_grows}
-use Rattle.wjs_content.proofs.Known.{name_known}
+use Rattle.wjs_by_content.specs.Objects.{fixed, flags, is_puttable}
+use Rattle.wjs_by_content.specs.Tables.{name_in, value_in, arena_in, knows_name, knows_value, KnowsUnder, KnowsObject, KnowsArena}
+use Rattle.wjs_by_content.proofs.Fixed as content
+use Rattle.wjs_by_content.proofs.Growth.{name_grows, value_grows}
+use Rattle.wjs_by_content.proofs.Known.{name_known}
 use Rattle.wjs_heap.specs.Heap.{Parts, HasValue, HasNamed, IsHeap}
 use Rattle.wjs_props.proofs.Actions.{value_knows}
 
@@ -31,12 +31,6 @@ name_tied (name.Index i) (name.Index j) h = ap (λ (k : ℕ). name.Index k) (eqb
 name_tied (name.Text a) (name.Text b) h = ap (λ (k : ℕ). name.Text (record { 0 = k })) (eqb-true a.0 b.0 h)
 name_tied (name.Index i) (name.Text b) h = cc
 name_tied (name.Text a) (name.Index j) h = cc
-
-pub one_answer : (a b : Bool) → (a ≡ true → b ≡ true) → (b ≡ true → a ≡ true) → a ≡ b
-one_answer true true f g = refl
-one_answer false false f g = refl
-one_answer true false f g = let h = f refl in cc
-one_answer false true f g = let h = g refl in cc
 
 -- ---- of a heap
 

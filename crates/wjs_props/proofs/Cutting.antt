@@ -15,26 +15,26 @@ use Rattle.wjs_base.specs.declared.values.Value.{Value as NumberedValue}
 use Rattle.wjs_base.specs.Order as numbered
 use Rattle.wjs_base.specs.Spelling.{IsName, greatest_index}
 use Rattle.wjs_base.specs.Text.{Table, Grows, IsTable}
-use Rattle.wjs_base.proofs.TextLaws.{Grows-IsName}
+use Rattle.wjs_base.proofs.TextLaws.{Grows-IsName, Grows-trans}
 use Rattle.wjs_store.specs.State.{has_world}
 use Rattle.wjs_store.specs.Meaning.{worlds}
 use Rattle.wjs_store.specs.Shown.{content_of, slots_of}
 use Rattle.wjs_arena.specs.Entries as entries
-use Rattle.wjs_content.specs.Ascends.{Ascends}
-use Rattle.wjs_content.specs.Renamed.{Holds}
-use Rattle.wjs_content.specs.Values.{Text, Value}
-use Rattle.wjs_content.specs.Names.{Slot, slot, index_of, index_name}
-use Rattle.wjs_content.specs.Indices.{index_again}
-use Rattle.wjs_content.specs.Plans.{Plan, Gives, Reads, Writes, Lists, then_plan}
-use Rattle.wjs_content.specs.Tables.{name_in, text_in, value_in, slot_in, content_in, knows_name, knows_text}
-use Rattle.wjs_content.specs.Worlds.{in_order, listing}
-use Rattle.wjs_content.proofs.Growth.{name_grows}
-use Rattle.wjs_content.proofs.Known.{name_known}
+use Rattle.wjs_by_content.specs.Ascends.{Ascends}
+use Rattle.wjs_by_content.specs.Renamed.{Holds}
+use Rattle.wjs_by_content.specs.Values.{Text, Value}
+use Rattle.wjs_by_content.specs.Names.{Slot, slot, index_of, index_name}
+use Rattle.wjs_by_content.specs.Indices.{index_again}
+use Rattle.wjs_by_content.specs.Plans.{Plan, Gives, Reads, Writes, Lists, then_plan}
+use Rattle.wjs_by_content.specs.Tables.{name_in, text_in, value_in, slot_in, content_in, knows_name, knows_text}
+use Rattle.wjs_by_content.specs.Worlds.{in_order, listing}
+use Rattle.wjs_by_content.proofs.Growth.{name_grows}
+use Rattle.wjs_by_content.proofs.Known.{name_known}
 use Rattle.wjs_heap.specs.Heap.{Parts, IsHeap, Performs}
 use Rattle.wjs_heap.specs.Means.{nothing}
-use Rattle.wjs_content.specs.Properties as plan
-use Rattle.wjs_content.specs.Properties.{is_index_within}
-use Rattle.wjs_heap.proofs.Turns.{performs_nothing, performs_then, performs_same, grows_twice}
+use Rattle.wjs_by_content.specs.Properties as plan
+use Rattle.wjs_by_content.specs.Properties.{is_index_within}
+use Rattle.wjs_heap.proofs.Turns.{performs_nothing, performs_then, performs_same}
 use Rattle.wjs_props.proofs.Listed.{passing_same}
 
 -- ---- one by one
@@ -175,7 +175,7 @@ pub listed_cut : (w : WorldId) (o : ObjId) (n m : ℕ) (ns : List Name) (old mid
 listed_cut w o n m ns old mid new lists names rises cuts =
     performs_then w (λ t. Lists o Gives) (λ t names. plan.cut_listed names n m o) (λ t. listing t o ns) (λ t. nothing) old mid new lists
     (performs_same w _ _ (λ t. nothing) (λ t. nothing) mid new
-    (λ t g. sym (listing_cuts n m o t ns (names_known mid.texts t lists.heap.table (grows_twice mid.texts new.texts t cuts.texts g) ns names) rises)) (λ t g. refl) cuts)
+    (λ t g. sym (listing_cuts n m o t ns (names_known mid.texts t lists.heap.table (Grows-trans mid.texts new.texts t cuts.texts g) ns names) rises)) (λ t g. refl) cuts)
 
 -- ---- one name
 

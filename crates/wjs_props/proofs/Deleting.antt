@@ -9,17 +9,18 @@ use Rattle.wjs_base.specs.declared.values.Name.{Name}
 use Rattle.wjs_base.specs.declared.values.Value.{Value as NumberedValue}
 use Rattle.wjs_base.specs.Spelling.{IsName}
 use Rattle.wjs_base.specs.Text.{Table, Grows}
+use Rattle.wjs_base.proofs.TextLaws.{Grows-trans}
 use Rattle.wjs_store.specs.Shown.{content_of}
 use Rattle.wjs_arena.specs.Chains as numbered
-use Rattle.wjs_content.specs.Values.{Value}
-use Rattle.wjs_content.specs.Names.{slot}
-use Rattle.wjs_content.specs.Objects.{fixed, is_kept}
-use Rattle.wjs_content.specs.Plans.{Plan, Gives, Reads, Writes}
-use Rattle.wjs_content.specs.Tables.{name_in, value_in, slot_in, content_in, arena_in}
+use Rattle.wjs_by_content.specs.Values.{Value}
+use Rattle.wjs_by_content.specs.Names.{slot}
+use Rattle.wjs_by_content.specs.Objects.{fixed, is_kept}
+use Rattle.wjs_by_content.specs.Plans.{Plan, Gives, Reads, Writes}
+use Rattle.wjs_by_content.specs.Tables.{name_in, value_in, slot_in, content_in, arena_in}
 use Rattle.wjs_heap.specs.Heap.{Parts, IsHeap, Performs}
 use Rattle.wjs_heap.specs.Means.{nothing}
-use Rattle.wjs_content.specs.Properties as plan
-use Rattle.wjs_heap.proofs.Turns.{performs_nothing, performs_then, performs_same, grows_twice}
+use Rattle.wjs_by_content.specs.Properties as plan
+use Rattle.wjs_heap.proofs.Turns.{performs_nothing, performs_then, performs_same}
 use Rattle.wjs_props.proofs.ByContent.{fixed_in, flags_same}
 
 is_some_in : (t : Table) (r : Option NumberedValue) → is_some (option_map (value_in t) r) ≡ is_some r
@@ -63,7 +64,7 @@ module _ (w : WorldId) (o : ObjId) (n : Name) (old : Parts) (heap : IsHeap old) 
       → Performs w (λ t. Reads (slot_in t (record { object = o; name = n })) Gives) (λ t. content_in t c) old new → Performs w (λ t. plan.delete (arena_in t old.arena) o (name_in t n)) (λ t. b) old new
   unfolding plan_of unfixed
   delete_kept new c b e k is f = performs_same w _ _ (λ t. b) (λ t. b) old new
-      (λ t g. let g' = grows_twice old.texts new.texts t f.texts g in sym (λ i. plan_of t (fixed_test false e t g' i) (kept_test true k t g' i)))
+      (λ t g. let g' = Grows-trans old.texts new.texts t f.texts g in sym (λ i. plan_of t (fixed_test false e t g' i) (kept_test true k t g' i)))
       (λ t g. refl)
       (performs_then w (λ t. Reads (slot_in t (record { object = o; name = n })) Gives) (λ t found. Gives (is_none found)) (λ t. content_in t c) (λ t. b) old new new f
       (performs_same w (λ t. Gives b) _ (λ t. b) (λ t. b) new new (λ t g. ap (λ (x : Bool). Gives x) (sym (is_none_in t (content_of c) ∙ is))) (λ t g. refl) (performs_nothing w (λ t. b) new f.heap)))
@@ -72,6 +73,6 @@ module _ (w : WorldId) (o : ObjId) (n : Name) (old : Parts) (heap : IsHeap old) 
       → Performs w (λ t. Writes (slot_in t (record { object = o; name = n })) None (Gives nothing)) (λ t. nothing) old new → Performs w (λ t. plan.delete (arena_in t old.arena) o (name_in t n)) (λ t. true) old new
   unfolding plan_of unfixed
   delete_other new e k f = performs_same w _ _ (λ t. true) (λ t. true) old new
-      (λ t g. let g' = grows_twice old.texts new.texts t f.texts g in sym (λ i. plan_of t (fixed_test false e t g' i) (kept_test false k t g' i)))
+      (λ t g. let g' = Grows-trans old.texts new.texts t f.texts g in sym (λ i. plan_of t (fixed_test false e t g' i) (kept_test false k t g' i)))
       (λ t g. refl)
       (performs_then w (λ t. Writes (slot_in t (record { object = o; name = n })) None (Gives nothing)) (λ t u. Gives true) (λ t. nothing) (λ t. true) old new new f (performs_nothing w (λ t. true) new f.heap))

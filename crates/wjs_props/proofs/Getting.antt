@@ -9,12 +9,12 @@ use Rattle.wjs_base.specs.declared.values.Name.{Name}
 use Rattle.wjs_base.specs.declared.values.Value.{Value as NumberedValue}
 use Rattle.wjs_base.specs.Spelling.{IsName}
 use Rattle.wjs_base.specs.Text.{Table, Grows, IsTable}
-use Rattle.wjs_content.proofs.Growth.{name_grows}
-use Rattle.wjs_content.proofs.Known.{name_known, name_known_is_name}
+use Rattle.wjs_by_content.proofs.Growth.{name_grows}
+use Rattle.wjs_by_content.proofs.Known.{name_known, name_known_is_name}
 use Rattle.wjs_store.specs.State.{has_world}
 use Rattle.wjs_store.specs.Meaning.{worlds}
 use Rattle.wjs_store.specs.Shown.{content_of}
-use Rattle.wjs_content.specs.Renamed.{Holds}
+use Rattle.wjs_by_content.specs.Renamed.{Holds}
 use Rattle.wjs_arena.specs.AtName as numbered_at
 use Rattle.wjs_arena.specs.AtName.{same_name}
 use Rattle.wjs_arena.specs.Chains as numbered
@@ -24,15 +24,16 @@ use Rattle.wjs_arena.specs.Entries as entries
 use Rattle.wjs_arena.specs.declared.object.Object.{Object}
 use Rattle.wjs_arena.proofs.Walks.{chain_step, there_next, link_is}
 use Rattle.wjs_base.specs.declared.values.Content.TheVariants.{Absent, Present}
-use Rattle.wjs_content.specs.Values.{Value}
-use Rattle.wjs_content.specs.Names.{slot}
-use Rattle.wjs_content.specs.Objects.{fixed}
-use Rattle.wjs_content.specs.Plans.{Plan, Gives, Reads}
-use Rattle.wjs_content.specs.Tables.{name_in, value_in, slot_in, content_in, arena_in}
+use Rattle.wjs_base.proofs.TextLaws.{Grows-trans}
+use Rattle.wjs_by_content.specs.Values.{Value}
+use Rattle.wjs_by_content.specs.Names.{slot}
+use Rattle.wjs_by_content.specs.Objects.{fixed}
+use Rattle.wjs_by_content.specs.Plans.{Plan, Gives, Reads}
+use Rattle.wjs_by_content.specs.Tables.{name_in, value_in, slot_in, content_in, arena_in}
 use Rattle.wjs_heap.specs.Heap.{Parts, HasValue, IsHeap, Performs}
-use Rattle.wjs_content.specs.Properties as plan
-use Rattle.wjs_content.proofs.ArenaMaps.{chain_same}
-use Rattle.wjs_heap.proofs.Turns.{performs_nothing, performs_then, performs_same, grows_twice}
+use Rattle.wjs_by_content.specs.Properties as plan
+use Rattle.wjs_by_content.proofs.ArenaMaps.{chain_same}
+use Rattle.wjs_heap.proofs.Turns.{performs_nothing, performs_then, performs_same}
 use Rattle.wjs_props.proofs.ByContent.{fixed_in}
 
 -- a walk has come to an object: what does the rest does the whole
@@ -62,7 +63,7 @@ pub name_stays : (old new : Table) → IsTable old → Grows old new → (n : Na
 name_stays old new table g n is = name_known_is_name new n (name_grows old new g n (name_known old table n is)).0
 
 grows_more : (a b c d : Table) → Grows a b → Grows b c → Grows c d → Grows a d
-grows_more a b c d f g k = grows_twice a c d (grows_twice a b c f g) k
+grows_more a b c d f g k = Grows-trans a c d (Grows-trans a b c f g) k
 
 module _ (w : WorldId) (n : Name) (o : ObjId) (old now : Parts) (at : ObjId) (so : IsGetting w n o old now at) where
   -- what follows the read of the slot

@@ -1,5 +1,5 @@
 -- A sorted listing is the listing by content.
-use Rattle.std.proofs.Common.{◌≡◌, ℕ, ◌+◌, ◌≤◌, Bool, true, false, cond, ◌&&◌, T, List, [], ◌∷◌, Option, None, Some, refl, sym, ap, ◌∙◌, map as each, Ordering, IsPermutation, arith}
+use Rattle.std.proofs.Common.{◌≡◌, ℕ, ◌+◌, ◌≤◌, Bool, true, false, cond, T, List, [], ◌∷◌, Option, None, Some, refl, sym, ap, ◌∙◌, map as each, Ordering, IsPermutation, arith}
 use Rattle.std.specs.Prelude.{is_some, is_none, unwrap_or, if◌then◌else◌}
 use Rattle.std.specs.declared.cmp.Ordering.TheVariants.{Less, Equal, Greater}
 use Rattle.std.specs.Cmp.{Equal-is, tied_itself}
@@ -21,18 +21,19 @@ use Rattle.wjs_base.specs.Order as numbered
 use Rattle.wjs_base.specs.Spelling.{IsName, greatest_index, spelling_cmp, units_of}
 use Rattle.wjs_base.specs.Spelling as spelling
 use Rattle.wjs_base.specs.Text.{Table, Grows, IsTable}
+use Rattle.wjs_base.proofs.Booleans.{left_true, right_true}
 use Rattle.wjs_store.specs.Shown.{slots_of}
-use Rattle.wjs_content.specs.Ascends.{tagged, Ascends}
-use Rattle.wjs_content.specs.Renamed.{Holds}
-use Rattle.wjs_content.specs.Values.{Text}
-use Rattle.wjs_content.specs.Names.{Slot, slot, slot_cmp, slot_total, slot_exact, name_cmp, text_cmp, index_of, index_name}
-use Rattle.wjs_content.specs.Indices.{index_again}
-use Rattle.wjs_content.specs.Tables.{name_in, text_in, slot_in, knows_text, knows_name}
-use Rattle.wjs_content.specs.Telling.{names_tell}
-use Rattle.wjs_content.specs.Worlds.{in_order, listing}
-use Rattle.wjs_content.proofs.Growth.{name_grows}
-use Rattle.wjs_content.proofs.Known.{name_known}
-use Rattle.wjs_content.proofs.Listings.{ordered}
+use Rattle.wjs_by_content.specs.Ascends.{tagged, Ascends}
+use Rattle.wjs_by_content.specs.Renamed.{Holds}
+use Rattle.wjs_by_content.specs.Values.{Text}
+use Rattle.wjs_by_content.specs.Names.{Slot, slot, slot_cmp, slot_total, slot_exact, name_cmp, text_cmp, index_of, index_name}
+use Rattle.wjs_by_content.specs.Indices.{index_again}
+use Rattle.wjs_by_content.specs.Tables.{name_in, text_in, slot_in, knows_text, knows_name}
+use Rattle.wjs_by_content.specs.Telling.{names_tell}
+use Rattle.wjs_by_content.specs.Worlds.{in_order, listing}
+use Rattle.wjs_by_content.proofs.Growth.{name_grows}
+use Rattle.wjs_by_content.proofs.Known.{name_known}
+use Rattle.wjs_by_content.proofs.Listings.{ordered}
 use Rattle.wjs_props.proofs.Sorting.{sorted_map, sorted_ascends, times}
 
 -- ---- the order of names by number is that of their contents
@@ -41,7 +42,7 @@ use Rattle.wjs_props.proofs.Sorting.{sorted_map, sorted_ascends, times}
 compared : Text → Text → Option ℕ → Option ℕ → Ordering
 compared a b x y = ordering_then (nat_cmp (if is_some x then 0 else 1) (if is_some y then 0 else 1)) (ordering_then (nat_cmp (unwrap_or x 0) (unwrap_or y 0)) (text_cmp a b))
 
-none_of : (x : Option ℕ) → is_none x ≡ true → x ≡ None
+pub none_of : (x : Option ℕ) → is_none x ≡ true → x ≡ None
 none_of None e = refl
 none_of (Some n) e = absurd (true≢false (sym e))
 
@@ -102,14 +103,6 @@ module _ (texts t : Table) (table : IsTable texts) (g : Grows texts t) where
 
     -- ---- each name stands once
 
-    right_of : (a b : Bool) → T (a && b) → T b
-    right_of true b h = h
-    right_of false b h = absurd h
-
-    left_of : (a b : Bool) → T (a && b) → T a
-    left_of true b h = tt
-    left_of false b h = h
-
     equal_not_less : (c : Ordering) → c ≡ Equal → T (is_lt c) → ⊥
     equal_not_less Less e h = cc
     equal_not_less Equal e h = h
@@ -128,25 +121,25 @@ module _ (texts t : Table) (table : IsTable texts) (g : Grows texts t) where
     never : (a : Name) → IsName texts a → (ns : List Name) → Holds (IsName texts) ns → T (below_all numbered.slot_cmp (as_slot a) (tagged (slots_of o ns))) → times slot_cmp (slot_at a) (each slot_at ns) ≡ 0
     unfolding as_slot
     never a is [] h below = refl
-    never a is (n ∷ ns) h below = by (eq_by_cmp slot_cmp (slot_at a) (slot_at n)) refl (never a is ns h.1 (right_of (is_lt (numbered.slot_cmp (as_slot a) (as_slot n))) (below_all numbered.slot_cmp (as_slot a) (tagged (slots_of o ns))) below))
+    never a is (n ∷ ns) h below = by (eq_by_cmp slot_cmp (slot_at a) (slot_at n)) refl (never a is ns h.1 (right_true (is_lt (numbered.slot_cmp (as_slot a) (as_slot n))) (below_all numbered.slot_cmp (as_slot a) (tagged (slots_of o ns))) below))
       where
         counted : times slot_cmp (slot_at a) (each slot_at (n ∷ ns)) ≡ cond (eq_by_cmp slot_cmp (slot_at a) (slot_at n)) 1 0 + times slot_cmp (slot_at a) (each slot_at ns)
         counted = sum_by-cons (λ z. cond (eq_by_cmp slot_cmp (slot_at a) z) 1 0) (slot_at n) (each slot_at ns)
 
         by : (b : Bool) → eq_by_cmp slot_cmp (slot_at a) (slot_at n) ≡ b → times slot_cmp (slot_at a) (each slot_at ns) ≡ 0 → times slot_cmp (slot_at a) (each slot_at (n ∷ ns)) ≡ 0
-        by true e later = absurd (apart a n is h.0 (left_of (is_lt (numbered.slot_cmp (as_slot a) (as_slot n))) (below_all numbered.slot_cmp (as_slot a) (tagged (slots_of o ns))) below) e)
+        by true e later = absurd (apart a n is h.0 (left_true (is_lt (numbered.slot_cmp (as_slot a) (as_slot n))) (below_all numbered.slot_cmp (as_slot a) (tagged (slots_of o ns))) below) e)
         by false e later = let none = ap (λ (b : Bool). cond b 1 0 + times slot_cmp (slot_at a) (each slot_at ns)) e in omega (arith, counted, none, later)
 
     once : (ns : List Name) → Holds (IsName texts) ns → Ascends numbered.slot_cmp (slots_of o ns) → (q : Slot) → times slot_cmp q (each slot_at ns) ≤ 1
     unfolding as_slot
     once [] h up q = omega arith
-    once (n ∷ ns) h up q = by (eq_by_cmp slot_cmp q (slot_at n)) refl (once ns h.1 (right_of (below_all numbered.slot_cmp (as_slot n) (tagged (slots_of o ns))) (map.is_sorted numbered.slot_cmp (tagged (slots_of o ns))) up) q)
+    once (n ∷ ns) h up q = by (eq_by_cmp slot_cmp q (slot_at n)) refl (once ns h.1 (right_true (below_all numbered.slot_cmp (as_slot n) (tagged (slots_of o ns))) (map.is_sorted numbered.slot_cmp (tagged (slots_of o ns))) up) q)
       where
         counted : times slot_cmp q (each slot_at (n ∷ ns)) ≡ cond (eq_by_cmp slot_cmp q (slot_at n)) 1 0 + times slot_cmp q (each slot_at ns)
         counted = sum_by-cons (λ z. cond (eq_by_cmp slot_cmp q z) 1 0) (slot_at n) (each slot_at ns)
 
         none : times slot_cmp (slot_at n) (each slot_at ns) ≡ 0
-        none = never n h.0 ns h.1 (left_of (below_all numbered.slot_cmp (as_slot n) (tagged (slots_of o ns))) (map.is_sorted numbered.slot_cmp (tagged (slots_of o ns))) up)
+        none = never n h.0 ns h.1 (left_true (below_all numbered.slot_cmp (as_slot n) (tagged (slots_of o ns))) (map.is_sorted numbered.slot_cmp (tagged (slots_of o ns))) up)
 
         by : (b : Bool) → eq_by_cmp slot_cmp q (slot_at n) ≡ b → times slot_cmp q (each slot_at ns) ≤ 1 → times slot_cmp q (each slot_at (n ∷ ns)) ≤ 1
         by true e later =

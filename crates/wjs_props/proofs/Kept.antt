@@ -13,7 +13,7 @@ use Rattle.wjs_store.proofs.Contents.{content_after_read, content_after_list, co
 use Rattle.wjs_store.proofs.Commits.{entries_ids, entries_copies, objects_ids, objects_copies, pair_parts}
 use Rattle.wjs_store.proofs.States.{content_each}
 use Rattle.wjs_store.proofs.Writes.{has_after_write, same_self}
-use Rattle.wjs_content.specs.Renamed.{Holds}
+use Rattle.wjs_by_content.specs.Renamed.{Holds}
 
 -- it holds of a content that is present
 abbrev pub HoldsOf : {K V : Type 0} → (K → V → Type 0) → K → Option V → Type 0

@@ -19,19 +19,20 @@ use Rattle.wjs_base.specs.declared.values.Value.{Value as NumberedValue}
 use Rattle.wjs_base.specs.Order as numbered
 use Rattle.wjs_base.specs.Spelling.{IsName, greatest_index}
 use Rattle.wjs_base.specs.Text.{Table}
+use Rattle.wjs_base.proofs.Booleans.{left_true, right_true, both_true}
 use Rattle.wjs_store.specs.Naming.{plain}
 use Rattle.wjs_store.specs.State.{World, find_world, content_at, same_object, slots_in, slots_at}
 use Rattle.wjs_store.specs.Meaning.{Worlds}
 use Rattle.wjs_store.specs.Shown.{slots_of}
 use Rattle.wjs_store.proofs.Ascending.{firsts, untagged, find_tag, ascends_filter, any_passing}
-use Rattle.wjs_content.specs.Ascends.{tagged, Ascends}
-use Rattle.wjs_content.specs.Renamed.{Holds}
-use Rattle.wjs_content.proofs.RenamedKnown.{entries_hold}
-use Rattle.wjs_content.specs.Values.{Text}
-use Rattle.wjs_content.specs.Names.{Slot, slot, slot_cmp, slot_total, slot_exact, text_cmp, index_of, index_name}
-use Rattle.wjs_content.specs.Indices.{index_again}
-use Rattle.wjs_content.specs.Tables.{name_in, text_in, slot_in, knows_text, knows_name}
-use Rattle.wjs_content.specs.Worlds.{in_order}
+use Rattle.wjs_by_content.specs.Ascends.{tagged, Ascends}
+use Rattle.wjs_by_content.specs.Renamed.{Holds}
+use Rattle.wjs_by_content.proofs.RenamedKnown.{entries_hold}
+use Rattle.wjs_by_content.specs.Values.{Text}
+use Rattle.wjs_by_content.specs.Names.{Slot, slot, slot_cmp, slot_total, slot_exact, text_cmp, index_of, index_name}
+use Rattle.wjs_by_content.specs.Indices.{index_again}
+use Rattle.wjs_by_content.specs.Tables.{name_in, text_in, slot_in, knows_text, knows_name}
+use Rattle.wjs_by_content.specs.Worlds.{in_order}
 
 -- ---- each listed slot is there
 
@@ -58,18 +59,6 @@ names_hold texts o [] h = tt
 names_hold texts o (n ∷ ns) h = (h.0, names_hold texts o ns h.1)
 
 -- ---- indices come in the order of contents
-
-both : (a b : Bool) → T a → T b → T (a && b)
-both true b p q = q
-both false b p q = p
-
-left_of : (a b : Bool) → T (a && b) → T a
-left_of true b h = tt
-left_of false b h = h
-
-right_of : (a b : Bool) → T (a && b) → T b
-right_of true b h = h
-right_of false b h = absurd h
 
 less_still : (X Y Z : Ordering) → T (is_lt (ordering_then X Y)) → T (is_lt (ordering_then X (ordering_then Y Z)))
 less_still Less Y Z h = tt
@@ -108,26 +97,26 @@ module _ (t : Table) (o : ObjId) (p : Option ℕ → Bool) (out : p None ≡ fal
   below_in : (a : Name) → knows_name t a ≡ true → p (index_of (name_in t a)) ≡ true → (ns : List Name) → Holds (λ n. knows_name t n ≡ true) ns
       → T (below_all numbered.slot_cmp (record { object = o; name = a }) (tagged (slots_of o ns))) → T (below_all slot_cmp (slot o (name_in t a)) (tagged (filter passes (each (slot_in t) (slots_of o ns)))))
   below_in a k q [] l h = tt
-  below_in a k q (n ∷ ns) l h = by (p (index_of (name_in t n))) refl (below_in a k q ns l.1 (right_of (is_lt (numbered.slot_cmp (record { object = o; name = a }) (record { object = o; name = n }))) (below_all numbered.slot_cmp (record { object = o; name = a }) (tagged (slots_of o ns))) h))
+  below_in a k q (n ∷ ns) l h = by (p (index_of (name_in t n))) refl (below_in a k q ns l.1 (right_true (is_lt (numbered.slot_cmp (record { object = o; name = a }) (record { object = o; name = n }))) (below_all numbered.slot_cmp (record { object = o; name = a }) (tagged (slots_of o ns))) h))
     where
       later : List Slot
       later = filter passes (each (slot_in t) (slots_of o ns))
 
       by : (b : Bool) → p (index_of (name_in t n)) ≡ b → T (below_all slot_cmp (slot o (name_in t a)) (tagged later)) → T (below_all slot_cmp (slot o (name_in t a)) (tagged (cond b (slot o (name_in t n) ∷ later) later)))
-      by true e r = both (is_lt (slot_cmp (slot o (name_in t a)) (slot o (name_in t n)))) (below_all slot_cmp (slot o (name_in t a)) (tagged later))
-          (less_in a n k l.0 q e (left_of (is_lt (numbered.slot_cmp (record { object = o; name = a }) (record { object = o; name = n }))) (below_all numbered.slot_cmp (record { object = o; name = a }) (tagged (slots_of o ns))) h)) r
+      by true e r = both_true (is_lt (slot_cmp (slot o (name_in t a)) (slot o (name_in t n)))) (below_all slot_cmp (slot o (name_in t a)) (tagged later))
+          (less_in a n k l.0 q e (left_true (is_lt (numbered.slot_cmp (record { object = o; name = a }) (record { object = o; name = n }))) (below_all numbered.slot_cmp (record { object = o; name = a }) (tagged (slots_of o ns))) h)) r
       by false e r = r
 
   ascends_in : (ns : List Name) → Holds (λ n. knows_name t n ≡ true) ns → Ascends numbered.slot_cmp (slots_of o ns) → Ascends slot_cmp (filter passes (each (slot_in t) (slots_of o ns)))
   ascends_in [] k h = tt
-  ascends_in (n ∷ ns) k h = by (p (index_of (name_in t n))) refl (ascends_in ns k.1 (right_of (below_all numbered.slot_cmp (record { object = o; name = n }) (tagged (slots_of o ns))) (map.is_sorted numbered.slot_cmp (tagged (slots_of o ns))) h))
+  ascends_in (n ∷ ns) k h = by (p (index_of (name_in t n))) refl (ascends_in ns k.1 (right_true (below_all numbered.slot_cmp (record { object = o; name = n }) (tagged (slots_of o ns))) (map.is_sorted numbered.slot_cmp (tagged (slots_of o ns))) h))
     where
       later : List Slot
       later = filter passes (each (slot_in t) (slots_of o ns))
 
       by : (b : Bool) → p (index_of (name_in t n)) ≡ b → Ascends slot_cmp later → Ascends slot_cmp (cond b (slot o (name_in t n) ∷ later) later)
-      by true e r = both (below_all slot_cmp (slot o (name_in t n)) (tagged later)) (map.is_sorted slot_cmp (tagged later))
-          (below_in n k.0 e ns k.1 (left_of (below_all numbered.slot_cmp (record { object = o; name = n }) (tagged (slots_of o ns))) (map.is_sorted numbered.slot_cmp (tagged (slots_of o ns))) h)) r
+      by true e r = both_true (below_all slot_cmp (slot o (name_in t n)) (tagged later)) (map.is_sorted slot_cmp (tagged later))
+          (below_in n k.0 e ns k.1 (left_true (below_all numbered.slot_cmp (record { object = o; name = n }) (tagged (slots_of o ns))) (map.is_sorted numbered.slot_cmp (tagged (slots_of o ns))) h)) r
       by false e r = r
 
   -- the same of the listing in order

@@ -1,5 +1,5 @@
 -- [[Put]].
-use Rattle.std.proofs.Common.{◌≡◌, ℕ, ◌+◌, ◌≤◌, ◌<◌, [], Bool, true, false, Option, None, Some, refl, sym, ap, ◌∙◌, subst, IsTrue, IfSome, arith, Result, Ok, Err, IfOk}
+use Rattle.std.proofs.Common.{◌≡◌, ℕ, ◌+◌, ◌≤◌, ◌<◌, [], Bool, true, false, Option, None, Some, refl, sym, ap, ◌∙◌, subst, IsTrue, IfSome, arith}
 use Rattle.std.specs.Prelude.{nat_lt, is_some, is_none}
 use Rattle.std.specs.Option.{option_map, option_map_or}
 use Rattle.std.specs.FinMap as map
@@ -18,35 +18,31 @@ use Rattle.wjs_base.specs.declared.values.Value.{Value as NumberedValue}
 use Rattle.wjs_base.specs.declared.values.Value.TheVariants as value
 use Rattle.wjs_base.specs.Spelling.{IsName, greatest_index}
 use Rattle.wjs_base.specs.Text.{Table, Grows, IsTable, Denotes}
-use Rattle.wjs_base.proofs.TextLaws.{Grows-IsName, Denotes-Has}
+use Rattle.wjs_base.proofs.TextLaws.{Grows-IsName, Denotes-Has, Grows-trans}
+use Rattle.wjs_props.proofs.InOrder.{none_of}
 use Rattle.wjs_arena.specs.declared.class.Class.{Class}
 use Rattle.wjs_arena.specs.declared.class.Class.TheVariants as class
 use Rattle.wjs_arena.specs.declared.object.Object.{Object as NumberedObject}
 use Rattle.wjs_arena.specs.Chains as numbered
 use Rattle.wjs_arena.specs.Entries.{Objects, Entry as NumberedEntry}
 use Rattle.wjs_arena.specs.Entries as entries
-use Rattle.wjs_content.specs.Values.{Text, Value, whole, same_text, text_Decides}
-use Rattle.wjs_content.specs.Names.{Slot, slot, length_name, index_of, index_name}
-use Rattle.wjs_content.specs.Indices.{index_again}
-use Rattle.wjs_content.specs.Objects.{Entry, object_of, is_array, is_array_class}
-use Rattle.wjs_content.specs.Plans.{Plan, Gives, Reads, Writes, then_plan}
-use Rattle.wjs_content.specs.Tables.{name_in, text_in, value_in, slot_in, content_in, entry_in, arena_in, knows_text}
-use Rattle.wjs_content.proofs.ArenaMaps.{object_found}
-use Rattle.wjs_content.proofs.Growth.{name_grows}
-use Rattle.wjs_content.proofs.Known.{name_known, text_is}
-use Rattle.wjs_content.specs.declared.answers.PutAnswer.{PutAnswer}
-use Rattle.wjs_content.specs.declared.answers.PutAnswer.TheVariants.{Done, Ignored, BadLength}
+use Rattle.wjs_by_content.specs.Values.{Text, Value, whole, same_text, text_Decides}
+use Rattle.wjs_by_content.specs.Names.{Slot, slot, length_name, index_of, index_name}
+use Rattle.wjs_by_content.specs.Indices.{index_again}
+use Rattle.wjs_by_content.specs.Objects.{Entry, object_of, is_array, is_array_class}
+use Rattle.wjs_by_content.specs.Plans.{Plan, Gives, Reads, Writes, then_plan}
+use Rattle.wjs_by_content.specs.Tables.{name_in, text_in, value_in, slot_in, content_in, entry_in, arena_in, knows_text}
+use Rattle.wjs_by_content.proofs.ArenaMaps.{object_found}
+use Rattle.wjs_by_content.proofs.Growth.{name_grows}
+use Rattle.wjs_by_content.proofs.Known.{name_known, text_is}
+use Rattle.wjs_by_content.specs.declared.answers.PutAnswer.{PutAnswer}
+use Rattle.wjs_by_content.specs.declared.answers.PutAnswer.TheVariants.{Done, Ignored, BadLength}
 use Rattle.wjs_heap.specs.Heap.{Parts, HasValue, HasSlot, IsHeap, Performs}
 use Rattle.wjs_heap.specs.Means.{nothing}
-use Rattle.wjs_content.specs.Properties as plan
-use Rattle.wjs_heap.proofs.Turns.{performs_nothing, performs_then, performs_same, grows_twice}
+use Rattle.wjs_by_content.specs.Properties as plan
+use Rattle.wjs_heap.proofs.Turns.{performs_nothing, performs_then, performs_same}
 use Rattle.wjs_props.proofs.ByContent.{puttable_in}
 use Rattle.wjs_props.proofs.Cutting.{index_small}
-
--- what one answer tells, another tells
-pub if_ok : {A E : Type 0} (r : Result A E) (P Q : A → Type 0) → ((a : A) → P a → Q a) → IfOk r P → IfOk r Q
-if_ok (Ok a) P Q f h = f a h
-if_ok (Err e) P Q f h = h
 
 -- a name spells the same in a table that has grown
 pub spells_still : (texts t : Table) → IsTable texts → Grows texts t → (n : Name) → IsName texts n → (x : Text) → name_in texts n ≡ x → name_in t n ≡ x
@@ -91,7 +87,7 @@ module _ (w : WorldId) (s : NumberedSlot) (i : ℕ) (v : NumberedValue) (h0 h1 h
       let all = performs_then w (λ t. Reads (slot_in t s) Gives) (λ t found. after_read s.object i (value_in t v) (plan.length_of found)) (λ t. content_in t c) (λ t. Done) h0 h1 h3 read
       (performs_same w _ _ (λ t. Done) (λ t. Done) h1 h3 (λ t g. ap (after_read s.object i (value_in t v)) (sym (length t))) (λ t g. refl) then_wrote) in
       performs_same w _ _ (λ t. Done) (λ t. Done) h0 h3
-      (λ t g. ap (λ (x : Text). Reads (slot s.object x) (λ found. after_read s.object i (value_in t v) (plan.length_of found))) (spells_still h0.texts t heap.table (grows_twice h0.texts h3.texts t all.texts g) s.name is length_name spells))
+      (λ t g. ap (λ (x : Text). Reads (slot s.object x) (λ found. after_read s.object i (value_in t v) (plan.length_of found))) (spells_still h0.texts t heap.table (Grows-trans h0.texts h3.texts t all.texts g) s.name is length_name spells))
       (λ t g. refl) all
 
   pub put_below : i < m → Performs w (λ t. plan.put_index s.object i (value_in t v)) (λ t. Done) h0 h2
@@ -102,7 +98,7 @@ module _ (w : WorldId) (s : NumberedSlot) (i : ℕ) (v : NumberedValue) (h0 h1 h
   unfolding after_length
   put_past past h3 greater is_greater longer = element_put h3 (performs_same w _ _ (λ t. Done) (λ t. Done) h2 h3
       (λ t g.
-      let g' = grows_twice h0.texts h3.texts t (grows_twice h0.texts h1.texts h3.texts read.texts (grows_twice h1.texts h2.texts h3.texts wrote.texts longer.texts)) g in
+      let g' = Grows-trans h0.texts h3.texts t (Grows-trans h0.texts h1.texts h3.texts read.texts (Grows-trans h1.texts h2.texts h3.texts wrote.texts longer.texts)) g in
       let n = spells_still h0.texts t heap.table g' s.name is length_name spells in
       (λ j. Writes (slot s.object (n j)) (Some (is_greater t j)) (Gives Done)) ∙ sym (ap (after_length s.object i (value_in t v)) (false_from_ne_true (nat_lt i m) (λ e. let less = ltb-true i m e in omega (arith, less, past)))))
       (λ t g. refl)
@@ -119,7 +115,7 @@ pub length_put : (w : WorldId) (s : NumberedSlot) (n : ℕ) (h0 h1 h2 h3 : Parts
     → Performs w (λ t. plan.put_length s.object (Some n)) (λ t. Done) h0 h3
 unfolding after_old
 length_put w s n h0 h1 h2 h3 heap is spells c m length read cut shorter is_shorter wrote =
-    let spelt : (t : Table) → Grows h3.texts t → name_in t s.name ≡ length_name = λ t g. spells_still h0.texts t heap.table (grows_twice h0.texts h3.texts t (grows_twice h0.texts h1.texts h3.texts read.texts (grows_twice h1.texts h2.texts h3.texts cut.texts wrote.texts)) g) s.name is length_name spells in
+    let spelt : (t : Table) → Grows h3.texts t → name_in t s.name ≡ length_name = λ t g. spells_still h0.texts t heap.table (Grows-trans h0.texts h3.texts t (Grows-trans h0.texts h1.texts h3.texts read.texts (Grows-trans h1.texts h2.texts h3.texts cut.texts wrote.texts)) g) s.name is length_name spells in
     let last : Performs w (λ t. Writes (slot s.object length_name) (Some (whole n)) (Gives Done)) (λ t. Done) h2 h3 =
     performs_same w _ _ (λ t. Done) (λ t. Done) h2 h3 (λ t g j. Writes (slot s.object (spelt t g j)) (Some (is_shorter t j)) (Gives Done)) (λ t g. refl) (wrote_gives w (λ t. slot_in t s) (λ t. Some (value_in t shorter)) Done h2 h3 wrote) in
     let then_cut : Performs w (λ t. after_old s.object n m) (λ t. Done) h1 h3 = performs_then w (λ t. plan.cut n m s.object) (λ t done. Writes (slot s.object length_name) (Some (whole n)) (Gives Done)) (λ t. nothing) (λ t. Done) h1 h2 h3 cut last in
@@ -135,13 +131,9 @@ text_of_array o x v b = elim b [ true ↦ plan.put_length o (plan.length_of_valu
 in_array : ObjId → Text → Value → Option ℕ → Plan PutAnswer
 in_array o x v i = elim i [ Some i ↦ plan.put_index o i v | None ↦ elim (same_text x length_name) [ true ↦ plan.put_length o (plan.length_of_value v) | false ↦ plan.put_slot o x v ] ]
 
-none_by_test : (x : Option ℕ) → is_none x ≡ true → x ≡ None
-none_by_test None e = refl
-none_by_test (Some n) e = absurd (true≢false (sym e))
-
 -- a text that is a name spells no index
 no_index : (texts t : Table) → IsTable texts → Grows texts t → (id : TextId) → IsName texts (name.Text id) → index_of (text_in t id) ≡ None
-no_index texts t table g id is = none_by_test (index_of (text_in t id)) (and_parts (knows_text t id) (is_none (index_of (text_in t id))) (name_grows texts t g (name.Text id) (name_known texts table (name.Text id) is)).0).1
+no_index texts t table g id is = none_of (index_of (text_in t id)) (and_parts (knows_text t id) (is_none (index_of (text_in t id))) (name_grows texts t g (name.Text id) (name_known texts table (name.Text id) is)).0).1
 
 pub text_handed : (texts : Table) (x : Name) (id : TextId) → x ≡ name.Text id → IsName texts x → IsName texts (name.Text id)
 text_handed texts x id e is = subst (IsName texts) e is
@@ -160,7 +152,7 @@ module _ (w : WorldId) (o : ObjId) (v : NumberedValue) (old new : Parts) (a : Pu
   unfolding in_array text_of_array
   array_text id is b test f = performs_same w _ _ (λ t. a) (λ t. a) old new
       (λ t g.
-      let g' = grows_twice old.texts new.texts t f.texts g in
+      let g' = Grows-trans old.texts new.texts t f.texts g in
       let same : text_in t id ≡ text_in old.texts id = (name_grows old.texts t g' (name.Text id) (name_known old.texts heap.table (name.Text id) is)).1 in
       sym (ap (in_array o (text_in t id) (value_in t v)) (no_index old.texts t heap.table g' id is) ∙ ap (text_of_array o (text_in t id) (value_in t v)) (ap (λ (x : Text). same_text x length_name) same ∙ test)))
       (λ t g. refl) f
@@ -202,7 +194,7 @@ module _ (w : WorldId) (o : ObjId) (v : NumberedValue) (old new : Parts) (a : Pu
       → Performs w (puts_as x p q) (λ t. a) old new → Performs w (λ t. plan.put (arena_in t old.arena) o (name_in t x) (value_in t v)) (λ t. a) old new
   unfolding puts_as
   put_as x is p q puttable array f = performs_same w _ _ (λ t. a) (λ t. a) old new
-      (λ t g. let e = puttable_in old heap t (grows_twice old.texts new.texts t f.texts g) o x is ∙ puttable in sym (λ i. puts_as x (e i) (array t i) t))
+      (λ t g. let e = puttable_in old heap t (Grows-trans old.texts new.texts t f.texts g) o x is ∙ puttable in sym (λ i. puts_as x (e i) (array t i) t))
       (λ t g. refl) f
 
   pub put_array : (x : Name) → IsName old.texts x → numbered.is_puttable old.arena o x ≡ true → ((t : Table) → is_array (arena_in t old.arena) o ≡ true)

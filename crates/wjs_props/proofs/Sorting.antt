@@ -1,5 +1,5 @@
 -- What a sort leaves: elements that are apart ascend strictly.
-use Rattle.std.proofs.Common.{◌≡◌, ℕ, zero, suc, ◌+◌, ◌<◌, ◌≤◌, Bool, true, false, cond, ◌&&◌, T, List, [], ◌∷◌, refl, ap, ◌∙◌, map as each, Ordering, arith, length, get_or, sum_by}
+use Rattle.std.proofs.Common.{◌≡◌, ℕ, zero, suc, ◌+◌, ◌<◌, ◌≤◌, Bool, true, false, cond, T, List, [], ◌∷◌, refl, ap, ◌∙◌, map as each, Ordering, arith, length, get_or, sum_by}
 use Rattle.std.specs.declared.cmp.Ordering.TheVariants.{Less, Equal, Greater}
 use Rattle.std.specs.Ordering.{eq_by_cmp, is_lt, is_eq, ordering_reverse}
 use Rattle.std.specs.Cmp.{IsTotalOrder, tied_itself}
@@ -9,8 +9,9 @@ use Rattle.std.specs.FinMap.Entries.{below_all}
 use Rattle.std.proofs.lemmas.List.{get_or-map, length-map}
 use Rattle.std.proofs.lemmas.List.Sums.{sum_by-cons}
 use Rattle.std.proofs.lemmas.List.Sorted.{ranks_by, sorted_far}
-use Rattle.wjs_content.specs.Ascends.{tagged, Ascends}
-use Rattle.wjs_content.specs.Renamed.{Holds}
+use Rattle.wjs_base.proofs.Booleans.{both_true}
+use Rattle.wjs_by_content.specs.Ascends.{tagged, Ascends}
+use Rattle.wjs_by_content.specs.Renamed.{Holds}
 
 -- ---- of what each element becomes
 
@@ -33,14 +34,6 @@ module _ {X Y : Type 0} (f : X → Y) (P : X → Type 0) (lt : X → X → Bool)
       (λ i. less (later i) (here i)) ∙ same (get_or (x ∷ xs) (k + 1) x) (get_or (x ∷ xs) k x) (holds_or P (x ∷ xs) (k + 1) x h n) (holds_or P (x ∷ xs) k x h m) ∙ s k x low n
 
 -- ---- elements that are apart
-
-both : (a b : Bool) → T a → T b → T (a && b)
-both true b p q = q
-both false b p q = p
-
-is_true : (b : Bool) → b ≡ true → T b
-is_true true e = tt
-is_true false e = cc
 
 module _ {J : Type 0} (R : J → J → Ordering) where
   -- how often an element is there
@@ -75,13 +68,13 @@ module _ {J : Type 0} (R : J → J → Ordering) where
             let none = ap (λ (b : Bool). cond b 1 0 + times x ys) e in
             let rest : times x ys ≡ 0 = omega (arith, none, counted, apart) in
             let first : 0 < length (y ∷ ys) = omega arith in
-            both (is_lt (R x y)) (below_all R x (tagged ys)) (less_of x y (never 0 y first) e) (later rest)
+            both_true (is_lt (R x y)) (below_all R x (tagged ys)) (less_of x y (never 0 y first) e) (later rest)
 
     rising_ascends : (xs : List J) → Rising xs → ((q : J) → times q xs ≤ 1) → Ascends R xs
     unfolding Rising
     rising_ascends [] r once = tt
     rising_ascends (x ∷ xs) r once =
-        both (below_all R x (tagged xs)) (map.is_sorted R (tagged xs))
+        both_true (below_all R x (tagged xs)) (map.is_sorted R (tagged xs))
         (below x xs (λ j d l. let m : suc j < length (x ∷ xs) = omega (arith, l) in let i : 0 < suc j = omega arith in r 0 (suc j) d i m) none)
         (rising_ascends xs (λ i j d l m. let a : suc i < suc j = omega (arith, l) in let b : suc j < length (x ∷ xs) = omega (arith, m) in r (suc i) (suc j) d a b)
         (λ q. let c = counted q in let o = once q in omega (arith, c, o)))

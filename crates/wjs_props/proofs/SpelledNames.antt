@@ -12,7 +12,7 @@ use Rattle.wjs_base.specs.declared.values.Name.TheVariants.{Index, Text}
 use Rattle.wjs_base.specs.Order.{kind_of}
 use Rattle.wjs_base.specs.Spelling.{index_of, units_of, spelling_cmp}
 use Rattle.wjs_base.specs.Text.{Table, Units}
-use Rattle.wjs_content.specs.Renamed.{Holds}
+use Rattle.wjs_by_content.specs.Renamed.{Holds}
 use Rattle.wjs_props.specs.declared.order.Spelled.{Spelled}
 use Rattle.wjs_props.specs.Spelled.{spelled_cmp, units_if_text, IsSpelled}
 use Rattle.wjs_props.proofs.Cutting.{drop_next}
@@ -34,10 +34,6 @@ module _ (texts : Table) where
   names_sorted all h s = sorted_map (λ (z : Spelled). z.name) (IsSpelled texts) (λ a b. is_lt (spelled_cmp a b)) (λ a b. is_lt (spelling_cmp texts a b)) compared_alike all h s
 
 -- ---- one more
-
-pub pushed : {A E : Type 0} (r : Result (Unit {0}) E) (old new : List A) (x : A) → is_err r ≡ false → new ≡ (if is_ok r then old ++ x ∷ [] else old) → new ≡ old ++ x ∷ []
-pushed (Ok u) old new x ok e = e
-pushed (Err u) old new x ok e = cc
 
 pub holds_more : {A : Type 0} (P : A → Type 0) (xs : List A) (x : A) → Holds P xs → P x → Holds P (xs ++ x ∷ [])
 holds_more P [] x h p = (p, tt)

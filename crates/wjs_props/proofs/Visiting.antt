@@ -13,7 +13,8 @@ use Rattle.wjs_base.specs.declared.values.Value.{Value as NumberedValue}
 use Rattle.wjs_base.specs.Order.{name_cmp, name_exact, name_total}
 use Rattle.wjs_base.specs.Spelling.{IsName}
 use Rattle.wjs_base.specs.Text.{Table, Grows}
-use Rattle.wjs_content.specs.Renamed.{Holds}
+use Rattle.wjs_base.proofs.Booleans.{same_answer}
+use Rattle.wjs_by_content.specs.Renamed.{Holds}
 use Rattle.wjs_arena.specs.declared.class.Class.TheVariants as class
 use Rattle.wjs_arena.specs.declared.object.Flags.{Flags}
 use Rattle.wjs_arena.specs.declared.object.Object.{Object}
@@ -22,17 +23,17 @@ use Rattle.wjs_arena.specs.Chains as numbered
 use Rattle.wjs_arena.specs.Chains.{chain_from, flags_in}
 use Rattle.wjs_arena.specs.Entries.{Objects, Entry as NumberedEntry, IsArena, prototype_of, depth_of}
 use Rattle.wjs_arena.specs.Entries as entries
-use Rattle.wjs_content.specs.Values.{same_text}
-use Rattle.wjs_content.specs.Names.{slot}
-use Rattle.wjs_content.specs.Objects.{Entry, object_of, object_at, is_hidden}
-use Rattle.wjs_content.specs.Tables.{name_in, value_in, under_in, entry_in, arena_in}
-use Rattle.wjs_content.proofs.ArenaMaps.{object_found}
-use Rattle.wjs_content.proofs.Fixed.{same_names}
+use Rattle.wjs_by_content.specs.Values.{same_text}
+use Rattle.wjs_by_content.specs.Names.{slot}
+use Rattle.wjs_by_content.specs.Objects.{Entry, object_of, object_at, is_hidden}
+use Rattle.wjs_by_content.specs.Tables.{name_in, value_in, under_in, entry_in, arena_in}
+use Rattle.wjs_by_content.proofs.ArenaMaps.{object_found}
+use Rattle.wjs_by_content.proofs.Fixed.{same_names}
 use Rattle.wjs_props.specs.declared.visits.Visit.{Visit}
 use Rattle.wjs_heap.specs.Heap.{Parts, HasValue, IsHeap}
 use Rattle.wjs_props.specs.Listing.{is_in, is_among, names_under, visit_of, visits_of}
 use Rattle.wjs_props.specs.Visits.{visits_in}
-use Rattle.wjs_props.proofs.ByContent.{name_itself, name_tied, one_answer, name_knows, flags_same}
+use Rattle.wjs_props.proofs.ByContent.{name_itself, name_tied, name_knows, flags_same}
 use Rattle.wjs_props.proofs.Cutting.{drop_next}
 
 -- ---- of one object, name by name
@@ -63,7 +64,7 @@ module _ (o : ObjId) (p q : Name → Bool) where
 
 -- names tie exactly where they are one, in this order too
 tie_as : (n x : Name) → eq_by_cmp name_cmp n x ≡ same_name n x
-tie_as n x = one_answer (eq_by_cmp name_cmp n x) (same_name n x)
+tie_as n x = same_answer (eq_by_cmp name_cmp n x) (same_name n x)
     (λ h. let e : n ≡ x = name_exact n x ((Equal-is (name_cmp n x)).0 h) in ap (λ (y : Name). same_name n y) (sym e) ∙ name_itself n)
     (λ h. let e : n ≡ x = name_tied n x h in ap (λ (y : Name). is_eq (name_cmp n y)) (sym e) ∙ ap is_eq (tied_itself name_total n))
 

@@ -15,37 +15,37 @@ use Rattle.wjs_base.specs.Order as numbered_order
 use Rattle.wjs_base.specs.Order.{name_cmp}
 use Rattle.wjs_base.specs.Spelling.{IsName, spelling_cmp}
 use Rattle.wjs_base.specs.Text.{Table, Grows}
-use Rattle.wjs_base.proofs.TextLaws.{Grows-IsName}
+use Rattle.wjs_base.proofs.TextLaws.{Grows-IsName, Grows-trans}
 use Rattle.wjs_store.specs.State.{has_world}
 use Rattle.wjs_store.specs.Meaning.{worlds}
 use Rattle.wjs_store.specs.Shown.{slots_of}
-use Rattle.wjs_content.specs.Ascends.{Ascends}
-use Rattle.wjs_content.specs.Renamed.{Holds}
-use Rattle.wjs_content.proofs.Found.{holds_append}
+use Rattle.wjs_by_content.specs.Ascends.{Ascends}
+use Rattle.wjs_by_content.specs.Renamed.{Holds}
+use Rattle.wjs_by_content.proofs.Found.{holds_append}
 use Rattle.wjs_arena.specs.declared.object.Object.{Object}
 use Rattle.wjs_arena.specs.Chains as numbered
 use Rattle.wjs_arena.specs.Chains.{chain_from, flags_in}
 use Rattle.wjs_arena.specs.Entries.{Objects, Entry as NumberedEntry, prototype_of, depth_of}
 use Rattle.wjs_arena.specs.Entries as entries
 use Rattle.wjs_arena.proofs.Walks.{chain_step, there_next}
-use Rattle.wjs_content.proofs.ArenaMaps.{chain_same}
-use Rattle.wjs_content.specs.Values.{Text, same_text}
-use Rattle.wjs_content.specs.Names.{Slot, slot}
-use Rattle.wjs_content.specs.Objects.{object_at, is_hidden}
-use Rattle.wjs_content.specs.Plans.{Plan, Gives, Lists, then_plan}
-use Rattle.wjs_content.specs.Tables.{name_in, arena_in}
-use Rattle.wjs_content.specs.Worlds.{listing}
+use Rattle.wjs_by_content.proofs.ArenaMaps.{chain_same}
+use Rattle.wjs_by_content.specs.Values.{Text, same_text}
+use Rattle.wjs_by_content.specs.Names.{Slot, slot}
+use Rattle.wjs_by_content.specs.Objects.{object_at, is_hidden}
+use Rattle.wjs_by_content.specs.Plans.{Plan, Gives, Lists, then_plan}
+use Rattle.wjs_by_content.specs.Tables.{name_in, arena_in}
+use Rattle.wjs_by_content.specs.Worlds.{listing}
 use Rattle.wjs_props.specs.declared.visits.Visit.{Visit}
 use Rattle.wjs_heap.specs.Heap.{Parts, IsHeap, Performs}
 use Rattle.wjs_props.specs.Listing.{is_in, is_among, names_under, visit_of, visits_of, Adds}
-use Rattle.wjs_content.specs.Properties as plan
+use Rattle.wjs_by_content.specs.Properties as plan
 use Rattle.wjs_props.specs.Visits.{visits_in, HasVisit}
 use Rattle.wjs_props.proofs.Cutting.{names_stay}
 use Rattle.wjs_props.proofs.Getting.{next_of}
 use Rattle.wjs_props.proofs.InOrder.{listing_is}
 use Rattle.wjs_props.proofs.NameSets.{empty_in}
 use Rattle.wjs_props.proofs.SpelledNames.{holds_moved}
-use Rattle.wjs_heap.proofs.Turns.{performs_nothing, performs_then, performs_same, grows_twice}
+use Rattle.wjs_heap.proofs.Turns.{performs_nothing, performs_then, performs_same}
 use Rattle.wjs_props.proofs.Visiting.{visited_are, fixed_names, fixed_are_names}
 
 -- ---- what was seen
@@ -193,7 +193,7 @@ module _ (w : WorldId) (o : ObjId) (old now mid : Parts) (at : ObjId) (seen : BT
       → Performs w (λ t. goes os t (listing t at listed.names)) (λ t. visits_in t visited ++ b t) mid new
   unfolding goes
   later os b new f = performs_same w _ _ (λ t. visits_in t visited ++ b t) (λ t. visits_in t visited ++ b t) mid new
-      (λ t g. let g' = grows_twice mid.texts new.texts t f.texts g in
+      (λ t g. let g' = Grows-trans mid.texts new.texts t f.texts g in
       λ i. then_plan (plan.visits_along os (arena_in t old.arena) (seen_as t g' i)) (λ vs. Gives (own_as t g' i ++ vs)))
       (λ t g. refl)
       (performs_then w (λ t. plan.visits_along os (arena_in t old.arena) (each (name_in t) passed')) (λ t vs. Gives (visits_in t visited ++ vs)) b (λ t. visits_in t visited ++ b t) mid new new f (performs_nothing w (λ t. visits_in t visited ++ b t) new f.heap))

@@ -2,8 +2,8 @@
 use Rattle.std.specs.Prelude.{List, map as each}
 use Rattle.wjs_base.specs.Text.{Table}
 use Rattle.wjs_arena.specs.Entries.{Objects}
-use Rattle.wjs_content.specs.Names.{Slot, slot}
-use Rattle.wjs_content.specs.Tables.{name_in}
+use Rattle.wjs_by_content.specs.Names.{Slot, slot}
+use Rattle.wjs_by_content.specs.Tables.{name_in}
 use Rattle.wjs_props.specs.declared.visits.Visit.{Visit}
 use Rattle.wjs_heap.specs.Heap.{HasSlot}
 

@@ -4,17 +4,17 @@ ghost use Rattle.wjs_base.specs.Spelling.{IsName, greatest_index};
 ghost use Rattle.wjs_store.specs.State.{has_world};
 ghost use Rattle.wjs_store.specs.Meaning.{worlds};
 ghost use Rattle.wjs_arena.specs.Entries.{has};
-ghost use Rattle.wjs_content.specs.Names as names;
-ghost use Rattle.wjs_content.specs.Tables.{name_in, value_in};
+ghost use Rattle.wjs_by_content.specs.Names as names;
+ghost use Rattle.wjs_by_content.specs.Tables.{name_in, value_in};
 ghost use Rattle.wjs_heap.specs.Heap.{IsHeap, HasValue, Performs};
 ghost use Rattle.wjs_heap.specs.Means.{parts};
-ghost use Rattle.wjs_content.specs.Properties as plan;
+ghost use Rattle.wjs_by_content.specs.Properties as plan;
 
 use crate::cuts::cut;
 use crate::deeds::{read, write};
 use crate::lengths::{is_length, length_name, length_of, length_of_value, value_of_length};
 use wjs_base::{Content, Name, ObjId, OutOfMemory, Slot, Value, WorldId};
-use wjs_content::PutAnswer;
+use wjs_by_content::PutAnswer;
 use wjs_heap::Heap;
 use wjs_store::WorldStore;
 
@@ -31,7 +31,8 @@ pub fn put_in_array<S: WorldStore>(
     requires object { IsTrue (has heap.old.arena object) }
     requires name { IsName heap.old.texts name }
     requires value { HasValue heap.old.texts heap.old.arena value }
-    ensures { IfOk result (λ answer. Performs world (λ t. plan.put_in_array object (name_in t name) (value_in t value)) (λ t. answer) (parts S.meaning heap.old) (parts S.meaning heap.new)) }
+    ensures { IfOk result (λ answer. Performs world (λ t. plan.put_in_array object (name_in t name) (value_in t value))
+        (λ t. answer) (parts S.meaning heap.old) (parts S.meaning heap.new)) }
 {
     let id = match name {
         Name::Index(index) => return put_index(heap, world, object, index, value),
@@ -60,7 +61,8 @@ pub fn put_slot<S: WorldStore>(
     requires object { IsTrue (has heap.old.arena object) }
     requires name { IsName heap.old.texts name }
     requires value { HasValue heap.old.texts heap.old.arena value }
-    ensures { IfOk result (λ answer. Performs world (λ t. plan.put_slot object (name_in t name) (value_in t value)) (λ t. answer) (parts S.meaning heap.old) (parts S.meaning heap.new)) }
+    ensures { IfOk result (λ answer. Performs world (λ t. plan.put_slot object (name_in t name) (value_in t value))
+        (λ t. answer) (parts S.meaning heap.old) (parts S.meaning heap.new)) }
 {
     write(heap, world, Slot { object, name }, Content::Present(value))?;
     Ok(PutAnswer::Done)
@@ -79,7 +81,8 @@ fn put_index<S: WorldStore>(
     requires object { IsTrue (has heap.old.arena object) }
     requires index { index ≤ greatest_index }
     requires value { HasValue heap.old.texts heap.old.arena value }
-    ensures { IfOk result (λ answer. Performs world (λ t. plan.put_index object index (value_in t value)) (λ t. answer) (parts S.meaning heap.old) (parts S.meaning heap.new)) }
+    ensures { IfOk result (λ answer. Performs world (λ t. plan.put_index object index (value_in t value))
+        (λ t. answer) (parts S.meaning heap.old) (parts S.meaning heap.new)) }
 {
     let name = length_name(&mut heap.texts)?;
     let answer = put_element(heap, world, Slot { object, name }, index, value)?;
@@ -101,7 +104,8 @@ fn put_element<S: WorldStore>(
     requires spells { name_in heap.old.texts slot.name ≡ names.length_name }
     requires index { index ≤ greatest_index }
     requires value { HasValue heap.old.texts heap.old.arena value }
-    ensures { IfOk result (λ answer. Performs world (λ t. plan.put_index slot.object index (value_in t value)) (λ t. answer) (parts S.meaning heap.old) (parts S.meaning heap.new)) }
+    ensures { IfOk result (λ answer. Performs world (λ t. plan.put_index slot.object index (value_in t value))
+        (λ t. answer) (parts S.meaning heap.old) (parts S.meaning heap.new)) }
 {
     let held = read(heap, world, slot)?;
     let length = length_of(held);
@@ -131,7 +135,8 @@ fn put_length<S: WorldStore>(
     requires object { IsTrue (has heap.old.arena object) }
     requires name { IsName heap.old.texts name }
     requires spells { name_in heap.old.texts name ≡ names.length_name }
-    ensures { IfOk result (λ answer. Performs world (λ t. plan.put_length object (Some length)) (λ t. answer) (parts S.meaning heap.old) (parts S.meaning heap.new)) }
+    ensures { IfOk result (λ answer. Performs world (λ t. plan.put_length object (Some length))
+        (λ t. answer) (parts S.meaning heap.old) (parts S.meaning heap.new)) }
 {
     let slot = Slot { object, name };
     let found = read(heap, world, slot)?;

@@ -4,12 +4,12 @@ ghost use Rattle.wjs_base.specs.Spelling.{IsName, greatest_index};
 ghost use Rattle.wjs_store.specs.State.{has_world};
 ghost use Rattle.wjs_store.specs.Meaning.{worlds};
 ghost use Rattle.wjs_arena.specs.Entries.{has};
-ghost use Rattle.wjs_content.specs.Renamed.{Holds};
-ghost use Rattle.wjs_content.specs.Plans.{Lists};
-ghost use Rattle.wjs_content.specs.Tables.{name_in};
+ghost use Rattle.wjs_by_content.specs.Renamed.{Holds};
+ghost use Rattle.wjs_by_content.specs.Plans.{Lists};
+ghost use Rattle.wjs_by_content.specs.Tables.{name_in};
 ghost use Rattle.wjs_heap.specs.Heap.{IsHeap, Performs};
 ghost use Rattle.wjs_heap.specs.Means.{parts, nothing};
-ghost use Rattle.wjs_content.specs.Properties as plan;
+ghost use Rattle.wjs_by_content.specs.Properties as plan;
 
 use crate::deeds::{list, read, write};
 use wjs_base::{Content, Name, Names, ObjId, OutOfMemory, Slot, WorldId};
@@ -50,7 +50,8 @@ fn cut_each<S: WorldStore>(
     requires heap { IsHeap (parts S.meaning heap.old) }
     requires world { IsTrue (has_world (worlds (S.meaning heap.old.store)) world) }
     requires object { IsTrue (has heap.old.arena object) }
-    ensures { IfOk result (λ _. Performs world (λ t. plan.cut_each (to - from) from object) (λ t. nothing) (parts S.meaning heap.old) (parts S.meaning heap.new)) }
+    ensures { IfOk result (λ _. Performs world (λ t. plan.cut_each (to - from) from object)
+        (λ t. nothing) (parts S.meaning heap.old) (parts S.meaning heap.new)) }
 {
     let mut at = from;
     'cut: while at < to {
@@ -97,7 +98,8 @@ fn cut_listed<S: WorldStore>(
     requires heap { IsHeap (parts S.meaning heap.old) }
     requires world { IsTrue (has_world (worlds (S.meaning heap.old.store)) world) }
     requires object { IsTrue (has heap.old.arena object) }
-    ensures { IfOk result (λ _. Performs world (λ t. Lists object (λ names. plan.cut_listed names from to object)) (λ t. nothing) (parts S.meaning heap.old) (parts S.meaning heap.new)) }
+    ensures { IfOk result (λ _. Performs world (λ t. Lists object (λ names. plan.cut_listed names from to object))
+        (λ t. nothing) (parts S.meaning heap.old) (parts S.meaning heap.new)) }
 {
     let names = list(heap, world, object)?;
     cut_names(heap, world, object, &names, from, to)?;
@@ -117,7 +119,8 @@ fn cut_names<S: WorldStore>(
     requires world { IsTrue (has_world (worlds (S.meaning heap.old.store)) world) }
     requires object { IsTrue (has heap.old.arena object) }
     requires names { Holds (IsName heap.old.texts) names.now }
-    ensures { IfOk result (λ _. Performs world (λ t. plan.cut_listed (map (name_in t) names.now) from to object) (λ t. nothing) (parts S.meaning heap.old) (parts S.meaning heap.new)) }
+    ensures { IfOk result (λ _. Performs world (λ t. plan.cut_listed (map (name_in t) names.now) from to object)
+        (λ t. nothing) (parts S.meaning heap.old) (parts S.meaning heap.new)) }
 {
     let mut place = 0;
     'cut: while place < names.len() {
@@ -140,7 +143,8 @@ fn cut_name<S: WorldStore>(
     requires world { IsTrue (has_world (worlds (S.meaning heap.old.store)) world) }
     requires object { IsTrue (has heap.old.arena object) }
     requires name { IsName heap.old.texts name }
-    ensures { IfOk result (λ _. Performs world (λ t. plan.cut_listed (name_in t name ∷ []) from to object) (λ t. nothing) (parts S.meaning heap.old) (parts S.meaning heap.new)) }
+    ensures { IfOk result (λ _. Performs world (λ t. plan.cut_listed (name_in t name ∷ []) from to object)
+        (λ t. nothing) (parts S.meaning heap.old) (parts S.meaning heap.new)) }
 {
     let Name::Index(index) = name else {
         return Ok(());

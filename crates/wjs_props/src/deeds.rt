@@ -9,13 +9,13 @@ ghost use Rattle.wjs_store.specs.State.{has_world};
 ghost use Rattle.wjs_store.specs.Meaning.{worlds};
 ghost use Rattle.wjs_store.specs.Shown.{content_of, slots_of, verdict_of};
 ghost use Rattle.wjs_store.specs.State as action;
-ghost use Rattle.wjs_content.specs.Ascends.{Ascends};
-ghost use Rattle.wjs_content.specs.Renamed.{Holds};
-ghost use Rattle.wjs_content.specs.Rename.{shape};
+ghost use Rattle.wjs_by_content.specs.Ascends.{Ascends};
+ghost use Rattle.wjs_by_content.specs.Renamed.{Holds};
+ghost use Rattle.wjs_by_content.specs.Rename.{shape};
 ghost use Rattle.wjs_arena.specs.Entries.{IsThere, world_of};
-ghost use Rattle.wjs_content.specs.Plans.{Gives, Reads, Writes, Lists, Sprouted, Committed};
-ghost use Rattle.wjs_content.specs.Tables.{slot_in, content_in};
-ghost use Rattle.wjs_content.specs.Worlds.{listing};
+ghost use Rattle.wjs_by_content.specs.Plans.{Gives, Reads, Writes, Lists, Sprouted, Committed};
+ghost use Rattle.wjs_by_content.specs.Tables.{slot_in, content_in};
+ghost use Rattle.wjs_by_content.specs.Worlds.{listing};
 ghost use Rattle.wjs_heap.specs.Acts.{Acts, Creates};
 ghost use Rattle.wjs_heap.specs.Heap.{IsHeap, HasNamed, HasSlot, HasContent, Performs};
 ghost use Rattle.wjs_heap.specs.Means.{parts, nothing};
@@ -35,7 +35,8 @@ pub fn read<S: WorldStore>(
     requires heap { IsHeap (parts S.meaning heap.old) }
     requires world { IsTrue (has_world (worlds (S.meaning heap.old.store)) world) }
     requires slot { HasSlot heap.old.texts heap.old.arena slot }
-    ensures reads { IfOk result (λ found. Performs world (λ t. Reads (slot_in t slot) Gives) (λ t. content_in t found) (parts S.meaning heap.old) (parts S.meaning heap.new)) }
+    ensures reads { IfOk result (λ found. Performs world (λ t. Reads (slot_in t slot) Gives)
+        (λ t. content_in t found) (parts S.meaning heap.old) (parts S.meaning heap.new)) }
     ensures found { IfOk result (λ found. HasContent heap.new.texts heap.new.arena (content_of found)) }
 {
     let found = heap.store.read(world, slot)?;
@@ -48,7 +49,8 @@ pub(crate) fn look<S: WorldStore>(heap: &Heap<S>, world: WorldId, slot: Slot) ->
     requires heap { IsHeap (parts S.meaning heap.now) }
     requires world { IsTrue (has_world (worlds (S.meaning heap.now.store)) world) }
     requires slot { HasSlot heap.now.texts heap.now.arena slot }
-    ensures reads { IfSome result (λ found. Performs world (λ t. Reads (slot_in t slot) Gives) (λ t. content_in t found) (parts S.meaning heap.now) (parts S.meaning heap.now)) }
+    ensures reads { IfSome result (λ found. Performs world (λ t. Reads (slot_in t slot) Gives)
+        (λ t. content_in t found) (parts S.meaning heap.now) (parts S.meaning heap.now)) }
     ensures found { IfSome result (λ found. HasContent heap.now.texts heap.now.arena (content_of found)) }
 {
     match heap.store.peek(world, slot) {
@@ -69,7 +71,8 @@ pub fn write<S: WorldStore>(
     requires world { IsTrue (has_world (worlds (S.meaning heap.old.store)) world) }
     requires slot { HasSlot heap.old.texts heap.old.arena slot }
     requires content { HasContent heap.old.texts heap.old.arena (content_of content) }
-    ensures { IfOk result (λ _. Performs world (λ t. Writes (slot_in t slot) (content_in t content) (Gives nothing)) (λ t. nothing) (parts S.meaning heap.old) (parts S.meaning heap.new)) }
+    ensures { IfOk result (λ _. Performs world (λ t. Writes (slot_in t slot) (content_in t content) (Gives nothing))
+        (λ t. nothing) (parts S.meaning heap.old) (parts S.meaning heap.new)) }
 {
     heap.store.write(world, slot, content)?;
     Ok(())
@@ -83,7 +86,8 @@ pub fn list<S: WorldStore>(
 ) -> Result<Names, OutOfMemory>
     requires heap { IsHeap (parts S.meaning heap.old) }
     requires world { IsTrue (has_world (worlds (S.meaning heap.old.store)) world) }
-    ensures lists { IfOk result (λ names. Performs world (λ t. Lists object Gives) (λ t. listing t object names) (parts S.meaning heap.old) (parts S.meaning heap.new)) }
+    ensures lists { IfOk result (λ names. Performs world (λ t. Lists object Gives)
+        (λ t. listing t object names) (parts S.meaning heap.old) (parts S.meaning heap.new)) }
     ensures names { IfOk result (λ names. Holds (IsName heap.new.texts) names) }
     ensures ascends { IfOk result (λ names. Ascends slot_cmp (slots_of object names)) }
 {
@@ -111,7 +115,8 @@ pub fn sprout<S: WorldStore>(
 pub fn commit<S: WorldStore>(heap: &mut Heap<S>, world: WorldId) -> Result<Verdict, OutOfMemory>
     requires heap { IsHeap (parts S.meaning heap.old) }
     requires world { IsTrue (has_world (worlds (S.meaning heap.old.store)) world) }
-    ensures { IfOk result (λ verdict. Acts (action.commit world) (Committed (shape (verdict_of verdict))) (parts S.meaning heap.old) (parts S.meaning heap.new)) }
+    ensures { IfOk result (λ verdict. Acts (action.commit world)
+        (Committed (shape (verdict_of verdict))) (parts S.meaning heap.old) (parts S.meaning heap.new)) }
 {
     let verdict = heap.store.commit(world)?;
     Ok(verdict)

@@ -2,10 +2,10 @@
 ghost use Rattle.std.specs.Prelude.{◌≡◌, ◌≤◌, IfOk, IsTrue};
 ghost use Rattle.wjs_base.specs.Spelling.{IsName};
 ghost use Rattle.wjs_base.specs.Text.{Table, Denotes, Grows, IsTable, Units};
-ghost use Rattle.wjs_content.specs.Names as names;
-ghost use Rattle.wjs_content.specs.Tables.{name_in, value_in, content_in};
-ghost use Rattle.wjs_content.specs.Values as values;
-ghost use Rattle.wjs_content.specs.Properties as plan;
+ghost use Rattle.wjs_by_content.specs.Names as names;
+ghost use Rattle.wjs_by_content.specs.Tables.{name_in, value_in, content_in};
+ghost use Rattle.wjs_by_content.specs.Values as values;
+ghost use Rattle.wjs_by_content.specs.Properties as plan;
 
 use wjs_base::{Content, Name, OutOfMemory, TextId, Texts, Value, Whole};
 

@@ -6,12 +6,12 @@ ghost use Rattle.wjs_store.specs.Meaning.{worlds};
 ghost use Rattle.std.specs.FinMap as map;
 ghost use Rattle.wjs_arena.specs.Chains.{flags, object_in};
 ghost use Rattle.wjs_arena.specs.Entries.{has};
-ghost use Rattle.wjs_content.specs.Tables.{arena_in};
-ghost use Rattle.wjs_content.specs.Renamed.{Holds};
+ghost use Rattle.wjs_by_content.specs.Tables.{arena_in};
+ghost use Rattle.wjs_by_content.specs.Renamed.{Holds};
 ghost use Rattle.wjs_heap.specs.Heap.{IsHeap, Performs};
 ghost use Rattle.wjs_props.specs.Listing.{is_in, is_among, names_under, visits_of};
 ghost use Rattle.wjs_heap.specs.Means.{parts};
-ghost use Rattle.wjs_content.specs.Properties as plan;
+ghost use Rattle.wjs_by_content.specs.Properties as plan;
 ghost use Rattle.wjs_props.specs.Visits.{visits_in, HasVisit};
 
 use crate::deeds::list;
@@ -37,7 +37,8 @@ pub fn list_names<S: WorldStore>(
     requires heap { IsHeap (parts S.meaning heap.old) }
     requires world { IsTrue (has_world (worlds (S.meaning heap.old.store)) world) }
     requires object { IsTrue (has heap.old.arena object) }
-    ensures lists { IfOk result (λ visits. Performs world (λ t. plan.visits (arena_in t heap.old.arena) object) (λ t. visits_in t visits) (parts S.meaning heap.old) (parts S.meaning heap.new)) }
+    ensures lists { IfOk result (λ visits. Performs world (λ t. plan.visits (arena_in t heap.old.arena) object)
+        (λ t. visits_in t visits) (parts S.meaning heap.old) (parts S.meaning heap.new)) }
     ensures there { IfOk result (λ visits. Holds (HasVisit heap.new.texts heap.new.arena) visits) }
 {
     let alloc = heap.arena.allocator();

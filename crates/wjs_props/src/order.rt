@@ -1,7 +1,7 @@
 //! The names of a listing in the order of their contents.
 ghost use Rattle.std.specs.Prelude.{◌≡◌, map, IfOk, IsPermutation, IsSorted};
 ghost use Rattle.wjs_base.specs.Spelling.{IsName, spelling_cmp};
-ghost use Rattle.wjs_content.specs.Renamed.{Holds};
+ghost use Rattle.wjs_by_content.specs.Renamed.{Holds};
 ghost use Rattle.wjs_props.specs.Spelled.{spelled_cmp, IsSpelled};
 
 use std::alloc::Global;
@@ -40,9 +40,7 @@ fn spell_all<'a>(
     let mut place = 0;
     'names: while place < names.len() {
         let each = spell(texts, names.at(place));
-        if all.push(each).is_err() {
-            return Err(OutOfMemory);
-        }
+        all.push(each)?;
         place += 1;
     }
     Ok(all)

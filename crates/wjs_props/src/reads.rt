@@ -5,10 +5,10 @@ ghost use Rattle.wjs_store.specs.State.{has_world};
 ghost use Rattle.wjs_store.specs.Meaning.{worlds};
 ghost use Rattle.wjs_store.specs.Shown.{content_of};
 ghost use Rattle.wjs_arena.specs.Entries.{has};
-ghost use Rattle.wjs_content.specs.Tables.{name_in, content_in, arena_in};
+ghost use Rattle.wjs_by_content.specs.Tables.{name_in, content_in, arena_in};
 ghost use Rattle.wjs_heap.specs.Heap.{IsHeap, HasContent, Performs};
 ghost use Rattle.wjs_heap.specs.Means.{parts};
-ghost use Rattle.wjs_content.specs.Properties as plan;
+ghost use Rattle.wjs_by_content.specs.Properties as plan;
 
 use crate::deeds::{look, read};
 use wjs_base::{Content, Name, ObjId, OutOfMemory, Slot, WorldId};
@@ -28,7 +28,8 @@ pub fn get<S: WorldStore>(
     requires world { IsTrue (has_world (worlds (S.meaning heap.old.store)) world) }
     requires object { IsTrue (has heap.old.arena object) }
     requires name { IsName heap.old.texts name }
-    ensures gets { IfOk result (λ found. Performs world (λ t. plan.get (arena_in t heap.old.arena) object (name_in t name)) (λ t. content_in t found) (parts S.meaning heap.old) (parts S.meaning heap.new)) }
+    ensures gets { IfOk result (λ found. Performs world (λ t. plan.get (arena_in t heap.old.arena) object (name_in t name))
+        (λ t. content_in t found) (parts S.meaning heap.old) (parts S.meaning heap.new)) }
     ensures found { IfOk result (λ found. HasContent heap.new.texts heap.new.arena (content_of found)) }
 {
     let mut at = object;
@@ -59,7 +60,8 @@ pub fn peek<S: WorldStore>(
     requires world { IsTrue (has_world (worlds (S.meaning heap.now.store)) world) }
     requires object { IsTrue (has heap.now.arena object) }
     requires name { IsName heap.now.texts name }
-    ensures gets { IfSome result (λ found. Performs world (λ t. plan.get (arena_in t heap.now.arena) object (name_in t name)) (λ t. content_in t found) (parts S.meaning heap.now) (parts S.meaning heap.now)) }
+    ensures gets { IfSome result (λ found. Performs world (λ t. plan.get (arena_in t heap.now.arena) object (name_in t name))
+        (λ t. content_in t found) (parts S.meaning heap.now) (parts S.meaning heap.now)) }
     ensures found { IfSome result (λ found. HasContent heap.now.texts heap.now.arena (content_of found)) }
 {
     let mut here = object;
@@ -89,7 +91,8 @@ pub fn has<S: WorldStore>(
     requires world { IsTrue (has_world (worlds (S.meaning heap.old.store)) world) }
     requires object { IsTrue (has heap.old.arena object) }
     requires name { IsName heap.old.texts name }
-    ensures { IfOk result (λ answer. Performs world (λ t. plan.has (arena_in t heap.old.arena) object (name_in t name)) (λ t. answer) (parts S.meaning heap.old) (parts S.meaning heap.new)) }
+    ensures { IfOk result (λ answer. Performs world (λ t. plan.has (arena_in t heap.old.arena) object (name_in t name))
+        (λ t. answer) (parts S.meaning heap.old) (parts S.meaning heap.new)) }
 {
     let found = get(heap, world, object, name)?;
     Ok(match found {

@@ -34,8 +34,6 @@ pub fn add_fixed(set: &mut BTreeSet<Name>, fixed: &[(Name, Value)]) -> Result<()
 fn put(set: &mut BTreeSet<Name>, name: Name) -> Result<(), OutOfMemory>
     ensures { OnOk result ((n : Name) → is_in set.new n ≡ (if eq_by_cmp name_cmp n name then true else is_in set.old n)) }
 {
-    match set.insert(name) {
-        Ok(_) => Ok(()),
-        Err(_) => Err(OutOfMemory),
-    }
+    set.insert(name)?;
+    Ok(())
 }

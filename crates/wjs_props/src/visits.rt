@@ -49,10 +49,8 @@ impl Visits {
         ensures ok { OnOk result (self.new ≡ self.old ++ visit ∷ []) }
         ensures err { OnErr result (self.new ≡ self.old) }
     {
-        match self.items.push(visit) {
-            Ok(()) => Ok(()),
-            Err(_) => Err(OutOfMemory),
-        }
+        self.items.push(visit)?;
+        Ok(())
     }
 
     /// Takes the last visit off; None exactly where there is none.

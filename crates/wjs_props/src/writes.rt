@@ -5,17 +5,17 @@ ghost use Rattle.wjs_base.specs.Text.{Table};
 ghost use Rattle.wjs_store.specs.State.{has_world};
 ghost use Rattle.wjs_store.specs.Meaning.{worlds};
 ghost use Rattle.wjs_arena.specs.Entries.{has};
-ghost use Rattle.wjs_content.specs.Objects.{is_array};
-ghost use Rattle.wjs_content.specs.Tables.{name_in, value_in, arena_in};
+ghost use Rattle.wjs_by_content.specs.Objects.{is_array};
+ghost use Rattle.wjs_by_content.specs.Tables.{name_in, value_in, arena_in};
 ghost use Rattle.wjs_heap.specs.Heap.{IsHeap, HasValue, Performs};
 ghost use Rattle.wjs_heap.specs.Means.{parts};
-ghost use Rattle.wjs_content.specs.Properties as plan;
+ghost use Rattle.wjs_by_content.specs.Properties as plan;
 
 use crate::arrays::{put_in_array, put_slot};
 use crate::deeds::{read, write};
 use wjs_arena::{Arena, Class};
 use wjs_base::{Content, Name, ObjId, OutOfMemory, Slot, Value, WorldId};
-use wjs_content::PutAnswer;
+use wjs_by_content::PutAnswer;
 use wjs_heap::Heap;
 use wjs_store::WorldStore;
 
@@ -40,7 +40,8 @@ pub fn put<S: WorldStore>(
     requires object { IsTrue (has heap.old.arena object) }
     requires name { IsName heap.old.texts name }
     requires value { HasValue heap.old.texts heap.old.arena value }
-    ensures { IfOk result (λ answer. Performs world (λ t. plan.put (arena_in t heap.old.arena) object (name_in t name) (value_in t value)) (λ t. answer) (parts S.meaning heap.old) (parts S.meaning heap.new)) }
+    ensures { IfOk result (λ answer. Performs world (λ t. plan.put (arena_in t heap.old.arena) object (name_in t name) (value_in t value))
+        (λ t. answer) (parts S.meaning heap.old) (parts S.meaning heap.new)) }
 {
     if !heap.arena.is_puttable(object, name) {
         return Ok(PutAnswer::Ignored);
@@ -72,7 +73,8 @@ pub fn delete<S: WorldStore>(
     requires world { IsTrue (has_world (worlds (S.meaning heap.old.store)) world) }
     requires object { IsTrue (has heap.old.arena object) }
     requires name { IsName heap.old.texts name }
-    ensures { IfOk result (λ answer. Performs world (λ t. plan.delete (arena_in t heap.old.arena) object (name_in t name)) (λ t. answer) (parts S.meaning heap.old) (parts S.meaning heap.new)) }
+    ensures { IfOk result (λ answer. Performs world (λ t. plan.delete (arena_in t heap.old.arena) object (name_in t name))
+        (λ t. answer) (parts S.meaning heap.old) (parts S.meaning heap.new)) }
 {
     if heap.arena.fixed(object, name).is_some() {
         return Ok(false);

@@ -5,17 +5,17 @@ use Rattle.wjs_base.specs.declared.ids.WorldId.{WorldId}
 use Rattle.wjs_base.specs.declared.values.Value.{Value as NumberedValue}
 use Rattle.wjs_base.specs.Unicode.{utf8_of}
 use Rattle.wjs_store.specs.Meaning.{Meaning, worlds}
-use Rattle.wjs_store.specs.State.{State, read, write, list, content_at, after}
+use Rattle.wjs_store.specs.State.{State, read, write, list, content_at, after, first_world}
 use Rattle.wjs_arena.specs.declared.class.Class.{Class}
 use Rattle.wjs_arena.specs.declared.class.Class.TheVariants as class
-use Rattle.wjs_content.specs.Values.{Value, Undefined, Null, Boolean, Number, String, Object}
-use Rattle.wjs_content.specs.Names.{content, name_name, message_name}
-use Rattle.wjs_content.specs.Objects.{Arena, object_at}
-use Rattle.wjs_content.specs.Plans.{Plan, Gives, Reads, Writes, Lists, Told, told_of, names_at, answer_of, worlds_after}
-use Rattle.wjs_content.specs.Tables.{value_in, arena_in}
-use Rattle.wjs_content.specs.Worlds.{worlds_in}
-use Rattle.wjs_content.specs.Properties as plan
-use Rattle.wjs_meaning.specs.Builtins.{first_world, global_object, shown_class}
+use Rattle.wjs_by_content.specs.Values.{Value, Undefined, Null, Boolean, Number, String, Object}
+use Rattle.wjs_by_content.specs.Names.{content, name_name, message_name}
+use Rattle.wjs_by_content.specs.Objects.{Arena, object_at}
+use Rattle.wjs_by_content.specs.Plans.{Plan, Gives, Reads, Writes, Lists, Told, told_of, names_at, answer_of, worlds_after}
+use Rattle.wjs_by_content.specs.Tables.{value_in, arena_in}
+use Rattle.wjs_by_content.specs.Worlds.{worlds_in}
+use Rattle.wjs_by_content.specs.Properties as plan
+use Rattle.wjs_meaning.specs.Builtins.{global_object, shown_class}
 use Rattle.wjs_meaning.specs.Deeds.{St, Act, Env, Next, interp, carry_out, give}
 use Rattle.wjs_meaning.specs.NativesOfObjects.{fault_text, object_text}
 use Rattle.wjs_meaning.specs.Properties as line

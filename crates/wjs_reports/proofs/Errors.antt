@@ -6,16 +6,16 @@ use Rattle.wjs_base.specs.declared.values.Content.{Content}
 use Rattle.wjs_base.specs.Text.{Grows}
 use Rattle.wjs_base.proofs.TextLaws.{Grows-refl, Grows-trans}
 use Rattle.wjs_store.specs.Meaning.{View, worlds}
-use Rattle.wjs_content.specs.Names.{name_name, message_name}
-use Rattle.wjs_content.specs.Plans.{answer_of, worlds_after}
-use Rattle.wjs_content.specs.Tables.{content_in, arena_in}
-use Rattle.wjs_content.specs.Worlds.{worlds_in, KnowsWorlds}
-use Rattle.wjs_content.proofs.ArenaGrowth.{arena_grows}
-use Rattle.wjs_content.proofs.Growth.{worlds_grow}
+use Rattle.wjs_by_content.specs.Names.{name_name, message_name}
+use Rattle.wjs_by_content.specs.Plans.{answer_of, worlds_after}
+use Rattle.wjs_by_content.specs.Tables.{content_in, arena_in}
+use Rattle.wjs_by_content.specs.Worlds.{worlds_in, KnowsWorlds}
+use Rattle.wjs_by_content.proofs.ArenaGrowth.{arena_grows}
+use Rattle.wjs_by_content.proofs.Growth.{worlds_grow}
 use Rattle.wjs_heap.specs.Heap.{Parts, IsHeap, Performs}
-use Rattle.wjs_content.specs.Properties as plan
+use Rattle.wjs_by_content.specs.Properties as plan
 use Rattle.wjs_meaning.specs.NativesOfObjects.{fault_text}
-use Rattle.wjs_moves.proofs.Growing.{arena_known}
+use Rattle.wjs_frames.proofs.Growing.{arena_known}
 use Rattle.wjs_reports.specs.Thrown.{shown_fault}
 
 -- the two reads of a heap, one after the other

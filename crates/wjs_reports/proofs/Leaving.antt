@@ -5,20 +5,20 @@ use Rattle.wjs_base.specs.declared.ids.ObjId.{ObjId}
 use Rattle.wjs_base.specs.Text.{Table, IsTable, Grows}
 use Rattle.wjs_store.specs.Meaning.{Meaning, IsSound}
 use Rattle.wjs_arena.specs.Entries.{Objects, has}
-use Rattle.wjs_content.specs.Properties as plan
-use Rattle.wjs_content.specs.Tables.{arena_in}
-use Rattle.wjs_content.specs.Values.{Text, Value}
+use Rattle.wjs_by_content.specs.Properties as plan
+use Rattle.wjs_by_content.specs.Tables.{arena_in}
+use Rattle.wjs_by_content.specs.Values.{Text, Value}
 use Rattle.wjs_heap.specs.declared.heap.Heap.{Heap}
 use Rattle.wjs_heap.specs.Heap.{Performs}
 use Rattle.wjs_heap.specs.Means.{parts}
 use Rattle.wjs_model.specs.declared.config.Config.{Config}
 use Rattle.wjs_model.specs.Apart.{IsNear}
 use Rattle.wjs_model.specs.Soundness.{HasObject, Base}
-use Rattle.wjs_deeds.proofs.Later.{later_plan, later_texts}
-use Rattle.wjs_deeds.proofs.NearPlans.{NearContent, get_reaches}
-use Rattle.wjs_deeds.proofs.Nearing.{closed, plan_left}
-use Rattle.wjs_deeds.proofs.Running.{stays_twice}
-use Rattle.wjs_deeds.proofs.Steps.{stays_same, ran_actions, ran_nothing}
+use Rattle.wjs_heap_steps.proofs.Later.{later_plan, later_texts}
+use Rattle.wjs_heap_steps.proofs.NearPlans.{NearContent, get_reaches}
+use Rattle.wjs_heap_steps.proofs.Nearing.{closed, plan_left}
+use Rattle.wjs_heap_steps.proofs.Running.{stays_twice}
+use Rattle.wjs_heap_steps.proofs.Steps.{stays_same, ran_actions, ran_nothing}
 use Rattle.wjs_reports.specs.Thrown.{Leaves}
 
 -- what holds holds where the answer is Ok

@@ -8,12 +8,12 @@ use Rattle.std.specs.Prelude.{codes}
 use Rattle.std.proofs.lemmas.List.{length-map}
 use Rattle.wjs_store.specs.Naming.{Naming}
 use Rattle.wjs_store.specs.State.{State}
-use Rattle.wjs_content.specs.Renamed.{Names, Known, named_state}
-use Rattle.wjs_content.specs.Rename.{renamed}
-use Rattle.wjs_content.proofs.Keys.{Reorder, keys_renamed}
-use Rattle.wjs_content.proofs.RenamedKnown.{shows}
-use Rattle.wjs_content.proofs.Padded.{padding, among}
-use Rattle.wjs_content.proofs.Renaming.{Renaming, renamed_world, renamed_state}
+use Rattle.wjs_by_content.specs.Renamed.{Names, Known, named_state}
+use Rattle.wjs_by_content.specs.Rename.{renamed}
+use Rattle.wjs_by_content.proofs.Keys.{Reorder, keys_renamed}
+use Rattle.wjs_by_content.proofs.RenamedKnown.{shows}
+use Rattle.wjs_by_content.proofs.Padded.{padding, among}
+use Rattle.wjs_by_content.proofs.Renaming.{Renaming, renamed_world, renamed_state}
 use Rattle.wjs_reports.specs.Lines.{parent_part, marks_part, line_of, lines_of}
 
 module _ {K V J W : Type 0} {n : Naming K V} {m : Naming J W} (r : Renaming n m) where

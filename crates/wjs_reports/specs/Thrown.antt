@@ -8,14 +8,14 @@ use Rattle.wjs_store.specs.State.{State}
 use Rattle.wjs_store.specs.Meaning.{Meaning, worlds}
 use Rattle.wjs_arena.specs.declared.class.Class.{Class}
 use Rattle.wjs_arena.specs.declared.class.Class.TheVariants as class
-use Rattle.wjs_content.specs.Values.{Text, Value, String, Object}
-use Rattle.wjs_content.specs.Names.{content, name_name, message_name}
-use Rattle.wjs_content.specs.Objects.{Arena, object_at}
-use Rattle.wjs_content.specs.Plans.{answer_of, worlds_after}
-use Rattle.wjs_content.specs.Tables.{value_in, arena_in}
-use Rattle.wjs_content.specs.Worlds.{worlds_in}
-use Rattle.wjs_content.specs.Conversions.{primitive_text}
-use Rattle.wjs_content.specs.Properties as plan
+use Rattle.wjs_by_content.specs.Values.{Text, Value, String, Object}
+use Rattle.wjs_by_content.specs.Names.{content, name_name, message_name}
+use Rattle.wjs_by_content.specs.Objects.{Arena, object_at}
+use Rattle.wjs_by_content.specs.Plans.{answer_of, worlds_after}
+use Rattle.wjs_by_content.specs.Tables.{value_in, arena_in}
+use Rattle.wjs_by_content.specs.Worlds.{worlds_in}
+use Rattle.wjs_by_content.specs.Conversions.{primitive_text}
+use Rattle.wjs_by_content.specs.Properties as plan
 use Rattle.wjs_meaning.specs.Builtins.{shown_class}
 use Rattle.wjs_meaning.specs.Deeds.{St}
 use Rattle.wjs_meaning.specs.NativesOfObjects.{fault_text}

@@ -5,7 +5,7 @@ ghost use Rattle.std.specs.String.{string_bytes};
 ghost use Rattle.wjs_base.specs.Text.{Table};
 ghost use Rattle.wjs_store.specs.State.{has_world};
 ghost use Rattle.wjs_store.specs.Meaning.{worlds};
-ghost use Rattle.wjs_content.specs.Worlds.{worlds_in, KnowsWorlds};
+ghost use Rattle.wjs_by_content.specs.Worlds.{worlds_in, KnowsWorlds};
 ghost use Rattle.wjs_reports.specs.Lines.{parent_part, marks_part, line_at, lines_of};
 
 use std::alloc::Global;
@@ -40,9 +40,7 @@ fn push_counts(text: &mut String, counts: Counts) -> Result<(), OutOfMemory>
     push_field(text, " reads ", counts.reads)?;
     push_field(text, " writes ", counts.writes)?;
     push_field(text, " closed ", counts.closed)?;
-    if text.push_str("\n").is_err() {
-        return Err(OutOfMemory);
-    }
+    text.push_str("\n")?;
     Ok(())
 }
 

@@ -7,12 +7,12 @@ ghost use Rattle.wjs_store.specs.Shown.{content_of};
 ghost use Rattle.wjs_store.specs.Meaning.{worlds};
 ghost use Rattle.wjs_arena.specs.declared.class.Class.TheVariants as class;
 ghost use Rattle.wjs_arena.specs.Entries.{Objects};
-ghost use Rattle.wjs_content.specs.Tables.{text_in, value_in, content_in, arena_in, knows_value};
-ghost use Rattle.wjs_content.specs.Worlds.{worlds_in};
-ghost use Rattle.wjs_content.specs.Conversions.{primitive_text};
+ghost use Rattle.wjs_by_content.specs.Tables.{text_in, value_in, content_in, arena_in, knows_value};
+ghost use Rattle.wjs_by_content.specs.Worlds.{worlds_in};
+ghost use Rattle.wjs_by_content.specs.Conversions.{primitive_text};
 ghost use Rattle.wjs_heap.specs.Heap.{HasContent, Performs};
 ghost use Rattle.wjs_heap.specs.Means.{parts};
-ghost use Rattle.wjs_content.specs.Properties as plan;
+ghost use Rattle.wjs_by_content.specs.Properties as plan;
 ghost use Rattle.wjs_meaning.specs.Builtins.{shown_class};
 ghost use Rattle.wjs_meaning.specs.NativesOfObjects as line;
 ghost use Rattle.wjs_model.specs.Soundness.{Base, HasObject, HasValue};
@@ -108,10 +108,7 @@ fn text_of(content: Content) -> Option<TextId>
 fn error_class(alloc: Global) -> Result<Vec<u16>, OutOfMemory>
     ensures { IfOk result (λ units. units.items ≡ shown_class class.Fault) }
 {
-    match Vec::from_slice(alloc, class_name(Class::Fault)) {
-        Ok(units) => Ok(units),
-        Err(_) => Err(OutOfMemory),
-    }
+    Ok(Vec::from_slice(alloc, class_name(Class::Fault))?)
 }
 
 /// The text of an error by what stands under its name and its message; where one of them is no text, the name of its class.

@@ -73,10 +73,7 @@ impl<K: Ord + Drop, V: Drop> Rows<K, V> {
         ensures step { steps.new ≡ steps.old + 1 }
     {
         steps.tick();
-        match self.tree.insert(key, value) {
-            Ok(before) => Ok(before),
-            Err(_) => Err(OutOfMemory),
-        }
+        Ok(self.tree.insert(key, value)?)
     }
 
     /// Takes the entry at a key out, and gives its value; None exactly where the key isn't there.

@@ -4,7 +4,7 @@ use Rattle.std.proofs.Common.{refl, sym, subst, arith}
 use Rattle.wjs_tree.specs.declared.node.Node.{Node}
 use Rattle.wjs_tree.specs.declared.node.NodeId.{NodeId}
 use Rattle.wjs_tree.specs.declared.node.Node.TheVariants as nodes
-use Rattle.wjs_walk.specs.There.{ElementsThere}
+use Rattle.wjs_tree.specs.There.{ElementsThere}
 use Rattle.wjs_scope.specs.Declarations.{is_body, elements_of}
 use Rattle.wjs_scope.specs.Nesting.{Side, parts, LeadsTo}
 use Rattle.wjs_scope.specs.Visits.{HasElements}

@@ -8,12 +8,12 @@ use Rattle.wjs_tree.specs.declared.node.Node.{Node}
 use Rattle.wjs_tree.specs.declared.node.NodeId.{NodeId}
 use Rattle.wjs_tree.specs.Trees.{Elements}
 use Rattle.wjs_scope.specs.Declarations.{elements_declared, with_names}
-use Rattle.wjs_walk.specs.Forms.{AreElements}
-use Rattle.wjs_walk.specs.There.{ElementsThere, ElementThere}
+use Rattle.wjs_tree.specs.Forms.{AreElements}
+use Rattle.wjs_tree.specs.There.{ElementsThere, ElementThere}
 use Rattle.wjs_scope.specs.Answers.{ElementsAdd}
 use Rattle.wjs_scope.specs.Declarations.{is_declaration, functions_among, variables}
-use Rattle.wjs_walk.proofs.Lists.{behind, elements_first}
-use Rattle.wjs_walk.proofs.Steps.{within}
+use Rattle.wjs_tree.proofs.Lists.{behind, elements_first}
+use Rattle.wjs_tree.proofs.Steps.{within}
 
 pub element_within : (ns : List Node) (room : ℕ) (i : NodeId) → ElementThere ns room i → i.0 < length ns
 element_within ns room i h = elim h [ inl f ↦ within ns i f.0 f.1 | inr f ↦ slice_get_within ns i.0 _ f.3 ]

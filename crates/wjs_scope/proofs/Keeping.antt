@@ -1,9 +1,10 @@
 -- Places that are put one behind the other.
-use Rattle.std.specs.Prelude.{◌≡◌, ℕ, zero, suc, ◌+◌, ◌<◌, List, [], ◌∷◌, ◌++◌, map, length, Option, Some, None, option_map, slice_get}
+use Rattle.std.specs.Prelude.{◌≡◌, ℕ, suc, ◌+◌, ◌<◌, List, [], ◌∷◌, ◌++◌, map, length, Option, Some, None, option_map, slice_get}
 use Rattle.std.proofs.Common.{refl, sym, ap, subst, ◌∙◌, inl, inr, arith, get_or, append-nil}
 use Rattle.std.proofs.lemmas.Bool.{cases_eq}
-use Rattle.std.proofs.lemmas.Option.{none-some, same_Some, slice_get-map}
+use Rattle.std.proofs.lemmas.Option.{same_Some, slice_get-map}
 use Rattle.wjs_base.specs.declared.ids.TextId.{TextId}
+use Rattle.wjs_base.proofs.Lists.{get_front}
 use Rattle.wjs_tree.specs.declared.node.Node.{Node}
 use Rattle.wjs_tree.specs.declared.node.NodeId.{NodeId}
 use Rattle.wjs_tree.specs.Shows.{Has}
@@ -19,11 +20,6 @@ use Rattle.wjs_scope.proofs.Opening.{one_nest}
 pub record RowsKept (ns : List Node) (marks : List (Option ℕ)) (levels : List Level) (rows : Rows) (left : ℕ) : Type 0 where
   pub long : length rows.0 ≡ left
   pub kept : (i : NodeId) (at : ℕ) (scopes : List Scope) (node : Node) (k : ℕ) (x : TextId) → i.0 < left → mark_of marks i ≡ Some at → Nests levels at scopes → Has ns i node → slice_get (placed_names node) k ≡ Some x → place_at rows i k ≡ Some (resolve scopes x)
-
-get_front : {T : Type 0} (xs ys : List T) (i : ℕ) (x : T) → slice_get xs i ≡ Some x → slice_get (xs ++ ys) i ≡ Some x
-get_front [] ys i x h = absurd (none-some x h)
-get_front (z ∷ xs) ys zero x h = h
-get_front (z ∷ xs) ys (suc i) x h = get_front xs ys i x h
 
 get_behind : {T : Type 0} (xs ys : List T) (k : ℕ) → slice_get (xs ++ ys) (length xs + k) ≡ slice_get ys k
 get_behind [] ys k = let e : 0 + k ≡ k = omega arith in ap (slice_get ys) e

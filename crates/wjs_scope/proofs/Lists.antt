@@ -5,8 +5,8 @@ use Rattle.wjs_base.specs.declared.ids.TextId.{TextId}
 use Rattle.wjs_tree.specs.declared.node.Node.{Node}
 use Rattle.wjs_tree.specs.declared.node.NodeId.{NodeId}
 use Rattle.wjs_tree.specs.declared.node.Clause.{Clause}
-use Rattle.wjs_walk.specs.There.{StmtThere, StmtsThere, ClausesThere, ElementsThere, ElementThere}
-use Rattle.wjs_walk.proofs.Lists as along
+use Rattle.wjs_tree.specs.There.{StmtThere, StmtsThere, ClausesThere, ElementsThere, ElementThere}
+use Rattle.wjs_tree.proofs.Lists as along
 use Rattle.wjs_scope.specs.Declarations.{names_declared, all_declared, clauses_declared, elements_declared, with_names}
 use Rattle.wjs_scope.specs.Answers.{StmtAdds, StmtsAdds, ClausesAdd, ElementsAdd, ElementAdds}
 use Rattle.wjs_scope.proofs.Walks.{AddAlike, with_both}

@@ -9,7 +9,7 @@ use Rattle.wjs_tree.specs.declared.node.Clause.{Clause}
 use Rattle.wjs_tree.specs.Children.{ClausesBelow}
 use Rattle.wjs_scope.specs.Nesting.{Side, IsAmong, clause_part, clause_parts}
 use Rattle.wjs_scope.specs.Marks.{number_on, marked, marked_parts}
-use Rattle.wjs_walk.proofs.Lists.{behind}
+use Rattle.wjs_tree.proofs.Lists.{behind}
 
 -- marks of one list and then of another
 pub marked_both : (table : List (Option ℕ)) (at : ℕ) (xs ys : List NodeId) → marked table at (xs ++ ys) ≡ marked (marked table at xs) at ys

@@ -14,7 +14,7 @@ use Rattle.wjs_tree.specs.Children.{ChildrenBelow}
 use Rattle.wjs_tree.specs.Used.{IsOnce}
 use Rattle.wjs_scope.specs.declared.levels.Level.{Level}
 use Rattle.wjs_scope.specs.Declarations.{elements_of}
-use Rattle.wjs_walk.specs.Forms.{AreElements}
+use Rattle.wjs_tree.specs.Forms.{AreElements}
 use Rattle.wjs_scope.specs.Scopes.{Scope, with_own_name, own_name, in_function}
 use Rattle.wjs_scope.specs.Nesting.{Side, Around, Caught, Inside, plain_parts, parts, IsAmong, Enters, StandsIn}
 use Rattle.wjs_scope.specs.Levels.{Nests}

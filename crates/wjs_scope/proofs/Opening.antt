@@ -1,8 +1,9 @@
 -- Scopes under numbers.
-use Rattle.std.specs.Prelude.{◌≡◌, ℕ, zero, suc, ◌+◌, ◌-◌, ◌<◌, ◌≤◌, true, false, if◌then◌else◌, List, [], ◌∷◌, ◌++◌, length, slice_get, Some}
+use Rattle.std.specs.Prelude.{◌≡◌, ℕ, suc, ◌+◌, ◌-◌, ◌<◌, ◌≤◌, true, false, if◌then◌else◌, List, [], ◌∷◌, ◌++◌, length, slice_get, Some}
 use Rattle.std.proofs.Common.{refl, sym, ap, subst, ◌∙◌, arith, get_or}
-use Rattle.std.proofs.lemmas.Option.{none-some, same_Some, slice_get_within, slice_get-get_or}
+use Rattle.std.proofs.lemmas.Option.{same_Some, slice_get_within, slice_get-get_or}
 use Rattle.wjs_base.specs.declared.ids.TextId.{TextId}
+use Rattle.wjs_base.proofs.Lists.{get_last, get_front}
 use Rattle.wjs_scope.specs.declared.levels.Level.{Level}
 use Rattle.wjs_scope.specs.declared.place.Place.TheVariants.{Local, Global}
 use Rattle.wjs_scope.specs.Scopes.{Scope, is_in, place_past, resolve}
@@ -24,16 +25,6 @@ one_nest levels at (x ∷ xs) (y ∷ ys) a b =
 pub nest_within : (levels : List Level) (at : ℕ) (xs : List Scope) → Nests levels at xs → at ≤ length levels
 nest_within levels at [] a = let e : at ≡ 0 = a in omega arith
 nest_within levels at (x ∷ xs) a = let lt = slice_get_within levels a.0 a.1 a.3 in let e = a.2 in omega arith
-
--- an element stays where more are put behind
-get_front : {T : Type 0} (xs ys : List T) (i : ℕ) (x : T) → slice_get xs i ≡ Some x → slice_get (xs ++ ys) i ≡ Some x
-get_front [] ys i x h = absurd (none-some x h)
-get_front (z ∷ xs) ys zero x h = h
-get_front (z ∷ xs) ys (suc i) x h = get_front xs ys i x h
-
-get_last : {T : Type 0} (xs : List T) (x : T) → slice_get (xs ++ x ∷ []) (length xs) ≡ Some x
-get_last [] x = refl
-get_last (z ∷ xs) x = get_last xs x
 
 pub stays_behind : (levels more : List Level) → StaysNested levels (levels ++ more)
 stays_behind levels more at [] a = a

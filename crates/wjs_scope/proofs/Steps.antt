@@ -13,11 +13,11 @@ use Rattle.wjs_tree.specs.declared.node.ForInit.{ForInit}
 use Rattle.wjs_tree.specs.Trees.{Variables, Init, Stmt, NoVariable, Variable, NoInit, InitExpr, InitVar, Block, Var, If, DoWhile, While, For, ForIn, ForVarIn, Label, Switch, TryCatch, TryFinally, TryBoth, Within}
 use Rattle.wjs_tree.specs.Shows.{Has}
 use Rattle.wjs_scope.specs.Declarations.{names_declared, all_declared, variable_names, init_names, with_name, with_names}
-use Rattle.wjs_walk.specs.Forms.{AreVariables, IsInit, HasForm}
-use Rattle.wjs_walk.specs.There.{StmtThere}
+use Rattle.wjs_tree.specs.Forms.{AreVariables, IsInit, HasForm}
+use Rattle.wjs_tree.specs.There.{StmtThere}
 use Rattle.wjs_scope.specs.Answers.{StmtAdds, OptionAdds, StmtsAdds, ClausesAdd, FormAdds, VariablesAdd, InitAdds}
-use Rattle.wjs_walk.proofs.Forms.{form_of}
-use Rattle.wjs_walk.proofs.Steps as steps
+use Rattle.wjs_tree.proofs.Forms.{form_of}
+use Rattle.wjs_tree.proofs.Steps as steps
 use Rattle.wjs_scope.proofs.Walks.{AddAlike, with_both}
 
 pub on_ok : {T E : Type 0} (r : Result T E) (P Q : Type 0) → (P → Q) → OnOk r P → OnOk r Q

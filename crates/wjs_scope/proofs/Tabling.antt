@@ -2,13 +2,13 @@
 use Rattle.std.specs.Prelude.{◌≡◌, ℕ, zero, suc, ◌+◌, Bool, true, false, List, [], ◌∷◌, ◌++◌, length, Option, Some, None, slice_get, unwrap_or}
 use Rattle.std.proofs.Common.{refl, sym, ap, subst, ◌∙◌, inl, inr, arith, length-append}
 use Rattle.std.proofs.lemmas.Option.{none-some}
+use Rattle.wjs_base.proofs.Lists.{get_pushed}
 use Rattle.wjs_tree.specs.declared.node.Node.{Node}
 use Rattle.wjs_tree.specs.declared.node.NodeId.{NodeId}
 use Rattle.wjs_tree.specs.declared.node.Node.TheVariants as nodes
 use Rattle.wjs_tree.specs.Trees.{Elements, NoElement, Statement, FunctionDecl}
 use Rattle.wjs_tree.specs.Shows.{Has}
-use Rattle.wjs_tree.proofs.Adding.{get-append}
-use Rattle.wjs_walk.specs.Forms.{AreElements}
+use Rattle.wjs_tree.specs.Forms.{AreElements}
 use Rattle.wjs_scope.specs.declared.declarations.Declarations.{Declarations}
 use Rattle.wjs_scope.specs.Declarations.{is_body, formals_of, elements_of, functions_among, variables}
 use Rattle.wjs_scope.specs.Bodies.{nothing, node_at, Declares, DeclaresTo, DeclaresNext, AreDeclared}
@@ -48,7 +48,7 @@ next_row ns i n old new same next w =
     let e = next.2 in
     record {
       long = (let a = ap length e in let b = length-append old (d ∷ []) in let l = w.long in omega arith);
-      right = λ k x h. elim (get-append old d k x (subst (λ (l : List Declarations). slice_get l k ≡ Some x) e h)) [
+      right = λ k x h. elim (get_pushed old d k x (subst (λ (l : List Declarations). slice_get l k ≡ Some x) e h)) [
         | inl p ↦ w.right k x p
         | inr q ↦ subst (λ (y : Declarations). Declares ns (node_at ns k) y) q.1 (subst (λ (m : ℕ). Declares ns (node_at ns m) d) (sym (q.0 ∙ w.long ∙ sym same)) next.1)
       ];

@@ -1,9 +1,10 @@
 -- Names of a table are one where their texts are.
 use Rattle.std.specs.Prelude.{◌≡◌, ◌↔◌, ℕ, suc, Bool, true, false, if◌then◌else◌, IsTrue, List, [], ◌∷◌, map, All, nat_eq, Option, Some, slice_get, unwrap_or}
-use Rattle.std.proofs.Common.{refl, sym, ap, ◌∙◌, ◌||◌, arith}
+use Rattle.std.proofs.Common.{refl, sym, ap, ◌∙◌, ◌||◌}
 use Rattle.std.proofs.lemmas.Option.{slice_get-get_or}
 use Rattle.std.proofs.lemmas.Bool.{eqb-true, eq-eqb}
 use Rattle.std.specs.List.{list_any}
+use Rattle.std.proofs.lemmas.List.Elements.{All-head, All-tail}
 use Rattle.wjs_base.specs.declared.ids.TextId.{TextId}
 use Rattle.wjs_base.specs.Text.{Units, Table, Has, Denotes, IsTable}
 use Rattle.wjs_scope.specs.declared.place.Place.TheVariants.{Local}
@@ -20,12 +21,6 @@ one_test false false h = refl
 one_test true false h = let e = h.0 refl in cc
 one_test false true h = let e = h.1 refl in cc
 
-head : {X : Type 0} (P : X → Type 0) (x : X) (xs : List X) → All P (x ∷ xs) → P x
-head P x xs h = h 0 x (omega arith)
-
-tail : {X : Type 0} (P : X → Type 0) (x : X) (xs : List X) → All P (x ∷ xs) → All P xs
-tail P x xs h = λ k d lt. h (suc k) d (omega arith)
-
 module _ (texts : Table) (same : Units → Units → Bool) (table : IsTable texts) (decides : (u v : Units) → IsTrue (same u v) ↔ (u ≡ v)) where
   one : (x y : TextId) → Has texts x → Has texts y → nat_eq x.0 y.0 ≡ same (text_of texts x) (text_of texts y)
   one x y hx hy = one_test (nat_eq x.0 y.0) (same (text_of texts x) (text_of texts y)) (
@@ -38,11 +33,11 @@ module _ (texts : Table) (same : Units → Units → Bool) (table : IsTable text
   in_one : (x : TextId) (names : Scope) → Has texts x → All (Has texts) names → is_in names x ≡ list_any (same (text_of texts x)) (map (text_of texts) names)
   in_one x [] hx h = refl
   in_one x (y ∷ more) hx h =
-      ap (λ b. b || is_in more x) (one x y hx (head (Has texts) y more h)) ∙ ap (λ b. same (text_of texts x) (text_of texts y) || b) (in_one x more hx (tail (Has texts) y more h))
+      ap (λ b. b || is_in more x) (one x y hx (All-head (Has texts) y more h)) ∙ ap (λ b. same (text_of texts x) (text_of texts y) || b) (in_one x more hx (All-tail (Has texts) y more h))
 
   pub by_text : (hops : ℕ) (scopes : List Scope) (x : TextId) → All (λ (names : Scope). All (Has texts) names) scopes → Has texts x
       → place_past hops scopes x ≡ text_place_past same hops (map (λ (names : Scope). map (text_of texts) names) scopes) (text_of texts x)
   by_text hops [] x h hx = refl
   by_text hops (names ∷ outer) x h hx =
-      ap (λ b. if b then Local hops else place_past (suc hops) outer x) (in_one x names hx (head (λ (z : Scope). All (Has texts) z) names outer h))
-      ∙ ap (λ p. if list_any (same (text_of texts x)) (map (text_of texts) names) then Local hops else p) (by_text (suc hops) outer x (tail (λ (z : Scope). All (Has texts) z) names outer h) hx)
+      ap (λ b. if b then Local hops else place_past (suc hops) outer x) (in_one x names hx (All-head (λ (z : Scope). All (Has texts) z) names outer h))
+      ∙ ap (λ p. if list_any (same (text_of texts x)) (map (text_of texts) names) then Local hops else p) (by_text (suc hops) outer x (All-tail (λ (z : Scope). All (Has texts) z) names outer h) hx)

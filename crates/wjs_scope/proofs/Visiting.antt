@@ -10,15 +10,15 @@ use Rattle.wjs_tree.specs.declared.node.Node.TheVariants as nodes
 use Rattle.wjs_tree.specs.Trees.{Elements}
 use Rattle.wjs_scope.specs.declared.levels.Level.{Level}
 use Rattle.wjs_scope.specs.Declarations.{with_names, elements_of, variables}
-use Rattle.wjs_walk.specs.Forms.{AreElements}
+use Rattle.wjs_tree.specs.Forms.{AreElements}
 use Rattle.wjs_scope.specs.Scopes.{Scope, declared_name, function_names, function_scope, in_function, with_own_name}
 use Rattle.wjs_scope.specs.Nesting.{Side, Around, Caught, Inside, option_part, plain_parts, on_side, parts, IsAmong, Enters}
 use Rattle.wjs_scope.specs.Levels.{Nests, StaysNested, Opens, OpensOwn, OpensCaught}
 use Rattle.wjs_scope.specs.Marks.{number_on, marked, marked_parts}
 use Rattle.wjs_scope.specs.Visits.{Begins}
-use Rattle.wjs_walk.specs.There.{ElementsThere}
+use Rattle.wjs_tree.specs.There.{ElementsThere}
 use Rattle.wjs_scope.proofs.Walks.{with_both}
-use Rattle.wjs_walk.proofs.Lists.{behind, elements_first}
+use Rattle.wjs_tree.proofs.Lists.{behind, elements_first}
 use Rattle.wjs_scope.proofs.Functions.{element_within}
 
 -- parts that all stand in the scopes around a node, or in its inner ones

@@ -11,8 +11,8 @@ use Rattle.wjs_tree.specs.declared.node.Node.TheVariants as nodes
 use Rattle.wjs_tree.specs.Trees.{Stmt, Stmts, Clauses, Elements}
 use Rattle.wjs_tree.specs.Shows.{Has}
 use Rattle.wjs_scope.specs.Declarations.{names_declared, all_declared, clauses_declared, elements_declared, with_names, is_body, elements_of}
-use Rattle.wjs_walk.specs.Forms.{IsPart, AreParts, AreClauses, AreElements, HasForm}
-use Rattle.wjs_walk.specs.There.{ElementsThere}
+use Rattle.wjs_tree.specs.Forms.{IsPart, AreParts, AreClauses, AreElements, HasForm}
+use Rattle.wjs_tree.specs.There.{ElementsThere}
 
 -- the node is a body's, of a script or a function, whose height is at most 200
 abbrev pub BodyThere : List Node → NodeId → Type 0

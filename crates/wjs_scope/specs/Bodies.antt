@@ -5,7 +5,7 @@ use Rattle.wjs_tree.specs.declared.node.NodeId.{NodeId}
 use Rattle.wjs_tree.specs.declared.node.Node.TheVariants as nodes
 use Rattle.wjs_tree.specs.Trees.{Elements}
 use Rattle.wjs_tree.specs.Shows.{Has}
-use Rattle.wjs_walk.specs.Forms.{AreElements}
+use Rattle.wjs_tree.specs.Forms.{AreElements}
 use Rattle.wjs_scope.specs.declared.declarations.Declarations.{Declarations}
 use Rattle.wjs_scope.specs.Declarations.{is_body, formals_of, elements_of, functions_among, variables}
 use Rattle.wjs_scope.specs.Answers.{BodyThere}

@@ -13,7 +13,7 @@ use Rattle.wjs_tree.specs.declared.node.Handler.{Handler}
 use Rattle.wjs_tree.specs.Trees.{Elements}
 use Rattle.wjs_tree.specs.Shows.{Has}
 use Rattle.wjs_scope.specs.Declarations.{elements_of}
-use Rattle.wjs_walk.specs.Forms.{AreElements}
+use Rattle.wjs_tree.specs.Forms.{AreElements}
 use Rattle.wjs_scope.specs.Scopes.{Scope, in_function}
 
 -- where a part of a node stands: in the scopes around the node, in a `catch` of this name, or in the body of a function

@@ -9,7 +9,7 @@ use Rattle.wjs_scope.specs.Scopes.{Scope}
 use Rattle.wjs_scope.specs.Nesting.{Side, parts, IsAmong, Enters, StandsAmong, StandsIn}
 use Rattle.wjs_scope.specs.Levels.{Nests, IsNest, StaysNested}
 use Rattle.wjs_scope.specs.Marks.{number_on, marked_parts}
-use Rattle.wjs_walk.specs.There.{ElementsThere}
+use Rattle.wjs_tree.specs.There.{ElementsThere}
 
 -- the body of a script or a function stands for elements
 abbrev pub HasElements : List Node → Node → Type 0

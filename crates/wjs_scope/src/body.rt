@@ -5,8 +5,8 @@ ghost use Rattle.wjs_tree.specs.Trees.{Elements};
 ghost use Rattle.wjs_tree.specs.Shows.{Has};
 ghost use Rattle.wjs_scope.specs.Declarations.{is_declaration, formals_of, elements_of, functions_among, variables, with_names};
 ghost use Rattle.wjs_scope.specs.Scopes.{declared_name, function_names, function_scope};
-ghost use Rattle.wjs_walk.specs.Forms.{AreElements};
-ghost use Rattle.wjs_walk.specs.There.{ElementsThere, ElementThere};
+ghost use Rattle.wjs_tree.specs.Forms.{AreElements};
+ghost use Rattle.wjs_tree.specs.There.{ElementsThere, ElementThere};
 ghost use Rattle.wjs_scope.specs.Answers.{BodyThere, ElementAdds};
 
 use crate::declarations::Declarations;
@@ -25,7 +25,8 @@ pub(crate) fn declared(
     requires { BodyThere nodes.now body }
     ensures formals { IfOk result (λ d. (node : Node) → Has nodes.now body node → d.formals ≡ formals_of node) }
     ensures functions { IfOk result (λ d. (node : Node) → Has nodes.now body node → d.functions ≡ functions_among nodes.now (elements_of node)) }
-    ensures vars { IfOk result (λ d. (node : Node) (t : Elements) → Has nodes.now body node → AreElements nodes.now t (elements_of node) → d.variables ≡ variables t) }
+    ensures vars { IfOk result (λ d. (node : Node) (t : Elements) → Has nodes.now body node
+        → AreElements nodes.now t (elements_of node) → d.variables ≡ variables t) }
 {
     match nodes.node(body) {
         Node::Program(elements) => of_body(alloc, nodes, &[], elements.as_slice()),
@@ -56,9 +57,7 @@ fn of_body(
     ensures functions { IfOk result (λ d. d.functions ≡ functions_among nodes.now elements.now) }
     ensures vars { IfOk result (λ d. (t : Elements) → AreElements nodes.now t elements.now → d.variables ≡ variables t) }
 {
-    let Ok(formals) = Vec::from_slice(alloc, formals) else {
-        return Err(OutOfMemory);
-    };
+    let formals = Vec::from_slice(alloc, formals)?;
     let functions = functions_of(alloc, nodes, elements)?;
     let vars = variables_of(alloc, nodes, elements)?;
     Ok(Declarations {
@@ -79,9 +78,7 @@ fn functions_of(
     let mut functions = Vec::new(alloc);
     for element in elements {
         if is_function(nodes, *element) {
-            let Ok(()) = functions.push(*element) else {
-                return Err(OutOfMemory);
-            };
+            functions.push(*element)?;
         }
     }
     Ok(Sequence::from_vec(functions))
@@ -131,7 +128,8 @@ pub fn body_names(
     elements: &[NodeId],
 ) -> Result<Names, OutOfMemory>
     requires { ElementsThere nodes.now 200 elements.now }
-    ensures { IfOk result (λ names. (t : Elements) → AreElements nodes.now t elements.now → names ≡ function_scope arguments formals.now (function_names nodes.now elements.now) (variables t)) }
+    ensures { IfOk result (λ names. (t : Elements) → AreElements nodes.now t elements.now
+        → names ≡ function_scope arguments formals.now (function_names nodes.now elements.now) (variables t)) }
 {
     let vars = variables_of(alloc, nodes, elements)?;
     let mut names = Names::new(alloc);

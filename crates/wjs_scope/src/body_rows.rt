@@ -57,10 +57,8 @@ fn add_row(
     ensures { OnOk result (DeclaresNext nodes.now id rows.old.items rows.new.items) }
 {
     let declared = row_of(alloc, nodes, id, none)?;
-    match rows.push(declared) {
-        Ok(()) => Ok(()),
-        Err(_) => Err(OutOfMemory),
-    }
+    rows.push(declared)?;
+    Ok(())
 }
 
 /// What the body at a node declares; nothing where the node is no body's.

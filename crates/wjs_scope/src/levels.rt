@@ -39,9 +39,7 @@ pub fn open(levels: &mut Vec<Level>, names: Names, at: u64) -> Result<u64, OutOf
     requires { IsNest levels.old.items at }
     ensures { IfOk result (λ inner. Opens levels.old.items levels.new.items at inner names) }
 {
-    let Ok(()) = levels.push(Level { names, outer: at }) else {
-        return Err(OutOfMemory);
-    };
+    levels.push(Level { names, outer: at })?;
     Ok(levels.len() as u64)
 }
 

@@ -39,9 +39,7 @@ impl Names {
     pub fn add(&mut self, name: TextId) -> Result<(), OutOfMemory>
         ensures { OnOk result (self.new ≡ with_name self.old name) }
     {
-        let Ok(_) = self.numbers.insert(name.0) else {
-            return Err(OutOfMemory);
-        };
+        self.numbers.insert(name.0)?;
         Ok(())
     }
 
@@ -78,9 +76,7 @@ impl Names {
     {
         let mut names = Vec::new(alloc);
         for k in self.numbers.as_slice() {
-            let Ok(()) = names.push(TextId(*k)) else {
-                return Err(OutOfMemory);
-            };
+            names.push(TextId(*k))?;
         }
         Ok(Sequence::from_vec(names))
     }

@@ -73,9 +73,7 @@ fn no_marks(alloc: Global, last: u64) -> Result<Vec<Option<u64>>, OutOfMemory>
 {
     let mut marks = Vec::new(alloc);
     for _ in 0..=last {
-        let Ok(()) = marks.push(None) else {
-            return Err(OutOfMemory);
-        };
+        marks.push(None)?;
     }
     Ok(marks)
 }

@@ -26,9 +26,7 @@ pub fn rows(
     let mut starts = Vec::new(alloc);
     let mut list = Vec::new(alloc);
     for (number, mark) in marks.iter().enumerate() {
-        let Ok(()) = starts.push(list.len()) else {
-            return Err(OutOfMemory);
-        };
+        starts.push(list.len())?;
         if let Some(at) = mark {
             let node = nodes.node(NodeId(number as u64));
             add_places(levels, *at, node, &mut list)?;
@@ -65,9 +63,7 @@ fn add_place(
     ensures { OnOk result (AddsPlaces levels.now at (name ∷ []) list.old.items list.new.items) }
 {
     let place = resolve(levels, at, name);
-    let Ok(()) = list.push(place) else {
-        return Err(OutOfMemory);
-    };
+    list.push(place)?;
     Ok(())
 }
 

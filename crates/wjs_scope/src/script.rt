@@ -20,7 +20,8 @@ const ARGUMENTS: [u16; 9] = [97, 114, 103, 117, 109, 101, 110, 116, 115];
 /// It takes memory in proportion to the nodes, and time in proportion to them and to the names times the depth of the scopes.
 pub fn places(alloc: Global, texts: &Texts, program: &Program) -> Result<Places, OutOfMemory>
     requires { IsScript program.now.nodes program.now.body }
-    ensures { IfOk result (λ places. (arguments : Option TextId) × Finds texts.now arguments_text arguments × ArePlaces program.now.nodes arguments program.now.body places) }
+    ensures { IfOk result (λ places. (arguments : Option TextId) × Finds texts.now arguments_text arguments
+        × ArePlaces program.now.nodes arguments program.now.body places) }
 {
     let arguments = texts.find(&ARGUMENTS);
     let nesting = nest(alloc, arguments, &program.nodes, program.body)?;

@@ -49,10 +49,8 @@ impl Declared {
     pub fn share(&self) -> Result<Declared, OutOfMemory>
         ensures { IfOk result (λ d. d ≡ self.now) }
     {
-        match self.shared.clone() {
-            Ok(shared) => Ok(Declared { shared }),
-            Err(_) => Err(OutOfMemory),
-        }
+        let shared = self.shared.clone()?;
+        Ok(Declared { shared })
     }
 
     /// The formals, in order; a script has none.

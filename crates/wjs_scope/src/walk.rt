@@ -1,7 +1,7 @@
 //! The names that statements declare.
 ghost use Rattle.std.specs.Prelude.{◌≡◌, suc, OnOk, option_map};
 ghost use Rattle.wjs_tree.specs.declared.node.Node.TheVariants as forms;
-ghost use Rattle.wjs_walk.specs.There.{StmtThere, OptionThere, StmtsThere, ClausesThere, FormThere, IsNoIf};
+ghost use Rattle.wjs_tree.specs.There.{StmtThere, OptionThere, StmtsThere, ClausesThere, FormThere, IsNoIf};
 ghost use Rattle.wjs_scope.specs.Answers.{StmtAdds, OptionAdds, StmtsAdds, ClausesAdd, FormAdds, VariablesAdd, InitAdds};
 
 use crate::names::Names;

@@ -4,13 +4,14 @@ use Rattle.std.specs.Option.{option_map, option_map_or, option_and_then}
 use Rattle.std.specs.Ordering.{eq_by_cmp}
 use Rattle.std.specs.List.{AllByRecursion}
 use Rattle.std.specs.FinMap as map
-use Rattle.std.proofs.lemmas.Bool.{true≢false, false≢true}
+use Rattle.std.proofs.lemmas.Bool.{true≢false, false≢true, and_right}
 use Rattle.wjs_base.specs.declared.ids.ObjId.{ObjId}
 use Rattle.wjs_base.specs.declared.ids.WorldId.{WorldId}
 use Rattle.wjs_base.specs.declared.values.Slot.{Slot}
 use Rattle.wjs_base.specs.declared.values.Value.{Value}
 use Rattle.wjs_base.specs.Order.{slot_cmp}
 use Rattle.wjs_base.specs.Same.{same_value}
+use Rattle.wjs_base.proofs.Booleans.{by_bool}
 use Rattle.wjs_store.specs.Naming.{plain}
 use Rattle.wjs_store.specs.Reached.{IsReached}
 use Rattle.wjs_store.specs.Shown.{first_of}
@@ -19,7 +20,7 @@ use Rattle.wjs_store.specs.State.{World, same_world, find_world, has_world, cont
 use Rattle.wjs_store.proofs.Contents.{content_after_read, content_after_list, content_after_write, content_after_sprout}
 use Rattle.wjs_store.proofs.Keeps.{reached_after, has_world_after}
 use Rattle.wjs_store.proofs.Marks.{marks_read, marks_list}
-use Rattle.wjs_store.proofs.Writes.{by_bool, by_one, same_self, write_id, not_older}
+use Rattle.wjs_store.proofs.Writes.{by_one, same_self, write_id, not_older}
 use Rattle.wjs_store.proofs.Commits.{at_head, find_tail}
 use Rattle.wjs_session.specs.Filled.{filled}
 use Rattle.wjs_session.specs.Session.{world_at, first_copy, settled, outer, full_of, session}
@@ -99,10 +100,6 @@ module _ (F : Worlds) (i : WorldId) (G : Worlds) (k : IsSession F i G) (F' : Wor
         };
       }
 
-no_and : (b c : Bool) → c ≡ false → (b && c) ≡ false
-no_and true c e = e
-no_and false c e = refl
-
 -- a world without parent is below none
 below_alone : (d : WorldId) (s : Slot) (i : WorldId) (H : Worlds) → AllByRecursion (λ (y : World plain). same_world y.id i ≡ true → is_some y.parent ≡ false) H → is_below d s H i ≡ false
 unfolding is_below
@@ -114,7 +111,7 @@ below_alone d s i (y ∷ older) p = by (same_world y.id i) refl (below_alone d s
     up (Some r) q = absurd (true≢false q)
 
     by : (b : Bool) → same_world y.id i ≡ b → is_below d s older i ≡ false → cond b (not (is_touched y s) && option_map_or (λ q. same_world q d || is_below d s older q) y.parent false) (is_below d s older i) ≡ false
-    by true e h = no_and (not (is_touched y s)) (option_map_or (λ q. same_world q d || is_below d s older q) y.parent false) (up y.parent (p.0 e))
+    by true e h = and_right (not (is_touched y s)) (option_map_or (λ q. same_world q d || is_below d s older q) y.parent false) (up y.parent (p.0 e))
     by false e h = h
 
 module _ (F : Worlds) (i : WorldId) (G : Worlds) (k : IsSession F i G) where

@@ -9,12 +9,14 @@ use Rattle.wjs_base.specs.declared.ids.WorldId.{WorldId}
 use Rattle.wjs_base.specs.declared.values.Slot.{Slot}
 use Rattle.wjs_base.specs.declared.values.Value.{Value}
 use Rattle.wjs_base.specs.Order.{slot_cmp, slot_total, obj_cmp}
+use Rattle.wjs_base.proofs.Options.{none_of}
+use Rattle.wjs_base.proofs.Booleans.{by_bool}
 use Rattle.wjs_store.specs.Naming.{plain}
 use Rattle.wjs_store.specs.Reached.{IsReached}
 use Rattle.wjs_store.specs.Shown.{first_of}
 use Rattle.wjs_store.specs.Meaning.{View, Worlds}
 use Rattle.wjs_store.specs.State.{World, same_world, find_world, has_world, content_at, has_row, is_touched, is_below, put, write_in, write_at, after_write, write, wrote}
-use Rattle.wjs_store.proofs.Writes.{by_bool, same_self, world_is, get_put, get_none, no_parent_of}
+use Rattle.wjs_store.proofs.Writes.{same_self, world_is, get_put, get_none}
 use Rattle.wjs_store.proofs.Commits.{find_head, find_nil, find_tail}
 use Rattle.wjs_session.specs.Filled.{filled}
 use Rattle.wjs_session.specs.Session.{world_at, settled, outer, full_of, session}
@@ -40,7 +42,7 @@ alone_first (y ∷ z ∷ older) i d a f h = absurd a
 -- a world without parent has touched nothing
 untouched_alone : (y : World plain) → IsReached (y ∷ []) → is_some y.parent ≡ false → (t : Slot) → is_touched y t ≡ false
 untouched_alone y r e t =
-    let n = no_parent_of y.parent e in
+    let n = none_of y.parent e in
     λ k. (is_some (get_none y.first t (r.0.no_first n) k) || is_some (get_none y.written t (r.0.no_written n) k)) || is_some (get_none y.closed t.object (r.0.no_closed n) k)
 
 -- a write in its own world stays outside

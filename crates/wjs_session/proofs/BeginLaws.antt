@@ -4,11 +4,13 @@ use Rattle.std.specs.Option.{option_map_or, option_and_then}
 use Rattle.std.specs.List.{AllByRecursion, list_any}
 use Rattle.std.specs.FinMap as map
 use Rattle.std.proofs.lemmas.Bool.{true≢false, false≢true, or_from, false_from_ne_true, eqb-true}
+use Rattle.std.proofs.lemmas.Option.{same_Some}
 use Rattle.wjs_base.specs.declared.ids.WorldId.{WorldId}
 use Rattle.wjs_base.specs.declared.values.Slot.{Slot}
 use Rattle.wjs_base.specs.declared.values.Value.{Value}
 use Rattle.wjs_base.specs.Order.{slot_cmp, obj_cmp}
 use Rattle.wjs_base.specs.Same.{same_value}
+use Rattle.wjs_base.proofs.Booleans.{by_bool}
 use Rattle.wjs_store.specs.Naming.{plain}
 use Rattle.wjs_store.specs.Reached.{IsReached}
 use Rattle.wjs_store.specs.Shown.{first_of}
@@ -17,8 +19,8 @@ use Rattle.wjs_store.specs.Meaning.{Meaning, View, Worlds, PlainAct, PlainReply}
 use Rattle.wjs_store.specs.State.{World, same_world, find_world, has_world, count_of, next_id, child_of, after_sprout, is_touched, same_content}
 use Rattle.wjs_store.proofs.Marks.{none_some}
 use Rattle.wjs_store.proofs.Keeps.{reached_after}
-use Rattle.wjs_store.proofs.Writes.{by_bool, same_self, world_is, serial_below, has_head, has_tail, not_older, reached_sprout}
-use Rattle.wjs_store.proofs.Commits.{find_head, find_tail, reached_begun, same_some}
+use Rattle.wjs_store.proofs.Writes.{same_self, world_is, serial_below, has_head, has_tail, not_older, reached_sprout}
+use Rattle.wjs_store.proofs.Commits.{find_head, find_tail, reached_begun}
 use Rattle.wjs_session.specs.Filled.{filled}
 use Rattle.wjs_session.specs.Session.{holding, world_at, first_copy, has_child, settled, outer, full_of, passes, owned, around_of, session}
 use Rattle.wjs_session.specs.Kept.{IsChild, IsShut, IsSession}

@@ -7,12 +7,13 @@ use Rattle.std.proofs.lemmas.Bool.{true≢false, false≢true, or_left, or_right
 use Rattle.wjs_base.specs.declared.ids.WorldId.{WorldId}
 use Rattle.wjs_base.specs.declared.values.Slot.{Slot}
 use Rattle.wjs_base.specs.declared.values.Value.{Value}
+use Rattle.wjs_base.proofs.Booleans.{by_bool}
 use Rattle.wjs_store.specs.Naming.{plain}
 use Rattle.wjs_store.specs.Reached.{IsReached}
 use Rattle.wjs_store.specs.Shown.{first_of}
 use Rattle.wjs_store.specs.Meaning.{Worlds}
 use Rattle.wjs_store.specs.State.{World, same_world, find_world, has_world, has_row, is_touched, is_below, put, write_in, write_at, after_write}
-use Rattle.wjs_store.proofs.Writes.{by_bool, same_self, world_is, has_head, has_tail, below_newest, below_older}
+use Rattle.wjs_store.proofs.Writes.{same_self, world_is, has_head, has_tail, below_newest, below_older}
 use Rattle.wjs_store.proofs.Commits.{find_nil, find_tail}
 use Rattle.wjs_session.proofs.Worlds.{each_on, all_weaker, all_both, first_alone}
 

@@ -11,12 +11,12 @@ use Rattle.wjs_base.specs.declared.values.Name.{Name}
 use Rattle.wjs_base.specs.declared.values.Slot.{Slot}
 use Rattle.wjs_base.specs.Order.{slot_cmp, slot_exact}
 use Rattle.wjs_base.specs.Same.{same_value}
+use Rattle.wjs_base.proofs.Booleans.{by_bool}
 use Rattle.wjs_store.specs.Naming.{plain}
 use Rattle.wjs_store.specs.Shown.{slots_of}
 use Rattle.wjs_store.specs.Meaning.{View, Worlds, PlainAct, PlainReply, Does}
 use Rattle.wjs_store.specs.State.{World, has_world, content_at, is_touched, same_content, slots_at, slots_in, read_in, after_read, after_list, after_write, answer_to, after}
 use Rattle.wjs_store.proofs.Marks.{key_is, or_case, none_or_some, touched_read}
-use Rattle.wjs_store.proofs.Writes.{by_bool}
 use Rattle.wjs_session.specs.Session.{world_at, first_copy, settled, outer, full_of, passes, session}
 use Rattle.wjs_session.specs.Kept.{IsSession}
 use Rattle.wjs_session.specs.Calls.{Answered, Brought}

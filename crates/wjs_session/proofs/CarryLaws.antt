@@ -5,38 +5,32 @@ use Rattle.std.specs.Ordering.{eq_by_cmp, is_lt, is_eq}
 use Rattle.std.specs.Cmp.{tied_itself}
 use Rattle.std.specs.FinMap as map
 use Rattle.std.proofs.lemmas.Bool.{true≢false, false≢true, and_parts, or_left, or_right, true_from_ne_false, false_from_ne_true}
+use Rattle.std.proofs.Math.Bool.{and-false, and-true}
 use Rattle.wjs_base.specs.declared.ids.WorldId.{WorldId}
 use Rattle.wjs_base.specs.declared.values.Slot.{Slot}
 use Rattle.wjs_base.specs.declared.values.Value.{Value}
 use Rattle.wjs_base.specs.Order.{slot_cmp, slot_total, slot_exact}
+use Rattle.wjs_base.proofs.Booleans.{by_bool}
 use Rattle.wjs_store.specs.Naming.{plain}
 use Rattle.wjs_store.specs.Marked.{is_written}
 use Rattle.wjs_store.specs.Reached.{IsReached}
 use Rattle.wjs_store.specs.Meaning.{Worlds}
 use Rattle.wjs_store.specs.State.{World, same_world, find_world, has_world, content_at, has_row, is_touched, read_in, after_read, after_write}
 use Rattle.wjs_store.proofs.Marks.{key_is}
-use Rattle.wjs_store.proofs.Writes.{by_bool, not_older}
+use Rattle.wjs_store.proofs.Writes.{not_older}
 use Rattle.wjs_store.proofs.Commits.{at_head, find_tail}
 use Rattle.wjs_overlay.specs.Check.{IsLeast}
-use Rattle.wjs_overlay.specs.Cursor.{to_come, is_before, count_passing}
+use Rattle.wjs_layers.specs.Cursor.{to_come, is_before, count_passing}
 use Rattle.wjs_overlay.proofs.Counts.{count_lt}
-use Rattle.wjs_overlay.proofs.Cursors.{not_back, not_self}
+use Rattle.wjs_layers.proofs.Cursors.{not_back, not_self}
 use Rattle.wjs_overlay.proofs.Keyed.{by_order}
-use Rattle.wjs_overlay.proofs.Scans.{to_come_on}
+use Rattle.wjs_layers.proofs.Scans.{to_come_on}
 use Rattle.wjs_session.specs.Session.{world_at}
 use Rattle.wjs_session.specs.Kept.{IsChild}
 use Rattle.wjs_session.specs.Grown.{Grows}
 use Rattle.wjs_session.specs.Carried.{Carried}
 use Rattle.wjs_session.proofs.Worlds.{found_at}
 use Rattle.wjs_session.proofs.Growing.{grows_same, grows_then, grows_write, write_touched, write_copy}
-
-and_no : (b : Bool) → (b && false) ≡ false
-and_no true = refl
-and_no false = refl
-
-and_yes : (b : Bool) → (b && true) ≡ b
-and_yes true = refl
-and_yes false = refl
 
 -- ---- a read of what is touched changes nothing
 
@@ -53,7 +47,7 @@ read_on d s x t [] r h = refl
 read_on d s x t (y ∷ G) r h = by_bool (same_world y.id d)
     (λ e.
     let is : y ≡ x = at_head y x G d e h in
-    let same : read_in s y ≡ y = ap (λ b. cond (is_some y.parent && not b) (record y { first = map.insert y.first s (map.get y.copy s) }) y) (ap (λ (z : World plain). is_touched z s) is ∙ t) ∙ ap (λ b. cond b (record y { first = map.insert y.first s (map.get y.copy s) }) y) (and_no (is_some y.parent)) in
+    let same : read_in s y ≡ y = ap (λ b. cond (is_some y.parent && not b) (record y { first = map.insert y.first s (map.get y.copy s) }) y) (ap (λ (z : World plain). is_touched z s) is ∙ t) ∙ ap (λ b. cond b (record y { first = map.insert y.first s (map.get y.copy s) }) y) (and-false (is_some y.parent)) in
     let new : has_world G d ≡ false = false_from_ne_true (has_world G d) (λ q. true≢false (sym e ∙ not_older y G d r q)) in
     (λ k. cond (e k) (read_in s y) y ∷ each (λ (z : World plain). cond (same_world z.id d) (read_in s z) z) G)
     ∙ (λ k. same k ∷ none_changed d (read_in s) G new k))
@@ -100,8 +94,8 @@ module _ (F : Worlds) (i : WorldId) (G : Worlds) (d : WorldId) where
   pub carries_none : IsReached F → IsChild F i → Carries None F
   carries_none r c = record {
     grows = grows_same F i r c;
-    copy = λ t. sym (ap (λ b. cond b (content_at G d t) (map.get (world_at F i).copy t)) (and_no (is_written G d t)));
-    touched = λ t. sym (ap (λ b. b || is_touched (world_at F i) t) (and_no (is_written G d t)));
+    copy = λ t. sym (ap (λ b. cond b (content_at G d t) (map.get (world_at F i).copy t)) (and-false (is_written G d t)));
+    touched = λ t. sym (ap (λ b. b || is_touched (world_at F i) t) (and-false (is_written G d t)));
   }
 
   module _ (passed : Option Slot) (H : Worlds) (h : Carries passed H) where
@@ -119,15 +113,15 @@ module _ (F : Worlds) (i : WorldId) (G : Worlds) (d : WorldId) where
       done_more : (t : Slot) → done (Some slot) t ≡ (eq_by_cmp slot_cmp t slot || done passed t)
       done_more t = by_order slot_total slot_exact t slot
           (λ l.
-          (λ k. is_written G d t && not (not_back slot_total t slot l k)) ∙ and_yes (is_written G d t)
+          (λ k. is_written G d t && not (not_back slot_total t slot l k)) ∙ and-true (is_written G d t)
           ∙ sym (passed_by (is_written G d t) (to_come passed t) (n.before t l))
           ∙ sym (ap (λ b. b || done passed t) (less_apart t slot l)))
           (λ is.
           (λ k. is_written G d (is k) && not (is_lt (slot_cmp slot (is k)))) ∙ (λ k. is_next.0 k && not (not_self slot_total slot k))
           ∙ sym (ap (λ b. b || done passed t) (ap (λ (q : Slot). eq_by_cmp slot_cmp q slot) is ∙ ap is_eq (tied_itself slot_total slot))))
           (λ l.
-          (λ k. is_written G d t && not (l k)) ∙ and_no (is_written G d t)
-          ∙ sym (ap (λ b. b || done passed t) (more_apart t slot l) ∙ (λ k. is_written G d t && not (to_come_on passed slot t is_next.1 l k)) ∙ and_no (is_written G d t)))
+          (λ k. is_written G d t && not (l k)) ∙ and-false (is_written G d t)
+          ∙ sym (ap (λ b. b || done passed t) (more_apart t slot l) ∙ (λ k. is_written G d t && not (to_come_on passed slot t is_next.1 l k)) ∙ and-false (is_written G d t)))
 
       pub carries_one : Carries (Some slot) (after_write H i slot (content_at G d slot))
       carries_one =

@@ -9,6 +9,8 @@ use Rattle.wjs_base.specs.declared.ids.WorldId.{WorldId}
 use Rattle.wjs_base.specs.declared.values.Slot.{Slot}
 use Rattle.wjs_base.specs.declared.values.Value.{Value}
 use Rattle.wjs_base.specs.Same.{same_value}
+use Rattle.wjs_base.proofs.Booleans.{by_bool}
+use Rattle.wjs_base.proofs.Options.{with_some}
 use Rattle.wjs_store.specs.Naming.{plain}
 use Rattle.wjs_store.specs.Marked.{is_written}
 use Rattle.wjs_store.specs.Shown.{first_of}
@@ -16,8 +18,8 @@ use Rattle.wjs_store.specs.Meaning.{View, Worlds}
 use Rattle.wjs_store.specs.State.{World, Verdict, same_world, find_world, has_world, parent_of, content_at, has_row, is_touched, is_below, same_content, at_world, after_write, write_at, write_all, reads_of, moves, hand_entries, hand_objects, clear_marks, settle, fault_in, with_parent, verdict_in, verdict_at, after_commit, commit, committed, moved, differs, no_parent}
 use Rattle.wjs_store.proofs.Moved.{Pass, pass, content_after_commit}
 use Rattle.wjs_store.proofs.Refused.{refused_stays}
-use Rattle.wjs_store.proofs.Writes.{by_bool, by_one, same_self, world_is, write_id}
-use Rattle.wjs_store.proofs.Commits.{entries_ids, objects_ids, with_some}
+use Rattle.wjs_store.proofs.Writes.{by_one, same_self, world_is, write_id}
+use Rattle.wjs_store.proofs.Commits.{entries_ids, objects_ids}
 use Rattle.wjs_overlay.specs.Store.{check_of}
 use Rattle.wjs_session.specs.Session.{world_at, first_copy, settled, outer}
 use Rattle.wjs_session.specs.Kept.{IsShut, IsSession}

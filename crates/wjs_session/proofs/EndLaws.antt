@@ -6,6 +6,8 @@ use Rattle.std.proofs.lemmas.Bool.{true≢false, false≢true, or_left, or_right
 use Rattle.wjs_base.specs.declared.ids.WorldId.{WorldId}
 use Rattle.wjs_base.specs.declared.values.Slot.{Slot}
 use Rattle.wjs_base.specs.declared.values.Value.{Value}
+use Rattle.wjs_base.proofs.Booleans.{by_bool}
+use Rattle.wjs_base.proofs.Options.{with_some}
 use Rattle.wjs_store.specs.Naming.{plain}
 use Rattle.wjs_store.specs.Marked.{is_written}
 use Rattle.wjs_store.specs.Reached.{IsReached}
@@ -17,8 +19,8 @@ use Rattle.wjs_store.specs.State.{World, same_world, find_world, parent_of, cont
 use Rattle.wjs_store.proofs.Marks.{none_or_some}
 use Rattle.wjs_store.proofs.Moved.{content_after_commit}
 use Rattle.wjs_store.proofs.RunLaws.{verdict_again}
-use Rattle.wjs_store.proofs.Writes.{by_bool, same_self}
-use Rattle.wjs_store.proofs.Commits.{none_is, with_some}
+use Rattle.wjs_store.proofs.Writes.{same_self}
+use Rattle.wjs_store.proofs.Commits.{none_is}
 use Rattle.wjs_overlay.specs.Store.{check_of}
 use Rattle.wjs_session.specs.Session.{holding, world_at, first_copy, outer, full_of, passes, owned}
 use Rattle.wjs_session.specs.Kept.{IsChild, IsSession}

@@ -7,19 +7,20 @@ use Rattle.std.specs.Cmp.{IsTotalOrder, tied_itself}
 use Rattle.std.specs.List.{AllByRecursion, list_any}
 use Rattle.std.specs.FinMap as map
 use Rattle.std.specs.FinMap.{FinMap}
-use Rattle.std.proofs.lemmas.Bool.{true≢false, false≢true, or_left, or_right}
+use Rattle.std.proofs.lemmas.Bool.{true≢false, false≢true, or_left, or_right, or_parts}
 use Rattle.wjs_base.specs.declared.ids.ObjId.{ObjId}
 use Rattle.wjs_base.specs.declared.ids.WorldId.{WorldId}
 use Rattle.wjs_base.specs.declared.values.Slot.{Slot}
 use Rattle.wjs_base.specs.declared.values.Value.{Value}
 use Rattle.wjs_base.specs.Order.{slot_cmp, slot_total, slot_exact, obj_cmp, obj_total}
 use Rattle.wjs_base.specs.Same.{object_Decides}
+use Rattle.wjs_base.proofs.Booleans.{by_bool}
 use Rattle.wjs_store.specs.Naming.{plain}
 use Rattle.wjs_store.specs.Meaning.{View, Worlds}
 use Rattle.wjs_store.specs.State.{World, same_world, find_world, has_world, content_at, same_object, has_row, is_touched, is_below, put, read_in, read_all, close_in, list_in, slots_in, slots_at, write_in, write_at, after_read, after_list, after_write, count_of, next_id, child_of, after_sprout}
 use Rattle.wjs_store.proofs.States.{find_each, has_each, count_each, length_each, content_each}
 use Rattle.wjs_store.proofs.Marks.{key_is}
-use Rattle.wjs_store.proofs.Writes.{by_bool, get_put, or_false}
+use Rattle.wjs_store.proofs.Writes.{get_put}
 use Rattle.wjs_store.proofs.Ascending.{same_listed}
 use Rattle.wjs_session.specs.Filled.{filled}
 use Rattle.wjs_session.specs.Maps.{get_filled, same_view}

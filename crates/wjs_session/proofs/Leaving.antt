@@ -5,10 +5,13 @@ use Rattle.std.specs.Ordering.{eq_by_cmp}
 use Rattle.std.specs.List.{list_any}
 use Rattle.std.specs.FinMap as map
 use Rattle.std.proofs.lemmas.Bool.{true≢false, false≢true, or_from, false_from_ne_true}
+use Rattle.std.proofs.lemmas.Option.{same_Some}
 use Rattle.wjs_base.specs.declared.ids.WorldId.{WorldId}
 use Rattle.wjs_base.specs.declared.values.Slot.{Slot}
 use Rattle.wjs_base.specs.declared.values.Value.{Value}
 use Rattle.wjs_base.specs.Order.{slot_cmp, slot_exact}
+use Rattle.wjs_base.proofs.Options.{some_map}
+use Rattle.wjs_base.proofs.Booleans.{by_bool}
 use Rattle.wjs_store.specs.Naming.{plain}
 use Rattle.wjs_store.specs.Reached.{IsReached}
 use Rattle.wjs_store.specs.Shown.{first_of, verdict_of}
@@ -19,18 +22,17 @@ use Rattle.wjs_store.specs.declared.store.Verdict.TheVariants.{Moved, Disagrees,
 use Rattle.wjs_store.specs.State as machine
 use Rattle.wjs_store.specs.State.{World, same_world, find_world, has_world, parent_of, content_at, at_world, is_touched, is_below, write_at, after_write, write_all, hand_entries, hand_objects, clear_marks, reads_of, moves, settle, fault_in, with_parent, verdict_at, after_commit, moved, differs, no_parent}
 use Rattle.wjs_store.specs.MarksMoved.{MarksMoved, parts}
-use Rattle.wjs_store.proofs.States.{some_map}
 use Rattle.wjs_store.proofs.Marks.{key_is}
-use Rattle.wjs_store.proofs.Writes.{by_bool, by_one, by_two, same_self, world_is, not_older, has_tail, has_after_write, has_after_commit, reached_write}
-use Rattle.wjs_store.proofs.Commits.{find_nil, find_tail, same_some, below_stops, entries_parents, objects_parents, reached_commit}
+use Rattle.wjs_store.proofs.Writes.{by_one, by_two, same_self, world_is, not_older, has_tail, has_after_write, has_after_commit, reached_write}
+use Rattle.wjs_store.proofs.Commits.{find_nil, find_tail, below_stops, entries_parents, objects_parents, reached_commit}
 use Rattle.wjs_store.proofs.Contents.{content_after_write}
 use Rattle.wjs_store.proofs.Invariant.{same_turned}
 use Rattle.wjs_store.proofs.Moved.{neither, content_after_commit}
 use Rattle.wjs_store.proofs.MovedMarks.{past_at, past_writes}
 use Rattle.wjs_store.proofs.MarksLaw.{marks_moved}
 use Rattle.wjs_store.proofs.Refused.{refused_stays}
-use Rattle.wjs_overlay.specs.Reset.{renewed, after_reset}
-use Rattle.wjs_overlay.proofs.Resetting.{reached_reset}
+use Rattle.wjs_layers.specs.Reset.{renewed, after_reset}
+use Rattle.wjs_layers.proofs.Resetting.{reached_reset}
 use Rattle.wjs_session.specs.Session.{holding, world_at, first_copy, has_child, full_of, around_of}
 use Rattle.wjs_session.specs.Kept.{IsChild, IsSession}
 use Rattle.wjs_session.specs.Returns.{Returns}
@@ -107,7 +109,7 @@ kids_commit i j F = by (with_parent F j)
 
 module _ (F F' : Worlds) (i : WorldId) (r : IsReached F') (c : IsChild F i) (there : has_world F' i ≡ true) (first : first_of F' ≡ first_of F) (leaf : has_child F' i ≡ false) (marks : option_map unseen (find_world F' i) ≡ option_map unseen (find_world F i)) where
   same_unseen : unseen (world_at F' i) ≡ unseen (world_at F i)
-  same_unseen = same_some (unseen (world_at F' i)) (unseen (world_at F i)) (sym (ap (option_map unseen) (found_at F' i there)) ∙ marks ∙ ap (option_map unseen) (found_at F i c.there))
+  same_unseen = same_Some (unseen (world_at F' i)) (unseen (world_at F i)) (sym (ap (option_map unseen) (found_at F' i there)) ∙ marks ∙ ap (option_map unseen) (found_at F i c.there))
 
   -- what is told of a world without what it holds
   up_same : parent_of F' i ≡ parent_of F i
@@ -242,7 +244,7 @@ module _ (F : Worlds) (j : WorldId) (r : IsReached F) (c : IsChild F j) where
         there = λ d e. sym (some_map parts (find_world (after_commit F j) d)) ∙ ap is_some (m.worlds d) ∙ some_map parts (find_world F d);
         returns = λ i e k.
             let b = above F i r k in
-            let same : a.id ≡ b.id = same_some a.id b.id (sym a.first ∙ b.first) in
+            let same : a.id ≡ b.id = same_Some a.id b.id (sym a.first ∙ b.first) in
             let past : same_world i a.id ≡ false = ap (same_world i) same ∙ same_turned b.id i b.other in
             returns_by F (after_commit F j) i (reached_commit F j r) k (has_after_commit F j i k.there) (first_commit F j) (kids_commit i j F ∙ k.leaf) (m.others i e past)
             (λ s t.
@@ -308,7 +310,7 @@ abandons F F' j G k e =
 pub writes : WritesLeaveOthers
 writes F p s c r first i k =
     let b = above F i r k in
-    let same : p ≡ b.id = same_some p b.id (sym first ∙ b.first) in
+    let same : p ≡ b.id = same_Some p b.id (sym first ∙ b.first) in
     let past : same_world i p ≡ false = ap (same_world i) same ∙ same_turned b.id i b.other in
     returns_by F (after_write F p s c) i (reached_write F p s c r) k (has_after_write F p s c i ∙ k.there) (first_write F p s c) (kids_write i p s c F ∙ k.leaf) (past_writes p ((s, c) ∷ []) F i past)
     (λ t u.

@@ -3,16 +3,17 @@ use Rattle.std.proofs.Common.{◌≡◌, Bool, true, false, cond, not, ◌&&◌,
 use Rattle.std.specs.Option.{option_map, option_and_then}
 use Rattle.std.specs.List.{AllByRecursion}
 use Rattle.std.specs.FinMap as map
-use Rattle.std.proofs.lemmas.Bool.{and_parts, and_from, true≢false}
+use Rattle.std.proofs.lemmas.Bool.{and_parts, and_from, true≢false, or_parts}
 use Rattle.wjs_base.specs.declared.ids.ObjId.{ObjId}
 use Rattle.wjs_base.specs.declared.ids.WorldId.{WorldId}
 use Rattle.wjs_base.specs.declared.values.Slot.{Slot}
 use Rattle.wjs_base.specs.Same.{same_value}
+use Rattle.wjs_base.proofs.Booleans.{by_bool}
 use Rattle.wjs_store.specs.Naming.{plain}
 use Rattle.wjs_store.specs.Meaning.{View, Worlds}
 use Rattle.wjs_store.specs.State.{World, same_world, find_world, has_world, content_at, has_row, is_touched, same_content, at_world, read_in, read_all, list_in, slots_in, after_read, after_list}
 use Rattle.wjs_store.proofs.Marks.{marks_read, marks_list}
-use Rattle.wjs_store.proofs.Writes.{by_bool, by_one, or_false}
+use Rattle.wjs_store.proofs.Writes.{by_one}
 use Rattle.wjs_session.specs.Filled.{filled}
 use Rattle.wjs_session.specs.Session.{world_at, first_copy, settled, outer, widened, full_of, passes}
 use Rattle.wjs_session.specs.Kept.{IsShut, IsSession}
@@ -77,7 +78,7 @@ module _ (F : Worlds) (i : WorldId) (G : Worlds) (k : IsSession F i G) (F' : Wor
       view_touched (world_at F' i) (stands_at F' i g.reached g.child).local v s p t (ap (λ m. map.contains_key m s) writes ∙ no_write s u)
     where
       no_write : (s : Slot) → is_touched (world_at F i) s ≡ false → map.contains_key (world_at F i).written s ≡ false
-      no_write s u = (or_false (map.contains_key (world_at F i).first s) (map.contains_key (world_at F i).written s) (fresh_at (world_at F i) s u).row).1
+      no_write s u = (or_parts (map.contains_key (world_at F i).first s) (map.contains_key (world_at F i).written s) (fresh_at (world_at F i) s u).row).1
 
   pub outer_same : (v : View) → passes (world_at F' i) v ≡ true → (s : Slot) → map.get (outer (world_at F' i) v) s ≡ map.get (outer (world_at F i) v) s
   outer_same v p s =

@@ -7,10 +7,11 @@ use Rattle.wjs_base.specs.declared.ids.ObjId.{ObjId}
 use Rattle.wjs_base.specs.declared.ids.WorldId.{WorldId}
 use Rattle.wjs_base.specs.declared.values.Slot.{Slot}
 use Rattle.wjs_base.specs.declared.values.Value.{Value}
+use Rattle.wjs_base.proofs.Booleans.{by_bool}
 use Rattle.wjs_store.specs.Naming.{plain}
 use Rattle.wjs_store.specs.Meaning.{View, Worlds}
 use Rattle.wjs_store.specs.State.{World, same_world, has_world, parent_of, moves, write_all, fault_in, with_parent, read_in, write_in, after_read, after_write, after_list, read, write, list, commit}
-use Rattle.wjs_store.proofs.Writes.{by_bool, same_self, world_is, found_id}
+use Rattle.wjs_store.proofs.Writes.{same_self, world_is, found_id}
 use Rattle.wjs_store.proofs.Commits.{none_is, pair_parts}
 use Rattle.wjs_overlay.specs.Store.{check_of}
 use Rattle.wjs_session.specs.Session.{world_at, settled, outer, full_of}

@@ -4,19 +4,22 @@ use Rattle.std.specs.Ordering.{eq_by_cmp, is_eq}
 use Rattle.std.specs.Cmp.{tied_itself}
 use Rattle.std.specs.List.{list_any}
 use Rattle.std.specs.FinMap as map
-use Rattle.std.proofs.lemmas.Bool.{and_parts, true≢false, false≢true, not-true, or_left, or_right, true_from_ne_false, false_from_ne_true}
+use Rattle.std.proofs.lemmas.Bool.{and_parts, true≢false, false≢true, not-true, or_left, or_right, true_from_ne_false, false_from_ne_true, or_parts}
+use Rattle.std.proofs.Math.Bool.{and-false}
 use Rattle.wjs_base.specs.declared.ids.ObjId.{ObjId}
 use Rattle.wjs_base.specs.declared.ids.WorldId.{WorldId}
 use Rattle.wjs_base.specs.declared.values.Slot.{Slot}
 use Rattle.wjs_base.specs.declared.values.Value.{Value}
 use Rattle.wjs_base.specs.Order.{slot_cmp, slot_total, slot_exact, obj_cmp, obj_total, obj_exact}
 use Rattle.wjs_base.specs.Same.{object_Decides}
+use Rattle.wjs_base.proofs.Options.{none_of, with_some}
+use Rattle.wjs_base.proofs.Booleans.{by_bool}
 use Rattle.wjs_store.specs.Naming.{plain}
 use Rattle.wjs_store.specs.Meaning.{View}
 use Rattle.wjs_store.specs.State.{World, has_row, is_touched, same_object, read_in, read_all, close_in, list_in, slots_in, put, write_in}
 use Rattle.wjs_store.proofs.Marks.{Local, MarksOf, contains_insert, key_is, none_some, or_case, none_or_some, closed_only, any_filter, marks_first, marks_read, marks_read_all, stays_touched, touched_all, marks_closed}
-use Rattle.wjs_store.proofs.Writes.{by_bool, get_put, or_false, local_write}
-use Rattle.wjs_store.proofs.Commits.{row_new, with_some}
+use Rattle.wjs_store.proofs.Writes.{get_put, local_write}
+use Rattle.wjs_store.proofs.Commits.{row_new}
 use Rattle.wjs_session.specs.Session.{passes, owned}
 use Rattle.wjs_session.specs.Owned.{own_recorded, own_hidden}
 use Rattle.wjs_session.specs.Maps.{own_by, get_owned, same_view, view_read, view_closed, passes_by}
@@ -58,10 +61,6 @@ own_base base x t f h =
     ∙ ap (λ o. own_by o (map.contains_key x.closed t.object) (has_row x t) (map.get base t)) f
     ∙ ap (λ b. cond (not b) (map.get base t) None) h
 
-none_at : {A : Type 0} (o : Option A) → is_some o ≡ false → o ≡ None
-none_at None e = refl
-none_at (Some a) e = absurd (true≢false e)
-
 -- what is untouched has no row, is not recorded and is not listed
 pub record Fresh (x : World plain) (t : Slot) : Type 0 where
   pub row : has_row x t ≡ false
@@ -70,12 +69,8 @@ pub record Fresh (x : World plain) (t : Slot) : Type 0 where
 
 pub fresh_at : (x : World plain) (t : Slot) → is_touched x t ≡ false → Fresh x t
 fresh_at x t u =
-    let v = or_false (has_row x t) (map.contains_key x.closed t.object) u in
-    record { row = v.0; closed = v.1; first = none_at (map.get x.first t) (or_false (map.contains_key x.first t) (map.contains_key x.written t) v.0).0 }
-
-and_no : (b : Bool) → (b && false) ≡ false
-and_no true = refl
-and_no false = refl
+    let v = or_parts (has_row x t) (map.contains_key x.closed t.object) u in
+    record { row = v.0; closed = v.1; first = none_of (map.get x.first t) (or_parts (map.contains_key x.first t) (map.contains_key x.written t) v.0).0 }
 
 pub own_fresh : (base : View) (x : World plain) (t : Slot) → is_touched x t ≡ false → map.get (owned x base) t ≡ map.get base t
 own_fresh base x t u = let f = fresh_at x t u in own_base base x t f.first (ap (λ b. b && not (has_row x t)) f.closed)
@@ -174,7 +169,7 @@ module _ (base : View) (x : World plain) (st : Stands base x) (o : ObjId) (none 
       rowed q r =
           get_owned closed_of base t
           ∙ ap (λ b. own_by (map.get x.first t) (map.contains_key (map.insert x.closed o tt) t.object) b (map.get base t)) r
-          ∙ ap (λ b. cond (is_some (map.get x.first t)) (unwrap_or (map.get x.first t) None) (cond (not b) (map.get base t) None)) (and_no (map.contains_key (map.insert x.closed o tt) t.object) ∙ sym (and_no (map.contains_key x.closed t.object)))
+          ∙ ap (λ b. cond (is_some (map.get x.first t)) (unwrap_or (map.get x.first t) None) (cond (not b) (map.get base t) None)) (and-false (map.contains_key (map.insert x.closed o tt) t.object) ∙ sym (and-false (map.contains_key x.closed t.object)))
           ∙ ap (λ b. own_by (map.get x.first t) (map.contains_key x.closed t.object) b (map.get base t)) (sym r)
           ∙ sym (get_owned x base t)
 
@@ -263,9 +258,9 @@ module _ (base : View) (x : World plain) (st : Stands base x) (s : Slot) (c : Op
   recorded_same h = ap (λ b. map.get (cond b (map.insert x.first s (map.get x.copy s)) x.first) s) (no (is_some x.parent) (has_row x s) (map.contains_key x.closed s.object) h)
     where
       no : (a r cl : Bool) → (cl && not r) ≡ false → (a && (not r && (cl || x.strict))) ≡ false
-      no a true cl h = and_no a
+      no a true cl h = and-false a
       no a false true h = absurd (true≢false h)
-      no a false false h = ap (λ b. a && b) st.plain ∙ and_no a
+      no a false false h = ap (λ b. a && b) st.plain ∙ and-false a
 
   own_here : map.get (owned (write_in s c x) base) s ≡ map.get (owned x base) s
   own_here = by_bool (map.contains_key x.closed s.object && not (has_row x s))
@@ -275,7 +270,7 @@ module _ (base : View) (x : World plain) (st : Stands base x) (s : Slot) (c : Op
       own_recorded base (write_in s c x) s None (recorded_none v.0 r) ∙ sym (own_hidden base x s v.0 r))
       (λ h. none_or_some (map.get x.first s)
       (λ e.
-      own_base base (write_in s c x) s (recorded_same h ∙ e) (ap (λ b. map.contains_key x.closed s.object && not b) (row_new s c x s st.child (ap is_eq (tied_itself slot_total s))) ∙ and_no (map.contains_key x.closed s.object))
+      own_base base (write_in s c x) s (recorded_same h ∙ e) (ap (λ b. map.contains_key x.closed s.object && not b) (row_new s c x s st.child (ap is_eq (tied_itself slot_total s))) ∙ and-false (map.contains_key x.closed s.object))
       ∙ sym (own_base base x s e h))
       (λ e. get_owned (write_in s c x) base s
       ∙ ap (λ o. own_by o (map.contains_key x.closed s.object) (has_row (write_in s c x) s) (map.get base s)) (recorded_same h)
@@ -295,7 +290,7 @@ module _ (base : View) (x : World plain) (st : Stands base x) (s : Slot) (c : Op
           let is = key_is slot_exact t s q in
           let row : has_row x s ≡ true = or_left (map.contains_key x.first s) (map.contains_key x.written s) (ap (λ (k : Slot). map.contains_key x.first k) (sym is) ∙ ap is_some e) in
           ap (map.get (write_in s c x).first) is
-          ∙ recorded_same (ap (λ b. map.contains_key x.closed s.object && not b) row ∙ and_no (map.contains_key x.closed s.object))
+          ∙ recorded_same (ap (λ b. map.contains_key x.closed s.object && not b) row ∙ and-false (map.contains_key x.closed s.object))
           ∙ ap (map.get x.first) (sym is) ∙ e)
           (λ q. first_other t q ∙ e))
 

@@ -6,10 +6,10 @@ use Rattle.std.specs.FinMap as map
 use Rattle.wjs_base.specs.declared.ids.WorldId.{WorldId}
 use Rattle.wjs_base.specs.declared.values.Slot.{Slot}
 use Rattle.wjs_base.specs.Same.{same_value}
+use Rattle.wjs_base.proofs.Booleans.{by_bool}
 use Rattle.wjs_store.specs.Naming.{plain}
 use Rattle.wjs_store.specs.Meaning.{Meaning, View, Worlds, PlainAct, PlainReply, unseen}
 use Rattle.wjs_store.specs.State.{World, is_touched, same_content, fault_in}
-use Rattle.wjs_store.proofs.Writes.{by_bool}
 use Rattle.wjs_session.specs.Session.{holding, world_at, first_copy, settled, outer, full_of, passes, session}
 use Rattle.wjs_session.specs.Kept.{IsShut, IsSession}
 use Rattle.wjs_session.specs.Stores.{worlds_in}

@@ -3,18 +3,19 @@ use Rattle.std.proofs.Common.{◌≡◌, Bool, true, false, cond, not, ◌&&◌,
 use Rattle.std.specs.Option.{option_map, option_map_or, option_and_then, is_none}
 use Rattle.std.specs.List.{AllByRecursion}
 use Rattle.std.specs.FinMap as map
-use Rattle.std.proofs.lemmas.Bool.{true≢false, false≢true, or_left, or_right}
+use Rattle.std.proofs.lemmas.Bool.{true≢false, false≢true, or_left, or_right, or_parts}
+use Rattle.std.proofs.lemmas.List.Elements.{filter-append}
 use Rattle.wjs_base.specs.declared.ids.ObjId.{ObjId}
 use Rattle.wjs_base.specs.declared.ids.WorldId.{WorldId}
 use Rattle.wjs_base.specs.declared.values.Slot.{Slot}
 use Rattle.wjs_base.specs.declared.values.Value.{Value}
 use Rattle.wjs_base.specs.Order.{slot_cmp, slot_total, slot_exact, obj_cmp, obj_total, obj_exact}
 use Rattle.wjs_base.specs.Same.{same_value}
+use Rattle.wjs_base.proofs.Booleans.{by_bool}
 use Rattle.wjs_store.specs.Naming.{plain}
 use Rattle.wjs_store.specs.Meaning.{View, Worlds}
 use Rattle.wjs_store.specs.State.{World, Verdict, same_world, find_world, has_row, is_touched, same_content, least, fails, fault_in, reads_of, hand_entries, hand_objects, clear_marks, moves, write_all, at_world, settle, with_parent, verdict_in, verdict_at, after_commit, after_write, moved, differs, no_parent}
 use Rattle.wjs_store.proofs.Ascending.{same_listed}
-use Rattle.wjs_store.proofs.Writes.{by_bool, or_false}
 use Rattle.wjs_store.proofs.Commits.{pairs, hand_one, hand_on, close_on, pair_parts}
 use Rattle.wjs_session.specs.Kept.{IsShut}
 use Rattle.wjs_session.specs.Along.{moved_into}
@@ -23,14 +24,6 @@ use Rattle.wjs_session.proofs.ShutCommits.{written_pass, shut_settle}
 use Rattle.wjs_session.proofs.Filling.{fill_at, filled_write}
 use Rattle.wjs_session.specs.Fills.{fill, fill_cond, get_fill, get_outside, find_fill}
 
-filter_append : {K : Type 0} (p : K → Bool) (xs ys : List K) → filter p (xs ++ ys) ≡ filter p xs ++ filter p ys
-filter_append p [] ys = refl
-filter_append p (x ∷ xs) ys = by (p x) (filter_append p xs ys)
-  where
-    by : (b : Bool) → filter p (xs ++ ys) ≡ filter p xs ++ filter p ys → cond b (x ∷ filter p (xs ++ ys)) (filter p (xs ++ ys)) ≡ cond b (x ∷ filter p xs) (filter p xs) ++ filter p ys
-    by true e = ap (λ zs. x ∷ zs) e
-    by false e = e
-
 module _ (w : Slot → Bool) (o : View) where
   -- ---- the check
 
@@ -38,8 +31,8 @@ module _ (w : Slot → Bool) (o : View) where
     -- what doesn't pass the test of slots doesn't fail the check
     passed : (z : World plain) (s : Slot) → w s ≡ false → fails x z s ≡ false
     passed z s e =
-        let u = or_false (has_row x s) (map.contains_key x.closed s.object) (shut.untouched s e) in
-        let r = or_false (map.contains_key x.first s) (map.contains_key x.written s) u.0 in
+        let u = or_parts (has_row x s) (map.contains_key x.closed s.object) (shut.untouched s e) in
+        let r = or_parts (map.contains_key x.first s) (map.contains_key x.written s) u.0 in
         ap (λ b. option_map_or (λ c. not (same_content same_value c (map.get z.copy s))) (map.get x.first s) false || (b && (map.contains_key z.copy s && not (has_row x s)))) u.1
         ∙ none (map.get x.first s) r.0
       where
@@ -55,11 +48,11 @@ module _ (w : Slot → Bool) (o : View) where
     pub fault_fill : fault_in (fill w o x) (fill w o y) ≡ fault_in x y
     fault_fill =
         (λ k. least slot_cmp (filter (λ s. fails_fill s k) (map.keys x.first ++ map.keys (fill w o y).copy)))
-        ∙ ap (least slot_cmp) (filter_append (fails x y) (map.keys x.first) (map.keys (fill w o y).copy)
+        ∙ ap (least slot_cmp) (filter-append (fails x y) (map.keys x.first) (map.keys (fill w o y).copy)
         ∙ ap (λ ss. filter (fails x y) (map.keys x.first) ++ ss) (same_listed slot_total slot_exact (fails x y) (fill w o y).copy y.copy (λ t e. by_bool (w t)
         (λ h. ap is_some (get_fill w o y t h))
         (λ h. absurd (true≢false (sym e ∙ passed y t h)))))
-        ∙ sym (filter_append (fails x y) (map.keys x.first) (map.keys y.copy)))
+        ∙ sym (filter-append (fails x y) (map.keys x.first) (map.keys y.copy)))
 
   -- ---- what a commit moves
 

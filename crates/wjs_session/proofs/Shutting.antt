@@ -7,17 +7,18 @@ use Rattle.std.specs.Cmp.{IsTotalOrder, tied_itself}
 use Rattle.std.specs.List.{AllByRecursion, list_any}
 use Rattle.std.specs.FinMap as map
 use Rattle.std.specs.FinMap.{FinMap}
-use Rattle.std.proofs.lemmas.Bool.{true≢false, false≢true, or_left, or_right, true_from_ne_false}
+use Rattle.std.proofs.lemmas.Bool.{true≢false, false≢true, or_left, or_right, true_from_ne_false, or_parts}
 use Rattle.wjs_base.specs.declared.ids.ObjId.{ObjId}
 use Rattle.wjs_base.specs.declared.ids.WorldId.{WorldId}
 use Rattle.wjs_base.specs.declared.values.Slot.{Slot}
 use Rattle.wjs_base.specs.declared.values.Value.{Value}
 use Rattle.wjs_base.specs.Order.{slot_cmp, slot_total, slot_exact, obj_cmp, obj_total, obj_exact}
+use Rattle.wjs_base.proofs.Booleans.{by_bool}
 use Rattle.wjs_store.specs.Naming.{plain}
 use Rattle.wjs_store.specs.Meaning.{Worlds}
 use Rattle.wjs_store.specs.State.{World, same_world, find_world, has_row, is_touched, is_below, put, read_in, read_all, close_in, list_in, slots_in, write_in, write_at, at_world, after_read, after_list, after_write, next_id, child_of, after_sprout}
 use Rattle.wjs_store.proofs.Marks.{contains_insert, key_is}
-use Rattle.wjs_store.proofs.Writes.{by_bool, get_put, or_false}
+use Rattle.wjs_store.proofs.Writes.{get_put}
 use Rattle.wjs_session.specs.Kept.{IsShut}
 use Rattle.wjs_session.proofs.Worlds.{all_each, all_find}
 

@@ -11,6 +11,7 @@ use Rattle.wjs_base.specs.declared.ids.WorldId.{WorldId}
 use Rattle.wjs_base.specs.declared.values.Slot.{Slot}
 use Rattle.wjs_base.specs.declared.values.Value.{Value}
 use Rattle.wjs_base.specs.Order.{slot_cmp, slot_total, slot_exact}
+use Rattle.wjs_base.proofs.Booleans.{both_true}
 use Rattle.wjs_store.specs.Naming.{plain}
 use Rattle.wjs_store.specs.Ascends.{tagged}
 use Rattle.wjs_store.specs.Marked.{is_written}
@@ -18,10 +19,10 @@ use Rattle.wjs_store.specs.Meaning.{Worlds}
 use Rattle.wjs_store.specs.State.{World, has_world, content_at, moves, write_all, after_write}
 use Rattle.wjs_store.proofs.Ascending.{untagged, find_tag, ascends_filter, any_passing, firsts}
 use Rattle.wjs_overlay.specs.Check.{IsLeast}
-use Rattle.wjs_overlay.specs.Cursor.{to_come}
-use Rattle.wjs_overlay.proofs.Cursors.{not_back}
+use Rattle.wjs_layers.specs.Cursor.{to_come}
+use Rattle.wjs_layers.proofs.Cursors.{not_back}
 use Rattle.wjs_overlay.proofs.Keyed.{by_order}
-use Rattle.wjs_overlay.proofs.Scans.{to_come_on}
+use Rattle.wjs_layers.proofs.Scans.{to_come_on}
 use Rattle.wjs_session.specs.Session.{world_at}
 use Rattle.wjs_session.proofs.Worlds.{found_at, content_is}
 use Rattle.wjs_session.proofs.CarryLaws.{less_apart, more_apart}
@@ -42,17 +43,13 @@ swapped true false h = refl
 swapped false true h = refl
 swapped false false h = refl
 
-both : (a b : Bool) → T a → T b → T (a && b)
-both true b p q = q
-both false b p q = p
-
 -- a slot is below those that come after it
 below_later : (slot : Slot) (ss : List Slot) → T (below_all slot_cmp slot (tagged (filter (to_come (Some slot)) ss)))
 below_later slot [] = tt
 below_later slot (s ∷ ss) = by (is_lt (slot_cmp slot s)) refl (below_later slot ss)
   where
     by : (b : Bool) → is_lt (slot_cmp slot s) ≡ b → T (below_all slot_cmp slot (tagged (filter (to_come (Some slot)) ss))) → T (below_all slot_cmp slot (tagged (cond b (s ∷ filter (to_come (Some slot)) ss) (filter (to_come (Some slot)) ss))))
-    by true h r = both (is_lt (slot_cmp slot s)) (below_all slot_cmp slot (tagged (filter (to_come (Some slot)) ss))) (subst T (sym h) tt) r
+    by true h r = both_true (is_lt (slot_cmp slot s)) (below_all slot_cmp slot (tagged (filter (to_come (Some slot)) ss))) (subst T (sym h) tt) r
     by false h r = r
 
 module _ (G : Worlds) (d : WorldId) where
@@ -101,7 +98,7 @@ module _ (G : Worlds) (d : WorldId) (there : has_world G d ≡ true) where
           sym (untagged ss)
           ∙ ap firsts (same_entries slot_cmp slot_total slot_exact (tagged ss) (tagged ts)
           (ascends_filter slot_cmp (to_come passed) (map.entries m) (map.entries_sorted m))
-          (both (below_all slot_cmp slot (tagged (filter (to_come (Some slot)) (map.keys m)))) (map.is_sorted slot_cmp (tagged (filter (to_come (Some slot)) (map.keys m)))) (below_later slot (map.keys m)) (ascends_filter slot_cmp (to_come (Some slot)) (map.entries m) (map.entries_sorted m)))
+          (both_true (below_all slot_cmp slot (tagged (filter (to_come (Some slot)) (map.keys m)))) (map.is_sorted slot_cmp (tagged (filter (to_come (Some slot)) (map.keys m)))) (below_later slot (map.keys m)) (ascends_filter slot_cmp (to_come (Some slot)) (map.entries m) (map.entries_sorted m)))
           (λ q. find_tag slot_cmp q ss ∙ ap (λ b. cond b (Some tt) None) (there_alike q) ∙ sym (find_tag slot_cmp q ts)))
           ∙ untagged ts
 

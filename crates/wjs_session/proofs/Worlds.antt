@@ -3,18 +3,19 @@ use Rattle.std.proofs.Common.{◌≡◌, Bool, true, false, cond, not, ◌&&◌,
 use Rattle.std.specs.Option.{option_map, option_map_or, option_and_then}
 use Rattle.std.specs.List.{AllByRecursion, list_any}
 use Rattle.std.specs.FinMap as map
-use Rattle.std.proofs.lemmas.Bool.{true≢false, false≢true}
+use Rattle.std.proofs.lemmas.Bool.{true≢false, false≢true, or_parts}
 use Rattle.wjs_base.specs.declared.ids.WorldId.{WorldId}
 use Rattle.wjs_base.specs.declared.values.Slot.{Slot}
 use Rattle.wjs_base.specs.declared.values.Value.{Value}
 use Rattle.wjs_base.specs.Order.{slot_cmp}
+use Rattle.wjs_base.proofs.Booleans.{by_bool}
 use Rattle.wjs_store.specs.Naming.{plain}
 use Rattle.wjs_store.specs.Reached.{IsReached}
 use Rattle.wjs_store.specs.Shown.{first_of}
 use Rattle.wjs_store.specs.Meaning.{View, Worlds}
 use Rattle.wjs_store.specs.State.{World, same_world, find_world, has_world, parent_of, content_at, at_world, is_touched, is_below, put, write_in, write_at, after_write}
 use Rattle.wjs_store.proofs.States.{find_each}
-use Rattle.wjs_store.proofs.Writes.{by_bool, by_one, or_false, same_self, world_is, found_id, has_head, has_tail, not_older}
+use Rattle.wjs_store.proofs.Writes.{by_one, same_self, world_is, found_id, has_head, has_tail, not_older}
 use Rattle.wjs_store.proofs.Commits.{find_nil, parent_other}
 use Rattle.wjs_store.proofs.Invariant.{same_turned}
 use Rattle.wjs_store.proofs.MovedMarks.{past_at}
@@ -140,7 +141,7 @@ below_leaf : (i : WorldId) (s : Slot) (G : Worlds) (d : WorldId) → has_child G
 unfolding is_below
 below_leaf i s [] d h = refl
 below_leaf i s (y ∷ older) d h =
-    let v = or_false (option_map_or (λ p. same_world p i) y.parent false) (has_child older i) h in
+    let v = or_parts (option_map_or (λ p. same_world p i) y.parent false) (has_child older i) h in
     by (same_world y.id d) (not (is_touched y s)) (up y.parent v.0 (λ p. below_leaf i s older p v.1)) (below_leaf i s older d v.1)
   where
     up : (o : Option WorldId) → option_map_or (λ p. same_world p i) o false ≡ false → ((p : WorldId) → is_below i s older p ≡ false) → option_map_or (λ p. same_world p i || is_below i s older p) o false ≡ false

@@ -11,6 +11,7 @@ use Rattle.wjs_base.specs.declared.values.Slot.{Slot}
 use Rattle.wjs_base.specs.declared.values.Value.{Value}
 use Rattle.wjs_base.specs.Order.{slot_cmp, slot_total, slot_exact, obj_cmp}
 use Rattle.wjs_base.specs.Same.{same_value}
+use Rattle.wjs_base.proofs.Booleans.{by_bool}
 use Rattle.wjs_store.specs.Naming.{plain}
 use Rattle.wjs_store.specs.Reached.{IsReached}
 use Rattle.wjs_store.specs.Shown.{first_of}
@@ -18,7 +19,7 @@ use Rattle.wjs_store.specs.Meaning.{View, Worlds}
 use Rattle.wjs_store.specs.State.{World, same_world, has_world, content_at, has_row, is_touched, same_content, is_below, put, write_in, write_at, after_write, write, wrote}
 use Rattle.wjs_store.proofs.Contents.{content_after_write}
 use Rattle.wjs_store.proofs.Marks.{key_is}
-use Rattle.wjs_store.proofs.Writes.{by_bool, same_self, world_is, get_put, get_none, write_id, has_after_write, reached_write}
+use Rattle.wjs_store.proofs.Writes.{same_self, world_is, get_put, get_none, write_id, has_after_write, reached_write}
 use Rattle.wjs_session.specs.Filled.{filled}
 use Rattle.wjs_session.specs.Session.{world_at, first_copy, settled, outer, full_of, passes, session}
 use Rattle.wjs_session.specs.Kept.{IsShut, IsSession, IsAlone}

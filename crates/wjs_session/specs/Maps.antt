@@ -8,16 +8,17 @@ use Rattle.std.specs.Cmp.{IsTotalOrder}
 use Rattle.std.specs.List.{list_any}
 use Rattle.std.specs.FinMap as map
 use Rattle.std.specs.FinMap.{FinMap, IsAntisymmetric}
-use Rattle.std.proofs.lemmas.Bool.{true≢false, false≢true}
+use Rattle.std.proofs.lemmas.Bool.{true≢false, false≢true, or_parts}
 use Rattle.wjs_base.specs.declared.values.Slot.{Slot}
 use Rattle.wjs_base.specs.declared.values.Value.{Value}
 use Rattle.wjs_base.specs.Order.{slot_cmp, slot_total, slot_exact}
 use Rattle.wjs_base.specs.Same.{same_value, value_Decides}
+use Rattle.wjs_base.proofs.Booleans.{by_bool}
 use Rattle.wjs_store.specs.Naming.{Naming, plain}
 use Rattle.wjs_store.specs.Meaning.{View}
 use Rattle.wjs_store.specs.State.{World, put, has_row, is_touched, same_content, fails, fault_in, least}
 use Rattle.wjs_store.proofs.Marks.{key_is}
-use Rattle.wjs_store.proofs.Writes.{by_bool, get_put, or_false}
+use Rattle.wjs_store.proofs.Writes.{get_put}
 use Rattle.wjs_store.proofs.Commits.{pairs, no_fault, agree_read, agree_closed, none_is}
 use Rattle.wjs_session.specs.Filled.{filled}
 use Rattle.wjs_session.specs.Along.{put_all, own_of}

@@ -9,7 +9,7 @@ use Rattle.wjs_store.specs.Shown.{first_of}
 use Rattle.wjs_store.specs.Reached.{IsReached}
 use Rattle.wjs_store.specs.Meaning.{View, Worlds}
 use Rattle.wjs_store.specs.declared.store.Verdict.{Verdict}
-use Rattle.wjs_overlay.specs.Reset.{after_reset}
+use Rattle.wjs_layers.specs.Reset.{after_reset}
 use Rattle.wjs_session.specs.Session.{holding, world_at, first_copy, full_of, around_of}
 use Rattle.wjs_session.specs.Kept.{IsChild, IsSession}
 use Rattle.wjs_session.specs.Returns.{Returns}

@@ -1,13 +1,12 @@
 -- A session's own view is admitted.
 use Rattle.std.proofs.Common.{◌≡◌, true, false, refl, ap, ◌∙◌, Option, None, Some, is_some}
 use Rattle.std.specs.FinMap as map
-use Rattle.std.proofs.lemmas.Bool.{true≢false}
+use Rattle.std.proofs.lemmas.Bool.{true≢false, or_parts}
 use Rattle.wjs_base.specs.declared.values.Slot.{Slot}
 use Rattle.wjs_base.specs.declared.values.Value.{Value}
 use Rattle.wjs_store.specs.Naming.{plain}
 use Rattle.wjs_store.specs.Meaning.{View}
 use Rattle.wjs_store.specs.State.{World, has_row}
-use Rattle.wjs_store.proofs.Writes.{or_false}
 use Rattle.wjs_session.specs.Session.{passes, owned}
 use Rattle.wjs_session.specs.Maps.{own_by, get_owned, passes_by}
 
@@ -26,7 +25,7 @@ own_hidden base x t c r =
     none_of (Some a) e = absurd (true≢false e)
 
     no_read : (x : World plain) (t : Slot) → has_row x t ≡ false → map.get x.first t ≡ None
-    no_read x t r = none_of (map.get x.first t) (or_false (map.contains_key x.first t) (map.contains_key x.written t) r).0
+    no_read x t r = none_of (map.get x.first t) (or_parts (map.contains_key x.first t) (map.contains_key x.written t) r).0
 
 -- a session's own view is admitted
 pub own_passes : (base : View) (x : World plain) → passes x (owned x base) ≡ true

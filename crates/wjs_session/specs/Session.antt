@@ -11,7 +11,7 @@ use Rattle.wjs_store.specs.Naming.{plain}
 use Rattle.wjs_store.specs.State.{World, find_world, is_touched, same_content, fault_in, at_world}
 use Rattle.wjs_store.specs.Shown.{first_of}
 use Rattle.wjs_store.specs.Meaning.{Meaning, View, Worlds, PlainAct, PlainReply}
-pub use Rattle.wjs_overlay.specs.Reset.{has_child}
+pub use Rattle.wjs_layers.specs.Reset.{has_child}
 use Rattle.wjs_session.specs.Filled.{filled}
 use Rattle.wjs_session.specs.Along.{own_of}
 

@@ -6,12 +6,12 @@ use Rattle.std.specs.FinMap as map
 use Rattle.std.proofs.lemmas.Bool.{true≢false, false≢true, or_left, or_right, true_from_ne_false}
 use Rattle.wjs_base.specs.declared.ids.WorldId.{WorldId}
 use Rattle.wjs_base.specs.declared.values.Slot.{Slot}
+use Rattle.wjs_base.proofs.Booleans.{by_bool}
 use Rattle.wjs_store.specs.Naming.{plain}
 use Rattle.wjs_store.specs.Reached.{IsReached}
 use Rattle.wjs_store.specs.Meaning.{View, Worlds, PlainAct, PlainReply, IsSound, unseen}
 use Rattle.wjs_store.specs.State.{World, find_world, has_world, content_at, has_row, is_touched}
 use Rattle.wjs_store.proofs.States.{count_each, length_each}
-use Rattle.wjs_store.proofs.Writes.{by_bool}
 use Rattle.wjs_session.specs.Session.{world_at, first_copy, settled, outer, full_of, session}
 use Rattle.wjs_session.specs.Kept.{IsShut, IsSession}
 use Rattle.wjs_session.specs.Fills.{each_twice, fill, get_fill, get_outside, find_fill, has_fill, content_fill}

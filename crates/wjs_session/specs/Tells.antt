@@ -12,7 +12,7 @@ use Rattle.wjs_base.specs.Order.{slot_cmp, obj_cmp}
 use Rattle.wjs_store.specs.Naming.{plain}
 use Rattle.wjs_store.specs.State.{World, KeySet}
 use Rattle.wjs_store.specs.Meaning.{View, Worlds, PlainAct, PlainReply}
-use Rattle.wjs_overlay.specs.Codes.{coded_slot, coded_object, coded_world}
+use Rattle.wjs_base.specs.Codes.{coded_slot, coded_object, coded_world}
 use Rattle.wjs_session.specs.Session.{holding, outer, full_of, passes}
 use Rattle.wjs_session.specs.Along.{along}
 

@@ -6,29 +6,17 @@
 ghost use Rattle.std.specs.Prelude.{◌≡◌, true, false, IsTrue, OnOk, IfOk};
 ghost use Rattle.std.specs.List.{AllByRecursion};
 ghost use Rattle.wjs_base.specs.declared.values.Slot.{Slot};
-ghost use Rattle.wjs_store.specs.State.{has_world, parent_of, read, write, list, commit, found, wrote, listed, committed, same_content, after_read};
+ghost use Rattle.wjs_store.specs.State.{has_world, parent_of, read, write, list, commit, found, wrote, listed, committed, after_read};
 ghost use Rattle.wjs_store.specs.Shown.{content_of, slots_of, verdict_of};
-ghost use Rattle.wjs_base.specs.Same.{same_value};
 ghost use Rattle.wjs_session.specs.Stores.{worlds_in};
 ghost use Rattle.wjs_session.specs.Session.{world_at, settled};
 ghost use Rattle.wjs_session.specs.Kept.{IsSession, IsAlone};
 ghost use Rattle.wjs_session.specs.Calls.{Answered, Brought, Marks, AllTouched};
 
 use crate::carry::{carry, moves_into};
-use wjs_base::{Content, Names, ObjId, OutOfMemory, Slot, WorldId, same_value};
+use wjs_base::{Content, Names, ObjId, OutOfMemory, Slot, WorldId};
 use wjs_overlay::Overlay;
-use wjs_store::{Verdict, WorldStore};
-
-/// Both absent, or one value.
-fn same_content(a: Content, b: Content) -> bool
-    ensures { result ≡ same_content same_value (content_of a) (content_of b) }
-{
-    match (a, b) {
-        (Content::Absent, Content::Absent) => true,
-        (Content::Present(a), Content::Present(b)) => same_value(a, b),
-        _ => false,
-    }
-}
+use wjs_store::{Verdict, WorldStore, same_content};
 
 /// Brings what the session's world holds in a slot into the inner store.
 fn bring(
@@ -61,7 +49,8 @@ fn bring_all(
 ) -> Result<(), OutOfMemory>
     requires kept { IsSession (worlds_in shared.old) world (worlds_in inner.old) }
     ensures brought { OnOk result (Brought (worlds_in shared.old) world (worlds_in inner.old) (worlds_in shared.new) (worlds_in inner.new)) }
-    ensures settled { OnOk result (AllByRecursion (λ (s : Slot). settled (world_at (worlds_in shared.new) world) (worlds_in inner.new) s ≡ true) (slots_of object names.now)) }
+    ensures settled { OnOk result (AllByRecursion
+        (λ (s : Slot). settled (world_at (worlds_in shared.new) world) (worlds_in inner.new) s ≡ true) (slots_of object names.now)) }
     ensures stays { OnOk result (AllTouched (worlds_in shared.old) world object → worlds_in shared.new ≡ worlds_in shared.old) }
     ensures works { OnOk result ((shared.new.spent ≡ shared.old.spent) × (inner.new.spent ≡ inner.old.spent)) }
 {
@@ -81,7 +70,8 @@ pub fn read(
 ) -> Result<Content, OutOfMemory>
     requires kept { IsSession (worlds_in shared.old) world (worlds_in inner.old) }
     requires there { IsTrue (has_world (worlds_in inner.old) at) }
-    ensures answered { IfOk result (λ content. Answered (worlds_in shared.old) world (worlds_in inner.old) (read at slot) (found (content_of content)) (worlds_in shared.new) (worlds_in inner.new)) }
+    ensures answered { IfOk result (λ content. Answered (worlds_in shared.old) world (worlds_in inner.old)
+        (read at slot) (found (content_of content)) (worlds_in shared.new) (worlds_in inner.new)) }
     ensures marks { OnOk result (Marks (worlds_in shared.old) world (worlds_in inner.old) (read at slot) (worlds_in shared.new)) }
     ensures alone { OnOk result (IsAlone (worlds_in inner.old) → IsAlone (worlds_in inner.new)) }
     ensures works { OnOk result ((shared.new.spent ≡ shared.old.spent) × (inner.new.spent ≡ inner.old.spent)) }
@@ -106,7 +96,8 @@ pub fn write(
     requires kept { IsSession (worlds_in shared.old) world (worlds_in inner.old) }
     requires there { IsTrue (has_world (worlds_in inner.old) at) }
     requires alone { nested ≡ false → IsAlone (worlds_in inner.old) }
-    ensures answered { OnOk result (Answered (worlds_in shared.old) world (worlds_in inner.old) (write at slot (content_of content)) wrote (worlds_in shared.new) (worlds_in inner.new)) }
+    ensures answered { OnOk result (Answered (worlds_in shared.old) world (worlds_in inner.old)
+        (write at slot (content_of content)) wrote (worlds_in shared.new) (worlds_in inner.new)) }
     ensures marks { OnOk result (Marks (worlds_in shared.old) world (worlds_in inner.old) (write at slot (content_of content)) (worlds_in shared.new)) }
     ensures alone { OnOk result (nested ≡ false → IsAlone (worlds_in inner.new)) }
     ensures works { OnOk result ((shared.new.spent ≡ shared.old.spent) × (inner.new.spent ≡ inner.old.spent)) }
@@ -131,7 +122,8 @@ pub fn list(
 ) -> Result<Names, OutOfMemory>
     requires kept { IsSession (worlds_in shared.old) world (worlds_in inner.old) }
     requires there { IsTrue (has_world (worlds_in inner.old) at) }
-    ensures answered { IfOk result (λ names. Answered (worlds_in shared.old) world (worlds_in inner.old) (list at object) (listed (slots_of object names)) (worlds_in shared.new) (worlds_in inner.new)) }
+    ensures answered { IfOk result (λ names. Answered (worlds_in shared.old) world (worlds_in inner.old)
+        (list at object) (listed (slots_of object names)) (worlds_in shared.new) (worlds_in inner.new)) }
     ensures marks { OnOk result (Marks (worlds_in shared.old) world (worlds_in inner.old) (list at object) (worlds_in shared.new)) }
     ensures alone { OnOk result (IsAlone (worlds_in inner.old) → IsAlone (worlds_in inner.new)) }
     ensures works { OnOk result ((shared.new.spent ≡ shared.old.spent) × (inner.new.spent ≡ inner.old.spent)) }
@@ -154,7 +146,8 @@ pub fn commit(
     requires live { inner.old.spent ≡ false }
     requires kept { IsSession (worlds_in shared.old) world (worlds_in inner.old) }
     requires there { IsTrue (has_world (worlds_in inner.old) at) }
-    ensures answered { IfOk result (λ verdict. Answered (worlds_in shared.old) world (worlds_in inner.old) (commit at) (committed (verdict_of verdict)) (worlds_in shared.new) (worlds_in inner.new)) }
+    ensures answered { IfOk result (λ verdict. Answered (worlds_in shared.old) world (worlds_in inner.old)
+        (commit at) (committed (verdict_of verdict)) (worlds_in shared.new) (worlds_in inner.new)) }
     ensures marks { OnOk result (Marks (worlds_in shared.old) world (worlds_in inner.old) (commit at) (worlds_in shared.new)) }
     ensures alone { OnOk result (IsAlone (worlds_in inner.old) → IsAlone (worlds_in inner.new)) }
     ensures works { OnOk result ((shared.new.spent ≡ shared.old.spent) × (inner.new.spent ≡ inner.old.spent)) }

@@ -3,7 +3,8 @@
 //! Laws, each the contract of a function that does nothing. Who lets sessions take turns keeps of each that rests that it rests
 //! over the shared worlds as they now stand (`Rests`): `rest` gives it, what others do leaves it so, and `resume` asks for it. What
 //! the session would mean, were it resumed (`resumed`), can be spoken of without a session.
-ghost use Rattle.wjs_session.specs.Others.{TurnsLeaveOthers, BeginsLeaveOthers, EndsLeaveOthers, AbandonsLeaveOthers, WritesLeaveOthers, ReturnsCompose, NumbersByOwner};
+ghost use Rattle.wjs_session.specs.Others.{TurnsLeaveOthers, BeginsLeaveOthers, EndsLeaveOthers, AbandonsLeaveOthers, WritesLeaveOthers};
+ghost use Rattle.wjs_session.specs.Others.{ReturnsCompose, NumbersByOwner};
 ghost use Rattle.wjs_session.specs.Resumed.{RestingStandsStill, RestingIsSound};
 
 /// What a session does between two rests, or before its end, leaves the others' worlds and what the first world holds.

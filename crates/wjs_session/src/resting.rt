@@ -68,7 +68,8 @@ impl Resting {
         ensures world { result.world ≡ self.world }
         ensures shared { result.shared ≡ shared }
         ensures works { result.spent ≡ false }
-        ensures same { IsTheSame (worlds_in shared) self.world (worlds_in self.inner) (told_of self.told.chain.value) (⟦<Session as WorldStore>⟧.meaning result) }
+        ensures same { IsTheSame (worlds_in shared) self.world (worlds_in self.inner)
+            (told_of self.told.chain.value) (⟦<Session as WorldStore>⟧.meaning result) }
     {
         let Resting {
             inner,

@@ -29,7 +29,9 @@ pub struct Session {
     ghost works: { spent ≡ false → (shared.spent ≡ false) × (inner.spent ≡ false) },
     ghost kept: { spent ≡ false → IsSession (worlds_in shared) world (worlds_in inner) } by { session_prop spent (worlds_in shared) world (worlds_in inner) },
     ghost alone: { spent ≡ false → nested ≡ false → IsAlone (worlds_in inner) } by { alone_prop spent nested (worlds_in inner) },
-    ghost marks: { spent ≡ false → TellsMarks (world_at (worlds_in shared) world) (worlds_in inner) (told_of told.chain.value) } by { tells_prop spent (world_at (worlds_in shared) world) (worlds_in inner) (told_of told.chain.value) },
+    ghost marks: { spent ≡ false
+        → TellsMarks (world_at (worlds_in shared) world) (worlds_in inner) (told_of told.chain.value) } by { tells_prop spent
+            (world_at (worlds_in shared) world) (worlds_in inner) (told_of told.chain.value) },
 }
 
 impl Session {

@@ -1,6 +1,6 @@
 //! The end of a session: whether its check passes, its commit into the first world, and that it is given up.
 ghost use Rattle.std.specs.Prelude.{◌≡◌, false, true, IfOk};
-ghost use Rattle.wjs_overlay.specs.Reset.{after_reset};
+ghost use Rattle.wjs_layers.specs.Reset.{after_reset};
 ghost use Rattle.wjs_session.specs.Stores.{worlds_in};
 ghost use Rattle.wjs_session.specs.Session.{world_at};
 ghost use Rattle.wjs_session.specs.Settled.{Agrees, Settles};

@@ -1,25 +1,17 @@
 //! What the tests do with sessions, and what they compare.
 use std::alloc::Global;
 use std::process::Abort;
-use wjs_base::{Content, Names, OutOfMemory, Slot, WorldId, same_value};
+use wjs_base::{Content, Names, OutOfMemory, Slot, WorldId};
 use wjs_full::run_actions;
 use wjs_overlay::Overlay;
 use wjs_session::{Session, resting_stands_still, writes_leave_others};
-use wjs_store::{Action, Answer, Counts, Verdict, WorldStore};
+use wjs_store::{Action, Answer, Counts, Verdict, WorldStore, same_content};
 
 fn same_names(a: &Names, b: &Names) -> bool {
     if a.len() != b.len() {
         return false;
     }
     (0..a.len()).all(|place| place < b.len() && a.at(place) == b.at(place))
-}
-
-fn same_content(a: Content, b: Content) -> bool {
-    match (a, b) {
-        (Content::Absent, Content::Absent) => true,
-        (Content::Present(a), Content::Present(b)) => same_value(a, b),
-        _ => false,
-    }
 }
 
 /// Of two answers whose worlds may be of two owners.

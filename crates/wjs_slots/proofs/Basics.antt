@@ -1,5 +1,5 @@
 -- Cases, and facts of orders and tests.
-use Rattle.std.proofs.Common.{◌≡◌, Bool, true, false, ◌&&◌, not, T, Option, None, Some, is_some, Result, Ok, Err, OnOk, OnErr, IfOk, refl, ap, sym, ◌∙◌}
+use Rattle.std.proofs.Common.{◌≡◌, Bool, true, false, not, T, Option, None, Some, is_some, Result, Ok, Err, OnOk, OnErr, IfOk, refl, ap, sym, ◌∙◌}
 use Rattle.std.specs.declared.cmp.Ordering.{Ordering}
 use Rattle.std.specs.declared.cmp.Ordering.TheVariants.{Less, Equal, Greater}
 use Rattle.std.specs.Ordering.{is_lt, is_gt, is_eq, ordering_reverse, eq_by_cmp}
@@ -9,14 +9,6 @@ use Rattle.std.specs.Borrow.{Bor}
 use Rattle.std.specs.Option.{option_or, option_copied}
 use Rattle.std.proofs.lemmas.Bool.{false≢true}
 
-pub by_bool : {P : Type 0} (b : Bool) → (b ≡ true → P) → (b ≡ false → P) → P
-by_bool true f g = f refl
-by_bool false f g = g refl
-
-pub by_option : {A P : Type 0} (o : Option A) → (o ≡ None → P) → ((a : A) → o ≡ Some a → P) → P
-by_option None f g = f refl
-by_option (Some a) f g = g a refl
-
 pub by_cmp : {P : Type 0} (o : Ordering) → (o ≡ Less → P) → (o ≡ Equal → P) → (o ≡ Greater → P) → P
 by_cmp Less f g h = f refl
 by_cmp Equal f g h = g refl
@@ -25,32 +17,6 @@ by_cmp Greater f g h = h refl
 pub some_copied : {A : Type 0} (o : Option (Bor A)) → is_some o ≡ is_some (option_copied o)
 some_copied None = refl
 some_copied (Some x) = refl
-
-pub some_is : {A : Type 0} (a b : A) → Some a ≡ Some b → a ≡ b
-some_is a b h = cc
-
-pub no_none : {A P : Type 0} (a : A) → None ≡ Some a → P
-no_none a h = cc
-
-pub left_true : (a b : Bool) → T (a && b) → T a
-left_true true b h = tt
-left_true false b h = h
-
-pub right_true : (a b : Bool) → T (a && b) → T b
-right_true true b h = h
-right_true false b h = absurd h
-
-pub both_true : (a b : Bool) → T a → T b → T (a && b)
-both_true true b h k = k
-both_true false b h k = h
-
-pub T_true : (b : Bool) → T b → b ≡ true
-T_true true h = refl
-T_true false h = absurd h
-
-pub true_T : (b : Bool) → b ≡ true → T b
-true_T true h = tt
-true_T false h = absurd (false≢true h)
 
 pub less_is : (o : Ordering) → is_lt o ≡ true → o ≡ Less
 less_is Less h = refl
@@ -102,14 +68,6 @@ key_is {R = R} exact x y h = exact x y (equal_is (R x y) h)
 pub by_result : {T E A B P : Type 0} (r : Result T E) → (A → P) → (B → P) → OnOk r A → OnErr r B → P
 by_result (Ok t) f g h k = f h
 by_result (Err e) f g h k = g k
-
-pub on_ok : {T E A B : Type 0} (r : Result T E) → (A → B) → OnOk r A → OnOk r B
-on_ok (Ok t) f h = f h
-on_ok (Err e) f h = tt
-
-pub on_err : {T E A B : Type 0} (r : Result T E) → (A → B) → OnErr r A → OnErr r B
-on_err (Ok t) f h = tt
-on_err (Err e) f h = f h
 
 pub if_ok : {T E : Type 0} {A B : T → Type 0} (r : Result T E) → ((t : T) → A t → B t) → IfOk r A → IfOk r B
 if_ok (Ok t) f h = f t h

@@ -10,10 +10,11 @@ use Rattle.wjs_base.specs.declared.ids.ObjId.{ObjId}
 use Rattle.wjs_base.specs.declared.values.Name.TheVariants.{Index}
 use Rattle.wjs_base.specs.declared.values.Slot.{Slot}
 use Rattle.wjs_base.specs.Order.{name_cmp, obj_cmp, slot_cmp, obj_total, slot_total, slot_exact}
+use Rattle.wjs_base.proofs.Options.{by_option}
 use Rattle.wjs_rows.specs.Order.{is_from}
 use Rattle.wjs_slots.specs.Least.{IsLeast}
 use Rattle.wjs_slots.specs.Lists.{IsInOrder}
-use Rattle.wjs_slots.proofs.Basics.{by_cmp, by_option}
+use Rattle.wjs_slots.proofs.Basics.{by_cmp}
 use Rattle.wjs_slots.proofs.Least.{first_on}
 use Rattle.wjs_slots.proofs.Walks.{first_name}
 

@@ -1,5 +1,5 @@
 -- Changes of one row of a table.
-use Rattle.std.proofs.Common.{◌≡◌, ℕ, zero, suc, ◌+◌, ◌-◌, ◌<◌, ◌≤◌, nat_le, Bool, true, false, cond, ◌==◌, List, [], ◌∷◌, ◌++◌, length, set, get_or, replicate, Option, None, Some, slice_get, refl, ap, sym, subst, ◌∙◌, arith, eqb-true, length-append, append_assoc}
+use Rattle.std.proofs.Common.{◌≡◌, ℕ, zero, suc, ◌+◌, ◌-◌, ◌≤◌, nat_le, Bool, true, false, cond, ◌==◌, List, [], ◌∷◌, ◌++◌, length, set, get_or, replicate, Option, None, Some, slice_get, refl, ap, sym, subst, ◌∙◌, arith, eqb-true, length-append, append_assoc}
 use Rattle.std.specs.Ordering.{is_eq, ordering_then, eq_by_cmp}
 use Rattle.std.specs.FinMap as map
 use Rattle.std.specs.FinMap.{FinMap, find}
@@ -10,21 +10,13 @@ use Rattle.wjs_base.specs.declared.ids.ObjId.{ObjId}
 use Rattle.wjs_base.specs.declared.values.Name.{Name}
 use Rattle.wjs_base.specs.declared.values.Slot.{Slot}
 use Rattle.wjs_base.specs.Order.{name_cmp, obj_cmp, slot_cmp, obj_exact, slot_exact, slot_total}
+use Rattle.wjs_base.proofs.Booleans.{by_bool}
+use Rattle.wjs_base.proofs.Options.{no_none}
+use Rattle.wjs_base.proofs.Numbers.{not_le, le_of}
+use Rattle.wjs_base.proofs.Lists.{get_set_same, get_set_other}
 use Rattle.wjs_slots.specs.Near.{place_in, value_in, held_at, near_value, IsApart}
-use Rattle.wjs_slots.proofs.Basics.{by_bool, no_none, equal_is, key_is, or_none}
-use Rattle.wjs_slots.proofs.Values.{not_then, same_object, le_of, not_le, placed_is, held_is, held_before, near_present, near_other, near_absent, table, get_table, IsPlaced}
-
-pub set_same : {X : Type 0} (xs : List X) (i : ℕ) (x : X) → i < length xs → slice_get (set xs i x) i ≡ Some x
-set_same [] i x l = absurd (omega arith)
-set_same (y ∷ xs) zero x l = refl
-set_same (y ∷ xs) (suc i) x l = set_same xs i x (omega arith)
-
-pub set_other : {X : Type 0} (xs : List X) (i j : ℕ) (x : X) → (i ≡ j → ⊥) → slice_get (set xs i x) j ≡ slice_get xs j
-set_other [] i j x n = refl
-set_other (y ∷ xs) zero zero x n = absurd (n refl)
-set_other (y ∷ xs) zero (suc j) x n = refl
-set_other (y ∷ xs) (suc i) zero x n = refl
-set_other (y ∷ xs) (suc i) (suc j) x n = set_other xs i j x (λ e. n (ap suc e))
+use Rattle.wjs_slots.proofs.Basics.{equal_is, key_is, or_none}
+use Rattle.wjs_slots.proofs.Values.{not_then, same_object, placed_is, held_is, held_before, near_present, near_other, near_absent, table, get_table, IsPlaced}
 
 -- what is there is put back
 pub set_back : {X : Type 0} (xs : List X) (i : ℕ) (x d : X) → x ≡ get_or xs i d → set xs i x ≡ xs
@@ -53,7 +45,7 @@ module _ {V : Type 0} where
       let f : first ≤ q.object.serial = subst (λ (x : ObjId). first ≤ x.serial) (sym e) p.from in
       let s : i ≡ q.object.serial - first = p.serial_is ∙ ap (λ (x : ObjId). x.serial - first) (sym e) in
       near_present owner first (set ms i m) q o
-      ∙ ap (λ x. value_in x q.name) (held_is first (set ms i m) q.object.serial i f s ∙ set_same ms i m p.below)
+      ∙ ap (λ x. value_in x q.name) (held_is first (set ms i m) q.object.serial i f s ∙ get_set_same ms i m p.below)
       ∙ h q.name
       ∙ ap (cond (eq_by_cmp name_cmp q.name slot.name) w) (sym (near_present owner first ms q o ∙ ap (λ x. value_in x q.name) (held_is first ms q.object.serial i f s ∙ slice_get-get_or ms i d p.below)))
       ∙ sym (ap (λ c. cond (is_eq (ordering_then c (name_cmp q.name slot.name))) w (near_value owner first ms q)) (equal_is (obj_cmp q.object slot.object) t)))
@@ -65,7 +57,7 @@ module _ {V : Type 0} where
       (λ y.
       let l = le_of first q.object.serial y in
       held_is first (set ms i m) q.object.serial (q.object.serial - first) l refl
-      ∙ set_other ms i (q.object.serial - first) m (λ e.
+      ∙ get_set_other ms i (q.object.serial - first) m (λ e.
       let a = p.serial_is in
       let b = p.from in
       let k : q.object.serial ≡ slot.object.serial = omega arith in

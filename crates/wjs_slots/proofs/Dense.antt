@@ -6,15 +6,18 @@ use Rattle.std.specs.FinMap.{FinMap, find}
 use Rattle.std.specs.Option.{option_or}
 use Rattle.std.proofs.lemmas.Bool.{false≢true}
 use Rattle.std.proofs.lemmas.Bool.Decides.{nat_tests}
-use Rattle.std.proofs.lemmas.Option.{slice_get_past, slice_get-get_or}
+use Rattle.std.proofs.lemmas.Option.{slice_get_past, slice_get-get_or, same_Some}
 use Rattle.wjs_base.specs.declared.ids.TextId.{TextId}
 use Rattle.wjs_base.specs.declared.values.Name.{Name}
 use Rattle.wjs_base.specs.declared.values.Name.TheVariants.{Index, Text}
 use Rattle.wjs_base.specs.Order.{name_cmp, name_total, name_exact}
+use Rattle.wjs_base.proofs.Booleans.{by_bool}
+use Rattle.wjs_base.proofs.Options.{no_none}
+use Rattle.wjs_base.proofs.Lists.{get_last, get_set_same, get_set_other}
 use Rattle.wjs_slots.specs.Dense.{index_in, held_in, dense_value, dense_rows, IsBeside}
 use Rattle.wjs_slots.specs.Lists.{IsInOrder}
-use Rattle.wjs_slots.proofs.Basics.{by_bool, some_is, no_none, key_is, or_none}
-use Rattle.wjs_slots.proofs.Changes.{set_same, set_other, or_first, or_second}
+use Rattle.wjs_slots.proofs.Basics.{key_is, or_none}
+use Rattle.wjs_slots.proofs.Changes.{or_first, or_second}
 use Rattle.wjs_slots.proofs.Lists.{find_append}
 
 -- ---- indices
@@ -34,7 +37,7 @@ pub record IsIndex (n : ℕ) (name : Name) (i : ℕ) : Type 0 where
 
 pub placed : (n : ℕ) (name : Name) (i : ℕ) → index_in n name ≡ Some i → IsIndex n name i
 placed n (Index j) i h = by_bool (ltb j n)
-    (λ t. let e = some_is j i (sym (ap (λ c. cond c (Some j) None) t) ∙ h) in
+    (λ t. let e = same_Some j i (sym (ap (λ c. cond c (Some j) None) t) ∙ h) in
     let l : j < n = ltb-true j n t in
     record { name_is = ap Index e; below = omega arith })
     (λ f. no_none i (sym (ap (λ c. cond c (Some j) None) f) ∙ h))
@@ -113,10 +116,6 @@ module _ {V : Type 0} where
 
 -- ---- changes
 
-pushed_same : {A : Type 0} (xs : List A) (x : A) → slice_get (xs ++ x ∷ []) (length xs) ≡ Some x
-pushed_same [] x = refl
-pushed_same (y ∷ xs) x = pushed_same xs x
-
 pushed_other : {A : Type 0} (xs : List A) (x : A) (j : ℕ) → (j ≡ length xs → ⊥) → slice_get (xs ++ x ∷ []) j ≡ slice_get xs j
 pushed_other [] x zero n = absurd (n refl)
 pushed_other [] x (suc j) n = refl
@@ -129,10 +128,10 @@ module _ {V : Type 0} where
   dense_set dense i w (Index j) l = by_bool (is_eq (nat_cmp j i))
       (λ t. let e : j ≡ i = grind (arith, nat_tests) in
       ap (λ n. held_in (slice_get (set dense i w) n)) e
-      ∙ ap held_in (set_same dense i w l)
+      ∙ ap held_in (get_set_same dense i w l)
       ∙ sym (ap (λ b. cond b w (held_in (slice_get dense j))) t))
       (λ f. let n : j ≡ i → ⊥ = λ e. false≢true (sym f ∙ same_index j i e) in
-      ap held_in (set_other dense i j w (λ e. n (sym e)))
+      ap held_in (get_set_other dense i j w (λ e. n (sym e)))
       ∙ sym (ap (λ b. cond b w (held_in (slice_get dense j))) f))
 
   pub dense_pushed : (dense : List (Option V)) (w : Option V) (q : Name) → dense_value (dense ++ w ∷ []) q ≡ cond (eq_by_cmp name_cmp q (Index (length dense))) w (dense_value dense q)
@@ -140,7 +139,7 @@ module _ {V : Type 0} where
   dense_pushed dense w (Index j) = by_bool (is_eq (nat_cmp j (length dense)))
       (λ t. let e : j ≡ length dense = grind (arith, nat_tests) in
       ap (λ n. held_in (slice_get (dense ++ w ∷ []) n)) e
-      ∙ ap held_in (pushed_same dense w)
+      ∙ ap held_in (get_last dense w)
       ∙ sym (ap (λ b. cond b w (held_in (slice_get dense j))) t))
       (λ f. let n : j ≡ length dense → ⊥ = λ e. false≢true (sym f ∙ same_index j (length dense) e) in
       ap held_in (pushed_other dense w j n)

@@ -8,21 +8,19 @@ use Rattle.std.specs.Option.{option_or}
 use Rattle.std.proofs.lemmas.Bool.{false≢true}
 use Rattle.std.proofs.lemmas.Bool.Decides.{nat_tests}
 use Rattle.std.proofs.lemmas.Option.{slice_get_past, slice_get-get_or}
+use Rattle.std.proofs.lemmas.Map.Keys.{le_from_is_le}
 use Rattle.wjs_base.specs.declared.values.Name.{Name}
 use Rattle.wjs_base.specs.declared.values.Name.TheVariants.{Index, Text}
 use Rattle.wjs_base.specs.Order.{name_cmp, name_total, name_exact}
+use Rattle.wjs_base.proofs.Options.{by_option}
 use Rattle.wjs_rows.specs.Order.{is_from}
 use Rattle.wjs_slots.specs.Dense.{held_in, dense_value, IsBeside}
 use Rattle.wjs_slots.specs.Least.{IsLeast, lesser_entry}
-use Rattle.wjs_slots.proofs.Basics.{by_option}
 use Rattle.wjs_slots.proofs.Dense.{by_lt, all, get_all, value_there}
 use Rattle.wjs_slots.proofs.Least.{first_on, like, least_is, least_either}
 
 pub from_true : (a b : ℕ) → a ≤ b → is_le (nat_cmp a b) ≡ true
 from_true a b h = grind (arith, nat_tests)
-
-pub true_from : (a b : ℕ) → is_le (nat_cmp a b) ≡ true → a ≤ b
-true_from a b h = grind (arith, nat_tests)
 
 not_before : (a b : ℕ) → b ≤ a → is_lt (nat_cmp a b) ≡ false
 not_before a b h = grind (arith, nat_tests)
@@ -30,7 +28,7 @@ not_before a b h = grind (arith, nat_tests)
 module _ {V : Type 0} (dense : List (Option V)) where
   pub no_less : (start i : ℕ) → ((j : ℕ) → start ≤ j → j < i → dense_value dense (Index j) ≡ None) → (q : Name) → is_from name_cmp (Index start) q ≡ true → is_some (dense_value dense q) ≡ true → is_lt (name_cmp q (Index i)) ≡ false
   no_less start i before (Index j) y s = by_lt j i
-      (λ l. absurd (false≢true (sym (ap is_some (before j (true_from start j y) l)) ∙ s)))
+      (λ l. absurd (false≢true (sym (ap is_some (before j (le_from_is_le start j y) l)) ∙ s)))
       (λ l. not_before j i l)
   no_less start i before (Text t) y s = refl
 

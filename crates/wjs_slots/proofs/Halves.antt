@@ -1,5 +1,5 @@
 -- The two parts of a table together.
-use Rattle.std.proofs.Common.{◌≡◌, ℕ, ◌+◌, ◌-◌, ◌<◌, ◌≤◌, ◌^◌, ◌==◌, Bool, true, false, cond, nat_le, List, [], ◌∷◌, length, Option, None, Some, refl, ap, sym, ◌∙◌, subst, arith, eqb-true}
+use Rattle.std.proofs.Common.{◌≡◌, ℕ, ◌+◌, ◌-◌, ◌<◌, ◌≤◌, ◌^◌, ◌==◌, Bool, true, cond, nat_le, List, [], ◌∷◌, length, Option, None, Some, refl, ap, sym, ◌∙◌, subst, arith, eqb-true}
 use Rattle.std.specs.Ordering.{is_le, ordering_then, nat_cmp, eq_by_cmp}
 use Rattle.std.specs.Cmp.{nat_cmp_total, tied_itself}
 use Rattle.std.specs.FinMap as map
@@ -9,19 +9,14 @@ use Rattle.wjs_base.specs.declared.ids.ObjId.{ObjId}
 use Rattle.wjs_base.specs.declared.values.Name.{Name}
 use Rattle.wjs_base.specs.declared.values.Slot.{Slot}
 use Rattle.wjs_base.specs.Order.{name_cmp, obj_cmp, slot_cmp, slot_total, slot_exact, name_total}
+use Rattle.wjs_base.proofs.Booleans.{by_bool}
+use Rattle.wjs_base.proofs.Numbers.{not_le, le_of}
+use Rattle.wjs_slots.proofs.Firsts.{from_true}
 use Rattle.wjs_slots.specs.Near.{IsSplit}
-use Rattle.wjs_slots.proofs.Basics.{by_bool}
-use Rattle.wjs_slots.proofs.Walks.{true_le}
 use Rattle.wjs_slots.proofs.Values.{placed_is, placed_at, table}
 
-le_cmp : (a b : ℕ) → a ≤ b → is_le (nat_cmp a b) ≡ true
-le_cmp a b h = grind (arith, nat_tests)
-
-false_lt : (a b : ℕ) → nat_le a b ≡ false → b < a
-false_lt a b h = grind (arith, nat_tests)
-
 le_object : (a b : ObjId) → a.owner ≡ b.owner → a.serial ≤ b.serial → is_le (obj_cmp a b) ≡ true
-le_object a b h l = ap (λ n. is_le (ordering_then (nat_cmp n b.owner) (nat_cmp a.serial b.serial))) h ∙ ap (λ c. is_le (ordering_then c (nat_cmp a.serial b.serial))) (tied_itself nat_cmp_total b.owner) ∙ le_cmp a.serial b.serial l
+le_object a b h l = ap (λ n. is_le (ordering_then (nat_cmp n b.owner) (nat_cmp a.serial b.serial))) h ∙ ap (λ c. is_le (ordering_then c (nat_cmp a.serial b.serial))) (tied_itself nat_cmp_total b.owner) ∙ from_true a.serial b.serial l
 
 -- some or none
 by_count : {P : Type 0} (n : ℕ) → (n ≡ 0 → P) → (0 < n → P) → P
@@ -59,9 +54,9 @@ module _ {V : Type 0} where
         let s = p.from in
         let here : q.object.serial ≤ last.serial = omega arith in
         by_bool (nat_le (first + n) q.object.serial)
-        (λ t. none q (le_object (record { owner = owner; serial = first + n }) q.object (sym p.owner_is) (true_le (first + n) q.object.serial t)) (le_object q.object last (p.owner_is ∙ sym o) here))
+        (λ t. none q (le_object (record { owner = owner; serial = first + n }) q.object (sym p.owner_is) (le_of (first + n) q.object.serial t)) (le_object q.object last (p.owner_is ∙ sym o) here))
         (λ f.
-        let c = false_lt (first + n) q.object.serial f in
+        let c = not_le (first + n) q.object.serial f in
         let d : q.object.serial - first < n = omega arith in
         split.apart q (placed_at owner first n q.object p.owner_is p.from d));
     ordered = split.ordered;

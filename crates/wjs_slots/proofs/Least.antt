@@ -9,8 +9,11 @@ use Rattle.std.specs.FinMap.Entries.{find, below_all, is_sorted}
 use Rattle.std.specs.Map.{lookup_entry}
 use Rattle.std.specs.Option.{option_or}
 use Rattle.std.proofs.lemmas.Bool.{true≢false, false≢true}
+use Rattle.std.proofs.lemmas.Option.{same_Some}
+use Rattle.wjs_base.proofs.Booleans.{left_true, right_true, T_true, by_bool}
+use Rattle.wjs_base.proofs.Options.{by_option, no_none}
 use Rattle.wjs_slots.specs.Least.{IsLeast, lesser_entry}
-use Rattle.wjs_slots.proofs.Basics.{by_bool, by_option, some_is, no_none, left_true, right_true, T_true, not_back, not_self, lt_trans, neither, key_is, or_none}
+use Rattle.wjs_slots.proofs.Basics.{not_back, not_self, lt_trans, neither, key_is, or_none}
 
 pub match_weaker : {A P P' : Type 0} {Q Q' : A → Type 0} (o : Option A) → (P → P') → ((a : A) → Q a → Q' a) → MatchOption o P Q → MatchOption o P' Q'
 match_weaker None f g h = f h
@@ -72,7 +75,7 @@ module _ {K V : Type 0} {R : K → K → Ordering} (total : IsTotalOrder R) (exa
     least_one f (Some a) None h k = no_none a.1 (sym (k a.0 h.0) ∙ h.1)
     least_one f (Some a) (Some b) h k =
         let keys : a.0 ≡ b.0 = exact a.0 b.0 (neither total a.0 b.0 (k.2 a.0 h.0 (ap is_some h.1)) (h.2 b.0 k.0 (ap is_some k.1))) in
-        let values : a.1 ≡ b.1 = some_is a.1 b.1 (sym h.1 ∙ ap f keys ∙ k.1) in
+        let values : a.1 ≡ b.1 = same_Some a.1 b.1 (sym h.1 ∙ ap f keys ∙ k.1) in
         λ i. Some (keys i, values i)
 
     pub least_is : (m : FinMap R V) (d : Option (K × V)) → IsLeast R (map.get m) p d → d ≡ lookup_entry p (map.entries m)

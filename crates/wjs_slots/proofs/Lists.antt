@@ -11,9 +11,11 @@ use Rattle.std.specs.List.Sorted.{IsStrictlySortedBy}
 use Rattle.std.specs.Map.{lookup_entry, remove_entry, keys_of}
 use Rattle.std.specs.Option.{option_or}
 use Rattle.std.proofs.lemmas.Map.Keys.{sorted_head, sorted_tail}
+use Rattle.std.proofs.lemmas.Float.{T_from_true}
+use Rattle.wjs_base.proofs.Booleans.{left_true, right_true, both_true, T_true, by_bool}
 use Rattle.wjs_rows.specs.Order.{is_after}
 use Rattle.wjs_slots.specs.Lists.{without}
-use Rattle.wjs_slots.proofs.Basics.{by_bool, left_true, right_true, both_true, T_true, true_T, less_is, equal_is}
+use Rattle.wjs_slots.proofs.Basics.{less_is, equal_is}
 
 pub find_append : {K V : Type 0} (R : K → K → Ordering) (q : K) (es fs : List (K × V)) → find R q (es ++ fs) ≡ option_or (find R q es) (find R q fs)
 find_append R q [] fs = refl
@@ -35,7 +37,7 @@ module _ {K V : Type 0} (R : K → K → Ordering) where
 
   below_from : (k : K) (es : List (K × V)) → AllByRecursion (λ y. R k y ≡ Less) (keys_of es) → T (below_all R k es)
   below_from k [] h = tt
-  below_from k (e ∷ es) h = both_true (is_lt (R k e.0)) (below_all R k es) (true_T (is_lt (R k e.0)) (ap is_lt h.0)) (below_from k es h.1)
+  below_from k (e ∷ es) h = both_true (is_lt (R k e.0)) (below_all R k es) (T_from_true (is_lt (R k e.0)) (ap is_lt h.0)) (below_from k es h.1)
 
   pub sorted_from : (es : List (K × V)) → IsStrictlySortedBy R (keys_of es) → T (is_sorted R es)
   sorted_from [] h = tt
@@ -61,14 +63,14 @@ module _ {K V : Type 0} {R : K → K → Ordering} (total : IsTotalOrder R) wher
   below_tied k x [] t h = tt
   below_tied k x (e ∷ es) t h =
       both_true (is_lt (R k e.0)) (below_all R k es)
-      (true_T (is_lt (R k e.0)) (ap is_lt (total.congr k x e.0 t) ∙ T_true (is_lt (R x e.0)) (left_true (is_lt (R x e.0)) (below_all R x es) h)))
+      (T_from_true (is_lt (R k e.0)) (ap is_lt (total.congr k x e.0 t) ∙ T_true (is_lt (R x e.0)) (left_true (is_lt (R x e.0)) (below_all R x es) h)))
       (below_tied k x es t (right_true (is_lt (R x e.0)) (below_all R x es) h))
 
   pub below_less : (k x : K) (es : List (K × V)) → R k x ≡ Less → T (below_all R x es) → T (below_all R k es)
   below_less k x [] t h = tt
   below_less k x (e ∷ es) t h =
       both_true (is_lt (R k e.0)) (below_all R k es)
-      (true_T (is_lt (R k e.0)) (ap is_lt (total.trans k x e.0 t (less_is (R x e.0) (T_true (is_lt (R x e.0)) (left_true (is_lt (R x e.0)) (below_all R x es) h))))))
+      (T_from_true (is_lt (R k e.0)) (ap is_lt (total.trans k x e.0 t (less_is (R x e.0) (T_true (is_lt (R x e.0)) (left_true (is_lt (R x e.0)) (below_all R x es) h))))))
       (below_less k x es t (right_true (is_lt (R x e.0)) (below_all R x es) h))
 
   pub remove_without : (k : K) (es : List (K × V)) → T (is_sorted R es) → remove_entry (is_at (R k)) es ≡ without R k es

@@ -15,11 +15,12 @@ use Rattle.wjs_base.specs.declared.values.Name.TheVariants.{Index}
 use Rattle.wjs_base.specs.declared.values.Slot.{Slot}
 use Rattle.wjs_base.specs.Order.{name_cmp, obj_cmp, slot_cmp, obj_exact, obj_total, name_total, name_exact, slot_total, slot_exact}
 use Rattle.wjs_base.specs.Same.{object_Decides}
+use Rattle.wjs_base.proofs.Booleans.{by_bool}
+use Rattle.wjs_base.proofs.Options.{by_option}
 use Rattle.wjs_rows.specs.Order.{is_from, is_after}
 use Rattle.wjs_slots.specs.Least.{IsLeast, is_object, comes_past, is_next_on, row_on, entry_on}
 use Rattle.wjs_slots.specs.Lists.{IsInOrder}
 use Rattle.wjs_slots.specs.Near.{place_in, IsSplit}
-use Rattle.wjs_slots.proofs.Basics.{by_bool, by_option}
 use Rattle.wjs_slots.proofs.Least.{first_on, first_is, least_is, least_one}
 use Rattle.wjs_slots.proofs.Values.{table, get_near, get_far}
 use Rattle.wjs_slots.proofs.Walks.{first_name}

@@ -13,11 +13,13 @@ use Rattle.wjs_base.specs.declared.ids.ObjId.{ObjId}
 use Rattle.wjs_base.specs.declared.values.Name.{Name}
 use Rattle.wjs_base.specs.declared.values.Slot.{Slot}
 use Rattle.wjs_base.specs.Order.{name_cmp, obj_cmp, slot_cmp, obj_total, obj_exact, slot_total, slot_exact}
+use Rattle.wjs_base.proofs.Booleans.{by_bool}
+use Rattle.wjs_base.proofs.Options.{by_option, no_none}
 use Rattle.wjs_rows.specs.Order.{is_from, is_after}
 use Rattle.wjs_slots.specs.Least.{IsLeast, is_past, is_next_on, comes_past}
 use Rattle.wjs_slots.specs.Lists.{IsInOrder, without}
 use Rattle.wjs_slots.specs.Rowed.{IsRowed}
-use Rattle.wjs_slots.proofs.Basics.{by_bool, by_option, by_cmp, key_is, no_none}
+use Rattle.wjs_slots.proofs.Basics.{by_cmp, key_is}
 use Rattle.wjs_slots.proofs.Least.{first_on, first_is, least_is, alike}
 use Rattle.wjs_slots.proofs.OnObjects.{same_cmp, on_is, on_from}
 use Rattle.wjs_slots.proofs.Sorted.{find_without, sorted_put, sorted_without}

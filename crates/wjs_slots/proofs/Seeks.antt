@@ -12,9 +12,10 @@ use Rattle.std.specs.Borrow.{Bor}
 use Rattle.std.specs.Option.{option_map}
 use Rattle.std.specs.Slice.{IsItemAt}
 use Rattle.std.proofs.lemmas.Option.{slice_get_past, slice_get_read}
+use Rattle.wjs_base.proofs.Booleans.{left_true, right_true, T_true}
 use Rattle.wjs_rows.specs.Order.{is_from, is_after}
 use Rattle.wjs_slots.specs.Lists.{seek, without}
-use Rattle.wjs_slots.proofs.Basics.{by_cmp, left_true, right_true, T_true, less_is}
+use Rattle.wjs_slots.proofs.Basics.{by_cmp, less_is}
 use Rattle.wjs_slots.proofs.Lists.{first_after, none_below, all_without, below_tied, below_less}
 
 -- the key is at n

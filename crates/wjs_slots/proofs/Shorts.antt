@@ -7,8 +7,10 @@ use Rattle.std.specs.Cmp.{IsTotalOrder}
 use Rattle.std.specs.FinMap.{IsAntisymmetric}
 use Rattle.std.specs.FinMap.Entries.{put, find, is_sorted, below_all, by_order}
 use Rattle.std.proofs.lemmas.Bool.{true≢false, false≢true}
+use Rattle.wjs_base.proofs.Booleans.{left_true, by_bool}
+use Rattle.wjs_base.proofs.Options.{no_none}
 use Rattle.wjs_slots.specs.Lists.{without}
-use Rattle.wjs_slots.proofs.Basics.{by_bool, by_cmp, equal_is, greater_is, less_left, left_true, no_none}
+use Rattle.wjs_slots.proofs.Basics.{by_cmp, equal_is, greater_is, less_left}
 use Rattle.wjs_slots.proofs.Lists.{none_below, all_without, below_tied, below_less}
 use Rattle.wjs_slots.proofs.Seeks.{past_greater}
 
@@ -31,10 +33,6 @@ gt_not_lt Greater t = refl
 pub if_some : {A : Type 0} {P Q : A → Type 0} (o : Option A) → ((a : A) → P a → Q a) → IfSome o P → IfSome o Q
 if_some None f h = tt
 if_some (Some a) f h = f a h
-
-pub none_by : {A : Type 0} (o : Option A) → is_some o ≡ false → o ≡ None
-none_by None h = refl
-none_by (Some a) h = absurd (true≢false h)
 
 module _ {K V : Type 0} {R : K → K → Ordering} (total : IsTotalOrder R) (k : K) where
   -- ---- where a value goes

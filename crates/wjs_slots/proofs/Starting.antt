@@ -8,17 +8,19 @@ use Rattle.std.specs.Map.{lookup_entry}
 use Rattle.std.specs.Option.{option_map}
 use Rattle.std.proofs.lemmas.Bool.{true≢false, false≢true}
 use Rattle.std.proofs.lemmas.Bool.Decides.{nat_tests}
+use Rattle.std.proofs.lemmas.Map.Keys.{le_from_is_le}
 use Rattle.wjs_base.specs.declared.values.Name.{Name}
 use Rattle.wjs_base.specs.declared.values.Name.TheVariants.{Index, Text}
 use Rattle.wjs_base.specs.Order.{name_cmp}
+use Rattle.wjs_base.proofs.Booleans.{by_bool}
+use Rattle.wjs_base.proofs.Options.{by_option, no_none}
 use Rattle.wjs_rows.specs.Order.{is_from, is_after}
 use Rattle.wjs_slots.specs.Dense.{dense_value}
 use Rattle.wjs_slots.specs.Least.{IsLeast}
 use Rattle.wjs_slots.specs.Lists.{IsInOrder, without}
 use Rattle.wjs_slots.specs.Starts.{stands, IsStarts, IsOpen, IsPassed}
-use Rattle.wjs_slots.proofs.Basics.{by_bool, by_option, no_none}
 use Rattle.wjs_slots.proofs.Dense.{dense_set, dense_pushed, same_index, other_index, value_there}
-use Rattle.wjs_slots.proofs.Firsts.{from_true, true_from, no_less}
+use Rattle.wjs_slots.proofs.Firsts.{from_true, no_less}
 use Rattle.wjs_slots.proofs.Least.{first_on}
 use Rattle.wjs_slots.proofs.Sorted.{find_without, sorted_put, sorted_without}
 
@@ -220,7 +222,7 @@ module _ {V : Type 0} (dense : List (Option V)) (starts : List (ℕ × Unit {0})
       past = subst (IsLeast nat_cmp (λ j. find nat_cmp j starts) (is_after nat_cmp start)) (sym h) (first_on nat_cmp_total nat_cmp-IsAntisymmetric (is_after nat_cmp start) starts k.ordered)
 
       nothing : (q : Name) → is_from name_cmp (Index start) q ≡ true → dense_value dense q ≡ None
-      nothing (Index j) y = holes none (j + 1) (λ i a b s. false≢true (sym (ap is_some (past i (lt_true start i a))) ∙ s)) j (true_from start j y) (omega arith)
+      nothing (Index j) y = holes none (j + 1) (λ i a b s. false≢true (sym (ap is_some (past i (lt_true start i a))) ∙ s)) j (le_from_is_le start j y) (omega arith)
       nothing (Text t) y = refl
 
   pub first_behind : dense_value dense (Index start) ≡ None → (next : ℕ × Unit {0}) → Some next ≡ lookup_entry (is_after nat_cmp start) starts → IsLeast name_cmp (dense_value dense) (is_from name_cmp (Index start)) (option_map (λ (v : V). (Index next.0, v)) (dense_value dense (Index next.0)))
@@ -239,7 +241,7 @@ module _ {V : Type 0} (dense : List (Option V)) (starts : List (ℕ × Unit {0})
       past_all apart found n (Index j) y = by_option (dense_value dense (Index j)) (λ m. m) (λ v s.
           let below : j < length dense = value_there dense j (ap is_some s) in
           by_bool (is_lt (nat_cmp j next.0))
-          (λ t. holes none next.0 apart j (true_from start j y) (true_lt j next.0 t))
+          (λ t. holes none next.0 apart j (le_from_is_le start j y) (true_lt j next.0 t))
           (λ t.
           let past : next.0 ≤ j = false_ge j next.0 t in
           let inside : next.0 < length dense = omega arith in

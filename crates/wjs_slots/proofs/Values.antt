@@ -1,5 +1,5 @@
 -- What the two parts of a table have at a slot.
-use Rattle.std.proofs.Common.{◌≡◌, ℕ, zero, suc, ◌+◌, ◌-◌, ◌<◌, ◌≤◌, nat_le, Bool, true, false, cond, ◌&&◌, ◌==◌, ltb, List, [], ◌∷◌, ◌++◌, length, get_or, None, Some, is_some, slice_get, refl, ap, sym, subst, ◌∙◌, arith, eqb-true, eq-eqb, ltb-true, ltb-false, lt-ltb}
+use Rattle.std.proofs.Common.{◌≡◌, ℕ, zero, suc, ◌+◌, ◌-◌, ◌<◌, ◌≤◌, nat_le, true, false, cond, ◌&&◌, ◌==◌, ltb, List, [], ◌∷◌, ◌++◌, length, get_or, None, Some, is_some, slice_get, refl, ap, sym, subst, ◌∙◌, arith, eqb-true, eq-eqb, ltb-true, ltb-false, lt-ltb}
 use Rattle.std.specs.declared.cmp.Ordering.{Ordering}
 use Rattle.std.specs.declared.cmp.Ordering.TheVariants.{Less, Equal, Greater}
 use Rattle.std.specs.Ordering.{is_eq, ordering_then, nat_cmp}
@@ -7,15 +7,17 @@ use Rattle.std.specs.Cmp.{nat_cmp_total, tied_itself}
 use Rattle.std.specs.FinMap as map
 use Rattle.std.specs.FinMap.{FinMap, find}
 use Rattle.std.specs.Option.{option_or}
-use Rattle.std.proofs.lemmas.Bool.{false≢true}
-use Rattle.std.proofs.lemmas.Bool.Decides.{nat_tests}
-use Rattle.std.proofs.lemmas.Option.{slice_get_past, slice_get-get_or}
+use Rattle.std.proofs.lemmas.Bool.{false≢true, and_parts}
+use Rattle.std.proofs.lemmas.Option.{slice_get_past, slice_get-get_or, same_Some}
 use Rattle.wjs_base.specs.declared.ids.ObjId.{ObjId}
 use Rattle.wjs_base.specs.declared.values.Name.{Name}
 use Rattle.wjs_base.specs.declared.values.Slot.{Slot}
 use Rattle.wjs_base.specs.Order.{name_cmp, obj_cmp, slot_cmp, obj_exact, slot_total}
+use Rattle.wjs_base.proofs.Booleans.{by_bool}
+use Rattle.wjs_base.proofs.Options.{by_option, no_none}
+use Rattle.wjs_base.proofs.Numbers.{not_le, of_le, le_of, lt_not}
 use Rattle.wjs_slots.specs.Near.{place_in, value_in, held_at, near_value, rows_at, near_rows, IsApart}
-use Rattle.wjs_slots.proofs.Basics.{by_bool, by_option, some_is, no_none, equal_is, or_none}
+use Rattle.wjs_slots.proofs.Basics.{equal_is, or_none}
 use Rattle.wjs_slots.proofs.Lists.{find_append}
 
 -- ---- objects
@@ -33,35 +35,19 @@ not_then Greater b h = refl
 
 -- ---- places
 
-pub of_le : (a b : ℕ) → a ≤ b → nat_le a b ≡ true
-of_le a b h = grind (arith, nat_tests)
-
-pub le_of : (a b : ℕ) → nat_le a b ≡ true → a ≤ b
-le_of a b h = grind (arith, nat_tests)
-
-pub not_le : (a b : ℕ) → nat_le a b ≡ false → b < a
-not_le a b h = grind (arith, nat_tests)
-
-lt_not : (a b : ℕ) → b < a → nat_le a b ≡ false
-lt_not a b h = grind (arith, nat_tests)
-
 pub record IsPlaced (owner first n : ℕ) (object : ObjId) (i : ℕ) : Type 0 where
   pub owner_is : object.owner ≡ owner
   pub from : first ≤ object.serial
   pub below : i < n
   pub serial_is : i ≡ object.serial - first
 
-both_of : (a b : Bool) → (a && b) ≡ true → (a ≡ true) × (b ≡ true)
-both_of true b h = (refl, h)
-both_of false b h = absurd (false≢true h)
-
 pub placed_is : (owner first n : ℕ) (object : ObjId) (i : ℕ) → place_in owner first n object ≡ Some i → IsPlaced owner first n object i
 placed_is owner first n object i h = by_bool ((object.owner == owner) && (nat_le first object.serial && ltb (object.serial - first) n))
     (λ t.
-    let b = both_of (object.owner == owner) (nat_le first object.serial && ltb (object.serial - first) n) t in
-    let d = both_of (nat_le first object.serial) (ltb (object.serial - first) n) b.1 in
+    let b = and_parts (object.owner == owner) (nat_le first object.serial && ltb (object.serial - first) n) t in
+    let d = and_parts (nat_le first object.serial) (ltb (object.serial - first) n) b.1 in
     let l : object.serial - first < n = ltb-true (object.serial - first) n d.1 in
-    let e : i ≡ object.serial - first = sym (some_is (object.serial - first) i (sym (ap (λ c. cond c (Some (object.serial - first)) None) t) ∙ h)) in
+    let e : i ≡ object.serial - first = sym (same_Some (object.serial - first) i (sym (ap (λ c. cond c (Some (object.serial - first)) None) t) ∙ h)) in
     record {
       owner_is = eqb-true object.owner owner b.0;
       from = le_of first object.serial d.0;

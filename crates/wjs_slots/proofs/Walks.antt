@@ -1,5 +1,5 @@
 -- Tests of numbers and names.
-use Rattle.std.proofs.Common.{◌≡◌, ℕ, ◌≤◌, true, nat_le, refl, arith}
+use Rattle.std.proofs.Common.{◌≡◌, ℕ, true, refl, arith}
 use Rattle.std.specs.Ordering.{is_le, nat_cmp}
 use Rattle.std.proofs.lemmas.Bool.Decides.{nat_tests}
 use Rattle.wjs_base.specs.declared.values.Name.{Name}
@@ -8,9 +8,6 @@ use Rattle.wjs_base.specs.Order.{name_cmp}
 
 zero_le : (n : ℕ) → is_le (nat_cmp 0 n) ≡ true
 zero_le n = grind (arith, nat_tests)
-
-pub true_le : (a b : ℕ) → nat_le a b ≡ true → a ≤ b
-true_le a b h = grind (arith, nat_tests)
 
 -- no name comes before the first
 pub first_name : (name : Name) → is_le (name_cmp (Index 0) name) ≡ true

@@ -1,12 +1,7 @@
--- How slots and names are told apart.
+-- How names are told apart.
 use Rattle.std.specs.Coded.{Coded}
-use Rattle.wjs_base.specs.contracts.values.Slot as slot
 use Rattle.wjs_base.specs.contracts.values.Name as name
-use Rattle.wjs_base.specs.declared.values.Slot.{Slot}
 use Rattle.wjs_base.specs.declared.values.Name.{Name}
-
-abbrev pub coded_slot : Coded Slot
-coded_slot = (slot.the_row).coded
 
 abbrev pub coded_name : Coded Name
 coded_name = (name.the_row).coded

@@ -213,10 +213,8 @@ fn push<V: Copy>(few: &mut Vec<(ShortName, V)>, row: (ShortName, V)) -> Result<b
     ensures added { IfOk result (λ added. added ≡ true) }
     ensures err { OnErr result (few.new.items ≡ few.old.items) }
 {
-    match few.push(row) {
-        Ok(()) => Ok(true),
-        Err(_) => Err(OutOfMemory),
-    }
+    few.push(row)?;
+    Ok(true)
 }
 
 /// Takes the row at a name out, and says whether there was one.

@@ -142,10 +142,8 @@ fn append<V: Copy>(list: &mut Vec<Option<V>>, value: V) -> Result<bool, OutOfMem
     ensures added { IfOk result (λ added. added ≡ true) }
     ensures err { OnErr result (list.new.items ≡ list.old.items) }
 {
-    match list.push(Some(value)) {
-        Ok(()) => Ok(true),
-        Err(_) => Err(OutOfMemory),
-    }
+    list.push(Some(value))?;
+    Ok(true)
 }
 
 /// The row at an index.

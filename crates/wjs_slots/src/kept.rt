@@ -298,10 +298,8 @@ fn many_of<V: Copy>(few: &[(ShortName, V)], alloc: Global) -> Result<Kept<V>, Ou
     ensures { IfOk result (λ kept. rows_of kept ≡ few.now) }
 {
     let many = Many::of_list(few, alloc)?;
-    match Box::new(alloc, many) {
-        Ok(many) => Ok(Kept::Many(many)),
-        Err(_) => Err(OutOfMemory),
-    }
+    let many = Box::new(alloc, many)?;
+    Ok(Kept::Many(many))
 }
 
 /// The rows in a list; where a name can't be kept in short, by their indices.
@@ -320,9 +318,7 @@ fn list_of<V: Copy>(short: Short<V>, name: Name, alloc: Global) -> Result<Kept<V
 fn listed<V: Copy>(short: Short<V>, alloc: Global) -> Result<Vec<(ShortName, V)>, OutOfMemory>
     ensures { IfOk result (λ few. few.items ≡ short_rows short) }
 {
-    let Ok(mut few) = Vec::with_capacity(alloc, FIRST_ROWS) else {
-        return Err(OutOfMemory);
-    };
+    let mut few = Vec::with_capacity(alloc, FIRST_ROWS)?;
     match short {
         Short::Zero => Ok(few),
         Short::One(row) => {
@@ -347,8 +343,6 @@ fn listed<V: Copy>(short: Short<V>, alloc: Global) -> Result<Vec<(ShortName, V)>
 fn put_last<V: Copy>(few: &mut Vec<(ShortName, V)>, row: (ShortName, V)) -> Result<(), OutOfMemory>
     ensures { OnOk result (few.new.items ≡ few.old.items ++ row ∷ []) }
 {
-    match few.push(row) {
-        Ok(()) => Ok(()),
-        Err(_) => Err(OutOfMemory),
-    }
+    few.push(row)?;
+    Ok(())
 }

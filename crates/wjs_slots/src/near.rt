@@ -125,10 +125,7 @@ impl<V: Copy> Near<V> {
         ensures more { length self.old.objects.items ≤ length self.new.objects.items }
     {
         'more: while self.objects.len() as u64 <= last {
-            match self.objects.push(Names::new()) {
-                Ok(()) => {}
-                Err(_) => return Err(OutOfMemory),
-            }
+            self.objects.push(Names::new())?;
         }
         Ok(())
     }

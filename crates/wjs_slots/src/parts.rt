@@ -40,7 +40,7 @@ impl<V> Model for Parts<V> {
     ghost use Rattle.std.specs.Prelude.{◌++◌, length};
     ghost use Rattle.std.specs.FinMap as map;
     ghost use Rattle.wjs_base.specs.Order.{slot_cmp};
-    ghost use Rattle.wjs_slots.specs.Codes.{coded_slot};
+    ghost use Rattle.wjs_base.specs.Codes.{coded_slot};
     ghost use Rattle.wjs_slots.specs.Near.{near_rows, IsSplit};
 
     ghost Value = { map.FinMap slot_cmp V };

@@ -29,7 +29,7 @@ impl<V> Model for Table<V> {
     ghost use Rattle.std.specs.Prelude.{◌≡◌};
     ghost use Rattle.std.specs.FinMap as map;
     ghost use Rattle.wjs_base.specs.Order.{slot_cmp};
-    ghost use Rattle.wjs_slots.specs.Codes.{coded_slot};
+    ghost use Rattle.wjs_base.specs.Codes.{coded_slot};
 
     ghost Value = { map.FinMap slot_cmp V };
 

@@ -27,10 +27,8 @@ pub(crate) fn set<K: Ord + Copy, V: Copy>(
     ensures added { IfOk result (λ added. added ≡ not (is_some (find K.cmp key tree.old.entries))) }
     ensures err { OnErr result (tree.new.entries ≡ tree.old.entries) }
 {
-    match tree.insert(key, value) {
-        Ok(before) => Ok(before.is_none()),
-        Err(_) => Err(OutOfMemory),
-    }
+    let before = tree.insert(key, value)?;
+    Ok(before.is_none())
 }
 
 /// Takes the entry at a key out, and says whether there was one.

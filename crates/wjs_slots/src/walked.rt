@@ -35,7 +35,7 @@ impl<V> Model for Walked<V> {
     ghost use Rattle.std.specs.Prelude.{◌≡◌};
     ghost use Rattle.std.specs.FinMap as map;
     ghost use Rattle.wjs_base.specs.Order.{slot_cmp};
-    ghost use Rattle.wjs_slots.specs.Codes.{coded_slot};
+    ghost use Rattle.wjs_base.specs.Codes.{coded_slot};
     ghost use Rattle.wjs_slots.specs.Rowed.{IsRowed};
 
     ghost Value = { map.FinMap slot_cmp V };

@@ -1,6 +1,6 @@
 -- The first heap is what the meaning has before the first step.
 use Rattle.std.proofs.Common.{◌≡◌, ℕ, zero, suc, ◌<◌, Bool, true, false, not, cond, List, [], ◌∷◌, ◌++◌, Option, None, Some, refl, sym, ap, ◌∙◌, subst, arith, IsTrue}
-use Rattle.std.specs.Prelude.{map, is_some, IfSome}
+use Rattle.std.specs.Prelude.{nat_lt, map, is_some, IfSome}
 use Rattle.std.specs.Option.{option_and_then, option_map}
 use Rattle.std.specs.FinMap as finite
 use Rattle.wjs_base.specs.declared.ids.TextId.{TextId}
@@ -9,49 +9,52 @@ use Rattle.wjs_base.specs.declared.values.Slot.{Slot as NumberedSlot}
 use Rattle.wjs_base.specs.Order.{obj_cmp}
 use Rattle.wjs_base.specs.Text.{Table, Grows}
 use Rattle.wjs_base.proofs.TextLaws.{Grows-refl, Grows-trans}
-use Rattle.wjs_store.specs.State.{World, State, write, after, after_write, same_world, find_world, has_world}
+use Rattle.wjs_store.specs.State.{World, State, write, after, after_write, same_world, find_world, has_world, first_world}
 use Rattle.wjs_store.specs.Meaning.{Meaning, View, PlainAct, PlainReply, IsSound, worlds}
 use Rattle.wjs_store.specs.Fixed.{fixed, fresh}
 use Rattle.wjs_store.specs.Naming.{plain}
 use Rattle.wjs_store.proofs.Writes.{world_is}
 use Rattle.wjs_arena.specs.Entries.{Objects, Entry, has, next_number, world_of}
-use Rattle.wjs_content.specs.Rename.{renamed}
-use Rattle.wjs_content.proofs.Keys.{empty_entries}
-use Rattle.wjs_content.specs.Values.{Text, Value}
-use Rattle.wjs_content.specs.Names.{Slot, slot_cmp, content}
-use Rattle.wjs_content.specs.Objects.{Arena}
-use Rattle.wjs_content.specs.Plans.{Told, Wrote, Writes, Gives, worlds_after, actions_of}
-use Rattle.wjs_content.proofs.PlanLaws.{worlds_then, actions_then}
-use Rattle.wjs_content.specs.Carried.{tell}
-use Rattle.wjs_content.specs.Renamed.{Holds}
-use Rattle.wjs_content.specs.Tables.{text_in, arena_in, entry_in}
-use Rattle.wjs_content.specs.Telling.{names_of}
-use Rattle.wjs_content.specs.Worlds.{worlds_in, told_by, KnowsWorlds}
+use Rattle.wjs_by_content.specs.Rename.{renamed}
+use Rattle.wjs_by_content.proofs.Keys.{empty_entries}
+use Rattle.wjs_by_content.specs.Values.{Text, Value}
+use Rattle.wjs_by_content.specs.Names.{Slot, slot_cmp, content}
+use Rattle.wjs_by_content.specs.Objects.{Arena}
+use Rattle.wjs_by_content.specs.Plans.{Told, Wrote, Writes, Gives, worlds_after, actions_of}
+use Rattle.wjs_by_content.proofs.PlanLaws.{worlds_then, actions_then}
+use Rattle.wjs_by_content.specs.Carried.{tell}
+use Rattle.wjs_by_content.specs.Renamed.{Holds}
+use Rattle.wjs_by_content.specs.Tables.{text_in, arena_in, entry_in}
+use Rattle.wjs_by_content.specs.Telling.{names_of}
+use Rattle.wjs_by_content.specs.Worlds.{worlds_in, told_by, KnowsWorlds}
 use Rattle.wjs_heap.specs.Heap.{Parts, IsHeap, Performs, KnowsTold}
 use Rattle.wjs_heap.specs.Means.{nothing}
-use Rattle.wjs_meaning.specs.Builtins.{builtin, first_world}
+use Rattle.wjs_meaning.specs.declared.builtin.Builtin.{Builtin}
+use Rattle.wjs_meaning.specs.declared.builtin.Builtin.TheVariants as initial
+use Rattle.wjs_meaning.specs.Builtins.{first_object, number_of, object_prototype, first_world_object}
 use Rattle.wjs_meaning.specs.Start.{Property, properties, first_copy, first_full, first_objects, native_objects}
 use Rattle.wjs_meaning.specs.Table.{natives, first_native}
-use Rattle.wjs_deeds.proofs.Nearing.{has_named}
+use Rattle.wjs_heap_steps.proofs.Nearing.{has_named}
 use Rattle.wjs_start.specs.declared.blueprints.Blueprint.{Blueprint}
 use Rattle.wjs_start.specs.declared.known.Known.{Known}
 use Rattle.wjs_start.specs.declared.known.Place.{Place}
 use Rattle.wjs_start.specs.Blueprints.{built_from}
 use Rattle.wjs_start.specs.Building.{Building, with_objects}
-use Rattle.wjs_start.specs.First.{IsNew, IsFirst, writes_told}
+use Rattle.wjs_start.specs.First.{IsNew, IsFirst, object_count, writes_told}
 use Rattle.wjs_start.specs.Known.{Knows, IsThere, place_in, declared_in}
 use Rattle.wjs_start.specs.Writing.{writes_of, are_within}
+use Rattle.std.proofs.lemmas.Bool.{ltb-true}
 use Rattle.wjs_start.proofs.Creation.{below_there}
 
 -- ---- no objects
 
-no_objects : (n : ℕ) → IsTrue (has finite.empty (builtin n)) → ⊥
-no_objects n h = let e : is_some (finite.get (finite.empty {X = Entry} {R = obj_cmp}) (builtin n)) ≡ false = ap is_some (finite.get-empty obj_cmp (builtin n)) in let d : true ≡ false = sym h ∙ e in cc
+no_objects : (n : ℕ) → IsTrue (has finite.empty (first_object n)) → ⊥
+no_objects n h = let e : is_some (finite.get (finite.empty {X = Entry} {R = obj_cmp}) (first_object n)) ≡ false = ap is_some (finite.get-empty obj_cmp (first_object n)) in let d : true ≡ false = sym h ∙ e in cc
 
 pub nothing_built : (h : Parts) → IsHeap h → h.arena ≡ finite.empty → Building h 0
 nothing_built h heap none = record {
   heap = heap;
-  count = counted (next_number h.arena 0).serial (λ lt. no_objects 0 (subst (λ (m : Objects). IsTrue (has m (builtin 0))) none ((heap.arena.serials (builtin 0)).1 lt)));
+  count = counted (next_number h.arena 0).serial (λ lt. no_objects 0 (subst (λ (m : Objects). IsTrue (has m object_prototype)) none ((heap.arena.serials object_prototype).1 lt)));
   worlds = λ o w e.
       let q : option_and_then (λ (x : Entry). (x.object).world) None ≡ Some w = sym (ap (λ (m : Objects). world_of m o) none ∙ ap (option_and_then (λ (x : Entry). (x.object).world)) (finite.get-empty obj_cmp o)) ∙ e in
       cc;
@@ -119,6 +122,13 @@ fixed_new m e = subst IsNew (sym e) (record { own = refl; each_view = λ v ok. r
 
 -- ---- all together
 
+is_counted : (k : Builtin) → nat_lt (number_of k) object_count ≡ true
+is_counted initial.ObjectPrototype = refl
+is_counted _ = refl
+
+number_below : (k : Builtin) → number_of k < object_count
+number_below k = ltb-true (number_of k) object_count (is_counted k)
+
 -- what has told nothing names no text
 silent_known : (texts : Table) (told : Option (List (PlainAct × PlainReply))) → IfSome told (λ done. done ≡ []) → KnowsTold texts told
 silent_known texts None h = tt
@@ -136,7 +146,7 @@ one_there x w h = found_one x w (same_world x.id w) refl h
 pub begun : (texts : Table) (before : Meaning) (ids : List TextId) (k : Known) (bs : List Blueprint) (places : List Place) (mid new : Parts) → (IsTrue (not new.store.spent) → IsSound new.store) → IsNew before → Grows texts mid.texts → mid.store ≡ before
     → ((t : Table) → Grows mid.texts t → Knows t k) → ((t : Table) → Grows mid.texts t → declared_in t k ≡ map (text_in t) ids)
     → ((declared : List Text) → built_from declared 0 bs ≡ first_objects declared ++ native_objects first_native natives)
-    → Building mid 64 → ((t : Table) → Knows t k → arena_in t mid.arena ≡ with_objects finite.empty (built_from (declared_in t k) 0 bs))
+    → Building mid object_count → ((t : Table) → Knows t k → arena_in t mid.arena ≡ with_objects finite.empty (built_from (declared_in t k) 0 bs))
     → places ≡ k.places.items → Performs first_world (λ t. writes_of (map (place_in t) places)) (λ t. nothing) mid new → IsFirst texts before ids new
 begun texts before ids k bs places mid new sound is_new grows same knows names built building made place done = record {
   heap = done.heap;
@@ -155,11 +165,12 @@ begun texts before ids k bs places mid new sound is_new grows same knows names b
   knows = λ v ok. (done.carries new.texts new.texts (Grows-refl new.texts) (Grows-refl new.texts) v ok (known new.texts v ok)).knows;
   marks = done.marks (subst (KnowsWorlds mid.texts) (sym own) (fresh_known mid.texts));
   tells = done.told (subst (KnowsWorlds mid.texts) (sym own) (fresh_known mid.texts)) (subst (λ (m : Meaning). KnowsTold mid.texts m.told) (sym same) (silent_known mid.texts before.told is_new.silent));
-  builtins = λ n lt. subst (λ (m : Objects). IsTrue (has m (builtin n))) (sym done.arena) (below_there mid 64 building (builtin n) refl lt);
+  objects = objects_there;
+  builtins = λ k. objects_there (number_of k) (number_below k);
   first = done.still_there first_world (subst (λ F. IsTrue (has_world F first_world)) (sym own) fresh_first);
   no_other = λ w h. one_there (first_with (first_copy properties)) w (ap (λ F. has_world F w) (sym (slots_so new.texts (Grows-refl new.texts) new.store.own (sound works).admits_own)) ∙ has_named new.texts (worlds new.store) w ∙ h);
   own_worlds = λ o w e. (building.worlds o w (ap (λ (m : Objects). world_of m o) (sym done.arena) ∙ e)).1;
-  shown = ap (λ (m : Objects). world_of m (builtin 13)) done.arena ∙ building.shown (omega arith);
+  shown = ap (λ (m : Objects). world_of m first_world_object) done.arena ∙ building.shown (number_below initial.FirstWorld);
   codes = λ o x e. building.codes o x (ap (λ (m : Objects). finite.get m o) (sym done.arena) ∙ e);
   narrows = λ v ok. admitted v ok;
   own = done.own ∙ ap (λ (m : Meaning). m.own) same;
@@ -181,6 +192,9 @@ begun texts before ids k bs places mid new sound is_new grows same knows names b
 
     begins : (t : Table) (v : View) → IsTrue (new.store.admits v) → worlds_in t (mid.store.full v) ≡ one finite.empty
     begins t v ok = ap (worlds_in t) (full v ok) ∙ fresh_in t
+
+    objects_there : (n : ℕ) → n < object_count → IsTrue (has new.arena (first_object n))
+    objects_there n lt = subst (λ (m : Objects). IsTrue (has m (first_object n))) (sym done.arena) (below_there mid object_count building (first_object n) refl lt)
 
     written : (t : Table) → Grows new.texts t → map (place_in t) places ≡ properties
     written t g = ap (map (place_in t)) place ∙ (knows t (later t g)).places.are
@@ -209,11 +223,11 @@ names_here a b k ids e f t g = f t (subst (λ (x : Table). Grows x t) e g)
 pub places_here : (t : Table) (k : Known) (places : List Place) → places ≡ k.places.items → Knows t k → Holds (IsThere t) places
 places_here t k places e knows = subst (Holds (IsThere t)) (sym e) knows.places.there
 
-all_within : are_within 64 properties ≡ true
+all_within : are_within object_count properties ≡ true
 all_within = refl
 
-pub places_within : (t : Table) (k : Known) (places : List Place) → places ≡ k.places.items → Knows t k → are_within 64 (map (place_in t) places) ≡ true
-places_within t k places e knows = ap (λ (l : List Place). are_within 64 (map (place_in t) l)) e ∙ ap (are_within 64) knows.places.are ∙ all_within
+pub places_within : (t : Table) (k : Known) (places : List Place) → places ≡ k.places.items → Knows t k → are_within object_count (map (place_in t) places) ≡ true
+places_within t k places e knows = ap (λ (l : List Place). are_within object_count (map (place_in t) l)) e ∙ ap (are_within object_count) knows.places.are ∙ all_within
 
 pub first_there : (m before : Meaning) → m ≡ before → IsNew before → IsTrue (has_world (worlds m) first_world)
 first_there m before e new = subst (λ F. IsTrue (has_world F first_world)) (sym (ap worlds e ∙ new.own)) fresh_first

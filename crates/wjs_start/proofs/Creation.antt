@@ -12,17 +12,19 @@ use Rattle.wjs_base.specs.declared.ids.ObjId.{ObjId}
 use Rattle.wjs_base.specs.declared.ids.WorldId.{WorldId}
 use Rattle.wjs_base.specs.Order.{obj_cmp, obj_total}
 use Rattle.wjs_base.specs.Text.{Table}
+use Rattle.wjs_base.proofs.Booleans.{by_bool}
 use Rattle.wjs_arena.specs.declared.object.Code.{Code}
 use Rattle.wjs_arena.specs.declared.object.Object.{Object}
 use Rattle.wjs_arena.specs.Entries as arena
 use Rattle.wjs_arena.specs.Entries.{Objects, Entry, has, next_number, world_of, entry_over}
-use Rattle.wjs_arena.proofs.Owners.{by_bool, key_is}
-use Rattle.wjs_content.specs.Objects.{Arena, created}
-use Rattle.wjs_content.specs.Tables.{arena_in}
+use Rattle.wjs_arena.proofs.Owners.{key_is}
+use Rattle.wjs_by_content.specs.Objects.{Arena, created}
+use Rattle.wjs_by_content.specs.Tables.{arena_in}
 use Rattle.wjs_heap.specs.Heap.{Parts}
 use Rattle.wjs_heap.specs.Acts.{Creates}
-use Rattle.wjs_meaning.specs.Builtins.{builtin, first_world}
-use Rattle.wjs_deeds.proofs.Making.{none_some}
+use Rattle.wjs_store.specs.State.{first_world}
+use Rattle.wjs_meaning.specs.Builtins.{first_object, first_world_object}
+use Rattle.wjs_heap_steps.proofs.Making.{none_some}
 use Rattle.wjs_start.specs.declared.blueprints.Blueprint.{Blueprint}
 use Rattle.wjs_start.specs.declared.known.Known.{Known}
 use Rattle.wjs_start.specs.Blueprints.{built, built_from, is_before, has_right_world, is_buildable, are_buildable}
@@ -35,8 +37,8 @@ use Rattle.wjs_start.proofs.Blueprinting.{built-snoc}
 some_same : {A : Type 0} (a b : A) → Some a ≡ Some b → a ≡ b
 some_same a b e = cc
 
--- a builtin by its number
-numbered : (o : ObjId) (n : ℕ) → o.owner ≡ 0 → o.serial ≡ n → o ≡ builtin n
+-- an object of owner 0 by its number
+numbered : (o : ObjId) (n : ℕ) → o.owner ≡ 0 → o.serial ≡ n → o ≡ first_object n
 numbered o n e d = λ i. record { owner = e i; serial = d i }
 
 module _ (h : Parts) (n : ℕ) (b : Building h n) where
@@ -57,28 +59,28 @@ module _ (h : Parts) (n : ℕ) (b : Building h n) where
 
   -- an object was made
   module _ (x : Object) (id : ObjId) (new : Parts) (c : Creates 0 x id h new) where
-    is_next : id ≡ builtin n
+    is_next : id ≡ first_object n
     is_next = numbered id n (ap (λ (o : ObjId). o.owner) c.number) (ap (λ (o : ObjId). o.serial) c.number ∙ b.count)
 
     look : (o : ObjId) → map.get new.arena o ≡ cond (eq_by_cmp obj_cmp o (next_number h.arena 0)) (Some (entry_over h.arena x)) (map.get h.arena o)
     look o = ap (λ (m : Objects). map.get m o) c.arena ∙ map.get-insert obj_total h.arena (next_number h.arena 0) (entry_over h.arena x) o
 
     -- what is there was there, or is the new one
-    by_key : (o : ObjId) {P : Type 0} → (o ≡ builtin n → map.get new.arena o ≡ Some (entry_over h.arena x) → P) → (map.get new.arena o ≡ map.get h.arena o → P) → P
+    by_key : (o : ObjId) {P : Type 0} → (o ≡ first_object n → map.get new.arena o ≡ Some (entry_over h.arena x) → P) → (map.get new.arena o ≡ map.get h.arena o → P) → P
     by_key o here old = by_bool (eq_by_cmp obj_cmp o (next_number h.arena 0))
         (λ t. here (key_is o (next_number h.arena 0) t ∙ sym c.number ∙ is_next) (look o ∙ ap (λ q. cond q (Some (entry_over h.arena x)) (map.get h.arena o)) t))
         (λ f. old (look o ∙ ap (λ q. cond q (Some (entry_over h.arena x)) (map.get h.arena o)) f))
 
-    no_more : IsTrue (has new.arena (builtin (n + 1))) → ⊥
-    no_more there = by_key (builtin (n + 1))
+    no_more : IsTrue (has new.arena (first_object (n + 1))) → ⊥
+    no_more there = by_key (first_object (n + 1))
         (λ e q. let s : n + 1 ≡ n = ap (λ (o : ObjId). o.serial) e in absurd (omega (arith, s)))
-        (λ e. let l = there_below (builtin (n + 1)) refl (subst (λ (r : Option Entry). IsTrue (is_some r)) e there) in absurd (omega (arith, l)))
+        (λ e. let l = there_below (first_object (n + 1)) refl (subst (λ (r : Option Entry). IsTrue (is_some r)) e there) in absurd (omega (arith, l)))
 
     counted : (next_number new.arena 0).serial ≡ n + 1
     counted =
         let m = (next_number new.arena 0).serial in
-        let low : n < m = (c.heap.arena.serials (builtin n)).0 (subst (λ (o : ObjId). IsTrue (has new.arena o)) is_next c.there) in
-        ⊎_elim (λ e. e) (λ o. ⊎_elim (λ l. absurd (omega (arith, l, low))) (λ l. absurd (no_more ((c.heap.arena.serials (builtin (n + 1))).1 l))) o) (cases_order m (n + 1))
+        let low : n < m = (c.heap.arena.serials (first_object n)).0 (subst (λ (o : ObjId). IsTrue (has new.arena o)) is_next c.there) in
+        ⊎_elim (λ e. e) (λ o. ⊎_elim (λ l. absurd (omega (arith, l, low))) (λ l. absurd (no_more ((c.heap.arena.serials (first_object (n + 1))).1 l))) o) (cases_order m (n + 1))
 
     new_world : (w : Option WorldId) (v : WorldId) → has_right_world n w ≡ true → w ≡ Some v → (13 < n + 1) × (v ≡ first_world)
     new_world None v e q = none_some None v refl q
@@ -94,12 +96,12 @@ module _ (h : Parts) (n : ℕ) (b : Building h n) where
     right_shown (Some w) s e = ap (λ (v : WorldId). Some v) (new_world (Some w) w e refl).1
 
     -- object 13 is the new one, or was there
-    new_shown : has_right_world n x.world ≡ true → 13 < n + 1 → world_of new.arena (builtin 13) ≡ Some first_world
-    new_shown right lt = by_key (builtin 13)
+    new_shown : has_right_world n x.world ≡ true → 13 < n + 1 → world_of new.arena first_world_object ≡ Some first_world
+    new_shown right lt = by_key first_world_object
         (λ e at. ap (option_and_then (λ (y : Entry). (y.object).world)) at ∙ right_shown x.world (ap (λ (o : ObjId). o.serial) e) right)
         (λ e.
-        let there : IsTrue (has new.arena (builtin 13)) = (c.heap.arena.serials (builtin 13)).1 (omega (arith, lt, counted)) in
-        let old : 13 < n = there_below (builtin 13) refl (subst (λ (r : Option Entry). IsTrue (is_some r)) e there) in
+        let there : IsTrue (has new.arena first_world_object) = (c.heap.arena.serials first_world_object).1 (omega (arith, lt, counted)) in
+        let old : 13 < n = there_below first_world_object refl (subst (λ (r : Option Entry). IsTrue (is_some r)) e there) in
         ap (option_and_then (λ (y : Entry). (y.object).world)) e ∙ b.shown old)
 
     pub made : has_right_world n x.world ≡ true → IsTrue (not (is_script x.code)) → Building new (n + 1)
@@ -117,7 +119,7 @@ module _ (h : Parts) (n : ℕ) (b : Building h n) where
 
 -- ---- one more
 
-pub makes_on : (k : Known) (bs : List Blueprint) (i : ℕ) (d : Blueprint) (old now new : Parts) → i < length bs → Makes k (λ declared. built_from declared 0 (take i bs)) i old now → Makes k (λ declared. built declared (builtin i) (get_or bs i d) ∷ []) (i + 1) now new → Makes k (λ declared. built_from declared 0 (take (i + 1) bs)) (i + 1) old new
+pub makes_on : (k : Known) (bs : List Blueprint) (i : ℕ) (d : Blueprint) (old now new : Parts) → i < length bs → Makes k (λ declared. built_from declared 0 (take i bs)) i old now → Makes k (λ declared. built declared (first_object i) (get_or bs i d) ∷ []) (i + 1) now new → Makes k (λ declared. built_from declared 0 (take (i + 1) bs)) (i + 1) old new
 makes_on k bs i d old now new lt f s = record {
   building = s.building;
   arena = λ t knows.
@@ -125,11 +127,11 @@ makes_on k bs i d old now new lt f s = record {
       let b = get_or bs i d in
       let number : 0 + length (take i bs) ≡ i = omega (arith, length-take-le i bs (omega (arith, lt))) in
       s.arena t knows
-      ∙ ap (λ a. with_objects a (built declared (builtin i) b ∷ [])) (f.arena t knows)
+      ∙ ap (λ a. with_objects a (built declared (first_object i) b ∷ [])) (f.arena t knows)
       ∙ sym (ap (λ (l : List Blueprint). with_objects (arena_in t old.arena) (built_from declared 0 l)) (take_more bs i d lt)
       ∙ ap (with_objects (arena_in t old.arena)) (built-snoc declared 0 (take i bs) b)
-      ∙ fold-append (λ (a : Arena) object. created a 0 object) (arena_in t old.arena) (built_from declared 0 (take i bs)) (built declared (builtin (0 + length (take i bs))) b ∷ [])
-      ∙ ap (λ m. with_objects (with_objects (arena_in t old.arena) (built_from declared 0 (take i bs))) (built declared (builtin m) b ∷ [])) number);
+      ∙ fold-append (λ (a : Arena) object. created a 0 object) (arena_in t old.arena) (built_from declared 0 (take i bs)) (built declared (first_object (0 + length (take i bs))) b ∷ [])
+      ∙ ap (λ m. with_objects (with_objects (arena_in t old.arena) (built_from declared 0 (take i bs))) (built declared (first_object m) b ∷ [])) number);
   texts = s.texts ∙ f.texts;
   store = s.store ∙ f.store;
 }
@@ -172,7 +174,7 @@ module _ (n : ℕ) (b : Blueprint) (e : is_buildable n b ≡ true) where
   no_script = (and_parts (has_right_world n b.world) (not (is_script b.code)) but_constructs).1
 
 -- one object was made
-pub made_one : (k : Known) (b : Blueprint) (x : Object) (id : ObjId) (h new : Parts) (n : ℕ) → Building h n → is_buildable n b ≡ true → x.world ≡ b.world → x.code ≡ b.code → ((t : Table) (objects : Objects) → Knows t k → arena.IsThere objects b.constructs → IsBuilt t objects x (built (declared_in t k) (builtin n) b)) → Creates 0 x id h new → Makes k (λ declared. built declared (builtin n) b ∷ []) (n + 1) h new
+pub made_one : (k : Known) (b : Blueprint) (x : Object) (id : ObjId) (h new : Parts) (n : ℕ) → Building h n → is_buildable n b ≡ true → x.world ≡ b.world → x.code ≡ b.code → ((t : Table) (objects : Objects) → Knows t k → arena.IsThere objects b.constructs → IsBuilt t objects x (built (declared_in t k) (first_object n) b)) → Creates 0 x id h new → Makes k (λ declared. built declared (first_object n) b ∷ []) (n + 1) h new
 made_one k b x id h new n building fits same code is c = record {
   building = made h n building x id new c (ap (has_right_world n) same ∙ world_right n b fits) (ap (λ (z : Code). not (is_script z)) code ∙ no_script n b fits);
   arena = λ t knows. c.arena_by t ∙ ap (created (arena_in t h.arena) 0) (is t h.arena knows (before_there h n building b.constructs (constructs_before n b fits))).is;

@@ -8,8 +8,8 @@ use Rattle.wjs_base.specs.declared.ids.TextId.{TextId}
 use Rattle.wjs_base.specs.Text.{Table, IsTable}
 use Rattle.wjs_tree.specs.declared.node.Node.{Node}
 use Rattle.wjs_tree.specs.declared.node.NodeId.{NodeId}
-use Rattle.wjs_content.specs.Values.{Text}
-use Rattle.wjs_content.specs.Tables.{text_in}
+use Rattle.wjs_by_content.specs.Values.{Text}
+use Rattle.wjs_by_content.specs.Tables.{text_in}
 use Rattle.wjs_meaning.specs.Declarations.{declared_by}
 use Rattle.wjs_meaning.specs.Reading.{node_in, numbers}
 use Rattle.wjs_meaning.specs.Trees.{name_of, node_at}

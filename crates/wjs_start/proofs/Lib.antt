@@ -2,6 +2,7 @@ pub mod Appending
 pub mod Naming
 pub mod Placing
 pub mod Blueprinting
+pub mod Fitting
 pub mod Underneath
 pub mod Telling
 pub mod Creation

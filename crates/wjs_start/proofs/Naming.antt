@@ -7,11 +7,11 @@ use Rattle.wjs_base.specs.declared.values.Name.{Name}
 use Rattle.wjs_base.specs.Spelling.{IsNameOf as NameOfText, IsName}
 use Rattle.wjs_base.specs.Text.{Table, Grows, Has}
 use Rattle.wjs_base.proofs.TextLaws.{Grows-IsName, IsNameOf-IsName}
-use Rattle.wjs_content.specs.Renamed.{Holds}
-use Rattle.wjs_content.specs.Values.{Text}
-use Rattle.wjs_content.specs.Tables.{name_in, text_in}
+use Rattle.wjs_by_content.specs.Renamed.{Holds}
+use Rattle.wjs_by_content.specs.Values.{Text}
+use Rattle.wjs_by_content.specs.Tables.{name_in, text_in}
 use Rattle.wjs_props.proofs.SpelledNames.{holds_more}
-use Rattle.wjs_deeds.proofs.Spelling.{named_in}
+use Rattle.wjs_heap_steps.proofs.Spelling.{named_in}
 use Rattle.wjs_start.specs.Names.{IsNameOf, AreNamesOf}
 
 pub no_names : (t : Table) → AreNamesOf t [] []

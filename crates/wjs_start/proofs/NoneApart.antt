@@ -6,7 +6,7 @@ use Rattle.wjs_base.specs.declared.values.Value.{Value}
 use Rattle.wjs_base.specs.declared.values.Value.TheVariants as values
 use Rattle.wjs_arena.specs.declared.object.Object.{Object}
 use Rattle.wjs_store.specs.Meaning.{Worlds}
-use Rattle.wjs_content.specs.Renamed.{Holds}
+use Rattle.wjs_by_content.specs.Renamed.{Holds}
 use Rattle.wjs_model.specs.Apart.{IsNear, NearValue, NearIf, NamesNear, NearSlots}
 
 value_near : (v : Value) → NearValue [] v

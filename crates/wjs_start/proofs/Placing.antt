@@ -3,9 +3,9 @@ use Rattle.std.proofs.Common.{◌≡◌, ℕ, ◌+◌, ◌<◌, ◌≤◌, List,
 use Rattle.std.specs.Prelude.{map}
 use Rattle.std.proofs.lemmas.List.{map-append, map_more, take_all}
 use Rattle.wjs_base.specs.Text.{Table, Grows, IsTable}
-use Rattle.wjs_content.specs.Renamed.{Holds}
-use Rattle.wjs_content.proofs.Growth.{name_grows}
-use Rattle.wjs_content.proofs.Known.{name_known}
+use Rattle.wjs_by_content.specs.Renamed.{Holds}
+use Rattle.wjs_by_content.proofs.Growth.{name_grows}
+use Rattle.wjs_by_content.proofs.Known.{name_known}
 use Rattle.wjs_meaning.specs.Start.{Property}
 use Rattle.wjs_props.proofs.SpelledNames.{holds_more}
 use Rattle.wjs_start.specs.Known.{IsThere, IsPlace, ArePlaces, TellsPlaces, place_in}

@@ -15,15 +15,18 @@ use Rattle.wjs_tree.specs.declared.node.NodeId.{NodeId}
 use Rattle.wjs_arena.specs.declared.object.Code.{Code}
 use Rattle.wjs_arena.specs.declared.object.Code.TheVariants as code
 use Rattle.wjs_arena.specs.Entries.{Entry, Objects, world_of}
-use Rattle.wjs_content.specs.Carried.{tell}
-use Rattle.wjs_content.specs.Plans.{Told}
-use Rattle.wjs_content.specs.Tables.{text_in, arena_in}
-use Rattle.wjs_content.specs.Worlds.{told_in, told_by}
+use Rattle.wjs_by_content.specs.Carried.{tell}
+use Rattle.wjs_by_content.specs.Plans.{Told}
+use Rattle.wjs_by_content.specs.Tables.{text_in, arena_in}
+use Rattle.wjs_by_content.specs.Worlds.{told_in, told_by}
 use Rattle.wjs_heap.specs.declared.heap.Heap.{Heap}
 use Rattle.wjs_heap.specs.Means.{parts}
 use Rattle.wjs_meaning.specs.Trees.{Tree}
 use Rattle.wjs_meaning.specs.Deeds.{St}
-use Rattle.wjs_meaning.specs.Builtins.{builtin, global_object, first_world}
+use Rattle.wjs_meaning.specs.declared.builtin.Builtin.{Builtin}
+use Rattle.wjs_meaning.specs.declared.builtin.Builtin.TheVariants as initial
+use Rattle.wjs_store.specs.State.{first_world}
+use Rattle.wjs_meaning.specs.Builtins.{builtin, global_object, object_prototype, first_world_object}
 use Rattle.wjs_meaning.specs.Programs.{machine}
 use Rattle.wjs_meaning.specs.Start.{start, first_arena, properties}
 use Rattle.wjs_model.specs.declared.config.Config.{Config}
@@ -43,8 +46,8 @@ use Rattle.wjs_model.specs.Texts.{KnowsUnit, PlacesUnit}
 use Rattle.wjs_model.specs.Units.{unit_in}
 use Rattle.wjs_model.proofs.Placed.{placed_stay}
 use Rattle.wjs_model.proofs.Starts.{start_lem}
-use Rattle.wjs_deeds.proofs.Earlier.{rest_earlier}
-use Rattle.wjs_deeds.proofs.Staying.{units_stay}
+use Rattle.wjs_heap_steps.proofs.Earlier.{rest_earlier}
+use Rattle.wjs_heap_steps.proofs.Staying.{units_stay}
 use Rattle.wjs_start.proofs.NoneApart.{all_near, objects_near, slots_near}
 use Rattle.wjs_start.specs.Declaring.{declared_by_tree}
 use Rattle.wjs_start.specs.First.{IsNew, IsFirst, is_script, writes_told}
@@ -185,8 +188,8 @@ module _ {S : Type 0} (meaning : S → Meaning) (texts : Table) (before : Meanin
     spent = is.spent;
   }
 
-  builtin_there : (n : ℕ) → n < 64 → HasObject c (builtin n)
-  builtin_there n lt = (is.builtins n lt, all_near apart.items none_kept (builtin n))
+  builtin_there : (k : Builtin) → HasObject c (builtin k)
+  builtin_there k = (is.builtins k, all_near apart.items none_kept (builtin k))
 
   -- a program's body stands with no scopes around it
   body_stands : (tree : ℕ) (u : Program) → slice_get (units_of library script) tree ≡ Some u → Stands units.items h.arena tree (body_of u) global_object 0
@@ -197,11 +200,11 @@ module _ {S : Type 0} (meaning : S → Meaning) (texts : Table) (before : Meanin
       → HasPhase c (frame_at tree (body_of u) phase) phase → IsStacked meaning c (frame_at tree (body_of u) phase)
   frame_there tree u phase e h = record {
     there = record {
-      scope = builtin_there 2 (omega arith);
-      this = builtin_there 2 (omega arith);
+      scope = builtin_there initial.Global;
+      this = builtin_there initial.Global;
       world = is.first;
       held = tt;
-      stands = record { node = body_stands tree u e; shown = (builtin 13, is.shown) };
+      stands = record { node = body_stands tree u e; shown = (first_world_object, is.shown) };
     };
     phase = h;
   }
@@ -222,23 +225,23 @@ module _ {S : Type 0} (meaning : S → Meaning) (texts : Table) (before : Meanin
   worlds_by_owner : (o : ObjId) (w : WorldId) → world_of h.arena o ≡ Some w → w.owner ≡ o.owner
   worlds_by_owner o w at =
       let first = is.own_worlds o w at in
-      let same = is.heap.arena.one_object o (builtin 13) first_world (at ∙ ap Some first) is.shown in
+      let same = is.heap.arena.one_object o first_world_object first_world (at ∙ ap Some first) is.shown in
       ap (λ (x : WorldId). x.owner) first ∙ sym (ap (λ (x : ObjId). x.owner) same)
 
   base_so : Base meaning c
   base_so = record {
     heap = is.heap;
     works = ap not is.spent ∙ new.works;
-    global = builtin_there 2 (omega arith);
+    global = builtin_there initial.Global;
     world = is.first;
-    builtins = λ n lt. builtin_there n (omega (arith, lt));
+    builtins = builtin_there;
     units = subst (All (KnowsUnit t)) (sym units_are) all_known;
     places = subst (All (PlacesUnit t)) (sym units_are) all_placed;
     functions = λ o e q. code_stands units.items h.arena (e.object).code (e.object).scope (is.codes o e q);
     worlds_own = λ w there. ap (λ (x : WorldId). x.owner) (is.no_other w there);
     worlds_by = λ o e w q r. worlds_by_owner o w (stands o e w q r);
     own_worlds = λ o e w q r s. subst (HasWorld meaning c) (sym (is.own_worlds o w (stands o e w q r))) is.first;
-    own = all_near apart.items none_kept (builtin 0);
+    own = all_near apart.items none_kept object_prototype;
     near_objects = λ o e q h. objects_near apart.items none_kept e.object;
     near_slots = slots_near apart.items none_kept (worlds (meaning h.store));
     frames = subst (All (IsStacked meaning c)) (sym frames_there) (all_there library refl);

@@ -7,13 +7,13 @@ use Rattle.wjs_base.specs.declared.values.Value.{Value as NumberedValue}
 use Rattle.wjs_base.specs.declared.values.Value.TheVariants as values
 use Rattle.wjs_base.specs.Text.{Table, Grows}
 use Rattle.wjs_base.proofs.TextLaws.{Grows-Has, Grows-IsName}
-use Rattle.wjs_content.specs.Plans.{Writes, Gives}
-use Rattle.wjs_content.specs.Tables.{value_in}
-use Rattle.wjs_content.specs.Renamed.{Holds}
+use Rattle.wjs_by_content.specs.Plans.{Writes, Gives}
+use Rattle.wjs_by_content.specs.Tables.{value_in}
+use Rattle.wjs_by_content.specs.Renamed.{Holds}
 use Rattle.wjs_heap.specs.Heap.{Parts, IsHeap, Performs}
 use Rattle.wjs_heap.specs.Means.{nothing}
 use Rattle.wjs_heap.proofs.Turns.{performs_nothing, performs_then}
-use Rattle.wjs_meaning.specs.Builtins.{first_world}
+use Rattle.wjs_store.specs.State.{first_world}
 use Rattle.wjs_meaning.specs.Start.{Property}
 use Rattle.wjs_start.specs.declared.known.Place.{Place}
 use Rattle.wjs_start.specs.Known.{IsThere, HasText, place_in}

@@ -4,10 +4,10 @@ use Rattle.std.specs.Prelude.{map}
 use Rattle.std.proofs.lemmas.List.{drop_more}
 use Rattle.wjs_base.specs.declared.values.Name.{Name}
 use Rattle.wjs_base.specs.Text.{Table}
-use Rattle.wjs_arena.proofs.Owners.{by_bool}
-use Rattle.wjs_content.specs.Values.{Text, same_text, text_Decides}
-use Rattle.wjs_content.specs.Tables.{name_in, knows_name}
-use Rattle.wjs_content.specs.Telling.{names_tell}
+use Rattle.wjs_base.proofs.Booleans.{by_bool}
+use Rattle.wjs_by_content.specs.Values.{Text, same_text, text_Decides}
+use Rattle.wjs_by_content.specs.Tables.{name_in, knows_name}
+use Rattle.wjs_by_content.specs.Telling.{names_tell}
 use Rattle.wjs_meaning.specs.Trees.{has_text}
 use Rattle.wjs_start.specs.Known.{TellsNames}
 use Rattle.wjs_start.proofs.Underneath.{holds_at}

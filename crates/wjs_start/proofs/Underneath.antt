@@ -10,13 +10,14 @@ use Rattle.wjs_base.specs.Spelling.{IsName}
 use Rattle.wjs_base.specs.Text.{Table}
 use Rattle.wjs_arena.specs.declared.object.Flags.{Flags}
 use Rattle.wjs_arena.specs.Entries.{Objects}
-use Rattle.wjs_content.specs.Renamed.{Holds}
-use Rattle.wjs_content.specs.Values.{Text, Value, same_object, whole}
-use Rattle.wjs_content.specs.Tables.{name_in, value_in, knows_name}
+use Rattle.wjs_by_content.specs.Renamed.{Holds}
+use Rattle.wjs_store.specs.State.{same_object}
+use Rattle.wjs_by_content.specs.Values.{Text, Value, whole}
+use Rattle.wjs_by_content.specs.Tables.{name_in, value_in, knows_name}
 use Rattle.wjs_heap.specs.Heap.{HasValue}
 use Rattle.wjs_props.proofs.SpelledNames.{holds_more}
 use Rattle.wjs_meaning.specs.Start.{Property}
-use Rattle.wjs_deeds.proofs.Making.{number_there}
+use Rattle.wjs_heap_steps.proofs.Making.{number_there}
 use Rattle.wjs_start.specs.Blueprints.{length_part}
 use Rattle.wjs_start.specs.Names.{IsNameOf, AreNamesOf}
 use Rattle.wjs_start.specs.Flags.{IsFlagged, IsFixed, flags_among}

@@ -3,9 +3,9 @@ use Rattle.std.specs.Prelude.{ℕ, ◌+◌, Bool, true, false, not, ◌&&◌, �
 use Rattle.wjs_base.specs.declared.ids.ObjId.{ObjId}
 use Rattle.wjs_base.specs.declared.ids.WorldId.{WorldId}
 use Rattle.wjs_arena.specs.declared.object.Flags.{Flags}
-use Rattle.wjs_content.specs.Values.{Text, Value, Undefined, Boolean, String, whole}
-use Rattle.wjs_content.specs.Objects.{Internals, hidden_flags, kept_flags}
-use Rattle.wjs_meaning.specs.Builtins.{builtin}
+use Rattle.wjs_by_content.specs.Values.{Text, Value, Undefined, Boolean, String, whole}
+use Rattle.wjs_by_content.specs.Objects.{Internals, hidden_flags, kept_flags}
+use Rattle.wjs_meaning.specs.Builtins.{first_object}
 use Rattle.wjs_meaning.specs.Start.{flags_on, fixed_length, fixed_prototype, library_names}
 use Rattle.wjs_start.specs.declared.blueprints.Primitive.{Primitive}
 use Rattle.wjs_start.specs.declared.blueprints.Primitive.TheVariants as primitive
@@ -52,7 +52,7 @@ built declared o b = record {
 -- those of a list, the first being object n
 abbrev pub built_from : List Text → ℕ → List Blueprint → List Internals
 built_from declared n [] = []
-built_from declared n (b ∷ bs) = built declared (builtin n) b ∷ built_from declared (n + 1) bs
+built_from declared n (b ∷ bs) = built declared (first_object n) b ∷ built_from declared (n + 1) bs
 
 -- ---- what an object names is there where it is made, and it is no script's function
 

@@ -5,11 +5,12 @@ use Rattle.wjs_base.specs.declared.ids.ObjId.{ObjId}
 use Rattle.wjs_base.specs.declared.ids.WorldId.{WorldId}
 use Rattle.wjs_base.specs.Text.{Table}
 use Rattle.wjs_arena.specs.Entries.{Entry, next_number, world_of}
-use Rattle.wjs_content.specs.Values.{Text}
-use Rattle.wjs_content.specs.Objects.{Arena, Internals, created}
-use Rattle.wjs_content.specs.Tables.{arena_in}
+use Rattle.wjs_by_content.specs.Values.{Text}
+use Rattle.wjs_by_content.specs.Objects.{Arena, Internals, created}
+use Rattle.wjs_by_content.specs.Tables.{arena_in}
 use Rattle.wjs_heap.specs.Heap.{Parts, IsHeap}
-use Rattle.wjs_meaning.specs.Builtins.{builtin, first_world}
+use Rattle.wjs_store.specs.State.{first_world}
+use Rattle.wjs_meaning.specs.Builtins.{first_world_object}
 use Rattle.wjs_start.specs.declared.known.Known.{Known}
 use Rattle.wjs_start.specs.First.{is_script}
 use Rattle.wjs_start.specs.Known.{Knows, declared_in}
@@ -19,7 +20,7 @@ pub record Building (h : Parts) (n : ℕ) : Type 0 where
   pub heap : IsHeap h
   pub count : (next_number h.arena 0).serial ≡ n
   pub worlds : (o : ObjId) (w : WorldId) → world_of h.arena o ≡ Some w → (13 < n) × (w ≡ first_world)
-  pub shown : 13 < n → world_of h.arena (builtin 13) ≡ Some first_world
+  pub shown : 13 < n → world_of h.arena first_world_object ≡ Some first_world
   pub codes : (o : ObjId) (e : Entry) → map.get h.arena o ≡ Some e → IsTrue (not (is_script e.object.code))
 
 -- one object of owner 0 after another

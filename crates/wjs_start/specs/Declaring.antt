@@ -1,6 +1,6 @@
 -- The names that a program declares.
 use Rattle.std.specs.Prelude.{List, ◌++◌, filter_map}
-use Rattle.wjs_content.specs.Values.{Text}
+use Rattle.wjs_by_content.specs.Values.{Text}
 use Rattle.wjs_meaning.specs.Trees.{Tree, name_of, node_at}
 use Rattle.wjs_meaning.specs.Declarations.{declared_by}
 

@@ -1,23 +1,25 @@
 -- The first heap.
-use Rattle.std.specs.Prelude.{◌≡◌, ℕ, ◌<◌, Bool, true, false, not, List, [], ◌∷◌, ◌++◌, map as each, Some, IfSome, IsTrue}
+use Rattle.std.specs.Prelude.{◌≡◌, ℕ, ◌+◌, ◌<◌, Bool, true, false, not, List, [], ◌∷◌, ◌++◌, length, map as each, Some, IfSome, IsTrue}
 use Rattle.std.specs.FinMap as map
 use Rattle.wjs_base.specs.declared.ids.ObjId.{ObjId}
 use Rattle.wjs_base.specs.declared.ids.TextId.{TextId}
 use Rattle.wjs_base.specs.declared.ids.WorldId.{WorldId}
 use Rattle.wjs_base.specs.Text.{Table, Grows}
-use Rattle.wjs_store.specs.State.{has_world, write}
+use Rattle.wjs_store.specs.State.{has_world, write, first_world}
 use Rattle.wjs_store.specs.Meaning.{Meaning, View, worlds}
 use Rattle.wjs_store.specs.Fixed.{fresh}
 use Rattle.wjs_arena.specs.declared.object.Code.{Code}
 use Rattle.wjs_arena.specs.declared.object.Code.TheVariants as code
 use Rattle.wjs_arena.specs.Entries.{Entry, has, world_of}
-use Rattle.wjs_content.specs.Carried.{tell}
-use Rattle.wjs_content.specs.Plans.{Told, Wrote}
-use Rattle.wjs_content.specs.Tables.{text_in, arena_in}
-use Rattle.wjs_content.specs.Worlds.{worlds_in, told_by, KnowsWorlds}
+use Rattle.wjs_by_content.specs.Carried.{tell}
+use Rattle.wjs_by_content.specs.Plans.{Told, Wrote}
+use Rattle.wjs_by_content.specs.Tables.{text_in, arena_in}
+use Rattle.wjs_by_content.specs.Worlds.{worlds_in, told_by, KnowsWorlds}
 use Rattle.wjs_heap.specs.Heap.{Parts, IsHeap, KnowsTold}
-use Rattle.wjs_meaning.specs.Builtins.{builtin, first_world}
+use Rattle.wjs_meaning.specs.declared.builtin.Builtin.{Builtin}
+use Rattle.wjs_meaning.specs.Builtins.{first_object, builtin, first_world_object}
 use Rattle.wjs_meaning.specs.Start.{Property, properties, first_arena, first_full}
+use Rattle.wjs_meaning.specs.Table.{natives, first_native}
 
 -- the first world alone, with no slot and no mark, under each view; the store works, and has told nothing yet
 pub record IsNew (m : Meaning) : Type 0 where
@@ -36,6 +38,10 @@ abbrev pub is_script : Code → Bool
 is_script (code.Script tree node) = true
 is_script _ = false
 
+-- how many objects there are before the first step
+abbrev pub object_count : ℕ
+object_count = first_native + length natives
+
 -- over a new store and where a script declares these names, what there is is what the meaning has before the first step
 pub record IsFirst (texts : Table) (before : Meaning) (declared : List TextId) (h : Parts) : Type 0 where
   pub heap : IsHeap h
@@ -51,11 +57,12 @@ pub record IsFirst (texts : Table) (before : Meaning) (declared : List TextId) (
   pub marks : KnowsWorlds h.texts (worlds h.store)
   pub tells : KnowsTold h.texts h.store.told
   -- the first objects are there, and the first world alone, for which an object stands
-  pub builtins : (n : ℕ) → n < 64 → IsTrue (has h.arena (builtin n))
+  pub objects : (n : ℕ) → n < object_count → IsTrue (has h.arena (first_object n))
+  pub builtins : (b : Builtin) → IsTrue (has h.arena (builtin b))
   pub first : IsTrue (has_world (worlds h.store) first_world)
   pub no_other : (w : WorldId) → IsTrue (has_world (worlds h.store) w) → w ≡ first_world
   pub own_worlds : (o : ObjId) (w : WorldId) → world_of h.arena o ≡ Some w → w ≡ first_world
-  pub shown : world_of h.arena (builtin 13) ≡ Some first_world
+  pub shown : world_of h.arena first_world_object ≡ Some first_world
   -- none is a script's function
   pub codes : (o : ObjId) (e : Entry) → map.get h.arena o ≡ Some e → IsTrue (not (is_script e.object.code))
   -- the store is as it was beside

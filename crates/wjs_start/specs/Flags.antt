@@ -8,10 +8,11 @@ use Rattle.wjs_base.specs.Text.{Table}
 use Rattle.wjs_arena.specs.declared.object.Flags.{Flags}
 use Rattle.wjs_arena.specs.declared.object.Object.{Object}
 use Rattle.wjs_arena.specs.Entries.{Objects}
-use Rattle.wjs_content.specs.Renamed.{Holds}
-use Rattle.wjs_content.specs.Values.{Text, Value, same_object}
-use Rattle.wjs_content.specs.Objects.{Internals}
-use Rattle.wjs_content.specs.Tables.{value_in, under_in, object_in}
+use Rattle.wjs_by_content.specs.Renamed.{Holds}
+use Rattle.wjs_store.specs.State.{same_object}
+use Rattle.wjs_by_content.specs.Values.{Text, Value}
+use Rattle.wjs_by_content.specs.Objects.{Internals}
+use Rattle.wjs_by_content.specs.Tables.{value_in, under_in, object_in}
 use Rattle.wjs_heap.specs.Heap.{HasValue, HasNamed}
 use Rattle.wjs_meaning.specs.Trees.{has_text}
 use Rattle.wjs_meaning.specs.Start.{Property, flags_if}

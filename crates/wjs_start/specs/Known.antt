@@ -5,10 +5,10 @@ use Rattle.wjs_base.specs.declared.values.Value.{Value as NumberedValue}
 use Rattle.wjs_base.specs.declared.values.Value.TheVariants as values
 use Rattle.wjs_base.specs.Spelling.{IsName}
 use Rattle.wjs_base.specs.Text.{Table, Has}
-use Rattle.wjs_content.specs.Renamed.{Holds}
-use Rattle.wjs_content.specs.Values.{Text, Value}
-use Rattle.wjs_content.specs.Names.{length_name, prototype_name}
-use Rattle.wjs_content.specs.Tables.{name_in, value_in, slot_in, knows_name}
+use Rattle.wjs_by_content.specs.Renamed.{Holds}
+use Rattle.wjs_by_content.specs.Values.{Text, Value}
+use Rattle.wjs_by_content.specs.Names.{length_name, prototype_name}
+use Rattle.wjs_by_content.specs.Tables.{name_in, value_in, slot_in, knows_name}
 use Rattle.wjs_meaning.specs.Start.{Property, properties, library_names}
 use Rattle.wjs_start.specs.Names.{IsTextOf, IsNameOf, AreNamesOf}
 use Rattle.wjs_start.specs.declared.known.Place.{Place}

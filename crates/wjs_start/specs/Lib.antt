@@ -1,4 +1,3 @@
-pub mod Rows
 pub mod Properties
 pub mod Names
 pub mod Known

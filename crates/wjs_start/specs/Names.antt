@@ -4,9 +4,9 @@ use Rattle.wjs_base.specs.declared.ids.TextId.{TextId}
 use Rattle.wjs_base.specs.declared.values.Name.{Name}
 use Rattle.wjs_base.specs.Spelling.{IsName}
 use Rattle.wjs_base.specs.Text.{Table, Has}
-use Rattle.wjs_content.specs.Renamed.{Holds}
-use Rattle.wjs_content.specs.Values.{Text}
-use Rattle.wjs_content.specs.Tables.{text_in, name_in}
+use Rattle.wjs_by_content.specs.Renamed.{Holds}
+use Rattle.wjs_by_content.specs.Values.{Text}
+use Rattle.wjs_by_content.specs.Tables.{text_in, name_in}
 use Rattle.wjs_start.specs.declared.names.Word.{Word}
 
 -- the number is there, of this text

@@ -1,7 +1,7 @@
 -- The slots of the first world, as the code has them.
 use Rattle.std.specs.Prelude.{List, [], ◌∷◌, ◌++◌, None, codes}
-use Rattle.wjs_content.specs.Values.{Value, Undefined, Number, String, Object, whole}
-use Rattle.wjs_content.specs.Names.{slot, length_name}
+use Rattle.wjs_by_content.specs.Values.{Value, Undefined, Number, String, Object, whole}
+use Rattle.wjs_by_content.specs.Names.{slot, length_name}
 use Rattle.wjs_meaning.specs.Builtins.{global_object, array_prototype, error_prototype, type_error_prototype, range_error_prototype, reference_error_prototype, math_object}
 use Rattle.wjs_meaning.specs.Start.{Property, property, kept_property, error_properties}
 use Rattle.wjs_start.specs.declared.properties.Given.{Given}

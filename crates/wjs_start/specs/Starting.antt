@@ -5,9 +5,10 @@ use Rattle.wjs_base.specs.declared.values.Value.TheVariants as values
 use Rattle.wjs_base.specs.Text.{Table, Grows}
 use Rattle.wjs_store.specs.Meaning.{Meaning, View}
 use Rattle.wjs_tree.specs.declared.node.NodeId.{NodeId}
-use Rattle.wjs_content.specs.Carried.{tell}
-use Rattle.wjs_content.specs.Worlds.{told_by}
-use Rattle.wjs_meaning.specs.Builtins.{global_object, first_world}
+use Rattle.wjs_by_content.specs.Carried.{tell}
+use Rattle.wjs_by_content.specs.Worlds.{told_by}
+use Rattle.wjs_store.specs.State.{first_world}
+use Rattle.wjs_meaning.specs.Builtins.{global_object}
 use Rattle.wjs_meaning.specs.Programs.{machine}
 use Rattle.wjs_meaning.specs.Start.{start, properties}
 use Rattle.wjs_model.specs.declared.config.Config.{Config}

@@ -1,8 +1,8 @@
 -- The slots of the first world are written.
 use Rattle.std.specs.Prelude.{ℕ, Bool, true, ◌&&◌, ◌==◌, nat_lt, List, [], ◌∷◌, Some}
 use Rattle.wjs_base.specs.declared.ids.ObjId.{ObjId}
-use Rattle.wjs_content.specs.Values.{Value, Object}
-use Rattle.wjs_content.specs.Plans.{Plan, Gives, Writes, then_plan}
+use Rattle.wjs_by_content.specs.Values.{Value, Object}
+use Rattle.wjs_by_content.specs.Plans.{Plan, Gives, Writes, then_plan}
 use Rattle.wjs_heap.specs.Means.{nothing}
 use Rattle.wjs_meaning.specs.Start.{Property}
 

@@ -2,16 +2,18 @@
 ghost use Rattle.std.specs.Prelude.{◌≡◌, ◌+◌, ◌++◌, ◌≤◌, ℕ, List, true, length, None, Some, IfOk, OnOk};
 ghost use Rattle.wjs_meaning.specs.Builtins.{object_prototype};
 ghost use Rattle.wjs_base.specs.declared.ids.ObjId.{ObjId};
-ghost use Rattle.wjs_content.specs.Values.{Text};
+ghost use Rattle.wjs_by_content.specs.Values.{Text};
 ghost use Rattle.wjs_meaning.specs.Start.{first_objects, native_object, native_objects};
 ghost use Rattle.wjs_meaning.specs.Table as table;
 ghost use Rattle.wjs_start.specs.Blueprints.{built, built_from, is_buildable, are_buildable};
+ghost use Rattle.wjs_start.specs.First.{object_count};
 
 use crate::builtins::{ERROR_PROTOTYPE, FUNCTION_PROTOTYPE, OBJECT_PROTOTYPE, WORLD_PROTOTYPE};
-use crate::natives::{natives, row_of};
+use crate::natives::natives;
 use std::alloc::Global;
-use wjs_arena::{Class, Code, Native};
+use wjs_arena::{Class, Code, FunctionNative, Native};
 use wjs_base::{ObjId, OutOfMemory, WorldId};
+use wjs_meaning::row_of;
 
 /// The first world.
 pub const FIRST_WORLD: WorldId = WorldId {
@@ -105,7 +107,7 @@ fn first_blueprints() -> [Blueprint; 14]
     [
         plain(Class::Plain, None),
         Blueprint {
-            code: Code::Native(Native::FunctionPrototype),
+            code: Code::Native(Native::Function(FunctionNative::Prototype)),
             length: Some(0),
             ..on_object(Class::Function)
         },
@@ -162,11 +164,9 @@ pub(crate) fn blueprints(alloc: Global) -> Result<Vec<Blueprint>, OutOfMemory>
     ensures built { IfOk result
         (λ list. (declared : List Text) → built_from declared 0 list.items ≡ first_objects declared ++ native_objects table.first_native table.natives) }
     ensures buildable { IfOk result (λ list. are_buildable 0 list.items ≡ true) }
-    ensures many { IfOk result (λ list. length list.items ≡ 64) }
+    ensures many { IfOk result (λ list. length list.items ≡ object_count) }
 {
-    let Ok(mut list) = Vec::from_slice(alloc, &first_blueprints()) else {
-        return Err(OutOfMemory);
-    };
+    let mut list = Vec::from_slice(alloc, &first_blueprints())?;
     push_natives(&mut list, natives())?;
     Ok(list)
 }
@@ -180,9 +180,7 @@ fn push_natives(list: &mut Vec<Blueprint>, natives: &[Native]) -> Result<(), Out
     ensures many { OnOk result (length list.new.items ≡ length list.old.items + length natives.now) }
 {
     for native in natives {
-        let Ok(()) = list.push(native_blueprint(*native)) else {
-            return Err(OutOfMemory);
-        };
+        list.push(native_blueprint(*native))?;
     }
     Ok(())
 }

@@ -1,8 +1,8 @@
 //! What the first objects and slots need of the table of texts.
 ghost use Rattle.std.specs.Prelude.{◌≡◌, All, IfOk, map};
 ghost use Rattle.wjs_base.specs.Text.{Table, Grows, Has, IsTable};
-ghost use Rattle.wjs_content.specs.Tables.{text_in};
-ghost use Rattle.wjs_content.specs.Values.{whole};
+ghost use Rattle.wjs_by_content.specs.Tables.{text_in};
+ghost use Rattle.wjs_by_content.specs.Values.{whole};
 ghost use Rattle.wjs_start.specs.Known.{Knows, ValueIs, IsPlace, ArePlaces, declared_in};
 ghost use Rattle.wjs_start.specs.Properties.{given_in, property_in};
 
@@ -71,9 +71,7 @@ fn places(alloc: Global, texts: &mut Texts, list: &[Property]) -> Result<Vec<Pla
     let mut places = Vec::new(alloc);
     for property in list {
         let place = place_of(alloc, texts, *property)?;
-        let Ok(()) = places.push(place) else {
-            return Err(OutOfMemory);
-        };
+        places.push(place)?;
     }
     Ok(places)
 }

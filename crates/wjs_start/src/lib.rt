@@ -17,6 +17,5 @@ mod slots;
 pub use blueprints::FIRST_WORLD;
 pub use builtins::GLOBAL_OBJECT;
 pub use heap::first_heap;
-pub use natives::{Row, row_of};
 pub use runs::{program_frame, start};
 pub use script::script_names;

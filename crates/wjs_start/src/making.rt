@@ -1,7 +1,7 @@
 //! The first objects are made.
 ghost use Rattle.std.specs.Prelude.{◌≡◌, ◌+◌, ◌<◌, ◌^◌, ◌∷◌, [], length, true, OnOk};
 ghost use Rattle.wjs_base.specs.Text.{Table, Grows};
-ghost use Rattle.wjs_meaning.specs.Builtins.{builtin};
+ghost use Rattle.wjs_meaning.specs.Builtins.{first_object};
 ghost use Rattle.wjs_heap.specs.Means.{parts};
 ghost use Rattle.wjs_start.specs.Blueprints.{built, built_from, is_buildable, are_buildable};
 ghost use Rattle.wjs_start.specs.Building.{Building, Makes};
@@ -47,7 +47,7 @@ fn create_one<S: WorldStore>(
     requires buildable { is_buildable number blueprint ≡ true }
     requires knows { (t : Table) → Grows heap.old.texts t → Knows t known.now }
     ensures { OnOk result
-        (Makes known.now (λ declared. built declared (builtin number) blueprint ∷ []) (number + 1) (parts S.meaning heap.old) (parts S.meaning heap.new)) }
+        (Makes known.now (λ declared. built declared (first_object number) blueprint ∷ []) (number + 1) (parts S.meaning heap.old) (parts S.meaning heap.new)) }
 {
     let id = ObjId {
         owner: 0,

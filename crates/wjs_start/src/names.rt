@@ -1,7 +1,7 @@
 //! Texts and names of the machine's own, put into the table.
 ghost use Rattle.std.specs.Prelude.{◌≡◌, All, IfOk, map};
 ghost use Rattle.wjs_base.specs.Text.{Table, Grows, Has, IsTable};
-ghost use Rattle.wjs_content.specs.Tables.{text_in};
+ghost use Rattle.wjs_by_content.specs.Tables.{text_in};
 ghost use Rattle.wjs_meaning.specs.Start.{library_names};
 ghost use Rattle.wjs_start.specs.Names.{IsTextOf, IsNameOf, AreNamesOf, words_in};
 
@@ -91,9 +91,7 @@ fn name_numbers(alloc: Global, texts: &mut Texts, words: &[Word]) -> Result<Vec<
     let mut names = Vec::new(alloc);
     for word in words {
         let name = name_number(alloc, texts, word.ascii)?;
-        let Ok(()) = names.push(name) else {
-            return Err(OutOfMemory);
-        };
+        names.push(name)?;
     }
     Ok(names)
 }
@@ -110,9 +108,7 @@ pub(crate) fn names_of(
     let mut names = Vec::new(alloc);
     for id in ids {
         let name = texts.name_of(*id);
-        let Ok(()) = names.push(name) else {
-            return Err(OutOfMemory);
-        };
+        names.push(name)?;
     }
     Ok(names)
 }

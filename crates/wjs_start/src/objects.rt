@@ -2,15 +2,16 @@
 ghost use Rattle.std.specs.Prelude.{◌≡◌, ◌++◌, ◌∷◌, [], List, None, true, map, IfOk, OnOk};
 ghost use Rattle.wjs_base.specs.Text.{Table};
 ghost use Rattle.wjs_arena.specs.Entries.{Objects, IsThere};
-ghost use Rattle.wjs_content.specs.Values as content;
-ghost use Rattle.wjs_content.specs.Tables.{name_in, knows_name};
-ghost use Rattle.wjs_content.specs.Values.{Text, same_object};
+ghost use Rattle.wjs_by_content.specs.Values as content;
+ghost use Rattle.wjs_by_content.specs.Tables.{name_in, knows_name};
+ghost use Rattle.wjs_store.specs.State.{same_object};
+ghost use Rattle.wjs_by_content.specs.Values.{Text};
 ghost use Rattle.wjs_meaning.specs.Start.{fixed_prototype, flags_on};
 ghost use Rattle.wjs_meaning.specs.Trees.{has_text};
 ghost use Rattle.wjs_heap.specs.Heap.{HasValue};
 ghost use Rattle.wjs_start.specs.Blueprints.{built, keeping, length_part, further_flags, primitive_in};
 ghost use Rattle.wjs_start.specs.Flags.{IsFlagged, IsFixed, IsBuilt, flags_among};
-ghost use Rattle.wjs_content.specs.Renamed.{Holds};
+ghost use Rattle.wjs_by_content.specs.Renamed.{Holds};
 ghost use Rattle.wjs_start.specs.Names.{AreNamesOf};
 ghost use Rattle.wjs_start.specs.Known as at;
 ghost use Rattle.wjs_start.specs.Known.{Knows, TellsNames, TellsPlaces, place_in, declared_in};
@@ -91,10 +92,8 @@ fn add_length(
     let Some(length) = length else {
         return Ok(());
     };
-    match fixed.push((known.length, whole(length))) {
-        Ok(()) => Ok(()),
-        Err(_) => Err(OutOfMemory),
-    }
+    fixed.push((known.length, whole(length)))?;
+    Ok(())
 }
 
 fn add_prototype(
@@ -109,10 +108,8 @@ fn add_prototype(
     let Some(prototype) = prototype else {
         return Ok(());
     };
-    match fixed.push((known.prototype, Value::Object(prototype))) {
-        Ok(()) => Ok(()),
-        Err(_) => Err(OutOfMemory),
-    }
+    fixed.push((known.prototype, Value::Object(prototype)))?;
+    Ok(())
 }
 
 /// The attributes of an object's slots and of the further names.
@@ -185,10 +182,8 @@ fn add_slot(
         hidden: true,
         kept: place.kept || has_name(keeping, name),
     };
-    match flags.push((name, attributes)) {
-        Ok(()) => Ok(()),
-        Err(_) => Err(OutOfMemory),
-    }
+    flags.push((name, attributes))?;
+    Ok(())
 }
 
 fn is_of(place: Place, object: ObjId) -> bool
@@ -253,9 +248,7 @@ fn add_names(
         IsFlagged t flags.new.items (before ++ map (λ name. (name, attributes)) texts)) }
 {
     for name in names {
-        let Ok(()) = flags.push((*name, attributes)) else {
-            return Err(OutOfMemory);
-        };
+        flags.push((*name, attributes))?;
     }
     Ok(())
 }

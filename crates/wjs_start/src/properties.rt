@@ -8,10 +8,11 @@ use crate::builtins::{
     ARRAY_PROTOTYPE, ERROR_PROTOTYPE, FIRST_NATIVE, GLOBAL_OBJECT, MATH_OBJECT,
     RANGE_ERROR_PROTOTYPE, REFERENCE_ERROR_PROTOTYPE, TYPE_ERROR_PROTOTYPE,
 };
-use crate::natives::{natives, row_of};
+use crate::natives::natives;
 use std::alloc::Global;
 use wjs_arena::Native;
 use wjs_base::{ObjId, OutOfMemory};
+use wjs_meaning::row_of;
 
 /// What a slot holds, its text in ASCII.
 #[derive(Clone, Copy)]
@@ -47,10 +48,8 @@ pub(crate) fn properties(alloc: Global) -> Result<Vec<Property>, OutOfMemory>
 fn push(list: &mut Vec<Property>, property: Property) -> Result<(), OutOfMemory>
     ensures { OnOk result (map property_in list.new.items ≡ map property_in list.old.items ++ property_in property ∷ []) }
 {
-    match list.push(property) {
-        Ok(()) => Ok(()),
-        Err(_) => Err(OutOfMemory),
-    }
+    list.push(property)?;
+    Ok(())
 }
 
 /// Puts a hidden slot last.

@@ -103,12 +103,8 @@ fn units_of(alloc: Global, library: Option<Unit>, script: Unit) -> Result<Vec<Un
 {
     let mut units = Vec::new(alloc);
     if let Some(library) = library {
-        let Ok(()) = units.push(library) else {
-            return Err(OutOfMemory);
-        };
+        units.push(library)?;
     }
-    match units.push(script) {
-        Ok(()) => Ok(units),
-        Err(_) => Err(OutOfMemory),
-    }
+    units.push(script)?;
+    Ok(units)
 }

@@ -2,7 +2,7 @@
 ghost use Rattle.std.specs.Prelude.{◌≡◌, ◌++◌, ◌∷◌, [], All, map, filter_map, IfOk, OnOk};
 ghost use Rattle.std.specs.Option.{option_map};
 ghost use Rattle.wjs_base.specs.Text.{Table, Has, IsTable};
-ghost use Rattle.wjs_content.specs.Tables.{text_in};
+ghost use Rattle.wjs_by_content.specs.Tables.{text_in};
 ghost use Rattle.wjs_meaning.specs.Reading.{node_in, numbers};
 ghost use Rattle.wjs_meaning.specs.Trees.{name_of, node_at};
 ghost use Rattle.wjs_model.specs.Texts.{KnowsUnit, KnowsNode, HasText};
@@ -22,10 +22,8 @@ pub fn script_names(alloc: Global, script: &Unit) -> Result<Vec<TextId>, OutOfMe
 {
     let declared = script.declared(script.program.body)?;
     let mut names = functions_named(alloc, script, declared.functions())?;
-    match names.extend_from_slice(declared.variables()) {
-        Ok(()) => Ok(names),
-        Err(_) => Err(OutOfMemory),
-    }
+    names.extend_from_slice(declared.variables())?;
+    Ok(names)
 }
 
 /// The names of the functions at these nodes.
@@ -55,10 +53,8 @@ fn add_name(names: &mut Vec<TextId>, script: &Unit, id: NodeId) -> Result<(), Ou
     let Some(name) = name_at(script, id) else {
         return Ok(());
     };
-    match names.push(name) {
-        Ok(()) => Ok(()),
-        Err(_) => Err(OutOfMemory),
-    }
+    names.push(name)?;
+    Ok(())
 }
 
 fn name_at(script: &Unit, id: NodeId) -> Option<TextId>

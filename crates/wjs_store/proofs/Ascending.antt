@@ -10,23 +10,11 @@ use Rattle.std.specs.FinMap.Entries.{below_all, same_entries}
 use Rattle.std.proofs.lemmas.Bool.{true≢false, false≢true}
 use Rattle.wjs_base.specs.declared.ids.WorldId.{WorldId}
 use Rattle.wjs_base.specs.declared.ids.ObjId.{ObjId}
+use Rattle.wjs_base.proofs.Booleans.{left_true, right_true, both_true, by_bool}
 use Rattle.wjs_store.specs.Naming.{Naming}
 use Rattle.wjs_store.specs.State.{World, State, same_object, find_world, slots_in, slots_at}
 use Rattle.wjs_store.specs.Ascends.{tagged, Ascends}
 use Rattle.wjs_store.proofs.Marks.{key_is}
-use Rattle.wjs_store.proofs.Writes.{by_bool}
-
-both : (a b : Bool) → T a → T b → T (a && b)
-both true b p q = q
-both false b p q = p
-
-left_true : (a b : Bool) → T (a && b) → T a
-left_true true b h = tt
-left_true false b h = h
-
-right_true : (a b : Bool) → T (a && b) → T b
-right_true true b h = h
-right_true false b h = absurd h
 
 abbrev pub firsts : {K X : Type 0} → List (K × X) → List K
 firsts es = each (λ e. e.0) es
@@ -50,7 +38,7 @@ module _ {J : Type 0} (S : J → J → Ordering) where
     below_filter k (e ∷ es) h = by (p e.0) (below_filter k es (right_true (is_lt (S k e.0)) (below_all S k es) h))
       where
         by : (b : Bool) → T (below_all S k (tagged (filter p (firsts es)))) → T (below_all S k (tagged (cond b (e.0 ∷ filter p (firsts es)) (filter p (firsts es)))))
-        by true r = both (is_lt (S k e.0)) (below_all S k (tagged (filter p (firsts es)))) (left_true (is_lt (S k e.0)) (below_all S k es) h) r
+        by true r = both_true (is_lt (S k e.0)) (below_all S k (tagged (filter p (firsts es)))) (left_true (is_lt (S k e.0)) (below_all S k es) h) r
         by false r = r
 
     pub ascends_filter : (es : List (J × X)) → T (map.is_sorted S es) → Ascends S (filter p (firsts es))
@@ -58,7 +46,7 @@ module _ {J : Type 0} (S : J → J → Ordering) where
     ascends_filter (e ∷ es) h = by (p e.0) (ascends_filter es (right_true (below_all S e.0 es) (map.is_sorted S es) h))
       where
         by : (b : Bool) → Ascends S (filter p (firsts es)) → Ascends S (cond b (e.0 ∷ filter p (firsts es)) (filter p (firsts es)))
-        by true r = both (below_all S e.0 (tagged (filter p (firsts es)))) (map.is_sorted S (tagged (filter p (firsts es)))) (below_filter e.0 es (left_true (below_all S e.0 es) (map.is_sorted S es) h)) r
+        by true r = both_true (below_all S e.0 (tagged (filter p (firsts es)))) (map.is_sorted S (tagged (filter p (firsts es)))) (below_filter e.0 es (left_true (below_all S e.0 es) (map.is_sorted S es) h)) r
         by false r = r
 
   module _ (exact : IsAntisymmetric S) (p : J → Bool) where
@@ -83,7 +71,7 @@ module _ {J : Type 0} (S : J → J → Ordering) where
         past true c e h = ap (λ b. b || list_any (eq_by_cmp S q) (filter p ks)) e ∙ h ∙ ap (λ b. c && (b || list_any (eq_by_cmp S q) ks)) (sym e)
         past false c e h = h ∙ ap (λ b. c && (b || list_any (eq_by_cmp S q) ks)) (sym e)
 
--- the keys that pass are the same where both maps have the same of them
+-- the keys that pass are the same where both_true maps have the same of them
 pub same_listed : {K X Y : Type 0} {R : K → K → Ordering} → IsTotalOrder R → (exact : IsAntisymmetric R) → (p : K → Bool) (a : FinMap R X) (b : FinMap R Y) → ((t : K) → p t ≡ true → map.contains_key a t ≡ map.contains_key b t) → filter p (map.keys a) ≡ filter p (map.keys b)
 same_listed {K = K} {R = R} total exact p a b h =
     sym (untagged (filter p (map.keys a)))

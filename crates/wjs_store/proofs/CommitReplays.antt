@@ -4,14 +4,15 @@ use Rattle.std.specs.Ordering.{eq_by_cmp}
 use Rattle.std.specs.List.{list_any}
 use Rattle.std.specs.FinMap as map
 use Rattle.std.specs.FinMap.{FinMap}
-use Rattle.std.proofs.lemmas.Bool.{or_right, or_left}
+use Rattle.std.proofs.lemmas.Bool.{or_right, or_left, or_parts}
 use Rattle.wjs_base.specs.declared.ids.ObjId.{ObjId}
 use Rattle.wjs_base.specs.Order.{obj_cmp, obj_total}
+use Rattle.wjs_base.proofs.Booleans.{by_bool}
 use Rattle.wjs_store.specs.Naming.{Naming}
 use Rattle.wjs_store.specs.State.{World, State, Reply, find_world, is_touched, has_row, write_in, hand_entries, hand_objects, moves, reads_of, fails}
 use Rattle.wjs_store.specs.Reached.{IsReached}
 use Rattle.wjs_store.proofs.Marks.{Local, contains_insert, stays_touched}
-use Rattle.wjs_store.proofs.Writes.{by_bool, by_one, or_false, local_write}
+use Rattle.wjs_store.proofs.Writes.{by_one, local_write}
 use Rattle.wjs_store.proofs.Commits.{pairs, writes_on, hand_one, hand_on, close_on, parent_on, entries_parents, objects_parents, agree_read, agree_closed, local_find, marks1, marks3, state2, reached2, fy2, copy2, new1}
 use Rattle.wjs_store.proofs.Replays.{Entry, Answered, ends, ends-append, Answered-append, Meets, Holds, seen, meets_one, meets_closed, meets_write}
 
@@ -147,7 +148,7 @@ module _ {K V A : Type 0} (n : Naming K V) (shown : Reply K V → A) where
       meets_child : (E : FinMap n.cmp V) → ((t : K) → map.get E t ≡ cond (map.contains_key y.written t) (map.get y.copy t) (map.get m t)) → Meets n shown x E
       meets_child E e = record {
         read = λ s c q. e s ∙ read_above s (ap is_some q) ∙ agree_read x y s c (ok s) q;
-        listed = λ s cl r. e s ∙ listed_above s cl (or_false (map.contains_key x.first s) (map.contains_key x.written s) r).1 ∙ agree_closed x y s (ok s) cl r;
+        listed = λ s cl r. e s ∙ listed_above s cl (or_parts (map.contains_key x.first s) (map.contains_key x.written s) r).1 ∙ agree_closed x y s (ok s) cl r;
       }
 
     both_written : (a b : Bool) (u v c : Option V) → cond a u (cond b v c) ≡ cond (a || b) (cond a u v) c

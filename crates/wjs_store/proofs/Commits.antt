@@ -8,17 +8,21 @@ use Rattle.std.specs.Cmp.{IsTotalOrder, tied_itself}
 use Rattle.std.specs.List.{list_any}
 use Rattle.std.specs.FinMap as map
 use Rattle.std.specs.FinMap.{FinMap}
-use Rattle.std.proofs.lemmas.Bool.{and_parts, true≢false, false≢true, not-false, or_right, or_left}
+use Rattle.std.proofs.lemmas.Bool.{and_parts, true≢false, false≢true, not-false, or_right, or_left, or_parts}
+use Rattle.std.proofs.lemmas.Option.{same_Some}
+use Rattle.std.proofs.lemmas.List.Folds.{list_any-append}
 use Rattle.wjs_base.specs.declared.ids.WorldId.{WorldId}
 use Rattle.wjs_base.specs.declared.ids.ObjId.{ObjId}
 use Rattle.wjs_base.specs.Order.{obj_cmp, obj_total, slot_cmp}
+use Rattle.wjs_base.proofs.Options.{none_of, some_tested, with_some}
+use Rattle.wjs_base.proofs.Booleans.{by_bool}
 use Rattle.wjs_store.specs.Naming.{Naming}
 use Rattle.wjs_store.specs.State.{World, State, same_world, find_world, has_world, content_at, count_of, put, is_below, is_touched, has_row, write_in, write_at, after_write, write_all, at_world, hand_entries, hand_objects, clear_marks, moves, reads_of, settle, fails, fault_in, least, lesser, same_content, with_parent, after_commit}
 use Rattle.wjs_store.specs.Reached.{IsReached}
 use Rattle.wjs_store.specs.Fixed.{begun, fresh}
 use Rattle.wjs_store.proofs.States.{find_each, has_each, count_each, length_each, content_each}
 use Rattle.wjs_store.proofs.Marks.{Local, local_of, MarksOf, marks_same, marks_then, marks_cond, marks_first, marks_closed, contains_insert, key_is, none_some, any_filter, or_case, closed_only}
-use Rattle.wjs_store.proofs.Writes.{reached_write, world_is, same_self, not_older, found_id, has_head, has_tail, by_bool, by_one, or_false, get_put, write_id, entries_id, objects_id}
+use Rattle.wjs_store.proofs.Writes.{reached_write, world_is, same_self, not_older, found_id, has_head, has_tail, by_one, get_put, write_id, entries_id, objects_id}
 
 pub reached_begun : (id : WorldId) → id.serial ≡ 0 → IsReached (begun id)
 reached_begun id first = (
@@ -41,7 +45,7 @@ reached_fresh = reached_begun (record { owner = 0; serial = 0 }) refl
 
 -- ---- the check
 
-some_lesser : {K : Type 0} (R : K → K → Ordering) (o : Option K) (s : K) → is_some (lesser R o s) ≡ true
+pub some_lesser : {K : Type 0} (R : K → K → Ordering) (o : Option K) (s : K) → is_some (lesser R o s) ≡ true
 some_lesser R None s = refl
 some_lesser R (Some t) s = by_one (is_lt (R s t)) (λ o. is_some o ≡ true) refl refl
 
@@ -53,34 +57,18 @@ least_none : {K : Type 0} (R : K → K → Ordering) (ss : List K) → least R s
 least_none R [] h = refl
 least_none R (s ∷ ss) h = absurd (none_some (fold (lesser R) (Some s) ss) (some_fold R ss (Some s) refl) h)
 
-any_append : {K : Type 0} (p : K → Bool) (xs ys : List K) → list_any p (xs ++ ys) ≡ (list_any p xs || list_any p ys)
-any_append p [] ys = refl
-any_append p (x ∷ xs) ys = ap (λ b. p x || b) (any_append p xs ys) ∙ sym (or_assoc (p x) (list_any p xs) (list_any p ys))
-  where
-    or_assoc : (a b c : Bool) → ((a || b) || c) ≡ (a || (b || c))
-    or_assoc true b c = refl
-    or_assoc false b c = refl
-
-pub opt_true : {A : Type 0} (f : A → Bool) (o : Option A) → option_map_or f o false ≡ true → is_some o ≡ true
-opt_true f None h = absurd (false≢true h)
-opt_true f (Some a) h = refl
-
 same_is : {V : Type 0} (same : V → V → Bool) (d : (x y : V) → Decides (same x y) (x ≡ y)) (a b : Option V) → same_content same a b ≡ true → a ≡ b
 same_is same d None None h = refl
 same_is same d None (Some b) h = absurd (false≢true h)
 same_is same d (Some a) None h = absurd (false≢true h)
 same_is same d (Some a) (Some b) h = ap (λ x. Some x) ((d a b).0 h)
 
-pub some_false : {A : Type 0} (o : Option A) → is_some o ≡ false → o ≡ None
-some_false None h = refl
-some_false (Some a) h = absurd (true≢false h)
-
 module _ {K V : Type 0} {n : Naming K V} (x y : World n) where
   suspect : (t : K) → fails x y t ≡ true → list_any (eq_by_cmp n.cmp t) (map.keys x.first ++ map.keys y.copy) ≡ true
   suspect t h =
-      any_append (eq_by_cmp n.cmp t) (map.keys x.first) (map.keys y.copy)
+      list_any-append (eq_by_cmp n.cmp t) (map.keys x.first) (map.keys y.copy)
       ∙ or_case (option_map_or (λ c. not (same_content n.same c (map.get y.copy t))) (map.get x.first t) false) (map.contains_key x.closed (n.object t) && (map.contains_key y.copy t && not (has_row x t))) h
-      (λ e. or_left (list_any (eq_by_cmp n.cmp t) (map.keys x.first)) (list_any (eq_by_cmp n.cmp t) (map.keys y.copy)) (sym (map.contains_key-keys x.first t) ∙ opt_true (λ c. not (same_content n.same c (map.get y.copy t))) (map.get x.first t) e))
+      (λ e. or_left (list_any (eq_by_cmp n.cmp t) (map.keys x.first)) (list_any (eq_by_cmp n.cmp t) (map.keys y.copy)) (sym (map.contains_key-keys x.first t) ∙ some_tested (λ c. not (same_content n.same c (map.get y.copy t))) (map.get x.first t) e))
       (λ e. or_right (list_any (eq_by_cmp n.cmp t) (map.keys x.first)) (list_any (eq_by_cmp n.cmp t) (map.keys y.copy)) (sym (map.contains_key-keys y.copy t) ∙ (and_parts (map.contains_key y.copy t) (not (has_row x t)) (and_parts (map.contains_key x.closed (n.object t)) (map.contains_key y.copy t && not (has_row x t)) e).1).0))
 
   pub no_fault : fault_in x y ≡ None → (t : K) → fails x y t ≡ false
@@ -90,13 +78,13 @@ module _ {K V : Type 0} {n : Naming K V} (x y : World n) where
 
   pub agree_read : (t : K) (c : Option V) → fails x y t ≡ false → map.get x.first t ≡ Some c → map.get y.copy t ≡ c
   agree_read t c h e =
-      let v = or_false _ _ h in
+      let v = or_parts _ _ h in
       sym (same_is n.same n.decides c (map.get y.copy t) (not-false (same_content n.same c (map.get y.copy t)) (sym (ap (λ o. option_map_or (λ c. not (same_content n.same c (map.get y.copy t))) o false) e) ∙ v.0)))
 
   pub agree_closed : (t : K) → fails x y t ≡ false → map.contains_key x.closed (n.object t) ≡ true → has_row x t ≡ false → map.get y.copy t ≡ None
   agree_closed t h cl r =
-      let v = or_false (option_map_or (λ c. not (same_content n.same c (map.get y.copy t))) (map.get x.first t) false) (map.contains_key x.closed (n.object t) && (map.contains_key y.copy t && not (has_row x t))) h in
-      some_false (map.get y.copy t) (peel (map.contains_key x.closed (n.object t)) (map.contains_key y.copy t) (has_row x t) cl r v.1)
+      let v = or_parts (option_map_or (λ c. not (same_content n.same c (map.get y.copy t))) (map.get x.first t) false) (map.contains_key x.closed (n.object t) && (map.contains_key y.copy t && not (has_row x t))) h in
+      none_of (map.get y.copy t) (peel (map.contains_key x.closed (n.object t)) (map.contains_key y.copy t) (has_row x t) cl r v.1)
     where
       peel : (a b c : Bool) → a ≡ true → c ≡ false → (a && (b && not c)) ≡ false → b ≡ false
       peel true true true p q h = cc
@@ -316,7 +304,7 @@ module _ {K V : Type 0} {n : Naming K V} where
       (λ e. hand_rows (pairs v ks) (hand_one y (s, v s)) t (hand_here y s (v s) t e u))
       (λ e. by_bool (has_row (hand_one y (s, v s)) t)
       (λ r. hand_rows (pairs v ks) (hand_one y (s, v s)) t r)
-      (λ r. hand_new v ks (hand_one y (s, v s)) t (ap (λ b. b || map.contains_key (hand_one y (s, v s)).closed (n.object t)) r ∙ hand_closed_same (is_touched y s) y s (v s) (n.object t) ∙ (or_false (has_row y t) (map.contains_key y.closed (n.object t)) u).1) e))
+      (λ r. hand_new v ks (hand_one y (s, v s)) t (ap (λ b. b || map.contains_key (hand_one y (s, v s)).closed (n.object t)) r ∙ hand_closed_same (is_touched y s) y s (v s) (n.object t) ∙ (or_parts (has_row y t) (map.contains_key y.closed (n.object t)) u).1) e))
 
   -- ---- listed objects that are handed up
 
@@ -423,16 +411,9 @@ pub unwrap_is : {A : Type 0} (o : Option (Option A)) (z : Option A) → is_some 
 unwrap_is None z h f = absurd (false≢true h)
 unwrap_is (Some c) z h f = sym (f c refl)
 
-pub with_some : {P A : Type 0} (o : Option A) → is_some o ≡ true → ((a : A) → o ≡ Some a → P) → P
-with_some None h f = absurd (false≢true h)
-with_some (Some a) h f = f a refl
-
 pub none_is : {A : Type 0} (o : Option A) → is_none o ≡ true → o ≡ None
 none_is None h = refl
 none_is (Some a) h = absurd (false≢true h)
-
-pub same_some : {A : Type 0} (a b : A) → Some a ≡ Some b → a ≡ b
-same_some a b h = cc
 
 -- ---- a commit that passes
 
@@ -454,8 +435,8 @@ module _ {K V : Type 0} {n : Naming K V} (F : State n) (x y : World n) (h : IsRe
 
   pub reached1 : IsReached (at_world y.id (hand_entries (reads_of x)) F)
   reached1 = reached_at y.id (hand_entries (reads_of x)) (entries_ids (reads_of x)) (entries_parents (reads_of x)) (entries_copies (reads_of x)) F
-      (λ z e l. subst (λ v. Local v → Local (hand_entries (reads_of x) v)) (same_some y z (sym fy ∙ e)) marks1.local l)
-      (λ z q t e pe u. inherits_find F y.id q z t h e pe (subst (λ v. is_touched (hand_entries (reads_of x) v) t ≡ false → is_touched v t ≡ false) (same_some y z (sym fy ∙ e)) (marks1.touched t) u))
+      (λ z e l. subst (λ v. Local v → Local (hand_entries (reads_of x) v)) (same_Some y z (sym fy ∙ e)) marks1.local l)
+      (λ z q t e pe u. inherits_find F y.id q z t h e pe (subst (λ v. is_touched (hand_entries (reads_of x) v) t ≡ false → is_touched v t ≡ false) (same_Some y z (sym fy ∙ e)) (marks1.touched t) u))
       h
 
   pub fy1 : find_world (at_world y.id (hand_entries (reads_of x)) F) y.id ≡ Some (hand_entries (reads_of x) y)
@@ -519,8 +500,8 @@ module _ {K V : Type 0} {n : Naming K V} (F : State n) (x y : World n) (h : IsRe
 
   reached3 : IsReached state3
   reached3 = reached_at y.id (hand_objects (map.keys x.closed)) (objects_ids (map.keys x.closed)) (objects_parents (map.keys x.closed)) (objects_copies (map.keys x.closed)) state2
-      (λ z e l. subst (λ v. Local v → Local (hand_objects (map.keys x.closed) v)) (same_some y2 z (sym fy2 ∙ e)) marks3.local l)
-      (λ z q t e pe u. inherits_find state2 y.id q z t reached2 e pe (subst (λ v. is_touched (hand_objects (map.keys x.closed) v) t ≡ false → is_touched v t ≡ false) (same_some y2 z (sym fy2 ∙ e)) (marks3.touched t) u))
+      (λ z e l. subst (λ v. Local v → Local (hand_objects (map.keys x.closed) v)) (same_Some y2 z (sym fy2 ∙ e)) marks3.local l)
+      (λ z q t e pe u. inherits_find state2 y.id q z t reached2 e pe (subst (λ v. is_touched (hand_objects (map.keys x.closed) v) t ≡ false → is_touched v t ≡ false) (same_Some y2 z (sym fy2 ∙ e)) (marks3.touched t) u))
       reached2
 
   pub fy3 : find_world state3 y.id ≡ Some (hand_objects (map.keys x.closed) y2)
@@ -555,8 +536,8 @@ module _ {K V : Type 0} {n : Naming K V} (F : State n) (x y : World n) (h : IsRe
         no_closed = λ q. map.len-empty obj_cmp (Unit {0});
       })
       (λ z q t e pe u.
-      let is : x ≡ z = same_some x z (sym fx3 ∙ e) in
-      let to : y.id ≡ q = same_some y.id q (sym up ∙ ap (λ (v : World n). v.parent) is ∙ pe) in
+      let is : x ≡ z = same_Some x z (sym fx3 ∙ e) in
+      let to : y.id ≡ q = same_Some y.id q (sym up ∙ ap (λ (v : World n). v.parent) is ∙ pe) in
       ap (λ (v : World n). map.get v.copy t) (sym is) ∙ same_now t ∙ ap (λ c. map.get c t) (sym marks3.copy) ∙ sym (ap (option_and_then (λ (v : World n). map.get v.copy t)) (ap (find_world state3) (sym to) ∙ fy3)))
       reached3
 
@@ -568,7 +549,7 @@ module _ {K V : Type 0} {n : Naming K V} where
       pair_last : (F : State n) (w : WorldId) (z : World n) (q : WorldId) (e : World n × World n) → find_world F w ≡ Some z → z.parent ≡ Some q → (r : Option (World n)) → find_world F q ≡ r → option_map (λ p. (z, p)) r ≡ Some e → (find_world F w ≡ Some e.0) × (q : WorldId) × (e.0.parent ≡ Some q) × (find_world F q ≡ Some e.1)
       pair_last F w z q e f g None k h = absurd (false≢true (ap is_some h))
       pair_last F w z q e f g (Some v) k h =
-          let is = same_some (z, v) e h in
+          let is = same_Some (z, v) e h in
           (f ∙ ap (λ (d : World n × World n). Some d.0) is, q, ap (λ (d : World n × World n). d.0.parent) (sym is) ∙ g, k ∙ ap (λ (d : World n × World n). Some d.1) is)
 
   pair_world : (F : State n) (w : WorldId) (o : Option (World n)) (e : World n × World n) → find_world F w ≡ o → option_and_then (λ (x : World n). option_map (λ p. (x, p)) (option_and_then (find_world F) x.parent)) o ≡ Some e → (find_world F w ≡ Some e.0) × (q : WorldId) × (e.0.parent ≡ Some q) × (find_world F q ≡ Some e.1)

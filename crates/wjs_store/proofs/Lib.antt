@@ -1,4 +1,3 @@
-pub mod Trees
 pub mod Named
 pub mod Keeps
 pub mod FixedStore

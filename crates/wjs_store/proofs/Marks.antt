@@ -11,16 +11,13 @@ use Rattle.wjs_base.specs.declared.ids.ObjId.{ObjId}
 use Rattle.wjs_base.specs.declared.ids.WorldId.{WorldId}
 use Rattle.wjs_base.specs.Order.{obj_cmp, obj_total, obj_exact}
 use Rattle.wjs_base.specs.Same.{object_Decides}
+use Rattle.wjs_base.proofs.Options.{some_cond}
 use Rattle.wjs_store.specs.Naming.{Naming}
 use Rattle.wjs_store.specs.State.{World, State, has_row, is_touched, read_in, read_all, close_in, list_in, slots_in, same_object, same_world, count_of}
 use Rattle.wjs_store.specs.Reached.{Fits, IsReached}
 use Rattle.wjs_store.proofs.States.{has_each, count_each, length_each, content_each}
 
 -- ---- maps
-
-some_cond : {V : Type 0} (b : Bool) (v : V) (o : Option V) → is_some (cond b (Some v) o) ≡ (b || is_some o)
-some_cond true v o = refl
-some_cond false v o = refl
 
 pub contains_insert : {K V : Type 0} {R : K → K → Ordering} (total : IsTotalOrder R) (m : FinMap R V) (k : K) (v : V) (q : K) → map.contains_key (map.insert m k v) q ≡ (eq_by_cmp R q k || map.contains_key m q)
 contains_insert {R = R} total m k v q = ap is_some (map.get-insert total m k v q) ∙ some_cond (eq_by_cmp R q k) v (map.get m q)

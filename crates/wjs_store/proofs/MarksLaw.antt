@@ -9,12 +9,13 @@ use Rattle.wjs_base.specs.declared.values.Slot.{Slot}
 use Rattle.wjs_base.specs.declared.values.Value.{Value}
 use Rattle.wjs_base.specs.declared.ids.ObjId.{ObjId}
 use Rattle.wjs_base.specs.declared.ids.WorldId.{WorldId}
+use Rattle.wjs_base.proofs.Booleans.{by_bool}
 use Rattle.wjs_store.specs.Naming.{Naming, plain}
 use Rattle.wjs_store.specs.State.{World, State, same_world, find_world, parent_of, is_touched, has_row, at_world, hand_entries, hand_objects, clear_marks, moves, reads_of, settle, fails, write_all, verdict_at, after_commit, moved}
 use Rattle.wjs_store.specs.Reached.{IsReached}
 use Rattle.wjs_store.specs.Meaning.{Worlds}
 use Rattle.wjs_store.specs.MarksMoved.{MarksMoved}
-use Rattle.wjs_store.proofs.Writes.{by_bool, by_one}
+use Rattle.wjs_store.proofs.Writes.{by_one}
 use Rattle.wjs_store.proofs.Commits.{writes_on, hand_on, close_on, recorded_is, kept_hand, parent_on, entries_ids, entries_parents, objects_ids, fx3, fy3, find_at_here, find_at_other, parent_other, no_fault}
 use Rattle.wjs_store.proofs.CommitReplays.{settled, settled_written, hand_on_written, close_on_closed}
 use Rattle.wjs_store.proofs.Invariant.{same_turned}

@@ -5,14 +5,17 @@ use Rattle.std.specs.Ordering.{eq_by_cmp}
 use Rattle.std.specs.List.{list_any}
 use Rattle.std.specs.FinMap as map
 use Rattle.std.proofs.lemmas.Bool.{true≢false}
+use Rattle.std.proofs.lemmas.Option.{same_Some}
 use Rattle.wjs_base.specs.declared.ids.WorldId.{WorldId}
+use Rattle.wjs_base.proofs.Options.{none_of}
+use Rattle.wjs_base.proofs.Booleans.{by_bool}
 use Rattle.wjs_store.specs.Naming.{Naming}
 use Rattle.wjs_store.specs.State.{World, State, same_world, find_world, has_world, parent_of, content_at, is_below, is_touched, put, write_in, write_at, after_write, write_all, at_world, hand_entries, hand_objects, clear_marks, moves, reads_of, settle, fault_in, with_parent, verdict_in, verdict_at, after_commit, moved, differs, no_parent}
 use Rattle.wjs_store.specs.Marked.{is_written}
 use Rattle.wjs_store.proofs.States.{content_each}
 use Rattle.wjs_store.proofs.Marks.{key_is}
-use Rattle.wjs_store.proofs.Writes.{by_bool, by_one, world_is, found_id, write_id, write_parent, has_after_write, has_settle, has_at}
-use Rattle.wjs_store.proofs.Commits.{pairs, same_some, some_false, pair_parts, entries_ids, entries_parents, entries_copies, objects_ids, objects_copies}
+use Rattle.wjs_store.proofs.Writes.{by_one, world_is, found_id, write_id, write_parent, has_after_write, has_settle, has_at}
+use Rattle.wjs_store.proofs.Commits.{pairs, pair_parts, entries_ids, entries_parents, entries_copies, objects_ids, objects_copies}
 use Rattle.wjs_store.proofs.Contents.{content_after_write}
 
 -- a path goes on where it goes on above
@@ -156,7 +159,7 @@ module _ {K V : Type 0} {n : Naming K V} (F : State n) (w : WorldId) where
     found = ap (find_world F) (sym (pass h).child_id) ∙ (pass h).child_there
 
     pub parent_is : (pass h).above.id ≡ p
-    parent_is = same_some (pass h).above.id p (sym (pass h).up ∙ sym (ap (option_and_then (λ (x : World n). x.parent)) found) ∙ up)
+    parent_is = same_Some (pass h).above.id p (sym (pass h).up ∙ sym (ap (option_and_then (λ (x : World n). x.parent)) found) ∙ up)
 
     pub content_after_commit : (i : WorldId) (t : K) → content_at (after_commit F w) i t ≡ cond (is_written F w t && (same_world i p || is_below p t F i)) (content_at F w t) (content_at F i t)
     content_after_commit i t =
@@ -166,8 +169,8 @@ module _ {K V : Type 0} {n : Naming K V} (F : State n) (w : WorldId) where
         ∙ by_bool (has_world F i)
         (λ b. content_settle x q F i t b)
         (λ b.
-        let gone : find_world F i ≡ None = some_false (find_world F i) b in
-        let gone2 : find_world (settle x q F) i ≡ None = some_false (find_world (settle x q F) i) (has_settle x q F i ∙ b) in
+        let gone : find_world F i ≡ None = none_of (find_world F i) b in
+        let gone2 : find_world (settle x q F) i ≡ None = none_of (find_world (settle x q F) i) (has_settle x q F i ∙ b) in
         let past : same_world i q ≡ false = by_bool (same_world i q) (λ e. absurd (true≢false (sym (ap (has_world F) (world_is i q e) ∙ ap is_some (pass h).above_there) ∙ b))) (λ e. e) in
         ap (option_and_then (λ (v : World n). map.get v.copy t)) gone2
         ∙ sym (

@@ -6,11 +6,12 @@ use Rattle.std.specs.List.{list_any}
 use Rattle.std.specs.FinMap as map
 use Rattle.wjs_base.specs.declared.ids.ObjId.{ObjId}
 use Rattle.wjs_base.specs.declared.ids.WorldId.{WorldId}
+use Rattle.wjs_base.proofs.Booleans.{by_bool}
 use Rattle.wjs_store.specs.Naming.{Naming}
 use Rattle.wjs_store.specs.State.{World, State, same_world, find_world, is_below, is_touched, has_row, put, write_in, write_at, after_write, write_all, at_world, hand_entries, hand_objects, clear_marks, reads_of, moves, settle}
 use Rattle.wjs_store.proofs.States.{find_each}
 use Rattle.wjs_store.proofs.Marks.{contains_insert, key_is}
-use Rattle.wjs_store.proofs.Writes.{by_bool, by_one, by_two, found_id, get_put, write_id}
+use Rattle.wjs_store.proofs.Writes.{by_one, by_two, found_id, get_put, write_id}
 use Rattle.wjs_store.proofs.Commits.{pairs, writes_on, hand_one, hand_on, close_on, row_new, entries_ids, entries_parents, objects_ids, objects_parents}
 use Rattle.wjs_store.proofs.Moved.{neither}
 

@@ -3,12 +3,13 @@ use Rattle.std.proofs.Common.{◌≡◌, Bool, true, false, cond, not, ◌&&◌,
 use Rattle.std.specs.Option.{option_map_or}
 use Rattle.std.proofs.lemmas.Bool.{and_parts, and_from, not-true, true≢false, false≢true, or_left, or_right}
 use Rattle.wjs_base.specs.declared.ids.WorldId.{WorldId}
+use Rattle.wjs_base.proofs.Booleans.{by_bool}
 use Rattle.wjs_store.specs.Naming.{Naming}
 use Rattle.wjs_store.specs.State.{World, State, same_world, find_world, has_world, is_below, is_touched}
 use Rattle.wjs_store.specs.Reached.{IsReached}
 use Rattle.wjs_store.specs.Path.{Leads, last, step}
 use Rattle.wjs_store.proofs.Marks.{none_some, or_case}
-use Rattle.wjs_store.proofs.Writes.{not_older, by_bool, world_is, same_self, below_newest, below_older, has_head, has_tail}
+use Rattle.wjs_store.proofs.Writes.{not_older, world_is, same_self, below_newest, below_older, has_head, has_tail}
 use Rattle.wjs_store.proofs.Commits.{at_head, find_head, find_tail, find_nil, parent_there}
 
 path_parent : (o : Option WorldId) (g : WorldId → Bool) → option_map_or g o false ≡ true → (p : WorldId) × (o ≡ Some p) × (g p ≡ true)

@@ -5,24 +5,19 @@ use Rattle.std.specs.Ordering.{eq_by_cmp, is_eq}
 use Rattle.std.specs.Cmp.{tied_itself}
 use Rattle.std.specs.FinMap as map
 use Rattle.std.specs.FinMap.{FinMap}
-use Rattle.std.proofs.lemmas.Bool.{true≢false, false≢true, or_right, or_left}
+use Rattle.std.proofs.lemmas.Bool.{true≢false, false≢true, or_right, or_left, or_parts}
 use Rattle.wjs_base.specs.declared.ids.WorldId.{WorldId}
 use Rattle.wjs_base.specs.declared.ids.ObjId.{ObjId}
 use Rattle.wjs_base.specs.Order.{obj_cmp, obj_total}
 use Rattle.wjs_base.specs.Same.{object_Decides}
+use Rattle.wjs_base.proofs.Booleans.{by_bool}
+use Rattle.wjs_base.proofs.Options.{with_some}
 use Rattle.wjs_store.specs.Naming.{Naming}
 use Rattle.wjs_store.specs.State.{World, Act, Reply, read, write, list, found, wrote, listed, put, same_object, is_touched, has_row, read_in, write_in, read_all, close_in, list_in, slots_in}
 use Rattle.wjs_store.specs.Replay.{plain_reply, plain_after}
 use Rattle.wjs_store.proofs.Marks.{Local, MarksOf, contains_insert, key_is, none_some, closed_only, marks_read, marks_list, touched_read}
-use Rattle.wjs_store.proofs.Writes.{by_bool, by_one, or_false, get_put}
+use Rattle.wjs_store.proofs.Writes.{by_one, get_put}
 use Rattle.wjs_store.proofs.Ascending.{same_listed}
-
-pub some_of : {P A : Type 0} (o : Option A) → is_some o ≡ true → ((a : A) → o ≡ Some a → P) → P
-some_of None h f = absurd (false≢true h)
-some_of (Some a) h f = f a refl
-
-same_some : {A : Type 0} (a b : A) → Some a ≡ Some b → a ≡ b
-same_some a b h = cc
 
 module _ {K V A : Type 0} (n : Naming K V) (shown : Reply K V → A) where
   -- an action with its recorded answer
@@ -62,7 +57,7 @@ module _ {K V A : Type 0} (n : Naming K V) (shown : Reply K V → A) where
   seen x m s l h u = by_bool (map.contains_key x.written s)
       (λ e. ap (λ b. cond b (map.get x.copy s) (map.get m s)) e)
       (λ e. ap (λ b. cond b (map.get x.copy s) (map.get m s)) e ∙ by_bool (map.contains_key x.first s)
-      (λ f. some_of (map.get x.first s) f (λ c q. h.read s c q ∙ sym (l.kept s c q e)))
+      (λ f. with_some (map.get x.first s) f (λ c q. h.read s c q ∙ sym (l.kept s c q e)))
       (λ f.
       let r : has_row x s ≡ false = ap (λ b. b || map.contains_key x.written s) f ∙ e in
       let cl = closed_only (has_row x s) (map.contains_key x.closed (n.object s)) u r in
@@ -72,8 +67,8 @@ module _ {K V A : Type 0} (n : Naming K V) (shown : Reply K V → A) where
 
   meets_first : (x : World n) (s : K) (c : Option V) (m : FinMap n.cmp V) → is_touched x s ≡ false → Meets (record x { first = map.insert x.first s c }) m → Meets x m
   meets_first x s c m u h =
-      let v = or_false (has_row x s) (map.contains_key x.closed (n.object s)) u in
-      let w = or_false (map.contains_key x.first s) (map.contains_key x.written s) v.0 in
+      let v = or_parts (has_row x s) (map.contains_key x.closed (n.object s)) u in
+      let w = or_parts (map.contains_key x.first s) (map.contains_key x.written s) v.0 in
       record {
         read = λ t d e. by_bool (eq_by_cmp n.cmp t s)
             (λ q. absurd (true≢false (sym (ap is_some (ap (map.get x.first) (sym (key_is n.exact t s q)) ∙ e)) ∙ w.0)))
@@ -116,7 +111,7 @@ module _ {K V A : Type 0} (n : Naming K V) (shown : Reply K V → A) where
   meets_write_by : (q : Bool) (x : World n) (s : K) (c : Option V) (m : FinMap n.cmp V) → (not (has_row x s) && (map.contains_key x.closed (n.object s) || x.strict)) ≡ q → Local x → Meets (record x { copy = put x.copy s c; first = cond q (map.insert x.first s (map.get x.copy s)) x.first; written = map.insert x.written s tt }) m → Meets x m
   meets_write_by true x s c m q l h =
       let fresh_row : has_row x s ≡ false = no_row (has_row x s) (map.contains_key x.closed (n.object s) || x.strict) q in
-      let w = or_false (map.contains_key x.first s) (map.contains_key x.written s) fresh_row in
+      let w = or_parts (map.contains_key x.first s) (map.contains_key x.written s) fresh_row in
       record {
         read = λ t d e. by_bool (eq_by_cmp n.cmp t s)
             (λ k. absurd (true≢false (sym (ap is_some (ap (map.get x.first) (sym (key_is n.exact t s k)) ∙ e)) ∙ w.0)))
@@ -282,7 +277,7 @@ module _ {K V A : Type 0} (n : Naming K V) (shown : Reply K V → A) where
     written = refl;
     asks = λ m h. record { read = h.read; listed = h.listed };
     own = λ t e. get_put n.total x.copy s c t ∙ by_bool (eq_by_cmp n.cmp t s)
-        (λ q. absurd (true≢false (sym (ap (map.contains_key x.written) (sym (key_is n.exact t s q)) ∙ e) ∙ (or_false (map.contains_key x.first s) (map.contains_key x.written s) (or_false (has_row x s) (map.contains_key x.closed (n.object s)) u).0).1)))
+        (λ q. absurd (true≢false (sym (ap (map.contains_key x.written) (sym (key_is n.exact t s q)) ∙ e) ∙ (or_parts (map.contains_key x.first s) (map.contains_key x.written s) (or_parts (has_row x s) (map.contains_key x.closed (n.object s)) u).0).1)))
         (λ q. ap (λ b. cond b c (map.get x.copy t)) q);
     root = λ e. absurd (none_some x.parent p e);
   }

@@ -1,19 +1,11 @@
 -- Worlds by number, where each world of a state is changed.
-use Rattle.std.proofs.Common.{◌≡◌, ℕ, Bool, true, false, cond, ◌==◌, ◌+◌, [], ◌∷◌, length, suc, refl, ap, sym, ◌∙◌, map as each, Option, None, Some, is_some}
+use Rattle.std.proofs.Common.{◌≡◌, ℕ, cond, ◌==◌, ◌+◌, [], ◌∷◌, length, suc, refl, ap, sym, ◌∙◌, map as each, Option, None, Some, is_some}
 use Rattle.std.specs.Option.{option_map, option_and_then}
 use Rattle.std.specs.FinMap as map
 use Rattle.wjs_base.specs.declared.ids.WorldId.{WorldId}
+use Rattle.wjs_base.proofs.Options.{some_map, map_cond}
 use Rattle.wjs_store.specs.Naming.{Naming}
 use Rattle.wjs_store.specs.State.{World, State, same_world, find_world, has_world, count_of, content_at}
-
--- a branch commutes with a function
-pub map_cond : {A B : Type 0} (g : A → B) (b : Bool) (x : A) (o : Option A) → option_map g (cond b (Some x) o) ≡ cond b (Some (g x)) (option_map g o)
-map_cond g true x o = refl
-map_cond g false x o = refl
-
-pub some_map : {A B : Type 0} (g : A → B) (o : Option A) → is_some (option_map g o) ≡ is_some o
-some_map g None = refl
-some_map g (Some x) = refl
 
 module _ {K V : Type 0} {n : Naming K V} (g : World n → World n) (ids : (x : World n) → (g x).id ≡ x.id) where
   pub find_each : (F : State n) (i : WorldId) → find_world (each g F) i ≡ option_map g (find_world F i)

@@ -6,10 +6,12 @@ use Rattle.std.specs.declared.cmp.Ordering.{Ordering}
 use Rattle.std.specs.Cmp.{IsTotalOrder}
 use Rattle.std.specs.FinMap as map
 use Rattle.std.specs.FinMap.{FinMap}
-use Rattle.std.proofs.lemmas.Bool.{and_parts, true≢false, false≢true, eqb-true, eq-eqb, and_from, not-true}
+use Rattle.std.proofs.lemmas.Bool.{and_parts, true≢false, false≢true, eqb-true, eq-eqb, and_from, not-true, or_parts, false_from_ne_true}
 use Rattle.wjs_base.specs.declared.ids.WorldId.{WorldId}
 use Rattle.wjs_base.specs.declared.ids.ObjId.{ObjId}
 use Rattle.wjs_base.specs.Order.{obj_cmp}
+use Rattle.wjs_base.proofs.Options.{none_of}
+use Rattle.wjs_base.proofs.Booleans.{by_bool}
 use Rattle.wjs_store.specs.Naming.{Naming}
 use Rattle.wjs_store.specs.State.{World, State, same_world, find_world, has_world, content_at, count_of, put, is_below, is_touched, has_row, write_in, write_at, after_write, child_of, next_id, after_sprout, write_all, at_world, hand_entries, hand_objects, clear_marks, moves, reads_of, settle, fault_in, with_parent, after_commit}
 use Rattle.wjs_store.specs.Reached.{IsReached}
@@ -29,10 +31,6 @@ some_if : {A : Type 0} (b : Bool) (x : A) (o : Option A) → is_some (cond b (So
 some_if true x o = refl
 some_if false x o = refl
 
-false_or : (b : Bool) → (b ≡ true → ⊥) → b ≡ false
-false_or true f = absurd (f refl)
-false_or false f = refl
-
 pub get_put : {K V : Type 0} {R : K → K → Ordering} (total : IsTotalOrder R) (m : FinMap R V) (s : K) (c : Option V) (t : K) → map.get (put m s c) t ≡ cond (eq_by_cmp R t s) c (map.get m t)
 get_put total m s None t = map.get-remove total m s t
 get_put total m s (Some v) t = map.get-insert total m s v t
@@ -40,18 +38,6 @@ get_put total m s (Some v) t = map.get-insert total m s v t
 -- a map of length 0 has nothing
 pub get_none : {K V : Type 0} {R : K → K → Ordering} (m : FinMap R V) (t : K) → map.len m ≡ 0 → map.get m t ≡ None
 get_none {R = R} m t e = ap (λ k. map.get k t) (map.empty_of_len m e) ∙ map.get-empty R t
-
-pub or_false : (a b : Bool) → (a || b) ≡ false → (a ≡ false) × (b ≡ false)
-or_false true b h = absurd (true≢false h)
-or_false false b h = (refl, h)
-
-pub no_parent_of : {A : Type 0} (o : Option A) → is_some o ≡ false → o ≡ None
-no_parent_of None e = refl
-no_parent_of (Some a) e = absurd (true≢false e)
-
-pub by_bool : {P : Type 0} (b : Bool) → (b ≡ true → P) → (b ≡ false → P) → P
-by_bool true f g = f refl
-by_bool false f g = g refl
 
 pub same_self : (i : WorldId) → same_world i i ≡ true
 same_self i = and_from (i.owner == i.owner) (i.serial == i.serial) (eq-eqb i.owner i.owner refl) (eq-eqb i.serial i.serial refl)
@@ -106,7 +92,7 @@ module _ {K V : Type 0} {n : Naming K V} where
 
   -- the newest world is none of the older ones
   pub not_older : (x : World n) (older : State n) (i : WorldId) → IsReached (x ∷ older) → has_world older i ≡ true → same_world x.id i ≡ false
-  not_older x older i h e = false_or (same_world x.id i) (λ t.
+  not_older x older i h e = false_from_ne_true (same_world x.id i) (λ t.
       let p = world_is x.id i t in
       let l : i.serial < count_of i.owner older = serial_below older i h.1 e in
       let q : i.serial ≡ count_of i.owner older = subst (λ (j : WorldId). j.serial ≡ count_of j.owner older) p h.0.serial in
@@ -146,14 +132,14 @@ module _ {K V : Type 0} {n : Naming K V} where
     -- what is untouched after a write in a world with a parent
     after_touch : (q : Bool) (t : K) → ((map.contains_key (cond q (map.insert x.first s (map.get x.copy s)) x.first) t || map.contains_key (map.insert x.written s tt) t) || map.contains_key x.closed (n.object t)) ≡ false → (has_row x t ≡ false) × (eq_by_cmp n.cmp t s ≡ false) × (map.contains_key x.closed (n.object t) ≡ false)
     after_touch q t h =
-        let a = or_false _ _ h in
-        let b = or_false _ _ a.0 in
-        let d = or_false (eq_by_cmp n.cmp t s) (map.contains_key x.written t) (sym (contains_insert n.total x.written s tt t) ∙ b.1) in
+        let a = or_parts _ _ h in
+        let b = or_parts _ _ a.0 in
+        let d = or_parts (eq_by_cmp n.cmp t s) (map.contains_key x.written t) (sym (contains_insert n.total x.written s tt t) ∙ b.1) in
         let f : map.contains_key x.first t ≡ false = first_part q t b.0 in
         (ap (λ k. k || map.contains_key x.written t) f ∙ d.1, d.0, a.1)
       where
         first_part : (q : Bool) (t : K) → map.contains_key (cond q (map.insert x.first s (map.get x.copy s)) x.first) t ≡ false → map.contains_key x.first t ≡ false
-        first_part true t h = (or_false (eq_by_cmp n.cmp t s) (map.contains_key x.first t) (sym (contains_insert n.total x.first s (map.get x.copy s) t) ∙ h)).1
+        first_part true t h = (or_parts (eq_by_cmp n.cmp t s) (map.contains_key x.first t) (sym (contains_insert n.total x.first s (map.get x.copy s) t) ∙ h)).1
         first_part false t h = h
 
     other_first : (q : Bool) (t : K) → eq_by_cmp n.cmp t s ≡ false → map.get (cond q (map.insert x.first s (map.get x.copy s)) x.first) t ≡ map.get x.first t
@@ -177,7 +163,7 @@ module _ {K V : Type 0} {n : Naming K V} where
         let q = not (has_row x s) && (map.contains_key x.closed (n.object s) || x.strict) in
         record {
           kept = λ t d h w.
-              let v = or_false (eq_by_cmp n.cmp t s) (map.contains_key x.written t) (sym (contains_insert n.total x.written s tt t) ∙ w) in
+              let v = or_parts (eq_by_cmp n.cmp t s) (map.contains_key x.written t) (sym (contains_insert n.total x.written s tt t) ∙ w) in
               other_copy t v.0 ∙ l.kept t d (sym (other_first q t v.0) ∙ h) v.1;
           absent = λ t cl r.
               let v = after_row q t r in
@@ -189,14 +175,14 @@ module _ {K V : Type 0} {n : Naming K V} where
       where
         after_row : (q : Bool) (t : K) → (map.contains_key (cond q (map.insert x.first s (map.get x.copy s)) x.first) t || map.contains_key (map.insert x.written s tt) t) ≡ false → (has_row x t ≡ false) × (eq_by_cmp n.cmp t s ≡ false)
         after_row q t h =
-            let b = or_false _ _ h in
-            let d = or_false (eq_by_cmp n.cmp t s) (map.contains_key x.written t) (sym (contains_insert n.total x.written s tt t) ∙ b.1) in
+            let b = or_parts _ _ h in
+            let d = or_parts (eq_by_cmp n.cmp t s) (map.contains_key x.written t) (sym (contains_insert n.total x.written s tt t) ∙ b.1) in
             (ap (λ k. k || map.contains_key x.written t) (part q t d.0 b.0) ∙ d.1, d.0)
           where
             part : (q : Bool) (t : K) → eq_by_cmp n.cmp t s ≡ false → map.contains_key (cond q (map.insert x.first s (map.get x.copy s)) x.first) t ≡ false → map.contains_key x.first t ≡ false
             part q t e h = ap is_some (sym (other_first q t e)) ∙ h
     local_by false e l =
-        let none = no_parent_of x.parent e in
+        let none = none_of x.parent e in
         record {
           kept = λ t d h w. absurd (none_some (map.get x.first t) (ap is_some h) (get_none x.first t (l.no_first none)));
           absent = λ t cl r. absurd (none_some (map.get x.closed (n.object t)) cl (get_none x.closed (n.object t) (l.no_closed none)));
@@ -211,8 +197,8 @@ module _ {K V : Type 0} {n : Naming K V} where
 
     local_below : is_touched x s ≡ false → Local x → Local (record x { copy = put x.copy s c })
     local_below u l =
-        let v = or_false (has_row x s) (map.contains_key x.closed (n.object s)) u in
-        let r = or_false (map.contains_key x.first s) (map.contains_key x.written s) v.0 in
+        let v = or_parts (has_row x s) (map.contains_key x.closed (n.object s)) u in
+        let r = or_parts (map.contains_key x.first s) (map.contains_key x.written s) v.0 in
         record {
           kept = λ t d h w. by_bool (eq_by_cmp n.cmp t s)
               (λ e. absurd (true≢false (sym (ap is_some (ap (map.get x.first) (sym (key_is n.exact t s e)) ∙ h)) ∙ r.0)))

@@ -34,6 +34,10 @@ pub record World {K V : Type 0} (n : Naming K V) : Type 0 where
 abbrev pub State : {K V : Type 0} → Naming K V → Type 0
 State n = List (World n)
 
+-- the world of a new store
+abbrev pub first_world : WorldId
+first_world = record { owner = 0; serial = 0 }
+
 abbrev pub same_world : WorldId → WorldId → Bool
 same_world a b = (a.owner == b.owner) && (a.serial == b.serial)
 

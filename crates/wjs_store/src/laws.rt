@@ -1,5 +1,6 @@
 //! Laws of the machine of worlds, each the contract of a function that does nothing.
-ghost use Rattle.wjs_store.specs.Laws.{BelowIsByPath, ReachedStays, RefusedChangesNothing, LooksKeepContents, WritesSetContents, SproutsCopyContents, CommitsMoveContents, CommitsMoveMarks, OwnViewHolds};
+ghost use Rattle.wjs_store.specs.Laws.{BelowIsByPath, ReachedStays, RefusedChangesNothing, LooksKeepContents, WritesSetContents, SproutsCopyContents};
+ghost use Rattle.wjs_store.specs.Laws.{CommitsMoveContents, CommitsMoveMarks, OwnViewHolds};
 
 /// The worlds that a write reaches are those from which a path of parents leads up to the world that is written in, on
 /// which every world, the last left out, is untouched at the slot.

@@ -6,10 +6,12 @@
 #![tactic(auto)]
 
 mod action;
+mod equal;
 mod laws;
 mod store;
 
 pub use action::{Action, Answer};
+pub use equal::same_content;
 pub use laws::{
     commits_move_contents, commits_move_marks, looks_keep_contents, own_view_holds,
     reached_states_stay_reached, refused_commit_changes_nothing, sprouts_copy_contents,

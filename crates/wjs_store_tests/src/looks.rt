@@ -1,12 +1,11 @@
 //! A look at a slot beside the read that follows it, over drawn actions, on full copies and on sparse worlds.
 
-use crate::stores::same_content;
 use std::process::Abort;
 use std::test::Fail;
 use wjs_base::{Content, Name, ObjId, OutOfMemory, Slot, TextId, Value, WorldId};
 use wjs_full::{FullStore, run_actions};
 use wjs_overlay::Overlay;
-use wjs_store::{Action, WorldStore};
+use wjs_store::{Action, WorldStore, same_content};
 
 /// The number after this one of a drawn sequence: its high bits are the ones to use.
 fn next(drawn: u64) -> u64 {

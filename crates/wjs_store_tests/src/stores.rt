@@ -3,12 +3,10 @@
 use std::alloc::Global;
 use std::process::Abort;
 use std::test::Fail;
-use wjs_base::{
-    Content, Name, Names, ObjId, OutOfMemory, Slot, TextId, Value, WorldId, same_value,
-};
+use wjs_base::{Content, Name, Names, ObjId, OutOfMemory, Slot, TextId, Value, WorldId};
 use wjs_full::{FullStore, run_actions, serial_history};
 use wjs_overlay::Overlay;
-use wjs_store::{Action, Answer, Verdict};
+use wjs_store::{Action, Answer, Verdict, same_content};
 
 const FIRST: WorldId = WorldId {
     owner: 0,
@@ -125,14 +123,6 @@ fn same_names(a: &Names, b: &Names) -> bool {
         return false;
     }
     (0..a.len()).all(|place| place < b.len() && a.at(place) == b.at(place))
-}
-
-pub(crate) fn same_content(a: Content, b: Content) -> bool {
-    match (a, b) {
-        (Content::Absent, Content::Absent) => true,
-        (Content::Present(a), Content::Present(b)) => same_value(a, b),
-        _ => false,
-    }
 }
 
 fn same_answer(a: &Answer, b: &Answer) -> bool {

@@ -1,7 +1,7 @@
 -- Numbers one after another.
 use Rattle.std.proofs.Common.{◌≡◌, ℕ, ◌+◌, ◌<◌, ◌≤◌, ℤ, List, length, get_or, drop, map, fold, Some, None, refl, ap, ◌∙◌, sym}
 use Rattle.std.proofs.lemmas.List.{at_drop_more, at_drop_all}
-use Rattle.wjs_content.specs.Values.{Whole, Value, Undefined, Null, Boolean, Number, String, Object}
+use Rattle.wjs_by_content.specs.Values.{Whole, Value, Undefined, Null, Boolean, Number, String, Object}
 use Rattle.wjs_meaning.specs.NativesOfTexts.{either}
 use Rattle.wjs_meaning.specs.NativesOfObjects.{whole_of}
 

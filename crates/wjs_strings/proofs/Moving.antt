@@ -1,7 +1,7 @@
 -- A pattern that is moved along a text by its periods.
 use Rattle.std.proofs.Common.{◌≡◌, ℕ, ◌+◌, ◌-◌, ◌<◌, ◌≤◌, true, false, Option, Some, None, ◌∷◌, length, get_or, drop, ap, sym, ◌∙◌, arith, inl, inr}
 use Rattle.std.proofs.lemmas.List.{drop_more, drop-drop, length-drop}
-use Rattle.wjs_content.specs.Values.{Text}
+use Rattle.wjs_by_content.specs.Values.{Text}
 use Rattle.wjs_meaning.specs.NativesOfTexts.{begins_with, first_place, last_place}
 use Rattle.wjs_strings.specs.Periods.{IsPeriod, IsLeastPeriod, StandsSoFar}
 use Rattle.std.proofs.lemmas.Bool.{cases_eq, false_from_ne_true}

@@ -2,7 +2,7 @@
 use Rattle.std.proofs.Common.{◌≡◌, ℕ, suc, zero, ◌+◌, ◌-◌, ◌<◌, ◌≤◌, true, false, Option, Some, None, List, [], ◌∷◌, ◌++◌, length, take, drop, get_or, subst, refl, ap, sym, ◌∙◌, arith}
 use Rattle.std.proofs.lemmas.List.{append_assoc, append-nil, drop-drop, length-drop, take_all, map-append, length-map, drop_all, drop_more, take_at, length_push}
 use Rattle.std.proofs.lemmas.Bool.{ltb-true, ltb-false, false≢true}
-use Rattle.wjs_content.specs.Values.{Text, Value, String}
+use Rattle.wjs_by_content.specs.Values.{Text, Value, String}
 use Rattle.wjs_meaning.specs.NativesOfTexts.{begins_with, first_place, part_of, parts_from}
 use Rattle.wjs_strings.specs.declared.pieces.Piece.{Piece}
 use Rattle.wjs_strings.specs.Pieces.{texts_of, up_to, has_room}

@@ -5,7 +5,7 @@ use Rattle.std.proofs.lemmas.Slice.Eq.{bytes_eq-Decides}
 use Rattle.std.proofs.lemmas.Bool.{cases_Bool, cases_lt, false_from_ne_true, le-leb}
 use Rattle.std.proofs.lemmas.Bool.Decides.{leb_tells}
 use Rattle.std.proofs.Math.Bool.{and-false}
-use Rattle.wjs_content.specs.Values.{Text}
+use Rattle.wjs_by_content.specs.Values.{Text}
 use Rattle.wjs_meaning.specs.NativesOfTexts.{begins_with, first_place, last_place, better}
 
 -- a pattern stands at a place

@@ -2,7 +2,7 @@
 use Rattle.std.proofs.Common.{◌≡◌, ℕ, ◌+◌, ◌-◌, ◌<◌, ◌≤◌, true, false, Option, Some, None, List, [], ◌∷◌, ◌++◌, length, take, drop, map, get_or, subst, refl, ap, sym, ◌∙◌, arith}
 use Rattle.std.proofs.lemmas.List.{map-append, length-map, take_more, drop_more, take_all, take-map}
 use Rattle.std.proofs.lemmas.Bool.{ltb-false, false≢true}
-use Rattle.wjs_content.specs.Values.{Text, String}
+use Rattle.wjs_by_content.specs.Values.{Text, String}
 use Rattle.wjs_meaning.specs.NativesOfTexts.{part_of, parts_of}
 use Rattle.wjs_strings.specs.declared.pieces.Piece.{Piece}
 use Rattle.wjs_strings.specs.Pieces.{texts_of, up_to, has_room}

@@ -1,6 +1,6 @@
 -- How far a text can be moved along itself, and where it stands in another.
 use Rattle.std.specs.Prelude.{◌≡◌, ℕ, ◌+◌, ◌<◌, ◌≤◌, suc, List, length, slice_index}
-use Rattle.wjs_content.specs.Values.{Text}
+use Rattle.wjs_by_content.specs.Values.{Text}
 
 -- the first units of a text, so many, stand in it again from a place on, as far as they reach
 abbrev pub IsPeriod : Text → ℕ → ℕ → Type 0

@@ -1,6 +1,6 @@
 -- Pieces of a text, by their places.
 use Rattle.std.specs.Prelude.{ℕ, Bool, true, nat_lt, List, map as each, take, Option, None, Some}
-use Rattle.wjs_content.specs.Values.{Text, Value, String}
+use Rattle.wjs_by_content.specs.Values.{Text, Value, String}
 use Rattle.wjs_meaning.specs.NativesOfTexts.{part_of}
 use Rattle.wjs_strings.specs.declared.pieces.Piece.{Piece}
 

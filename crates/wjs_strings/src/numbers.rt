@@ -1,7 +1,7 @@
 //! Numbers (ECMA-262, 3rd edition, sections 15.5.3.2 and 15.8).
 ghost use Rattle.std.specs.Prelude.{◌≡◌, ◌%◌, fold, map, ◌∷◌};
 ghost use Rattle.wjs_base.specs.Text.{Table};
-ghost use Rattle.wjs_content.specs.Tables.{value_in};
+ghost use Rattle.wjs_by_content.specs.Tables.{value_in};
 ghost use Rattle.wjs_num.specs.Bits.{uint32};
 ghost use Rattle.wjs_meaning.specs.NativesOfTexts as line;
 ghost use Rattle.wjs_meaning.specs.NativesOfObjects.{whole_of};

@@ -1,7 +1,7 @@
 //! Parts of texts.
 ghost use Rattle.std.specs.Prelude.{◌≡◌};
 ghost use Rattle.wjs_base.specs.Text.{Table};
-ghost use Rattle.wjs_content.specs.Tables.{value_in};
+ghost use Rattle.wjs_by_content.specs.Tables.{value_in};
 ghost use Rattle.wjs_meaning.specs.NativesOfTexts as line;
 
 use crate::places::{end_from_end, end_within, from_end, kept_within, or_zero};

@@ -11,10 +11,7 @@ use wjs_base::OutOfMemory;
 pub(crate) fn periods(alloc: Global, pattern: &[u16]) -> Result<Vec<usize>, OutOfMemory>
     ensures { IfOk result (λ periods. ArePeriods pattern.now periods.items) }
 {
-    let mut periods = match vec![in alloc; 1; pattern.len() + 1] {
-        Ok(periods) => periods,
-        Err(_) => return Err(OutOfMemory),
-    };
+    let mut periods = vec![in alloc; 1; pattern.len() + 1]?;
     let mut period = 1;
     let mut matched = 0;
     'fronts: while period + matched < pattern.len() {

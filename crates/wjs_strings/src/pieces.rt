@@ -1,6 +1,6 @@
 //! The pieces of a text between separators (ECMA-262, 3rd edition, section 15.5.4.14).
 ghost use Rattle.std.specs.Prelude.{◌≡◌, ◌<◌, ◌++◌, ◌∷◌, [], IfOk, OnOk, length};
-ghost use Rattle.wjs_content.specs.Values.{String};
+ghost use Rattle.wjs_by_content.specs.Values.{String};
 ghost use Rattle.wjs_meaning.specs.NativesOfTexts as line;
 ghost use Rattle.wjs_strings.specs.Pieces.{texts_of, up_to, has_room};
 
@@ -82,8 +82,6 @@ fn has_room(limit: Option<u32>, count: usize) -> bool
 fn add_piece(pieces: &mut Vec<Piece>, start: usize, end: usize) -> Result<(), OutOfMemory>
     ensures { OnOk result (pieces.new.items ≡ pieces.old.items ++ record { start = start; end = end } ∷ []) }
 {
-    match pieces.push(Piece { start, end }) {
-        Ok(()) => Ok(()),
-        Err(_) => Err(OutOfMemory),
-    }
+    pieces.push(Piece { start, end })?;
+    Ok(())
 }

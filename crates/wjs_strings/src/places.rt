@@ -1,7 +1,7 @@
 //! Places in texts that a number counts as.
 ghost use Rattle.std.specs.Prelude.{◌≡◌};
 ghost use Rattle.wjs_meaning.specs.NativesOfTexts as line;
-ghost use Rattle.wjs_content.specs.Tables.{value_in};
+ghost use Rattle.wjs_by_content.specs.Tables.{value_in};
 ghost use Rattle.wjs_base.specs.Text.{Table};
 
 use wjs_base::{Value, Whole};

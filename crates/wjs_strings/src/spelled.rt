@@ -31,17 +31,10 @@ fn joined(
 ) -> Result<Vec<u16>, OutOfMemory>
     ensures { IfOk result (λ units. units.items ≡ first.now ++ second.now ++ third.now) }
 {
-    let mut units = match Vec::from_slice(alloc, first) {
-        Ok(units) => units,
-        Err(_) => return Err(OutOfMemory),
-    };
-    if units.extend_from_slice(second).is_err() {
-        return Err(OutOfMemory);
-    }
-    match units.extend_from_slice(third) {
-        Ok(()) => Ok(units),
-        Err(_) => Err(OutOfMemory),
-    }
+    let mut units = Vec::from_slice(alloc, first)?;
+    units.extend_from_slice(second)?;
+    units.extend_from_slice(third)?;
+    Ok(units)
 }
 
 /// The text of a function by its name (ECMA-262, 3rd edition, section 15.3.4.2).
@@ -74,8 +67,6 @@ pub fn line_of(alloc: Global, units: &[u16]) -> Result<Vec<u8>, OutOfMemory>
     ensures { IfOk result (λ bytes. bytes.items ≡ utf8_of units.now ++ 10 ∷ []) }
 {
     let mut bytes = utf8_of_units(alloc, units)?;
-    match bytes.push(LINE_FEED) {
-        Ok(()) => Ok(bytes),
-        Err(_) => Err(OutOfMemory),
-    }
+    bytes.push(LINE_FEED)?;
+    Ok(bytes)
 }

@@ -4,6 +4,7 @@ use Rattle.std.proofs.Common.{ap, sym, subst, ◌∙◌, refl, arith, get_or, in
 use Rattle.std.proofs.lemmas.List.{take-append-le}
 use Rattle.std.proofs.Math.Seq.{take-append_seam}
 use Rattle.std.proofs.lemmas.Option.{slice_get_within, slice_get_read}
+use Rattle.wjs_base.proofs.Lists.{get_last, get_pushed}
 use Rattle.wjs_tree.specs.declared.node.Node.{Node}
 use Rattle.wjs_tree.specs.declared.node.NodeId.{NodeId}
 use Rattle.wjs_tree.specs.declared.facts.Facts.{Facts}
@@ -11,25 +12,10 @@ use Rattle.wjs_tree.specs.Children.{ChildrenBelow}
 use Rattle.wjs_tree.specs.Facts.{fact_at, height_at, AreFacts, IsKept, AreKept, IsLow}
 use Rattle.wjs_tree.specs.Shows.{Keeps}
 
--- an element of a list with one more
-pub get-append : {T : Type 0} (xs : List T) (y : T) (i : ℕ) (x : T) → slice_get (xs ++ y ∷ []) i ≡ Some x → (slice_get xs i ≡ Some x) ⊎ ((i ≡ length xs) × (y ≡ x))
-get-append [] y zero x h = inr (refl, (cc))
-get-append [] y (suc i) x h = absurd (cc)
-get-append (z ∷ xs) y zero x h = inl h
-get-append (z ∷ xs) y (suc i) x h = deeper (get-append xs y i x h)
-  where
-    deeper : (slice_get xs i ≡ Some x) ⊎ ((i ≡ length xs) × (y ≡ x)) → (slice_get (z ∷ xs) (suc i) ≡ Some x) ⊎ ((suc i ≡ length (z ∷ xs)) × (y ≡ x))
-    deeper (inl p) = inl p
-    deeper (inr q) = inr (ap suc q.0, q.1)
-
 pub get-front : {T : Type 0} (xs : List T) (y : T) (i : ℕ) (x : T) → slice_get xs i ≡ Some x → slice_get (xs ++ y ∷ []) i ≡ Some x
 get-front [] y i x h = absurd (cc)
 get-front (z ∷ xs) y zero x h = h
 get-front (z ∷ xs) y (suc i) x h = get-front xs y i x h
-
-pub get-last : {T : Type 0} (xs : List T) (y : T) → slice_get (xs ++ y ∷ []) (length xs) ≡ Some y
-get-last [] y = refl
-get-last (z ∷ xs) y = get-last xs y
 
 -- the nodes that were there stay
 pub keeps_added : (ns : List Node) (node : Node) → Keeps ns (ns ++ node ∷ [])
@@ -75,7 +61,7 @@ module _ (ns : List Node) (facts : List Facts) (kept : AreKept ns facts) where
       let here : IsKept (facts ++ own ∷ []) (length facts) node = record {
         below = subst (λ (z : ℕ). ChildrenBelow z node) (sym l) below;
         own = own;
-        stored = get-last facts own;
+        stored = get_last facts own;
         right = subst (λ (z : List Facts). AreFacts z node own) (sym (take-append_seam facts (own ∷ []))) right;
         low = small;
       } in
@@ -84,7 +70,7 @@ module _ (ns : List Node) (facts : List Facts) (kept : AreKept ns facts) where
   pub added : (node : Node) (own : Facts) → ChildrenBelow (length ns) node → AreFacts facts node own → own.height ≤ length facts + 1 → AreKept (ns ++ node ∷ []) (facts ++ own ∷ [])
   added node own below right small = record {
     same_length = (let l = kept.same_length in simp length-append (omega arith));
-    each = λ i x h. one node own below right small i x (get-append ns node i x h);
+    each = λ i x h. one node own below right small i x (get_pushed ns node i x h);
   }
 
 -- the facts that are read at a place

@@ -8,3 +8,7 @@ pub mod Heights
 pub mod Tests
 pub mod Adding
 pub mod Forward
+pub mod Forms
+pub mod Walks
+pub mod Lists
+pub mod Steps

@@ -12,3 +12,6 @@ pub mod Shows
 pub mod Used
 pub mod Children
 pub mod Facts
+pub mod Forms
+pub mod There
+pub mod Laws

@@ -1,7 +1,9 @@
 //! What is kept beside each node, so that the tests of nodes take one step.
 ghost use Rattle.std.specs.Prelude.{◌≡◌, ℕ, ◌+◌, ◌≤◌, ◌<◌, length};
-ghost use Rattle.wjs_tree.specs.Children.{ChildrenBelow, AreBelow, OptionBelow, ItemsBelow, PropertiesBelow, DeclaratorsBelow, ClausesBelow, InitBelow, HandlerBelow};
-ghost use Rattle.wjs_tree.specs.Facts.{AreFacts, fact_at, highest, height_at, option_height, list_height, declarators_height, init_height, clause_height, handler_height, node_height, node_level, node_is_target, node_starts_with_brace, IsLow};
+ghost use Rattle.wjs_tree.specs.Children.{ChildrenBelow, AreBelow, OptionBelow, ItemsBelow, PropertiesBelow, DeclaratorsBelow, ClausesBelow};
+ghost use Rattle.wjs_tree.specs.Children.{InitBelow, HandlerBelow};
+ghost use Rattle.wjs_tree.specs.Facts.{AreFacts, fact_at, highest, height_at, option_height, list_height, declarators_height, init_height};
+ghost use Rattle.wjs_tree.specs.Facts.{clause_height, handler_height, node_height, node_level, node_is_target, node_starts_with_brace, IsLow};
 
 use crate::node::{Clause, Declarator, ForInit, Handler, Node, NodeId, Property};
 

@@ -3,6 +3,7 @@
 
 mod facts;
 mod keys;
+mod laws;
 mod node;
 mod nodes;
 mod operators;
@@ -11,6 +12,7 @@ mod signs;
 mod tokens;
 
 pub use keys::Key;
+pub use laws::forms_are_known;
 pub use node::{
     Clause, Declarator, End, ForInit, Handler, Node, NodeId, Property, PropertyKey, Spelt,
 };

@@ -73,9 +73,7 @@ impl Nodes {
     {
         let id = NodeId(self.list.len() as u64);
         let facts = facts_of(self.facts.as_slice(), &node);
-        let Ok(()) = self.facts.push(facts) else {
-            return Err(OutOfMemory);
-        };
+        self.facts.push(facts)?;
         match self.list.push(node) {
             Ok(()) => Ok(id),
             Err(_) => {

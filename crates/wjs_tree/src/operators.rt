@@ -1,6 +1,7 @@
 //! The operators, and the tokens that spell them (ECMA-262, 3rd edition, sections 11.3 to 11.13).
 ghost use Rattle.std.specs.Prelude.{◌≡◌};
-ghost use Rattle.wjs_tree.specs.Operators.{update_token, prefix_token, binary_token, assign_token, update_of, prefix_of, binary_of, binary_level, assign_of, compound, binary_sign_of, assign_sign_of};
+ghost use Rattle.wjs_tree.specs.Operators.{update_token, prefix_token, binary_token, assign_token, update_of, prefix_of, binary_of, binary_level};
+ghost use Rattle.wjs_tree.specs.Operators.{assign_of, compound, binary_sign_of, assign_sign_of};
 
 use crate::keys::Key;
 use crate::signs::Sign;

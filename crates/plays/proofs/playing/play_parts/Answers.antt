@@ -1,5 +1,5 @@
 use Rattle.wjs_model.proofs.Placed.{placed_stay}
-use Rattle.wjs_deeds.proofs.Staying.{units_stay}
+use Rattle.wjs_heap_steps.proofs.Staying.{units_stay}
 use Rattle.plays.proofs.playing.play_parts.Goals as goal
 
 pub play-requires-clause-parts : goal.play-requires-clause-parts

@@ -1,5 +1,5 @@
 use Rattle.std.proofs.Common.{◌+◌, true, Some, refl, sym, subst}
-use Rattle.wjs_activity.specs.declared.turns.Came.{Came}
+use Rattle.wjs_tries.specs.declared.turns.Came.{Came}
 use Rattle.wjs_activity.specs.Noting.{Notes}
 use Rattle.wjs_activity.proofs.activities.note.Goals as goal
 

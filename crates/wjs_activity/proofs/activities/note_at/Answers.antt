@@ -1,6 +1,6 @@
 use Rattle.std.proofs.Common.{length, refl}
 use Rattle.std.proofs.lemmas.Option.{slice_get_read}
-use Rattle.wjs_props.proofs.Putting.{if_ok}
+use Rattle.std.proofs.lemmas.Result.{IfOk-weaker}
 use Rattle.wjs_activity.proofs.activities.note_at.Goals as goal
 
 pub note-requires : goal.note-requires
@@ -11,7 +11,7 @@ note-requires c =
 pub returns : goal.returns
 returns c =
     let xs = c.args.activities.now.items in
-    if_ok c.note.result _ _
+    IfOk-weaker c.note.result _ _
     (λ output n. record {
       was = c.index_mut.result.now;
       there = slice_get_read xs (length xs) c.args.place c.index_mut.result.now refl c.requires.place c.index_mut.ensures.value;

@@ -1,6 +1,6 @@
 use Rattle.std.proofs.Common.{◌<◌, ◌≤◌, ◌++◌, List, ℕ, length, refl, sym, ap, ◌∙◌, arith, append-nil}
 use Rattle.std.proofs.lemmas.Option.{slice_get_read}
-use Rattle.wjs_arena.proofs.Owners.{on_ok}
+use Rattle.std.proofs.lemmas.Result.{on_ok_weaker}
 use Rattle.wjs_alone.specs.Serial.{line_of}
 use Rattle.wjs_activity.proofs.Telling.{line_here, line_behind, line_none}
 use Rattle.wjs_activity.proofs.lines.push_line_at.Goals as goal
@@ -11,7 +11,7 @@ returns-then-is_of c =
     let i = c.loop-end.end-index in
     let x = c.end-item.result in
     let inside : i < length ends = omega arith in
-    on_ok c.push_line.result
+    on_ok_weaker c.push_line.result
     (λ wrote es told.
     let h = line_here ends es i x c.args.activity (slice_get_read ends (length ends) i x refl inside c.end-item.is) told
     (c.is_of.ensures.yes c.if-is_of.true) in

@@ -6,12 +6,12 @@ use Rattle.wjs_model.specs.declared.config.Config.{Config}
 use Rattle.wjs_model.specs.Soundness.{Sound}
 use Rattle.wjs_session.specs.Stores.{worlds_in}
 use Rattle.wjs_session.specs.Resumed.{Rests}
-use Rattle.wjs_activity.specs.declared.common.Common.{Common}
-use Rattle.wjs_activity.specs.declared.common.Rested.{Rested}
-use Rattle.wjs_activity.specs.Hiding.{no_owner}
-use Rattle.wjs_activity.specs.Meant.{itself, session_meaning, Listed, resting}
-use Rattle.wjs_activity.specs.Turning.{GoesOnAs}
-use Rattle.wjs_activity.proofs.Repacked.{sound_from}
+use Rattle.wjs_tries.specs.declared.common.Common.{Common}
+use Rattle.wjs_tries.specs.declared.common.Rested.{Rested}
+use Rattle.wjs_tries.specs.Hiding.{no_owner}
+use Rattle.wjs_tries.specs.Meant.{itself, session_meaning, Listed, resting}
+use Rattle.wjs_tries.specs.Turning.{GoesOnAs}
+use Rattle.wjs_tries.proofs.Repacked.{sound_from}
 use Rattle.wjs_activity.proofs.rounds.go_on_or_open.Goals as goal
 
 abbrev At : ℕ → Common → Option Rested → Type 0

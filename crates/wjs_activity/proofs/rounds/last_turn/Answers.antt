@@ -1,7 +1,7 @@
 use Rattle.std.proofs.Common.{◌∙◌, sym, ap, List}
 use Rattle.std.specs.Prelude.{slice_get}
+use Rattle.std.proofs.lemmas.Result.{IfOk-weaker}
 use Rattle.wjs_io.specs.Streams.{over}
-use Rattle.wjs_props.proofs.Putting.{if_ok}
 use Rattle.wjs_activity.specs.declared.activities.Activity.{Activity}
 use Rattle.wjs_activity.proofs.AtPlace.{last_taken, last_left}
 use Rattle.wjs_activity.proofs.Composed.{if_err}
@@ -19,7 +19,7 @@ returns-then-is_last-clause-ok g c =
     let seen = g.O.Sink.seen in
     let first = c.args.out.now in
     let after = c.one_turn.new.out in
-    if_ok c.one_turn.result _ _
+    IfOk-weaker c.one_turn.result _ _
     (λ next h. last_taken c.args.rules (over seen first after) c.args.place c.args.play next
     (λ a at. sym (c.is_last.ensures a (ap (λ (l : List Activity). slice_get l c.args.place) c.as_slice.ensures.value ∙ at)) ∙ c.if-is_last.true) h)
     c.one_turn.ensures.ok

@@ -1,6 +1,6 @@
 use Rattle.std.proofs.Common.{sym, subst}
+use Rattle.std.proofs.lemmas.Result.{IfOk-weaker}
 use Rattle.wjs_io.specs.Streams.{over}
-use Rattle.wjs_props.proofs.Putting.{if_ok}
 use Rattle.wjs_activity.specs.Rounds.{OneTurn, HaltsAt}
 use Rattle.wjs_activity.proofs.AtPlace.{one_turned, one_stopped, out_of_memory}
 use Rattle.wjs_activity.proofs.Composed.{if_err}
@@ -13,7 +13,7 @@ returns-in-Ok-clause-ok g c =
     let after = c.written.new.out in
     let s = over seen first after in
     let r = c.in-Ok.turned in
-    if_ok c.written.result _ _
+    IfOk-weaker c.written.result _ _
     (λ next h. subst (OneTurn c.args.rules s c.args.place c.args.steps c.args.play) (sym h.0)
     (one_turned c.args.rules s c.args.place c.args.steps c.args.play r.0 r.1.items c.in-Ok.ensures h.1))
     c.written.ensures.ok

@@ -1,10 +1,10 @@
 use Rattle.std.proofs.Common.{◌≡◌, ◌+◌, ◌-◌, ◌<◌, sym, subst, arith}
-use Rattle.wjs_props.proofs.Putting.{if_ok}
+use Rattle.std.proofs.lemmas.Result.{IfOk-weaker}
 use Rattle.wjs_session.specs.Stores.{worlds_in}
-use Rattle.wjs_activity.specs.Common.{IsCommon}
-use Rattle.wjs_activity.specs.Hiding.{no_owner, MayList}
-use Rattle.wjs_activity.specs.Meant.{session_meaning}
-use Rattle.wjs_activity.specs.Turning.{Begun}
+use Rattle.wjs_tries.specs.Common.{IsCommon}
+use Rattle.wjs_tries.specs.Hiding.{no_owner, MayList}
+use Rattle.wjs_tries.specs.Meant.{session_meaning}
+use Rattle.wjs_tries.specs.Turning.{Begun}
 use Rattle.wjs_activity.proofs.rounds.open_next.Goals as goal
 
 pub open-requires-clause-some : goal.open-requires-clause-some
@@ -25,13 +25,13 @@ open-requires-clause-apart c = λ u listed.
 pub returns-in-Some-clause-begun : goal.returns-in-Some-clause-begun
 returns-in-Some-clause-begun c =
     let next = c.in-Some.ensures.next in
-    if_ok c.open.result _ _
+    IfOk-weaker c.open.result _ _
     (λ config b. subst (λ q. Begun session_meaning q (c.args.rules.first + c.args.place) c.args.rules.budget c.args.common config) next b)
     c.open.ensures.begun
 
 pub returns-in-Some-clause-few : goal.returns-in-Some-clause-few
 returns-in-Some-clause-few c =
     let next = c.in-Some.ensures.next in
-    if_ok c.open.result _ _
+    IfOk-weaker c.open.result _ _
     (λ config b. subst (λ n. n < no_owner) next c.in-Some.ensures.few)
     c.open.ensures.running

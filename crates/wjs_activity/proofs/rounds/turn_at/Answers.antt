@@ -1,7 +1,7 @@
 use Rattle.std.proofs.Common.{◌∙◌, sym, ap, List, arith}
 use Rattle.std.specs.Prelude.{slice_get}
+use Rattle.std.proofs.lemmas.Result.{IfOk-weaker}
 use Rattle.wjs_io.specs.Streams.{over}
-use Rattle.wjs_props.proofs.Putting.{if_ok}
 use Rattle.wjs_activity.specs.declared.activities.Activity.{Activity}
 use Rattle.wjs_activity.specs.Rounds.{Settled, LastTurn, LastHalts, TurnAt, TurnsTo, HaltsIn, Is, by_turn, at_place}
 use Rattle.wjs_activity.proofs.Places.{there_at}
@@ -54,7 +54,7 @@ returns-in-Ok-clause-ok g c =
     let middle = c.one_turn.new.out in
     let after = c.last_turn.new.out in
     let w = there_at c.args.play.activities.items c.args.place c.requires.place in
-    if_ok c.last_turn.result (LastTurn c.args.rules (over seen middle after) c.args.place c.in-Ok.next)
+    IfOk-weaker c.last_turn.result (LastTurn c.args.rules (over seen middle after) c.args.place c.in-Ok.next)
     (TurnsTo c.args.rules (over seen first after) (Is (by_turn c.args.rules.budget (at_place c.args.place c.args.steps))) c.args.play)
     (λ next l. turn_taken c.args.rules c.args.place c.args.steps c.args.play c.in-Ok.next w.0 w.1 (seen first).bytes (seen middle).bytes (seen after).bytes
     (seen first).faults (seen middle).faults (seen after).faults c.in-Ok.ensures.ok next
@@ -68,7 +68,7 @@ returns-in-Ok-clause-settled g c =
     let after = c.last_turn.new.out in
     let s = over seen middle after in
     let w = there_at c.args.play.activities.items c.args.place c.requires.place in
-    if_ok c.last_turn.result (LastTurn c.args.rules s c.args.place c.in-Ok.next) (λ next. Settled next.activities.items)
+    IfOk-weaker c.last_turn.result (LastTurn c.args.rules s c.args.place c.in-Ok.next) (λ next. Settled next.activities.items)
     (λ next l. settled_at c.args.rules s c.args.place c.args.play c.in-Ok.next next w.0 w.1 c.in-Ok.ensures.ok.changes l c.requires.settled)
     c.last_turn.ensures.ok
 
@@ -79,7 +79,7 @@ returns-in-Ok-clause-changes g c =
     let after = c.last_turn.new.out in
     let s = over seen middle after in
     let w = there_at c.args.play.activities.items c.args.place c.requires.place in
-    if_ok c.last_turn.result (LastTurn c.args.rules s c.args.place c.in-Ok.next) (TurnAt c.args.rules.budget c.args.place c.args.play)
+    IfOk-weaker c.last_turn.result (LastTurn c.args.rules s c.args.place c.in-Ok.next) (TurnAt c.args.rules.budget c.args.place c.args.play)
     (λ next l. turned_at c.args.rules s c.args.place c.args.play c.in-Ok.next next w.0 w.1 c.in-Ok.ensures.ok.changes l)
     c.last_turn.ensures.ok
 

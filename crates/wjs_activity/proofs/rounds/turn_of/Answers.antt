@@ -1,6 +1,6 @@
 use Rattle.std.proofs.Common.{◌≡◌, ◌<◌, ◌⊎◌, ◌∙◌, subst}
+use Rattle.std.proofs.lemmas.Result.{IfOk-weaker}
 use Rattle.wjs_io.specs.Streams.{over}
-use Rattle.wjs_props.proofs.Putting.{if_ok}
 use Rattle.wjs_activity.specs.Plays.{turn_in}
 use Rattle.wjs_activity.specs.Rounds.{TurnsTo, HaltsIn, Is, by_turn}
 use Rattle.wjs_activity.proofs.Founds.{none_turn}
@@ -13,7 +13,7 @@ returns-in-Some-clause-ok g c =
     let first = c.args.out.now in
     let after = c.turn_at.new.out in
     let s = over seen first after in
-    if_ok c.turn_at.result _ _
+    IfOk-weaker c.turn_at.result _ _
     (λ next h. subst (λ k. TurnsTo c.args.rules s (Is (by_turn c.args.rules.budget
     (record { activity = k; steps = c.args.turn.steps }))) c.args.play next) c.in-Some.ensures.1 h)
     c.turn_at.ensures.ok

@@ -1,7 +1,7 @@
 use Rattle.std.proofs.Common.{◌+◌, ◌*◌, ap, ◌∙◌, sym, subst, arith}
 use Rattle.std.specs.Prelude.{map as each}
+use Rattle.std.proofs.lemmas.Result.{IfOk-weaker}
 use Rattle.wjs_io.specs.Streams.{over}
-use Rattle.wjs_props.proofs.Putting.{if_ok}
 use Rattle.wjs_alone.specs.Fronts.{Fronts}
 use Rattle.wjs_alone.proofs.AllTurns.{rounds_front}
 use Rattle.wjs_activity.specs.Plays.{turn_in}
@@ -25,7 +25,7 @@ returns-in-Ok-clause-ok g c =
     let first = c.args.out.now in
     let middle = c.scheduled.new.out in
     let after = c.rounds.new.out in
-    if_ok c.rounds.result _ _
+    IfOk-weaker c.rounds.result _ _
     (λ next h. turns_then c.args.rules (seen first).bytes (seen middle).bytes (seen after).bytes (seen first).faults (seen middle).faults (seen after).faults
     c.args.play c.in-Ok.next next
     (Is (by_turns c.args.rules.budget (each turn_in c.args.schedule.now))) (Is (by_rounds c.args.rules.budget c.args.turn))

@@ -1,6 +1,6 @@
-use Rattle.wjs_props.proofs.Putting.{if_ok}
 use Rattle.wjs_activity.proofs.Opened.{overlay_meaning, new_store, opened_so}
 use Rattle.wjs_activity.proofs.whole.opened.Goals as goal
+use Rattle.std.proofs.lemmas.Result.{IfOk-weaker}
 
 pub start_parts-requires-clause-new : goal.start_parts-requires-clause-new
 start_parts-requires-clause-new c = new_store (overlay_meaning c.in_ok-store.store) c.in_ok-store.ensures
@@ -10,7 +10,7 @@ run_library-requires c = c.in_ok-config.ensures.sound
 
 pub returns : goal.returns
 returns c =
-    if_ok c.run_library.result _ _
+    IfOk-weaker c.run_library.result _ _
     (λ new ran. opened_so c.args.texts c.args.library c.args.parts.items c.args.budget
     (overlay_meaning c.in_ok-store.store) c.in_ok-store.ensures c.in_ok-config.config c.in_ok-config.ensures.starts c.in_ok-config.ensures.sound
     c.requires.library c.requires.parts new ran)

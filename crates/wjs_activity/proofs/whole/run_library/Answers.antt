@@ -1,10 +1,10 @@
 use Rattle.std.proofs.Common.{refl}
-use Rattle.wjs_props.proofs.Putting.{if_ok}
+use Rattle.std.proofs.lemmas.Result.{IfOk-weaker}
 use Rattle.wjs_activity.proofs.whole.run_library.Goals as goal
 
 pub returns-in-Running : goal.returns-in-Running
 returns-in-Running c =
-    if_ok c.walk_library.result _ _
+    IfOk-weaker c.walk_library.result _ _
     (λ new w. record { none = λ over. absurd (over c.in-Running.is); some = λ on. w })
     c.walk_library.ensures
 

@@ -1,7 +1,7 @@
 use Rattle.wjs_meaning.specs.Expressions.{compound_old}
 use Rattle.wjs_model.specs.Contents.{reference_in}
-use Rattle.wjs_moves.proofs.Handling.{runs_later, goes_on_after}
-use Rattle.wjs_moves.proofs.Parting.{stands_later}
+use Rattle.wjs_frames.proofs.Handling.{runs_later, goes_on_after}
+use Rattle.wjs_frames.proofs.Parting.{stands_later}
 use Rattle.wjs_assigns.proofs.assigns.assign_compound.Goals as goal
 
 pub compound_old-requires-clause-runs : goal.compound_old-requires-clause-runs

@@ -1,6 +1,6 @@
 use Rattle.std.proofs.Common.{◌∷◌}
 use Rattle.wjs_model.specs.declared.frame.Held.TheVariants as holds
-use Rattle.wjs_moves.proofs.Handling.{runs_held}
+use Rattle.wjs_frames.proofs.Handling.{runs_held}
 use Rattle.wjs_assigns.proofs.assigns.assign_plain.Goals as goal
 
 pub enter-requires-clause-part : goal.enter-requires-clause-part

@@ -1,6 +1,6 @@
 use Rattle.std.proofs.Common.{inl, inr, refl}
 use Rattle.wjs_tree.specs.declared.node.Node.TheVariants as nodes
-use Rattle.wjs_moves.proofs.Parting.{stands_here}
+use Rattle.wjs_frames.proofs.Parting.{stands_here}
 use Rattle.wjs_assigns.proofs.assigns.assign_start.Goals as goal
 
 pub enter-requires-clause-part : goal.enter-requires-clause-part

@@ -1,5 +1,5 @@
 use Rattle.std.proofs.Common.{refl}
-use Rattle.wjs_lines.proofs.Following.{follows_as}
+use Rattle.wjs_step_common.proofs.Following.{follows_as}
 use Rattle.wjs_assigns.proofs.assigns.compound_nested.Goals as goal
 
 pub nest-requires-clause-node : goal.nest-requires-clause-node

@@ -1,7 +1,7 @@
 use Rattle.std.proofs.Common.{refl, ◌∷◌}
-use Rattle.wjs_lines.proofs.Following.{follows_as}
+use Rattle.wjs_step_common.proofs.Following.{follows_as}
 use Rattle.wjs_model.specs.declared.frame.Held.TheVariants as holds
-use Rattle.wjs_moves.proofs.Handling.{runs_held}
+use Rattle.wjs_frames.proofs.Handling.{runs_held}
 use Rattle.wjs_assigns.proofs.assigns.compound_old.Goals as goal
 
 pub enter-requires-clause-part : goal.enter-requires-clause-part

@@ -1,8 +1,8 @@
 use Rattle.std.proofs.Common.{sym}
-use Rattle.wjs_moves.proofs.Shorter.{follows_shorter, shorten_ended}
-use Rattle.wjs_content.specs.Tables.{value_in}
-use Rattle.wjs_moves.specs.Parts.{env_in}
-use Rattle.wjs_content.specs.Values.{Number}
+use Rattle.wjs_frames.proofs.Shorter.{follows_shorter, shorten_ended}
+use Rattle.wjs_by_content.specs.Tables.{value_in}
+use Rattle.wjs_frames.specs.Parts.{env_in}
+use Rattle.wjs_by_content.specs.Values.{Number}
 use Rattle.wjs_meaning.specs.Deeds.{Gives, then_value}
 use Rattle.wjs_meaning.specs.Operators.{operate}
 use Rattle.wjs_meaning.specs.Expressions.{assign_value}

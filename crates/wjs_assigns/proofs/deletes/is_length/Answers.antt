@@ -1,10 +1,10 @@
 use Rattle.std.proofs.Common.{ap, ◌∙◌, subst}
 use Rattle.wjs_base.specs.declared.values.Name.{Name}
-use Rattle.wjs_content.specs.Names.{length_name}
-use Rattle.wjs_content.specs.Tables.{name_in}
-use Rattle.wjs_content.specs.Values.{same_text}
+use Rattle.wjs_by_content.specs.Names.{length_name}
+use Rattle.wjs_by_content.specs.Tables.{name_in}
+use Rattle.wjs_by_content.specs.Values.{same_text}
 use Rattle.wjs_model.specs.Soundness.{HasName}
-use Rattle.wjs_deeds.proofs.Spelling.{index_not_length}
+use Rattle.wjs_heap_steps.proofs.Spelling.{index_not_length}
 use Rattle.wjs_assigns.proofs.deletes.is_length.Goals as goal
 
 pub returns-in-Index : goal.returns-in-Index

@@ -1,9 +1,9 @@
 use Rattle.std.proofs.Common.{refl}
 use Rattle.std.proofs.Common.{◌∙◌}
-use Rattle.wjs_lines.proofs.Following.{follows_by}
-use Rattle.wjs_lines.proofs.Converting.{number_shortens}
-use Rattle.wjs_content.specs.Tables.{value_in}
-use Rattle.wjs_moves.specs.Parts.{env_in}
+use Rattle.wjs_step_common.proofs.Following.{follows_by}
+use Rattle.wjs_step_common.proofs.Converting.{number_shortens}
+use Rattle.wjs_by_content.specs.Tables.{value_in}
+use Rattle.wjs_frames.specs.Parts.{env_in}
 use Rattle.wjs_meaning.specs.Expressions.{complement_number}
 use Rattle.wjs_assigns.proofs.prefixes.complement_value.Goals as goal
 

@@ -1,4 +1,4 @@
-use Rattle.wjs_lines.proofs.Following.{follows_as}
+use Rattle.wjs_step_common.proofs.Following.{follows_as}
 use Rattle.wjs_meaning.specs.Expressions.{minus_number}
 use Rattle.wjs_operators.proofs.Operators.{number_passes}
 use Rattle.wjs_assigns.proofs.prefixes.minus_converted.Goals as goal

@@ -1,8 +1,8 @@
 use Rattle.std.proofs.Common.{◌∙◌}
-use Rattle.wjs_moves.proofs.Shorter.{follows_shorter}
-use Rattle.wjs_lines.proofs.Converting.{primitive_shortens}
-use Rattle.wjs_content.specs.Tables.{value_in}
-use Rattle.wjs_moves.specs.Parts.{env_in}
+use Rattle.wjs_frames.proofs.Shorter.{follows_shorter}
+use Rattle.wjs_step_common.proofs.Converting.{primitive_shortens}
+use Rattle.wjs_by_content.specs.Tables.{value_in}
+use Rattle.wjs_frames.specs.Parts.{env_in}
 use Rattle.wjs_meaning.specs.Conversions.{HintNumber, number_of_primitive}
 use Rattle.wjs_assigns.proofs.prefixes.plus_value.Goals as goal
 

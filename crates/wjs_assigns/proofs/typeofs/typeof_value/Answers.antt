@@ -1,9 +1,9 @@
 use Rattle.std.proofs.Common.{ap}
-use Rattle.wjs_content.specs.Tables.{value_in}
-use Rattle.wjs_content.specs.Values.{Text, String}
+use Rattle.wjs_by_content.specs.Tables.{value_in}
+use Rattle.wjs_by_content.specs.Values.{Text, String}
 use Rattle.wjs_meaning.specs.Deeds.{give}
 use Rattle.wjs_meaning.specs.Expressions.{type_name}
-use Rattle.wjs_moves.proofs.Shorter.{follows_look}
+use Rattle.wjs_frames.proofs.Shorter.{follows_look}
 use Rattle.wjs_assigns.proofs.typeofs.typeof_value.Goals as goal
 
 pub returns : goal.returns

@@ -1,8 +1,8 @@
-use Rattle.wjs_lines.proofs.Following.{follows_as}
+use Rattle.wjs_step_common.proofs.Following.{follows_as}
 use Rattle.wjs_meaning.specs.Expressions.{update_number}
 use Rattle.wjs_model.specs.Contents.{reference_in, reference_held}
 use Rattle.wjs_model.specs.Waiting.{fix_in}
-use Rattle.wjs_moves.specs.Parts.{env_in}
+use Rattle.wjs_frames.specs.Parts.{env_in}
 use Rattle.wjs_operators.proofs.Operators.{number_passes}
 use Rattle.wjs_assigns.proofs.updates.update_converted.Goals as goal
 

@@ -1,5 +1,5 @@
 use Rattle.std.proofs.Common.{refl, sym}
-use Rattle.wjs_lines.proofs.Following.{follows_as}
+use Rattle.wjs_step_common.proofs.Following.{follows_as}
 use Rattle.wjs_assigns.proofs.updates.update_number.Goals as goal
 
 pub returns-in-Ok : goal.returns-in-Ok

@@ -1,7 +1,7 @@
 use Rattle.wjs_meaning.specs.Expressions.{update_value}
 use Rattle.wjs_model.specs.Contents.{reference_in}
 use Rattle.wjs_model.specs.Waiting.{fix_in}
-use Rattle.wjs_moves.proofs.Handling.{runs_later, goes_on_after}
+use Rattle.wjs_frames.proofs.Handling.{runs_later, goes_on_after}
 use Rattle.wjs_assigns.proofs.updates.update_reference.Goals as goal
 
 pub update_value-requires-clause-runs : goal.update_value-requires-clause-runs

@@ -1,8 +1,8 @@
 use Rattle.std.proofs.Common.{refl}
-use Rattle.wjs_lines.proofs.Following.{follows_by}
-use Rattle.wjs_lines.proofs.Converting.{number_shortens}
-use Rattle.wjs_content.specs.Tables.{value_in}
-use Rattle.wjs_moves.specs.Parts.{env_in}
+use Rattle.wjs_step_common.proofs.Following.{follows_by}
+use Rattle.wjs_step_common.proofs.Converting.{number_shortens}
+use Rattle.wjs_by_content.specs.Tables.{value_in}
+use Rattle.wjs_frames.specs.Parts.{env_in}
 use Rattle.wjs_model.specs.Contents.{reference_in}
 use Rattle.wjs_meaning.specs.Expressions.{update_number}
 use Rattle.wjs_model.specs.Waiting.{fix_in}

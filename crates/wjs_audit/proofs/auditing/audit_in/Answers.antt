@@ -1,8 +1,8 @@
 use Rattle.std.proofs.Common.{length, take, refl, sym, subst, List}
 use Rattle.std.proofs.lemmas.Option.{slice_get_read}
+use Rattle.wjs_base.proofs.Lists.{take_next}
 use Rattle.wjs_audit.specs.declared.deed.Entry.{Entry}
 use Rattle.wjs_audit.specs.Right.{WrongAt}
-use Rattle.wjs_audit.proofs.Pushes.{take_next}
 use Rattle.wjs_audit.proofs.Machine.{Audited, audited_fresh, audited_more, wrong_at}
 use Rattle.wjs_audit.proofs.auditing.audit_in.Goals as goal
 

@@ -17,7 +17,7 @@ loop-place-preserved c =
     let part = c.args.part.now in
     let at = 4 * c.loop-place.place in
     let so_far = c.loop-place.units.items in
-    let more = c.in-Ok.ensures.items in
+    let more = c.in_ok-push.ensures.items in
     let next : 4 * (c.loop-place.place + 1) ≡ at + 4 = omega arith in (
       ap (λ n. take n part) next ∙ unit_more part at so_far c.in-Some.unit (omega (arith, c.loop-place-test.true)) c.loop-place.invariant.0 c.in-Some.ensures.1 ∙ ap hex (sym more),
       subst AreUnits (sym more) (All-push (λ unit. unit < 2 ^ 16) so_far c.in-Some.unit c.loop-place.invariant.1 c.in-Some.ensures.0),

@@ -1,6 +1,6 @@
 use Rattle.std.proofs.Common.{◌++◌, ◌∷◌, [], List, sym, ap, ◌∙◌}
 use Rattle.wjs_base.specs.declared.values.Name.{Name}
-use Rattle.wjs_audit.proofs.Pushes.{take_next}
+use Rattle.wjs_base.proofs.Lists.{take_next}
 use Rattle.wjs_audit.proofs.logged.copied.Goals as goal
 
 pub loop-place-preserved : goal.loop-place-preserved

@@ -1,5 +1,5 @@
 use Rattle.std.proofs.Common.{◌++◌, ◌∷◌, [], sym, ◌∙◌}
-use Rattle.wjs_audit.proofs.Pushes.{take_next}
+use Rattle.wjs_base.proofs.Lists.{take_next}
 use Rattle.wjs_audit.proofs.same.same_names.Goals as goal
 
 pub loop-place-preserved : goal.loop-place-preserved

@@ -1,8 +1,8 @@
 use Rattle.std.proofs.Common.{sym, ◌∙◌}
 use Rattle.wjs_model.specs.Contents.{holding_in}
-use Rattle.wjs_moves.specs.Parts.{env_in, node_now}
-use Rattle.wjs_lines.proofs.Following.{follows_as}
-use Rattle.wjs_lines.proofs.Parts.{block_at, block_end}
+use Rattle.wjs_frames.specs.Parts.{env_in, node_now}
+use Rattle.wjs_step_common.proofs.Following.{follows_as}
+use Rattle.wjs_step_common.proofs.Parts.{block_at, block_end}
 use Rattle.wjs_blocks.proofs.Standing.{statement_stands}
 use Rattle.wjs_blocks.proofs.blocks.block_from.Goals as goal
 

@@ -1,7 +1,7 @@
 use Rattle.std.proofs.Common.{◌≡◌, drop}
 use Rattle.std.specs.Prelude.{map}
 use Rattle.wjs_base.specs.Text.{Table}
-use Rattle.wjs_content.specs.Values.{Value}
+use Rattle.wjs_by_content.specs.Values.{Value}
 use Rattle.wjs_meaning.specs.Deeds.{Env}
 use Rattle.wjs_meaning.specs.Reading.{clause_in}
 use Rattle.wjs_meaning.specs.Statements.{switch_cases}

@@ -1,6 +1,6 @@
 use Rattle.std.proofs.Common.{◌≡◌, drop}
 use Rattle.std.specs.Prelude.{slice_get}
-use Rattle.wjs_lines.specs.Lists.{statements_of_clauses}
+use Rattle.wjs_step_common.specs.Lists.{statements_of_clauses}
 use Rattle.wjs_blocks.proofs.clauses.statement_at.Given as goal
 
 -- the statement is among those of the clauses from here on

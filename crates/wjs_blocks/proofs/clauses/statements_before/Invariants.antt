@@ -1,5 +1,5 @@
 use Rattle.std.proofs.Common.{◌≡◌, ◌≤◌, drop}
-use Rattle.wjs_lines.specs.Lists.{statements_of_clauses}
+use Rattle.wjs_step_common.specs.Lists.{statements_of_clauses}
 use Rattle.wjs_blocks.proofs.clauses.statements_before.Given as goal
 
 -- the statements behind so many are those of the clauses from here on

@@ -1,12 +1,12 @@
 use Rattle.std.proofs.Common.{sym, subst}
 use Rattle.wjs_model.specs.declared.frame.Activation.{Activation as Frame}
 use Rattle.wjs_model.specs.Soundness.{StandsHere}
-use Rattle.wjs_moves.specs.Parts.{env_in, then_at, goal_of, node_of}
-use Rattle.wjs_moves.proofs.Parting.{stands_later}
+use Rattle.wjs_frames.specs.Parts.{env_in, then_at, goal_of, node_of}
+use Rattle.wjs_frames.proofs.Parting.{stands_later}
 use Rattle.wjs_base.specs.Text.{Table}
 use Rattle.wjs_blocks.proofs.Inner.{scoped_follows}
 use Rattle.wjs_blocks.proofs.Standing.{inner_there}
-use Rattle.wjs_moves.proofs.Handling.{runs_over}
+use Rattle.wjs_frames.proofs.Handling.{runs_over}
 use Rattle.wjs_blocks.proofs.enters.enter_in.Goals as goal
 
 pub returns : goal.returns

@@ -3,10 +3,10 @@ use Rattle.std.specs.Prelude.{OnOk}
 use Rattle.wjs_meaning.specs.Deeds.{Eval, Ret}
 use Rattle.wjs_model.specs.declared.frame.Activation.{Activation as Frame}
 use Rattle.wjs_model.specs.Soundness.{IsThere, StandsHere}
-use Rattle.wjs_moves.specs.Following.{Follows}
-use Rattle.wjs_moves.specs.Parts.{env_in, goal_of, node_of}
+use Rattle.wjs_frames.specs.Following.{Follows}
+use Rattle.wjs_frames.specs.Parts.{env_in, goal_of, node_of}
 use Rattle.wjs_blocks.proofs.Standing.{within_there}
-use Rattle.wjs_moves.proofs.Handling.{runs_as}
+use Rattle.wjs_frames.proofs.Handling.{runs_as}
 use Rattle.wjs_blocks.proofs.enters.enter_within.Goals as goal
 
 pub returns : goal.returns

@@ -2,12 +2,12 @@ use Rattle.std.proofs.Common.{◌<◌, length, refl, ap, sym, ◌∙◌, arith}
 use Rattle.wjs_base.specs.declared.values.Value.{Value}
 use Rattle.wjs_tree.specs.declared.node.Clause.{Clause}
 use Rattle.std.specs.Prelude.{List}
-use Rattle.wjs_content.specs.Conversions.{strictly_equal}
-use Rattle.wjs_content.specs.Tables.{value_in}
+use Rattle.wjs_by_content.specs.Conversions.{strictly_equal}
+use Rattle.wjs_by_content.specs.Tables.{value_in}
 use Rattle.wjs_model.specs.Contents.{value_held}
-use Rattle.wjs_moves.specs.Parts.{env_in, node_now}
-use Rattle.wjs_lines.specs.Lists.{clauses_in}
-use Rattle.wjs_lines.proofs.Following.{follows_as}
+use Rattle.wjs_frames.specs.Parts.{env_in, node_now}
+use Rattle.wjs_step_common.specs.Lists.{clauses_in}
+use Rattle.wjs_step_common.proofs.Following.{follows_as}
 use Rattle.wjs_blocks.proofs.Switching.{case_met, case_other}
 use Rattle.wjs_blocks.proofs.switches.case_compared.Goals as goal
 

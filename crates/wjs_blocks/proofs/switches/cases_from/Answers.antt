@@ -1,15 +1,15 @@
 use Rattle.std.proofs.Common.{◌≡◌, ℕ, List, Option, Some, None, ap, sym, subst, ◌∙◌}
 use Rattle.std.specs.Prelude.{map, drop, slice_get, IfSome}
 use Rattle.wjs_tree.specs.declared.node.Clause.{Clause}
-use Rattle.wjs_content.specs.Tables.{value_in}
+use Rattle.wjs_by_content.specs.Tables.{value_in}
 use Rattle.wjs_meaning.specs.Reading.{clause_in}
 use Rattle.wjs_meaning.specs.Statements.{switch_from, switch_cases, statements_of}
 use Rattle.wjs_model.specs.Contents.{value_held}
-use Rattle.wjs_moves.specs.Parts.{env_in, node_now}
-use Rattle.wjs_lines.specs.Lists.{clauses_in}
+use Rattle.wjs_frames.specs.Parts.{env_in, node_now}
+use Rattle.wjs_step_common.specs.Lists.{clauses_in}
 use Rattle.wjs_blocks.specs.declared.clauses.Case.{Case}
 use Rattle.wjs_blocks.specs.Switches.{case_goes}
-use Rattle.wjs_lines.proofs.Following.{follows_as}
+use Rattle.wjs_step_common.proofs.Following.{follows_as}
 use Rattle.wjs_blocks.proofs.Switching.{cases_same, case_enters, default_same}
 use Rattle.wjs_blocks.proofs.Standing.{case_stands, test_of}
 use Rattle.wjs_blocks.proofs.switches.cases_from.Goals as goal

@@ -1,9 +1,9 @@
 use Rattle.std.proofs.Common.{◌≡◌, ℕ, List, ap, subst, drop}
 use Rattle.wjs_tree.specs.declared.node.Clause.{Clause}
 use Rattle.wjs_meaning.specs.Statements.{switch_from}
-use Rattle.wjs_moves.specs.Parts.{env_in, node_now}
-use Rattle.wjs_lines.specs.Lists.{statements_of_clauses}
-use Rattle.wjs_lines.proofs.Following.{follows_as}
+use Rattle.wjs_frames.specs.Parts.{env_in, node_now}
+use Rattle.wjs_step_common.specs.Lists.{statements_of_clauses}
+use Rattle.wjs_step_common.proofs.Following.{follows_as}
 use Rattle.wjs_blocks.proofs.Switching.{statements_behind}
 use Rattle.wjs_blocks.proofs.switches.clauses_from.Goals as goal
 

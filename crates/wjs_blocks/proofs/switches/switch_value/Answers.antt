@@ -8,10 +8,10 @@ use Rattle.wjs_model.specs.declared.frame.Held.TheVariants as holds
 use Rattle.wjs_model.specs.Contents.{completion_in, holding_in}
 use Rattle.wjs_model.specs.Lists.{clauses_of}
 use Rattle.wjs_model.specs.Soundness.{HasCompletion}
-use Rattle.wjs_moves.specs.Parts.{env_in, node_now}
-use Rattle.wjs_lines.proofs.Following.{follows_as}
+use Rattle.wjs_frames.specs.Parts.{env_in, node_now}
+use Rattle.wjs_step_common.proofs.Following.{follows_as}
 use Rattle.wjs_blocks.proofs.Standing.{holding_value}
-use Rattle.wjs_moves.proofs.Handling.{runs_as}
+use Rattle.wjs_frames.proofs.Handling.{runs_as}
 use Rattle.wjs_blocks.proofs.switches.switch_value.Goals as goal
 
 pub returns-in_ok-hold-in-Gives : goal.returns-in_ok-hold-in-Gives

@@ -2,12 +2,12 @@ use Rattle.std.proofs.Common.{Some, ap, subst, ◌∙◌}
 use Rattle.wjs_base.specs.declared.ids.ObjId.{ObjId}
 use Rattle.wjs_meaning.specs.Deeds.{Do, Create}
 use Rattle.wjs_meaning.specs.NewObjects.{scope_object}
-use Rattle.wjs_moves.specs.Doing.{Does}
+use Rattle.wjs_frames.specs.Doing.{Does}
 use Rattle.wjs_model.proofs.Standing.{scope_kept}
-use Rattle.wjs_deeds.proofs.Later.{later_twice}
+use Rattle.wjs_heap_steps.proofs.Later.{later_twice}
 use Rattle.wjs_blocks.proofs.Catching.{catch_follows, caught_stands_later}
-use Rattle.wjs_moves.proofs.Handling.{runs_later}
-use Rattle.wjs_moves.proofs.Parting.{stands_if_later}
+use Rattle.wjs_frames.proofs.Handling.{runs_later}
+use Rattle.wjs_frames.proofs.Parting.{stands_if_later}
 use Rattle.wjs_blocks.proofs.tries.catch.Goals as goal
 
 pub returns : goal.returns

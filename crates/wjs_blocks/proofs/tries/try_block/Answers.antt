@@ -4,8 +4,8 @@ use Rattle.wjs_tree.specs.declared.node.Handler.{Handler}
 use Rattle.wjs_meaning.specs.Reading.{number, handler_in}
 use Rattle.wjs_meaning.specs.Statements.{try_block}
 use Rattle.wjs_model.specs.Contents.{completion_in}
-use Rattle.wjs_moves.specs.Parts.{env_in, node_now}
-use Rattle.wjs_lines.proofs.Following.{follows_as}
+use Rattle.wjs_frames.specs.Parts.{env_in, node_now}
+use Rattle.wjs_step_common.proofs.Following.{follows_as}
 use Rattle.wjs_blocks.proofs.Catching.{handler_same}
 use Rattle.wjs_blocks.proofs.tries.try_block.Goals as goal
 

@@ -1,7 +1,7 @@
 use Rattle.std.proofs.Common.{sym, subst}
 use Rattle.wjs_model.specs.declared.frame.Completion.{Completion}
 use Rattle.wjs_model.specs.Soundness.{HasCompletion}
-use Rattle.wjs_moves.proofs.Held.{earlier_there}
+use Rattle.wjs_frames.proofs.Held.{earlier_there}
 use Rattle.wjs_blocks.proofs.tries.try_finally.Goals as goal
 
 pub finish-requires-clause-completion : goal.finish-requires-clause-completion

@@ -4,7 +4,7 @@ use Rattle.wjs_model.specs.Soundness.{StandsHere, StandsIf}
 use Rattle.wjs_tree.specs.declared.node.NodeId.{NodeId}
 use Rattle.std.specs.Prelude.{Option}
 use Rattle.wjs_blocks.proofs.Standing.{holding_earlier}
-use Rattle.wjs_moves.proofs.Handling.{runs_as}
+use Rattle.wjs_frames.proofs.Handling.{runs_as}
 use Rattle.wjs_blocks.proofs.tries.try_handler.Goals as goal
 
 pub enter-requires-clause-runs : goal.enter-requires-clause-runs

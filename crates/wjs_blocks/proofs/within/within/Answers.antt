@@ -1,5 +1,5 @@
-use Rattle.wjs_moves.proofs.Parting.{stands_later}
-use Rattle.wjs_moves.proofs.Handling.{runs_later}
+use Rattle.wjs_frames.proofs.Parting.{stands_later}
+use Rattle.wjs_frames.proofs.Handling.{runs_later}
 use Rattle.wjs_blocks.proofs.within.within.Goals as goal
 
 pub enter_within-requires-clause-runs : goal.enter_within-requires-clause-runs

@@ -1,14 +1,14 @@
 use Rattle.std.proofs.Common.{[], ◌∷◌, ◌++◌, Some, length, sym, ap, ◌∙◌, subst}
 use Rattle.std.specs.Prelude.{OnOk, map}
-use Rattle.wjs_content.specs.Names.{slot, length_name}
-use Rattle.wjs_content.specs.Tables.{value_in}
-use Rattle.wjs_content.specs.Values.{whole}
+use Rattle.wjs_by_content.specs.Names.{slot, length_name}
+use Rattle.wjs_by_content.specs.Tables.{value_in}
+use Rattle.wjs_by_content.specs.Values.{whole}
 use Rattle.wjs_meaning.specs.Deeds.{Act, Do, Write, write_all}
 use Rattle.wjs_meaning.specs.NewObjects.{elements_from}
-use Rattle.wjs_moves.specs.Following.{Follows}
-use Rattle.wjs_deeds.proofs.Later.{later_twice}
-use Rattle.wjs_deeds.proofs.Having.{value_both}
-use Rattle.wjs_deeds.proofs.Making.{number_there, number_near}
+use Rattle.wjs_frames.specs.Following.{Follows}
+use Rattle.wjs_heap_steps.proofs.Later.{later_twice}
+use Rattle.wjs_heap_steps.proofs.Having.{value_both}
+use Rattle.wjs_heap_steps.proofs.Making.{number_there, number_near}
 use Rattle.wjs_calls.proofs.Elements.{write-append, length-each}
 use Rattle.wjs_calls.proofs.arrays.make_array.Goals as goal
 

@@ -3,11 +3,11 @@ use Rattle.std.specs.Prelude.{map}
 use Rattle.std.proofs.lemmas.List.Elements.{All-get_or}
 use Rattle.std.proofs.Common.{sym, subst}
 use Rattle.wjs_base.specs.declared.values.Value.{Value}
-use Rattle.wjs_content.specs.Tables.{value_in}
+use Rattle.wjs_by_content.specs.Tables.{value_in}
 use Rattle.wjs_meaning.specs.Deeds.{write_all}
 use Rattle.wjs_meaning.specs.NewObjects.{elements_from}
 use Rattle.wjs_model.specs.Soundness.{HasValue}
-use Rattle.wjs_deeds.proofs.Later.{later_same, later_twice}
+use Rattle.wjs_heap_steps.proofs.Later.{later_same, later_twice}
 use Rattle.wjs_calls.proofs.Rows.{leaves_all, leaves_less, leaves_none}
 use Rattle.wjs_calls.proofs.Elements.{left_as, element_left, none_left}
 use Rattle.wjs_calls.proofs.arrays.write_elements.Goals as goal

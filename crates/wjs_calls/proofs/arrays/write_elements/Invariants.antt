@@ -1,9 +1,9 @@
 use Rattle.std.proofs.Common.{◌≡◌, drop}
 use Rattle.std.specs.Prelude.{map}
-use Rattle.wjs_content.specs.Tables.{value_in}
+use Rattle.wjs_by_content.specs.Tables.{value_in}
 use Rattle.wjs_meaning.specs.Deeds.{write_all}
 use Rattle.wjs_meaning.specs.NewObjects.{elements_from}
-use Rattle.wjs_moves.specs.Following.{Later}
+use Rattle.wjs_frames.specs.Following.{Later}
 use Rattle.wjs_calls.specs.Leaving.{Leaves}
 use Rattle.wjs_calls.proofs.arrays.write_elements.Given as goal
 

@@ -1,7 +1,7 @@
 use Rattle.std.proofs.Common.{ap, ◌∙◌}
 use Rattle.wjs_meaning.specs.Trees as content
 use Rattle.wjs_tree.specs.declared.node.Node.TheVariants as form
-use Rattle.wjs_moves.proofs.Places.{node_known}
+use Rattle.wjs_frames.proofs.Places.{node_known}
 use Rattle.wjs_calls.proofs.FunctionNodes.{node_is}
 use Rattle.wjs_calls.proofs.bodies.own_name.Goals as goal
 

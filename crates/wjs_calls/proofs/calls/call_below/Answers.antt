@@ -1,6 +1,6 @@
 use Rattle.std.proofs.Common.{sym, ap, ◌∙◌, subst}
 use Rattle.std.specs.Prelude.{OnOk}
-use Rattle.wjs_content.specs.Tables.{value_in}
+use Rattle.wjs_by_content.specs.Tables.{value_in}
 use Rattle.wjs_meaning.specs.Calls as line
 use Rattle.wjs_meaning.specs.Deeds.{Act}
 use Rattle.wjs_model.specs.declared.config.Config.{Config}
@@ -9,10 +9,10 @@ use Rattle.wjs_model.specs.declared.frame.Phase.TheVariants as phases
 use Rattle.wjs_model.specs.declared.point.Start.TheVariants as starts
 use Rattle.wjs_model.specs.Contents.{holding_in}
 use Rattle.wjs_model.specs.Soundness.{IsThere}
-use Rattle.wjs_moves.specs.Following.{Follows}
-use Rattle.wjs_moves.specs.Parts.{env_in}
+use Rattle.wjs_frames.specs.Following.{Follows}
+use Rattle.wjs_frames.specs.Parts.{env_in}
 use Rattle.wjs_calls.proofs.Frames.{there_with}
-use Rattle.wjs_moves.proofs.Handling.{runs_over}
+use Rattle.wjs_frames.proofs.Handling.{runs_over}
 use Rattle.wjs_calls.proofs.calls.call_below.Goals as goal
 
 pub call-requires-clause-runs : goal.call-requires-clause-runs

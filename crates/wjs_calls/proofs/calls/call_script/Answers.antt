@@ -1,4 +1,4 @@
-use Rattle.wjs_moves.proofs.Handling.{runs_later}
+use Rattle.wjs_frames.proofs.Handling.{runs_later}
 use Rattle.wjs_calls.proofs.calls.call_script.Goals as goal
 
 pub enter_body-requires-clause-runs : goal.enter_body-requires-clause-runs

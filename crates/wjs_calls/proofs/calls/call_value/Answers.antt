@@ -1,11 +1,11 @@
 use Rattle.std.proofs.Common.{Option, ap}
 use Rattle.wjs_base.specs.declared.ids.ObjId.{ObjId}
-use Rattle.wjs_content.specs.Objects.{Arena, function_of}
-use Rattle.wjs_content.specs.Tables.{value_in}
+use Rattle.wjs_by_content.specs.Objects.{Arena, function_of}
+use Rattle.wjs_by_content.specs.Tables.{value_in}
 use Rattle.wjs_meaning.specs.Calls.{call_found}
 use Rattle.wjs_model.specs.Contents.{holding_in}
-use Rattle.wjs_moves.specs.Parts.{env_in}
-use Rattle.wjs_moves.proofs.Shorter.{follows_look}
+use Rattle.wjs_frames.specs.Parts.{env_in}
+use Rattle.wjs_frames.proofs.Shorter.{follows_look}
 use Rattle.wjs_calls.proofs.calls.call_value.Goals as goal
 
 pub returns-in-Some : goal.returns-in-Some

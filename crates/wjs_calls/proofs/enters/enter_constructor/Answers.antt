@@ -1,15 +1,15 @@
 use Rattle.std.proofs.Common.{true, sym, subst}
 use Rattle.std.specs.Prelude.{OnOk}
-use Rattle.wjs_content.specs.Tables.{value_in}
+use Rattle.wjs_by_content.specs.Tables.{value_in}
 use Rattle.wjs_meaning.specs.Deeds.{Tick, AtNative}
 use Rattle.wjs_model.specs.declared.point.Start.TheVariants as starts
 use Rattle.wjs_model.specs.declared.frame.Activation.{Activation as Frame}
 use Rattle.wjs_base.specs.declared.values.Value.TheVariants as values
 use Rattle.wjs_model.specs.Contents.{holding_in}
 use Rattle.wjs_model.specs.Soundness.{IsThere}
-use Rattle.wjs_moves.specs.Following.{Follows}
-use Rattle.wjs_moves.specs.Parts.{env_in, begins_at}
-use Rattle.wjs_moves.proofs.Handling.{runs_as}
+use Rattle.wjs_frames.specs.Following.{Follows}
+use Rattle.wjs_frames.specs.Parts.{env_in, begins_at}
+use Rattle.wjs_frames.proofs.Handling.{runs_as}
 use Rattle.wjs_calls.proofs.Entered.{entered}
 use Rattle.wjs_calls.proofs.Frames.{there_with}
 use Rattle.wjs_calls.proofs.enters.enter_constructor.Goals as goal

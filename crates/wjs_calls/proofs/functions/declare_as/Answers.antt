@@ -3,14 +3,14 @@ use Rattle.std.specs.Option.{option_map}
 use Rattle.wjs_base.proofs.TextLaws.{Grows-trans}
 use Rattle.wjs_base.specs.declared.ids.TextId.{TextId}
 use Rattle.wjs_base.specs.Text.{Table}
-use Rattle.wjs_content.specs.Names.{slot}
-use Rattle.wjs_content.specs.Tables.{text_in, name_in}
-use Rattle.wjs_content.specs.Values.{Text, Object}
+use Rattle.wjs_by_content.specs.Names.{slot}
+use Rattle.wjs_by_content.specs.Tables.{text_in, name_in}
+use Rattle.wjs_by_content.specs.Values.{Text, Object}
 use Rattle.wjs_meaning.specs.Deeds.{Act, Do, Write}
-use Rattle.wjs_moves.specs.Parts.{env_in}
+use Rattle.wjs_frames.specs.Parts.{env_in}
 use Rattle.wjs_heap.specs.Means.{nothing}
-use Rattle.wjs_deeds.proofs.Later.{later_same}
-use Rattle.wjs_deeds.proofs.Composing.{first_at_once, first_by}
+use Rattle.wjs_heap_steps.proofs.Later.{later_same}
+use Rattle.wjs_heap_steps.proofs.Composing.{first_at_once, first_by}
 use Rattle.wjs_calls.specs.Making.{declared_as}
 use Rattle.wjs_calls.proofs.Rows.{first_same, ok_leaving}
 use Rattle.wjs_calls.proofs.functions.declare_as.Goals as goal

@@ -3,13 +3,13 @@ use Rattle.std.specs.Option.{option_map}
 use Rattle.std.proofs.lemmas.Result.{on_ok_weaker}
 use Rattle.wjs_base.specs.declared.ids.ObjId.{ObjId}
 use Rattle.wjs_base.specs.Text.{Table}
-use Rattle.wjs_content.specs.Tables.{text_in}
+use Rattle.wjs_by_content.specs.Tables.{text_in}
 use Rattle.wjs_meaning.specs.Trees.{name_of}
 use Rattle.wjs_meaning.specs.Deeds.{Env, node_here}
 use Rattle.wjs_meaning.specs.Functions.{make_function_in}
-use Rattle.wjs_moves.specs.Doing.{Does, DoesFirst}
-use Rattle.wjs_moves.specs.Parts.{env_in}
-use Rattle.wjs_deeds.proofs.Composing.{env_later}
+use Rattle.wjs_frames.specs.Doing.{Does, DoesFirst}
+use Rattle.wjs_frames.specs.Parts.{env_in}
+use Rattle.wjs_heap_steps.proofs.Composing.{env_later}
 use Rattle.wjs_calls.specs.Making.{declared_as}
 use Rattle.wjs_calls.proofs.Rows.{first_env, ok_later}
 use Rattle.wjs_calls.proofs.Declaring.{declares_one}

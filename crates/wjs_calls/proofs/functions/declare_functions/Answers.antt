@@ -7,8 +7,8 @@ use Rattle.wjs_base.specs.Text.{Table}
 use Rattle.wjs_meaning.specs.Deeds.{Env}
 use Rattle.wjs_meaning.specs.Functions.{declare_functions}
 use Rattle.wjs_model.specs.Standing.{IsFunction}
-use Rattle.wjs_moves.specs.Parts.{env_in}
-use Rattle.wjs_deeds.proofs.Later.{later_same, later_twice}
+use Rattle.wjs_frames.specs.Parts.{env_in}
+use Rattle.wjs_heap_steps.proofs.Later.{later_same, later_twice}
 use Rattle.wjs_calls.specs.Making.{declare_one}
 use Rattle.wjs_calls.proofs.Rows.{first_env, leaves_all, leaves_less, leaves_none}
 use Rattle.wjs_calls.proofs.Elements.{left_here, none_left}

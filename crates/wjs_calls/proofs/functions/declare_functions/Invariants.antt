@@ -1,8 +1,8 @@
 use Rattle.std.proofs.Common.{drop}
 use Rattle.wjs_meaning.specs.Reading.{numbers}
 use Rattle.wjs_meaning.specs.Functions.{declare_functions}
-use Rattle.wjs_moves.specs.Following.{Later}
-use Rattle.wjs_moves.specs.Parts.{env_in}
+use Rattle.wjs_frames.specs.Following.{Later}
+use Rattle.wjs_frames.specs.Parts.{env_in}
 use Rattle.wjs_calls.specs.Leaving.{Leaves}
 use Rattle.wjs_calls.proofs.functions.declare_functions.Given as goal
 

@@ -1,8 +1,8 @@
 use Rattle.std.proofs.Common.{[], ◌∷◌, Some}
-use Rattle.wjs_content.specs.Names.{slot, prototype_name, constructor_name}
-use Rattle.wjs_content.specs.Values.{Object}
+use Rattle.wjs_by_content.specs.Names.{slot, prototype_name, constructor_name}
+use Rattle.wjs_by_content.specs.Values.{Object}
 use Rattle.wjs_meaning.specs.Deeds.{Do, Write, write_all}
-use Rattle.wjs_deeds.proofs.Later.{later_twice}
+use Rattle.wjs_heap_steps.proofs.Later.{later_twice}
 use Rattle.wjs_calls.proofs.Rows.{ok_without, ok_later}
 use Rattle.wjs_calls.proofs.functions.give_prototype.Goals as goal
 

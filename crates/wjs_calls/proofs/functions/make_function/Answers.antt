@@ -3,11 +3,11 @@ use Rattle.std.specs.Option.{option_map}
 use Rattle.std.specs.Prelude.{IfOk}
 use Rattle.wjs_base.specs.declared.ids.ObjId.{ObjId}
 use Rattle.wjs_base.specs.declared.ids.TextId.{TextId}
-use Rattle.wjs_content.specs.Tables.{text_in}
+use Rattle.wjs_by_content.specs.Tables.{text_in}
 use Rattle.wjs_meaning.specs.Functions.{make_function, make_function_in}
 use Rattle.wjs_model.specs.Standing.{IsFunction}
-use Rattle.wjs_moves.specs.Doing.{Does}
-use Rattle.wjs_moves.specs.Parts.{env_in}
+use Rattle.wjs_frames.specs.Doing.{Does}
+use Rattle.wjs_frames.specs.Parts.{env_in}
 use Rattle.wjs_calls.specs.Standing.{StandsNamed}
 use Rattle.wjs_calls.proofs.StandingFunctions.{stands_nameless}
 use Rattle.wjs_calls.proofs.functions.make_function.Goals as goal

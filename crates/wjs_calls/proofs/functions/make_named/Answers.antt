@@ -1,7 +1,7 @@
 use Rattle.wjs_meaning.specs.Deeds.{Env}
 use Rattle.wjs_base.specs.Text.{Table}
-use Rattle.wjs_moves.specs.Parts.{env_in}
-use Rattle.wjs_deeds.proofs.Later.{later_twice}
+use Rattle.wjs_frames.specs.Parts.{env_in}
+use Rattle.wjs_heap_steps.proofs.Later.{later_twice}
 use Rattle.wjs_calls.specs.Making.{prototype_given}
 use Rattle.wjs_calls.proofs.Rows.{first_env}
 use Rattle.wjs_calls.proofs.functions.make_named.Goals as goal

@@ -1,12 +1,14 @@
-use Rattle.std.proofs.Common.{length, ap, ◌∙◌}
+use Rattle.std.proofs.Common.{length, sym, ap, ◌∙◌, subst}
 use Rattle.wjs_base.specs.Text.{Table}
+use Rattle.wjs_arena.specs.Entries.{IsThere}
 use Rattle.wjs_heap.specs.Means.{nothing}
+use Rattle.wjs_meaning.specs.declared.builtin.Builtin.TheVariants as builtins
 use Rattle.wjs_meaning.specs.Deeds.{Env, node_here}
 use Rattle.wjs_meaning.specs.Trees.{formals_of}
 use Rattle.wjs_meaning.specs.Functions.{function_object}
-use Rattle.wjs_moves.specs.Parts.{env_in}
-use Rattle.wjs_deeds.proofs.Composing.{if_ok, env_later}
-use Rattle.wjs_deeds.proofs.Making.{made_after}
+use Rattle.wjs_frames.specs.Parts.{env_in}
+use Rattle.wjs_heap_steps.proofs.Composing.{if_ok, env_later}
+use Rattle.wjs_heap_steps.proofs.Making.{made_after}
 use Rattle.wjs_calls.proofs.Rows.{any_later}
 use Rattle.wjs_calls.proofs.StandingFunctions.{script_stands, function_later}
 use Rattle.wjs_calls.proofs.makes.create_function.Goals as goal
@@ -36,3 +38,7 @@ create-requires-clause-code g c =
     let mid = c.function_names.new.config in
     let f = c.args.frame.now in
     script_stands mid.units.items mid.heap.arena c.in_ok-object.object f.tree c.args.body c.args.scope c.in_ok-object.ensures.code c.in_ok-object.ensures.scope (function_later g.S.WorldStore.meaning old mid f.tree c.args.body c.args.scope 0 c.in_ok-names.ensures.later c.requires.stands)
+
+pub create-requires-clause-prototype : goal.create-requires-clause-prototype
+create-requires-clause-prototype g c =
+    subst (IsThere c.function_names.new.config.heap.arena) (sym c.in_ok-object.ensures.prototype) (c.in_ok-names.ensures.later.base.builtins builtins.FunctionPrototype).0

@@ -1,10 +1,10 @@
 use Rattle.std.proofs.Common.{Some}
 use Rattle.wjs_arena.specs.declared.class.Class.TheVariants as class
-use Rattle.wjs_content.specs.Names.{constructor_name}
-use Rattle.wjs_content.specs.Tables.{name_in}
+use Rattle.wjs_by_content.specs.Names.{constructor_name}
+use Rattle.wjs_by_content.specs.Tables.{name_in}
 use Rattle.wjs_meaning.specs.Functions.{prototype_object}
-use Rattle.wjs_deeds.proofs.Composing.{if_ok}
-use Rattle.wjs_deeds.proofs.Making.{made_after, near_flagged}
+use Rattle.wjs_heap_steps.proofs.Composing.{if_ok}
+use Rattle.wjs_heap_steps.proofs.Making.{made_after, near_flagged}
 use Rattle.wjs_calls.proofs.FunctionObjects.{prototype_is}
 use Rattle.wjs_calls.proofs.Rows.{any_later}
 use Rattle.wjs_calls.proofs.makes.create_prototype.Goals as goal

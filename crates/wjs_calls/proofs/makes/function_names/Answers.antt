@@ -1,5 +1,5 @@
 use Rattle.wjs_heap.specs.Means.{nothing}
-use Rattle.wjs_deeds.proofs.Later.{later_twice}
+use Rattle.wjs_heap_steps.proofs.Later.{later_twice}
 use Rattle.wjs_calls.proofs.makes.function_names.Goals as goal
 
 pub returns-clause-does : goal.returns-clause-does

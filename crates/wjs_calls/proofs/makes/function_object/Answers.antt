@@ -1,9 +1,9 @@
 use Rattle.std.proofs.Common.{length, sym, ap, ◌∙◌}
-use Rattle.wjs_content.specs.Values.{whole}
+use Rattle.wjs_by_content.specs.Values.{whole}
 use Rattle.wjs_meaning.specs.Deeds.{node_here}
 use Rattle.wjs_meaning.specs.Functions.{function_object}
 use Rattle.wjs_meaning.specs.Trees.{formals_of}
-use Rattle.wjs_moves.specs.Parts.{env_in}
+use Rattle.wjs_frames.specs.Parts.{env_in}
 use Rattle.wjs_calls.proofs.FunctionObjects.{function_is, function_named, function_near}
 use Rattle.wjs_calls.proofs.makes.function_object.Goals as goal
 

@@ -3,17 +3,18 @@ use Rattle.std.specs.Prelude.{OnOk}
 use Rattle.wjs_base.specs.declared.ids.ObjId.{ObjId}
 use Rattle.wjs_base.specs.Text.{Table}
 use Rattle.wjs_arena.specs.declared.object.Object.{Object}
-use Rattle.wjs_arena.specs.Entries.{has, next_number as number_of_next, scope_of}
-use Rattle.wjs_content.specs.Tables.{text_in}
-use Rattle.wjs_content.proofs.ArenaMaps.{number_same}
+use Rattle.wjs_arena.specs.Entries.{IsThere, has, next_number as number_of_next, scope_of}
+use Rattle.wjs_by_content.specs.Tables.{text_in}
+use Rattle.wjs_by_content.proofs.ArenaMaps.{number_same}
+use Rattle.wjs_meaning.specs.declared.builtin.Builtin.TheVariants as builtins
 use Rattle.wjs_meaning.specs.Deeds.{Env, Do, Create, node_here}
 use Rattle.wjs_meaning.specs.Functions.{function_object, name_scope}
 use Rattle.wjs_meaning.specs.Trees.{formals_of}
-use Rattle.wjs_moves.specs.Following.{Follows}
-use Rattle.wjs_moves.specs.Parts.{env_in}
-use Rattle.wjs_deeds.proofs.Composing.{if_ok, env_later}
-use Rattle.wjs_deeds.proofs.Seeing.{plainly}
-use Rattle.wjs_deeds.proofs.Having.{owner_near}
+use Rattle.wjs_frames.specs.Following.{Follows}
+use Rattle.wjs_frames.specs.Parts.{env_in}
+use Rattle.wjs_heap_steps.proofs.Composing.{if_ok, env_later}
+use Rattle.wjs_heap_steps.proofs.Seeing.{plainly}
+use Rattle.wjs_heap_steps.proofs.Having.{owner_near}
 use Rattle.wjs_calls.specs.Making.{named_made, scope_of_name}
 use Rattle.wjs_calls.proofs.NamedFunctions.{number_behind, scope_is, scope_named, scope_near, behind}
 use Rattle.wjs_calls.proofs.Rows.{any_later}
@@ -48,6 +49,10 @@ pub create_pair-requires-clause-second_scope : goal.create_pair-requires-clause-
 create_pair-requires-clause-second_scope g c =
     let mid = c.function_names.new.config in
     c.in_ok-object.ensures.scope ∙ ap (λ (o : ObjId). Some o) (sym (c.next_number-scope.ensures.is [] _ (plainly mid.heap.arena [])) ∙ number_same [] mid.heap.arena mid.owner)
+
+pub create_pair-requires-clause-second_prototype : goal.create_pair-requires-clause-second_prototype
+create_pair-requires-clause-second_prototype g c =
+    subst (IsThere c.function_names.new.config.heap.arena) (sym c.in_ok-object.ensures.prototype) (c.in_ok-names.ensures.later.base.builtins builtins.FunctionPrototype).0
 
 pub create_pair-requires-clause-second_named : goal.create_pair-requires-clause-second_named
 create_pair-requires-clause-second_named g c = λ new more there. let heap = c.function_names.new.config.heap in named_more heap.texts heap.arena new more c.in_ok-object.object c.in_ok-object.ensures.named

@@ -1,12 +1,12 @@
 use Rattle.std.proofs.Common.{Option, ap, ◌∙◌}
 use Rattle.wjs_base.specs.declared.ids.ObjId.{ObjId}
-use Rattle.wjs_content.specs.Objects.{Arena, Internals, function_of}
-use Rattle.wjs_content.specs.Tables.{value_in}
+use Rattle.wjs_by_content.specs.Objects.{Arena, Internals, function_of}
+use Rattle.wjs_by_content.specs.Tables.{value_in}
 use Rattle.wjs_meaning.specs.Constructions.{new_found, new_code}
 use Rattle.wjs_model.specs.Contents.{holding_in}
-use Rattle.wjs_moves.specs.Parts.{env_in}
-use Rattle.wjs_moves.proofs.Shorter.{follows_look}
-use Rattle.wjs_deeds.proofs.Seeing.{object_found_as}
+use Rattle.wjs_frames.specs.Parts.{env_in}
+use Rattle.wjs_frames.proofs.Shorter.{follows_look}
+use Rattle.wjs_heap_steps.proofs.Seeing.{object_found_as}
 use Rattle.wjs_calls.proofs.news.construct.Goals as goal
 
 pub returns-in-None : goal.returns-in-None

@@ -3,9 +3,9 @@ use Rattle.std.specs.Prelude.{OnOk}
 use Rattle.wjs_arena.specs.declared.object.Code.{Code}
 use Rattle.wjs_meaning.specs.Constructions.{new_code}
 use Rattle.wjs_model.specs.Contents.{holding_in}
-use Rattle.wjs_moves.specs.Following.{Follows}
-use Rattle.wjs_moves.specs.Parts.{env_in}
-use Rattle.wjs_deeds.proofs.Seeing.{plainly}
+use Rattle.wjs_frames.specs.Following.{Follows}
+use Rattle.wjs_frames.specs.Parts.{env_in}
+use Rattle.wjs_heap_steps.proofs.Seeing.{plainly}
 use Rattle.wjs_calls.proofs.news.construct_function.Goals as goal
 
 pub returns-in-None : goal.returns-in-None

@@ -2,9 +2,9 @@ use Rattle.std.proofs.Common.{◌≡◌, ◌∷◌, ◌∙◌, Some, List, sym, 
 use Rattle.std.specs.Prelude.{OnOk}
 use Rattle.wjs_arena.specs.declared.class.Class.TheVariants as class
 use Rattle.wjs_base.specs.declared.values.Value.TheVariants as values
-use Rattle.wjs_content.specs.Objects.{object_of}
-use Rattle.wjs_content.specs.Values.{Object}
-use Rattle.wjs_content.specs.Tables.{object_in}
+use Rattle.wjs_by_content.specs.Objects.{object_of}
+use Rattle.wjs_by_content.specs.Values.{Object}
+use Rattle.wjs_by_content.specs.Tables.{object_in}
 use Rattle.wjs_meaning.specs.Deeds.{Env, Sub, then_value}
 use Rattle.wjs_meaning.specs.Calls.{call}
 use Rattle.wjs_meaning.specs.Constructions.{new_result}
@@ -15,12 +15,12 @@ use Rattle.wjs_model.specs.declared.point.Point.TheVariants as points
 use Rattle.wjs_model.specs.declared.point.ExprPoint.TheVariants as p
 use Rattle.wjs_model.specs.Contents.{holding_in}
 use Rattle.wjs_model.specs.Soundness.{IsThere, HasItems}
-use Rattle.wjs_moves.specs.Following.{Follows}
-use Rattle.wjs_moves.specs.Parts.{env_in, then_at}
-use Rattle.wjs_deeds.proofs.Composing.{env_later}
+use Rattle.wjs_frames.specs.Following.{Follows}
+use Rattle.wjs_frames.specs.Parts.{env_in, then_at}
+use Rattle.wjs_heap_steps.proofs.Composing.{env_later}
 use Rattle.wjs_calls.proofs.Frames.{there_with}
-use Rattle.wjs_deeds.proofs.Making.{near_bare}
-use Rattle.wjs_moves.proofs.Handling.{runs_over}
+use Rattle.wjs_heap_steps.proofs.Making.{near_bare}
+use Rattle.wjs_frames.proofs.Handling.{runs_over}
 use Rattle.wjs_calls.proofs.news.construct_on.Goals as goal
 
 pub returns : goal.returns

@@ -3,8 +3,8 @@ use Rattle.std.specs.Prelude.{is_some}
 use Rattle.wjs_base.specs.declared.ids.ObjId.{ObjId}
 use Rattle.wjs_arena.specs.Entries.{IsThere, has}
 use Rattle.wjs_meaning.specs.Deeds.{Do, Create}
-use Rattle.wjs_moves.specs.Doing.{Does}
-use Rattle.wjs_deeds.proofs.Having.{owner_near}
+use Rattle.wjs_frames.specs.Doing.{Does}
+use Rattle.wjs_heap_steps.proofs.Having.{owner_near}
 use Rattle.wjs_calls.proofs.TwoObjects.{with_objects, does_pair, named_still, second_there, later_pair}
 use Rattle.wjs_calls.proofs.pairs.create_pair.Goals as goal
 

@@ -1,5 +1,5 @@
 use Rattle.std.proofs.Common.{List, subst}
-use Rattle.wjs_content.specs.Plans.{Told}
+use Rattle.wjs_by_content.specs.Plans.{Told}
 use Rattle.wjs_io.specs.Streams.{over}
 use Rattle.wjs_logs.specs.Telling.{Tells}
 use Rattle.wjs_command.proofs.Loggings.{not_marked, log_comes}

@@ -3,7 +3,7 @@ use Rattle.std.specs.Option.{option_map}
 use Rattle.wjs_io.specs.Streams.{over}
 use Rattle.wjs_model.specs.Units.{unit_in}
 use Rattle.wjs_model.proofs.Placed.{placed_stay}
-use Rattle.wjs_deeds.proofs.Staying.{units_stay}
+use Rattle.wjs_heap_steps.proofs.Staying.{units_stay}
 use Rattle.wjs_command.proofs.Played.{trees_stay, play_comes, play_alone}
 use Rattle.wjs_command.proofs.playing.play_units.Goals as goal
 

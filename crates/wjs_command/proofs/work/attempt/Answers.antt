@@ -2,10 +2,10 @@ use Rattle.std.proofs.Common.{◌≡◌, ◌≢◌, [], map as each, refl, sym, 
 use Rattle.std.specs.String.{string_bytes}
 use Rattle.clap.specs.Words.{fault_of}
 use Rattle.wjs_io.specs.Streams.{over}
-use Rattle.wjs_words.specs.Command.{command}
-use Rattle.wjs_words.specs.Lines.{IsUsageLine}
-use Rattle.wjs_words.specs.Options.{Says}
-use Rattle.wjs_words.specs.declared.answer.WordsFault.{WordsFault}
+use Rattle.wjs_options.specs.Command.{command}
+use Rattle.wjs_options.specs.Lines.{IsUsageLine}
+use Rattle.wjs_options.specs.Options.{Says}
+use Rattle.wjs_options.specs.declared.answer.WordsFault.{WordsFault}
 use Rattle.wjs_command.specs.declared.status.Status.TheVariants.{Usage}
 use Rattle.wjs_command.specs.declared.report.Report.{Report}
 use Rattle.wjs_command.proofs.Attempts.{attempt_served, attempt_usage, attempt_spent}

@@ -2,7 +2,7 @@ use Rattle.std.proofs.Common.{◌≡◌, List, ℕ, ◌+◌, ◌≤◌, Err, ap,
 use Rattle.wjs_io.specs.Streams.{over}
 use Rattle.wjs_io.specs.Stops.{StopsAfter}
 use Rattle.wjs_io.specs.declared.loops.ReadFault.{ReadFault}
-use Rattle.wjs_words.specs.declared.mode.Mode.TheVariants.{Play}
+use Rattle.wjs_options.specs.declared.mode.Mode.TheVariants.{Play}
 use Rattle.wjs_command.specs.Due.{IsTold}
 use Rattle.wjs_command.specs.Plays.{PlayedAlone}
 use Rattle.wjs_command.specs.Attempt.{Comes, ComesAlone}

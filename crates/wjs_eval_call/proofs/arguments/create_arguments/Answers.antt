@@ -1,13 +1,13 @@
 use Rattle.std.proofs.Common.{Some}
 use Rattle.wjs_arena.specs.declared.class.Class.TheVariants as class
 use Rattle.wjs_base.specs.Text.{Table}
-use Rattle.wjs_content.specs.Tables.{value_in}
+use Rattle.wjs_by_content.specs.Tables.{value_in}
 use Rattle.std.specs.Prelude.{map}
 use Rattle.wjs_heap.specs.Means.{nothing}
 use Rattle.wjs_meaning.specs.Functions.{arguments_object}
 use Rattle.wjs_base.proofs.TextLaws.{Grows-trans}
-use Rattle.wjs_deeds.proofs.Later.{later_twice}
-use Rattle.wjs_deeds.proofs.Making.{made_after, near_flagged}
+use Rattle.wjs_heap_steps.proofs.Later.{later_twice}
+use Rattle.wjs_heap_steps.proofs.Making.{made_after, near_flagged}
 use Rattle.wjs_eval_call.proofs.Filling.{arguments_is, arguments_named}
 use Rattle.wjs_eval_call.proofs.arguments.create_arguments.Goals as goal
 

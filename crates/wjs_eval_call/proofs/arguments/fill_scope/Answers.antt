@@ -7,17 +7,17 @@ use Rattle.std.proofs.lemmas.Result.{on_ok_weaker}
 use Rattle.std.proofs.lemmas.List.Elements.{All-weaker}
 use Rattle.wjs_base.specs.Text.{Has}
 use Rattle.wjs_base.proofs.TextLaws.{Grows-Has}
-use Rattle.wjs_content.specs.Names.{slot, arguments_name}
-use Rattle.wjs_content.specs.Tables.{text_in, value_in}
-use Rattle.wjs_content.specs.Values.{Object}
+use Rattle.wjs_by_content.specs.Names.{slot, arguments_name}
+use Rattle.wjs_by_content.specs.Tables.{text_in, value_in}
+use Rattle.wjs_by_content.specs.Values.{Object}
 use Rattle.wjs_meaning.specs.Deeds.{Env, Act, write_all}
 use Rattle.wjs_meaning.specs.Functions.{arguments_slots, formal_slots, declare_functions}
 use Rattle.wjs_meaning.specs.Reading.{numbers}
-use Rattle.wjs_moves.specs.Doing.{DoesFirst}
-use Rattle.wjs_moves.specs.Following.{Follows}
-use Rattle.wjs_moves.specs.Parts.{env_in}
-use Rattle.wjs_deeds.proofs.Composing.{env_later}
-use Rattle.wjs_deeds.proofs.Later.{later_twice}
+use Rattle.wjs_frames.specs.Doing.{DoesFirst}
+use Rattle.wjs_frames.specs.Following.{Follows}
+use Rattle.wjs_frames.specs.Parts.{env_in}
+use Rattle.wjs_heap_steps.proofs.Composing.{env_later}
+use Rattle.wjs_heap_steps.proofs.Later.{later_twice}
 use Rattle.wjs_calls.proofs.Elements.{write-append}
 use Rattle.wjs_model.specs.Soundness.{HasObject, HasValue}
 use Rattle.wjs_model.specs.Standing.{IsFunction}

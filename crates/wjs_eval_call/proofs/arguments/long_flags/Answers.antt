@@ -1,7 +1,7 @@
 use Rattle.std.proofs.Common.{◌∷◌, ◌++◌, List, ap, ◌∙◌, arith}
 use Rattle.wjs_base.specs.declared.values.Name.{Name}
 use Rattle.wjs_arena.specs.declared.object.Flags.{Flags}
-use Rattle.wjs_content.specs.Objects.{hidden_flags}
+use Rattle.wjs_by_content.specs.Objects.{hidden_flags}
 use Rattle.wjs_arena.specs.Hidden.{hidden_from}
 use Rattle.wjs_eval_call.proofs.Filling.{hidden_next}
 use Rattle.wjs_eval_call.proofs.arguments.long_flags.Goals as goal

@@ -1,5 +1,5 @@
 use Rattle.std.proofs.Common.{◌≡◌, ◌∷◌, ◌≤◌}
-use Rattle.wjs_content.specs.Objects.{hidden_flags}
+use Rattle.wjs_by_content.specs.Objects.{hidden_flags}
 use Rattle.wjs_arena.specs.Hidden.{hidden_from}
 use Rattle.wjs_eval_call.proofs.arguments.long_flags.Given as goal
 

@@ -2,9 +2,9 @@ use Rattle.std.proofs.Common.{◌≡◌, ◌∷◌, Some, length, refl, sym, ap,
 use Rattle.std.specs.Prelude.{OnOk, map}
 use Rattle.std.proofs.lemmas.Result.{on_ok_weaker}
 use Rattle.std.proofs.lemmas.List.Elements.{All-weaker}
-use Rattle.wjs_content.specs.Names.{slot, callee_name, length_name}
-use Rattle.wjs_content.specs.Tables.{name_in, value_in}
-use Rattle.wjs_content.specs.Values.{Text, Value, Object, whole}
+use Rattle.wjs_by_content.specs.Names.{slot, callee_name, length_name}
+use Rattle.wjs_by_content.specs.Tables.{name_in, value_in}
+use Rattle.wjs_by_content.specs.Values.{Text, Value, Object, whole}
 use Rattle.wjs_heap.specs.Means.{nothing}
 use Rattle.wjs_store.specs.Meaning.{Meaning}
 use Rattle.wjs_base.specs.Text.{Table, Grows}
@@ -15,12 +15,12 @@ use Rattle.wjs_base.proofs.TextLaws.{Grows-refl, Grows-trans}
 use Rattle.wjs_model.specs.declared.config.Config.{Config}
 use Rattle.wjs_meaning.specs.Deeds.{Act, Do, Write, write_all}
 use Rattle.wjs_meaning.specs.NewObjects.{elements_from}
-use Rattle.wjs_moves.specs.Doing.{Does, DoesFirst}
-use Rattle.wjs_moves.specs.Following.{Follows, Later}
-use Rattle.wjs_deeds.proofs.Composing.{does_same}
-use Rattle.wjs_deeds.proofs.Later.{later_twice}
-use Rattle.wjs_deeds.proofs.Having.{value_both}
-use Rattle.wjs_deeds.proofs.Making.{number_there, number_near}
+use Rattle.wjs_frames.specs.Doing.{Does, DoesFirst}
+use Rattle.wjs_frames.specs.Following.{Follows, Later}
+use Rattle.wjs_heap_steps.proofs.Composing.{does_same}
+use Rattle.wjs_heap_steps.proofs.Later.{later_twice}
+use Rattle.wjs_heap_steps.proofs.Having.{value_both}
+use Rattle.wjs_heap_steps.proofs.Making.{number_there, number_near}
 use Rattle.wjs_calls.proofs.Elements.{length-each}
 use Rattle.wjs_calls.proofs.Rows.{ok_later}
 use Rattle.wjs_model.specs.Soundness.{HasValue}

@@ -5,9 +5,9 @@ use Rattle.wjs_base.proofs.TextLaws.{Grows-Has}
 use Rattle.wjs_base.specs.declared.ids.TextId.{TextId}
 use Rattle.wjs_base.specs.declared.values.Value.{Value}
 use Rattle.wjs_base.specs.Text.{Has}
-use Rattle.wjs_content.specs.Tables.{text_in, value_in}
+use Rattle.wjs_by_content.specs.Tables.{text_in, value_in}
 use Rattle.wjs_meaning.specs.Deeds.{write_all}
-use Rattle.wjs_deeds.proofs.Later.{later_same, later_twice}
+use Rattle.wjs_heap_steps.proofs.Later.{later_same, later_twice}
 use Rattle.wjs_calls.proofs.Elements.{none_left}
 use Rattle.wjs_calls.proofs.Rows.{leaves_all, leaves_less, leaves_none}
 use Rattle.wjs_meaning.specs.Functions.{formal_slots}

@@ -1,8 +1,8 @@
 use Rattle.std.proofs.Common.{drop}
 use Rattle.std.specs.Prelude.{map}
-use Rattle.wjs_content.specs.Tables.{text_in}
+use Rattle.wjs_by_content.specs.Tables.{text_in}
 use Rattle.wjs_meaning.specs.Deeds.{write_all}
-use Rattle.wjs_moves.specs.Following.{Later}
+use Rattle.wjs_frames.specs.Following.{Later}
 use Rattle.wjs_calls.specs.Leaving.{Leaves}
 use Rattle.wjs_eval_call.specs.Filling.{undefined_slots}
 use Rattle.wjs_eval_call.proofs.arguments.write_undefined.Given as goal

@@ -6,8 +6,8 @@ use Rattle.wjs_base.specs.declared.ids.TextId.{TextId}
 use Rattle.wjs_base.specs.Text.{Has}
 use Rattle.wjs_base.specs.declared.values.Value.{Value}
 use Rattle.wjs_base.proofs.TextLaws.{Grows-trans}
-use Rattle.wjs_content.specs.Names.{arguments_name}
-use Rattle.wjs_content.specs.Tables.{text_in, value_in}
+use Rattle.wjs_by_content.specs.Names.{arguments_name}
+use Rattle.wjs_by_content.specs.Tables.{text_in, value_in}
 use Rattle.wjs_meaning.specs.Declarations.{Declared, declared_by}
 use Rattle.wjs_meaning.specs.Trees.{Node, has_text, elements_of}
 use Rattle.wjs_meaning.specs.Deeds.{Env, Act, Do, Create, tree_here}
@@ -19,21 +19,21 @@ use Rattle.wjs_tree.specs.declared.node.NodeId.{NodeId}
 use Rattle.wjs_model.specs.Contents.{holding_in, values_held}
 use Rattle.wjs_model.specs.Standing.{IsFunction}
 use Rattle.wjs_model.specs.Soundness.{HasValue, IsThere}
-use Rattle.wjs_moves.specs.Following.{Follows}
-use Rattle.wjs_moves.specs.Parts.{env_in, node_now, node_among}
-use Rattle.wjs_moves.proofs.Held.{values_there}
-use Rattle.wjs_deeds.proofs.Composing.{env_later}
-use Rattle.wjs_deeds.proofs.Later.{later_twice}
+use Rattle.wjs_frames.specs.Following.{Follows}
+use Rattle.wjs_frames.specs.Parts.{env_in, node_now, node_among}
+use Rattle.wjs_frames.proofs.Held.{values_there}
+use Rattle.wjs_heap_steps.proofs.Composing.{env_later}
+use Rattle.wjs_heap_steps.proofs.Later.{later_twice}
 use Rattle.wjs_calls.proofs.FunctionNodes.{node_is}
 use Rattle.wjs_calls.proofs.Rows.{same_units}
 use Rattle.wjs_calls.proofs.StandingFunctions.{function_later}
-use Rattle.wjs_moves.proofs.Parting.{element_here}
+use Rattle.wjs_frames.proofs.Parting.{element_here}
 use Rattle.wjs_eval_call.proofs.StandingBodies.{begun_there, begun_function, declared_stand}
 use Rattle.wjs_scope.specs.Bodies.{elements_at}
 use Rattle.wjs_scope.specs.Declarations.{functions_among}
 use Rattle.wjs_eval_call.specs.Filling.{arguments_written}
 use Rattle.wjs_eval_call.proofs.Beginning.{values_later, texts_later, earliest_each, others_of, body_filled}
-use Rattle.wjs_moves.proofs.Handling.{runs_over}
+use Rattle.wjs_frames.proofs.Handling.{runs_over}
 use Rattle.wjs_eval_call.proofs.bodies.begin_scope.Goals as goal
 
 pub fill_scope-requires-clause-formals : goal.fill_scope-requires-clause-formals

@@ -4,9 +4,9 @@ use Rattle.wjs_base.specs.declared.ids.ObjId.{ObjId}
 use Rattle.wjs_arena.specs.declared.object.Code.TheVariants as code
 use Rattle.wjs_meaning.specs.Functions.{body_code}
 use Rattle.wjs_model.specs.Contents.{holding_in}
-use Rattle.wjs_moves.specs.Following.{Follows}
-use Rattle.wjs_moves.specs.Parts.{env_in}
-use Rattle.wjs_deeds.proofs.Seeing.{plainly}
+use Rattle.wjs_frames.specs.Following.{Follows}
+use Rattle.wjs_frames.specs.Parts.{env_in}
+use Rattle.wjs_heap_steps.proofs.Seeing.{plainly}
 use Rattle.wjs_arena.specs.Entries.{Entry}
 use Rattle.wjs_eval_call.proofs.StandingBodies.{function_at}
 use Rattle.wjs_eval_call.proofs.bodies.begin_script.Goals as goal

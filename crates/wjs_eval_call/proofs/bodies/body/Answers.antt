@@ -1,9 +1,9 @@
-use Rattle.wjs_content.specs.Objects.{Arena, object_at}
+use Rattle.wjs_by_content.specs.Objects.{Arena, object_at}
 use Rattle.wjs_meaning.specs.Functions.{body_code}
 use Rattle.wjs_model.specs.Contents.{holding_in}
-use Rattle.wjs_moves.specs.Parts.{env_in}
-use Rattle.wjs_moves.proofs.Shorter.{follows_look}
-use Rattle.wjs_deeds.proofs.Seeing.{object_found_as}
+use Rattle.wjs_frames.specs.Parts.{env_in}
+use Rattle.wjs_frames.proofs.Shorter.{follows_look}
+use Rattle.wjs_heap_steps.proofs.Seeing.{object_found_as}
 use Rattle.std.proofs.Common.{◌∙◌}
 use Rattle.wjs_arena.specs.Entries.{Entry}
 use Rattle.wjs_eval_call.proofs.bodies.body.Goals as goal

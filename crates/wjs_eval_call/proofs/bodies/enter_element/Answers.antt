@@ -3,8 +3,8 @@ use Rattle.std.specs.Prelude.{OnOk}
 use Rattle.wjs_meaning.specs.Deeds.{Act}
 use Rattle.wjs_meaning.specs.Reading.{node_in}
 use Rattle.wjs_meaning.specs.Trees.{elements_of}
-use Rattle.wjs_moves.specs.Following.{Follows}
-use Rattle.wjs_moves.specs.Parts.{env_in, node_now}
+use Rattle.wjs_frames.specs.Following.{Follows}
+use Rattle.wjs_frames.specs.Parts.{env_in, node_now}
 use Rattle.wjs_eval_call.proofs.StandingBodies.{body_element}
 use Rattle.wjs_eval_call.proofs.Running.{body_at}
 use Rattle.wjs_eval_call.proofs.bodies.enter_element.Goals as goal

@@ -1,14 +1,14 @@
 use Rattle.std.proofs.Common.{sym, ap, subst}
 use Rattle.std.specs.Prelude.{OnOk}
-use Rattle.wjs_content.specs.Values.{Text, String}
-use Rattle.wjs_content.specs.Tables.{text_in, value_in}
-use Rattle.wjs_content.specs.Conversions.{primitive_text}
+use Rattle.wjs_by_content.specs.Values.{Text, String}
+use Rattle.wjs_by_content.specs.Tables.{text_in, value_in}
+use Rattle.wjs_by_content.specs.Conversions.{primitive_text}
 use Rattle.wjs_meaning.specs.Conversions.{text_of_primitive}
 use Rattle.wjs_meaning.specs.Deeds.{Ret, Gives, then_value}
 use Rattle.wjs_model.specs.declared.frame.Completion.{Completion}
 use Rattle.wjs_model.specs.Contents.{completion_in}
-use Rattle.wjs_moves.specs.Following.{Follows}
-use Rattle.wjs_lines.proofs.Following.{follows_as}
+use Rattle.wjs_frames.specs.Following.{Follows}
+use Rattle.wjs_step_common.proofs.Following.{follows_as}
 use Rattle.wjs_eval_call.proofs.conversions.text_of_primitive.Goals as goal
 
 pub returns : goal.returns

@@ -1,9 +1,9 @@
 use Rattle.std.proofs.Common.{drop}
 use Rattle.std.specs.Prelude.{map}
-use Rattle.wjs_content.specs.Tables.{text_in}
+use Rattle.wjs_by_content.specs.Tables.{text_in}
 use Rattle.wjs_meaning.specs.Functions.{declare_variables}
-use Rattle.wjs_moves.specs.Following.{Later}
-use Rattle.wjs_moves.specs.Parts.{env_in}
+use Rattle.wjs_frames.specs.Following.{Later}
+use Rattle.wjs_frames.specs.Parts.{env_in}
 use Rattle.wjs_calls.specs.Leaving.{Leaves}
 use Rattle.wjs_eval_call.proofs.declarations.declare_variables.Given as goal
 

@@ -1,7 +1,7 @@
 use Rattle.std.proofs.Common.{◌≡◌, ℕ, ◌<◌, ◌≤◌, List, length, sym, ap, ◌∙◌, subst}
 use Rattle.std.specs.Prelude.{map as each, slice_index_or}
 use borrow.Author.Tests.{ltb-false}
-use Rattle.wjs_content.specs.Tables.{text_in}
+use Rattle.wjs_by_content.specs.Tables.{text_in}
 use Rattle.wjs_meaning.specs.Declarations.{declared_by}
 use Rattle.wjs_meaning.specs.Reading.{numbers}
 use Rattle.wjs_meaning.specs.Trees.{Tree}
@@ -11,7 +11,7 @@ use Rattle.wjs_model.specs.declared.unit.Unit.{Unit as Program}
 use Rattle.wjs_scope.specs.declared.declarations.Declarations.{Declarations}
 use Rattle.wjs_scope.specs.Bodies.{elements_at}
 use Rattle.wjs_scope.specs.Declarations.{functions_among}
-use Rattle.wjs_deeds.proofs.Composing.{if_ok}
+use Rattle.wjs_heap_steps.proofs.Composing.{if_ok}
 use Rattle.wjs_eval_call.proofs.UnitTrees.{tree_some, tree_none, unit_known, unit_is, no_unit}
 use Rattle.wjs_eval_call.proofs.declarations.declared_at.Goals as goal
 

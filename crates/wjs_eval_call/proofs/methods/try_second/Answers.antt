@@ -1,18 +1,18 @@
 use Rattle.std.proofs.Common.{[], None, Some, subst}
 use Rattle.std.specs.Prelude.{OnOk}
-use Rattle.wjs_content.specs.Values.{Object}
+use Rattle.wjs_by_content.specs.Values.{Object}
 use Rattle.wjs_meaning.specs.declared.trouble.Trouble.TheVariants.{NoPrimitiveValue}
 use Rattle.wjs_meaning.specs.Deeds.{Env, Act, Completion, Sub, then_value}
 use Rattle.wjs_meaning.specs.Calls.{call}
 use Rattle.wjs_meaning.specs.Conversions.{second_method, method_result}
 use Rattle.wjs_meaning.specs.Errors.{throw}
-use Rattle.wjs_moves.specs.Following.{Follows}
-use Rattle.wjs_moves.specs.Parts.{env_in}
-use Rattle.wjs_deeds.specs.Known.{text_of}
-use Rattle.wjs_deeds.proofs.Composing.{env_later}
+use Rattle.wjs_frames.specs.Following.{Follows}
+use Rattle.wjs_frames.specs.Parts.{env_in}
+use Rattle.wjs_heap_steps.specs.Known.{text_of}
+use Rattle.wjs_heap_steps.proofs.Composing.{env_later}
 use Rattle.wjs_model.specs.Waiting.{hint_in}
 use Rattle.wjs_eval_call.proofs.Asking.{asked}
-use Rattle.wjs_moves.proofs.Handling.{runs_later}
+use Rattle.wjs_frames.proofs.Handling.{runs_later}
 use Rattle.wjs_eval_call.proofs.methods.try_second.Goals as goal
 
 pub returns-in-Some : goal.returns-in-Some

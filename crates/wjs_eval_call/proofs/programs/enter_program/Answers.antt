@@ -1,5 +1,5 @@
 use Rattle.wjs_meaning.specs.Deeds.{AtProgram}
-use Rattle.wjs_moves.specs.Parts.{env_in}
+use Rattle.wjs_frames.specs.Parts.{env_in}
 use Rattle.wjs_calls.proofs.Entered.{entered}
 use Rattle.wjs_eval_call.proofs.programs.enter_program.Goals as goal
 

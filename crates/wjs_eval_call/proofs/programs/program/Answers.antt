@@ -9,15 +9,15 @@ use Rattle.wjs_model.specs.declared.frame.Activation.{Activation as Frame}
 use Rattle.wjs_model.specs.declared.unit.Unit.{Unit as Program}
 use Rattle.wjs_model.specs.Soundness.{IsThere}
 use Rattle.wjs_model.specs.Lists.{program_elements}
-use Rattle.wjs_moves.specs.Doing.{DoesFirst}
-use Rattle.wjs_moves.specs.Following.{Follows}
-use Rattle.wjs_moves.specs.Parts.{env_in, node_now, node_among}
-use Rattle.wjs_deeds.proofs.Composing.{env_later}
+use Rattle.wjs_frames.specs.Doing.{DoesFirst}
+use Rattle.wjs_frames.specs.Following.{Follows}
+use Rattle.wjs_frames.specs.Parts.{env_in, node_now, node_among}
+use Rattle.wjs_heap_steps.proofs.Composing.{env_later}
 use Rattle.wjs_calls.proofs.FunctionNodes.{node_is}
 use Rattle.wjs_calls.proofs.Rows.{same_units}
 use Rattle.wjs_eval_call.specs.Filling.{program_filled}
 use Rattle.wjs_eval_call.proofs.StandingBodies.{at_body, body_is, same_elements}
-use Rattle.wjs_moves.proofs.Handling.{runs_over}
+use Rattle.wjs_frames.proofs.Handling.{runs_over}
 use Rattle.wjs_eval_call.proofs.programs.program.Goals as goal
 
 pub declare_program-requires-clause-there : goal.declare_program-requires-clause-there

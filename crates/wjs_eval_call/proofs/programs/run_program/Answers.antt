@@ -1,8 +1,8 @@
 use Rattle.std.proofs.Common.{List, sym, subst}
 use Rattle.std.specs.Prelude.{ℕ, OnOk}
 use Rattle.wjs_meaning.specs.Functions.{program_from}
-use Rattle.wjs_moves.specs.Following.{Follows}
-use Rattle.wjs_moves.specs.Parts.{env_in}
+use Rattle.wjs_frames.specs.Following.{Follows}
+use Rattle.wjs_frames.specs.Parts.{env_in}
 use Rattle.wjs_eval_call.proofs.programs.run_program.Goals as goal
 
 pub returns-in-None : goal.returns-in-None

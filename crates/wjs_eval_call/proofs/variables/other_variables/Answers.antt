@@ -1,7 +1,7 @@
 use Rattle.std.proofs.Common.{◌≡◌, List, length, rules, ap, subst, ◌∙◌}
 use Rattle.std.specs.Prelude.{map}
 use Rattle.wjs_base.specs.declared.ids.TextId.{TextId}
-use Rattle.wjs_content.specs.Tables.{text_in}
+use Rattle.wjs_by_content.specs.Tables.{text_in}
 use Rattle.wjs_eval_call.proofs.Names.{none_left}
 use Rattle.wjs_eval_call.proofs.variables.other_variables.Goals as goal
 

@@ -1,10 +1,10 @@
 use Rattle.std.proofs.Common.{◌≡◌, take, ◌++◌}
 use Rattle.std.specs.Prelude.{map, filter, All}
 use Rattle.wjs_base.specs.Text.{Table, IsTable, Grows, Has}
-use Rattle.wjs_content.specs.Tables.{text_in}
+use Rattle.wjs_by_content.specs.Tables.{text_in}
 use Rattle.wjs_meaning.specs.Functions.{function_names}
 use Rattle.wjs_meaning.specs.Reading.{numbers}
-use Rattle.wjs_moves.specs.Parts.{env_in}
+use Rattle.wjs_frames.specs.Parts.{env_in}
 use Rattle.wjs_eval_call.proofs.Names.{free_of}
 use Rattle.wjs_eval_call.proofs.variables.others_among.Given as goal
 

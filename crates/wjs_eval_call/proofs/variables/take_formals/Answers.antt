@@ -1,7 +1,7 @@
 use Rattle.std.proofs.Common.{◌+◌, take, [], List, sym, subst}
 use Rattle.std.specs.Prelude.{map}
 use Rattle.wjs_base.specs.declared.ids.TextId.{TextId}
-use Rattle.wjs_content.specs.Tables.{text_in}
+use Rattle.wjs_by_content.specs.Tables.{text_in}
 use Rattle.wjs_eval_call.specs.Taking.{Takes}
 use Rattle.wjs_eval_call.proofs.Names.{takes_none, formal_taken}
 use Rattle.wjs_eval_call.proofs.variables.take_formals.Goals as goal

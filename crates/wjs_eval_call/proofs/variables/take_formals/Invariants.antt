@@ -1,7 +1,7 @@
 use Rattle.std.proofs.Common.{take}
 use Rattle.std.specs.Prelude.{map}
 use Rattle.wjs_base.specs.Text.{Table, IsTable, Grows}
-use Rattle.wjs_content.specs.Tables.{text_in}
+use Rattle.wjs_by_content.specs.Tables.{text_in}
 use Rattle.wjs_eval_call.specs.Taking.{Takes}
 use Rattle.wjs_eval_call.proofs.variables.take_formals.Given as goal
 

@@ -2,13 +2,13 @@ use Rattle.std.proofs.lemmas.Result.{on_ok_weaker}
 use Rattle.wjs_scope.specs.Declarations.{with_name}
 use Rattle.wjs_meaning.specs.Trees.{name_of}
 use Rattle.wjs_meaning.specs.Deeds.{node_here}
-use Rattle.wjs_moves.specs.Parts.{env_in}
+use Rattle.wjs_frames.specs.Parts.{env_in}
 use Rattle.std.proofs.Common.{◌≡◌, [], ◌++◌, List, sym, subst}
 use Rattle.std.specs.Prelude.{Option}
 use Rattle.std.specs.List.{cons_option}
 use Rattle.wjs_base.proofs.TextLaws.{Grows-Has}
 use Rattle.wjs_base.specs.declared.ids.TextId.{TextId}
-use Rattle.wjs_content.specs.Values.{Text}
+use Rattle.wjs_by_content.specs.Values.{Text}
 use Rattle.wjs_eval_call.specs.Taking.{Takes}
 use Rattle.wjs_eval_call.proofs.Names.{takes_more}
 use Rattle.wjs_eval_call.proofs.variables.take_function.Goals as goal

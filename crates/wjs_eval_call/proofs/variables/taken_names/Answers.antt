@@ -5,9 +5,9 @@ use Rattle.wjs_meaning.specs.Functions.{function_names}
 use Rattle.wjs_meaning.specs.Reading.{numbers}
 use Rattle.std.specs.Prelude.{map}
 use Rattle.std.proofs.lemmas.List.{append-nil}
-use Rattle.wjs_content.specs.Tables.{text_in}
-use Rattle.wjs_content.specs.Values.{Text}
-use Rattle.wjs_moves.specs.Parts.{env_in}
+use Rattle.wjs_by_content.specs.Tables.{text_in}
+use Rattle.wjs_by_content.specs.Values.{Text}
+use Rattle.wjs_frames.specs.Parts.{env_in}
 use Rattle.wjs_eval_call.specs.Taking.{Takes}
 use Rattle.wjs_eval_call.proofs.Names.{functions_next}
 use Rattle.wjs_eval_call.proofs.variables.taken_names.Goals as goal

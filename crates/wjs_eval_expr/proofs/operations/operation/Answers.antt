@@ -1,5 +1,5 @@
 use Rattle.std.proofs.Common.{◌∙◌}
-use Rattle.wjs_lines.proofs.Following.{follows_as}
+use Rattle.wjs_step_common.proofs.Following.{follows_as}
 use Rattle.wjs_model.specs.Contents.{values_held}
 use Rattle.wjs_eval_expr.proofs.OperationLines.{operates_on, value_there}
 use Rattle.wjs_eval_expr.proofs.operations.operation.Goals as goal

@@ -1,7 +1,7 @@
 use Rattle.wjs_meaning.specs.Reading.{node_in}
 use Rattle.wjs_model.specs.Contents.{holding_in, reference_in}
-use Rattle.wjs_moves.specs.Parts.{env_in, node_now}
-use Rattle.wjs_lines.proofs.Following.{follows_as}
+use Rattle.wjs_frames.specs.Parts.{env_in, node_now}
+use Rattle.wjs_step_common.proofs.Following.{follows_as}
 use Rattle.wjs_eval_expr.proofs.Passing.{expr_refers}
 use Rattle.wjs_eval_expr.proofs.points.expr_reference.Goals as goal
 

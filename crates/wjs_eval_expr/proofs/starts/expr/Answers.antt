@@ -1,6 +1,6 @@
 use Rattle.wjs_meaning.specs.Reading.{node_in}
-use Rattle.wjs_moves.specs.Parts.{env_in, node_now}
-use Rattle.wjs_lines.proofs.Following.{follows_as}
+use Rattle.wjs_frames.specs.Parts.{env_in, node_now}
+use Rattle.wjs_step_common.proofs.Following.{follows_as}
 use Rattle.wjs_eval_expr.proofs.Links.{expr_links}
 use Rattle.wjs_eval_expr.proofs.starts.expr.Goals as goal
 

@@ -1,11 +1,11 @@
 use Rattle.std.proofs.Common.{inl, refl, sym, ap, ◌∙◌}
-use Rattle.wjs_content.specs.Values.{Undefined}
+use Rattle.wjs_by_content.specs.Values.{Undefined}
 use Rattle.wjs_meaning.specs.Reading.{node_in}
 use Rattle.wjs_meaning.specs.Expressions.{operand, call_reference, call_callee}
 use Rattle.wjs_model.specs.Lists.{arguments_of}
-use Rattle.wjs_moves.specs.Parts.{env_in}
-use Rattle.wjs_moves.proofs.Parting.{stands_here}
-use Rattle.wjs_lines.proofs.Following.{follows_as}
+use Rattle.wjs_frames.specs.Parts.{env_in}
+use Rattle.wjs_frames.proofs.Parting.{stands_here}
+use Rattle.wjs_step_common.proofs.Following.{follows_as}
 use Rattle.wjs_literals.proofs.Standing.{function_stands}
 use Rattle.wjs_eval_expr.specs.Links.{member_of}
 use Rattle.wjs_eval_expr.proofs.starts.member.Goals as goal

@@ -1,5 +1,5 @@
 use Rattle.std.proofs.Common.{inl, refl, ◌∙◌}
-use Rattle.wjs_moves.proofs.Parting.{stands_here}
+use Rattle.wjs_frames.proofs.Parting.{stands_here}
 use Rattle.wjs_eval_expr.proofs.starts.operator.Goals as goal
 
 pub update_start-requires-clause-target : goal.update_start-requires-clause-target

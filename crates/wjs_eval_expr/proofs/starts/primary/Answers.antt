@@ -1,5 +1,5 @@
 use Rattle.std.proofs.Common.{inl, refl, ◌∙◌}
-use Rattle.wjs_moves.proofs.Parting.{stands_here}
+use Rattle.wjs_frames.proofs.Parting.{stands_here}
 use Rattle.wjs_eval_expr.proofs.starts.primary.Goals as goal
 
 pub enter_last-requires-clause-part : goal.enter_last-requires-clause-part

@@ -1,7 +1,8 @@
 use Rattle.std.proofs.Common.{◌≡◌, ◌+◌, ◌<◌, ap, sym, ◌∙◌, subst, length, arith, drop}
 use Rattle.std.proofs.lemmas.List.{drop_all}
 use Rattle.wjs_store.specs.Fixed.{fresh}
-use Rattle.wjs_full.specs.History.{places_of, first_world, histories_from, serial_places, IsSerial}
+use Rattle.wjs_store.specs.State.{first_world}
+use Rattle.wjs_full.specs.History.{places_of, histories_from, serial_places, IsSerial}
 use Rattle.wjs_full.proofs.HistoryLists.{length-answers, noted_more}
 use Rattle.wjs_full.proofs.HistoryLaws.{serial_law}
 use Rattle.wjs_full.proofs.history.serial_history.Goals as goal

@@ -1,7 +1,8 @@
 use Rattle.std.proofs.Common.{List, ℕ, ◌∙◌, ap, arith, length}
+use Rattle.wjs_base.proofs.TextLaws.{Grows-trans}
 use Rattle.wjs_lexer.specs.Lexing.{start}
 use Rattle.wjs_lexer.proofs.Sizes.{short_length}
-use Rattle.wjs_lexer.proofs.Onward.{finished, forward, grown, takes_on, skips_on, fault_of, as_takes, as_skips}
+use Rattle.wjs_lexer.proofs.Onward.{finished, forward, takes_on, skips_on, fault_of, as_takes, as_skips}
 use Rattle.wjs_lexer.proofs.lexing.read.Goals as goal
 
 pub start_of-cursor-requires : goal.start_of-cursor-requires
@@ -23,7 +24,7 @@ loop-cursor-preserved-in-Ok-Token c =
     record {
       placed = k.placed;
       same = k.same ∙ l.same;
-      grows = grown c.args.texts.now c.loop-cursor.texts c.take_piece.new.texts l.grows c.in-Ok-Token.ensures.grows;
+      grows = Grows-trans c.args.texts.now c.loop-cursor.texts c.take_piece.new.texts l.grows c.in-Ok-Token.ensures.grows;
       onward = takes_on c.args.chars.now (start c.args.chars.now) c.loop-cursor.cursor c.take_piece.new.cursor c.loop-cursor.after_line c.loop-cursor.texts c.take_piece.new.texts c.loop-cursor.toks.items c.push.new.self.items c.in-Ok-Token.token
           l.placed l.same c.in-Ok-Token.ensures.grows k c.in-Ok.ensures.items l.onward;
     }
@@ -35,7 +36,7 @@ loop-cursor-preserved c =
     record {
       placed = k.placed;
       same = k.same ∙ l.same;
-      grows = grown c.args.texts.now c.loop-cursor.texts c.take_piece.new.texts l.grows c.in-Ok-Skip.ensures.grows;
+      grows = Grows-trans c.args.texts.now c.loop-cursor.texts c.take_piece.new.texts l.grows c.in-Ok-Skip.ensures.grows;
       onward = skips_on c.args.chars.now (start c.args.chars.now) c.loop-cursor.cursor c.take_piece.new.cursor c.loop-cursor.after_line c.in-Ok-Skip.holds_line c.loop-cursor.texts c.take_piece.new.texts c.loop-cursor.toks.items
           l.same c.in-Ok-Skip.ensures.grows k l.onward;
     }

@@ -1,10 +1,10 @@
 use Rattle.std.proofs.Common.{Some, ap}
-use Rattle.wjs_content.specs.Names.{slot, length_name}
-use Rattle.wjs_content.specs.Values.{Object}
+use Rattle.wjs_by_content.specs.Names.{slot, length_name}
+use Rattle.wjs_by_content.specs.Values.{Object}
 use Rattle.wjs_meaning.specs.Deeds.{Do, Write, give}
-use Rattle.wjs_deeds.proofs.Having.{value_both}
-use Rattle.wjs_deeds.proofs.Making.{number_there, number_near}
-use Rattle.wjs_lines.proofs.Following.{follows_as}
+use Rattle.wjs_heap_steps.proofs.Having.{value_both}
+use Rattle.wjs_heap_steps.proofs.Making.{number_there, number_near}
+use Rattle.wjs_step_common.proofs.Following.{follows_as}
 use Rattle.wjs_literals.proofs.arrays.array_end.Goals as goal
 
 pub write_known-requires-clause-value : goal.write_known-requires-clause-value

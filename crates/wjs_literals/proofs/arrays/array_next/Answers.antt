@@ -1,8 +1,8 @@
 use Rattle.std.proofs.Common.{ap, sym, ◌∙◌}
-use Rattle.wjs_content.specs.Tables.{value_in}
+use Rattle.wjs_by_content.specs.Tables.{value_in}
 use Rattle.wjs_model.specs.Contents.{holding_in}
-use Rattle.wjs_moves.specs.Parts.{env_in, node_now}
-use Rattle.wjs_lines.proofs.Following.{follows_as}
+use Rattle.wjs_frames.specs.Parts.{env_in, node_now}
+use Rattle.wjs_step_common.proofs.Following.{follows_as}
 use Rattle.wjs_literals.proofs.Items.{items_rest, array_enters}
 use Rattle.wjs_literals.proofs.Standing.{item_stands}
 use Rattle.wjs_literals.proofs.arrays.array_next.Goals as goal

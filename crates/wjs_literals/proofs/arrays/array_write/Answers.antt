@@ -1,14 +1,14 @@
 use Rattle.std.proofs.Common.{◌+◌, drop, ap, sym}
-use Rattle.wjs_content.specs.Tables.{value_in}
+use Rattle.wjs_by_content.specs.Tables.{value_in}
 use Rattle.wjs_meaning.specs.Expressions.{array_from}
 use Rattle.wjs_meaning.specs.Reading.{node_in}
 use Rattle.wjs_model.specs.Contents.{holding_in}
 use Rattle.wjs_model.specs.Lists.{items_of}
-use Rattle.wjs_moves.specs.Parts.{env_in, node_among}
-use Rattle.wjs_lines.proofs.Following.{follows_as}
+use Rattle.wjs_frames.specs.Parts.{env_in, node_among}
+use Rattle.wjs_step_common.proofs.Following.{follows_as}
 use Rattle.wjs_literals.proofs.Items.{array_writes}
 use Rattle.wjs_literals.proofs.Lines.{does_line}
-use Rattle.wjs_moves.proofs.Handling.{runs_later}
+use Rattle.wjs_frames.proofs.Handling.{runs_later}
 use Rattle.wjs_literals.proofs.arrays.array_write.Goals as goal
 
 pub array_next-requires-clause-runs : goal.array_next-requires-clause-runs

@@ -1,10 +1,10 @@
 use Rattle.wjs_meaning.specs.Expressions.{call_callee, base_of}
 use Rattle.wjs_meaning.specs.Reading.{node_in}
 use Rattle.wjs_model.specs.Contents.{reference_in}
-use Rattle.wjs_moves.specs.Parts.{node_among}
+use Rattle.wjs_frames.specs.Parts.{node_among}
 use Rattle.wjs_model.specs.Lists.{arguments_of}
 use Rattle.wjs_literals.proofs.Lines.{does_line}
-use Rattle.wjs_moves.proofs.Handling.{runs_later}
+use Rattle.wjs_frames.proofs.Handling.{runs_later}
 use Rattle.wjs_literals.proofs.calls.call_reference.Goals as goal
 
 pub call_callee-requires-clause-runs : goal.call_callee-requires-clause-runs

@@ -1,8 +1,8 @@
 use Rattle.std.proofs.Common.{◌∷◌, [], refl}
-use Rattle.wjs_lines.proofs.Following.{follows_as}
+use Rattle.wjs_step_common.proofs.Following.{follows_as}
 use Rattle.wjs_base.specs.declared.values.Value.TheVariants as values
 use Rattle.wjs_model.specs.declared.frame.Held.TheVariants as holds
-use Rattle.wjs_moves.proofs.Handling.{runs_held}
+use Rattle.wjs_frames.proofs.Handling.{runs_held}
 use Rattle.wjs_literals.proofs.news.new_callee.Goals as goal
 
 pub new_next-requires : goal.new_next-requires

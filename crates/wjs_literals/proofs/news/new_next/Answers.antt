@@ -1,8 +1,8 @@
 use Rattle.std.proofs.Common.{sym}
 use Rattle.wjs_meaning.specs.Constructions.{construct}
 use Rattle.wjs_model.specs.Contents.{holding_in}
-use Rattle.wjs_moves.specs.Parts.{env_in, node_now}
-use Rattle.wjs_lines.proofs.Following.{follows_as}
+use Rattle.wjs_frames.specs.Parts.{env_in, node_now}
+use Rattle.wjs_step_common.proofs.Following.{follows_as}
 use Rattle.wjs_literals.proofs.CallLines.{new_enters, values_end}
 use Rattle.wjs_literals.proofs.Standing.{argument_stands}
 use Rattle.wjs_literals.proofs.news.new_next.Goals as goal

@@ -1,7 +1,7 @@
 use Rattle.std.proofs.Common.{◌∷◌}
 use Rattle.wjs_base.specs.declared.values.Value.TheVariants as values
 use Rattle.wjs_model.specs.declared.frame.Held.TheVariants as holds
-use Rattle.wjs_moves.proofs.Handling.{runs_held, runs_later}
+use Rattle.wjs_frames.proofs.Handling.{runs_held, runs_later}
 use Rattle.wjs_literals.proofs.objects.object_start.Goals as goal
 
 pub object_next-requires-clause-runs : goal.object_next-requires-clause-runs

@@ -1,13 +1,13 @@
 use Rattle.std.proofs.Common.{◌+◌, Some, drop}
-use Rattle.wjs_content.specs.Names.{slot}
-use Rattle.wjs_content.specs.Tables.{value_in}
+use Rattle.wjs_by_content.specs.Names.{slot}
+use Rattle.wjs_by_content.specs.Tables.{value_in}
 use Rattle.wjs_meaning.specs.Deeds.{Do, Write}
 use Rattle.wjs_meaning.specs.Expressions.{object_from}
 use Rattle.wjs_meaning.specs.Reading.{node_in}
 use Rattle.wjs_model.specs.Lists.{pairs_of}
-use Rattle.wjs_moves.specs.Parts.{node_among}
+use Rattle.wjs_frames.specs.Parts.{node_among}
 use Rattle.wjs_literals.proofs.Lines.{does_line}
-use Rattle.wjs_moves.proofs.Handling.{runs_later}
+use Rattle.wjs_frames.proofs.Handling.{runs_later}
 use Rattle.wjs_literals.proofs.objects.object_write.Goals as goal
 
 pub write-requires-clause-there : goal.write-requires-clause-there

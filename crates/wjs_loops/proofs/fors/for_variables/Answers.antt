@@ -5,8 +5,8 @@ use Rattle.wjs_meaning.specs.Deeds.{Sub, then_normal}
 use Rattle.wjs_meaning.specs.Loops.{loop_from}
 use Rattle.wjs_meaning.specs.Statements.{vars_from}
 use Rattle.wjs_model.specs.Lists.{variables_of}
-use Rattle.wjs_moves.specs.Parts.{env_in, node_among}
-use Rattle.wjs_lines.proofs.Following.{follows_as}
+use Rattle.wjs_frames.specs.Parts.{env_in, node_among}
+use Rattle.wjs_step_common.proofs.Following.{follows_as}
 use Rattle.wjs_loops.proofs.fors.for_variables.Goals as goal
 
 pub returns : goal.returns

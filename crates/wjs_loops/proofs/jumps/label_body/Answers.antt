@@ -1,7 +1,7 @@
 use Rattle.wjs_meaning.specs.Statements.{label_done}
 use Rattle.wjs_model.specs.Contents.{completion_in}
-use Rattle.wjs_moves.specs.Parts.{node_now}
-use Rattle.wjs_lines.proofs.Following.{follows_as}
+use Rattle.wjs_frames.specs.Parts.{node_now}
+use Rattle.wjs_step_common.proofs.Following.{follows_as}
 use Rattle.wjs_loops.proofs.Labelled.{labelled, unlabelled}
 use Rattle.wjs_loops.proofs.jumps.label_body.Goals as goal
 

@@ -1,5 +1,5 @@
 use Rattle.std.proofs.Common.{◌∙◌, sym, arith}
-use Rattle.wjs_content.specs.Tables.{text_in}
+use Rattle.wjs_by_content.specs.Tables.{text_in}
 use Rattle.wjs_loops.proofs.Walks.{behind_there, walk_passes, walk_meets, walk_ends, walk_past}
 use Rattle.wjs_loops.proofs.labels.is_label.Goals as goal
 

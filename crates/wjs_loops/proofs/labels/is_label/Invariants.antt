@@ -1,6 +1,6 @@
 use Rattle.std.proofs.Common.{◌≡◌}
 use Rattle.wjs_base.specs.Text.{Table, Grows}
-use Rattle.wjs_content.specs.Tables.{text_in}
+use Rattle.wjs_by_content.specs.Tables.{text_in}
 use Rattle.wjs_meaning.specs.Trees.{labels, has_text}
 use Rattle.wjs_model.specs.Units.{unit_in}
 use Rattle.wjs_loops.proofs.labels.is_label.Given as goal

@@ -1,8 +1,8 @@
 use Rattle.std.proofs.Common.{◌∙◌}
 use Rattle.wjs_base.specs.declared.values.Value.TheVariants as value
-use Rattle.wjs_content.proofs.Growth.{text_grows}
-use Rattle.wjs_content.proofs.Known.{text_known}
-use Rattle.wjs_content.proofs.Same.{same_values}
+use Rattle.wjs_by_content.proofs.Growth.{text_grows}
+use Rattle.wjs_by_content.proofs.Known.{text_known}
+use Rattle.wjs_by_content.proofs.Same.{same_values}
 use Rattle.wjs_loops.proofs.labels.same_label.Goals as goal
 
 pub returns : goal.returns

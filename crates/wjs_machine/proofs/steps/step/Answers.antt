@@ -4,10 +4,10 @@ use Rattle.wjs_meaning.specs.Deeds.{Act}
 use Rattle.wjs_meaning.specs.Reading.{node_in}
 use Rattle.wjs_model.specs.Contents.{completion_in, holding_in}
 use Rattle.wjs_model.specs.Waiting.{after}
-use Rattle.wjs_moves.specs.Following.{Follows}
-use Rattle.wjs_moves.specs.Parts.{env_in, node_among, then_at}
-use Rattle.wjs_moves.proofs.Handling.{env_later, runs_later}
-use Rattle.wjs_moves.proofs.Parting.{point_later}
+use Rattle.wjs_frames.specs.Following.{Follows}
+use Rattle.wjs_frames.specs.Parts.{env_in, node_among, then_at}
+use Rattle.wjs_frames.proofs.Handling.{env_later, runs_later}
+use Rattle.wjs_frames.proofs.Parting.{point_later}
 use Rattle.wjs_machine.proofs.steps.step.Goals as goal
 
 pub returns-in-Begins : goal.returns-in-Begins

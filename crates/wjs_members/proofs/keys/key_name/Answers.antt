@@ -1,5 +1,5 @@
 use Rattle.std.proofs.Common.{refl, sym, ◌∙◌}
-use Rattle.wjs_lines.proofs.Following.{does_told, does_as}
+use Rattle.wjs_step_common.proofs.Following.{does_told, does_as}
 use Rattle.wjs_members.proofs.keys.key_name.Goals as goal
 
 pub returns-clause-does : goal.returns-clause-does

@@ -1,7 +1,7 @@
 use Rattle.std.proofs.Common.{sym, ap, ◌∙◌}
-use Rattle.wjs_content.specs.Tables.{name_in}
+use Rattle.wjs_by_content.specs.Tables.{name_in}
 use Rattle.wjs_meaning.specs.Reading.{spelt_in}
-use Rattle.wjs_lines.proofs.Following.{does_same, later_same}
+use Rattle.wjs_step_common.proofs.Following.{does_same, later_same}
 use Rattle.wjs_members.proofs.keys.spelt_name.Goals as goal
 
 pub returns-in-Word-clause-does : goal.returns-in-Word-clause-does

@@ -1,8 +1,8 @@
 use Rattle.std.proofs.Common.{◌∙◌}
-use Rattle.wjs_moves.proofs.Shorter.{follows_shorter}
-use Rattle.wjs_lines.proofs.Converting.{text_shortens}
-use Rattle.wjs_content.specs.Tables.{value_in}
-use Rattle.wjs_moves.specs.Parts.{env_in}
+use Rattle.wjs_frames.proofs.Shorter.{follows_shorter}
+use Rattle.wjs_step_common.proofs.Converting.{text_shortens}
+use Rattle.wjs_by_content.specs.Tables.{value_in}
+use Rattle.wjs_frames.specs.Parts.{env_in}
 use Rattle.wjs_meaning.specs.Expressions.{at_name}
 use Rattle.wjs_model.specs.Contents.{value_held}
 use Rattle.wjs_model.specs.Waiting.{taken}

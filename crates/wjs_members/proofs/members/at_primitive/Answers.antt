@@ -1,10 +1,10 @@
 use Rattle.wjs_meaning.specs.Expressions.{at_name}
-use Rattle.wjs_lines.proofs.Following.{env_later}
-use Rattle.wjs_content.specs.Tables.{value_in}
-use Rattle.wjs_moves.specs.Parts.{env_in}
+use Rattle.wjs_step_common.proofs.Following.{env_later}
+use Rattle.wjs_by_content.specs.Tables.{value_in}
+use Rattle.wjs_frames.specs.Parts.{env_in}
 use Rattle.wjs_model.specs.Contents.{value_held}
 use Rattle.wjs_model.specs.Waiting.{taken}
-use Rattle.wjs_moves.proofs.Handling.{runs_later}
+use Rattle.wjs_frames.proofs.Handling.{runs_later}
 use Rattle.wjs_members.proofs.members.at_primitive.Goals as goal
 
 pub returns : goal.returns

@@ -1,5 +1,5 @@
 use Rattle.std.proofs.Common.{refl}
-use Rattle.wjs_lines.proofs.Following.{follows_as}
+use Rattle.wjs_step_common.proofs.Following.{follows_as}
 use Rattle.wjs_members.proofs.members.at_text.Goals as goal
 
 pub returns : goal.returns

@@ -1,6 +1,6 @@
 use Rattle.std.proofs.Common.{◌∙◌}
 use Rattle.wjs_tree.specs.declared.node.Node.TheVariants as nodes
-use Rattle.wjs_moves.proofs.Places.{node_known}
+use Rattle.wjs_frames.proofs.Places.{node_known}
 use Rattle.wjs_members.proofs.members.dot_base.Goals as goal
 
 pub dot_named-requires-clause-name : goal.dot_named-requires-clause-name

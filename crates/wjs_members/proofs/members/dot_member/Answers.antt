@@ -1,9 +1,9 @@
 use Rattle.wjs_meaning.specs.Deeds.{Member}
-use Rattle.wjs_lines.proofs.Following.{env_later}
-use Rattle.wjs_content.specs.Tables.{value_in}
+use Rattle.wjs_step_common.proofs.Following.{env_later}
+use Rattle.wjs_by_content.specs.Tables.{value_in}
 use Rattle.wjs_model.specs.Waiting.{taken}
-use Rattle.wjs_moves.specs.Parts.{env_in}
-use Rattle.wjs_moves.proofs.Handling.{runs_later}
+use Rattle.wjs_frames.specs.Parts.{env_in}
+use Rattle.wjs_frames.proofs.Handling.{runs_later}
 use Rattle.wjs_members.proofs.members.dot_member.Goals as goal
 
 pub returns : goal.returns

@@ -1,7 +1,7 @@
 use Rattle.std.proofs.Common.{inl, refl}
-use Rattle.wjs_lines.proofs.Following.{follows_as}
+use Rattle.wjs_step_common.proofs.Following.{follows_as}
 use Rattle.wjs_tree.specs.declared.node.Node.TheVariants as nodes
-use Rattle.wjs_moves.proofs.Parting.{stands_here}
+use Rattle.wjs_frames.proofs.Parting.{stands_here}
 use Rattle.wjs_members.proofs.members.dot_start.Goals as goal
 
 pub enter-requires-clause-part : goal.enter-requires-clause-part

@@ -1,7 +1,7 @@
 use Rattle.std.proofs.Common.{◌≡◌, ℕ, suc, ◌-◌, refl, ap, ◌∙◌, arith}
 use Rattle.wjs_meaning.specs.Deeds.{tree_here}
 use Rattle.wjs_meaning.specs.Trees.{is_target_to}
-use Rattle.wjs_moves.specs.Parts.{env_in}
+use Rattle.wjs_frames.specs.Parts.{env_in}
 use Rattle.wjs_members.proofs.TargetNodes.{target_by}
 use Rattle.wjs_members.specs.declared.targets.TargetForm.TheVariants as forms
 use Rattle.wjs_members.proofs.targets.is_target.Goals as goal

@@ -2,7 +2,7 @@ use Rattle.std.proofs.Common.{◌≡◌, ℕ, suc}
 use Rattle.wjs_base.specs.Text.{Table}
 use Rattle.wjs_meaning.specs.Deeds.{tree_here}
 use Rattle.wjs_meaning.specs.Trees.{is_target, is_target_to}
-use Rattle.wjs_moves.specs.Parts.{env_in}
+use Rattle.wjs_frames.specs.Parts.{env_in}
 use Rattle.wjs_members.proofs.targets.is_target.Given as goal
 
 abbrev pub invariant-inner : goal.invariant-inner

@@ -3,20 +3,20 @@ use Rattle.std.specs.Prelude.{OnOk}
 use Rattle.wjs_base.specs.declared.ids.ObjId.{ObjId}
 use Rattle.wjs_base.specs.declared.values.Value.{Value as NumberedValue}
 use Rattle.wjs_base.specs.declared.values.Value.TheVariants as values
-use Rattle.wjs_content.specs.Names.{index_name}
-use Rattle.wjs_content.specs.Tables.{value_in}
-use Rattle.wjs_content.specs.Values.{Value}
+use Rattle.wjs_by_content.specs.Names.{index_name}
+use Rattle.wjs_by_content.specs.Tables.{value_in}
+use Rattle.wjs_by_content.specs.Values.{Value}
 use Rattle.wjs_meaning.specs.Deeds.{Env, Act}
 use Rattle.wjs_meaning.specs.NativesOfObjects as line
 use Rattle.wjs_meaning.specs.Properties.{get_value}
 use Rattle.wjs_model.specs.declared.frame.Activation.{Activation as Frame}
 use Rattle.wjs_model.specs.declared.frame.Held.TheVariants as holds
 use Rattle.wjs_model.specs.Soundness.{HasValue}
-use Rattle.wjs_moves.specs.Following.{Follows}
+use Rattle.wjs_frames.specs.Following.{Follows}
 use Rattle.wjs_model.specs.Contents.{holding_in, callee_held, elements_held}
-use Rattle.wjs_moves.specs.Parts.{env_in}
-use Rattle.wjs_lines.proofs.Following.{follows_as, env_later}
-use Rattle.wjs_moves.proofs.Handling.{runs_later, runs_held}
+use Rattle.wjs_frames.specs.Parts.{env_in}
+use Rattle.wjs_step_common.proofs.Following.{follows_as, env_later}
+use Rattle.wjs_frames.proofs.Handling.{runs_later, runs_held}
 use Rattle.wjs_native_core.proofs.Applying.{apply_begins, apply_onward}
 use Rattle.wjs_native_core.proofs.applies.apply_element.Goals as goal
 

@@ -1,16 +1,16 @@
 use Rattle.std.proofs.Common.{◌≡◌, Bool, true, false, List, [], sym, ap, ◌∙◌, subst, rules}
-use Rattle.wjs_content.specs.Objects.{Arena, object_at}
-use Rattle.wjs_content.specs.Tables.{value_in}
-use Rattle.wjs_content.specs.Values.{Value}
+use Rattle.wjs_by_content.specs.Objects.{Arena, object_at}
+use Rattle.wjs_by_content.specs.Tables.{value_in}
+use Rattle.wjs_by_content.specs.Values.{Value}
 use Rattle.wjs_meaning.specs.Deeds.{Act}
 use Rattle.wjs_meaning.specs.NativesOfObjects as line
 use Rattle.wjs_model.specs.declared.frame.Held.{Held}
 use Rattle.wjs_model.specs.Soundness.{HasItems}
-use Rattle.wjs_moves.specs.Parts.{env_in}
-use Rattle.wjs_moves.proofs.Shorter.{follows_look}
-use Rattle.wjs_lines.proofs.Following.{follows_as, env_later}
+use Rattle.wjs_frames.specs.Parts.{env_in}
+use Rattle.wjs_frames.proofs.Shorter.{follows_look}
+use Rattle.wjs_step_common.proofs.Following.{follows_as, env_later}
 use Rattle.wjs_native_core.proofs.Applying.{apply_starts, if_list}
-use Rattle.wjs_moves.proofs.Handling.{runs_later, runs_held}
+use Rattle.wjs_frames.proofs.Handling.{runs_later, runs_held}
 use Rattle.wjs_native_core.proofs.applies.apply_elements.Goals as goal
 
 pub returns-then-not-is_list_class : goal.returns-then-not-is_list_class

@@ -1,7 +1,7 @@
 use Rattle.std.proofs.Common.{◌<◌, rules}
 use Rattle.wjs_model.specs.Contents.{elements_held}
-use Rattle.wjs_moves.specs.Parts.{env_in}
-use Rattle.wjs_lines.proofs.Following.{follows_as}
+use Rattle.wjs_frames.specs.Parts.{env_in}
+use Rattle.wjs_step_common.proofs.Following.{follows_as}
 use Rattle.wjs_native_core.proofs.Applying.{apply_due}
 use Rattle.wjs_native_core.proofs.applies.apply_rest.Goals as goal
 

@@ -1,14 +1,14 @@
 use Rattle.std.proofs.Common.{ℕ, Option, Some, sym, subst}
 use Rattle.std.specs.Prelude.{OnOk}
-use Rattle.wjs_content.specs.Names.{slot, length_name}
-use Rattle.wjs_content.specs.Values.{Value, whole}
+use Rattle.wjs_by_content.specs.Names.{slot, length_name}
+use Rattle.wjs_by_content.specs.Values.{Value, whole}
 use Rattle.wjs_meaning.specs.Deeds.{Do, Write}
 use Rattle.wjs_meaning.specs.NativesOfObjects as line
-use Rattle.wjs_moves.specs.Following.{Follows}
-use Rattle.wjs_moves.specs.Parts.{env_in}
-use Rattle.wjs_deeds.proofs.Having.{value_both}
-use Rattle.wjs_deeds.proofs.Making.{number_there, number_near}
-use Rattle.wjs_moves.proofs.Handling.{running_later}
+use Rattle.wjs_frames.specs.Following.{Follows}
+use Rattle.wjs_frames.specs.Parts.{env_in}
+use Rattle.wjs_heap_steps.proofs.Having.{value_both}
+use Rattle.wjs_heap_steps.proofs.Making.{number_there, number_near}
+use Rattle.wjs_frames.proofs.Handling.{running_later}
 use Rattle.wjs_native_core.proofs.arrays.array_of_length.Goals as goal
 
 pub write_known-requires-clause-value : goal.write_known-requires-clause-value

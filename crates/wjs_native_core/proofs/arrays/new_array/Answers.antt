@@ -1,5 +1,5 @@
-use Rattle.wjs_moves.specs.Parts.{env_in}
-use Rattle.wjs_lines.proofs.Following.{follows_as}
+use Rattle.wjs_frames.specs.Parts.{env_in}
+use Rattle.wjs_step_common.proofs.Following.{follows_as}
 use Rattle.wjs_native_core.proofs.arrays.new_array.Goals as goal
 
 pub returns-in-Some : goal.returns-in-Some

@@ -1,4 +1,4 @@
-use Rattle.wjs_content.specs.Values.{String}
+use Rattle.wjs_by_content.specs.Values.{String}
 use Rattle.wjs_meaning.specs.Deeds.{Ret, Gives}
 use Rattle.wjs_native_core.proofs.ends.give_short.Goals as goal
 

@@ -1,6 +1,6 @@
 use Rattle.std.proofs.Common.{Some}
 use Rattle.wjs_arena.specs.declared.class.Class.TheVariants as class
-use Rattle.wjs_deeds.proofs.Making.{near_bare}
+use Rattle.wjs_heap_steps.proofs.Making.{near_bare}
 use Rattle.wjs_native_core.proofs.errors.create_fault.Goals as goal
 
 pub create-requires-clause-near : goal.create-requires-clause-near

@@ -1,7 +1,7 @@
 use Rattle.std.proofs.Common.{sym, ap, ◌∙◌}
-use Rattle.wjs_content.specs.Tables.{content_in}
+use Rattle.wjs_by_content.specs.Tables.{content_in}
 use Rattle.wjs_meaning.specs.NativesOfObjects.{fault_text}
-use Rattle.wjs_deeds.proofs.Composing.{if_ok}
+use Rattle.wjs_heap_steps.proofs.Composing.{if_ok}
 use Rattle.wjs_native_core.proofs.Looking.{found_is, no_name}
 use Rattle.wjs_native_core.proofs.errors.fault_units.Goals as goal
 

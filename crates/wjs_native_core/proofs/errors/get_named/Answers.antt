@@ -1,9 +1,9 @@
-use Rattle.wjs_content.specs.Tables.{name_in, content_in}
+use Rattle.wjs_by_content.specs.Tables.{name_in, content_in}
 use Rattle.wjs_meaning.specs.Properties as line
-use Rattle.wjs_deeds.specs.Known.{text_of}
-use Rattle.wjs_deeds.proofs.Composing.{does_with, if_ok}
+use Rattle.wjs_heap_steps.specs.Known.{text_of}
+use Rattle.wjs_heap_steps.proofs.Composing.{does_with, if_ok}
 use Rattle.std.proofs.lemmas.Result.{on_ok_weaker}
-use Rattle.wjs_deeds.proofs.Later.{later_twice}
+use Rattle.wjs_heap_steps.proofs.Later.{later_twice}
 use Rattle.wjs_native_core.proofs.errors.get_named.Goals as goal
 
 pub returns-clause-does : goal.returns-clause-does

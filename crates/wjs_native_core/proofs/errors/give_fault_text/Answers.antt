@@ -3,18 +3,18 @@ use Rattle.std.specs.Prelude.{Option}
 use Rattle.wjs_base.specs.declared.values.Content.{Content}
 use Rattle.wjs_base.specs.declared.values.Content.TheVariants as contents
 use Rattle.wjs_store.specs.Meaning.{Meaning}
-use Rattle.wjs_content.specs.Names.{message_name}
-use Rattle.wjs_content.specs.Tables.{content_in}
-use Rattle.wjs_content.specs.Values.{Value}
+use Rattle.wjs_by_content.specs.Names.{message_name}
+use Rattle.wjs_by_content.specs.Tables.{content_in}
+use Rattle.wjs_by_content.specs.Values.{Value}
 use Rattle.wjs_meaning.specs.Errors.{give_text}
 use Rattle.wjs_meaning.specs.Properties.{get}
 use Rattle.wjs_meaning.specs.NativesOfObjects.{fault_text}
 use Rattle.wjs_model.specs.declared.config.Config.{Config}
 use Rattle.wjs_model.specs.Soundness.{HasContent}
-use Rattle.wjs_moves.specs.Following.{Later}
-use Rattle.wjs_moves.specs.Parts.{env_in}
-use Rattle.wjs_lines.proofs.Following.{follows_as, env_later}
-use Rattle.wjs_moves.proofs.Handling.{running_later}
+use Rattle.wjs_frames.specs.Following.{Later}
+use Rattle.wjs_frames.specs.Parts.{env_in}
+use Rattle.wjs_step_common.proofs.Following.{follows_as, env_later}
+use Rattle.wjs_frames.proofs.Handling.{running_later}
 use Rattle.wjs_native_core.proofs.errors.give_fault_text.Goals as goal
 
 -- what was there is there

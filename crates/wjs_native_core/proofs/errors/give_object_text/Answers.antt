@@ -1,13 +1,13 @@
 use Rattle.std.proofs.Common.{ap, ◌∙◌}
 use Rattle.wjs_arena.specs.declared.class.Class.{Class}
-use Rattle.wjs_content.specs.Objects.{Arena, object_at}
-use Rattle.wjs_content.specs.Values.{Text}
+use Rattle.wjs_by_content.specs.Objects.{Arena, object_at}
+use Rattle.wjs_by_content.specs.Values.{Text}
 use Rattle.wjs_meaning.specs.Deeds.{Act}
 use Rattle.wjs_meaning.specs.Errors.{give_text}
 use Rattle.wjs_meaning.specs.NativesOfObjects as line
-use Rattle.wjs_moves.specs.Parts.{env_in}
-use Rattle.wjs_moves.proofs.Shorter.{follows_look}
-use Rattle.wjs_lines.proofs.Following.{follows_as}
+use Rattle.wjs_frames.specs.Parts.{env_in}
+use Rattle.wjs_frames.proofs.Shorter.{follows_look}
+use Rattle.wjs_step_common.proofs.Following.{follows_as}
 use Rattle.wjs_native_core.proofs.Looking.{other_text}
 use Rattle.wjs_native_core.proofs.errors.give_object_text.Goals as goal
 

@@ -1,13 +1,13 @@
 use Rattle.std.proofs.Common.{◌++◌, ap, subst, append-nil}
 use Rattle.std.specs.Prelude.{OnOk}
-use Rattle.wjs_content.specs.Tables.{text_in, value_in}
-use Rattle.wjs_content.specs.Conversions.{primitive_text}
+use Rattle.wjs_by_content.specs.Tables.{text_in, value_in}
+use Rattle.wjs_by_content.specs.Conversions.{primitive_text}
 use Rattle.wjs_meaning.specs.Deeds.{Env}
 use Rattle.wjs_meaning.specs.Errors.{give_text}
-use Rattle.wjs_moves.specs.Following.{Follows}
-use Rattle.wjs_moves.specs.Parts.{env_in}
-use Rattle.wjs_lines.proofs.Following.{follows_as, env_later}
-use Rattle.wjs_moves.proofs.Handling.{runs_later}
+use Rattle.wjs_frames.specs.Following.{Follows}
+use Rattle.wjs_frames.specs.Parts.{env_in}
+use Rattle.wjs_step_common.proofs.Following.{follows_as, env_later}
+use Rattle.wjs_frames.proofs.Handling.{runs_later}
 use Rattle.wjs_native_core.proofs.errors.give_primitive_text.Goals as goal
 
 pub returns : goal.returns

@@ -5,14 +5,14 @@ use Rattle.wjs_base.specs.declared.ids.TextId.{TextId}
 use Rattle.wjs_base.specs.declared.values.Value.{Value}
 use Rattle.wjs_base.specs.declared.values.Value.TheVariants as values
 use Rattle.wjs_base.specs.Text.{Table}
-use Rattle.wjs_content.specs.Names.{slot, message_name}
-use Rattle.wjs_content.specs.Tables.{value_in}
+use Rattle.wjs_by_content.specs.Names.{slot, message_name}
+use Rattle.wjs_by_content.specs.Tables.{value_in}
 use Rattle.wjs_meaning.specs.Deeds.{Env, Act, Do, Write}
 use Rattle.wjs_meaning.specs.NativesOfObjects.{error_message, give_object}
-use Rattle.wjs_moves.specs.Following.{Follows}
-use Rattle.wjs_moves.specs.Parts.{env_in}
-use Rattle.wjs_moves.specs.Handling.{IsRunning}
-use Rattle.wjs_moves.proofs.Handling.{running_later}
+use Rattle.wjs_frames.specs.Following.{Follows}
+use Rattle.wjs_frames.specs.Parts.{env_in}
+use Rattle.wjs_frames.specs.Handling.{IsRunning}
+use Rattle.wjs_frames.proofs.Handling.{running_later}
 use Rattle.wjs_native_core.proofs.errors.new_error.Goals as goal
 use Rattle.wjs_native_core.proofs.errors.new_error.Goals.{in-Text+in_ok-write_known, in_default}
 

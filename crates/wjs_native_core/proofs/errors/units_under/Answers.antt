@@ -1,8 +1,8 @@
 use Rattle.std.proofs.Common.{Some, sym, ap, ◌∙◌}
-use Rattle.wjs_content.specs.Tables.{text_in, content_in}
-use Rattle.wjs_content.specs.Values.{String}
+use Rattle.wjs_by_content.specs.Tables.{text_in, content_in}
+use Rattle.wjs_by_content.specs.Values.{String}
 use Rattle.wjs_meaning.specs.NativesOfObjects.{fault_text, with_message}
-use Rattle.wjs_deeds.proofs.Composing.{if_ok}
+use Rattle.wjs_heap_steps.proofs.Composing.{if_ok}
 use Rattle.wjs_native_core.proofs.Looking.{found_is, no_second}
 use Rattle.wjs_native_core.proofs.errors.units_under.Goals as goal
 

@@ -2,11 +2,11 @@ use Rattle.std.proofs.Common.{List, All, sym, subst}
 use Rattle.std.proofs.lemmas.List.Elements.{All-head, All-tail}
 use Rattle.std.specs.Prelude.{OnOk, map}
 use Rattle.wjs_base.specs.declared.values.Value.{Value}
-use Rattle.wjs_content.specs.Tables.{value_in}
+use Rattle.wjs_by_content.specs.Tables.{value_in}
 use Rattle.wjs_meaning.specs.NativesOfObjects as line
 use Rattle.wjs_model.specs.Soundness.{HasValue}
-use Rattle.wjs_moves.specs.Following.{Follows}
-use Rattle.wjs_moves.specs.Parts.{env_in}
+use Rattle.wjs_frames.specs.Following.{Follows}
+use Rattle.wjs_frames.specs.Parts.{env_in}
 use Rattle.wjs_native_core.proofs.Listing.{none_of}
 use Rattle.wjs_native_core.proofs.functions.call_on.Goals as goal
 

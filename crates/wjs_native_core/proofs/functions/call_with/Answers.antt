@@ -1,13 +1,13 @@
 use Rattle.std.proofs.Common.{List, ap, ◌∙◌}
 use Rattle.std.specs.Prelude.{map}
-use Rattle.wjs_content.specs.Values.{Value}
-use Rattle.wjs_content.specs.Tables.{value_in}
+use Rattle.wjs_by_content.specs.Values.{Value}
+use Rattle.wjs_by_content.specs.Tables.{value_in}
 use Rattle.wjs_meaning.specs.Expressions.{call_values}
 use Rattle.wjs_model.specs.Contents.{values_held}
-use Rattle.wjs_moves.specs.Parts.{env_in}
-use Rattle.wjs_lines.proofs.Following.{follows_as}
+use Rattle.wjs_frames.specs.Parts.{env_in}
+use Rattle.wjs_step_common.proofs.Following.{follows_as}
 use Rattle.wjs_natives.proofs.Waiting.{earliest-map}
-use Rattle.wjs_moves.proofs.Handling.{runs_held}
+use Rattle.wjs_frames.proofs.Handling.{runs_held}
 use Rattle.wjs_native_core.proofs.functions.call_with.Goals as goal
 
 pub returns : goal.returns

@@ -1,14 +1,14 @@
 use Rattle.std.proofs.Common.{Option, ap, ◌∙◌}
 use Rattle.std.specs.Prelude.{◌++◌, codes}
 use Rattle.wjs_base.specs.declared.ids.ObjId.{ObjId}
-use Rattle.wjs_content.specs.Objects.{Arena, Internals, function_of}
-use Rattle.wjs_content.specs.Tables.{value_in}
+use Rattle.wjs_by_content.specs.Objects.{Arena, Internals, function_of}
+use Rattle.wjs_by_content.specs.Tables.{value_in}
 use Rattle.wjs_meaning.specs.Errors.{give_text}
 use Rattle.wjs_meaning.specs.NativesOfObjects as line
 use Rattle.wjs_meaning.specs.Table.{row_of}
-use Rattle.wjs_moves.specs.Parts.{env_in}
-use Rattle.wjs_moves.proofs.Shorter.{follows_look}
-use Rattle.wjs_deeds.proofs.Seeing.{object_found_as}
+use Rattle.wjs_frames.specs.Parts.{env_in}
+use Rattle.wjs_frames.proofs.Shorter.{follows_look}
+use Rattle.wjs_heap_steps.proofs.Seeing.{object_found_as}
 use Rattle.wjs_native_core.proofs.functions.give_source.Goals as goal
 
 pub returns-in-Some : goal.returns-in-Some

@@ -3,9 +3,9 @@ use Rattle.std.specs.Prelude.{codes}
 use Rattle.wjs_meaning.specs.Errors.{give_text}
 use Rattle.wjs_meaning.specs.NativesOfObjects as line
 use Rattle.wjs_meaning.specs.Table.{row_of}
-use Rattle.wjs_moves.specs.Parts.{env_in}
-use Rattle.wjs_lines.proofs.Following.{follows_as}
-use Rattle.wjs_deeds.proofs.Seeing.{plainly}
+use Rattle.wjs_frames.specs.Parts.{env_in}
+use Rattle.wjs_step_common.proofs.Following.{follows_as}
+use Rattle.wjs_heap_steps.proofs.Seeing.{plainly}
 use Rattle.wjs_native_core.proofs.functions.give_source_of.Goals as goal
 
 pub returns : goal.returns

@@ -1,4 +1,4 @@
-use Rattle.wjs_moves.proofs.Handling.{runs_later}
+use Rattle.wjs_frames.proofs.Handling.{runs_later}
 use Rattle.wjs_native_core.proofs.objects.give_class.Goals as goal
 
 pub give_class_of-requires-clause-runs : goal.give_class_of-requires-clause-runs

@@ -2,12 +2,12 @@ use Rattle.std.proofs.Common.{◌≤◌, ◌++◌, List, ℕ, length, sym, ap, �
 use Rattle.std.specs.Prelude.{codes}
 use Rattle.wjs_base.specs.Text.{longest}
 use Rattle.wjs_arena.specs.declared.class.Class.{Class}
-use Rattle.wjs_content.specs.Objects.{Arena, object_at}
-use Rattle.wjs_content.specs.Values.{String}
+use Rattle.wjs_by_content.specs.Objects.{Arena, object_at}
+use Rattle.wjs_by_content.specs.Values.{String}
 use Rattle.wjs_meaning.specs.Builtins.{shown_class}
 use Rattle.wjs_meaning.specs.Deeds.{give}
-use Rattle.wjs_moves.proofs.Shorter.{follows_look}
-use Rattle.wjs_lines.proofs.Following.{follows_as}
+use Rattle.wjs_frames.proofs.Shorter.{follows_look}
+use Rattle.wjs_step_common.proofs.Following.{follows_as}
 use Rattle.wjs_native_core.proofs.Showing.{class_short}
 use Rattle.wjs_native_core.proofs.objects.give_class_of.Goals as goal
 

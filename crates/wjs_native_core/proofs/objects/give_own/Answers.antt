@@ -1,11 +1,11 @@
 use Rattle.std.proofs.Common.{Bool, false, not, sym, ap, ◌∙◌}
 use Rattle.std.specs.Prelude.{◌&&◌, is_some}
-use Rattle.wjs_content.specs.Objects.{Arena, fixed, is_hidden}
-use Rattle.wjs_content.specs.Tables.{name_in, value_in}
+use Rattle.wjs_by_content.specs.Objects.{Arena, fixed, is_hidden}
+use Rattle.wjs_by_content.specs.Tables.{name_in, value_in}
 use Rattle.wjs_meaning.specs.Deeds.{Act}
 use Rattle.wjs_meaning.specs.Operators.{give_truth}
-use Rattle.wjs_moves.specs.Parts.{env_in}
-use Rattle.wjs_lines.proofs.Following.{follows_as, follows_found}
+use Rattle.wjs_frames.specs.Parts.{env_in}
+use Rattle.wjs_step_common.proofs.Following.{follows_as, follows_found}
 use Rattle.wjs_native_core.proofs.Looking.{owned, is_some_map}
 use Rattle.wjs_native_core.proofs.objects.give_own.Goals as goal
 

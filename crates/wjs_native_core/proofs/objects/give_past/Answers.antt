@@ -1,4 +1,4 @@
-use Rattle.wjs_content.specs.Values.{Boolean}
+use Rattle.wjs_by_content.specs.Values.{Boolean}
 use Rattle.wjs_meaning.specs.Deeds.{give}
 use Rattle.wjs_native_core.proofs.objects.give_past.Goals as goal
 

@@ -1,16 +1,16 @@
 use Rattle.std.proofs.Common.{sym, ap, ◌∙◌, subst}
 use Rattle.std.specs.Prelude.{OnOk}
-use Rattle.wjs_content.specs.Tables.{value_in, name_in}
-use Rattle.wjs_content.specs.Values.{Text}
+use Rattle.wjs_by_content.specs.Tables.{value_in, name_in}
+use Rattle.wjs_by_content.specs.Values.{Text}
 use Rattle.wjs_meaning.specs.Deeds.{Env, Act}
 use Rattle.wjs_meaning.specs.NewObjects.{to_object}
 use Rattle.wjs_meaning.specs.NativesOfObjects.{text_of}
-use Rattle.wjs_moves.specs.Following.{Follows}
-use Rattle.wjs_moves.specs.Parts.{env_in}
-use Rattle.wjs_lines.proofs.Following.{follows_as, env_later}
+use Rattle.wjs_frames.specs.Following.{Follows}
+use Rattle.wjs_frames.specs.Parts.{env_in}
+use Rattle.wjs_step_common.proofs.Following.{follows_as, env_later}
 use Rattle.wjs_native_core.specs.Owning.{own_property}
 use Rattle.wjs_native_core.proofs.Telling.{told_ok, told_err}
-use Rattle.wjs_moves.proofs.Handling.{runs_later, running_later}
+use Rattle.wjs_frames.proofs.Handling.{runs_later, running_later}
 use Rattle.wjs_native_core.proofs.objects.has_own.Goals as goal
 
 pub returns-in-Ok : goal.returns-in-Ok

@@ -1,6 +1,6 @@
 use Rattle.std.proofs.Common.{sym, subst}
-use Rattle.wjs_moves.specs.Following.{Later}
-use Rattle.wjs_deeds.proofs.Later.{later_same}
+use Rattle.wjs_frames.specs.Following.{Later}
+use Rattle.wjs_heap_steps.proofs.Later.{later_same}
 use Rattle.wjs_native_core.proofs.objects.name_given.Goals as goal
 use Rattle.wjs_native_core.proofs.objects.name_given.Goals.{in-Text, in_default+in_ok-id-in_default}
 

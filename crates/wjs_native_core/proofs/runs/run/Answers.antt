@@ -3,10 +3,10 @@ use Rattle.std.proofs.lemmas.List.Elements.{All-head, All-tail}
 use Rattle.wjs_base.specs.declared.values.Value.{Value}
 use Rattle.wjs_model.specs.Soundness.{HasValue}
 use Rattle.std.specs.Prelude.{OnOk, map}
-use Rattle.wjs_content.specs.Tables.{value_in}
+use Rattle.wjs_by_content.specs.Tables.{value_in}
 use Rattle.wjs_meaning.specs.Natives.{native_run}
-use Rattle.wjs_moves.specs.Following.{Follows}
-use Rattle.wjs_moves.specs.Parts.{env_in}
+use Rattle.wjs_frames.specs.Following.{Follows}
+use Rattle.wjs_frames.specs.Parts.{env_in}
 use Rattle.wjs_native_core.proofs.runs.run.Goals as goal
 
 pub run_line-requires-clause-this : goal.run_line-requires-clause-this

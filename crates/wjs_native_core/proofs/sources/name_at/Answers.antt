@@ -1,4 +1,4 @@
-use Rattle.wjs_moves.proofs.Places.{node_known}
+use Rattle.wjs_frames.proofs.Places.{node_known}
 use Rattle.wjs_native_core.proofs.sources.name_at.Goals as goal
 
 pub returns-in-Some-clause-found : goal.returns-in-Some-clause-found

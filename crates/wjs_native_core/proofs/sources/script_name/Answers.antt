@@ -1,6 +1,6 @@
 use Rattle.std.proofs.Common.{refl, ap, ◌∙◌}
 use Rattle.std.specs.Prelude.{Option, unwrap_or, codes}
-use Rattle.wjs_content.specs.Values.{Text}
+use Rattle.wjs_by_content.specs.Values.{Text}
 use Rattle.wjs_meaning.specs.Trees.{name_of}
 use Rattle.wjs_calls.proofs.FunctionNodes.{node_is}
 use Rattle.wjs_native_core.proofs.sources.script_name.Goals as goal

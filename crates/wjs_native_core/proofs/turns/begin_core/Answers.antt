@@ -2,7 +2,7 @@ use Rattle.std.proofs.Common.{subst}
 use Rattle.wjs_base.specs.Text.{Table}
 use Rattle.wjs_meaning.specs.Natives.{native_of}
 use Rattle.wjs_model.specs.Contents.{holding_in}
-use Rattle.wjs_moves.specs.Parts.{env_in}
+use Rattle.wjs_frames.specs.Parts.{env_in}
 use Rattle.wjs_natives.specs.declared.conversions.Progress.{Progress}
 use Rattle.wjs_natives.specs.Converting.{Progresses}
 use Rattle.wjs_natives.proofs.Running.{runs_on, runs_ready}

@@ -4,11 +4,11 @@ use Rattle.wjs_base.specs.declared.ids.WorldId.{WorldId}
 use Rattle.wjs_meaning.specs.Deeds as deed
 use Rattle.wjs_meaning.specs.Deeds.{Env, Act, Do}
 use Rattle.wjs_meaning.specs.NativesOfObjects as line
-use Rattle.wjs_moves.specs.Following.{Follows}
-use Rattle.wjs_moves.specs.Parts.{env_in}
-use Rattle.wjs_lines.proofs.Following.{env_later}
+use Rattle.wjs_frames.specs.Following.{Follows}
+use Rattle.wjs_frames.specs.Parts.{env_in}
+use Rattle.wjs_step_common.proofs.Following.{env_later}
 use Rattle.wjs_native_core.proofs.Telling.{told_ok}
-use Rattle.wjs_moves.proofs.Handling.{runs_later}
+use Rattle.wjs_frames.proofs.Handling.{runs_later}
 use Rattle.wjs_native_core.proofs.worlds.commit_to_parent.Goals as goal
 
 pub returns-in-Ok : goal.returns-in-Ok

@@ -1,4 +1,4 @@
-use Rattle.wjs_moves.proofs.Handling.{running_later}
+use Rattle.wjs_frames.proofs.Handling.{running_later}
 use Rattle.wjs_native_core.proofs.worlds.sprout_of.Goals as goal
 
 pub give-requires-clause-running : goal.give-requires-clause-running

@@ -2,16 +2,16 @@ use Rattle.std.proofs.Common.{[], ◌∷◌, sym, ap, ◌∙◌, subst}
 use Rattle.std.specs.Prelude.{map}
 use Rattle.wjs_base.specs.declared.values.Value.{Value as NumberedValue}
 use Rattle.wjs_num.specs.Bits.{uint32}
-use Rattle.wjs_content.specs.Tables.{value_in}
+use Rattle.wjs_by_content.specs.Tables.{value_in}
 use Rattle.wjs_meaning.specs.NativesOfObjects.{text_at, whole_at, text_of}
 use Rattle.wjs_meaning.specs.NativesOfTexts as line
 use Rattle.wjs_model.specs.declared.frame.Held.TheVariants as holds
 use Rattle.wjs_model.specs.Soundness.{HasValue}
-use Rattle.wjs_moves.specs.Parts.{env_in}
-use Rattle.wjs_lines.proofs.Following.{follows_as}
+use Rattle.wjs_frames.specs.Parts.{env_in}
+use Rattle.wjs_step_common.proofs.Following.{follows_as}
 use Rattle.wjs_native_text.proofs.Gluing.{held_first, glue_first, argument_there}
-use Rattle.wjs_moves.specs.Handling.{Runs}
-use Rattle.wjs_moves.proofs.Handling.{runs_held}
+use Rattle.wjs_frames.specs.Handling.{Runs}
+use Rattle.wjs_frames.proofs.Handling.{runs_held}
 use Rattle.wjs_native_text.proofs.glue.glue.Goals as goal
 
 pub returns-then-count-eq0 : goal.returns-then-count-eq0

@@ -3,9 +3,9 @@ use Rattle.std.specs.Prelude.{All}
 use Rattle.std.proofs.lemmas.List.Elements.{All-drop}
 use Rattle.wjs_base.specs.declared.ids.ObjId.{ObjId}
 use Rattle.wjs_base.specs.declared.values.Value.{Value as NumberedValue}
-use Rattle.wjs_content.specs.Names.{slot, index_name}
-use Rattle.wjs_content.specs.Tables.{value_in}
-use Rattle.wjs_content.specs.Values.{value_or_undefined}
+use Rattle.wjs_by_content.specs.Names.{slot, index_name}
+use Rattle.wjs_by_content.specs.Tables.{value_in}
+use Rattle.wjs_by_content.specs.Values.{value_or_undefined}
 use Rattle.wjs_meaning.specs.Deeds.{Env, Do, Read}
 use Rattle.wjs_meaning.specs.Errors.{give_text}
 use Rattle.wjs_meaning.specs.NativesOfObjects.{text_of}
@@ -15,12 +15,12 @@ use Rattle.wjs_model.specs.declared.frame.Held.TheVariants as holds
 use Rattle.wjs_model.specs.Contents.{holding_in, values_held}
 use Rattle.wjs_model.specs.Frames.{earliest_first}
 use Rattle.wjs_model.specs.Soundness.{HasValue}
-use Rattle.wjs_moves.proofs.Held.{values_there}
-use Rattle.wjs_moves.specs.Parts.{env_in}
-use Rattle.wjs_lines.proofs.Following.{follows_as, env_later}
+use Rattle.wjs_frames.proofs.Held.{values_there}
+use Rattle.wjs_frames.specs.Parts.{env_in}
+use Rattle.wjs_step_common.proofs.Following.{follows_as, env_later}
 use Rattle.wjs_native_text.proofs.Gluing.{held_over, glue_rest, glue_onward, behind_first, all_pieces}
-use Rattle.wjs_moves.specs.Handling.{Runs}
-use Rattle.wjs_moves.proofs.Handling.{runs_later, runs_held}
+use Rattle.wjs_frames.specs.Handling.{Runs}
+use Rattle.wjs_frames.proofs.Handling.{runs_later, runs_held}
 use Rattle.wjs_native_text.proofs.glue.glue_element.Goals as goal
 
 pub due_later-requires-clause-runs : goal.due_later-requires-clause-runs

@@ -3,7 +3,7 @@ use Rattle.wjs_base.specs.Text.{Table}
 use Rattle.wjs_meaning.specs.Deeds.{then_value}
 use Rattle.wjs_model.specs.Contents.{holding_in, completion_in}
 use Rattle.wjs_model.specs.Waiting.{after_argument}
-use Rattle.wjs_moves.specs.Parts.{env_in}
+use Rattle.wjs_frames.specs.Parts.{env_in}
 use Rattle.wjs_natives.specs.declared.conversions.Progress.{Progress}
 use Rattle.wjs_natives.specs.Converting.{Progresses}
 use Rattle.wjs_natives.proofs.Running.{runs_on, runs_ready}

@@ -1,14 +1,14 @@
 use Rattle.std.proofs.Common.{◌≡◌, get_or, ap, ◌∙◌}
 use Rattle.std.proofs.lemmas.List.{get_or_read}
 use Rattle.wjs_base.specs.declared.values.Value.TheVariants as values
-use Rattle.wjs_content.specs.Tables.{value_in}
+use Rattle.wjs_by_content.specs.Tables.{value_in}
 use Rattle.wjs_meaning.specs.Deeds.{Act, Completion, Sub}
 use Rattle.wjs_model.specs.declared.frame.Activation.{Activation as Frame}
 use Rattle.wjs_model.specs.declared.point.Point.TheVariants as points
 use Rattle.wjs_model.specs.Rest.{begin_conversion}
-use Rattle.wjs_moves.specs.Parts.{env_in, then_at}
-use Rattle.wjs_moves.proofs.Handling.{runs_held}
-use Rattle.wjs_lines.proofs.Following.{follows_as}
+use Rattle.wjs_frames.specs.Parts.{env_in, then_at}
+use Rattle.wjs_frames.proofs.Handling.{runs_held}
+use Rattle.wjs_step_common.proofs.Following.{follows_as}
 use Rattle.wjs_natives.proofs.Waiting.{waits_as}
 use Rattle.wjs_natives.proofs.conversions.wait_for.Goals as goal
 

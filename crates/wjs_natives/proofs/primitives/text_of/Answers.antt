@@ -1,14 +1,14 @@
 use Rattle.std.proofs.Common.{refl, sym, ap, ◌∙◌}
 use Rattle.wjs_base.proofs.TextLaws.{Denotes-Has, Grows-trans}
-use Rattle.wjs_content.specs.Tables.{value_in}
-use Rattle.wjs_content.specs.Values.{String}
-use Rattle.wjs_content.specs.Conversions.{primitive_text}
+use Rattle.wjs_by_content.specs.Tables.{value_in}
+use Rattle.wjs_by_content.specs.Values.{String}
+use Rattle.wjs_by_content.specs.Conversions.{primitive_text}
 use Rattle.wjs_heap.specs.Means.{nothing}
-use Rattle.wjs_deeds.proofs.Running.{does_ran}
-use Rattle.wjs_deeds.proofs.Steps.{ran_nothing}
-use Rattle.wjs_deeds.proofs.Later.{later_texts}
-use Rattle.wjs_deeds.proofs.Spelling.{denotes_in}
-use Rattle.wjs_lines.proofs.Knowing.{knows, value_stays}
+use Rattle.wjs_heap_steps.proofs.Running.{does_ran}
+use Rattle.wjs_heap_steps.proofs.Steps.{ran_nothing}
+use Rattle.wjs_heap_steps.proofs.Later.{later_texts}
+use Rattle.wjs_heap_steps.proofs.Spelling.{denotes_in}
+use Rattle.wjs_step_common.proofs.Knowing.{knows, value_stays}
 use Rattle.wjs_natives.proofs.primitives.text_of.Goals as goal
 
 pub to_text-requires : goal.to_text-requires

@@ -4,7 +4,7 @@ use Rattle.wjs_meaning.specs.Deeds.{then_value}
 use Rattle.wjs_model.specs.declared.frame.Completion.{Completion}
 use Rattle.wjs_model.specs.Contents.{completion_in, holding_in}
 use Rattle.wjs_model.specs.Waiting.{after_argument}
-use Rattle.wjs_moves.specs.Parts.{env_in}
+use Rattle.wjs_frames.specs.Parts.{env_in}
 use Rattle.wjs_natives.specs.Converting.{Progresses}
 use Rattle.wjs_natives.proofs.turns.resume.Goals as goal
 

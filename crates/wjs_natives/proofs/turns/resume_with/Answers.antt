@@ -3,14 +3,14 @@ use Rattle.std.specs.Prelude.{All, IfOk, map}
 use Rattle.std.proofs.lemmas.Bool.{cases_lt}
 use Rattle.wjs_base.specs.declared.values.Value.{Value}
 use Rattle.wjs_base.specs.Text.{Table}
-use Rattle.wjs_content.specs.Tables.{value_in}
+use Rattle.wjs_by_content.specs.Tables.{value_in}
 use Rattle.wjs_meaning.specs.Deeds.{Act}
 use Rattle.wjs_model.specs.Frames.{earliest_first}
 use Rattle.wjs_model.specs.Contents.{holding_in, values_held}
 use Rattle.wjs_model.specs.Soundness.{HasValue}
 use Rattle.wjs_model.specs.Waiting.{after_argument}
-use Rattle.wjs_moves.specs.Parts.{env_in}
-use Rattle.wjs_moves.proofs.Held.{values_there}
+use Rattle.wjs_frames.specs.Parts.{env_in}
+use Rattle.wjs_frames.proofs.Held.{values_there}
 use Rattle.wjs_natives.specs.Converting.{converting, placed, Progresses}
 use Rattle.wjs_natives.proofs.Pairs.{map-placed, placed_length, placed_longer}
 use Rattle.wjs_natives.proofs.Coming.{all_placed}

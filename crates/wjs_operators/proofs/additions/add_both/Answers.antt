@@ -1,8 +1,8 @@
 use Rattle.std.proofs.Common.{ap}
-use Rattle.wjs_lines.proofs.Following.{follows_as}
-use Rattle.wjs_content.specs.Tables.{value_in}
+use Rattle.wjs_step_common.proofs.Following.{follows_as}
+use Rattle.wjs_by_content.specs.Tables.{value_in}
 use Rattle.wjs_meaning.specs.Operators.{add_second}
-use Rattle.wjs_moves.specs.Parts.{env_in}
+use Rattle.wjs_frames.specs.Parts.{env_in}
 use Rattle.wjs_operators.proofs.additions.add_both.Goals as goal
 
 pub returns : goal.returns

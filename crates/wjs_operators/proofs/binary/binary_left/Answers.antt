@@ -1,4 +1,4 @@
-use Rattle.wjs_lines.proofs.Following.{follows_as}
+use Rattle.wjs_step_common.proofs.Following.{follows_as}
 use Rattle.wjs_operators.proofs.Operators.{left_is_held}
 use Rattle.wjs_operators.proofs.binary.binary_left.Goals as goal
 

@@ -1,6 +1,6 @@
-use Rattle.wjs_moves.proofs.Shorter.{follows_shorter}
-use Rattle.wjs_content.specs.Tables.{value_in}
-use Rattle.wjs_moves.specs.Parts.{env_in}
+use Rattle.wjs_frames.proofs.Shorter.{follows_shorter}
+use Rattle.wjs_by_content.specs.Tables.{value_in}
+use Rattle.wjs_frames.specs.Parts.{env_in}
 use Rattle.wjs_operators.proofs.Operators.{compare_shortens}
 use Rattle.wjs_operators.proofs.comparisons.compare.Goals as goal
 

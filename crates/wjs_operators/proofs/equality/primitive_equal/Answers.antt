@@ -1,7 +1,7 @@
 use Rattle.std.proofs.Common.{sym, ◌∙◌}
-use Rattle.wjs_lines.proofs.Following.{follows_as}
-use Rattle.wjs_content.specs.Tables.{value_in}
-use Rattle.wjs_moves.specs.Parts.{env_in}
+use Rattle.wjs_step_common.proofs.Following.{follows_as}
+use Rattle.wjs_by_content.specs.Tables.{value_in}
+use Rattle.wjs_frames.specs.Parts.{env_in}
 use Rattle.wjs_operators.specs.Operating.{tells}
 use Rattle.wjs_operators.proofs.Operators.{equal_right, equal_neither}
 use Rattle.wjs_operators.proofs.equality.primitive_equal.Goals as goal

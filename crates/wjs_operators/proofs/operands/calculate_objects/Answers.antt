@@ -1,8 +1,8 @@
 use Rattle.std.proofs.Common.{refl, ◌∷◌}
-use Rattle.wjs_lines.proofs.Following.{follows_as}
+use Rattle.wjs_step_common.proofs.Following.{follows_as}
 use Rattle.wjs_operators.proofs.Operators.{first_arithmetic}
 use Rattle.wjs_model.specs.declared.frame.Held.TheVariants as holds
-use Rattle.wjs_moves.proofs.Handling.{runs_held}
+use Rattle.wjs_frames.proofs.Handling.{runs_held}
 use Rattle.wjs_operators.proofs.operands.calculate_objects.Goals as goal
 
 pub returns : goal.returns

@@ -1,8 +1,8 @@
-use Rattle.wjs_lines.proofs.Following.{follows_as}
-use Rattle.wjs_content.specs.Tables.{value_in}
+use Rattle.wjs_step_common.proofs.Following.{follows_as}
+use Rattle.wjs_by_content.specs.Tables.{value_in}
 use Rattle.wjs_meaning.specs.Deeds.{Gives}
 use Rattle.wjs_model.specs.Contents.{value_held}
-use Rattle.wjs_moves.specs.Parts.{env_in}
+use Rattle.wjs_frames.specs.Parts.{env_in}
 use Rattle.wjs_operators.proofs.Operators.{first_calculates}
 use Rattle.wjs_operators.proofs.operations.operand_first.Goals as goal
 

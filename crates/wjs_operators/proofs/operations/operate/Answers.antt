@@ -1,4 +1,4 @@
-use Rattle.wjs_lines.proofs.Following.{follows_as}
+use Rattle.wjs_step_common.proofs.Following.{follows_as}
 use Rattle.wjs_operators.proofs.Operators.{calculates_is}
 use Rattle.wjs_operators.proofs.operations.operate.Goals as goal
 

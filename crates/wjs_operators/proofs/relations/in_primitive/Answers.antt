@@ -1,12 +1,12 @@
 use Rattle.std.proofs.Common.{subst}
 use Rattle.std.specs.Prelude.{OnOk}
-use Rattle.wjs_content.specs.Tables.{name_in}
+use Rattle.wjs_by_content.specs.Tables.{name_in}
 use Rattle.wjs_meaning.specs.Deeds.{Env}
 use Rattle.wjs_meaning.specs.Operators.{in_name}
-use Rattle.wjs_moves.specs.Following.{Follows}
-use Rattle.wjs_moves.specs.Parts.{env_in}
-use Rattle.wjs_lines.proofs.Following.{env_later}
-use Rattle.wjs_moves.proofs.Handling.{runs_later}
+use Rattle.wjs_frames.specs.Following.{Follows}
+use Rattle.wjs_frames.specs.Parts.{env_in}
+use Rattle.wjs_step_common.proofs.Following.{env_later}
+use Rattle.wjs_frames.proofs.Handling.{runs_later}
 use Rattle.wjs_operators.proofs.relations.in_primitive.Goals as goal
 
 pub returns : goal.returns

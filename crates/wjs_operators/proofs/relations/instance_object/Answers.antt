@@ -1,7 +1,7 @@
-use Rattle.wjs_lines.proofs.Following.{env_later}
-use Rattle.wjs_moves.specs.Parts.{env_in}
+use Rattle.wjs_step_common.proofs.Following.{env_later}
+use Rattle.wjs_frames.specs.Parts.{env_in}
 use Rattle.wjs_meaning.specs.Operators.{instance_prototype}
-use Rattle.wjs_moves.proofs.Handling.{runs_later}
+use Rattle.wjs_frames.proofs.Handling.{runs_later}
 use Rattle.wjs_operators.proofs.relations.instance_object.Goals as goal
 
 pub returns : goal.returns

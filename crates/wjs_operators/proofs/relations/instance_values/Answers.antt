@@ -1,5 +1,5 @@
-use Rattle.wjs_content.specs.Tables.{value_in}
-use Rattle.wjs_moves.specs.Parts.{env_in}
+use Rattle.wjs_by_content.specs.Tables.{value_in}
+use Rattle.wjs_frames.specs.Parts.{env_in}
 use Rattle.wjs_meaning.specs.Operators.{instance_function}
 use Rattle.wjs_operators.proofs.relations.instance_values.Goals as goal
 

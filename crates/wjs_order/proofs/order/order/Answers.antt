@@ -14,13 +14,13 @@ node-requires-in-Some c = there c.args.nodes.now c.args.body c.walk.order.items 
 pub walk-smaller : goal.walk-smaller
 walk-smaller c =
     let room = fewer c.args.nodes.now c.args.body c.walk.order.items c.in-Some.id c.pop.new.self c.walk.stack c.in-Some.ensures c.walk.invariant in
-    let long = ap length c.in-Ok.ensures.items in
+    let long = ap length c.in_ok-push.ensures.items in
     let less : c.args.body.0 - length c.push.new.self.items < c.args.body.0 - length c.walk.order.items = omega (arith, length-append c.walk.order.items (c.in-Some.id.0 ∷ [])) in
     less
 
 pub walk-preserved : goal.walk-preserved
 walk-preserved c =
-    subst (λ (z : List ℕ). Taking c.args.nodes.now c.args.body z c.push_parts-in-Some.new.stack) (sym c.in-Ok.ensures.items)
+    subst (λ (z : List ℕ). Taking c.args.nodes.now c.args.body z c.push_parts-in-Some.new.stack) (sym c.in_ok-push.ensures.items)
     (goes_on c.args.nodes.now c.args.body c.walk.order.items c.in-Some.id c.pop.new.self c.walk.stack c.in-Some.ensures c.walk.invariant c.node-in-Some.result.now c.push_parts-in-Some.new.stack c.node-in-Some.ensures.there c.node-in-Some.ensures.below c.in_ok-push_parts-2.ensures)
 
 pub returns-clause-same : goal.returns-clause-same

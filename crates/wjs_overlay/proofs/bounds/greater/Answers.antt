@@ -1,6 +1,5 @@
-use Rattle.std.proofs.Common.{◌≡◌, ◌-◌, ◌<◌, ◌≤◌, length, sym, ap, ◌∙◌, arith}
-use Rattle.wjs_overlay.specs.declared.bounds.Bound.{Bound}
-use Rattle.wjs_overlay.proofs.Covering.{below_last, slice_below, slice_none}
+use Rattle.std.proofs.Common.{◌-◌, ◌≤◌, sym, ◌∙◌, arith}
+use Rattle.wjs_overlay.proofs.Covering.{below_last, slice_none}
 use Rattle.wjs_overlay.proofs.bounds.greater.Goals as goal
 
 pub returns-in-None-clause-all : goal.returns-in-None-clause-all

@@ -2,7 +2,7 @@ use Rattle.std.proofs.Common.{◌≡◌, ℕ, ◌-◌, ◌<◌, false, nat_le, l
 use Rattle.wjs_overlay.specs.declared.bounds.Bound.{Bound}
 use Rattle.wjs_overlay.specs.Covers.{covers}
 use Rattle.wjs_overlay.proofs.Covering.{covers_last, covers_nothing}
-use Rattle.wjs_overlay.proofs.Places.{slice_some}
+use Rattle.wjs_layers.proofs.Places.{slice_some}
 use Rattle.wjs_slots.proofs.Seeks.{got_at}
 use Rattle.wjs_overlay.proofs.bounds.last_to.Goals as goal
 

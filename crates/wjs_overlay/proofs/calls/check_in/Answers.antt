@@ -1,6 +1,6 @@
 use Rattle.std.proofs.Common.{rules, ◌<◌, length, sym}
-use Rattle.wjs_overlay.proofs.Places.{slice_read}
-use Rattle.wjs_overlay.proofs.Looks.{below_at, above_at}
+use Rattle.wjs_layers.proofs.Places.{slice_read}
+use Rattle.wjs_layers.proofs.Looks.{below_at, above_at}
 use Rattle.wjs_overlay.proofs.CommitLaws.{parent_there, check_alone, check_under}
 use Rattle.wjs_overlay.proofs.calls.check_in.Goals as goal
 

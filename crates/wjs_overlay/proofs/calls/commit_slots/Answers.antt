@@ -1,8 +1,7 @@
 use Rattle.std.proofs.Common.{rules, ◌<◌, length, get_or, sym}
 use Rattle.wjs_store.proofs.Parents.{slice_get_at}
-use Rattle.wjs_overlay.proofs.Looks.{below_at, above_at}
-use Rattle.wjs_overlay.proofs.CommitLaws.{no_above, parent_there, faulty, passes}
-use Rattle.wjs_overlay.proofs.Depths.{checked_within, moved_within}
+use Rattle.wjs_layers.proofs.Looks.{below_at, above_at}
+use Rattle.wjs_overlay.proofs.CommitLaws.{no_above, parent_there, faulty, passes, checked_within, moved_within}
 use Rattle.wjs_overlay.proofs.calls.commit_slots.Goals as goal
 
 pub offset_bounds-layers-world : goal.offset_bounds-layers-world

@@ -2,7 +2,7 @@ use Rattle.std.proofs.Common.{ap, ◌∙◌, map as each}
 use Rattle.std.proofs.lemmas.Result.{IfOk-weaker}
 use Rattle.wjs_base.specs.declared.values.Slot.{Slot}
 use Rattle.wjs_store.specs.Shown.{slots_of}
-use Rattle.wjs_overlay.specs.Sparse.{full_of}
+use Rattle.wjs_layers.specs.Sparse.{full_of}
 use Rattle.wjs_overlay.proofs.CommitLaws.{named_at}
 use Rattle.wjs_overlay.proofs.calls.list.Goals as goal
 

@@ -5,16 +5,16 @@ use Rattle.wjs_base.specs.declared.values.Slot.{Slot}
 use Rattle.wjs_base.specs.Order.{obj_cmp, obj_total, obj_exact}
 use Rattle.wjs_rows.specs.Order.{is_from, is_after}
 use Rattle.wjs_store.specs.State.{same_object}
-use Rattle.wjs_overlay.specs.Least.{first_object}
+use Rattle.wjs_layers.specs.Least.{first_object}
 use Rattle.wjs_overlay.specs.Check.{IsLeast, is_unseen, object_before}
-use Rattle.wjs_overlay.specs.Sparse.{full_of, depth_of}
-use Rattle.wjs_overlay.proofs.Places.{slice_read}
-use Rattle.wjs_overlay.proofs.Looks.{below_at}
-use Rattle.wjs_overlay.proofs.Lists.{key_of_entry}
-use Rattle.wjs_overlay.proofs.Entries.{all_objects}
-use Rattle.wjs_overlay.specs.Work.{kept_from}
-use Rattle.wjs_overlay.proofs.Works.{times_le}
-use Rattle.wjs_overlay.proofs.Lefts.{objects_left, comes_closed, objects_most, slots_most, objects_less, closed_less, closed_work}
+use Rattle.wjs_layers.specs.Sparse.{full_of, depth_of}
+use Rattle.wjs_layers.proofs.Places.{slice_read}
+use Rattle.wjs_layers.proofs.Looks.{below_at}
+use Rattle.wjs_layers.proofs.Lists.{key_of_entry}
+use Rattle.wjs_layers.proofs.Entries.{all_objects}
+use Rattle.wjs_layers.specs.Work.{kept_from}
+use Rattle.wjs_layers.proofs.Works.{times_le, closed_work}
+use Rattle.wjs_overlay.proofs.Lefts.{objects_left, comes_closed, objects_most, slots_most, objects_less, closed_less}
 use Rattle.wjs_overlay.proofs.Keyed.{found_is, key_of, key_there}
 use Rattle.wjs_overlay.proofs.CheckLoops.{closed_first, closed_found, closed_next}
 use Rattle.wjs_overlay.proofs.check.fault_in_closed.Goals as goal

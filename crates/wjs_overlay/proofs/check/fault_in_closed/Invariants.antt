@@ -4,9 +4,9 @@ use Rattle.wjs_base.specs.declared.ids.ObjId.{ObjId}
 use Rattle.wjs_base.specs.declared.values.Slot.{Slot}
 use Rattle.wjs_store.specs.Naming.{plain}
 use Rattle.wjs_store.specs.State.{World, find_world}
-use Rattle.wjs_overlay.specs.Sparse.{full_of, depth_of}
+use Rattle.wjs_layers.specs.Sparse.{full_of, depth_of}
 use Rattle.wjs_overlay.specs.Check.{is_unseen, object_before}
-use Rattle.wjs_overlay.specs.Work.{kept_from}
+use Rattle.wjs_layers.specs.Work.{kept_from}
 use Rattle.wjs_overlay.proofs.Lefts.{objects_left, comes_closed}
 use Rattle.wjs_overlay.proofs.check.fault_in_closed.Given as goal
 

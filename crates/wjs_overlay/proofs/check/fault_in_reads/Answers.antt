@@ -4,16 +4,15 @@ use Rattle.std.specs.Map.{lookup_entry}
 use Rattle.wjs_base.specs.declared.values.Slot.{Slot}
 use Rattle.wjs_base.specs.Order.{slot_cmp, slot_total, slot_exact}
 use Rattle.wjs_rows.specs.Order.{is_from, is_after}
-use Rattle.wjs_overlay.specs.declared.maps.Row.{Row}
+use Rattle.wjs_layers.specs.declared.maps.Row.{Row}
 use Rattle.wjs_slots.specs.Least.{first_slot}
-use Rattle.wjs_overlay.specs.Cursor.{is_before, count_passing}
-use Rattle.wjs_overlay.specs.Sparse.{full_of, depth_of}
-use Rattle.wjs_overlay.proofs.Places.{slice_read}
-use Rattle.wjs_overlay.proofs.Looks.{above_some, below_at}
-use Rattle.wjs_overlay.proofs.Entries.{all_slots}
+use Rattle.wjs_layers.specs.Cursor.{is_before, count_passing}
+use Rattle.wjs_layers.specs.Sparse.{full_of, depth_of}
+use Rattle.wjs_layers.proofs.Places.{slice_read}
+use Rattle.wjs_layers.proofs.Looks.{above_some, below_at}
+use Rattle.wjs_layers.proofs.Entries.{all_slots}
 use Rattle.wjs_overlay.proofs.Checks.{slot_of}
-use Rattle.wjs_overlay.proofs.Works.{times_le, count_most}
-use Rattle.wjs_overlay.proofs.Lefts.{rows_work}
+use Rattle.wjs_layers.proofs.Works.{times_le, count_most, rows_work}
 use Rattle.wjs_overlay.proofs.Keyed.{found_is, fewer}
 use Rattle.wjs_overlay.proofs.CheckLoops.{reads_first, reads_found, reads_next}
 use Rattle.wjs_overlay.proofs.check.fault_in_reads.Goals as goal

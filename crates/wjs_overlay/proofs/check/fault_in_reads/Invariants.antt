@@ -3,10 +3,10 @@ use Rattle.std.specs.FinMap as map
 use Rattle.wjs_base.specs.declared.values.Slot.{Slot}
 use Rattle.wjs_store.specs.Naming.{plain}
 use Rattle.wjs_store.specs.State.{World, find_world}
-use Rattle.wjs_overlay.specs.declared.maps.Row.{Row}
-use Rattle.wjs_overlay.specs.Sparse.{full_of, depth_of}
+use Rattle.wjs_layers.specs.declared.maps.Row.{Row}
+use Rattle.wjs_layers.specs.Sparse.{full_of, depth_of}
 use Rattle.wjs_overlay.specs.Check.{differs}
-use Rattle.wjs_overlay.specs.Cursor.{is_before, count_passing}
+use Rattle.wjs_layers.specs.Cursor.{is_before, count_passing}
 use Rattle.wjs_overlay.proofs.Checks.{slot_of}
 use Rattle.wjs_overlay.proofs.check.fault_in_reads.Given as goal
 

@@ -1,10 +1,10 @@
 use Rattle.std.proofs.Common.{rules, ◌+◌, ◌*◌, ◌<◌, length, refl, sym, ◌∙◌, subst, arith}
-use Rattle.wjs_overlay.specs.Cursor.{IsNextSlot}
-use Rattle.wjs_overlay.specs.Sparse.{full_of, depth_of}
-use Rattle.wjs_overlay.proofs.Places.{slice_read}
-use Rattle.wjs_overlay.proofs.Looks.{below_at}
-use Rattle.wjs_overlay.proofs.Scans.{left_lt}
-use Rattle.wjs_overlay.proofs.Works.{times_le}
+use Rattle.wjs_layers.specs.Cursor.{IsNextSlot}
+use Rattle.wjs_layers.specs.Sparse.{full_of, depth_of}
+use Rattle.wjs_layers.proofs.Places.{slice_read}
+use Rattle.wjs_layers.proofs.Looks.{below_at}
+use Rattle.wjs_layers.proofs.Scans.{left_lt}
+use Rattle.wjs_layers.proofs.Works.{times_le}
 use Rattle.wjs_overlay.proofs.CheckLoops.{object_found, object_next, object_all}
 use Rattle.wjs_overlay.proofs.check.fault_on_object.Goals as goal
 

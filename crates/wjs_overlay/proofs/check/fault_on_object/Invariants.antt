@@ -2,10 +2,10 @@ use Rattle.std.proofs.Common.{◌≡◌, ◌+◌, ◌*◌, ◌≤◌, false, IfS
 use Rattle.wjs_base.specs.declared.values.Slot.{Slot}
 use Rattle.wjs_store.specs.Naming.{plain}
 use Rattle.wjs_store.specs.State.{World, find_world}
-use Rattle.wjs_overlay.specs.Sparse.{full_of, depth_of}
+use Rattle.wjs_layers.specs.Sparse.{full_of, depth_of}
 use Rattle.wjs_overlay.specs.Check.{is_unseen}
-use Rattle.wjs_overlay.specs.Cursor.{to_come, comes_on}
-use Rattle.wjs_overlay.specs.Work.{kept_from}
+use Rattle.wjs_layers.specs.Cursor.{to_come, comes_on}
+use Rattle.wjs_layers.specs.Work.{kept_from}
 use Rattle.wjs_overlay.proofs.check.fault_on_object.Given as goal
 
 abbrev pub invariant-slots : goal.invariant-slots

@@ -5,8 +5,8 @@ use Rattle.std.proofs.lemmas.List.{take_all}
 use Rattle.wjs_base.specs.Order.{slot_cmp, slot_total}
 use Rattle.wjs_rows.specs.Order.{is_from}
 use Rattle.wjs_slots.specs.Least.{first_slot}
-use Rattle.wjs_overlay.specs.Marks.{reads_in, writes_in}
-use Rattle.wjs_overlay.proofs.Entries.{after_is, from_is, all_slots, slice_below, slice_past, take_next}
+use Rattle.wjs_layers.specs.Marks.{reads_in, writes_in}
+use Rattle.wjs_layers.proofs.Entries.{after_is, from_is, all_slots, slice_below, slice_past, take_next}
 use Rattle.wjs_overlay.proofs.MarkLaws.{reads_push, writes_push, one_most}
 use Rattle.wjs_overlay.proofs.marks.count_rows.Goals as goal
 

@@ -1,6 +1,6 @@
 use Rattle.std.proofs.Common.{◌≡◌, ◌-◌, ◌≤◌, take, length, slice_get}
 use Rattle.std.specs.FinMap as map
-use Rattle.wjs_overlay.specs.Marks.{reads_in, writes_in}
+use Rattle.wjs_layers.specs.Marks.{reads_in, writes_in}
 use Rattle.wjs_overlay.proofs.marks.count_rows.Given as goal
 
 abbrev pub invariant-marks : goal.invariant-marks

@@ -1,6 +1,6 @@
 use Rattle.std.proofs.Common.{sym, ◌∙◌, arith, Some, None}
 use Rattle.wjs_base.specs.Order.{slot_total, slot_exact}
-use Rattle.wjs_overlay.specs.Cursor.{to_come}
+use Rattle.wjs_layers.specs.Cursor.{to_come}
 use Rattle.wjs_overlay.proofs.Keyed.{found_is}
 use Rattle.wjs_overlay.proofs.Written.{passed_none, written_found, written_next, written_end, fewer_rows}
 use Rattle.wjs_overlay.proofs.marks.next_marked.Goals as goal

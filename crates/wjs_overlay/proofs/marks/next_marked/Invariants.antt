@@ -1,5 +1,5 @@
 use Rattle.std.specs.FinMap as map
-use Rattle.wjs_overlay.specs.Cursor.{to_come, count_passing}
+use Rattle.wjs_layers.specs.Cursor.{to_come, count_passing}
 use Rattle.wjs_overlay.proofs.Written.{Passed}
 use Rattle.wjs_overlay.proofs.marks.next_marked.Given as goal
 

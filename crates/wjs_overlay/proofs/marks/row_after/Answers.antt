@@ -3,9 +3,9 @@ use Rattle.std.specs.FinMap as map
 use Rattle.std.specs.Map.{lookup_entry}
 use Rattle.wjs_base.specs.Order.{slot_cmp}
 use Rattle.wjs_rows.specs.Order.{is_from}
-use Rattle.wjs_overlay.specs.Cursor.{to_come}
+use Rattle.wjs_layers.specs.Cursor.{to_come}
 use Rattle.wjs_slots.specs.Least.{first_slot}
-use Rattle.wjs_overlay.proofs.Entries.{from_is, all_slots}
+use Rattle.wjs_layers.proofs.Entries.{from_is, all_slots}
 use Rattle.wjs_overlay.proofs.marks.row_after.Goals as goal
 
 pub returns-in-None : goal.returns-in-None

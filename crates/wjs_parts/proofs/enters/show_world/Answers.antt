@@ -1,6 +1,6 @@
 use Rattle.std.proofs.Common.{Some}
 use Rattle.wjs_arena.specs.declared.class.Class.TheVariants as class
-use Rattle.wjs_deeds.proofs.Making.{world_named}
+use Rattle.wjs_heap_steps.proofs.Making.{world_named}
 use Rattle.wjs_parts.proofs.Entry.{shows_world}
 use Rattle.wjs_parts.proofs.enters.show_world.Goals as goal
 

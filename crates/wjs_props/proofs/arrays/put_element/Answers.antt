@@ -1,7 +1,7 @@
 use Rattle.std.proofs.Common.{◌∙◌, ◌+◌}
+use Rattle.wjs_base.proofs.TextLaws.{Grows-trans}
 use Rattle.wjs_heap.specs.Means.{parts}
 use Rattle.wjs_props.proofs.Putting.{put_below, put_past, slot_after, number_there}
-use Rattle.wjs_heap.proofs.Turns.{grows_twice}
 use Rattle.wjs_props.proofs.arrays.put_element.Goals as goal
 
 pub returns-then-index-length : goal.returns-then-index-length
@@ -12,7 +12,7 @@ returns-then-index-length g c =
 pub write-requires-2-clause-slot : goal.write-requires-2-clause-slot
 write-requires-2-clause-slot g c =
     let p = parts g.S.WorldStore.meaning in
-    slot_after (p c.args.heap.now) (p c.write.new.heap) c.args.slot (grows_twice c.args.heap.now.texts c.read.new.heap.texts c.write.new.heap.texts c.in_ok-held.ensures.reads.texts c.in_ok-write.ensures.texts) (c.in_ok-write.ensures.arena ∙ c.in_ok-held.ensures.reads.arena) c.requires.object c.requires.name
+    slot_after (p c.args.heap.now) (p c.write.new.heap) c.args.slot (Grows-trans c.args.heap.now.texts c.read.new.heap.texts c.write.new.heap.texts c.in_ok-held.ensures.reads.texts c.in_ok-write.ensures.texts) (c.in_ok-write.ensures.arena ∙ c.in_ok-held.ensures.reads.arena) c.requires.object c.requires.name
 
 pub write-requires-2-clause-content : goal.write-requires-2-clause-content
 write-requires-2-clause-content g c = number_there c.write.new.heap.texts c.write.new.heap.arena c.value_of_length-greater.result (c.args.index + 1) c.value_of_length-greater.ensures

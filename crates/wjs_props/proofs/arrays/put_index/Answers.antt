@@ -1,6 +1,6 @@
-use Rattle.wjs_content.specs.Tables.{value_in}
+use Rattle.wjs_by_content.specs.Tables.{value_in}
 use Rattle.wjs_heap.specs.Means.{parts}
-use Rattle.wjs_content.specs.Properties as plan
+use Rattle.wjs_by_content.specs.Properties as plan
 use Rattle.wjs_heap.proofs.Growing.{heap_grows, value_stays, performs_grown}
 use Rattle.wjs_props.proofs.arrays.put_index.Goals as goal
 

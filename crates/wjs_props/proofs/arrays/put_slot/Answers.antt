@@ -1,6 +1,6 @@
 use Rattle.std.proofs.Common.{Some}
-use Rattle.wjs_content.specs.Tables.{slot_in, value_in}
-use Rattle.wjs_content.specs.declared.answers.PutAnswer.TheVariants.{Done}
+use Rattle.wjs_by_content.specs.Tables.{slot_in, value_in}
+use Rattle.wjs_by_content.specs.declared.answers.PutAnswer.TheVariants.{Done}
 use Rattle.wjs_heap.specs.Means.{parts}
 use Rattle.wjs_props.proofs.Putting.{wrote_gives}
 use Rattle.wjs_props.proofs.arrays.put_slot.Goals as goal

@@ -1,13 +1,13 @@
 use Rattle.std.proofs.Common.{◌∙◌, ap, ◌++◌, ◌+◌, map, subst, sym, drop}
-use Rattle.wjs_content.specs.Renamed.{Holds}
+use Rattle.wjs_by_content.specs.Renamed.{Holds}
 use Rattle.wjs_props.specs.declared.order.Spelled.{Spelled}
 use Rattle.wjs_props.specs.Spelled.{IsSpelled}
-use Rattle.wjs_props.proofs.SpelledNames.{pushed, holds_more, names_further}
+use Rattle.wjs_props.proofs.SpelledNames.{holds_more, names_further}
 use Rattle.wjs_props.proofs.order.spell_all.Goals as goal
 
 pub names-preserved : goal.names-preserved
 names-preserved c =
-    let more = pushed c.push.result c.names.all.items c.push.new.self.items c.spell-each.result (sym c.is_err.ensures.value ∙ c.if-is_err.false) c.push.ensures.items in
+    let more = c.in_ok-push.ensures.items in
     record {
       names = ap (λ xs. map (λ (z : Spelled). z.name) xs ++ drop (c.names.place + 1) c.args.names.now) more
           ∙ names_further c.names.all.items c.spell-each.result c.args.names.now c.names.place c.at.result c.at.ensures c.spell-each.ensures.name c.names.invariant.names;

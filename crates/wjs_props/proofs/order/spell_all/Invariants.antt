@@ -1,7 +1,7 @@
 use Rattle.std.proofs.Common.{◌≡◌, ◌-◌, map, ◌++◌, drop, length}
 use Rattle.wjs_props.specs.declared.order.Spelled.{Spelled}
 use Rattle.wjs_props.specs.Spelled.{IsSpelled}
-use Rattle.wjs_content.specs.Renamed.{Holds}
+use Rattle.wjs_by_content.specs.Renamed.{Holds}
 use Rattle.wjs_props.proofs.order.spell_all.Given as goal
 
 abbrev pub invariant-names : goal.invariant-names

@@ -1,9 +1,9 @@
 use Rattle.std.proofs.Common.{ap, true, false}
 use Rattle.std.specs.Prelude.{is_some}
 use Rattle.wjs_store.specs.Shown.{content_of}
-use Rattle.wjs_content.specs.Tables.{name_in, arena_in}
+use Rattle.wjs_by_content.specs.Tables.{name_in, arena_in}
 use Rattle.wjs_heap.specs.Means.{parts}
-use Rattle.wjs_content.specs.Properties as plan
+use Rattle.wjs_by_content.specs.Properties as plan
 use Rattle.wjs_props.proofs.Deleting.{has_performs}
 use Rattle.wjs_props.proofs.reads.has.Goals as goal
 

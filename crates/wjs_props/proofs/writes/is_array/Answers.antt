@@ -1,5 +1,5 @@
 use Rattle.std.proofs.Common.{ap, ◌∙◌}
-use Rattle.wjs_content.specs.Objects.{is_array_class}
+use Rattle.wjs_by_content.specs.Objects.{is_array_class}
 use Rattle.wjs_props.proofs.Putting.{array_in, no_array}
 use Rattle.std.specs.FinMap as map
 use Rattle.wjs_arena.proofs.Fields.{classed, classed_is}

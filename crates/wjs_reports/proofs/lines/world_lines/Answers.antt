@@ -1,7 +1,7 @@
 use Rattle.std.proofs.Common.{ℕ, List, ◌++◌, Vec, Global, sym, ap, ◌∙◌, add-one}
 use Rattle.std.specs.Prelude.{not}
 use Rattle.wjs_store.specs.Meaning.{worlds}
-use Rattle.wjs_content.specs.Telling.{names_of}
+use Rattle.wjs_by_content.specs.Telling.{names_of}
 use Rattle.wjs_reports.specs.Lines.{line_at}
 use Rattle.wjs_reports.proofs.Named.{lines_named}
 use Rattle.wjs_reports.proofs.Places.{place, lines_below, none_below, ends_at, next_below}

@@ -1,8 +1,8 @@
 use Rattle.std.proofs.Common.{◌≡◌, sym, ap, ◌∙◌, None, subst}
 use Rattle.std.specs.Prelude.{IfOk}
 use Rattle.std.specs.Option.{option_map}
-use Rattle.wjs_content.specs.Tables.{text_in, content_in}
-use Rattle.wjs_content.specs.Values.{Text}
+use Rattle.wjs_by_content.specs.Tables.{text_in, content_in}
+use Rattle.wjs_by_content.specs.Values.{Text}
 use Rattle.wjs_reports.specs.Thrown.{text_if}
 use Rattle.wjs_reports.proofs.Carried.{no_name, no_message}
 use Rattle.wjs_reports.proofs.thrown.fault_units.Goals as goal

@@ -1,11 +1,11 @@
 use Rattle.std.proofs.Common.{refl, ap, ◌∙◌}
 use Rattle.wjs_base.proofs.TextLaws.{Denotes-Has, Grows-trans, IsNameOf-IsName}
-use Rattle.wjs_content.specs.Tables.{name_in, content_in, arena_in}
+use Rattle.wjs_by_content.specs.Tables.{name_in, content_in, arena_in}
 use Rattle.wjs_heap.specs.Means.{parts}
-use Rattle.wjs_content.specs.Properties as plan
+use Rattle.wjs_by_content.specs.Properties as plan
 use Rattle.wjs_heap.proofs.Growing.{heap_grows, performs_grown}
 use Rattle.wjs_heap.proofs.Turns.{performs_same}
-use Rattle.wjs_deeds.proofs.Spelling.{denotes_in, named_in}
+use Rattle.wjs_heap_steps.proofs.Spelling.{denotes_in, named_in}
 use Rattle.wjs_reports.proofs.Leaving.{get_leaves}
 use Rattle.wjs_reports.proofs.thrown.property.Goals as goal
 

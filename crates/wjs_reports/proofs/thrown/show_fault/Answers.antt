@@ -2,10 +2,10 @@ use Rattle.std.proofs.Common.{◌≡◌, IsTrue, ◌∙◌, subst}
 use Rattle.std.specs.Prelude.{not, IfOk}
 use Rattle.wjs_base.specs.declared.ids.WorldId.{WorldId}
 use Rattle.wjs_base.specs.Unicode.{utf8_of}
-use Rattle.wjs_content.specs.Names.{message_name}
-use Rattle.wjs_content.specs.Properties as plan
-use Rattle.wjs_content.specs.Tables.{content_in, arena_in}
-use Rattle.wjs_content.specs.Values.{Text}
+use Rattle.wjs_by_content.specs.Names.{message_name}
+use Rattle.wjs_by_content.specs.Properties as plan
+use Rattle.wjs_by_content.specs.Tables.{content_in, arena_in}
+use Rattle.wjs_by_content.specs.Values.{Text}
 use Rattle.wjs_heap.specs.Heap.{Performs}
 use Rattle.wjs_heap.specs.Means.{parts}
 use Rattle.wjs_reports.proofs.Errors.{fault_read}

@@ -3,12 +3,12 @@ use Rattle.std.specs.Prelude.{IfOk}
 use Rattle.wjs_base.specs.Unicode.{utf8_of}
 use Rattle.wjs_arena.specs.declared.class.Class.{Class}
 use Rattle.wjs_arena.specs.declared.class.Class.TheVariants as class
-use Rattle.wjs_content.specs.Objects.{Internals, object_at}
-use Rattle.wjs_content.specs.Tables.{arena_in}
-use Rattle.wjs_content.specs.Values.{Text}
-use Rattle.wjs_content.specs.Worlds.{worlds_in}
+use Rattle.wjs_by_content.specs.Objects.{Internals, object_at}
+use Rattle.wjs_by_content.specs.Tables.{arena_in}
+use Rattle.wjs_by_content.specs.Values.{Text}
+use Rattle.wjs_by_content.specs.Worlds.{worlds_in}
 use Rattle.wjs_store.specs.Meaning.{worlds}
-use Rattle.wjs_deeds.proofs.Looking.{object_is}
+use Rattle.wjs_heap_steps.proofs.Looking.{object_is}
 use Rattle.wjs_reports.specs.Thrown.{shown_by}
 use Rattle.wjs_reports.proofs.Carried.{shown_other}
 use Rattle.wjs_reports.proofs.Leaving.{on_any, leaves_same}

@@ -1,14 +1,13 @@
 use Rattle.std.proofs.Common.{◌≡◌, sym, ap, ◌∙◌}
-use Rattle.std.proofs.lemmas.Result.{on_ok_weaker}
+use Rattle.std.proofs.lemmas.Result.{on_ok_weaker, IfOk-weaker}
 use Rattle.wjs_base.specs.declared.values.Value.{Value}
 use Rattle.wjs_base.specs.Text.{IsTable}
 use Rattle.wjs_base.specs.Unicode.{utf8_of}
-use Rattle.wjs_content.specs.Tables.{value_in, arena_in}
-use Rattle.wjs_content.specs.Worlds.{worlds_in}
+use Rattle.wjs_by_content.specs.Tables.{value_in, arena_in}
+use Rattle.wjs_by_content.specs.Worlds.{worlds_in}
 use Rattle.wjs_store.specs.Meaning.{worlds}
 use Rattle.wjs_props.proofs.Actions.{value_knows}
-use Rattle.wjs_props.proofs.Putting.{if_ok}
-use Rattle.wjs_deeds.proofs.Having.{value_here}
+use Rattle.wjs_heap_steps.proofs.Having.{value_here}
 use Rattle.wjs_reports.specs.Thrown.{ShowsIn, shown_object, shown_value}
 use Rattle.wjs_reports.proofs.Carried.{shows_value}
 use Rattle.wjs_reports.proofs.Leaving.{texts_leave}
@@ -24,7 +23,7 @@ returns-in-Object-clause-shows g c =
     let t = config.heap.texts in
     let arena = arena_in t config.heap.arena in
     let full = worlds_in t (worlds (m config.heap.store)) in
-    if_ok c.show_object.result
+    IfOk-weaker c.show_object.result
     (λ bytes. bytes.items ≡ utf8_of (shown_object arena full config.world c.in-Object.object))
     (λ bytes. ShowsIn m config c.args.value bytes.items)
     (λ bytes is. shows_value m config c.args.value bytes.items (is ∙ ap (λ (v : Value). utf8_of (shown_value (value_in t v) arena full config.world)) (sym c.in-Object.is)))

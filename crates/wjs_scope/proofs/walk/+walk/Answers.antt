@@ -3,10 +3,10 @@ use Rattle.wjs_tree.specs.declared.node.NodeId.{NodeId}
 use Rattle.wjs_tree.specs.declared.node.Node.TheVariants as forms
 use Rattle.wjs_tree.specs.declared.node.Clause.{Clause}
 use Rattle.wjs_tree.specs.declared.node.Declarator.{Declarator}
-use Rattle.wjs_walk.specs.There.{StmtThere, StmtsThere, ClausesThere, OptionThere}
+use Rattle.wjs_tree.specs.There.{StmtThere, StmtsThere, ClausesThere, OptionThere}
 use Rattle.wjs_scope.specs.Answers.{StmtAdds, OptionAdds, StmtsAdds, FormAdds, VariablesAdd}
 use Rattle.wjs_scope.proofs.Lists.{stmts_here, stmts_on, stmts_done, clauses_here, clauses_on, clauses_done}
-use Rattle.wjs_walk.proofs.Steps.{within, room_for, formed, block_low, do_low, while_low, for_low, for_in_low, for_var_low, label_low, switch_low, world_low, try_low, if_low}
+use Rattle.wjs_tree.proofs.Steps.{within, room_for, formed, block_low, do_low, while_low, for_low, for_in_low, for_var_low, label_low, switch_low, world_low, try_low, if_low}
 use Rattle.wjs_scope.proofs.Steps.{added_by, on_ok, var_adds, for_adds, world_adds, try_adds, StmtWalk, walk_end, walk_on, if_adds}
 use Rattle.wjs_scope.proofs.walk.+walk.Goals as goal
 

@@ -6,7 +6,7 @@ use Rattle.wjs_store.specs.Meaning.{Worlds}
 use Rattle.wjs_store.specs.Shown.{content_of}
 use Rattle.wjs_store.specs.State.{content_at, after_read, after_write, read, write, found, wrote}
 use Rattle.wjs_overlay.specs.Check.{IsLeast}
-use Rattle.wjs_overlay.specs.Cursor.{to_come, count_passing}
+use Rattle.wjs_layers.specs.Cursor.{to_come, count_passing}
 use Rattle.wjs_session.specs.Session.{world_at}
 use Rattle.wjs_session.specs.Stores.{worlds_in}
 use Rattle.wjs_session.proofs.CallLaws.{found_is}

@@ -1,6 +1,6 @@
 use Rattle.std.proofs.Common.{◌≡◌}
 use Rattle.std.specs.FinMap as map
-use Rattle.wjs_overlay.specs.Cursor.{to_come, count_passing}
+use Rattle.wjs_layers.specs.Cursor.{to_come, count_passing}
 use Rattle.wjs_session.specs.Session.{world_at}
 use Rattle.wjs_session.specs.Stores.{worlds_in}
 use Rattle.wjs_session.proofs.CarryLaws.{Carries}

@@ -1,9 +1,9 @@
 use Rattle.std.proofs.Common.{◌≡◌, ◌∙◌, ◌+◌, ◌-◌, ◌<◌, ◌/◌, suc, refl, ap, sym, length, drop, arith}
 use Rattle.std.specs.Ordering.{is_gt}
-use Rattle.std.proofs.lemmas.Option.{slice_get_read}
+use Rattle.std.proofs.lemmas.Option.{slice_get_read, same_Some}
 use Rattle.wjs_base.specs.Order.{name_cmp, name_total}
 use Rattle.wjs_slots.specs.Lists.{seek}
-use Rattle.wjs_slots.proofs.Basics.{greater_is, some_is}
+use Rattle.wjs_slots.proofs.Basics.{greater_is}
 use Rattle.wjs_slots.proofs.Seeks.{seek_past}
 use Rattle.wjs_slots.proofs.few.first_from.Goals as goal
 
@@ -31,6 +31,6 @@ loop-low-preserved g c =
       upto = omega (arith, l);
       before = c.loop-low.invariant.before;
       after = λ row e.
-          let same : c.index-few-middle.result ≡ row = some_is c.index-few-middle.result row (sym (slice_get_read c.args.few.now (length c.args.few.now) n c.index-few-middle.result refl l c.index-few-middle.is) ∙ e) in
+          let same : c.index-few-middle.result ≡ row = same_Some c.index-few-middle.result row (sym (slice_get_read c.args.few.now (length c.args.few.now) n c.index-few-middle.result refl l c.index-few-middle.is) ∙ e) in
           ap (λ r. is_gt (name_cmp c.args.name r.0)) (sym same ∙ c.index-few-middle.is) ∙ sym c.is_before.ensures ∙ c.if-is_before.false;
     }

@@ -1,9 +1,10 @@
 use Rattle.std.proofs.Common.{◌≡◌, ◌∙◌, ◌+◌, Some, ap, sym, Ok, slice_get, arith}
 use Rattle.std.specs.Option.{option_map}
 use Rattle.std.specs.Ordering.{is_eq}
-use Rattle.std.proofs.lemmas.Option.{slice_get_within, get_or_from_slice_get}
+use Rattle.std.proofs.lemmas.Option.{slice_get_within, get_or_from_slice_get, same_Some}
 use Rattle.wjs_base.specs.Order.{name_cmp, name_total}
-use Rattle.wjs_slots.proofs.Basics.{equal_is, some_is, no_none}
+use Rattle.wjs_base.proofs.Options.{no_none}
+use Rattle.wjs_slots.proofs.Basics.{equal_is}
 use Rattle.wjs_slots.proofs.Seeks.{got_at, seek_at}
 use Rattle.wjs_slots.proofs.few.is_at.Goals as goal
 
@@ -23,5 +24,5 @@ returns-in-Some-clause-here g c = λ t.
 pub returns-in-Some-clause-other : goal.returns-in-Some-clause-other
 returns-in-Some-clause-other g c = λ f row s.
     let es = c.args.few.now in
-    let same : c.in-Some.row.now ≡ row = some_is c.in-Some.row.now row (ap (option_map (λ x. x.now)) (sym c.in-Some.is) ∙ got_at es c.args.place c.get.result c.get.ensures.lookup ∙ s) in
+    let same : c.in-Some.row.now ≡ row = same_Some c.in-Some.row.now row (ap (option_map (λ x. x.now)) (sym c.in-Some.is) ∙ got_at es c.args.place c.get.result c.get.ensures.lookup ∙ s) in
     ap (λ e. is_eq (name_cmp c.args.name e.0)) (sym same) ∙ sym c.is_named.ensures ∙ f

@@ -1,8 +1,9 @@
 use Rattle.std.proofs.Common.{◌≡◌, ◌∙◌, ◌++◌, ◌∷◌, [], Err, length, set, ap, sym, not, is_some, arith}
 use Rattle.std.specs.List.{insert}
+use Rattle.std.proofs.lemmas.Result.{on_ok_weaker}
 use Rattle.wjs_base.specs.Order.{name_cmp, name_total, name_exact}
 use Rattle.wjs_slots.specs.Lists.{seek}
-use Rattle.wjs_slots.proofs.Basics.{on_ok, if_ok}
+use Rattle.wjs_slots.proofs.Basics.{if_ok}
 use Rattle.wjs_slots.proofs.Seeks.{found_at, missed_at, put_last}
 use Rattle.wjs_slots.proofs.few.set.Goals as goal
 
@@ -11,7 +12,7 @@ returns-then-goes_last-clause-ok g c =
     let es = c.args.few.now.items in
     let past : Err (length es) ≡ seek name_cmp c.args.name 0 es =
     ap (λ l. Err (length l)) (sym c.deref.ensures.value) ∙ sym (c.goes_last.ensures c.if-goes_last.true) ∙ ap (seek name_cmp c.args.name 0) c.deref.ensures.value in
-    on_ok c.push.result (λ e. e ∙ ap (λ r. es ++ r ∷ []) c.in-Some.ensures ∙ put_last name_total name_exact c.args.name c.args.value es past) c.push.ensures.ok
+    on_ok_weaker c.push.result (λ e. e ∙ ap (λ r. es ++ r ∷ []) c.in-Some.ensures ∙ put_last name_total name_exact c.args.name c.args.value es past) c.push.ensures.ok
 
 pub returns-then-goes_last-clause-added : goal.returns-then-goes_last-clause-added
 returns-then-goes_last-clause-added g c =

@@ -3,5 +3,5 @@ use Rattle.std.specs.FinMap as map
 use Rattle.wjs_slots.proofs.kept.many_of.Goals as goal
 
 -- the box holds the rows
-pub returns-in-Ok : goal.returns-in-Ok
-returns-in-Ok g c = ap map.entries c.in-Ok.ensures.ok ∙ c.in_ok-many.ensures
+pub returns : goal.returns
+returns g c = ap map.entries c.in_ok-many-2.ensures.ok ∙ c.in_ok-many.ensures

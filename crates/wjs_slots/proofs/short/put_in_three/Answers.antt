@@ -1,7 +1,7 @@
 use Rattle.std.proofs.Common.{◌∷◌, [], T}
 use Rattle.wjs_base.specs.Order.{name_cmp, name_total}
+use Rattle.wjs_base.proofs.Booleans.{right_true}
 use Rattle.std.specs.FinMap.Entries.{below_all, is_sorted}
-use Rattle.wjs_slots.proofs.Basics.{right_true}
 use Rattle.wjs_slots.proofs.Shorts.{put_first, found_first, put_rest, found_rest}
 use Rattle.wjs_slots.proofs.short.put_in_three.Goals as goal
 

@@ -1,7 +1,7 @@
 use Rattle.std.proofs.Common.{[], ◌∷◌, ◌∙◌, ap, sym}
 use Rattle.wjs_base.specs.Order.{name_cmp, name_total}
+use Rattle.wjs_base.proofs.Booleans.{right_true}
 use Rattle.std.specs.FinMap.Entries.{below_all, is_sorted}
-use Rattle.wjs_slots.proofs.Basics.{right_true}
 use Rattle.wjs_slots.proofs.Shorts.{less_first, less_next}
 use Rattle.wjs_slots.proofs.short.without_of_three.Goals as goal
 

@@ -13,6 +13,10 @@ create_all-requires-clause-building g c = nothing_built (parts g.S.WorldStore.me
 pub create_all-requires-clause-knows : goal.create_all-requires-clause-knows
 create_all-requires-clause-knows g c = knows_here c.make_known.new.texts c.new-heap.result.texts c.in_ok-known.known c.new-heap.ensures.texts c.in_ok-known.ensures.knows
 
+pub write_all-requires-clause-building : goal.write_all-requires-clause-building
+write_all-requires-clause-building g c =
+    subst (Building (parts g.S.WorldStore.meaning c.create_all.new.heap)) (ap length c.as_slice.ensures.value ∙ c.in_ok-list.ensures.many) c.in_ok-create_all.ensures.building
+
 pub write_all-requires-clause-world : goal.write_all-requires-clause-world
 write_all-requires-clause-world g c =
     let m = g.S.WorldStore.meaning in

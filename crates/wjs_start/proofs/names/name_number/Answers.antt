@@ -1,6 +1,6 @@
 use Rattle.std.proofs.Common.{◌∙◌}
 use Rattle.wjs_base.proofs.TextLaws.{Grows-IsName, Grows-refl, IsNameOf-IsName}
-use Rattle.wjs_deeds.proofs.Spelling.{named_in}
+use Rattle.wjs_heap_steps.proofs.Spelling.{named_in}
 use Rattle.wjs_start.proofs.names.name_number.Goals as goal
 
 pub returns-clause-is : goal.returns-clause-is

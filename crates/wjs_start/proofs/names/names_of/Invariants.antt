@@ -1,6 +1,6 @@
 use Rattle.std.proofs.Common.{take, map}
 use Rattle.wjs_base.specs.Text.{Table, Grows}
-use Rattle.wjs_content.specs.Tables.{text_in}
+use Rattle.wjs_by_content.specs.Tables.{text_in}
 use Rattle.wjs_start.specs.Names.{AreNamesOf}
 use Rattle.wjs_start.proofs.names.names_of.Given as goal
 

@@ -1,7 +1,7 @@
 use Rattle.std.proofs.Common.{◌++◌, List, map, take}
 use Rattle.wjs_base.specs.Text.{Table}
 use Rattle.wjs_arena.specs.declared.object.Flags.{Flags}
-use Rattle.wjs_content.specs.Values.{Text}
+use Rattle.wjs_by_content.specs.Values.{Text}
 use Rattle.wjs_start.specs.Names.{AreNamesOf}
 use Rattle.wjs_start.specs.Flags.{IsFlagged}
 use Rattle.wjs_start.proofs.objects.add_names.Given as goal

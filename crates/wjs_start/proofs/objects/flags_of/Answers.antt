@@ -1,6 +1,6 @@
 use Rattle.std.proofs.Common.{sym, ap, ◌∙◌, subst, map}
-use Rattle.wjs_content.specs.Renamed.{Holds}
-use Rattle.wjs_content.specs.Tables.{name_in}
+use Rattle.wjs_by_content.specs.Renamed.{Holds}
+use Rattle.wjs_by_content.specs.Tables.{name_in}
 use Rattle.wjs_meaning.specs.Start.{properties, flags_on}
 use Rattle.wjs_start.specs.Blueprints.{keeping}
 use Rattle.wjs_start.specs.Known.{IsThere, TellsPlaces, place_in, declared_in}

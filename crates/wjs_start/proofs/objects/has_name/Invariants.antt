@@ -1,6 +1,6 @@
 use Rattle.std.proofs.Common.{◌≡◌, true, map, drop}
 use Rattle.wjs_base.specs.Text.{Table}
-use Rattle.wjs_content.specs.Tables.{name_in, knows_name}
+use Rattle.wjs_by_content.specs.Tables.{name_in, knows_name}
 use Rattle.wjs_meaning.specs.Trees.{has_text}
 use Rattle.wjs_start.specs.Known.{TellsNames}
 use Rattle.wjs_start.proofs.objects.has_name.Given as goal

@@ -1,5 +1,5 @@
 use Rattle.std.proofs.Common.{sym, subst}
-use Rattle.wjs_deeds.proofs.Making.{number_there}
+use Rattle.wjs_heap_steps.proofs.Making.{number_there}
 use Rattle.wjs_start.specs.declared.blueprints.Primitive.{Primitive}
 use Rattle.wjs_start.specs.Known.{ValueIs}
 use Rattle.wjs_start.specs.Blueprints.{primitive_in}

@@ -1,5 +1,5 @@
 use Rattle.std.proofs.Common.{map}
-use Rattle.wjs_content.specs.Tables.{name_in}
+use Rattle.wjs_by_content.specs.Tables.{name_in}
 use Rattle.wjs_start.proofs.Underneath.{slots_on, slots_all}
 use Rattle.wjs_start.proofs.objects.slot_flags.Goals as goal
 

@@ -1,7 +1,7 @@
 use Rattle.std.proofs.Common.{map, take}
 use Rattle.wjs_base.specs.Text.{Table}
-use Rattle.wjs_content.specs.Renamed.{Holds}
-use Rattle.wjs_content.specs.Tables.{name_in}
+use Rattle.wjs_by_content.specs.Renamed.{Holds}
+use Rattle.wjs_by_content.specs.Tables.{name_in}
 use Rattle.wjs_start.specs.Flags.{IsFlagged, flags_among}
 use Rattle.wjs_start.specs.Known.{IsThere, TellsNames, TellsPlaces, place_in}
 use Rattle.wjs_start.proofs.objects.slot_flags.Given as goal

@@ -1,7 +1,7 @@
 use Rattle.std.proofs.Common.{◌≡◌, map, take}
 use Rattle.std.specs.Prelude.{All, filter_map}
 use Rattle.wjs_base.specs.Text.{Table, Has}
-use Rattle.wjs_content.specs.Tables.{text_in}
+use Rattle.wjs_by_content.specs.Tables.{text_in}
 use Rattle.wjs_meaning.specs.Reading.{numbers}
 use Rattle.wjs_meaning.specs.Trees.{name_of, node_at}
 use Rattle.wjs_model.specs.Texts.{KnowsUnit}

@@ -1,5 +1,6 @@
 use Rattle.std.proofs.Common.{◌-◌, ◌<◌, length, arith}
 use Rattle.wjs_heap.specs.Means.{parts}
+use Rattle.wjs_start.specs.First.{object_count}
 use Rattle.wjs_start.proofs.Slotting.{none_written, written_on, all_written, within_still, there_still}
 use Rattle.wjs_start.proofs.slots.write_all.Goals as goal
 
@@ -14,7 +15,7 @@ write_place-requires-clause-there g c =
 pub write_place-requires-clause-within : goal.write_place-requires-clause-within
 write_place-requires-clause-within g c =
     let lt : c.back.i - 1 < length c.args.places.now = omega (arith, c.back.invariant.in_range, c.back-test.true) in
-    within_still c.args.heap.now.texts c.back.heap.texts 64 c.args.places.now (c.back.i - 1) c.index-places-i.result lt c.index-places-i.is c.requires.within
+    within_still c.args.heap.now.texts c.back.heap.texts object_count c.args.places.now (c.back.i - 1) c.index-places-i.result lt c.index-places-i.is c.requires.within
 
 pub back-preserved : goal.back-preserved
 back-preserved g c =

@@ -1,6 +1,6 @@
 use Rattle.std.proofs.Common.{◌≡◌, fold, map, drop}
 use Rattle.wjs_base.specs.Text.{Table}
-use Rattle.wjs_content.specs.Tables.{value_in}
+use Rattle.wjs_by_content.specs.Tables.{value_in}
 use Rattle.wjs_meaning.specs.NativesOfTexts.{either, greater_of}
 use Rattle.wjs_meaning.specs.NativesOfObjects.{whole_of}
 use Rattle.wjs_strings.proofs.numbers.greatest.Given as goal

@@ -1,5 +1,5 @@
 use Rattle.std.proofs.Common.{fold, map, ap, sym}
-use Rattle.wjs_content.specs.Tables.{value_in}
+use Rattle.wjs_by_content.specs.Tables.{value_in}
 use Rattle.wjs_meaning.specs.NativesOfTexts.{either, lesser_of}
 use Rattle.wjs_strings.proofs.Folding.{either_read, fold_step, fold_end}
 use Rattle.wjs_strings.proofs.numbers.least.Goals as goal

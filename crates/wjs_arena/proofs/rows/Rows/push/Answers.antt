@@ -3,8 +3,9 @@ use Rattle.std.specs.Option.{option_copied_mut, IsSome}
 use Rattle.std.specs.FinMap as map
 use Rattle.std.specs.Ordering.{nat_cmp}
 use Rattle.std.specs.BTreeMap.{get, is_at}
+use Rattle.std.proofs.lemmas.Result.{on_ok_weaker, on_err_weaker}
 use Rattle.wjs_arena.specs.Entries.{next_number}
-use Rattle.wjs_arena.proofs.Owners.{serials_objects, pushed, written_back, at_found, at_missing, zero_first, others_after, first_written, other_written, on_ok, on_err}
+use Rattle.wjs_arena.proofs.Owners.{serials_objects, pushed, written_back, at_found, at_missing, zero_first, others_after, first_written, other_written}
 use Rattle.wjs_arena.proofs.rows.Rows.push.Goals as goal
 
 pub returns-then-owner-eq0-clause-ok : goal.returns-then-owner-eq0-clause-ok
@@ -13,7 +14,7 @@ returns-then-owner-eq0-clause-ok c =
     let first = c.self.inside.first in
     let rows = c.push_last.new.rows in
     let there = at_found (λ rows. rows.items) ((0, first) ∷ rest) c.args.owner first (zero_first (λ rows. rows.items) first rest c.args.owner c.if-owner-eq0.true) in
-    on_ok c.push_last.result (λ h.
+    on_ok_weaker c.push_last.result (λ h.
     pushed (λ rows. rows.items) ((0, first) ∷ rest) ((0, rows) ∷ rest) c.args.owner c.args.entry rows (h ∙ ap (λ es. es ++ c.args.entry ∷ []) (sym there)) (first_written (λ rows. rows.items) first rows rest c.args.owner c.if-owner-eq0.true)
     ∙ ap (λ m. map.insert m (next_number m c.args.owner) c.args.entry) c.self.view_is) c.push_last.ensures.ok
 
@@ -23,7 +24,7 @@ returns-then-owner-eq0-clause-err c =
     let first = c.self.inside.first in
     let rows = c.push_last.new.rows in
     let there = at_found (λ rows. rows.items) ((0, first) ∷ rest) c.args.owner first (zero_first (λ rows. rows.items) first rest c.args.owner c.if-owner-eq0.true) in
-    on_err c.push_last.result (λ h.
+    on_err_weaker c.push_last.result (λ h.
     written_back (λ rows. rows.items) ((0, first) ∷ rest) ((0, rows) ∷ rest) c.args.owner rows (h ∙ sym there) (first_written (λ rows. rows.items) first rows rest c.args.owner c.if-owner-eq0.true)
     ∙ c.self.view_is) c.push_last.ensures.err
 
@@ -39,7 +40,7 @@ returns-in-Some-clause-ok c =
     let first = c.self.inside.first in
     let after = (c.get_mut.follows.holds rows).3 (subst IsSome (sym found) refl) in
     let there = at_found (λ rows. rows.items) ((0, first) ∷ rest) c.args.owner _ (others_after (λ rows. rows.items) first rest c.args.owner c.if-owner-eq0.false ∙ found) in
-    on_ok c.push_last-in-Some.result (λ h.
+    on_ok_weaker c.push_last-in-Some.result (λ h.
     pushed (λ rows. rows.items) ((0, first) ∷ rest) ((0, first) ∷ then) c.args.owner c.args.entry rows (h ∙ ap (λ es. es ++ c.args.entry ∷ []) (sym there)) (other_written (λ rows. rows.items) first rows rest then c.args.owner c.if-owner-eq0.false (λ q. after.0 q))
     ∙ ap (λ m. map.insert m (next_number m c.args.owner) c.args.entry) c.self.view_is) c.push_last-in-Some.ensures.ok
 
@@ -52,7 +53,7 @@ returns-in-Some-clause-err c =
     let first = c.self.inside.first in
     let after = (c.get_mut.follows.holds rows).3 (subst IsSome (sym found) refl) in
     let there = at_found (λ rows. rows.items) ((0, first) ∷ rest) c.args.owner _ (others_after (λ rows. rows.items) first rest c.args.owner c.if-owner-eq0.false ∙ found) in
-    on_err c.push_last-in-Some.result (λ h.
+    on_err_weaker c.push_last-in-Some.result (λ h.
     written_back (λ rows. rows.items) ((0, first) ∷ rest) ((0, first) ∷ then) c.args.owner rows (h ∙ sym there) (other_written (λ rows. rows.items) first rows rest then c.args.owner c.if-owner-eq0.false (λ q. after.0 q))
     ∙ c.self.view_is) c.push_last-in-Some.ensures.err
 
@@ -62,7 +63,7 @@ returns-in-None-clause-ok c =
     let rest = c.self.inside.owners.entries in
     let first = c.self.inside.first in
     let there = at_missing (λ rows. rows.items) ((0, first) ∷ rest) c.args.owner (others_after (λ rows. rows.items) first rest c.args.owner c.if-owner-eq0.false ∙ none) in
-    on_ok c.push_first.result (λ h.
+    on_ok_weaker c.push_first.result (λ h.
     pushed (λ rows. rows.items) ((0, first) ∷ rest) ((0, first) ∷ c.push_first.new.owners.entries) c.args.owner c.args.entry h.0 (h.1 ∙ ap (λ es. es ++ c.args.entry ∷ []) (sym there)) (other_written (λ rows. rows.items) first h.0 rest c.push_first.new.owners.entries c.args.owner c.if-owner-eq0.false (λ q. h.2 q ∙ ap (λ m. cond (is_at (nat_cmp c.args.owner) q) (Some h.0) (get nat_cmp m q)) c.get_mut.follows.holds-at-none))
     ∙ ap (λ m. map.insert m (next_number m c.args.owner) c.args.entry) c.self.view_is) c.push_first.ensures.ok
 

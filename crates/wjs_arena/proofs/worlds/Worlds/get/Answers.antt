@@ -1,7 +1,7 @@
 use Rattle.std.proofs.Common.{sym, ap, ◌∙◌}
 use Rattle.std.specs.FinMap as map
 use Rattle.wjs_base.specs.Order.{world_total}
-use Rattle.wjs_arena.proofs.Trees.{get_tree}
+use Rattle.wjs_base.proofs.Trees.{get_tree}
 use Rattle.wjs_arena.proofs.worlds.Worlds.get.Goals as goal
 
 pub returns : goal.returns

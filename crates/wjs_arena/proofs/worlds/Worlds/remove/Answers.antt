@@ -1,7 +1,7 @@
 use Rattle.std.proofs.Common.{ap, ◌∙◌}
 use Rattle.std.specs.FinMap as map
 use Rattle.wjs_base.specs.Order.{world_total, world_exact}
-use Rattle.wjs_arena.proofs.Trees.{remove_tree}
+use Rattle.wjs_base.proofs.Trees.{remove_tree}
 use Rattle.wjs_arena.proofs.worlds.Worlds.remove.Goals as goal
 
 pub returns : goal.returns

@@ -4,4 +4,4 @@ use Rattle.wjs_scope.proofs.Walks.{added}
 use Rattle.wjs_eval_call.proofs.taken.Taken.add.Goals as goal
 
 pub returns : goal.returns
-returns c = ap (map name_of) c.in-Ok.ensures.keys ∙ added c.args.name c.self.inside.numbers.keys ∙ ap (λ z. with_name z c.args.name) c.self.view_is
+returns c = ap (map name_of) c.in_ok-insert.ensures.keys ∙ added c.args.name c.self.inside.numbers.keys ∙ ap (λ z. with_name z c.args.name) c.self.view_is

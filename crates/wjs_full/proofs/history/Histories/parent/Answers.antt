@@ -2,7 +2,7 @@ use Rattle.std.proofs.Common.{sym, ap, ◌∙◌}
 use Rattle.std.specs.FinMap as map
 use Rattle.wjs_base.specs.Order.{world_total}
 use Rattle.wjs_full.specs.History.{Histories}
-use Rattle.wjs_store.proofs.Trees.{get_tree}
+use Rattle.wjs_base.proofs.Trees.{get_tree}
 use Rattle.wjs_full.proofs.history.Histories.parent.Goals as goal
 
 pub returns : goal.returns

@@ -2,7 +2,7 @@ use Rattle.std.proofs.Common.{◌≡◌, [], sym, ap, ◌∙◌, unwrap_or}
 use Rattle.std.specs.FinMap as map
 use Rattle.wjs_base.specs.Order.{world_total, world_exact}
 use Rattle.wjs_full.specs.History.{Histories}
-use Rattle.wjs_store.proofs.Trees.{get_tree, remove_tree}
+use Rattle.wjs_base.proofs.Trees.{get_tree, remove_tree}
 use Rattle.wjs_full.proofs.history.Histories.take.Goals as goal
 use Rattle.wjs_full.proofs.history.Histories.take.Goals.{in-Some, in-None}
 

@@ -1,7 +1,7 @@
 use Rattle.std.proofs.Common.{sym, ap, ◌∙◌, is_some}
 use Rattle.std.specs.FinMap as map
 use Rattle.wjs_base.specs.Order.{obj_total}
-use Rattle.wjs_store.proofs.Trees.{get_tree}
+use Rattle.wjs_base.proofs.Trees.{get_tree}
 use Rattle.wjs_full.proofs.maps.ObjSet.has.Goals as goal
 
 pub returns : goal.returns

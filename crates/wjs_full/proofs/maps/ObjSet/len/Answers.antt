@@ -1,7 +1,7 @@
 use Rattle.std.proofs.Common.{sym, ap, ◌∙◌}
 use Rattle.std.specs.FinMap as map
 use Rattle.wjs_base.specs.Order.{obj_total}
-use Rattle.wjs_store.proofs.Trees.{len_tree}
+use Rattle.wjs_base.proofs.Trees.{len_tree}
 use Rattle.wjs_full.proofs.maps.ObjSet.len.Goals as goal
 
 pub returns : goal.returns

@@ -3,10 +3,10 @@ use Rattle.std.specs.FinMap as map
 use Rattle.std.specs.Map.{keys_of}
 use Rattle.wjs_base.specs.Order.{obj_total}
 use Rattle.wjs_base.specs.declared.ids.ObjId.{ObjId}
-use Rattle.wjs_store.proofs.Trees.{entries_tree}
+use Rattle.wjs_base.proofs.Trees.{entries_tree}
 use Rattle.wjs_full.proofs.maps.ObjSet.objects.Goals as goal
 
-pub returns-in-Ok : goal.returns-in-Ok
-returns-in-Ok c =
-    let h : c.in-Ok.all.items ≡ keys_of c.self.inside.tree.entries = search rules in
+pub returns : goal.returns
+returns c =
+    let h : c.in_ok-collect.field-0.items ≡ keys_of c.self.inside.tree.entries = search rules in
     h ∙ ap (λ (es : List (ObjId × Unit {0})). keys_of es) (sym (entries_tree obj_total c.self.inside.tree.entries c.keys.ensures.ordered)) ∙ ap map.keys c.self.view_is

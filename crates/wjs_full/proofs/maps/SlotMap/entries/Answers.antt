@@ -2,7 +2,7 @@ use Rattle.std.proofs.Common.{sym, ap, ◌∙◌}
 use Rattle.std.specs.FinMap as map
 use Rattle.std.proofs.lemmas.Result.{IfOk-weaker}
 use Rattle.wjs_base.specs.Order.{slot_total}
-use Rattle.wjs_store.proofs.Trees.{entries_tree}
+use Rattle.wjs_base.proofs.Trees.{entries_tree}
 use Rattle.wjs_full.proofs.maps.SlotMap.entries.Goals as goal
 
 pub returns : goal.returns

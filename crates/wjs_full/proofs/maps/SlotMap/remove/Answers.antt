@@ -1,7 +1,7 @@
 use Rattle.std.proofs.Common.{ap, ◌∙◌}
 use Rattle.std.specs.FinMap as map
 use Rattle.wjs_base.specs.Order.{slot_total, slot_exact}
-use Rattle.wjs_store.proofs.Trees.{remove_tree}
+use Rattle.wjs_base.proofs.Trees.{remove_tree}
 use Rattle.wjs_full.proofs.maps.SlotMap.remove.Goals as goal
 
 pub returns : goal.returns

@@ -1,7 +1,7 @@
 use Rattle.std.proofs.Common.{sym, ap, ◌∙◌, unwrap_or}
 use Rattle.std.specs.FinMap as map
 use Rattle.std.specs.Cmp.{nat_cmp_total}
-use Rattle.wjs_store.proofs.Trees.{get_tree}
+use Rattle.wjs_base.proofs.Trees.{get_tree}
 use Rattle.wjs_overlay.proofs.numbers.Owners.count.Goals as goal
 
 pub returns : goal.returns

@@ -1,6 +1,6 @@
 use Rattle.std.proofs.Common.{sym, ap, ◌∙◌, subst, IsTrue}
 use Rattle.wjs_store.specs.State.{has_world}
-use Rattle.wjs_overlay.specs.Sparse.{full_of}
+use Rattle.wjs_layers.specs.Sparse.{full_of}
 use Rattle.wjs_overlay.specs.Store.{worlds_of}
 use Rattle.wjs_overlay.specs.Store.{check_of}
 use Rattle.wjs_overlay.proofs.overlay.Overlay.commit_check.Goals as goal

@@ -2,8 +2,8 @@ use Rattle.std.proofs.Common.{ℕ, ◌+◌, ◌*◌, sym, ap, ◌∙◌, subst, 
 use Rattle.wjs_base.specs.declared.ids.WorldId.{WorldId}
 use Rattle.wjs_store.specs.Shown.{verdict_of}
 use Rattle.wjs_store.specs.State.{State, verdict_at, commit, committed, after_commit}
-use Rattle.wjs_overlay.specs.Sparse.{full_of, depth_of}
-use Rattle.wjs_overlay.specs.Work.{rows_of, closed_of, rows_above}
+use Rattle.wjs_layers.specs.Sparse.{full_of, depth_of}
+use Rattle.wjs_layers.specs.Work.{rows_of, closed_of, rows_above}
 use Rattle.wjs_store.specs.Naming.{plain}
 use Rattle.wjs_overlay.specs.Store.{worlds_of}
 use Rattle.wjs_overlay.specs.Touched.{Covered}

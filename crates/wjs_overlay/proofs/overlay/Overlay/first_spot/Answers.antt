@@ -1,7 +1,7 @@
 use Rattle.std.proofs.Common.{◌≡◌, sym, subst, Some}
 use Rattle.wjs_base.specs.declared.ids.WorldId.{WorldId}
-use Rattle.wjs_overlay.specs.Sparse.{full_of, place_of}
-use Rattle.wjs_overlay.proofs.Places.{slice_read}
+use Rattle.wjs_layers.specs.Sparse.{full_of, place_of}
+use Rattle.wjs_layers.proofs.Places.{slice_read}
 use Rattle.wjs_overlay.proofs.StoreLaws.{first_placed}
 use Rattle.wjs_overlay.proofs.overlay.Overlay.first_spot.Goals as goal
 

@@ -1,7 +1,7 @@
 use Rattle.std.proofs.Common.{sym, ap, ◌∙◌, subst}
 use Rattle.wjs_store.specs.Shown.{slots_of}
 use Rattle.wjs_store.specs.State.{slots_at, list, listed, after_list}
-use Rattle.wjs_overlay.specs.Sparse.{full_of}
+use Rattle.wjs_layers.specs.Sparse.{full_of}
 use Rattle.wjs_overlay.specs.Touched.{Covered}
 use Rattle.wjs_overlay.proofs.StoreLaws.{store_after, ids_list, answers_store}
 use Rattle.wjs_overlay.proofs.Touching.{covered_list}

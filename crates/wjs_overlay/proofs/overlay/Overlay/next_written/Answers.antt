@@ -2,12 +2,12 @@ use Rattle.std.proofs.Common.{◌≡◌, ◌<◌, ◌&&◌, length, sym, ap, ◌
 use Rattle.wjs_base.specs.declared.values.Slot.{Slot}
 use Rattle.wjs_store.specs.State.{has_world}
 use Rattle.wjs_overlay.specs.Check.{IsLeast}
-use Rattle.wjs_overlay.specs.Cursor.{to_come}
-use Rattle.wjs_overlay.specs.Marks.{is_written, has_written}
-use Rattle.wjs_overlay.specs.Sparse.{full_of}
+use Rattle.wjs_layers.specs.Cursor.{to_come}
+use Rattle.wjs_layers.specs.Marks.{is_written, has_written}
+use Rattle.wjs_layers.specs.Sparse.{full_of}
 use Rattle.wjs_overlay.specs.Store.{worlds_of}
-use Rattle.wjs_overlay.proofs.Places.{slice_read}
-use Rattle.wjs_overlay.proofs.Looks.{below_at}
+use Rattle.wjs_layers.proofs.Places.{slice_read}
+use Rattle.wjs_layers.proofs.Looks.{below_at}
 use Rattle.wjs_overlay.proofs.Written.{written_at}
 use Rattle.wjs_overlay.proofs.overlay.Overlay.next_written.Goals as goal
 

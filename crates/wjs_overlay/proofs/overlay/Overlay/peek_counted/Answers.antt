@@ -1,8 +1,8 @@
 use Rattle.std.proofs.Common.{◌<◌, length, sym, subst, arith, IsTrue}
 use Rattle.wjs_store.specs.State.{has_world}
 use Rattle.wjs_overlay.specs.Store.{worlds_of}
-use Rattle.wjs_overlay.proofs.Places.{slice_read}
-use Rattle.wjs_overlay.proofs.Looks.{below_at}
+use Rattle.wjs_layers.proofs.Places.{slice_read}
+use Rattle.wjs_layers.proofs.Looks.{below_at}
 use Rattle.wjs_overlay.proofs.Peeks.{seen_first, seen_row}
 use Rattle.wjs_overlay.proofs.overlay.Overlay.peek_counted.Goals as goal
 

@@ -1,11 +1,11 @@
-use Rattle.std.proofs.Common.{◌≡◌, ◌<◌, ◌∙◌, None, Some, length, sym, ap, subst, arith}
+use Rattle.std.proofs.Common.{◌≡◌, ◌<◌, ◌∙◌, Some, length, sym, ap, subst, arith}
 use Rattle.std.specs.Option.{option_map}
 use Rattle.wjs_base.specs.declared.ids.WorldId.{WorldId}
-use Rattle.wjs_overlay.specs.declared.layer.Spot.{Spot}
-use Rattle.wjs_overlay.specs.Sparse.{full_of, place_of}
-use Rattle.wjs_overlay.proofs.Places.{slice_read, some_is, no_none}
-use Rattle.wjs_overlay.proofs.Looks.{above_at, below_at}
-use Rattle.wjs_overlay.proofs.StoreLaws.{parent_at}
+use Rattle.wjs_layers.specs.declared.layer.Spot.{Spot}
+use Rattle.wjs_layers.specs.Sparse.{full_of, place_of}
+use Rattle.wjs_layers.proofs.Places.{slice_read, some_is, no_none}
+use Rattle.wjs_layers.proofs.Looks.{above_at, below_at}
+use Rattle.wjs_layers.proofs.Looks.{parent_at}
 use Rattle.wjs_overlay.proofs.overlay.Overlay.place_above.Goals as goal
 
 pub index-layer-requires : goal.index-layer-requires

@@ -1,12 +1,12 @@
 use Rattle.std.proofs.Common.{◌<◌, length, is_some, sym, ap, ◌∙◌, arith}
 use Rattle.wjs_store.specs.Shown.{content_of}
 use Rattle.wjs_store.specs.State.{content_at, read, found, after_read}
-use Rattle.wjs_overlay.specs.Sparse.{full_of, depth_of}
+use Rattle.wjs_layers.specs.Sparse.{full_of, depth_of}
 use Rattle.wjs_overlay.specs.Store.{worlds_of}
-use Rattle.wjs_overlay.proofs.Places.{slice_read}
-use Rattle.wjs_overlay.proofs.Looks.{content_kept, below_at}
+use Rattle.wjs_layers.proofs.Places.{slice_read}
+use Rattle.wjs_layers.proofs.Looks.{content_kept, below_at}
 use Rattle.wjs_overlay.proofs.Passing.{child_place}
-use Rattle.wjs_overlay.proofs.ReadLaws.{read_first}
+use Rattle.wjs_layers.proofs.ReadLaws.{read_first}
 use Rattle.wjs_overlay.proofs.StoreLaws.{answers_same}
 use Rattle.wjs_overlay.proofs.overlay.Overlay.read_counted.Goals as goal
 

@@ -1,4 +1,4 @@
-use Rattle.std.proofs.Common.{◌≡◌, sym, ap, ◌∙◌, subst}
+use Rattle.std.proofs.Common.{sym, ap, ◌∙◌, subst}
 use Rattle.wjs_overlay.specs.Covers.{covers, IsRising}
 use Rattle.wjs_overlay.proofs.overlay.Overlay.read_marked.Goals as goal
 

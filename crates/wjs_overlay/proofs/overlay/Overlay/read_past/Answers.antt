@@ -1,12 +1,12 @@
-use Rattle.std.proofs.Common.{◌≡◌, ◌<◌, ◌∙◌, sym, ap, subst, Some, IfSome}
+use Rattle.std.proofs.Common.{◌≡◌, ◌∙◌, sym, ap, subst, Some, IfSome}
 use Rattle.wjs_store.specs.Shown.{content_of}
 use Rattle.wjs_store.specs.State.{read, found}
-use Rattle.wjs_overlay.specs.declared.layer.Layer.{Layer}
-use Rattle.wjs_overlay.specs.Look.{IsUntouched}
-use Rattle.wjs_overlay.specs.Sparse.{full_of, place_of}
+use Rattle.wjs_layers.specs.declared.layer.Layer.{Layer}
+use Rattle.wjs_layers.specs.Look.{IsUntouched}
+use Rattle.wjs_layers.specs.Sparse.{full_of, place_of}
 use Rattle.wjs_overlay.specs.Touched.{Covered}
-use Rattle.wjs_overlay.proofs.Places.{slice_some}
-use Rattle.wjs_overlay.proofs.Looks.{below_at, world_at, holds}
+use Rattle.wjs_layers.proofs.Places.{slice_some}
+use Rattle.wjs_layers.proofs.Looks.{below_at, world_at, holds}
 use Rattle.wjs_overlay.proofs.Passing.{untouched_past}
 use Rattle.wjs_overlay.proofs.StoreLaws.{store_after, ids_read, answers_store}
 use Rattle.wjs_overlay.proofs.Touching.{covered_read, past_content, depth_first}

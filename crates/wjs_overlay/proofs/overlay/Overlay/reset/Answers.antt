@@ -1,11 +1,11 @@
 use Rattle.std.proofs.Common.{◌≡◌, true, false, is_some, sym, ap, ◌∙◌, subst, IsTrue}
 use Rattle.wjs_store.specs.Fixed.{fixed}
 use Rattle.wjs_store.specs.State.{has_world, parent_of}
-use Rattle.wjs_overlay.specs.Reset.{has_child, after_reset}
-use Rattle.wjs_overlay.specs.Sparse.{full_of}
+use Rattle.wjs_layers.specs.Reset.{has_child, after_reset}
+use Rattle.wjs_layers.specs.Sparse.{full_of}
 use Rattle.wjs_overlay.specs.Store.{worlds_of}
 use Rattle.wjs_overlay.specs.Touched.{Covered}
-use Rattle.wjs_overlay.proofs.Resetting.{ids_reset, covered_reset}
+use Rattle.wjs_overlay.proofs.Renewing.{ids_reset, covered_reset}
 use Rattle.wjs_overlay.proofs.StoreLaws.{store_after}
 use Rattle.wjs_overlay.proofs.overlay.Overlay.reset.Goals as goal
 

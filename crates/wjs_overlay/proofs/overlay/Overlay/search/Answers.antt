@@ -1,6 +1,6 @@
 use Rattle.std.proofs.Common.{sym, ap, ◌∙◌, is_some}
-use Rattle.wjs_overlay.specs.Sparse.{full_of}
-use Rattle.wjs_overlay.proofs.Places.{place_find}
+use Rattle.wjs_layers.specs.Sparse.{full_of}
+use Rattle.wjs_layers.proofs.Places.{place_find}
 use Rattle.wjs_overlay.proofs.StoreLaws.{is_some_of}
 use Rattle.wjs_overlay.proofs.overlay.Overlay.search.Goals as goal
 

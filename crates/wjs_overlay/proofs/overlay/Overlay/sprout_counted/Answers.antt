@@ -2,7 +2,7 @@ use Rattle.std.proofs.Common.{◌≡◌, ◌+◌, length, sym, ap, ◌∙◌, su
 use Rattle.std.specs.FinMap as map
 use Rattle.wjs_base.specs.declared.ids.WorldId.{WorldId}
 use Rattle.wjs_store.specs.State.{next_id, sprout, sprouted, after_sprout}
-use Rattle.wjs_overlay.specs.Sparse.{full_of}
+use Rattle.wjs_layers.specs.Sparse.{full_of}
 use Rattle.wjs_overlay.specs.Store.{IsStore}
 use Rattle.wjs_overlay.specs.Touched.{Covered}
 use Rattle.wjs_overlay.proofs.StoreLaws.{store_sprout, answers_store}

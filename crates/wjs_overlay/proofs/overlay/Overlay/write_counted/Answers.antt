@@ -1,7 +1,7 @@
 use Rattle.std.proofs.Common.{refl, sym, ap, ◌∙◌, subst}
 use Rattle.wjs_store.specs.Shown.{content_of}
 use Rattle.wjs_store.specs.State.{write, wrote, after_write}
-use Rattle.wjs_overlay.specs.Sparse.{full_of}
+use Rattle.wjs_layers.specs.Sparse.{full_of}
 use Rattle.wjs_overlay.specs.Touched.{Covered}
 use Rattle.wjs_overlay.proofs.StoreLaws.{store_after, ids_write, answers_store}
 use Rattle.wjs_overlay.proofs.Touching.{covered_write}

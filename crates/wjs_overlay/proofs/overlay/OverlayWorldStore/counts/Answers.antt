@@ -1,8 +1,8 @@
 use Rattle.std.proofs.Common.{◌<◌, length, sym, subst, arith}
-use Rattle.wjs_overlay.specs.Sparse.{full_of}
+use Rattle.wjs_layers.specs.Sparse.{full_of}
 use Rattle.wjs_overlay.specs.Store.{worlds_of}
-use Rattle.wjs_overlay.proofs.Places.{slice_read}
-use Rattle.wjs_overlay.proofs.Looks.{below_at}
+use Rattle.wjs_layers.proofs.Places.{slice_read}
+use Rattle.wjs_layers.proofs.Looks.{below_at}
 use Rattle.wjs_store.specs.Shown.{Counts}
 use Rattle.wjs_overlay.proofs.MarkLaws.{counts_at}
 use Rattle.wjs_overlay.proofs.StoreLaws.{spent_counts}

@@ -1,7 +1,7 @@
 use Rattle.std.proofs.Common.{ap, sym, ◌∙◌, Some}
 use Rattle.wjs_store.specs.Shown.{first_of}
 use Rattle.wjs_overlay.specs.Store.{worlds_of}
-use Rattle.wjs_overlay.proofs.Places.{slice_read}
+use Rattle.wjs_layers.proofs.Places.{slice_read}
 use Rattle.wjs_overlay.proofs.StoreLaws.{first_at}
 use Rattle.wjs_overlay.proofs.overlay.OverlayWorldStore.first.Goals as goal
 

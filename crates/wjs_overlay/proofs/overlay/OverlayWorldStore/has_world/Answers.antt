@@ -1,11 +1,11 @@
 use Rattle.std.proofs.Common.{◌≡◌, sym, ap, ◌∙◌, ◌&&◌, ◌==◌, false, is_some}
 use Rattle.wjs_store.specs.State.{has_world}
-use Rattle.wjs_overlay.specs.Sparse.{full_of}
+use Rattle.wjs_layers.specs.Sparse.{full_of}
 use Rattle.wjs_overlay.specs.Store.{worlds_of}
-use Rattle.wjs_overlay.proofs.Places.{place_find}
+use Rattle.wjs_layers.proofs.Places.{place_find}
 use Rattle.wjs_overlay.proofs.StoreLaws.{spent_has}
 use Rattle.std.proofs.lemmas.Bool.{eq-eqb, eqb-true}
-use Rattle.wjs_store.proofs.Writes.{by_bool}
+use Rattle.wjs_base.proofs.Booleans.{by_bool}
 use Rattle.wjs_overlay.proofs.overlay.OverlayWorldStore.has_world.Goals as goal
 
 pub returns-then-world-eq0 : goal.returns-then-world-eq0

@@ -1,12 +1,12 @@
 use Rattle.std.proofs.Common.{◌<◌, length, sym, ap, ◌∙◌, arith}
 use Rattle.std.specs.Option.{option_map}
 use Rattle.wjs_store.specs.State.{parent_of}
-use Rattle.wjs_overlay.specs.declared.layer.Spot.{Spot}
-use Rattle.wjs_overlay.specs.Sparse.{full_of}
+use Rattle.wjs_layers.specs.declared.layer.Spot.{Spot}
+use Rattle.wjs_layers.specs.Sparse.{full_of}
 use Rattle.wjs_overlay.specs.Store.{worlds_of}
-use Rattle.wjs_overlay.proofs.Places.{slice_read}
-use Rattle.wjs_overlay.proofs.Looks.{below_at}
-use Rattle.wjs_overlay.proofs.StoreLaws.{parent_at, spent_parent}
+use Rattle.wjs_layers.proofs.Places.{slice_read}
+use Rattle.wjs_layers.proofs.Looks.{below_at, parent_at}
+use Rattle.wjs_overlay.proofs.StoreLaws.{spent_parent}
 use Rattle.wjs_overlay.proofs.overlay.OverlayWorldStore.parent.Goals as goal
 
 pub returns-then-self : goal.returns-then-self

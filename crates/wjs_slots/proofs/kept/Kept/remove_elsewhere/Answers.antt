@@ -1,15 +1,16 @@
 use Rattle.std.proofs.Common.{◌∙◌, is_some, ap, sym}
 use Rattle.std.specs.FinMap as map
 use Rattle.std.specs.FinMap.Entries.{find}
+use Rattle.std.proofs.lemmas.Result.{on_ok_weaker}
 use Rattle.wjs_base.specs.Order.{name_cmp, name_total, name_exact}
 use Rattle.wjs_slots.specs.Kept.{rows_of}
 use Rattle.wjs_slots.specs.Lists.{without}
-use Rattle.wjs_slots.proofs.Basics.{on_ok, if_ok}
+use Rattle.wjs_slots.proofs.Basics.{if_ok}
 use Rattle.wjs_slots.proofs.Sorted.{entries_removed}
 use Rattle.wjs_slots.proofs.kept.Kept.remove_elsewhere.Goals as goal
 
 pub returns-in-Many-clause-removed : goal.returns-in-Many-clause-removed
-returns-in-Many-clause-removed g c = on_ok c.remove-in-Many.result (λ e.
+returns-in-Many-clause-removed g c = on_ok_weaker c.remove-in-Many.result (λ e.
     entries_removed name_total name_exact c.deref_mut.result.now c.remove-in-Many.new.self c.args.name e
     ∙ ap (without name_cmp c.args.name) (ap map.entries c.deref_mut.ensures.value ∙ ap rows_of (sym c.in-Many.is))) c.remove-in-Many.ensures.removed
 

@@ -3,10 +3,11 @@ use Rattle.std.specs.Ordering.{eq_by_cmp}
 use Rattle.std.specs.FinMap as map
 use Rattle.std.specs.FinMap.{find}
 use Rattle.std.specs.FinMap.Entries.{find-put}
+use Rattle.std.proofs.lemmas.Result.{on_ok_weaker}
 use Rattle.wjs_base.specs.declared.values.Name.TheVariants.{Index}
 use Rattle.wjs_base.specs.Order.{name_cmp, name_total}
 use Rattle.wjs_slots.specs.Dense.{index_in, dense_value, IsBeside}
-use Rattle.wjs_slots.proofs.Basics.{by_result, on_ok, if_ok}
+use Rattle.wjs_slots.proofs.Basics.{by_result, if_ok}
 use Rattle.wjs_slots.proofs.Dense.{all, get_index, get_rest, placed, place_changed, held_changed, rest_changed, dense_pushed, rest_beside, inserted}
 use Rattle.wjs_slots.proofs.Sorted.{sorted_put}
 use Rattle.wjs_slots.proofs.many.Many.set.Goals as goal
@@ -45,7 +46,7 @@ returns-then-goes_next-clause-ok g c =
     let m = c.self.inside in
     let n : c.len-then-not-is_hollow.result ≡ length m.dense = c.len-then-not-is_hollow.ensures in
     let is = c.goes_next.ensures.next c.if-goes_next.true ∙ ap Index n in
-    on_ok c.push.result (λ e.
+    on_ok_weaker c.push.result (λ e.
     inserted (all m.dense m.rest.entries) _ c.args.name c.args.value
     (held_changed m.dense c.push.new.self m.rest.entries c.args.name (Some c.args.value) (c.goes_next.ensures.none c.if-goes_next.true)
     (λ q. ap (λ dense. dense_value dense q) e ∙ dense_pushed m.dense (Some c.args.value) q ∙ ap (λ k. cond (eq_by_cmp name_cmp q k) (Some c.args.value) (dense_value m.dense q)) (sym is)))
@@ -76,7 +77,7 @@ pub returns-else-not-is_hollow-clause-ok : goal.returns-else-not-is_hollow-claus
 returns-else-not-is_hollow-clause-ok g c =
     let m = c.self.inside in
     let n : c.len.result ≡ length m.dense = c.len.ensures in
-    on_ok c.set-in-None.result (λ e.
+    on_ok_weaker c.set-in-None.result (λ e.
     inserted (all m.dense m.rest.entries) _ c.args.name c.args.value
     (rest_changed m.dense m.rest.entries c.set-in-None.new.tree.entries c.args.name (Some c.args.value) (sym (c.in-None.ensures ∙ ap (λ k. index_in k c.args.name) n))
     (λ q. ap (find name_cmp q) e ∙ find-put name_cmp name_total q c.args.name c.args.value m.rest.entries))

@@ -1,9 +1,10 @@
 use Rattle.std.proofs.Common.{◌∙◌, ap, sym, is_some, subst}
 use Rattle.std.specs.FinMap as map
+use Rattle.std.proofs.lemmas.Result.{on_ok_weaker}
 use Rattle.wjs_base.specs.Order.{name_cmp, name_total, name_exact}
 use Rattle.wjs_slots.specs.Kept.{rows_of}
 use Rattle.wjs_slots.specs.Lists.{IsInOrder}
-use Rattle.wjs_slots.proofs.Basics.{by_result, on_ok, if_ok}
+use Rattle.wjs_slots.proofs.Basics.{by_result, if_ok}
 use Rattle.wjs_slots.proofs.Sorted.{sorted_without, remove_sorted}
 use Rattle.wjs_slots.proofs.names.Names.remove.Goals as goal
 
@@ -14,7 +15,7 @@ invariant_of-self g c = by_result c.remove.result
     c.remove.ensures.removed c.remove.ensures.err
 
 pub returns-clause-removed : goal.returns-clause-removed
-returns-clause-removed g c = on_ok c.remove.result (λ e.
+returns-clause-removed g c = on_ok_weaker c.remove.result (λ e.
     remove_sorted name_total name_exact (rows_of c.self.inside.kept) (rows_of c.remove.new.self) c.args.name c.self.invariant e
     ∙ ap (λ m. map.remove m c.args.name) c.self.view_is) c.remove.ensures.removed
 

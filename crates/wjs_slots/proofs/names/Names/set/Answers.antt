@@ -1,9 +1,10 @@
 use Rattle.std.proofs.Common.{◌∙◌, ap, sym, not, is_some, subst}
 use Rattle.std.specs.FinMap as map
+use Rattle.std.proofs.lemmas.Result.{on_ok_weaker}
 use Rattle.wjs_base.specs.Order.{name_cmp, name_total}
 use Rattle.wjs_slots.specs.Kept.{rows_of}
 use Rattle.wjs_slots.specs.Lists.{IsInOrder}
-use Rattle.wjs_slots.proofs.Basics.{by_result, on_ok, if_ok}
+use Rattle.wjs_slots.proofs.Basics.{by_result, if_ok}
 use Rattle.wjs_slots.proofs.Sorted.{sorted_put, set_sorted}
 use Rattle.wjs_slots.proofs.names.Names.set.Goals as goal
 
@@ -14,7 +15,7 @@ invariant_of-self g c = by_result c.set.result
     c.set.ensures.ok c.set.ensures.err
 
 pub returns-clause-ok : goal.returns-clause-ok
-returns-clause-ok g c = on_ok c.set.result (λ e.
+returns-clause-ok g c = on_ok_weaker c.set.result (λ e.
     set_sorted name_total (rows_of c.self.inside.kept) (rows_of c.set.new.self) c.args.name c.args.value c.self.invariant e
     ∙ ap (λ m. map.insert m c.args.name c.args.value) c.self.view_is) c.set.ensures.ok
 

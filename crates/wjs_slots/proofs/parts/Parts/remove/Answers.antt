@@ -1,8 +1,9 @@
 use Rattle.std.proofs.Common.{◌∙◌, ap, sym, is_some, None}
 use Rattle.std.specs.FinMap as map
 use Rattle.std.specs.FinMap.{find}
+use Rattle.std.proofs.lemmas.Result.{on_ok_weaker, on_err_weaker}
 use Rattle.wjs_base.specs.Order.{slot_cmp, slot_total}
-use Rattle.wjs_slots.proofs.Basics.{on_err, on_ok, if_ok}
+use Rattle.wjs_slots.proofs.Basics.{if_ok}
 use Rattle.wjs_slots.proofs.Changes.{near_changed, far_changed, far_apart, set_back, removed}
 use Rattle.wjs_slots.proofs.Halves.{name_removed}
 use Rattle.wjs_slots.proofs.Sorted.{find_without, sorted_without}
@@ -12,7 +13,7 @@ use Rattle.wjs_slots.proofs.parts.Parts.remove.Goals as goal
 pub returns-in-Some-clause-removed : goal.returns-in-Some-clause-removed
 returns-in-Some-clause-removed g c =
     let p = c.self.inside in
-    on_ok c.remove.result (λ e.
+    on_ok_weaker c.remove.result (λ e.
     removed (table p.near.owner p.near.first p.near.objects.items p.far.entries) _ c.args.slot
     (near_changed p.near.owner p.near.first p.near.objects.items p.far.entries c.args.slot c.in-Some.place c.remove.new.self c.index_mut-names.result.now None c.self.invariant.apart (sym c.in-Some.ensures)
     (name_removed c.index_mut-names.result.now c.remove.new.self _ c.args.slot.name e c.index_mut-names.ensures.value))
@@ -54,6 +55,6 @@ invariant_of-self-in-None g c =
 pub returns-in-Some-clause-err : goal.returns-in-Some-clause-err
 returns-in-Some-clause-err g c =
     let p = c.self.inside in
-    on_err c.remove.result (λ e.
+    on_err_weaker c.remove.result (λ e.
     ap (λ ms. table p.near.owner p.near.first ms p.far.entries) (set_back p.near.objects.items c.in-Some.place c.remove.new.self c.index_mut-names.result.now (e ∙ c.index_mut-names.ensures.value))
     ∙ c.self.view_is) c.remove.ensures.err

@@ -2,9 +2,10 @@ use Rattle.std.proofs.Common.{◌∙◌, ap, sym, not, is_some, Some, subst, len
 use Rattle.std.specs.FinMap as map
 use Rattle.std.specs.FinMap.{find}
 use Rattle.std.specs.FinMap.Entries.{find-put}
+use Rattle.std.proofs.lemmas.Result.{on_ok_weaker, on_err_weaker}
 use Rattle.wjs_base.specs.Order.{slot_cmp, slot_total}
 use Rattle.wjs_slots.specs.Near.{IsSplit}
-use Rattle.wjs_slots.proofs.Basics.{by_result, on_err, on_ok, if_ok}
+use Rattle.wjs_slots.proofs.Basics.{by_result, if_ok}
 use Rattle.wjs_slots.proofs.Changes.{near_changed, far_changed, far_apart, set_back, inserted}
 use Rattle.wjs_slots.proofs.Halves.{name_set}
 use Rattle.wjs_slots.proofs.Sorted.{sorted_put}
@@ -28,7 +29,7 @@ invariant_of-self-in-None g c =
 pub returns-in-Some-clause-ok : goal.returns-in-Some-clause-ok
 returns-in-Some-clause-ok g c =
     let p = c.self.inside in
-    on_ok c.set.result (λ e.
+    on_ok_weaker c.set.result (λ e.
     inserted (table p.near.owner p.near.first p.near.objects.items p.far.entries) _ c.args.slot c.args.value
     (near_changed p.near.owner p.near.first p.near.objects.items p.far.entries c.args.slot c.in-Some.place c.set.new.self c.index_mut-names.result.now (Some c.args.value) c.self.invariant.apart (sym c.in-Some.ensures)
     (name_set c.index_mut-names.result.now c.set.new.self _ c.args.slot.name c.args.value e c.index_mut-names.ensures.value))
@@ -45,7 +46,7 @@ returns-in-Some-clause-added g c =
 pub returns-in-None-clause-ok : goal.returns-in-None-clause-ok
 returns-in-None-clause-ok g c =
     let p = c.self.inside in
-    on_ok c.set-in-None.result (λ e.
+    on_ok_weaker c.set-in-None.result (λ e.
     inserted (table p.near.owner p.near.first p.near.objects.items p.far.entries) _ c.args.slot c.args.value
     (far_changed p.near.owner p.near.first p.near.objects.items p.far.entries c.set-in-None.new.tree.entries c.args.slot (Some c.args.value) (sym c.in-None.ensures)
     (λ q. ap (find slot_cmp q) e ∙ find-put slot_cmp slot_total q c.args.slot c.args.value p.far.entries))
@@ -61,6 +62,6 @@ returns-in-None-clause-added g c =
 pub returns-in-Some-clause-err : goal.returns-in-Some-clause-err
 returns-in-Some-clause-err g c =
     let p = c.self.inside in
-    on_err c.set.result (λ e.
+    on_err_weaker c.set.result (λ e.
     ap (λ ms. table p.near.owner p.near.first ms p.far.entries) (set_back p.near.objects.items c.in-Some.place c.set.new.self c.index_mut-names.result.now (e ∙ c.index_mut-names.ensures.value))
     ∙ (c.self.view_is ∙ c.reach.ensures)) c.set.ensures.err

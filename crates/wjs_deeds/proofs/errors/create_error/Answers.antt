@@ -1,6 +1,0 @@
-use Rattle.std.proofs.Common.{[], ◌∙◌}
-use Rattle.wjs_deeds.proofs.Composing.{if_ok}
-use Rattle.wjs_deeds.proofs.errors.create_error.Goals as goal
-
-pub returns-in-Ok-clause-does : goal.returns-in-Ok-clause-does
-returns-in-Ok-clause-does g c = if_ok _ _ c.create_with.result (λ o k. k (λ t. []) (λ t more. c.as_slice.ensures.value ∙ c.in-Ok.ensures ∙ c.message_of.ensures)) c.create_with.ensures.does

@@ -1,4 +1,0 @@
-use Rattle.wjs_deeds.proofs.references.store.Goals as goal
-
-pub returns-in-Global-clause-does : goal.returns-in-Global-clause-does
-returns-in-Global-clause-does g c = rw c.in-Global.is c.store_property.ensures.does

@@ -1,0 +1,4 @@
+use Rattle.wjs_heap_steps.proofs.references.store.Goals as goal
+
+pub returns-in-Global-clause-does : goal.returns-in-Global-clause-does
+returns-in-Global-clause-does g c = rw c.in-Global.is c.store_property.ensures.does

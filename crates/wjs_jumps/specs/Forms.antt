@@ -1,2 +1,0 @@
--- What the nodes of a body stand for.
-pub use Rattle.wjs_walk.specs.Forms.{AreElements}

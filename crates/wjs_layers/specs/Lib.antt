@@ -1,0 +1,12 @@
+pub mod Shape
+pub mod Kinds
+pub mod Shorts
+pub mod Tables
+pub mod Sparse
+pub mod Look
+pub mod Work
+pub mod Cursor
+pub mod Least
+pub mod Moves
+pub mod Marks
+pub mod Reset

@@ -1,0 +1,131 @@
+//! What the tables of a world keep, as contents and rows.
+ghost use Rattle.std.specs.Prelude.{◌≡◌, ◌+◌, OnOk};
+ghost use Rattle.std.specs.FinMap as map;
+ghost use Rattle.std.specs.Option.{option_map, option_and_then, option_copied};
+ghost use Rattle.wjs_store.specs.State.{put};
+ghost use Rattle.wjs_store.specs.Shown.{content_of};
+ghost use Rattle.wjs_layers.specs.declared.maps.Row.{Row};
+ghost use Rattle.wjs_layers.specs.Look.{first_row_of};
+ghost use Rattle.wjs_layers.specs.Shorts.{row_first, row_in};
+ghost use Rattle.wjs_layers.specs.Sparse.{now_of};
+ghost use Rattle.wjs_layers.specs.Tables.{entry_by, rows_by};
+
+use crate::compact::{ShortContent, ShortRow};
+use crate::maps::Row;
+use crate::short::short_value;
+use std::sync::ledger::Ledger;
+use wjs_base::{Content, OutOfMemory, Slot};
+use wjs_rows::Steps;
+use wjs_slots::{Table, Walked};
+
+/// The row of a slot of the first world.
+fn row_of(value: &ShortContent) -> Row
+    ensures { result ≡ row_first value.now }
+{
+    Row {
+        read: None,
+        now: value.content(),
+        written: false,
+    }
+}
+
+/// What a slot of the first world holds.
+#[inline(always)]
+pub fn content_with(value: Option<&ShortContent>) -> Content
+    ensures { content_of result ≡ option_and_then now_of (option_map row_first (option_copied value.entry)) }
+{
+    match value {
+        None => Content::Absent,
+        Some(value) => value.content(),
+    }
+}
+
+/// What the row of a slot of the first world says that it holds.
+pub fn present(value: Option<&ShortContent>) -> Option<Content>
+    ensures { result ≡ option_map (λ (row : Row). row.now) (option_map row_first (option_copied value.entry)) }
+{
+    match value {
+        None => None,
+        Some(value) => Some(value.content()),
+    }
+}
+
+/// What a row says that its slot holds.
+pub fn held(row: Option<&ShortRow>) -> Option<Content>
+    ensures { result ≡ option_map (λ (row : Row). row.now) (option_map row_in (option_copied row.entry)) }
+{
+    match row {
+        None => None,
+        Some(row) => Some(row.held.content()),
+    }
+}
+
+/// The row of a slot of the first world.
+pub fn with_row(value: Option<&ShortContent>) -> Option<Row>
+    ensures { result ≡ option_map row_first (option_copied value.entry) }
+{
+    match value {
+        None => None,
+        Some(value) => Some(row_of(value)),
+    }
+}
+
+/// The row of a slot of a child world.
+pub fn full_row(row: Option<&ShortRow>) -> Option<Row>
+    ensures { result ≡ option_map row_in (option_copied row.entry) }
+{
+    match row {
+        None => None,
+        Some(row) => Some(row.row()),
+    }
+}
+
+/// An entry of the first world with its row.
+pub fn with_entry(entry: Option<(Slot, ShortContent)>) -> Option<(Slot, Row)>
+    ensures { result ≡ option_map (entry_by row_first) entry }
+{
+    match entry {
+        None => None,
+        Some((slot, value)) => Some((slot, row_of(&value))),
+    }
+}
+
+/// An entry of a child world with its row.
+pub fn full_entry(entry: Option<(Slot, ShortRow)>) -> Option<(Slot, Row)>
+    ensures { result ≡ option_map (entry_by row_in) entry }
+{
+    match entry {
+        None => None,
+        Some((slot, row)) => Some((slot, row.row())),
+    }
+}
+
+/// Sets a slot of the first world: an absent one is not kept.
+#[inline(always)]
+pub fn set_value<L: Ledger>(
+    values: &mut Table<ShortContent>,
+    slot: Slot,
+    content: Content,
+    steps: &mut Steps<L>,
+) -> Result<(), OutOfMemory>
+    ensures ok { OnOk result (rows_by row_first values.new ≡ put (rows_by row_first values.old) slot (first_row_of content)) }
+    ensures step { steps.new ≡ steps.old + 1 }
+{
+    match content {
+        Content::Absent => values.remove(slot, steps),
+        Content::Present(value) => values.set(slot, short_value(value, false), steps),
+    }
+}
+
+/// Puts a row into a child world.
+pub fn set_row<L: Ledger>(
+    rows: &mut Walked<ShortRow>,
+    slot: Slot,
+    row: Row,
+    steps: &mut Steps<L>,
+) -> Result<(), OutOfMemory>
+    ensures ok { OnOk result (rows_by row_in rows.new ≡ map.insert (rows_by row_in rows.old) slot row) }
+    ensures step { steps.new ≡ steps.old + 1 }
+{
+    rows.set(slot, ShortRow::new(row), steps)
+}

@@ -1,0 +1,38 @@
+use Rattle.std.proofs.Common.{sym, ap, ◌∙◌}
+use Rattle.wjs_meaning.specs.Deeds.{then_reference}
+use Rattle.wjs_meaning.specs.Reading.{node_in}
+use Rattle.wjs_model.specs.declared.frame.Completion.{Completion}
+use Rattle.wjs_model.specs.Contents.{completion_in, holding_in, reference_in}
+use Rattle.wjs_model.specs.Lists.{if_visits}
+use Rattle.wjs_model.specs.Waiting.{visit_taken}
+use Rattle.wjs_frames.specs.Parts.{env_in, node_now}
+use Rattle.wjs_step_common.proofs.Following.{follows_as}
+use Rattle.wjs_loops.proofs.ForInNames.{taken_by, taken_by_none}
+use Rattle.wjs_loops.proofs.for_ins.visit_target.Goals as goal
+
+pub returns-in-Some : goal.returns-in-Some
+returns-in-Some g c =
+    let meaning = g.S.WorldStore.meaning in
+    let f = c.args.frame in
+    let t = c.visit_taken.new.config.heap.texts in
+    let env = env_in meaning c.args.config.now t f in
+    let node = node_now meaning c.args.config.now f in
+    let left = (holding_in t f.held).visits in
+    follows_as meaning _ _ _ _ c.visit_taken.result (λ grows.
+    sym (taken_by t node c.in-Some.taker (λ k. visit_taken f.node.0 k c.args.s.0 left env (reference_in t c.in-Refers.reference))
+    (sym c.taker_of.ensures ∙ c.in-Some.is))
+    ∙ sym (ap (λ (e : Completion). then_reference (λ r. if_visits (node_in t node) (λ k. visit_taken f.node.0 k c.args.s.0 left env r)) (completion_in t e))
+    c.in-Refers.is)) c.visit_taken.ensures
+
+pub returns-in-None : goal.returns-in-None
+returns-in-None g c =
+    let meaning = g.S.WorldStore.meaning in
+    let f = c.args.frame in
+    let t = c.finish.new.config.heap.texts in
+    let env = env_in meaning c.args.config.now t f in
+    let node = node_now meaning c.args.config.now f in
+    let left = (holding_in t f.held).visits in
+    follows_as meaning _ _ _ _ c.finish.result (λ grows.
+    sym (taken_by_none t node (λ k. visit_taken f.node.0 k c.args.s.0 left env (reference_in t c.in-Refers.reference)) (sym c.taker_of.ensures ∙ c.in-None.is))
+    ∙ sym (ap (λ (e : Completion). then_reference (λ r. if_visits (node_in t node) (λ k. visit_taken f.node.0 k c.args.s.0 left env r)) (completion_in t e))
+    c.in-Refers.is)) c.finish.ensures

@@ -1,9 +1,0 @@
-use Rattle.wjs_moves.proofs.Frames.{put_on}
-use Rattle.wjs_moves.proofs.Moving.{follows_operand}
-use Rattle.wjs_moves.proofs.enters.enter_operand.Goals as goal
-
-pub returns : goal.returns
-returns g c =
-    follows_operand g.S.WorldStore.meaning c.args.config.now c.args.frame c.args.point c.args.part c.args.operand c.push.new.self
-    c.requires.runs.running.state c.requires.runs.running.base c.requires.runs.there c.requires.point c.requires.operand
-    (put_on _ _ _ _ c.in_ok-push.ensures.ok c.set_phase.ensures)

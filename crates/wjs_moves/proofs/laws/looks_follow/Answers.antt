@@ -1,5 +1,0 @@
-use Rattle.wjs_moves.proofs.Shorter.{follows_look}
-use Rattle.wjs_moves.proofs.laws.looks_follow.Goals as goal
-
-pub returns : goal.returns
-returns g c = follows_look g.S.WorldStore.meaning

@@ -1,5 +1,0 @@
-use Rattle.wjs_moves.proofs.Reaching.{reached_reached}
-use Rattle.wjs_moves.proofs.laws.reached_is_reached.Goals as goal
-
-pub returns : goal.returns
-returns g c = reached_reached g.S.WorldStore.meaning

@@ -1,5 +1,0 @@
-use Rattle.wjs_moves.proofs.Shorter.{follows_shorter}
-use Rattle.wjs_moves.proofs.laws.shorter_follow.Goals as goal
-
-pub returns : goal.returns
-returns g c = follows_shorter g.S.WorldStore.meaning

@@ -1,5 +1,0 @@
-pub mod Receiving
-pub mod Lengths
-pub mod Joining
-pub mod Limits
-pub mod Interning

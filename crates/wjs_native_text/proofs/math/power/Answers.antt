@@ -1,0 +1,11 @@
+use Rattle.std.proofs.Common.{refl}
+use Rattle.wjs_step_common.proofs.Following.{follows_as}
+use Rattle.wjs_native_text.proofs.math.power.Goals as goal
+
+pub returns : goal.returns
+returns g c =
+    let m = g.S.WorldStore.meaning in
+    let old = c.args.config.now in
+    let new = c.give_result.new.config in
+    let t = new.heap.texts in
+    follows_as m _ _ old new c.give_result.result (λ grows. rw (c.whole_at.ensures t, c.whole_at-2.ensures t, c.pow-outcome.ensures) refl) c.give_result.ensures

@@ -1,0 +1,31 @@
+use Rattle.std.proofs.Common.{true, false, sym, ap}
+use Rattle.wjs_by_content.specs.Tables.{value_in}
+use Rattle.wjs_meaning.specs.NativesOfTexts.{is_number}
+use Rattle.wjs_meaning.specs.Deeds.{Act, give}
+use Rattle.wjs_frames.specs.Parts.{env_in}
+use Rattle.wjs_meaning.specs.Errors.{throw}
+use Rattle.wjs_meaning.specs.declared.trouble.Trouble.TheVariants.{WrongReceiver}
+use Rattle.wjs_step_common.proofs.Following.{follows_as}
+use Rattle.wjs_native_text.proofs.Receiving.{received, receiver_as, no_number}
+use Rattle.wjs_native_text.proofs.receivers.own_number.Goals as goal
+
+pub returns-in-Number : goal.returns-in-Number
+returns-in-Number g c =
+    let m = g.S.WorldStore.meaning in
+    let old = c.args.config.now in
+    let new = c.give.new.config in
+    let t = new.heap.texts in
+    let env = env_in m old t c.args.frame in
+    follows_as m _ _ old new c.give.result (λ grows. receiver_as is_number (value_in t c.args.this) env give) (c.in-Number.ensures.does.by (received is_number env give) new c.give.result c.give.ensures)
+
+pub returns-in_default : goal.returns-in_default
+returns-in_default g c =
+    let m = g.S.WorldStore.meaning in
+    let old = c.args.config.now in
+    let new = c.throw.new.config in
+    let t = new.heap.texts in
+    let r = c.throw.result in
+    let env = env_in m old t c.args.frame in
+    let none = no_number t c.primitive_value.result c.in_default.not-Number in
+    follows_as m _ _ old new r (λ grows. receiver_as is_number (value_in t c.args.this) env give)
+    (c.primitive_value.ensures.does.by (received is_number env give) new r (follows_as m _ _ old new r (λ grows. ap (λ b. elim b as (λ x. Act) [ true ↦ give (value_in t c.primitive_value.result) | false ↦ throw WrongReceiver env ]) (sym none)) c.throw.ensures))

@@ -1,0 +1,11 @@
+pub mod Bounds
+pub mod Spans
+pub mod Making
+pub mod Listing
+pub mod Ending
+pub mod Starts
+pub mod Forms
+pub mod Expressions
+pub mod Simple
+pub mod Declaring
+pub mod Declarations

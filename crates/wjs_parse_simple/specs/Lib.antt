@@ -1,0 +1,5 @@
+pub mod Kinds
+pub mod Readings
+pub mod Answers
+pub mod Lists
+pub mod Made

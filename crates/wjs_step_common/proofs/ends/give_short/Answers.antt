@@ -1,0 +1,6 @@
+use Rattle.wjs_by_content.specs.Values.{String}
+use Rattle.wjs_meaning.specs.Deeds.{Ret, Gives}
+use Rattle.wjs_step_common.proofs.ends.give_short.Goals as goal
+
+pub returns : goal.returns
+returns g c = c.in_ok-id.ensures.does.by (λ u. Ret (Gives (String u))) c.finish.new.config c.finish.result c.finish.ensures

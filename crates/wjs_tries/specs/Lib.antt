@@ -1,0 +1,9 @@
+pub mod Meant
+pub mod Views
+pub mod Trying
+pub mod Common
+pub mod Hiding
+pub mod Passing
+pub mod Resting
+pub mod Turning
+pub mod Exact

@@ -1,4 +1,0 @@
-pub mod Knowing
-pub mod Standing
-pub mod Storing
-pub mod Visiting

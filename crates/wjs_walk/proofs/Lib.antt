@@ -1,4 +1,0 @@
-pub mod Forms
-pub mod Walks
-pub mod Lists
-pub mod Steps

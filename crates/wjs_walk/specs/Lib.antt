@@ -1,3 +1,0 @@
-pub mod Forms
-pub mod There
-pub mod Laws

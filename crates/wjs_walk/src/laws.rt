@@ -1,7 +1,0 @@
-//! The law.
-ghost use Rattle.wjs_walk.specs.Laws.{FormsAreKnown};
-
-/// A node that stands for a statement has the statement's form, and its parts stand for the statement's parts.
-pub fn forms_are_known()
-    ensures { FormsAreKnown }
-{}
