@@ -1,3 +1,3 @@
-pub mod Links
+pub mod NoExpr
 pub mod OperationLines
 pub mod Passing

@@ -1,8 +1,5 @@
 //! What an expression begins with (ECMA-262, 3rd edition, section 11).
-ghost use Rattle.wjs_meaning.specs.Reading.{node_in};
-ghost use Rattle.wjs_frames.specs.Parts.{node_now};
-ghost use Rattle.wjs_eval_expr.specs.Links.{primary_of, member_of, operator_of};
-ghost use Rattle.wjs_frames.specs.Handling.{Runs, Begins, GoesOn};
+ghost use Rattle.wjs_frames.specs.Handling.{Runs, Begins};
 
 use wjs_assigns::{assign_start, comma_start, cond_start, prefix_start, update_start};
 use wjs_base::{OutOfMemory, Value};
@@ -21,105 +18,80 @@ pub fn expr<S: WorldStore>(config: &mut Config<S>, frame: Frame) -> Result<(), O
     requires runs { Runs S.meaning config.old frame }
     ensures { Begins S.meaning frame Start.Expr config.old config.new result }
 {
-    primary(config, frame)
-}
-
-/// A name, `this`, `thisWorld`, parentheses or a literal of a primitive.
-fn primary<S: WorldStore>(config: &mut Config<S>, frame: Frame) -> Result<(), OutOfMemory>
-    requires runs { Runs S.meaning config.old frame }
-    ensures { GoesOn S.meaning frame config.old config.new result (λ t env. primary_of frame.node.0 (node_in t (node_now S.meaning config.old frame)) env) }
-{
-    match node_of(config, &frame) {
-        Some(Node::Name(id)) => {
+    let Some(node) = node_of(config, &frame) else {
+        return finish(config, frame, Completion::Normal);
+    };
+    match node {
+        Node::Name(id) => {
             let id = *id;
             name_value(config, frame, id)
         }
-        Some(Node::Number(number)) => {
+        Node::Number(number) => {
             let value = Value::Number(*number);
             finish(config, frame, Completion::Gives(value))
         }
-        Some(Node::Text(id)) => {
+        Node::Text(id) => {
             let id = *id;
             text(config, frame, id)
         }
-        Some(Node::This) => this(config, frame),
-        Some(Node::ThisWorld) => this_world(config, frame),
-        Some(Node::Null) => finish(config, frame, Completion::Gives(Value::Null)),
-        Some(Node::Bool(truth)) => {
+        Node::This => this(config, frame),
+        Node::ThisWorld => this_world(config, frame),
+        Node::Null => finish(config, frame, Completion::Gives(Value::Null)),
+        Node::Bool(truth) => {
             let value = Value::Bool(*truth);
             finish(config, frame, Completion::Gives(value))
         }
-        Some(Node::Paren(part)) => {
+        Node::Paren(part) => {
             let part = *part;
             enter_last(config, frame, Part::Expr(part))
         }
-        _ => member(config, frame),
-    }
-}
-
-/// A member, a call, `new`, or a literal of an array, an object or a function.
-fn member<S: WorldStore>(config: &mut Config<S>, frame: Frame) -> Result<(), OutOfMemory>
-    requires runs { Runs S.meaning config.old frame }
-    ensures { GoesOn S.meaning frame config.old config.new result (λ t env. member_of frame.node.0 (node_in t (node_now S.meaning config.old frame)) env) }
-{
-    match node_of(config, &frame) {
-        Some(Node::ArrayLit(_, _)) => array_start(config, frame),
-        Some(Node::ObjectLit(_, _)) => object_start(config, frame),
-        Some(Node::Function(name, _, _)) => {
+        Node::ArrayLit(_, _) => array_start(config, frame),
+        Node::ObjectLit(_, _) => object_start(config, frame),
+        Node::Function(name, _, _) => {
             let name = *name;
             function_start(config, frame, name)
         }
-        Some(Node::Dot(base, name)) => {
+        Node::Dot(base, name) => {
             let (base, name) = (*base, *name);
             dot_start(config, frame, base, name, Purpose::Value)
         }
-        Some(Node::At(base, index)) => {
+        Node::At(base, index) => {
             let (base, index) = (*base, *index);
             at_start(config, frame, base, index, Purpose::Value)
         }
-        Some(Node::Call(callee, _)) => {
+        Node::Call(callee, _) => {
             let callee = *callee;
             call_start(config, frame, callee)
         }
-        Some(Node::NewWith(callee, _)) => {
+        Node::NewWith(callee, _) => {
             let callee = *callee;
             new_start(config, frame, callee)
         }
-        Some(Node::NewBare(callee)) => {
+        Node::NewBare(callee) => {
             let callee = *callee;
             new_start(config, frame, callee)
         }
-        _ => operator(config, frame),
-    }
-}
-
-/// An operator, a condition, an assignment or a comma. Any other form is no expression.
-fn operator<S: WorldStore>(config: &mut Config<S>, frame: Frame) -> Result<(), OutOfMemory>
-    requires runs { Runs S.meaning config.old frame }
-    ensures { GoesOn S.meaning frame config.old config.new result (λ t env. operator_of (node_in t (node_now S.meaning config.old frame)) env) }
-{
-    match node_of(config, &frame) {
-        Some(Node::Postfix(part, operator)) => {
+        Node::Postfix(part, operator) => {
             let (part, operator) = (*part, *operator);
             update_start(config, frame, Fix::Post, operator, part)
         }
-        Some(Node::Prefix(operator, operand)) => {
+        Node::Prefix(operator, operand) => {
             let (operator, operand) = (*operator, *operand);
             prefix_start(config, frame, operator, operand)
         }
-        Some(Node::Binary(left, operator, right)) => {
+        Node::Binary(left, operator, right) => {
             let (left, operator, right) = (*left, *operator, *right);
             binary_start(config, frame, left, operator, right)
         }
-        Some(Node::Cond(test, yes, no)) => {
+        Node::Cond(test, yes, no) => {
             let (test, yes, no) = (*test, *yes, *no);
             cond_start(config, frame, test, yes, no)
         }
-        Some(Node::Assign(part, sign, right)) => {
+        Node::Assign(part, sign, right) => {
             let (part, sign, right) = (*part, *sign, *right);
             assign_start(config, frame, part, sign, right)
         }
-        Some(Node::Comma(left, right)) => {
+        Node::Comma(left, right) => {
             let (left, right) = (*left, *right);
             comma_start(config, frame, left, right)
         }
