@@ -34,7 +34,7 @@ pub fn assign_start<S: WorldStore>(
     enter(config, frame, point, Part::Target(target))
 }
 
-/// After the target: `=` enters the right side, an operator with `=` first takes the target's value.
+/// After the target: an operator with `=` first takes the target's value.
 #[inline(always)]
 pub fn assign_reference<S: WorldStore>(
     config: &mut Config<S>,
@@ -54,9 +54,28 @@ pub fn assign_reference<S: WorldStore>(
     }
 }
 
-/// `=`: the reference is held, and the right side is entered.
+/// `=`: the right side has its value at once, or is entered.
 #[inline(always)]
 fn assign_plain<S: WorldStore>(
+    config: &mut Config<S>,
+    frame: Frame,
+    right: NodeId,
+    reference: Reference,
+) -> Result<(), OutOfMemory>
+    requires runs { Runs S.meaning config.old frame }
+    requires right { StandsHere config.old frame right }
+    requires reference { HasReference config.old reference }
+    ensures { GoesOn S.meaning frame config.old config.new result (λ t env.
+        Eval (AtExpr right.0) env (then_value (line.assign_value (reference_in t reference) env))) }
+{
+    match wjs_quick::quick(config, &frame, Part::Expr(right)) {
+        Some(value) => store_and_give(config, frame, reference, value, value),
+        None => enter_assigned(config, frame, right, reference),
+    }
+}
+
+/// The reference is held, and the right side is entered.
+fn enter_assigned<S: WorldStore>(
     config: &mut Config<S>,
     frame: Frame,
     right: NodeId,
@@ -95,9 +114,31 @@ fn assign_compound<S: WorldStore>(
     }
 }
 
-/// The reference and its value are held, and the right side is entered.
+/// The right side of an operator with `=` has its value at once, or is entered with the reference and its value held.
 #[inline(always)]
 fn compound_old<S: WorldStore>(
+    config: &mut Config<S>,
+    frame: Frame,
+    operator: BinaryOperator,
+    right: NodeId,
+    reference: Reference,
+    old: Value,
+) -> Result<(), OutOfMemory>
+    requires runs { Runs S.meaning config.old frame }
+    requires right { StandsHere config.old frame right }
+    requires reference { HasReference config.old reference }
+    requires old { HasValue config.old old }
+    ensures { GoesOn S.meaning frame config.old config.new result (λ t env.
+        line.compound_old operator right.0 (reference_in t reference) env (value_in t old)) }
+{
+    match wjs_quick::quick(config, &frame, Part::Expr(right)) {
+        Some(value) => compound_both(config, frame, operator, reference, old, value),
+        None => enter_right(config, frame, operator, right, reference, old),
+    }
+}
+
+/// The reference and its value are held, and the right side is entered.
+fn enter_right<S: WorldStore>(
     config: &mut Config<S>,
     frame: Frame,
     operator: BinaryOperator,
@@ -135,7 +176,7 @@ pub fn assign_value<S: WorldStore>(
     store_and_give(config, frame, reference, value, value)
 }
 
-/// After the right value of an operator with `=`: two numbers need no frame.
+/// After the right value of an operator with `=`: the reference and its value are held.
 #[inline(always)]
 pub fn compound_value<S: WorldStore>(
     config: &mut Config<S>,
@@ -149,10 +190,55 @@ pub fn compound_value<S: WorldStore>(
         line.compound_value operator (value_in t (value_held frame.held)) (reference_in t (reference_held frame.held)) env (value_in t value)) }
 {
     let old = held_value(config, &frame);
+    let reference = held_reference(config, &frame);
+    compound_both(config, frame, operator, reference, old, value)
+}
+
+/// The operation of an operator with `=`, and the store of its result: two numbers need no frame.
+#[inline(always)]
+fn compound_both<S: WorldStore>(
+    config: &mut Config<S>,
+    frame: Frame,
+    operator: BinaryOperator,
+    reference: Reference,
+    old: Value,
+    value: Value,
+) -> Result<(), OutOfMemory>
+    requires runs { Runs S.meaning config.old frame }
+    requires reference { HasReference config.old reference }
+    requires old { HasValue config.old old }
+    requires value { HasValue config.old value }
+    ensures { GoesOn S.meaning frame config.old config.new result (λ t env.
+        line.compound_value operator (value_in t old) (reference_in t reference) env (value_in t value)) }
+{
     match quick(operator, old, value) {
-        Some(number) => assign_value(config, frame, Value::Number(number)),
-        None => compound_nested(config, frame, operator, old, value),
+        Some(number) => {
+            let stored = Value::Number(number);
+            store_and_give(config, frame, reference, stored, stored)
+        }
+        None => compound_held(config, frame, operator, reference, old, value),
     }
+}
+
+/// The reference is held, for the store after the operation.
+fn compound_held<S: WorldStore>(
+    config: &mut Config<S>,
+    frame: Frame,
+    operator: BinaryOperator,
+    reference: Reference,
+    old: Value,
+    value: Value,
+) -> Result<(), OutOfMemory>
+    requires runs { Runs S.meaning config.old frame }
+    requires reference { HasReference config.old reference }
+    requires old { HasValue config.old old }
+    requires value { HasValue config.old value }
+    ensures { GoesOn S.meaning frame config.old config.new result (λ t env.
+        line.compound_value operator (value_in t old) (reference_in t reference) env (value_in t value)) }
+{
+    let mut frame = frame;
+    hold(&mut frame, Held::Reference(reference))?;
+    compound_nested(config, frame, operator, old, value)
 }
 
 /// The operation is done above the frame, which waits for what is stored.

@@ -6,13 +6,14 @@ ghost use Rattle.wjs_model.specs.Soundness.{HasValue, StandsHere};
 ghost use Rattle.wjs_frames.specs.Handling.{Runs, IsAt, GoesOn};
 
 use wjs_base::{OutOfMemory, Value};
-use wjs_frames::{Part, enter, enter_last};
+use wjs_frames::{Part, enter};
 use wjs_model::{Config, ExprPoint, Frame, Point};
+use wjs_quick::{enter_last_quickly, quick};
 use wjs_step_common::to_boolean;
 use wjs_store::WorldStore;
 use wjs_tree::{Node, NodeId};
 
-/// The test of a condition is entered.
+/// The test of a condition has its value at once, or is entered.
 pub fn cond_start<S: WorldStore>(
     config: &mut Config<S>,
     frame: Frame,
@@ -24,8 +25,13 @@ pub fn cond_start<S: WorldStore>(
     requires node { IsAt S.meaning config.old frame (Node.Cond test yes no) }
     ensures { GoesOn S.meaning frame config.old config.new result (λ t env. Eval (AtExpr test.0) env (then_value (line.cond_test yes.0 no.0 env))) }
 {
-    let point = Point::Expr(ExprPoint::CondTest(yes, no));
-    enter(config, frame, point, Part::Expr(test))
+    match quick(config, &frame, Part::Expr(test)) {
+        Some(value) => cond_test(config, frame, yes, no, value),
+        None => {
+            let point = Point::Expr(ExprPoint::CondTest(yes, no));
+            enter(config, frame, point, Part::Expr(test))
+        }
+    }
 }
 
 /// After the test: one of the two is the expression's value.
@@ -43,13 +49,13 @@ pub fn cond_test<S: WorldStore>(
     ensures { GoesOn S.meaning frame config.old config.new result (λ t env. line.cond_test yes.0 no.0 env (value_in t value)) }
 {
     if to_boolean(config, value) {
-        enter_last(config, frame, Part::Expr(yes))
+        enter_last_quickly(config, frame, Part::Expr(yes))
     } else {
-        enter_last(config, frame, Part::Expr(no))
+        enter_last_quickly(config, frame, Part::Expr(no))
     }
 }
 
-/// The left of a comma is entered.
+/// The left of a comma has its value at once, or is entered.
 pub fn comma_start<S: WorldStore>(
     config: &mut Config<S>,
     frame: Frame,
@@ -60,8 +66,13 @@ pub fn comma_start<S: WorldStore>(
     requires node { IsAt S.meaning config.old frame (Node.Comma left right) }
     ensures { GoesOn S.meaning frame config.old config.new result (λ t env. Eval (AtExpr left.0) env (then_value (line.comma_left right.0 env))) }
 {
-    let point = Point::Expr(ExprPoint::CommaLeft(right));
-    enter(config, frame, point, Part::Expr(left))
+    match quick(config, &frame, Part::Expr(left)) {
+        Some(value) => comma_left(config, frame, right, value),
+        None => {
+            let point = Point::Expr(ExprPoint::CommaLeft(right));
+            enter(config, frame, point, Part::Expr(left))
+        }
+    }
 }
 
 /// After the left of a comma: the right is the expression's value.
@@ -76,5 +87,5 @@ pub fn comma_left<S: WorldStore>(
     requires value { HasValue config.old value }
     ensures { GoesOn S.meaning frame config.old config.new result (λ t env. line.comma_left right.0 env (value_in t value)) }
 {
-    enter_last(config, frame, Part::Expr(right))
+    enter_last_quickly(config, frame, Part::Expr(right))
 }

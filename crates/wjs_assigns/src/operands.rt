@@ -9,10 +9,12 @@ use wjs_base::OutOfMemory;
 use wjs_frames::{Part, enter};
 use wjs_members::is_target;
 use wjs_model::{Config, ExprPoint, Frame, Point};
+use wjs_quick::enter_quickly;
 use wjs_store::WorldStore;
 use wjs_tree::NodeId;
 
-/// An operand that is a target is entered as one, any other for its value. The frame waits for each at a point of its own.
+/// An operand that is a target is entered as one. Any other has its value at once, or is entered for it. The frame waits for each at a
+/// point of its own.
 pub(crate) fn enter_operand<S: WorldStore>(
     config: &mut Config<S>,
     frame: Frame,
@@ -31,11 +33,11 @@ pub(crate) fn enter_operand<S: WorldStore>(
     if is_target(config, &frame, operand) {
         enter(config, frame, Point::Expr(as_target), Part::Target(operand))
     } else {
-        enter(config, frame, Point::Expr(as_value), Part::Expr(operand))
+        enter_quickly(config, frame, Point::Expr(as_value), Part::Expr(operand))
     }
 }
 
-/// An operand is entered for its value.
+/// An operand has its value at once, or is entered for it.
 pub(crate) fn enter_value<S: WorldStore>(
     config: &mut Config<S>,
     frame: Frame,
@@ -48,5 +50,5 @@ pub(crate) fn enter_value<S: WorldStore>(
     ensures { GoesOn S.meaning frame config.old config.new result (λ t env.
         Eval (AtExpr operand.0) env (then_at S.meaning config.old frame (Point.Expr point) t env)) }
 {
-    enter(config, frame, Point::Expr(point), Part::Expr(operand))
+    enter_quickly(config, frame, Point::Expr(point), Part::Expr(operand))
 }

@@ -18,7 +18,8 @@ use wjs_step_common::{is_object, to_boolean, to_number};
 use wjs_store::WorldStore;
 use wjs_tree::{NodeId, PrefixOperator, UpdateOperator};
 
-/// The operand is entered: as a target by `++` and `--`, by `delete` and `typeof` where it is one, and for its value else.
+/// The operand is entered as a target by `++` and `--`, and by `delete` and `typeof` where it is one. Elsewhere it has its value
+/// at once, or is entered for it.
 pub fn prefix_start<S: WorldStore>(
     config: &mut Config<S>,
     frame: Frame,

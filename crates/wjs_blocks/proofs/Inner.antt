@@ -6,7 +6,7 @@ use Rattle.wjs_base.specs.Text.{Table}
 use Rattle.wjs_base.specs.declared.ids.ObjId.{ObjId}
 use Rattle.wjs_store.specs.Meaning.{Meaning}
 use Rattle.wjs_meaning.specs.Deeds.{St, Env, Goal, Completion, Act, Ret, Eval, Sub, Outcome, Ends, Spent, interp, then_do}
-use Rattle.wjs_meaning.specs.Programs.{Done, run_next, eval}
+use Rattle.wjs_meaning.specs.Programs.{Ending, Done, run_next, eval}
 use Rattle.wjs_model.specs.declared.config.Config.{Config}
 use Rattle.wjs_model.specs.declared.frame.Activation.{Activation as NumberedFrame}
 use Rattle.wjs_model.specs.Contents.{Frame, Run}
@@ -32,15 +32,15 @@ module _ {S : Type 0} (meaning : S → Meaning) where
   inner_keeps t goal env go old new frames outer inner = record {
     stays = outer.stays;
     cost = outer.cost;
-    free = outer.free;
     left = outer.left;
     alive = outer.alive;
     kept = λ v a h n. ap (seen (tells meaning old)) (sym (inner_same (run_in meaning t old) goal env go (frames_in meaning t old) (state_in meaning t v old) (outer.cost + n))) ∙ outer.kept v a h n;
+    paid = λ v a h m l. ap (λ (r : Ending × St). r.0) (sym (inner_same (run_in meaning t old) goal env go (frames_in meaning t old) (state_in meaning t v old) m)) ∙ outer.paid v a h m l;
     knows = outer.knows;
-    falls = λ free v a h.
+    falls = λ none v a h.
         let one : old.left ≡ outer.cost + new.left = outer.left in
         let two : old.left ≡ inner.cost + new.left = inner.left in
-        inner.falls (omega (arith, one, two, free)) v a h;
+        inner.falls (omega (arith, one, two, none)) v a h;
   }
 
   pub inner_follows : (goal : Goal) (env : Env) (go : Table → Completion → Act) (old new : Config S) (frames : List NumberedFrame) (r : Result (Unit {0}) OutOfMemory) → Nests meaning go old (record old { frames = frames }) → OnOk r (Follows meaning (Eval goal env Ret) (record old { frames = frames }) new) → OnOk r (Follows meaning (Eval goal env (go new.heap.texts)) old new)

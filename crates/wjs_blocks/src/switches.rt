@@ -16,6 +16,7 @@ use crate::clauses::{case_from, default_of, statement_at, statements_before};
 use wjs_base::{OutOfMemory, Value};
 use wjs_frames::{Part, enter, finish, hold, node_of};
 use wjs_model::{Completion, Config, Frame, Held, Point, StmtPoint};
+use wjs_quick::enter_quickly;
 use wjs_step_common::{held_value, number_after, number_of, strictly_equal};
 use wjs_store::WorldStore;
 use wjs_tree::{Clause, Node};
@@ -51,7 +52,7 @@ pub fn switch_value<S: WorldStore>(
     }
 }
 
-/// The cases from one of a number on, for the value that is held: the first of them is entered, or without one the statements
+/// The cases from one of a number on, for the value that is held: the first of them is asked for, or without one the statements
 /// from `default` on are.
 fn cases_from<S: WorldStore>(
     config: &mut Config<S>,
@@ -66,7 +67,7 @@ fn cases_from<S: WorldStore>(
         Some(case) => {
             let at = number_of(case.at)?;
             let point = Point::Stmt(StmtPoint::CaseValue(at));
-            enter(config, frame, point, Part::Expr(case.test))
+            enter_quickly(config, frame, point, Part::Expr(case.test))
         }
         None => {
             let clause = default_of(clauses_of(config, &frame));

@@ -21,7 +21,7 @@ use Rattle.wjs_model.specs.Configurations.{seen, tells, run_in, state_in, frames
 use Rattle.wjs_frames.specs.Parts.{ended}
 use Rattle.wjs_frames.specs.Keeping.{rest_with, Keeps}
 use Rattle.wjs_frames.proofs.Frames.{each_snoc, under_snoc, turns_under_snoc}
-use Rattle.wjs_frames.proofs.Keeping.{none_taken, keeps_framed, stays_framed}
+use Rattle.wjs_frames.proofs.Keeping.{none_taken, none_under, keeps_framed, stays_framed}
 
 alive_ended : (c : Completion) → ended c ≡ states.StepsSpent → ⊥
 alive_ended (completions.Gives v) e = cc
@@ -113,7 +113,6 @@ module _ {S : Type 0} (meaning : S → Meaning) where
       record {
         stays = stays_framed meaning old frames state;
         cost = 0;
-        free = refl;
         left = sym (none_taken old.left);
         alive = λ e. alive_ended c (sym es ∙ e);
         kept = λ v a k n.
@@ -123,6 +122,7 @@ module _ {S : Type 0} (meaning : S → Meaning) where
             ∙ ap (λ l. rest_with run (Ret (completion_in t c)) (each (frame_in t) l) st n) eo
             ∙ rest_ended t c run gs st n
             ∙ ap (λ s. rest_by t s run gs st n) (sym es));
+        paid = λ v a k m l. absurd (none_under m l);
         knows = λ v a k. k;
         falls = λ none v a k.
             let st = state_in meaning t v old in

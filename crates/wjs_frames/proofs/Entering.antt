@@ -4,7 +4,7 @@ use Rattle.std.specs.Prelude.{map as each}
 use Rattle.wjs_base.specs.Text.{Table}
 use Rattle.wjs_store.specs.Meaning.{Meaning}
 use Rattle.wjs_meaning.specs.Deeds.{St, Env, Goal, Completion, Act, Ret, Tick, Eval, Sub, Outcome, Ends, Spent, interp, then_do, node_here}
-use Rattle.wjs_meaning.specs.Programs.{Done, run_next, eval, entry}
+use Rattle.wjs_meaning.specs.Programs.{Ending, Done, run_next, eval, entry}
 use Rattle.wjs_meaning.proofs.Steps.{entries_lem}
 use Rattle.wjs_model.specs.declared.config.Config.{Config}
 use Rattle.wjs_model.specs.declared.config.State.TheVariants as states
@@ -12,8 +12,9 @@ use Rattle.wjs_model.specs.declared.point.Point.{Point}
 use Rattle.wjs_model.specs.declared.point.Start.{Start}
 use Rattle.wjs_model.specs.declared.frame.Phase.TheVariants as phases
 use Rattle.wjs_model.specs.declared.operand.Operand.{Operand}
+use Rattle.wjs_model.specs.declared.frame.Completion.{Completion as Said}
 use Rattle.wjs_model.specs.declared.frame.Activation.{Activation as NumberedFrame}
-use Rattle.wjs_model.specs.Contents.{Frame, Run, frame_in, holding_in, operand_in}
+use Rattle.wjs_model.specs.Contents.{Frame, Run, frame_in, completion_in, holding_in, operand_in}
 use Rattle.wjs_model.specs.Operands.{with_operand}
 use Rattle.wjs_model.specs.Rest.{Go, under, given, act_after, begin, begin_at, turns_over, turns_act}
 use Rattle.wjs_model.specs.Waiting.{after}
@@ -79,6 +80,9 @@ one_due k = omega arith
 fewer_above : (x y k : ℕ) → k ≡ suc y → x + 0 ≤ suc y → x + 1 ≤ suc k
 fewer_above x y k e h = omega (arith, e, h)
 
+one_given : (x y : ℕ) → x ≡ y → suc x + 1 ≤ suc (suc (suc y))
+one_given x y e = omega (arith, e)
+
 no_fewer : (x : ℕ) → x + 0 ≤ x
 no_fewer x = omega arith
 
@@ -124,6 +128,18 @@ module _ {S : Type 0} (meaning : S → Meaning) where
       (λ st n. ap (λ out. run_next (then_do out (under run (frames_in meaning t old) Ends)) (λ st' n'. (Done, st'))) (entered_same (goal_of p) env go act (is.does t go) st n))
       (λ st. one_due _)
 
+  -- a frame goes on with a completion
+  pub keeps_going : (t : Table) (old : Config S) (f : NumberedFrame) (point : Point) (c : Said) (frames : List NumberedFrame) → old.state ≡ states.Running
+      → frames ≡ old.frames ++ record f { phase = phases.Given point c } ∷ []
+      → Keeps meaning t 1 (Sub (Ret (completion_in t c)) (then_at meaning old f point t (env_in meaning old t f))) old (record old { frames = frames })
+  keeps_going t old f point c frames er ef =
+      let run = run_in meaning t old in
+      let go = then_at meaning old f point t (env_in meaning old t f) in
+      let d = completion_in t c in
+      let is : given run (frame_in t f) point d ≡ go d = ap (λ (k : Completion → Act). k d) (given_then t old f point) in
+      keeps_framed meaning t 1 (Sub (Ret d) go) (go d) old frames old.frames (record f { phase = phases.Given point c }) er ef is
+      (λ st n. refl) (λ st. one_given _ _ (ap (λ (a : Act). turns_over run a (frames_in meaning t old) st) is))
+
   -- a part is due in the place of a frame
   pub keeps_last : (t : Table) (old : Config S) (at : NumberedFrame) (p : Part) (frames : List NumberedFrame) → old.state ≡ states.Running
       → frames ≡ old.frames ++ due_frame at p ∷ [] → Keeps meaning t 1 (Eval (goal_of p) (env_in meaning old t at) Ret) old (record old { frames = frames })
@@ -167,7 +183,6 @@ module _ {S : Type 0} (meaning : S → Meaning) where
         record {
           stays = record { units = s.units; global = s.global; world = s.world; owner = s.owner; apart = s.apart; texts = s.texts; objects = s.objects; made = s.made; own = s.own; around = s.around; narrows = s.narrows };
           cost = k.cost;
-          free = k.free;
           left = k.left;
           alive = k.alive;
           kept = λ v a h n.
@@ -175,6 +190,10 @@ module _ {S : Type 0} (meaning : S → Meaning) where
               let m = k.cost + n in
               ap (seen (tells meaning old)) (ap (λ q. rest_with run (Sub act q) (frames_in meaning t old) st m) (sym (waits_then t old f point)) ∙ sub_rest run act (frames_in meaning t old) (frame_in t w) st m ∙ sym (ap (λ l. rest_with run act l st m) eg))
               ∙ k.kept v a h n;
+          paid = λ v a h m l.
+              let st = state_in meaning t v old in
+              ap (λ (r : Ending × St). r.0) (ap (λ q. rest_with run (Sub act q) (frames_in meaning t old) st m) (sym (waits_then t old f point)) ∙ sub_rest run act (frames_in meaning t old) (frame_in t w) st m ∙ sym (ap (λ l. rest_with run act l st m) eg))
+              ∙ k.paid v a h m l;
           knows = k.knows;
           falls = λ none v a h.
               let st = state_in meaning t v old in

@@ -1,5 +1,5 @@
 -- Moves that change the frames alone.
-use Rattle.std.proofs.Common.{◌≡◌, ℕ, suc, ◌+◌, ◌≤◌, List, [], ◌∷◌, ◌++◌, None, Some, refl, sym, ap, ◌∙◌, subst, arith}
+use Rattle.std.proofs.Common.{◌≡◌, ℕ, suc, ◌+◌, ◌<◌, ◌≤◌, List, [], ◌∷◌, ◌++◌, None, Some, refl, sym, ap, ◌∙◌, subst, arith}
 use Rattle.std.specs.Prelude.{map as each}
 use Rattle.std.specs.FinMap as map
 use Rattle.wjs_base.specs.declared.ids.ObjId.{ObjId}
@@ -27,6 +27,9 @@ grows_same t = ([], append_nil t)
 -- no step is taken
 pub none_taken : (n : ℕ) → 0 + n ≡ n
 none_taken n = omega arith
+
+pub none_under : (m : ℕ) → m < 0 → ⊥
+none_under m l = omega (arith, l)
 
 not_spent : (s : State) → s ≡ states.Running → s ≡ states.StepsSpent → ⊥
 not_spent s r e = cc
@@ -64,7 +67,6 @@ module _ {S : Type 0} (meaning : S → Meaning) where
       record {
         stays = stays_framed old frames old.state;
         cost = 0;
-        free = refl;
         left = sym (none_taken old.left);
         alive = not_spent old.state er;
         kept = λ v a k n.
@@ -76,6 +78,7 @@ module _ {S : Type 0} (meaning : S → Meaning) where
             ∙ sym (rest_of_snoc run gs g st n)
             ∙ sym (ap (λ l. rest_of run l st n) eg)
             ∙ sym (ap (λ s. rest_by t s run (each (frame_in t) frames) st n) er));
+        paid = λ v a k m l. absurd (none_under m l);
         knows = λ v a k. k;
         falls = λ none v a k.
             let st = state_in meaning t v old in

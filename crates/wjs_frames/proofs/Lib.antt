@@ -10,6 +10,7 @@ pub mod Taking
 pub mod Moving
 pub mod Parting
 pub mod Shorter
+pub mod Paying
 pub mod Lists
 pub mod NodesGrow
 pub mod FramesGrow

@@ -1,8 +1,8 @@
 -- What the moves follow, and that they leave a sound configuration.
-use Rattle.std.proofs.Common.{◌≡◌, ℕ, ◌+◌, ◌≤◌, false, List, [], ◌∷◌, ◌++◌, refl, sym, ap, ◌∙◌, subst, true, arith}
-use Rattle.std.specs.Prelude.{All, is_some, Result, OnOk, Ok, Err}
+use Rattle.std.proofs.Common.{◌≡◌, ℕ, ◌+◌, ◌≤◌, List, [], ◌∷◌, ◌++◌, refl, sym, ap, ◌∙◌, subst, true, arith}
+use Rattle.std.specs.Prelude.{All, is_some}
+use Rattle.std.proofs.lemmas.Result.{on_ok_weaker}
 use Rattle.std.proofs.lemmas.List.Elements.{All-nil, All-push, All-same}
-use Rattle.wjs_base.specs.declared.ids.OutOfMemory.{OutOfMemory}
 use Rattle.wjs_base.specs.Text.{Table}
 use Rattle.wjs_store.specs.Meaning.{Meaning}
 use Rattle.wjs_meaning.specs.Deeds.{Act, Ret, Tick, Eval, Sub}
@@ -35,7 +35,7 @@ use Rattle.wjs_frames.specs.Following.{Follows, Later}
 use Rattle.wjs_frames.specs.Nesting.{Nests}
 use Rattle.wjs_frames.proofs.Sounding.{stacked_at, there_framed, base_framed, sound_push, there_pop}
 use Rattle.wjs_frames.proofs.Keeping.{grows_same}
-use Rattle.wjs_frames.proofs.Entering.{keeps_enter, keeps_operand, keeps_last, keeps_ready, keeps_due, opens_waiting}
+use Rattle.wjs_frames.proofs.Entering.{keeps_enter, keeps_operand, keeps_going, keeps_last, keeps_ready, keeps_due, opens_waiting}
 use Rattle.wjs_frames.proofs.Ending.{keeps_given, keeps_ended}
 
 thrown_ended : {S : Type 0} (c : Config S) (e : Completion) → HasCompletion c e → HasThrown c (ended e)
@@ -59,13 +59,9 @@ stopped_ended (completions.Throws v) h = cc
 fewer : (x y : ℕ) → x + 1 ≤ y → x + 0 ≤ y
 fewer x y h = omega (arith, h)
 
-on_ok : {A B : Type 0} (r : Result (Unit {0}) OutOfMemory) → (A → B) → OnOk r A → OnOk r B
-on_ok (Ok x) f h = f h
-on_ok (Err x) f h = tt
-
 module _ {S : Type 0} (meaning : S → Meaning) where
   none_fewer : (t : Table) (act : Act) (old new : Config S) → Keeps meaning t 1 act old new → Keeps meaning t 0 act old new
-  none_fewer t act old new k = record { stays = k.stays; cost = k.cost; free = k.free; left = k.left; alive = k.alive; kept = k.kept; knows = k.knows; falls = λ none v a h. fewer _ _ (k.falls none v a h) }
+  none_fewer t act old new k = record { stays = k.stays; cost = k.cost; left = k.left; alive = k.alive; kept = k.kept; paid = k.paid; knows = k.knows; falls = λ none v a h. fewer _ _ (k.falls none v a h) }
 
   start_due : (old : Config S) (p : Part) → HasStart old (start_of p)
   start_due old (part.Expr e) = tt
@@ -101,6 +97,15 @@ module _ {S : Type 0} (meaning : S → Meaning) where
   follows_operand old f point p o frames er b h hp is ef = record {
     keeps = keeps_operand meaning old.heap.texts old f point p o frames er is ef;
     sound = sound_push meaning old frames old.frames _ er b b.frames (stacked_at meaning old f (phases.Entering point o) (hp, is.has) h) ef;
+  }
+
+  -- a frame goes on with a completion
+  pub follows_going : (old : Config S) (f : Frame) (point : Point) (c : Completion) (frames : List Frame) → old.state ≡ states.Running → Base meaning old
+      → IsThere meaning old f → HasPoint old f point → HasCompletion old c → frames ≡ old.frames ++ record f { phase = phases.Given point c } ∷ []
+      → Follows meaning (let t = old.heap.texts in Sub (Ret (completion_in t c)) (then_at meaning old f point t (env_in meaning old t f))) old (record old { frames = frames })
+  follows_going old f point c frames er b h hp hc ef = record {
+    keeps = keeps_going meaning old.heap.texts old f point c frames er ef;
+    sound = sound_push meaning old frames old.frames _ er b b.frames (stacked_at meaning old f (phases.Given point c) (hp, hc) h) ef;
   }
 
   -- a part is due in the place of a frame
@@ -141,7 +146,7 @@ module _ {S : Type 0} (meaning : S → Meaning) where
       → frames ≡ old.frames ++ record f { phase = phases.Waiting point } ∷ []
       → Nests meaning (λ t. then_at meaning old f point t (env_in meaning old t f)) old (record old { frames = frames })
   nests_waiting old f point frames ef = record {
-    by = λ act later r k. on_ok r (λ h. record { keeps = (opens_waiting meaning later.heap.texts old f point frames ef).by act later (none_fewer later.heap.texts act (record old { frames = frames }) later h.keeps); sound = h.sound }) k;
+    by = λ act later r k. on_ok_weaker r (λ h. record { keeps = (opens_waiting meaning later.heap.texts old f point frames ef).by act later (none_fewer later.heap.texts act (record old { frames = frames }) later h.keeps); sound = h.sound }) k;
   }
 
   -- all else stays

@@ -76,7 +76,7 @@ entered_same goal env go act h st (suc n) = ap (λ o. then_do o (λ c st' n'. in
 -- ---- the operands of parts
 
 module _ {S : Type 0} (meaning : S → Meaning) (c : Config S) (f : Frame) (e : NodeId) where
-  expr_is : (n : Node) (t : Table) → node_among c.units.items f.tree e ≡ n → entry (AtExpr e.0) (env_in meaning c t f) ≡ expr_of e.0 (node_in t n) (env_in meaning c t f)
+  pub expr_is : (n : Node) (t : Table) → node_among c.units.items f.tree e ≡ n → entry (AtExpr e.0) (env_in meaning c t f) ≡ expr_of e.0 (node_in t n) (env_in meaning c t f)
   expr_is n t is = ap (λ node. expr_of e.0 node (env_in meaning c t f)) (node_same t c.units.items f.tree e ∙ ap (node_in t) is)
 
   -- a part that comes to its end at once, with a value

@@ -1,6 +1,7 @@
 -- Deeds that come to the same in fewer turns are followed by what those are followed by.
 use Rattle.std.proofs.Common.{◌≡◌, ℕ, suc, ◌+◌, ◌≤◌, refl, sym, ap, ◌∙◌, subst, arith}
-use Rattle.std.specs.Prelude.{Result, OnOk, Ok, Err}
+use Rattle.std.specs.Prelude.{Result, OnOk}
+use Rattle.std.proofs.lemmas.Result.{on_ok_weaker}
 use Rattle.wjs_base.specs.declared.ids.OutOfMemory.{OutOfMemory}
 use Rattle.wjs_base.specs.declared.ids.WorldId.{WorldId}
 use Rattle.wjs_store.specs.Meaning.{Meaning}
@@ -67,10 +68,6 @@ shorten_plan (Reads s next) w go to = shorten_trans _ _ _ (shorten_deed _ _ to) 
 shorten_plan (Writes s c next) w go to = shorten_trans _ _ _ (shorten_deed _ _ to) (shorten_do _ _ _ (λ done. shorten_plan next w go to))
 shorten_plan (Lists o next) w go to = shorten_trans _ _ _ (shorten_deed _ _ to) (shorten_do _ _ _ (λ names. shorten_plan (next names) w go to))
 
-on_ok : {A B : Type 0} (r : Result (Unit {0}) OutOfMemory) → (A → B) → OnOk r A → OnOk r B
-on_ok (Ok x) f h = f h
-on_ok (Err x) f h = tt
-
 module _ {S : Type 0} (meaning : S → Meaning) where
   shorter_follows : (long short : Act) (old new : Config S) → Shortens long short → Follows meaning short old new → Follows meaning long old new
   shorter_follows long short old new h f =
@@ -81,10 +78,10 @@ module _ {S : Type 0} (meaning : S → Meaning) where
         keeps = record {
           stays = f.keeps.stays;
           cost = f.keeps.cost;
-          free = f.keeps.free;
           left = f.keeps.left;
           alive = f.keeps.alive;
           kept = λ v a k n. ap (λ o. seen (tells meaning old) (run_next (then_do o (under run fs Ends)) (λ st' n'. (Done, st')))) (h.same (state_in meaning t v old) (f.keeps.cost + n)) ∙ f.keeps.kept v a k n;
+          paid = λ v a k m l. ap (λ o. (run_next (then_do o (under run fs Ends)) (λ st' n'. (Done, st'))).0) (h.same (state_in meaning t v old) m) ∙ f.keeps.paid v a k m l;
           knows = f.keeps.knows;
           falls = λ none v a k. less_below _ _ _ (f.keeps.falls none v a k) (h.fewer (state_in meaning t v old) (turns_under run fs (λ c st'. 0)));
         };
@@ -93,7 +90,7 @@ module _ {S : Type 0} (meaning : S → Meaning) where
 
   -- what is followed of shorter deeds is followed of the long ones
   pub follows_shorter : (long short : Act) (old new : Config S) (r : Result (Unit {0}) OutOfMemory) → Shortens long short → OnOk r (Follows meaning short old new) → OnOk r (Follows meaning long old new)
-  follows_shorter long short old new r h k = on_ok r (shorter_follows long short old new h) k
+  follows_shorter long short old new r h k = on_ok_weaker r (shorter_follows long short old new h) k
 
   -- nested deeds that are at their end
   pub follows_ret : (c : Completion) (go : Completion → Act) (old new : Config S) (r : Result (Unit {0}) OutOfMemory) → OnOk r (Follows meaning (go c) old new) → OnOk r (Follows meaning (Sub (Ret c) go) old new)
@@ -109,10 +106,10 @@ module _ {S : Type 0} (meaning : S → Meaning) where
         keeps = record {
           stays = f.keeps.stays;
           cost = f.keeps.cost;
-          free = f.keeps.free;
           left = f.keeps.left;
           alive = f.keeps.alive;
           kept = λ v a k n. ap (λ q. seen (tells meaning old) (rest_with run q fs (state_in meaning t v old) (f.keeps.cost + n))) (seen_as v a) ∙ f.keeps.kept v a k n;
+          paid = λ v a k m l. ap (λ q. (rest_with run q fs (state_in meaning t v old) m).0) (seen_as v a) ∙ f.keeps.paid v a k m l;
           knows = f.keeps.knows;
           falls = λ none v a k. subst (λ q. turns meaning t v new + 1 ≤ suc (turns_over run q fs (state_in meaning t v old))) (sym (seen_as v a)) (f.keeps.falls none v a k);
         };
@@ -121,4 +118,4 @@ module _ {S : Type 0} (meaning : S → Meaning) where
 
   -- a look at the objects
   pub follows_look : (go : Arena → Act) (act : Act) (old new : Config S) (r : Result (Unit {0}) OutOfMemory) → ((arena : Arena) → Sees meaning old new.heap.texts arena → go arena ≡ act) → OnOk r (Follows meaning act old new) → OnOk r (Follows meaning (Do Look go) old new)
-  follows_look go act old new r h k = on_ok r (look_follows old new go act h) k
+  follows_look go act old new r h k = on_ok_weaker r (look_follows old new go act h) k

@@ -1,8 +1,8 @@
 -- The frame on top is taken off.
-use Rattle.std.proofs.Common.{◌≡◌, ℕ, zero, suc, ◌+◌, ◌<◌, ◌≤◌, List, [], ◌∷◌, ◌++◌, Bool, true, false, Option, None, Some, refl, sym, ap, ◌∙◌, subst, arith}
-use Rattle.std.specs.Prelude.{map as each, option_map, is_some, unwrap_or, Result, Ok, Err, OnOk}
+use Rattle.std.proofs.Common.{◌≡◌, ℕ, zero, suc, ◌+◌, ◌<◌, ◌≤◌, List, [], ◌∷◌, ◌++◌, true, false, Option, None, Some, refl, sym, ap, ◌∙◌, subst, arith}
+use Rattle.std.specs.Prelude.{map as each, option_map, is_some, unwrap_or, Bool}
 use Rattle.std.proofs.lemmas.List.Elements.{All-nil, All-same}
-use Rattle.wjs_base.specs.declared.ids.OutOfMemory.{OutOfMemory}
+use Rattle.std.proofs.lemmas.Result.{on_ok_weaker}
 use Rattle.wjs_base.specs.Text.{Table}
 use Rattle.wjs_store.specs.State.{State}
 use Rattle.wjs_store.specs.Meaning.{Meaning, PlainAct, PlainReply}
@@ -21,54 +21,49 @@ use Rattle.wjs_model.specs.declared.operand.Operand.{Operand}
 use Rattle.wjs_model.specs.declared.frame.Completion.{Completion}
 use Rattle.wjs_model.specs.declared.frame.Activation.{Activation as NumberedFrame}
 use Rattle.wjs_model.specs.Begun.{is_due}
-use Rattle.wjs_model.specs.Frames.{last, front}
+use Rattle.wjs_model.specs.Frames.{last, front, Pops}
 use Rattle.wjs_model.proofs.Tops.{last-snoc}
 use Rattle.wjs_model.specs.Contents.{Frame, Run, Moment, frame_in, moment_in, completion_in, operand_in}
 use Rattle.wjs_model.specs.Operands.{with_operand}
 use Rattle.wjs_model.specs.Rest.{act_at, rest_of, rest_top, turns_of, turns_over, turns_at}
+use Rattle.wjs_model.specs.Outside.{Outside, Admits, Knows}
 use Rattle.wjs_model.specs.Configurations.{seen, tells, run_in, state_in, frames_in, rest_by, turns_by, rest, Stays, RestIs, Turned, quietly, by_step, stopped, Quiet}
 use Rattle.wjs_frames.specs.Keeping.{rest_with}
 use Rattle.wjs_frames.specs.Following.{Follows}
 use Rattle.wjs_frames.specs.Parts.{env_in, then_at, begins_at}
-use Rattle.wjs_frames.specs.Taking.{Turns, TakesOff}
+use Rattle.wjs_frames.specs.Taking.{Takes, TakesOff, TakesPhase, Turns}
 use Rattle.wjs_frames.proofs.Frames.{each_snoc, rest_of_snoc, turns_of_snoc}
 use Rattle.wjs_model.specs.Soundness.{HasPhase, IsThere, IsStacked, Base}
 use Rattle.wjs_frames.proofs.Sounding.{there_framed, base_framed, there_pop}
 use Rattle.wjs_frames.proofs.Entering.{given_then, begin_then}
 use Rattle.wjs_frames.proofs.Keeping.{none_taken, stays_framed}
 
+some_taken : (k m : ℕ) → k ≡ suc m → 0 < k
+some_taken k m e = omega (arith, e)
+
 falls_below : (x y k : ℕ) → k ≡ y → x + 1 ≤ y → x < k
 falls_below x y k e h = omega (arith, e, h)
 
-one_more : (k n : ℕ) → suc k + n ≡ suc (k + n)
+pub one_more : (k n : ℕ) → suc k + n ≡ suc (k + n)
 one_more k n = omega arith
 
 -- what the last frame's phase says
-pub due_last : (fs : List NumberedFrame) (f : NumberedFrame)
+due_last : (fs : List NumberedFrame) (f : NumberedFrame)
     → is_due (option_map (λ (q : NumberedFrame). q.phase) (last (fs ++ f ∷ []))) ≡ is_due (Some f.phase)
 due_last fs f = ap (λ o. is_due (option_map (λ (q : NumberedFrame). q.phase) o)) (last-snoc fs f)
 
--- the frame that was on top has a phase in which a step is due
-pub taken_due : (all fs : List NumberedFrame) (f : NumberedFrame) (p : Phase) → all ≡ fs ++ f ∷ []
-    → is_due (option_map (λ (q : NumberedFrame). q.phase) (last all)) ≡ true → f.phase ≡ p → is_due (Some p) ≡ false → ⊥
-taken_due all fs f p e h d n =
-    let one : false ≡ is_due (option_map (λ (q : NumberedFrame). q.phase) (last all)) = sym (ap (λ l. is_due (option_map (λ (q : NumberedFrame). q.phase) (last l))) e ∙ due_last fs f ∙ ap (λ q. is_due (Some q)) d ∙ n) in
-    cc
-
--- or has one in which none is
-pub taken_not_due : (all fs : List NumberedFrame) (f : NumberedFrame) (p : Phase) → all ≡ fs ++ f ∷ []
-    → is_due (option_map (λ (q : NumberedFrame). q.phase) (last all)) ≡ false → f.phase ≡ p → is_due (Some p) ≡ true → ⊥
-taken_not_due all fs f p e h d n =
-    let one : true ≡ is_due (option_map (λ (q : NumberedFrame). q.phase) (last all)) = sym (ap (λ l. is_due (option_map (λ (q : NumberedFrame). q.phase) (last l))) e ∙ due_last fs f ∙ ap (λ q. is_due (Some q)) d ∙ n) in
-    cc
+-- a step is due where the phase of the frame that was on top says so
+due_top : (all fs : List NumberedFrame) (f : NumberedFrame) → all ≡ fs ++ f ∷ []
+    → is_due (option_map (λ (q : NumberedFrame). q.phase) (last all)) ≡ is_due (Some f.phase)
+due_top all fs f e = ap (λ l. is_due (option_map (λ (q : NumberedFrame). q.phase) (last l))) e ∙ due_last fs f
 
 -- without frames none is due
-pub none_due : (all : List NumberedFrame) → all ≡ [] → is_due (option_map (λ (q : NumberedFrame). q.phase) (last all)) ≡ true → ⊥
+none_due : (all : List NumberedFrame) → all ≡ [] → is_due (option_map (λ (q : NumberedFrame). q.phase) (last all)) ≡ true → ⊥
 none_due all e h =
     let one : is_due (option_map (λ (q : NumberedFrame). q.phase) (last all)) ≡ false = ap (λ l. is_due (option_map (λ (q : NumberedFrame). q.phase) (last l))) e in
     cc
 
-pub last_each : {A B : Type 0} (f : A → B) (xs : List A) → last (each f xs) ≡ option_map f (last xs)
+last_each : {A B : Type 0} (f : A → B) (xs : List A) → last (each f xs) ≡ option_map f (last xs)
 last_each f [] = refl
 last_each f (x ∷ []) = refl
 last_each f (x ∷ y ∷ xs) = last_each f (y ∷ xs)
@@ -95,10 +90,6 @@ turns_not_due t run fs f (phases.Ready start) st h = refl
 turns_not_due t run fs f (phases.Waiting point) st h = refl
 turns_not_due t run fs f (phases.Given point c) st h = refl
 
-on_ok : {A B : Type 0} (r : Result (Unit {0}) OutOfMemory) → (A → B) → OnOk r A → OnOk r B
-on_ok (Ok x) f h = f h
-on_ok (Err x) f h = tt
-
 -- a store that does not tell its actions has told none
 pub seen_spent : (t : Table) (told : Option (List (PlainAct × PlainReply))) (e : Ending) (full : State content) (arena : Arena) (out : List ℕ)
     → seen (is_some told) (e, record { full = full; arena = arena; out = out; done = unwrap_or (told_by t told) [] }) ≡ (e, record { full = full; arena = arena; out = out; done = unwrap_or (told_by t told) [] })
@@ -106,16 +97,16 @@ seen_spent t None e full arena out = refl
 seen_spent t (Some told) e full arena out = refl
 
 -- whether a store tells its actions or not, the ending is the same
-spent_either : (b : Bool) (st : St) → (seen b (StepsSpent, st)).0 ≡ StepsSpent
-spent_either true st = refl
-spent_either false st = refl
+seen_ending : (b : Bool) (r : Ending × St) → (seen b r).0 ≡ r.0
+seen_ending true r = refl
+seen_ending false r = refl
 
-none_below : (m cost : ℕ) → cost ≡ 0 → m < suc cost → m ≡ 0
-none_below m cost e l = omega (arith, e, l)
+pub under_more : (m k : ℕ) → suc m < suc k → m < k
+under_more m k l = omega (arith, l)
 
 module _ {S : Type 0} (meaning : S → Meaning) where
-  stays_after : (old later : Config S) (frames : List NumberedFrame) (left : ℕ) → Stays meaning (record old { frames = frames; left = left }) later
-      → Stays meaning old later
+  pub stays_after : (old later : Config S) (frames : List NumberedFrame) (left : ℕ)
+      → Stays meaning (record old { frames = frames; left = left }) later → Stays meaning old later
   stays_after old later frames left s = record { units = s.units; global = s.global; world = s.world; owner = s.owner; apart = s.apart; texts = s.texts; objects = s.objects; made = s.made; own = s.own; around = s.around; narrows = s.narrows }
 
   -- what was left with the frame on top
@@ -148,16 +139,16 @@ module _ {S : Type 0} (meaning : S → Meaning) where
   taken_there old fs f left b eo = there_framed meaning old fs left old.state f (there_pop meaning old fs f eo b).1.there
 
   -- so is what its phase names
-  pub taken_phase : (old : Config S) (fs : List NumberedFrame) (f : NumberedFrame) (left : ℕ) (p : Phase) → Base meaning old → old.frames ≡ fs ++ f ∷ []
+  taken_phase : (old : Config S) (fs : List NumberedFrame) (f : NumberedFrame) (left : ℕ) (p : Phase) → Base meaning old → old.frames ≡ fs ++ f ∷ []
       → f.phase ≡ p → HasPhase (record old { frames = fs; left = left }) f p
   taken_phase old fs f left p b eo ep = subst (HasPhase (record old { frames = fs; left = left }) f) ep (there_pop meaning old fs f eo b).1.phase
 
-  -- a frame goes on with no step
-  quiet_turn : (old : Config S) (fs : List NumberedFrame) (f : NumberedFrame) (act : Table → Act) (p : Phase) → old.state ≡ states.Running
+  -- a frame goes on with no step of its own: what it does takes none, or some
+  stepless_turn : (old : Config S) (fs : List NumberedFrame) (f : NumberedFrame) (act : Table → Act) (p : Phase) → old.state ≡ states.Running
       → old.frames ≡ fs ++ f ∷ [] → f.phase ≡ p → is_due (Some p) ≡ false
       → ((t : Table) → act_at (run_in meaning t old) (frame_in t f) (moment_in t p) ≡ act t)
       → (later : Config S) → Follows meaning (act later.heap.texts) (record old { frames = fs }) later → Turns meaning old later
-  quiet_turn old fs f act p er eo ep hp ea later k = record { turned = quietly quiet; sound = k.sound }
+  stepless_turn old fs f act p er eo ep hp ea later k = record { turned = by k.keeps.cost refl; sound = k.sound }
     where
       stays : Stays meaning old later
       stays = stays_after old later fs old.left k.keeps.stays
@@ -169,19 +160,40 @@ module _ {S : Type 0} (meaning : S → Meaning) where
           ap (seen (tells meaning old)) (rest_taken t old fs f (moment_in t p) (state_in meaning t v old) m er eo (ap (moment_in t) ep) ∙ ap (λ d. rest_with (run_in meaning t old) d (each (frame_in t) fs) (state_in meaning t v old) m) (ea t))
           ∙ k.keeps.kept v a h n
 
-      quiet : Quiet meaning old later
-      quiet = record {
+      paid : (v : Outside) → Admits meaning later v → Knows meaning old v → (m : ℕ) → m < k.keeps.cost → (rest meaning later.heap.texts v old m).0 ≡ StepsSpent
+      paid v a h m l =
+          let t = later.heap.texts in
+          let st = state_in meaning t v old in
+          seen_ending (tells meaning old) (rest_by t old.state (run_in meaning t old) (frames_in meaning t old) st m)
+          ∙ ap (λ (r : Ending × St). r.0) (rest_taken t old fs f (moment_in t p) st m er eo (ap (moment_in t) ep) ∙ ap (λ d. rest_with (run_in meaning t old) d (each (frame_in t) fs) st m) (ea t))
+          ∙ k.keeps.paid v a h m l
+
+      quiet : k.keeps.cost ≡ 0 → Quiet meaning old later
+      quiet none = record {
         stays = stays;
-        left = sym (k.keeps.left ∙ ap (λ m. m + later.left) k.keeps.free ∙ none_taken later.left);
-        kept = λ v a h n. ap (rest meaning later.heap.texts v old) (sym (ap (λ m. m + n) k.keeps.free ∙ none_taken n)) ∙ kept v a h n;
+        left = sym (k.keeps.left ∙ ap (λ m. m + later.left) none ∙ none_taken later.left);
+        kept = λ v a h n. ap (rest meaning later.heap.texts v old) (sym (ap (λ m. m + n) none ∙ none_taken n)) ∙ kept v a h n;
         knows = k.keeps.knows;
         falls = λ v a h.
             let t = later.heap.texts in
             let run = run_in meaning t old in
             let st = state_in meaning t v old in
-            falls_below _ _ _ (turns_taken t old fs f (moment_in t p) st er eo (ap (moment_in t) ep) ∙ turns_not_due t run (each (frame_in t) fs) (frame_in t f) p st hp ∙ ap (λ d. suc (turns_over run d (each (frame_in t) fs) st)) (ea t)) (k.keeps.falls k.keeps.free v a h);
+            falls_below _ _ _ (turns_taken t old fs f (moment_in t p) st er eo (ap (moment_in t) ep) ∙ turns_not_due t run (each (frame_in t) fs) (frame_in t f) p st hp ∙ ap (λ d. suc (turns_over run d (each (frame_in t) fs) st)) (ea t)) (k.keeps.falls none v a h);
         alive = k.keeps.alive;
       }
+
+      by : (cost : ℕ) → k.keeps.cost ≡ cost → Turned meaning old later
+      by zero none = quietly (quiet none)
+      by (suc m) some = by_step (record {
+        stays = stays;
+        steps = k.keeps.cost;
+        some = some_taken k.keeps.cost m some;
+        left = k.keeps.left;
+        kept = kept;
+        paid = paid;
+        knows = k.keeps.knows;
+        alive = k.keeps.alive;
+      })
 
   takes_now : (old : Config S) (fs : List NumberedFrame) (f : NumberedFrame) (line : Table → Env → Act) (p : Phase) → old.state ≡ states.Running
       → Base meaning old → old.frames ≡ fs ++ f ∷ [] → f.phase ≡ p → is_due (Some p) ≡ false
@@ -190,20 +202,20 @@ module _ {S : Type 0} (meaning : S → Meaning) where
   takes_now old fs f line p er b eo ep hp ea = record {
     taken = ap last eo ∙ last-snoc fs f;
     runs = record { running = record { state = er; base = taken_base old fs f old.left b eo }; there = taken_there old fs f old.left b eo };
-    by = λ later r k. on_ok r (λ h. quiet_turn old fs f (λ t. line t (env_in meaning old t f)) p er eo ep hp ea later h) k;
+    by = λ later r k. on_ok_weaker r (λ h. stepless_turn old fs f (λ t. line t (env_in meaning old t f)) p er eo ep hp ea later h) k;
   }
 
-  pub takes_ready : (old : Config S) (fs : List NumberedFrame) (f : NumberedFrame) (start : Start) → old.state ≡ states.Running → Base meaning old
+  takes_ready : (old : Config S) (fs : List NumberedFrame) (f : NumberedFrame) (start : Start) → old.state ≡ states.Running → Base meaning old
       → old.frames ≡ fs ++ f ∷ [] → f.phase ≡ phases.Ready start
       → TakesOff meaning f (begins_at meaning (record old { frames = fs }) f start) old (record old { frames = fs })
   takes_ready old fs f start er b eo ep = takes_now old fs f _ (phases.Ready start) er b eo ep refl (λ t. begin_then meaning t old f start)
 
-  pub takes_given : (old : Config S) (fs : List NumberedFrame) (f : NumberedFrame) (point : Point) (c : Completion) → old.state ≡ states.Running
+  takes_given : (old : Config S) (fs : List NumberedFrame) (f : NumberedFrame) (point : Point) (c : Completion) → old.state ≡ states.Running
       → Base meaning old → old.frames ≡ fs ++ f ∷ [] → f.phase ≡ phases.Given point c
       → TakesOff meaning f (λ t env. then_at meaning (record old { frames = fs }) f point t env (completion_in t c)) old (record old { frames = fs })
   takes_given old fs f point c er b eo ep = takes_now old fs f _ (phases.Given point c) er b eo ep refl (λ t. ap (λ (go : Said → Act). go (completion_in t c)) (given_then meaning t old f point))
 
-  pub takes_waiting : (old : Config S) (fs : List NumberedFrame) (f : NumberedFrame) (point : Point) → old.state ≡ states.Running → Base meaning old
+  takes_waiting : (old : Config S) (fs : List NumberedFrame) (f : NumberedFrame) (point : Point) → old.state ≡ states.Running → Base meaning old
       → old.frames ≡ fs ++ f ∷ [] → f.phase ≡ phases.Waiting point
       → TakesOff meaning f (λ t env. then_at meaning (record old { frames = fs }) f point t env Normal) old (record old { frames = fs })
   takes_waiting old fs f point er b eo ep = takes_now old fs f _ (phases.Waiting point) er b eo ep refl (λ t. ap (λ (go : Said → Act). go Normal) (given_then meaning t old f point))
@@ -226,17 +238,25 @@ module _ {S : Type 0} (meaning : S → Meaning) where
           ap (rest meaning t v old) (one_more k.keeps.cost n)
           ∙ ap (seen (tells meaning old)) (rest_taken t old fs f (moment_in t p) st (suc m) er eo (ap (moment_in t) ep) ∙ ap (λ d. rest_with (run_in meaning t old) d (each (frame_in t) fs) st (suc m)) (ea t))
           ∙ k.keeps.kept v a h n;
-      paid = λ v a h m l.
-          let t = later.heap.texts in
-          let st = state_in meaning t v old in
-          ap (λ i. (rest meaning t v old i).0) (none_below m k.keeps.cost k.keeps.free l)
-          ∙ ap (λ r. (seen (tells meaning old) r).0) (rest_taken t old fs f (moment_in t p) st 0 er eo (ap (moment_in t) ep) ∙ ap (λ d. rest_with (run_in meaning t old) d (each (frame_in t) fs) st 0) (ea t))
-          ∙ spent_either (tells meaning old) st;
+      paid = paid;
       knows = k.keeps.knows;
       alive = k.keeps.alive;
     });
     sound = k.sound;
   }
+    where
+      paid : (v : Outside) → Admits meaning later v → Knows meaning old v → (m : ℕ) → m < suc k.keeps.cost → (rest meaning later.heap.texts v old m).0 ≡ StepsSpent
+      paid v a h zero l =
+          let t = later.heap.texts in
+          let st = state_in meaning t v old in
+          seen_ending (tells meaning old) (rest_by t old.state (run_in meaning t old) (frames_in meaning t old) st 0)
+          ∙ ap (λ (r : Ending × St). r.0) (rest_taken t old fs f (moment_in t p) st 0 er eo (ap (moment_in t) ep) ∙ ap (λ d. rest_with (run_in meaning t old) d (each (frame_in t) fs) st 0) (ea t))
+      paid v a h (suc m) l =
+          let t = later.heap.texts in
+          let st = state_in meaning t v old in
+          seen_ending (tells meaning old) (rest_by t old.state (run_in meaning t old) (frames_in meaning t old) st (suc m))
+          ∙ ap (λ (r : Ending × St). r.0) (rest_taken t old fs f (moment_in t p) st (suc m) er eo (ap (moment_in t) ep) ∙ ap (λ d. rest_with (run_in meaning t old) d (each (frame_in t) fs) st (suc m)) (ea t))
+          ∙ k.keeps.paid v a h m (under_more m k.keeps.cost l)
 
   takes_step : (old : Config S) (fs : List NumberedFrame) (f : NumberedFrame) (left : ℕ) (line : Table → Env → Act) (p : Phase) → old.state ≡ states.Running
       → Base meaning old → old.frames ≡ fs ++ f ∷ [] → f.phase ≡ p → old.left ≡ suc left
@@ -245,15 +265,15 @@ module _ {S : Type 0} (meaning : S → Meaning) where
   takes_step old fs f left line p er b eo ep el ea = record {
     taken = ap last eo ∙ last-snoc fs f;
     runs = record { running = record { state = er; base = taken_base old fs f left b eo }; there = taken_there old fs f left b eo };
-    by = λ later r k. on_ok r (λ h. step_turn old fs f left (λ t. line t (env_in meaning old t f)) p er eo ep el ea later h) k;
+    by = λ later r k. on_ok_weaker r (λ h. step_turn old fs f left (λ t. line t (env_in meaning old t f)) p er eo ep el ea later h) k;
   }
 
-  pub takes_due : (old : Config S) (fs : List NumberedFrame) (f : NumberedFrame) (start : Start) (left : ℕ) → old.state ≡ states.Running → Base meaning old
+  takes_due : (old : Config S) (fs : List NumberedFrame) (f : NumberedFrame) (start : Start) (left : ℕ) → old.state ≡ states.Running → Base meaning old
       → old.frames ≡ fs ++ f ∷ [] → f.phase ≡ phases.Due start → old.left ≡ suc left
       → TakesOff meaning f (begins_at meaning (record old { frames = fs; left = left }) f start) old (record old { frames = fs; left = left })
   takes_due old fs f start left er b eo ep el = takes_step old fs f left _ (phases.Due start) er b eo ep el (λ t. ap Tick (begin_then meaning t old f start))
 
-  pub takes_operand : (old : Config S) (fs : List NumberedFrame) (f : NumberedFrame) (point : Point) (o : Operand) (left : ℕ) → old.state ≡ states.Running
+  takes_operand : (old : Config S) (fs : List NumberedFrame) (f : NumberedFrame) (point : Point) (o : Operand) (left : ℕ) → old.state ≡ states.Running
       → Base meaning old → old.frames ≡ fs ++ f ∷ [] → f.phase ≡ phases.Entering point o → old.left ≡ suc left
       → TakesOff meaning f (λ t env. with_operand (operand_in t o) env (then_at meaning (record old { frames = fs; left = left }) f point t env)) old (record old { frames = fs; left = left })
   takes_operand old fs f point o left er b eo ep el = takes_step old fs f left _ (phases.Entering point o) er b eo ep el (λ t. ap (λ k. Tick (with_operand (operand_in t o) (env_in meaning old t f) k)) (given_then meaning t old f point))
@@ -308,3 +328,37 @@ module _ {S : Type 0} (meaning : S → Meaning) where
       running = λ e. absurd (cc);
     };
   }
+
+  -- the frame that was on top goes on as its phase says, without a step
+  takes_quiet : (old : Config S) (fs : List NumberedFrame) (f : NumberedFrame) (p : Phase) → old.state ≡ states.Running → Base meaning old
+      → old.frames ≡ fs ++ f ∷ [] → f.phase ≡ p → is_due (Some p) ≡ false → TakesPhase meaning old f p (record old { frames = fs })
+  takes_quiet old fs f (phases.Ready start) er b eo ep d = (takes_ready old fs f start er b eo ep, taken_phase old fs f old.left (phases.Ready start) b eo ep)
+  takes_quiet old fs f (phases.Waiting point) er b eo ep d = (takes_waiting old fs f point er b eo ep, taken_phase old fs f old.left (phases.Waiting point) b eo ep)
+  takes_quiet old fs f (phases.Given point c) er b eo ep d = (takes_given old fs f point c er b eo ep, taken_phase old fs f old.left (phases.Given point c) b eo ep)
+  takes_quiet old fs f (phases.Due start) er b eo ep d = absurd (cc)
+  takes_quiet old fs f (phases.Entering point o) er b eo ep d = absurd (cc)
+
+  -- or with one
+  takes_stepped : (old : Config S) (fs : List NumberedFrame) (f : NumberedFrame) (p : Phase) (left : ℕ) → old.state ≡ states.Running → Base meaning old
+      → old.frames ≡ fs ++ f ∷ [] → f.phase ≡ p → is_due (Some p) ≡ true → old.left ≡ suc left → TakesPhase meaning old f p (record old { frames = fs; left = left })
+  takes_stepped old fs f (phases.Due start) left er b eo ep d el = (takes_due old fs f start left er b eo ep el, taken_phase old fs f left (phases.Due start) b eo ep)
+  takes_stepped old fs f (phases.Entering point o) left er b eo ep d el = (takes_operand old fs f point o left er b eo ep el, taken_phase old fs f left (phases.Entering point o) b eo ep)
+  takes_stepped old fs f (phases.Ready start) left er b eo ep d el = absurd (cc)
+  takes_stepped old fs f (phases.Waiting point) left er b eo ep d el = absurd (cc)
+  takes_stepped old fs f (phases.Given point c) left er b eo ep d el = absurd (cc)
+
+  -- one whose step is due is there
+  pub takes_if_due : (old : Config S) (top : Option NumberedFrame) (fs : List NumberedFrame) (left : ℕ) → old.state ≡ states.Running → Base meaning old
+      → Pops old.frames top fs → is_due (option_map (λ (q : NumberedFrame). q.phase) (last old.frames)) ≡ true → old.left ≡ suc left
+      → Takes meaning old top (record old { frames = fs; left = left })
+  takes_if_due old None fs left er b eo d el = absurd (none_due old.frames eo.0 d)
+  takes_if_due old (Some f) fs left er b eo d el = takes_stepped old fs f f.phase left er b eo refl (sym (due_top old.frames fs f eo) ∙ d) el
+
+  pub takes_not_due : (old : Config S) (f : NumberedFrame) (fs : List NumberedFrame) → old.state ≡ states.Running → Base meaning old
+      → old.frames ≡ fs ++ f ∷ [] → is_due (option_map (λ (q : NumberedFrame). q.phase) (last old.frames)) ≡ false
+      → Takes meaning old (Some f) (record old { frames = fs })
+  takes_not_due old f fs er b eo d = takes_quiet old fs f f.phase er b eo refl (sym (due_top old.frames fs f eo) ∙ d)
+
+  -- as the phase that was read says
+  pub takes_with : (old new : Config S) (f : NumberedFrame) (p q : Phase) → q ≡ f.phase → q ≡ p → Takes meaning old (Some f) new → TakesPhase meaning old f p new
+  takes_with old new f p q e is h = subst (λ x. TakesPhase meaning old f x new) (sym e ∙ is) h

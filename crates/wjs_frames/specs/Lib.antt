@@ -7,5 +7,6 @@ pub mod Taking
 pub mod Doing
 pub mod Nesting
 pub mod Shortening
+pub mod Paying
 pub mod Growing
 pub mod Reaching

@@ -1,5 +1,6 @@
 //! Laws of what is followed and of what is left to do, each the contract of a function that does nothing.
 ghost use Rattle.wjs_frames.specs.Shortening.{NestedEndsShorten, ShorterFollow, LooksFollow};
+ghost use Rattle.wjs_frames.specs.Paying.{StepPaid};
 ghost use Rattle.wjs_frames.specs.Growing.{MoreTextsChangeNothing, MoreTextsOutsideChangeNothing};
 ghost use Rattle.wjs_frames.specs.Reaching.{TurnsReach, ReachedIsReached};
 
@@ -18,6 +19,11 @@ pub fn shorter_follow<S: WorldStore>()
 /// What follows the deeds that come after a look at the objects that are there follows the look with them.
 pub fn looks_follow<S: WorldStore>()
     ensures { LooksFollow S.meaning }
+{}
+
+/// Where a step is left, what follows a goal's entry with one less follows the goal.
+pub fn step_paid<S: WorldStore>()
+    ensures { StepPaid S.meaning }
 {}
 
 /// What is left to do of a sound configuration is the same under its texts as under a table that has grown from them, and so

@@ -21,9 +21,10 @@ pub use enters::{enter, enter_last};
 pub use holds::hold;
 pub use laws::{
     looks_follow, more_texts_change_nothing, more_texts_outside_change_nothing,
-    nested_ends_shorten, reached_is_reached, shorter_follow, turns_reach,
+    nested_ends_shorten, reached_is_reached, shorter_follow, step_paid, turns_reach,
 };
-pub use node::{node_of, place_at};
+pub use node::{node_among, node_of, place_at};
+pub use operands::operand_of;
 pub use part::Part;
-pub use take::{Top, take_top};
-pub use waits::{due_later, nest, wait};
+pub use take::take_top;
+pub use waits::{due_later, go_on_with, nest, wait};

@@ -21,11 +21,7 @@ pub fn node_of<'a, S: WorldStore>(config: &'a Config<S>, frame: &Frame) -> Optio
 
 /// A node of a tree; none where there is none.
 #[inline(always)]
-pub(crate) fn node_among<S: WorldStore>(
-    config: &Config<S>,
-    tree: u32,
-    node: NodeId,
-) -> Option<&Node>
+pub fn node_among<S: WorldStore>(config: &Config<S>, tree: u32, node: NodeId) -> Option<&Node>
     ensures { MatchOption result (node_among config.now.units.items tree node ≡ Node.Empty) (λ found. node_among config.now.units.items tree node ≡ found.now) }
 {
     match config.units.get(tree as usize) {

@@ -12,11 +12,7 @@ use wjs_tree::{Node, NodeId};
 
 /// The operand that a part is, where it is a literal, `this` or a name.
 #[inline(always)]
-pub(crate) fn operand_of<S: WorldStore>(
-    config: &Config<S>,
-    frame: &Frame,
-    part: Part,
-) -> Option<Operand>
+pub fn operand_of<S: WorldStore>(config: &Config<S>, frame: &Frame, part: Part) -> Option<Operand>
     requires base { Base S.meaning config.now }
     requires there { IsThere S.meaning config.now frame.now }
     ensures { IfSome result (λ operand. IsOperand S.meaning config.now frame.now part operand) }

@@ -1,10 +1,10 @@
-//! Frames that wait, with another that begins above them, or have a further step due.
+//! Frames that wait, with another that begins above them, go on, or have a further step due.
 ghost use Rattle.std.specs.Prelude.{◌≡◌, OnOk};
-ghost use Rattle.wjs_meaning.specs.Deeds.{Sub, Tick};
+ghost use Rattle.wjs_meaning.specs.Deeds.{Ret, Sub, Tick};
 ghost use Rattle.wjs_meaning.specs.Reading.{node_in};
-ghost use Rattle.wjs_model.specs.Contents.{holding_in};
+ghost use Rattle.wjs_model.specs.Contents.{completion_in, holding_in};
 ghost use Rattle.wjs_model.specs.Rest.{begin_at};
-ghost use Rattle.wjs_model.specs.Soundness.{HasItems, HasPoint, HasStart, StandsHere};
+ghost use Rattle.wjs_model.specs.Soundness.{HasCompletion, HasItems, HasPoint, HasStart, StandsHere};
 ghost use Rattle.wjs_frames.specs.Parts.{env_in, then_at, begins_at, node_among};
 ghost use Rattle.wjs_frames.specs.Following.{Later};
 ghost use Rattle.wjs_frames.specs.Nesting.{Nests};
@@ -12,7 +12,7 @@ ghost use Rattle.wjs_frames.specs.Handling.{Runs, GoesOn};
 
 use crate::part::waiting_at;
 use wjs_base::OutOfMemory;
-use wjs_model::{Config, Frame, Items, Phase, Point, Start};
+use wjs_model::{Completion, Config, Frame, Items, Phase, Point, Start};
 use wjs_store::WorldStore;
 use wjs_tree::NodeId;
 
@@ -68,6 +68,25 @@ pub fn due_later<S: WorldStore>(
 {
     let mut frame = frame;
     frame.set_phase(Phase::Due(start));
+    config.frames.push(frame)?;
+    Ok(())
+}
+
+/// The frame goes on at a point with a completion that was had at once, in a turn of its own.
+pub fn go_on_with<S: WorldStore>(
+    config: &mut Config<S>,
+    frame: Frame,
+    point: Point,
+    completion: Completion,
+) -> Result<(), OutOfMemory>
+    requires runs { Runs S.meaning config.old frame }
+    requires point { HasPoint config.old frame point }
+    requires completion { HasCompletion config.old completion }
+    ensures { GoesOn S.meaning frame config.old config.new result (λ t env.
+        Sub (Ret (completion_in t completion)) (then_at S.meaning config.old frame point t env)) }
+{
+    let mut frame = frame;
+    frame.set_phase(Phase::Given(point, completion));
     config.frames.push(frame)?;
     Ok(())
 }

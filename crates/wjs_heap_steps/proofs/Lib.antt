@@ -10,6 +10,7 @@ pub mod Staying
 pub mod Later
 pub mod Entries
 pub mod Composing
+pub mod Peeking
 pub mod Spelling
 pub mod Seeing
 pub mod Looking

@@ -80,7 +80,6 @@ module _ {S : Type 0} (meaning : S → Meaning) where
         record {
           stays = stays_twice old mid later ran.stays k.stays;
           cost = k.cost;
-          free = k.free;
           left = ap (λ (c : Config S). c.left) (sym ran.same) ∙ k.left;
           alive = k.alive;
           kept = λ v a h n.
@@ -90,14 +89,21 @@ module _ {S : Type 0} (meaning : S → Meaning) where
               ∙ done_told v.texts (meaning old.heap.store).told (meaning mid.heap.store).told e.acts (λ d. rest_with run (go (answer t)) fs (record (state_in meaning t v mid) { done = d }) n') (λ d d'. rest_blind run (go (answer t)) fs (state_in meaning t v mid) d d' n') e.told
               ∙ ap (λ (c : Config S). seen (tells meaning mid) (rest_with (run_in meaning t c) (go (answer t)) (frames_in meaning t c) (state_in meaning t v mid) n')) (sym ran.same)
               ∙ k.kept v a e.knows n;
+          paid = λ v a h m l.
+              let e = runs v a h in
+              let st = state_in meaning t v mid in
+              ap (λ o. (run_next (then_do o (under run fs Ends)) (λ st' n. (Done, st'))).0) (e.runs go m)
+              ∙ ap (λ (r : Ending × St). r.0) (rest_blind run (go (answer t)) fs st ((state_in meaning t v old).done ++ e.acts) st.done m)
+              ∙ ap (λ (c : Config S). (rest_with (run_in meaning t c) (go (answer t)) (frames_in meaning t c) st m).0) (sym ran.same)
+              ∙ k.paid v a e.knows m l;
           knows = λ v a h. k.knows v a (runs v a h).knows;
-          falls = λ free v a h.
+          falls = λ none v a h.
               let e = runs v a h in
               let count : turns_over run (deeds t go) fs (state_in meaning t v old) ≡ turns_over (run_in meaning t mid) (go (answer t)) (frames_in meaning t mid) (state_in meaning t v mid) =
               e.counts go (turns_under run fs (λ c st'. 0))
               ∙ turns_blind run (go (answer t)) fs (state_in meaning t v mid) ((state_in meaning t v old).done ++ e.acts) (state_in meaning t v mid).done
               ∙ ap (λ (c : Config S). turns_over (run_in meaning t c) (go (answer t)) (frames_in meaning t c) (state_in meaning t v mid)) (sym ran.same) in
-              subst (λ m. turns meaning t v later + 1 ≤ suc m) (sym count) (k.falls free v a e.knows);
+              subst (λ m. turns meaning t v later + 1 ≤ suc m) (sym count) (k.falls none v a e.knows);
         }
 
     pub does_ran : Does meaning deeds answer old mid

@@ -67,7 +67,7 @@ module _ (old new : Table) (g : Grows old new) where
   text_stays None h = tt
   text_stays (Some id) h = id_stays id h
 
-  spelt_stays : (s : Spelt) → KnowsSpelt old s → KnowsSpelt new s
+  pub spelt_stays : (s : Spelt) → KnowsSpelt old s → KnowsSpelt new s
   spelt_stays (spelt.Word id) h = id_stays id h
   spelt_stays (spelt.Key key) h = tt
 

@@ -1,3 +1,4 @@
 pub mod Known
 pub mod Worlds
 pub mod Visits
+pub mod Peeking

@@ -10,6 +10,7 @@ mod makes;
 mod messages;
 mod operands;
 mod output;
+mod peeks;
 mod properties;
 mod references;
 mod slots;
@@ -29,6 +30,7 @@ pub use makes::{
 };
 pub use operands::operand_completion;
 pub use output::emit;
+pub use peeks::{peek_member, peek_operand};
 pub use properties::{delete, get, get_value, has, put, visits};
 pub use references::{local_value, reference_at, store, value_of};
 pub use slots::{read, read_content, write};

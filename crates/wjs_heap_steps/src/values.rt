@@ -78,7 +78,7 @@ fn text_member<S: WorldStore>(
 }
 
 /// Whether the name is `length`.
-fn is_length<S: WorldStore>(config: &Config<S>, name: Name) -> bool
+pub(crate) fn is_length<S: WorldStore>(config: &Config<S>, name: Name) -> bool
     requires { HasName config.now name }
     ensures { (t : Table) → Grows config.now.heap.texts t → same_text (name_in t name) length_name ≡ result }
 {

@@ -15,9 +15,10 @@ ghost use Rattle.wjs_frames.specs.Handling.{Runs, GoesOn};
 
 use wjs_base::{Name, ObjId, OutOfMemory, Value};
 use wjs_calls::whole_value;
-use wjs_frames::{Part, enter, finish, hold, node_of};
+use wjs_frames::{Part, finish, hold, node_of};
 use wjs_heap_steps::{Known, create_array, write, write_known};
 use wjs_model::{Completion, Config, ExprPoint, Frame, Held, Point};
+use wjs_quick::enter_quickly;
 use wjs_step_common::{held_value, number_after, number_of};
 use wjs_store::WorldStore;
 use wjs_tree::{Node, NodeId};
@@ -31,7 +32,7 @@ pub(crate) enum Next {
     End(usize),
 }
 
-/// An array literal: the array is made and held, and the first item is entered.
+/// An array literal: the array is made and held, and the first item is asked for.
 pub fn array_start<S: WorldStore>(config: &mut Config<S>, frame: Frame) -> Result<(), OutOfMemory>
     requires runs { Runs S.meaning config.old frame }
     ensures { GoesOn S.meaning frame config.old config.new result (λ t env.
@@ -62,7 +63,7 @@ pub fn array_item<S: WorldStore>(
     }
 }
 
-/// The item of a number is written, and the next is entered.
+/// The item of a number is written, and the next is asked for.
 fn array_write<S: WorldStore>(
     config: &mut Config<S>,
     frame: Frame,
@@ -82,7 +83,7 @@ fn array_write<S: WorldStore>(
     array_next(config, frame, array, next)
 }
 
-/// The first item from a number on that is no hole is entered; where there is none, the length is written.
+/// The first item from a number on that is no hole is asked for; where there is none, the length is written.
 fn array_next<S: WorldStore>(
     config: &mut Config<S>,
     frame: Frame,
@@ -99,7 +100,7 @@ fn array_next<S: WorldStore>(
         Next::Item(at, node) => {
             let number = number_of(at)?;
             let point = Point::Expr(ExprPoint::ArrayItem(number));
-            enter(config, frame, point, Part::Expr(node))
+            enter_quickly(config, frame, point, Part::Expr(node))
         }
         Next::End(length) => array_end(config, frame, array, length),
     }

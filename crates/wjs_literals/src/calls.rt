@@ -19,11 +19,12 @@ use wjs_frames::{Part, enter, finish, hold};
 use wjs_heap_steps::value_of;
 use wjs_members::is_target;
 use wjs_model::{Completion, Config, ExprPoint, Frame, Held, Point, Reference};
+use wjs_quick::enter_quickly;
 use wjs_step_common::{held_callee, number_after};
 use wjs_store::WorldStore;
 use wjs_tree::NodeId;
 
-/// A call: its callee is entered, as a target where it is one.
+/// A call: its callee is asked for, as a target where it is one.
 pub fn call_start<S: WorldStore>(
     config: &mut Config<S>,
     frame: Frame,
@@ -40,7 +41,7 @@ pub fn call_start<S: WorldStore>(
         enter(config, frame, point, Part::Target(callee))
     } else {
         let point = Point::Expr(ExprPoint::CalleeValue);
-        enter(config, frame, point, Part::Expr(callee))
+        enter_quickly(config, frame, point, Part::Expr(callee))
     }
 }
 
@@ -78,7 +79,7 @@ fn base_of<S: WorldStore>(config: &Config<S>, reference: Reference) -> Value
     }
 }
 
-/// After the value of the callee: it is held alone, and the first argument is entered.
+/// After the value of the callee: it is held alone, and the first argument is asked for.
 pub fn call_callee<S: WorldStore>(
     config: &mut Config<S>,
     frame: Frame,
@@ -97,7 +98,7 @@ pub fn call_callee<S: WorldStore>(
     call_next(config, frame, 0)
 }
 
-/// After the argument of a number: it is held, and the next is entered.
+/// After the argument of a number: it is held, and the next is asked for.
 pub fn call_argument<S: WorldStore>(
     config: &mut Config<S>,
     frame: Frame,
@@ -115,7 +116,7 @@ pub fn call_argument<S: WorldStore>(
     call_next(config, frame, next)
 }
 
-/// The argument of a number is entered; after the last one comes the call.
+/// The argument of a number is asked for; after the last one comes the call.
 fn call_next<S: WorldStore>(
     config: &mut Config<S>,
     frame: Frame,
@@ -129,7 +130,7 @@ fn call_next<S: WorldStore>(
     match argument(config, &frame, at as usize) {
         Some(next) => {
             let point = Point::Expr(ExprPoint::Argument(at));
-            enter(config, frame, point, Part::Expr(next))
+            enter_quickly(config, frame, point, Part::Expr(next))
         }
         None => call_held(config, frame),
     }

@@ -14,13 +14,14 @@ ghost use Rattle.wjs_frames.specs.Handling.{Runs, IsRunning, GoesOn};
 
 use crate::arguments::argument;
 use wjs_base::{ObjId, OutOfMemory, Value};
-use wjs_frames::{Part, enter, finish, hold};
+use wjs_frames::{Part, finish, hold};
 use wjs_model::{Completion, Config, ExprPoint, Frame, Held, Point};
+use wjs_quick::enter_quickly;
 use wjs_step_common::{held_callee, held_value, number_after};
 use wjs_store::WorldStore;
 use wjs_tree::NodeId;
 
-/// `new`: its callee is entered.
+/// `new`: its callee is asked for.
 pub fn new_start<S: WorldStore>(
     config: &mut Config<S>,
     frame: Frame,
@@ -32,10 +33,10 @@ pub fn new_start<S: WorldStore>(
         Eval (AtExpr callee.0) env (then_value (line.new_callee (arguments_of (node_in t (node_now S.meaning config.old frame))) env))) }
 {
     let point = Point::Expr(ExprPoint::NewCallee);
-    enter(config, frame, point, Part::Expr(callee))
+    enter_quickly(config, frame, point, Part::Expr(callee))
 }
 
-/// After the callee of `new`: it is held alone, and the first argument is entered.
+/// After the callee of `new`: it is held alone, and the first argument is asked for.
 pub fn new_callee<S: WorldStore>(
     config: &mut Config<S>,
     frame: Frame,
@@ -52,7 +53,7 @@ pub fn new_callee<S: WorldStore>(
     new_next(config, frame, 0)
 }
 
-/// After the argument of a number: it is held, and the next is entered.
+/// After the argument of a number: it is held, and the next is asked for.
 pub fn new_argument<S: WorldStore>(
     config: &mut Config<S>,
     frame: Frame,
@@ -70,7 +71,7 @@ pub fn new_argument<S: WorldStore>(
     new_next(config, frame, next)
 }
 
-/// The argument of a number is entered; after the last one comes the construction.
+/// The argument of a number is asked for; after the last one comes the construction.
 fn new_next<S: WorldStore>(config: &mut Config<S>, frame: Frame, at: u32) -> Result<(), OutOfMemory>
     requires runs { Runs S.meaning config.old frame }
     ensures { GoesOn S.meaning frame config.old config.new result (λ t env.
@@ -80,7 +81,7 @@ fn new_next<S: WorldStore>(config: &mut Config<S>, frame: Frame, at: u32) -> Res
     match argument(config, &frame, at as usize) {
         Some(next) => {
             let point = Point::Expr(ExprPoint::NewArgument(at));
-            enter(config, frame, point, Part::Expr(next))
+            enter_quickly(config, frame, point, Part::Expr(next))
         }
         None => new_held(config, frame),
     }

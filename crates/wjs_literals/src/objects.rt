@@ -16,15 +16,16 @@ ghost use Rattle.wjs_literals.specs.Parts.{properties_in};
 ghost use Rattle.wjs_frames.specs.Handling.{Runs, GoesOn};
 
 use wjs_base::{ObjId, OutOfMemory, Value};
-use wjs_frames::{Part, enter, finish, hold, node_of};
+use wjs_frames::{Part, finish, hold, node_of};
 use wjs_heap_steps::{create_plain, write};
 use wjs_members::name_of_key;
 use wjs_model::{Completion, Config, ExprPoint, Frame, Held, Point};
+use wjs_quick::enter_quickly;
 use wjs_step_common::{held_value, number_after};
 use wjs_store::WorldStore;
 use wjs_tree::{Node, Property, PropertyKey};
 
-/// An object literal: the object is made and held, and the first value is entered.
+/// An object literal: the object is made and held, and the first value is asked for.
 pub fn object_start<S: WorldStore>(config: &mut Config<S>, frame: Frame) -> Result<(), OutOfMemory>
     requires runs { Runs S.meaning config.old frame }
     ensures { GoesOn S.meaning frame config.old config.new result (λ t env.
@@ -76,7 +77,7 @@ fn object_value<S: WorldStore>(
     }
 }
 
-/// The value is written under its key, and the next is entered.
+/// The value is written under its key, and the next is asked for.
 fn object_write<S: WorldStore>(
     config: &mut Config<S>,
     frame: Frame,
@@ -100,7 +101,7 @@ fn object_write<S: WorldStore>(
     object_next(config, frame, object, next)
 }
 
-/// The value of a number is entered; after the last the object is given.
+/// The value of a number is asked for; after the last the object is given.
 fn object_next<S: WorldStore>(
     config: &mut Config<S>,
     frame: Frame,
@@ -116,7 +117,7 @@ fn object_next<S: WorldStore>(
     match property(config, &frame, at as usize) {
         Some(property) => {
             let point = Point::Expr(ExprPoint::PairValue(at));
-            enter(config, frame, point, Part::Expr(property.value))
+            enter_quickly(config, frame, point, Part::Expr(property.value))
         }
         None => finish(config, frame, Completion::Gives(Value::Object(object))),
     }

@@ -1,6 +1,7 @@
 //! The loop `for` (section 12.6.3). Its `var`s are run by a frame of their own.
 ghost use Rattle.wjs_by_content.specs.Tables.{value_in};
-ghost use Rattle.wjs_meaning.specs.Deeds.{Sub, then_normal, then_value};
+ghost use Rattle.wjs_meaning.specs.Deeds.{Eval, Sub, AtExpr, then_normal, then_value};
+ghost use Rattle.wjs_meaning.specs.Expressions.{expr_at};
 ghost use Rattle.wjs_meaning.specs.Reading.{node_in, number};
 ghost use Rattle.wjs_meaning.specs.Loops.{loop_body, loop_test, loop_from, loop_update, loop_updated, for_started};
 ghost use Rattle.wjs_meaning.specs.Statements.{vars_from, iteration_from};
@@ -15,11 +16,12 @@ use crate::iterations::{expr_iteration, stmt_iteration};
 use wjs_base::{OutOfMemory, Value};
 use wjs_frames::{Part, enter, enter_last, finish, nest};
 use wjs_model::{Completion, Config, Frame, Point, Start, StmtPoint};
+use wjs_quick::{quick, quick_entered};
 use wjs_step_common::to_boolean;
 use wjs_store::WorldStore;
 use wjs_tree::NodeId;
 
-/// The first iteration: the test is entered, or without one the body.
+/// The first iteration: the test is asked for, or without one the body.
 pub fn for_from<S: WorldStore>(
     config: &mut Config<S>,
     frame: Frame,
@@ -34,10 +36,7 @@ pub fn for_from<S: WorldStore>(
     ensures { GoesOn S.meaning frame config.old config.new result (λ t env. loop_from frame.node.0 (number test) (number update) s.0 env) }
 {
     match test {
-        Some(e) => {
-            let point = Point::Stmt(StmtPoint::ForTest(update, s));
-            enter(config, frame, point, Part::Expr(e))
-        }
+        Some(e) => for_first_test(config, frame, update, s, e),
         None => {
             let point = Point::Stmt(StmtPoint::ForBody(update));
             enter(config, frame, point, Part::Stmt(s))
@@ -45,7 +44,7 @@ pub fn for_from<S: WorldStore>(
     }
 }
 
-/// A later iteration: the test begins, or without one the body.
+/// A later iteration: the test is asked for, or without one the body.
 pub fn for_again<S: WorldStore>(
     config: &mut Config<S>,
     frame: Frame,
@@ -60,13 +59,58 @@ pub fn for_again<S: WorldStore>(
     ensures { GoesOn S.meaning frame config.old config.new result (λ t env. iteration_from frame.node.0 (number test) (number update) s.0 env) }
 {
     match test {
-        Some(e) => {
-            let point = Point::Stmt(StmtPoint::ForTest(update, s));
-            expr_iteration(config, frame, point, e)
-        }
+        Some(e) => for_next_test(config, frame, update, s, e),
         None => {
             let point = Point::Stmt(StmtPoint::ForBody(update));
             stmt_iteration(config, frame, point, s)
+        }
+    }
+}
+
+/// The test of the first iteration has its value at once, or is entered.
+fn for_first_test<S: WorldStore>(
+    config: &mut Config<S>,
+    frame: Frame,
+    update: Option<NodeId>,
+    s: NodeId,
+    e: NodeId,
+) -> Result<(), OutOfMemory>
+    requires runs { Runs S.meaning config.old frame }
+    requires update { StandsIf config.old frame update }
+    requires body { StandsHere config.old frame s }
+    requires test { StandsHere config.old frame e }
+    ensures { GoesOn S.meaning frame config.old config.new result (λ t env.
+        Eval (AtExpr e.0) env (then_value (loop_test frame.node.0 (number update) s.0 env))) }
+{
+    match quick(config, &frame, Part::Expr(e)) {
+        Some(value) => for_tested(config, frame, update, s, value),
+        None => {
+            let point = Point::Stmt(StmtPoint::ForTest(update, s));
+            enter(config, frame, point, Part::Expr(e))
+        }
+    }
+}
+
+/// The test of a later iteration has its value at once, or begins.
+fn for_next_test<S: WorldStore>(
+    config: &mut Config<S>,
+    frame: Frame,
+    update: Option<NodeId>,
+    s: NodeId,
+    e: NodeId,
+) -> Result<(), OutOfMemory>
+    requires runs { Runs S.meaning config.old frame }
+    requires update { StandsIf config.old frame update }
+    requires body { StandsHere config.old frame s }
+    requires test { StandsHere config.old frame e }
+    ensures { GoesOn S.meaning frame config.old config.new result (λ t env.
+        Sub (expr_at e.0 env) (then_value (loop_test frame.node.0 (number update) s.0 env))) }
+{
+    match quick_entered(config, &frame, e) {
+        Some(value) => for_tested(config, frame, update, s, value),
+        None => {
+            let point = Point::Stmt(StmtPoint::ForTest(update, s));
+            expr_iteration(config, frame, point, e)
         }
     }
 }

@@ -22,6 +22,7 @@ use crate::declarators::initialiser_from;
 use wjs_base::{OutOfMemory, TextId, Value};
 use wjs_frames::{Part, enter, finish, node_of};
 use wjs_model::{Completion, Config, Frame, Point, StmtPoint};
+use wjs_quick::enter_quickly;
 use wjs_scope::Place;
 use wjs_step_common::number_of;
 use wjs_store::WorldStore;
@@ -59,7 +60,7 @@ pub fn place_of<S: WorldStore>(config: &Config<S>, frame: &Frame, at: usize) -> 
     wjs_frames::place_at(config, frame, frame.node(), at)
 }
 
-/// The variables from one of a number on: the first initialiser is entered.
+/// The variables from one of a number on: the first initialiser is asked for.
 pub fn variables_from<S: WorldStore>(
     config: &mut Config<S>,
     frame: Frame,
@@ -73,7 +74,7 @@ pub fn variables_from<S: WorldStore>(
         Some(initialiser) => {
             let at = number_of(initialiser.at)?;
             let point = Point::Stmt(StmtPoint::VariableValue(at));
-            enter(config, frame, point, Part::Expr(initialiser.value))
+            enter_quickly(config, frame, point, Part::Expr(initialiser.value))
         }
         None => finish(config, frame, Completion::Normal),
     }

@@ -1,16 +1,19 @@
 //! The loops `while` and `do` (sections 12.6.1 and 12.6.2).
-ghost use Rattle.std.specs.Prelude.{None};
+ghost use Rattle.std.specs.Prelude.{None, Some};
 ghost use Rattle.wjs_by_content.specs.Tables.{value_in};
 ghost use Rattle.wjs_meaning.specs.Deeds.{then_value};
 ghost use Rattle.wjs_meaning.specs.Loops.{loop_body, loop_test, do_body, do_test};
+ghost use Rattle.wjs_meaning.specs.Statements.{iteration_from};
 ghost use Rattle.wjs_model.specs.Contents.{completion_in};
 ghost use Rattle.wjs_model.specs.Soundness.{HasCompletion, HasValue, StandsHere};
 ghost use Rattle.wjs_frames.specs.Handling.{Runs, GoesOn};
 
 use crate::bodies::{AfterBody, after_body};
+use crate::iterations::expr_iteration;
 use wjs_base::{OutOfMemory, Value};
 use wjs_frames::{Part, enter, enter_last, finish};
 use wjs_model::{Completion, Config, Frame, Point, StmtPoint};
+use wjs_quick::{enter_quickly, quick_entered};
 use wjs_step_common::to_boolean;
 use wjs_store::WorldStore;
 use wjs_tree::NodeId;
@@ -31,6 +34,24 @@ pub fn while_test<S: WorldStore>(
     match completion {
         Completion::Gives(value) => while_tested(config, frame, s, value),
         other => finish(config, frame, other),
+    }
+}
+
+/// A later iteration of a `while`: its test has its value at once, or begins.
+pub fn while_again<S: WorldStore>(
+    config: &mut Config<S>,
+    frame: Frame,
+    e: NodeId,
+    s: NodeId,
+) -> Result<(), OutOfMemory>
+    requires runs { Runs S.meaning config.old frame }
+    requires test { StandsHere config.old frame e }
+    requires body { StandsHere config.old frame s }
+    ensures { GoesOn S.meaning frame config.old config.new result (λ t env. iteration_from frame.node.0 (Some e.0) None s.0 env) }
+{
+    match quick_entered(config, &frame, e) {
+        Some(value) => while_tested(config, frame, s, value),
+        None => expr_iteration(config, frame, Point::Stmt(StmtPoint::WhileTest(s)), e),
     }
 }
 
@@ -73,7 +94,7 @@ pub fn while_body<S: WorldStore>(
     }
 }
 
-/// After the body of a `do`: its test is entered.
+/// After the body of a `do`: its test is asked for.
 pub fn do_body<S: WorldStore>(
     config: &mut Config<S>,
     frame: Frame,
@@ -86,7 +107,9 @@ pub fn do_body<S: WorldStore>(
     ensures { GoesOn S.meaning frame config.old config.new result (λ t env. do_body frame.node.0 e.0 env (completion_in t completion)) }
 {
     match after_body(config, &frame, completion) {
-        AfterBody::Again => enter(config, frame, Point::Stmt(StmtPoint::DoTest), Part::Expr(e)),
+        AfterBody::Again => {
+            enter_quickly(config, frame, Point::Stmt(StmtPoint::DoTest), Part::Expr(e))
+        }
         AfterBody::Ends(completion) => finish(config, frame, completion),
     }
 }

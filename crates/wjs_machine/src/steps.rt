@@ -10,9 +10,9 @@ use wjs_blocks::{again, statement, stmt_after, variables};
 use wjs_calls::call_held;
 use wjs_eval_call::{body, call_after, conversion, program};
 use wjs_eval_expr::{expr, expr_after, operation, target};
-use wjs_frames::{Top, take_top};
+use wjs_frames::take_top;
 use wjs_heap_steps::operand_completion;
-use wjs_model::{Completion, Config, Frame, Point, Start, State};
+use wjs_model::{Completion, Config, Frame, Phase, Point, Start, State};
 use wjs_native_core::{apply_element, begin_core, resume_core};
 use wjs_native_text::{begin_text, glue_element, resume_text};
 use wjs_natives::is_core;
@@ -27,13 +27,17 @@ pub fn step<S: WorldStore>(config: &mut Config<S>) -> Result<(), OutOfMemory>
     ensures { OnOk result (Turns S.meaning config.old config.new) }
 {
     match take_top(config) {
-        Top::Stops => Ok(()),
-        Top::Begins(frame, start) => begin(config, frame, start),
-        Top::Given(frame, point, completion) => resume(config, frame, point, completion),
-        Top::Enters(frame, point, operand) => {
-            let completion = operand_completion(config, &frame, operand)?;
-            resume(config, frame, point, completion)
-        }
+        None => Ok(()),
+        Some(frame) => match frame.phase() {
+            Phase::Due(start) => begin(config, frame, start),
+            Phase::Ready(start) => begin(config, frame, start),
+            Phase::Waiting(point) => resume(config, frame, point, Completion::Normal),
+            Phase::Given(point, completion) => resume(config, frame, point, completion),
+            Phase::Entering(point, operand) => {
+                let completion = operand_completion(config, &frame, operand)?;
+                resume(config, frame, point, completion)
+            }
+        },
     }
 }
 

@@ -22,11 +22,12 @@ use wjs_heap_steps::name_of;
 use wjs_model::{
     Completion, Config, Conversion, ExprPoint, Frame, Held, Point, Purpose, Reference, Trouble,
 };
+use wjs_quick::quick;
 use wjs_step_common::{give_value_of, held_value, is_nullish, is_object, name_of_value, throw};
 use wjs_store::WorldStore;
 use wjs_tree::{Node, NodeId, Spelt};
 
-/// A member by name: its base is entered.
+/// A member by name: its base has its value at once, or is entered.
 pub fn dot_start<S: WorldStore>(
     config: &mut Config<S>,
     frame: Frame,
@@ -39,11 +40,16 @@ pub fn dot_start<S: WorldStore>(
     ensures { GoesOn S.meaning frame config.old config.new result (λ t env.
         Eval (AtExpr base.0) env (then_value (line.dot_base (spelt_in t name) env (taken purpose env)))) }
 {
-    let point = Point::Expr(ExprPoint::DotBase(purpose));
-    enter(config, frame, point, Part::Expr(base))
+    match quick(config, &frame, Part::Expr(base)) {
+        Some(value) => dot_named(config, frame, purpose, name, value),
+        None => {
+            let point = Point::Expr(ExprPoint::DotBase(purpose));
+            enter(config, frame, point, Part::Expr(base))
+        }
+    }
 }
 
-/// A member by value: its base is entered.
+/// A member by value: its base has its value at once, or is entered.
 pub fn at_start<S: WorldStore>(
     config: &mut Config<S>,
     frame: Frame,
@@ -56,11 +62,16 @@ pub fn at_start<S: WorldStore>(
     ensures { GoesOn S.meaning frame config.old config.new result (λ t env.
         Eval (AtExpr base.0) env (then_value (line.at_base index.0 env (taken purpose env)))) }
 {
-    let point = Point::Expr(ExprPoint::IndexBase(purpose, index));
-    enter(config, frame, point, Part::Expr(base))
+    match quick(config, &frame, Part::Expr(base)) {
+        Some(value) => at_base(config, frame, purpose, index, value),
+        None => {
+            let point = Point::Expr(ExprPoint::IndexBase(purpose, index));
+            enter(config, frame, point, Part::Expr(base))
+        }
+    }
 }
 
-/// After the base of a member by value: it is held, and the index is entered.
+/// After the base of a member by value: the index has its value at once, or is entered with the base held.
 pub fn at_base<S: WorldStore>(
     config: &mut Config<S>,
     frame: Frame,
@@ -73,8 +84,28 @@ pub fn at_base<S: WorldStore>(
     requires value { HasValue config.old value }
     ensures { GoesOn S.meaning frame config.old config.new result (λ t env. line.at_base index.0 env (taken purpose env) (value_in t value)) }
 {
+    match quick(config, &frame, Part::Expr(index)) {
+        Some(found) => at_both(config, frame, purpose, value, found),
+        None => enter_index(config, frame, purpose, index, value),
+    }
+}
+
+/// The base is held, and the index is entered.
+fn enter_index<S: WorldStore>(
+    config: &mut Config<S>,
+    frame: Frame,
+    purpose: Purpose,
+    index: NodeId,
+    base: Value,
+) -> Result<(), OutOfMemory>
+    requires runs { Runs S.meaning config.old frame }
+    requires index { StandsHere config.old frame index }
+    requires value { HasValue config.old base }
+    ensures { GoesOn S.meaning frame config.old config.new result (λ t env.
+        Eval (AtExpr index.0) env (then_value (line.at_index (value_in t base) env (taken purpose env)))) }
+{
     let mut frame = frame;
-    hold(&mut frame, Held::Value(value))?;
+    hold(&mut frame, Held::Value(base))?;
     let point = Point::Expr(ExprPoint::Index(purpose));
     enter(config, frame, point, Part::Expr(index))
 }
@@ -157,7 +188,7 @@ fn take<S: WorldStore>(
     }
 }
 
-/// After the index of a member by value: undefined and null have no members.
+/// After the index of a member by value: the base is held.
 pub fn at_index<S: WorldStore>(
     config: &mut Config<S>,
     frame: Frame,
@@ -169,10 +200,28 @@ pub fn at_index<S: WorldStore>(
     ensures { GoesOn S.meaning frame config.old config.new result (λ t env.
         line.at_index (value_in t (value_held frame.held)) env (taken purpose env) (value_in t value)) }
 {
-    if is_nullish(held_value(config, &frame)) {
+    let base = held_value(config, &frame);
+    at_both(config, frame, purpose, base, value)
+}
+
+/// The member of a base by a value: undefined and null have no members.
+fn at_both<S: WorldStore>(
+    config: &mut Config<S>,
+    frame: Frame,
+    purpose: Purpose,
+    base: Value,
+    index: Value,
+) -> Result<(), OutOfMemory>
+    requires runs { Runs S.meaning config.old frame }
+    requires base { HasValue config.old base }
+    requires index { HasValue config.old index }
+    ensures { GoesOn S.meaning frame config.old config.new result (λ t env.
+        line.at_index (value_in t base) env (taken purpose env) (value_in t index)) }
+{
+    if is_nullish(base) {
         throw(config, frame, Trouble::NotAnObject)
     } else {
-        at_name(config, frame, purpose, value)
+        at_name(config, frame, purpose, base, index)
     }
 }
 
@@ -181,19 +230,40 @@ fn at_name<S: WorldStore>(
     config: &mut Config<S>,
     frame: Frame,
     purpose: Purpose,
-    value: Value,
+    base: Value,
+    index: Value,
 ) -> Result<(), OutOfMemory>
     requires runs { Runs S.meaning config.old frame }
-    requires value { HasValue config.old value }
+    requires base { HasValue config.old base }
+    requires index { HasValue config.old index }
     ensures { GoesOn S.meaning frame config.old config.new result (λ t env.
-        Sub (to_text (value_in t value) env) (then_text (line.at_name (value_in t (value_held frame.held)) (taken purpose env)))) }
+        Sub (to_text (value_in t index) env) (then_text (line.at_name (value_in t base) (taken purpose env)))) }
 {
-    if is_object(value) {
-        let point = Point::Expr(ExprPoint::IndexName(purpose));
-        convert(config, frame, point, Conversion::Text, value)
+    if is_object(index) {
+        at_object(config, frame, purpose, base, index)
     } else {
-        at_primitive(config, frame, purpose, value)
+        at_primitive(config, frame, purpose, base, index)
     }
+}
+
+/// The index is converted, and the base is held.
+fn at_object<S: WorldStore>(
+    config: &mut Config<S>,
+    frame: Frame,
+    purpose: Purpose,
+    base: Value,
+    index: Value,
+) -> Result<(), OutOfMemory>
+    requires runs { Runs S.meaning config.old frame }
+    requires base { HasValue config.old base }
+    requires index { HasValue config.old index }
+    ensures { GoesOn S.meaning frame config.old config.new result (λ t env.
+        Sub (to_text (value_in t index) env) (then_text (line.at_name (value_in t base) (taken purpose env)))) }
+{
+    let mut frame = frame;
+    hold(&mut frame, Held::Value(base))?;
+    let point = Point::Expr(ExprPoint::IndexName(purpose));
+    convert(config, frame, point, Conversion::Text, index)
 }
 
 /// The text of a primitive is the name.
@@ -201,15 +271,17 @@ fn at_primitive<S: WorldStore>(
     config: &mut Config<S>,
     frame: Frame,
     purpose: Purpose,
-    value: Value,
+    base: Value,
+    index: Value,
 ) -> Result<(), OutOfMemory>
     requires runs { Runs S.meaning config.old frame }
-    requires value { HasValue config.old value }
+    requires base { HasValue config.old base }
+    requires index { HasValue config.old index }
     ensures { GoesOn S.meaning frame config.old config.new result (λ t env.
-        line.at_name (value_in t (value_held frame.held)) (taken purpose env) (primitive_text (value_in t value))) }
+        line.at_name (value_in t base) (taken purpose env) (primitive_text (value_in t index))) }
 {
-    let name = name_of_value(config, value)?;
-    take_held(config, frame, purpose, name)
+    let name = name_of_value(config, index)?;
+    take(config, frame, purpose, base, name)
 }
 
 /// The member of the base that is held.

@@ -8,13 +8,14 @@ ghost use Rattle.wjs_frames.specs.Handling.{Runs, IsAt, GoesOn};
 
 use crate::operations::operate;
 use wjs_base::{OutOfMemory, Value};
-use wjs_frames::{Part, enter, enter_last, finish, hold};
+use wjs_frames::{Part, enter, finish, hold};
 use wjs_model::{Completion, Config, ExprPoint, Frame, Held, Point};
+use wjs_quick::{enter_last_quickly, quick};
 use wjs_step_common::{held_value, to_boolean};
 use wjs_store::WorldStore;
 use wjs_tree::{BinaryOperator, Node, NodeId};
 
-/// At its entry: the left operand is entered (ECMA-262, 3rd edition, sections 11.5 to 11.11).
+/// At its entry: the left operand has its value at once, or is entered (ECMA-262, 3rd edition, sections 11.5 to 11.11).
 pub fn binary_start<S: WorldStore>(
     config: &mut Config<S>,
     frame: Frame,
@@ -26,12 +27,16 @@ pub fn binary_start<S: WorldStore>(
     requires node { IsAt S.meaning config.old frame (Node.Binary left operator right) }
     ensures { GoesOn S.meaning frame config.old config.new result (λ t env. Eval (AtExpr left.0) env (then_value (line.binary_left operator right.0 env))) }
 {
-    let point = Point::Expr(ExprPoint::BinaryLeft(operator, right));
-    enter(config, frame, point, Part::Expr(left))
+    match quick(config, &frame, Part::Expr(left)) {
+        Some(value) => binary_left(config, frame, operator, right, value),
+        None => {
+            let point = Point::Expr(ExprPoint::BinaryLeft(operator, right));
+            enter(config, frame, point, Part::Expr(left))
+        }
+    }
 }
 
-/// After the left value: `&&` and `||` may end with it (section 11.11); every other operator holds it and enters the right
-/// operand.
+/// After the left value: `&&` and `||` may end with it (section 11.11); every other operator asks for the right one.
 #[inline(always)]
 pub fn binary_left<S: WorldStore>(
     config: &mut Config<S>,
@@ -52,9 +57,29 @@ pub fn binary_left<S: WorldStore>(
     }
 }
 
-/// The left value is held, and the right operand is entered.
+/// The right operand has its value at once, or is entered with the left value held.
 #[inline(always)]
 fn hold_left<S: WorldStore>(
+    config: &mut Config<S>,
+    frame: Frame,
+    operator: BinaryOperator,
+    right: NodeId,
+    value: Value,
+) -> Result<(), OutOfMemory>
+    requires runs { Runs S.meaning config.old frame }
+    requires right { StandsHere config.old frame right }
+    requires value { HasValue config.old value }
+    ensures { GoesOn S.meaning frame config.old config.new result (λ t env.
+        Eval (AtExpr right.0) env (then_value (line.binary_right operator (value_in t value) env))) }
+{
+    match quick(config, &frame, Part::Expr(right)) {
+        Some(second) => operate(config, frame, operator, value, second),
+        None => enter_right(config, frame, operator, right, value),
+    }
+}
+
+/// The left value is held, and the right operand is entered.
+fn enter_right<S: WorldStore>(
     config: &mut Config<S>,
     frame: Frame,
     operator: BinaryOperator,
@@ -86,7 +111,7 @@ fn and_left<S: WorldStore>(
     ensures { GoesOn S.meaning frame config.old config.new result (λ t env. line.and_left right.0 env (value_in t value)) }
 {
     if to_boolean(config, value) {
-        enter_last(config, frame, Part::Expr(right))
+        enter_last_quickly(config, frame, Part::Expr(right))
     } else {
         finish(config, frame, Completion::Gives(value))
     }
@@ -107,7 +132,7 @@ fn or_left<S: WorldStore>(
     if to_boolean(config, value) {
         finish(config, frame, Completion::Gives(value))
     } else {
-        enter_last(config, frame, Part::Expr(right))
+        enter_last_quickly(config, frame, Part::Expr(right))
     }
 }
 

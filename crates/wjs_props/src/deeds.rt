@@ -45,7 +45,7 @@ pub fn read<S: WorldStore>(
 
 /// What a slot holds, where a read of it would change nothing; else None, which any store may answer.
 #[inline(always)]
-pub(crate) fn look<S: WorldStore>(heap: &Heap<S>, world: WorldId, slot: Slot) -> Option<Content>
+pub fn look<S: WorldStore>(heap: &Heap<S>, world: WorldId, slot: Slot) -> Option<Content>
     requires heap { IsHeap (parts S.meaning heap.now) }
     requires world { IsTrue (has_world (worlds (S.meaning heap.now.store)) world) }
     requires slot { HasSlot heap.now.texts heap.now.arena slot }

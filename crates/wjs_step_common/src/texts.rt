@@ -130,8 +130,8 @@ pub fn name_of_value<S: WorldStore>(
     }
 }
 
-/// The number, where it is an array index (section 15.4).
-fn index_of(value: Value) -> Option<u32>
+/// The number, where it is an array index (section 15.4); None of every other value.
+pub fn index_of(value: Value) -> Option<u32>
     ensures { MatchOption result (Unit {0}) (λ index. (index ≤ greatest_index) × ((t : Table) → primitive_text (value_in t value) ≡ index_name index)) }
 {
     let Value::Number(number) = value else {

@@ -1,19 +1,14 @@
-use Rattle.std.proofs.Common.{sym}
-use Rattle.wjs_frames.proofs.Shorter.{follows_shorter, shorten_ended}
+use Rattle.std.proofs.Common.{ap, ◌∙◌}
+use Rattle.wjs_step_common.proofs.Following.{follows_as}
 use Rattle.wjs_by_content.specs.Tables.{value_in}
+use Rattle.wjs_meaning.specs.Expressions.{compound_value}
+use Rattle.wjs_model.specs.Contents.{reference_in, value_held}
 use Rattle.wjs_frames.specs.Parts.{env_in}
-use Rattle.wjs_by_content.specs.Values.{Number}
-use Rattle.wjs_meaning.specs.Deeds.{Gives, then_value}
-use Rattle.wjs_meaning.specs.Operators.{operate}
-use Rattle.wjs_meaning.specs.Expressions.{assign_value}
-use Rattle.wjs_model.specs.Contents.{reference_in, reference_held}
 use Rattle.wjs_assigns.proofs.assigns.compound_value.Goals as goal
 
-pub returns-in-Some : goal.returns-in-Some
-returns-in-Some g c =
-    let t = c.assign_value.new.config.heap.texts in
+pub returns : goal.returns
+returns g c =
+    let t = c.compound_both.new.config.heap.texts in
     let env = env_in g.S.WorldStore.meaning c.args.config.now t c.args.frame in
-    rw (sym c.held_value-old.ensures.is) (follows_shorter g.S.WorldStore.meaning _ _ _ _ _ (shorten_ended (operate c.args.operator (value_in t c.held_value-old.result) (value_in t c.args.value) env) (Gives (Number c.in-Some.number.number)) (then_value (assign_value (reference_in t (reference_held c.args.frame.held)) env)) (c.in-Some.ensures t env)) c.assign_value.ensures)
-
-pub returns-in-None : goal.returns-in-None
-returns-in-None g c = rw (sym c.held_value-old.ensures.is) c.compound_nested.ensures
+    follows_as _ _ _ _ _ _ (λ grows. ap (λ v. compound_value c.args.operator (value_in t v) (reference_in t c.held_reference-reference.result) env (value_in t c.args.value)) c.held_value-old.ensures.is
+    ∙ ap (λ r. compound_value c.args.operator (value_in t (value_held c.args.frame.held)) (reference_in t r) env (value_in t c.args.value)) c.held_reference-reference.ensures.is) c.compound_both.ensures

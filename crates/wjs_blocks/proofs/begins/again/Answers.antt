@@ -2,12 +2,12 @@ use Rattle.std.proofs.Common.{inl, inr, refl, ◌∙◌}
 use Rattle.wjs_blocks.proofs.Parts.{part_stands, for_stands}
 use Rattle.wjs_blocks.proofs.begins.again.Goals as goal
 
-pub expr_iteration-requires-clause-part : goal.expr_iteration-requires-clause-part
-expr_iteration-requires-clause-part g c =
+pub while_again-requires-clause-test : goal.while_again-requires-clause-test
+while_again-requires-clause-test g c =
     part_stands g.S.WorldStore.meaning c.args.config.now c.args.frame c.requires.runs.there _ _ (c.in-Some-While.ensures ∙ c.in-Some-While.field-0-is) (inl refl)
 
-pub expr_iteration-requires-clause-point : goal.expr_iteration-requires-clause-point
-expr_iteration-requires-clause-point g c =
+pub while_again-requires-clause-body : goal.while_again-requires-clause-body
+while_again-requires-clause-body g c =
     part_stands g.S.WorldStore.meaning c.args.config.now c.args.frame c.requires.runs.there _ _ (c.in-Some-While.ensures ∙ c.in-Some-While.field-0-is) (inr (inl refl))
 
 pub stmt_iteration-requires-clause-part : goal.stmt_iteration-requires-clause-part

@@ -14,12 +14,12 @@ returns-in-Enters g c =
     let old = c.args.config.now in
     let f = c.args.frame in
     let n = node_now m old f in
-    let t = c.enter.new.config.heap.texts in
+    let t = c.begin_part.new.config.heap.texts in
     let env = env_in m old t f in
     let held = holding_in t f.held in
-    follows_as m _ _ _ _ c.enter.result (λ grows.
+    follows_as m _ _ _ _ c.begin_part.result (λ grows.
     ap (λ (b : Beginning). goes t f.node.0 (node_in t n) held env b) (sym c.in-Enters.is ∙ c.beginning_of.ensures) ∙ begins_same t f.node.0 n held env)
-    c.enter.ensures
+    c.begin_part.ensures
 
 pub returns-in-Ends : goal.returns-in-Ends
 returns-in-Ends g c =
@@ -86,16 +86,16 @@ returns-in-Declares g c =
     ap (λ (b : Beginning). goes t f.node.0 (node_in t n) held env b) (sym c.in-Declares.is ∙ c.beginning_of.ensures) ∙ begins_same t f.node.0 n held env)
     c.for_variables.ensures
 
-pub enter-requires-clause-point : goal.enter-requires-clause-point
-enter-requires-clause-point g c =
+pub begin_part-requires-clause-point : goal.begin_part-requires-clause-point
+begin_part-requires-clause-point g c =
     let m = g.S.WorldStore.meaning in
     let old = c.args.config.now in
     let f = c.args.frame in
     let can = subst (λ (b : Beginning). CanBegin old f b) (sym c.beginning_of.ensures ∙ c.in-Enters.is) (begin_stands m old f c.requires.runs.running.base c.requires.runs.there) in
     can.0
 
-pub enter-requires-clause-part : goal.enter-requires-clause-part
-enter-requires-clause-part g c =
+pub begin_part-requires-clause-part : goal.begin_part-requires-clause-part
+begin_part-requires-clause-part g c =
     let m = g.S.WorldStore.meaning in
     let old = c.args.config.now in
     let f = c.args.frame in

@@ -20,15 +20,15 @@ returns-in_ok-at-in-Some g c =
     let old = c.args.config.now in
     let f = c.args.frame in
     let case = c.in-Some.case in
-    let t = c.enter.new.config.heap.texts in
+    let t = c.enter_quickly.new.config.heap.texts in
     let node = node_now meaning old f in
     let env = env_in meaning old t f in
     let v = value_in t (value_held f.held) in
     let P : Option Case → Type 0 = λ o. switch_cases v (map (clause_in t) c.clauses_of.result.now) (drop c.args.from (map (clause_in t) c.clauses_of.result.now)) env ≡ case_goes v (map (clause_in t) c.clauses_of.result.now) o env in
     let found = subst P c.in-Some.is (c.case_from.ensures.goes t v env) in
-    follows_as meaning _ _ _ _ c.enter.result (λ grows.
+    follows_as meaning _ _ _ _ c.enter_quickly.result (λ grows.
     case_enters t node env v case c.in_ok-at-in-Some.at c.in_ok-at-in-Some.ensures
-    ∙ sym (cases_same t node env c.clauses_of.result.now v c.args.from (Some case) c.clauses_of.ensures found)) c.enter.ensures
+    ∙ sym (cases_same t node env c.clauses_of.result.now v c.args.from (Some case) c.clauses_of.ensures found)) c.enter_quickly.ensures
 
 pub returns-in-None : goal.returns-in-None
 returns-in-None g c =
@@ -45,8 +45,8 @@ returns-in-None g c =
     sym (ap (λ (l : List (Option ℕ × List ℕ)). switch_from (statements_of l) env) (default_same t node env c.clauses_of-in-None.result.now c.default_of-clause.result c.clauses_of-in-None.ensures (c.default_of-clause.ensures t)))
     ∙ sym (cases_same t node env c.clauses_of.result.now v c.args.from None c.clauses_of.ensures found)) c.clauses_from.ensures
 
-pub enter-requires-clause-part : goal.enter-requires-clause-part
-enter-requires-clause-part g c =
+pub enter_quickly-requires-clause-part : goal.enter_quickly-requires-clause-part
+enter_quickly-requires-clause-part g c =
     let case = c.in-Some.case in
     let Q : List Clause → Type 0 = λ cs. test_of (slice_get cs case.at) ≡ Some case.test in
     let R : Option Case → Type 0 = λ o. IfSome o (λ (x : Case). test_of (slice_get c.clauses_of.result.now x.at) ≡ Some x.test) in

@@ -7,16 +7,16 @@ use Rattle.wjs_literals.proofs.CallLines.{call_enters, values_end}
 use Rattle.wjs_literals.proofs.Standing.{argument_stands}
 use Rattle.wjs_literals.proofs.calls.call_next.Goals as goal
 
-pub enter-requires-clause-part : goal.enter-requires-clause-part
-enter-requires-clause-part g c =
+pub enter_quickly-requires-clause-part : goal.enter_quickly-requires-clause-part
+enter_quickly-requires-clause-part g c =
     argument_stands g.S.WorldStore.meaning c.args.config.now c.args.frame c.requires.runs.there c.args.at c.in-Some.next (sym c.in-Some.ensures)
 
 pub returns-in-Some : goal.returns-in-Some
 returns-in-Some g c =
-    let t = c.enter.new.config.heap.texts in
+    let t = c.enter_quickly.new.config.heap.texts in
     let n = node_now g.S.WorldStore.meaning c.args.config.now c.args.frame in
     let env = env_in g.S.WorldStore.meaning c.args.config.now t c.args.frame in
-    follows_as _ _ _ _ _ _ (λ grows. call_enters t n c.args.at c.in-Some.next (holding_in t c.args.frame.held) env (sym c.in-Some.ensures)) c.enter.ensures
+    follows_as _ _ _ _ _ _ (λ grows. call_enters t n c.args.at c.in-Some.next (holding_in t c.args.frame.held) env (sym c.in-Some.ensures)) c.enter_quickly.ensures
 
 pub returns-in-None : goal.returns-in-None
 returns-in-None g c =

@@ -7,4 +7,4 @@ returns-then-is_target g c = follows_as _ _ _ _ _ _ (λ grows. rw (c.is_target.e
 
 pub returns-else-is_target : goal.returns-else-is_target
 returns-else-is_target g c =
-    follows_as _ _ _ _ _ _ (λ grows. rw (c.is_target.ensures c.enter-else-is_target.new.config.heap.texts, c.if-is_target.false) refl) c.enter-else-is_target.ensures
+    follows_as _ _ _ _ _ _ (λ grows. rw (c.is_target.ensures c.enter_quickly.new.config.heap.texts, c.if-is_target.false) refl) c.enter_quickly.ensures

@@ -1,0 +1,4 @@
+pub mod Coming
+pub mod Operations
+pub mod MemberLines
+pub mod Entering

@@ -1,0 +1,105 @@
+//! Operators on two numbers (ECMA-262, 3rd edition, sections 11.5 to 11.7 and 11.10).
+ghost use Rattle.std.specs.Prelude.{◌≡◌, true, IfSome};
+ghost use Rattle.wjs_base.specs.Text.{Table};
+ghost use Rattle.wjs_num.specs.Exact.{answer};
+ghost use Rattle.wjs_by_content.specs.Tables.{value_in};
+ghost use Rattle.wjs_by_content.specs.Values.{Number};
+ghost use Rattle.wjs_meaning.specs.Deeds.{Env, give};
+ghost use Rattle.wjs_meaning.specs.Operators as line;
+ghost use Rattle.wjs_frames.specs.Shortening.{Shortens};
+ghost use Rattle.wjs_quick.specs.Operating.{is_calculation};
+
+use wjs_base::{Value, Whole};
+use wjs_num::{NumFault, add, bit_and, bit_or, bit_xor, div, mul, rem, shl, shr, sub, ushr};
+use wjs_tree::BinaryOperator;
+
+/// The number that the operator makes of two numbers, with which the operation ends at once. None where a value is no number,
+/// or the operation makes none or throws.
+#[inline(always)]
+pub(crate) fn calculated(operator: BinaryOperator, left: Value, right: Value) -> Option<Whole>
+    ensures { IfSome result (λ number. (t : Table) (env : Env) →
+        Shortens (line.operate operator (value_in t left) (value_in t right) env) (give (Number number.number))) }
+{
+    let Value::Number(x) = left else {
+        return None;
+    };
+    let Value::Number(y) = right else {
+        return None;
+    };
+    number_of(operator, x, y)
+}
+
+#[inline(always)]
+fn number_of(operator: BinaryOperator, x: Whole, y: Whole) -> Option<Whole>
+    ensures { IfSome result (λ number. (env : Env) → Shortens (line.operate operator (Number x.number) (Number y.number) env) (give (Number number.number))) }
+{
+    if is_calculation(operator) {
+        return calculation(operator, x, y);
+    }
+    match operator {
+        BinaryOperator::Add => sum(x, y),
+        _ => None,
+    }
+}
+
+#[inline(always)]
+fn sum(x: Whole, y: Whole) -> Option<Whole>
+    ensures { IfSome result (λ number. (env : Env) →
+        Shortens (line.operate BinaryOperator.Add (Number x.number) (Number y.number) env) (give (Number number.number))) }
+{
+    match add(x, y) {
+        Ok(number) => Some(number),
+        Err(_) => None,
+    }
+}
+
+#[inline(always)]
+fn calculation(operator: BinaryOperator, x: Whole, y: Whole) -> Option<Whole>
+    requires { is_calculation operator ≡ true }
+    ensures { IfSome result (λ number. (env : Env) → Shortens (line.operate operator (Number x.number) (Number y.number) env) (give (Number number.number))) }
+{
+    match arithmetic(operator, x, y) {
+        Ok(number) => Some(number),
+        Err(_) => None,
+    }
+}
+
+/// The arithmetic of an operator.
+#[inline(always)]
+fn arithmetic(operator: BinaryOperator, x: Whole, y: Whole) -> Result<Whole, NumFault>
+    ensures { answer result ≡ line.arithmetic operator x.number y.number }
+{
+    match operator {
+        BinaryOperator::Multiply => mul(x, y),
+        BinaryOperator::Divide => div(x, y),
+        BinaryOperator::Remainder => rem(x, y),
+        BinaryOperator::Subtract => sub(x, y),
+        BinaryOperator::ShiftLeft => Ok(shl(x, y)),
+        BinaryOperator::ShiftRight => Ok(shr(x, y)),
+        BinaryOperator::ShiftRightUnsigned => Ok(ushr(x, y)),
+        BinaryOperator::BitAnd => Ok(bit_and(x, y)),
+        BinaryOperator::BitXor => Ok(bit_xor(x, y)),
+        BinaryOperator::BitOr => Ok(bit_or(x, y)),
+        _ => Ok(Whole::NAN),
+    }
+}
+
+/// Whether the operator is one on two numbers.
+#[inline(always)]
+fn is_calculation(operator: BinaryOperator) -> bool
+    ensures { result ≡ is_calculation operator }
+{
+    match operator {
+        BinaryOperator::Multiply
+        | BinaryOperator::Divide
+        | BinaryOperator::Remainder
+        | BinaryOperator::Subtract
+        | BinaryOperator::ShiftLeft
+        | BinaryOperator::ShiftRight
+        | BinaryOperator::ShiftRightUnsigned
+        | BinaryOperator::BitAnd
+        | BinaryOperator::BitXor
+        | BinaryOperator::BitOr => true,
+        _ => false,
+    }
+}
