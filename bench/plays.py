@@ -8,8 +8,8 @@ COMMAND runs the program; left out, it is crates/worlds/out/worlds. Of N runs (3
 10 steps, which should take at most four times what the script takes. They print the same each time, and behind it a play has its lines.
 
 In the first kind no script has to do with another, and each is committed at its first try. In the second all count one counter, and
-most are run four times. Of a dropped try a play keeps its objects, and its world with nothing in it, and gives the rest back: how much
-the second kind takes beyond the peak of the first is told by dropped try.
+most are run four times. Of a dropped try a play keeps its world with nothing in it, and the texts that it made, and gives the rest
+back: how much the second kind takes beyond the peak of the first is told by dropped try.
 """
 import re
 import sys

@@ -1,6 +1,8 @@
 //! Why a play doesn't come to its end, or doesn't begin.
 
+use std::alloc::AllocFailed;
 use thiserror::Error;
+use wjs_base::OutOfMemory;
 use wjs_command::Status;
 use wjs_division::InputFault;
 use wjs_io::ReadFault;
@@ -44,6 +46,18 @@ impl Fault {
             Fault::OutOfMemory => Status::OutOfMemory,
             _ => Status::Refused,
         }
+    }
+}
+
+impl From<OutOfMemory> for Fault {
+    fn from(_: OutOfMemory) -> Self {
+        Fault::OutOfMemory
+    }
+}
+
+impl<T: Drop> From<AllocFailed<T>> for Fault {
+    fn from(_: AllocFailed<T>) -> Self {
+        Fault::OutOfMemory
     }
 }
 

@@ -8,11 +8,11 @@ use crate::fault::Fault;
 use crate::schedule::{Schedule, schedule_of};
 use std::alloc::Global;
 use wjs_activity::{PlayEnd, play};
-use wjs_base::{OutOfMemory, Texts};
+use wjs_base::Texts;
 use wjs_division::load_parts;
 use wjs_io::{Sink, Source, read_all};
 use wjs_load::library;
-use wjs_model::Unit;
+use wjs_model::LoadedProgram;
 
 /// The most bytes that are read.
 const MOST_BYTES: u64 = 16_777_216;
@@ -38,14 +38,9 @@ fn play_bytes<O: Sink>(alloc: Global, bytes: &[u8], out: &mut O) -> Result<(), F
         return Err(Fault::NotUtf8);
     };
     let schedule = schedule_of(alloc, line)?;
-    let mut texts = match Texts::new(alloc) {
-        Ok(texts) => texts,
-        Err(_) => return Err(Fault::OutOfMemory),
-    };
-    match load_parts(alloc, scripts, &mut texts) {
-        Ok(parts) => play_parts(alloc, texts, parts, &schedule, out),
-        Err(fault) => Err(Fault::from(fault)),
-    }
+    let mut texts = Texts::new(alloc)?;
+    let parts = load_parts(alloc, scripts, &mut texts)?;
+    play_parts(alloc, texts, parts, &schedule, out)
 }
 
 /// The first line, without the LF that ends it, and what follows.
@@ -64,7 +59,7 @@ fn first_line(bytes: &[u8]) -> (&[u8], &[u8])
 fn play_parts<O: Sink>(
     alloc: Global,
     texts: Texts,
-    parts: Vec<Unit>,
+    parts: Vec<LoadedProgram>,
     schedule: &Schedule,
     out: &mut O,
 ) -> Result<(), Fault>
@@ -77,10 +72,7 @@ fn play_parts<O: Sink>(
     requires budget { 1 ≤ schedule.now.budget }
 {
     let mut texts = texts;
-    let library = match library(alloc, &mut texts) {
-        Ok(library) => library,
-        Err(OutOfMemory) => return Err(Fault::OutOfMemory),
-    };
+    let library = library(alloc, &mut texts)?;
     let turns = schedule.turns.as_slice();
     match play(
         alloc,

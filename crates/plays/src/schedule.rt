@@ -47,10 +47,7 @@ fn turns_of(alloc: Global, words: &str) -> Result<Vec<PlayTurn>, Fault>
         let Some(turn) = turn_of(word) else {
             return Err(Fault::NotASchedule);
         };
-        match turns.push(turn) {
-            Ok(()) => {}
-            Err(_) => return Err(Fault::OutOfMemory),
-        }
+        turns.push(turn)?;
     }
     Ok(turns)
 }

@@ -3,9 +3,10 @@ use Rattle.std.proofs.Common.{◌≡◌, ℕ, zero, suc, ◌+◌, ◌≤◌, ◌
 use Rattle.std.proofs.Common.{◌∙◌, subst, arith, length-set, IsTrue}
 use Rattle.std.specs.Prelude.{IfSome, slice_get}
 use Rattle.std.specs.FinMap as map
-use Rattle.std.proofs.lemmas.Bool.{eqb-true, eq-eqb}
+use Rattle.std.proofs.lemmas.Bool.{eqb-true, eq-eqb, or_right}
 use Rattle.std.proofs.lemmas.Option.{same_Some, slice_get_within}
 use Rattle.wjs_base.specs.declared.ids.ObjId.{ObjId}
+use Rattle.wjs_base.proofs.Lists.{get_there}
 use Rattle.wjs_store.specs.Meaning.{Meaning, View}
 use Rattle.wjs_arena.specs.Entries.{Entry}
 use Rattle.wjs_by_content.specs.Objects.{Arena}
@@ -36,9 +37,9 @@ use Rattle.wjs_tries.specs.Passing.{Passes}
 use Rattle.wjs_tries.specs.Resting.{IsResting}
 use Rattle.wjs_activity.specs.SoFar.{times_owned, StandsBy, IsPlay}
 use Rattle.wjs_tries.specs.Turning.{HiddenIn, TurnsApart}
-use Rattle.wjs_tries.proofs.NotYet.{hidden_yet, unaware_yet}
+use Rattle.wjs_tries.proofs.NotYet.{hidden_yet, unaware_yet, none_later, neither}
 use Rattle.wjs_tries.proofs.Passed.{returns}
-use Rattle.wjs_activity.proofs.Places.{set_other, set_there, there_at}
+use Rattle.wjs_activity.proofs.Places.{set_other, set_there}
 use Rattle.wjs_activity.proofs.Standing.{by_place}
 use Rattle.wjs_activity.proofs.Standing as standing
 use Rattle.wjs_tries.proofs.Unawares.{unaware_still, kept_resting}
@@ -59,10 +60,6 @@ listed_at : (us : List ℕ) (u j : ℕ) → slice_get us j ≡ Some u → IsTrue
 listed_at [] u j at = let none : None ≡ Some u = at in absurd (cc)
 listed_at (x ∷ us) u zero at = ap (λ b. b || is_apart us u) (eq-eqb x u (same_Some x u at))
 listed_at (x ∷ us) u (suc j) at = or_right (x == u) (is_apart us u) (listed_at us u j at)
-  where
-    or_right : (a b : Bool) → b ≡ true → (a || b) ≡ true
-    or_right true b h = refl
-    or_right false b h = h
 
 -- ---- a play between turns
 
@@ -88,7 +85,7 @@ module _ (library : Option Tree) (parts : List Tree) (budget : ℕ) (copy : Copy
   by_entry u j at X none some =
       let lt : j < length list = slice_get_within list j u at in
       let long : length list ≡ length p.activities.items = is.apart.long in
-      let b = there_at p.activities.items j (omega (arith, lt, long)) in
+      let b = get_there p.activities.items j (omega (arith, lt, long)) in
       by b.0 b.1 (b.0).running refl (same_Some u (entry_of (b.0).running) (sym at ∙ is.apart.lists j b.0 b.1))
     where
       by : (b : Activity) → slice_get p.activities.items j ≡ Some b → (o : Option Rested) → b.running ≡ o → u ≡ entry_of b.running → X
@@ -153,8 +150,9 @@ module _ (library : Option Tree) (parts : List Tree) (budget : ℕ) (copy : Copy
           never_first,
           (
             differ,
-            kept_resting p.common r p.drawn no_owner is.common resting_here.none resting_here.sound never_first differ no_hidden
-                (unaware_yet p.common r p.drawn no_owner is.common never resting_here.none resting_here.sound),
+            kept_resting p.common r no_owner resting_here.none resting_here.sound never_first differ
+                (none_later p.common r p.drawn no_owner is.common resting_here.owns.owned low never resting_here.none resting_here.sound)
+                (unaware_yet p.common r p.drawn no_owner is.common resting_here.owns.owned low never resting_here.none resting_here.sound),
           ),
         )
 
@@ -167,7 +165,8 @@ module _ (library : Option Tree) (parts : List Tree) (budget : ℕ) (copy : Copy
           some,
           (
             differ,
-            kept_resting p.common r p.drawn s.owner is.common resting_here.none resting_here.sound some differ (is.apart.hidden j b s found runs)
+            kept_resting p.common r s.owner resting_here.none resting_here.sound some differ
+                (neither p.common.arena r.objects s.owner t.owns.absent (λ o h of. differ (sym of ∙ resting_here.owns.owned o h)))
                 (is.apart.unaware place j a b r s (λ k. away (sym k)) at found running runs),
           ),
         )
@@ -177,7 +176,7 @@ module _ (library : Option Tree) (parts : List Tree) (budget : ℕ) (copy : Copy
         (λ here.
         let lt : place < length p.activities.items = slice_get_within p.activities.items place a at in
         let long : length list ≡ length p.activities.items = is.apart.long in
-        let was = there_at list place (omega (arith, lt, long)) in
+        let was = get_there list place (omega (arith, lt, long)) in
         let same : u ≡ no_owner = same_Some u no_owner (sym entry ∙ ap (slice_get (set list place no_owner)) here
         ∙ set_there list place was.0 no_owner was.1) in
         subst Kept (sym same) kept_none)
@@ -256,7 +255,7 @@ module _ (library : Option Tree) (parts : List Tree) (budget : ℕ) (copy : Copy
       own_unaware = by a.running refl
         where
           by : (o : Option Rested) → a.running ≡ o → Unaware p.common s q
-          by None e = unaware_yet p.common s p.drawn q is.common (new e) rests.none rests.sound
+          by None e = unaware_yet p.common s p.drawn q is.common rests.owns.owned rests.owner (new e) rests.none rests.sound
           by (Some r) e = subst (Unaware p.common s) (own r e) (is.apart.unaware j place b a s r away found at runs e)
 
     -- where that rests

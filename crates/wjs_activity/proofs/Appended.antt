@@ -5,7 +5,7 @@ use Rattle.wjs_by_content.specs.Objects.{Arena}
 use Rattle.wjs_meaning.specs.Trees.{Tree}
 use Rattle.wjs_meaning.specs.Deeds.{St}
 use Rattle.wjs_meaning.specs.Programs.{Ending}
-use Rattle.wjs_alone.specs.Alone.{Copy, Outcome, outcome_of, copy_after, printed}
+use Rattle.wjs_alone.specs.Alone.{Copy, Outcome, outcome_of, copy_after, objects_after, printed}
 use Rattle.wjs_alone.specs.Serial.{Run, End, runs_of, outcomes_of, Holds, NewOwn, run_at, outcomes_by, printed_by, copy_by, ObjectsGrow}
 use Rattle.wjs_activity.specs.SoFar.{left_by}
 
@@ -45,12 +45,13 @@ module _ (library : Option Tree) (parts : List Tree) (budget : ℕ) where
       ap (λ (l : List ℕ). printed (run_at library parts budget m x) ++ l) (printed_then (next m x) rs r)
       ∙ sym (append_assoc (printed (run_at library parts budget m x)) (printed_by library parts budget (next m x) rs) (printed (run_behind m (x ∷ rs) r)))
 
-  pub left_then : (m : Copy) (a : Arena) (rs : List Run) (r : Run) → left_by library parts budget m a (rs ++ r ∷ []) ≡ ((run_behind m rs r).1).arena
+  pub left_then : (m : Copy) (a : Arena) (rs : List Run) (r : Run) → left_by library parts budget m a (rs ++ r ∷ [])
+      ≡ objects_after r.objects (run_behind m rs r)
   left_then m a [] r = refl
-  left_then m a (x ∷ rs) r = left_then (next m x) ((run_at library parts budget m x).1).arena rs r
+  left_then m a (x ∷ rs) r = left_then (next m x) (objects_after x.objects (run_at library parts budget m x)) rs r
 
   pub grow_then : (m : Copy) (a : Arena) (rs : List Run) (r : Run) → ObjectsGrow library parts budget m a rs
       → Holds (left_by library parts budget m a rs) r.objects → NewOwn (left_by library parts budget m a rs) r.objects
       → ObjectsGrow library parts budget m a (rs ++ r ∷ [])
   grow_then m a [] r g h w = (h, w, tt)
-  grow_then m a (x ∷ rs) r g h w = (g.0, g.1, grow_then (next m x) ((run_at library parts budget m x).1).arena rs r g.2 h w)
+  grow_then m a (x ∷ rs) r g h w = (g.0, g.1, grow_then (next m x) (objects_after x.objects (run_at library parts budget m x)) rs r g.2 h w)

@@ -43,7 +43,7 @@ module _ (budget place : ℕ) where
   pub long_changed : (p q : Play) → Changes budget place p q → length q.activities.items ≡ length p.activities.items
   long_changed p q c = ap length c.is ∙ length-set p.activities.items place c.now
 
-  pub now_changed : (p q : Play) → (c : Changes budget place p q) → (a : Activity) → slice_get p.activities.items place ≡ Some a
+  now_changed : (p q : Play) → (c : Changes budget place p q) → (a : Activity) → slice_get p.activities.items place ≡ Some a
       → slice_get q.activities.items place ≡ Some c.now
   now_changed p q c a at = ap (λ l. slice_get l place) c.is ∙ set_there p.activities.items place a c.now at
 
@@ -57,7 +57,7 @@ module _ (budget place : ℕ) where
     sooner = λ b now found found' on few. absurd (false≢true (sym on ∙ ap (λ (x : Activity). x.ended) (same_Some now a (sym found' ∙ at)) ∙ over));
   }
 
-  pub at_once : (p q : Play) → Changes budget place p q → TurnAt budget place p q
+  at_once : (p q : Play) → Changes budget place p q → TurnAt budget place p q
   at_once p q c = record {
     others = others_changed p q c;
     long = long_changed p q c;
@@ -68,7 +68,7 @@ module _ (budget place : ℕ) where
         subst (Sooner budget b) same (c.sooner b found) on few;
   }
 
-  pub at_twice : (p q r : Play) (c : Changes budget place p q) → Changes budget place q r → last_is_due c.now ≡ true → TurnAt budget place p r
+  at_twice : (p q r : Play) (c : Changes budget place p q) → Changes budget place q r → last_is_due c.now ≡ true → TurnAt budget place p r
   at_twice p q r c d due = record {
     others = λ i away. others_changed q r d i away ∙ others_changed p q c i away;
     long = long_changed q r d ∙ long_changed p q c;

@@ -5,6 +5,7 @@ use Rattle.std.specs.Prelude.{All, slice_get, map as each, Result, Ok, Err}
 use Rattle.std.proofs.lemmas.List.Elements.{All-nil}
 use Rattle.std.proofs.lemmas.Option.{slice_get_within, get_or_from_slice_get}
 use Rattle.wjs_base.specs.Text.{IsTable}
+use Rattle.wjs_base.proofs.Lists.{get_there}
 use Rattle.wjs_io.specs.Streams.{Stream, stream, Got, Stops}
 use Rattle.wjs_io.proofs.Written.{Appends-nil, Appends-then}
 use Rattle.wjs_by_content.specs.Objects.{Arena}
@@ -47,7 +48,6 @@ use Rattle.wjs_activity.specs.Plays.{PlaysOut, WroteOf, BeginsAs, IsOpened, CanB
 use Rattle.wjs_activity.proofs.Appended.{holds_same}
 use Rattle.wjs_activity.proofs.Completing.{serial_all, front_of, completed}
 use Rattle.wjs_activity.proofs.Composed.{wrote_then}
-use Rattle.wjs_activity.proofs.Places.{there_at}
 use Rattle.wjs_tries.proofs.Soundly.{view_known}
 
 -- ---- the begin
@@ -86,7 +86,7 @@ module _ (library : Option Tree) (parts : List Tree) (budget count : ℕ) (c : C
       let lt : i < length p.activities.items = slice_get_within p.activities.items i a at in
       let long : length p.common.apart.items ≡ length p.activities.items = b.apart.0 ∙ sym b.count_is in
       let inside : i < length p.common.apart.items = omega (arith, lt, long) in
-      let entry = there_at p.common.apart.items i inside in
+      let entry = get_there p.common.apart.items i inside in
       let is_none : entry.0 ≡ no_owner = sym (get_or_from_slice_get p.common.apart.items i entry.0 entry.0 entry.1) ∙ b.apart.1 i entry.0 inside in
       entry.1 ∙ ap Some is_none ∙ ap (λ (x : Activity). Some (entry_of x.running)) (sym (is_new p.activities.items b.activities i a at))
 
@@ -96,7 +96,7 @@ module _ (library : Option Tree) (parts : List Tree) (budget count : ℕ) (c : C
   arena_begun : first_objects library parts budget ≡ arena_in p.common.texts p.common.arena
   arena_begun = sym ((λ i. arena_in (b.texts i) (b.arena_is i)) ∙ is.objects)
 
-  pub begun_is : IsPlay library parts budget (first_held library parts budget) (first_objects library parts budget) p []
+  begun_is : IsPlay library parts budget (first_held library parts budget) (first_objects library parts budget) p []
   begun_is = record {
     common = common_begun;
     works = ap (λ (s : Overlay). s.spent) b.shared ∙ is.works;
@@ -211,7 +211,7 @@ all_ended : (library : Option Tree) (parts : List Tree) (budget : ℕ) (copy : C
 all_ended library parts budget copy arena q ends is all zero from upto = absurd (omega (arith, from))
 all_ended library parts budget copy arena q ends is all (suc i) from upto =
     let inside : i < length q.activities.items = let count = is.count in omega (arith, upto, count) in
-    let w = there_at q.activities.items i inside in
+    let w = get_there q.activities.items i inside in
     let over : (w.0).ended ≡ true = subst (λ (x : Activity). x.ended ≡ true) (get_or_from_slice_get q.activities.items i w.0 w.0 w.1) (all i w.0 inside) in
     let stands = subst (λ e. StandsBy library parts budget copy arena e q ends (i + 1) w.0) over (is.activities i w.0 w.1) in
     let next : i + 1 ≡ suc i = omega arith in

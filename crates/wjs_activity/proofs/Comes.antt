@@ -7,6 +7,7 @@ use Rattle.std.specs.Prelude.{IfSome, max, slice_get, map as each}
 use Rattle.std.specs.List.{sum, sum_by}
 use Rattle.std.proofs.lemmas.List.Sums.{sum-map, sum_by-set}
 use Rattle.std.proofs.lemmas.Option.{slice_get_within, get_or_from_slice_get, same_Some}
+use Rattle.wjs_arena.specs.Entries.{Objects, IsArena, others_of, joined}
 use Rattle.wjs_by_content.specs.Objects.{Arena}
 use Rattle.wjs_meaning.specs.Trees.{Tree}
 use Rattle.wjs_model.specs.declared.config.Config.{Config}
@@ -38,7 +39,7 @@ use Rattle.wjs_activity.specs.Noting.{Notes, NotesAt, Takes}
 use Rattle.wjs_tries.specs.Views.{KnowsView}
 use Rattle.wjs_tries.specs.Exact.{IsExact}
 use Rattle.wjs_activity.specs.Exactly.{IsActivity, IsExactly, TurnIs}
-use Rattle.wjs_tries.specs.Resting.{IsResting}
+use Rattle.wjs_tries.specs.Resting.{Owns, IsResting}
 use Rattle.wjs_activity.specs.SoFar.{GoesOn, StandsBy, IsPlay, times_owned}
 use Rattle.wjs_tries.specs.Turning.{IsLive, IsTurned, HiddenIn, TurnsApart, IsRest, HasLess, Begun, GoesOnAs}
 use Rattle.wjs_activity.specs.Rounds.{first_number, steps_left, fuel_by, fuel_of, fuel, left_of, turns_left, Sooner, MadeExactly, After, MayTurn, IsGoing}
@@ -52,14 +53,12 @@ use Rattle.wjs_activity.proofs.Steps.{stays_made, rests_step, drops_step, ends_m
 use Rattle.wjs_activity.proofs.Taking.{Taken, passes_all, came_to, taken_begun, taken_resumed}
 use Rattle.wjs_activity.proofs.TurnsExactly.{SameTry, try_new, try_on, more_of, turn_is}
 
--- ---- lists of which one element was set
-
 -- ---- fuel
 
 sum_less : (s t f g : ℕ) → s + f ≡ t + g → g < f → s < t
 sum_less s t f g e h = omega (arith, e, h)
 
-pub fuel_set : (budget : ℕ) (xs : List Activity) (i : ℕ) (x y : Activity) → slice_get xs i ≡ Some x → fuel_of budget y < fuel_of budget x
+fuel_set : (budget : ℕ) (xs : List Activity) (i : ℕ) (x y : Activity) → slice_get xs i ≡ Some x → fuel_of budget y < fuel_of budget x
     → sum (each (fuel_of budget) (set xs i y)) < sum (each (fuel_of budget) xs)
 fuel_set budget xs i x y at less =
     let f = fuel_of budget in
@@ -187,8 +186,8 @@ module _ (rules : Rules) (p : Play) (place : ℕ) (a : Activity) (at : slice_get
             other = λ i away. ap (λ xs. slice_get xs i) l ∙ set_other p.common.apart.items place i no_owner away;
             long = ap length l ∙ length-set p.common.apart.items place no_owner;
           };
-          hides = λ u h k. hidden_same p.common.arena c.heap.arena (first_copy (worlds_in p.common.shared)) (first_copy (worlds_in c.heap.store.shared)) u
-              (ap (λ (d : Config Meaning). d.heap.arena) (goes_on r running).same) t.holds k;
+          hides = λ u h k. hidden_same p.common.arena (others_of c.heap.arena c.owner) (first_copy (worlds_in p.common.shared))
+              (first_copy (worlds_in c.heap.store.shared)) u t.others t.holds k;
         }
 
     -- tries that rest are kept apart behind it
@@ -471,6 +470,30 @@ module _ (rules : Rules) (p : Play) (place : ℕ) (inside : place < length p.act
             (rests_at g.library g.parts rules.budget g.copy g.arena p g.ends g.is place t.was r t.there runs).stands,
             λ us items. sound_resumed g.library g.parts rules.budget g.copy g.arena p g.ends g.is place t.was r t.there runs us items,
           )
+
+  -- and its objects are its own, with which those that are shared are an arena
+  pub owns_there : (mid : List Activity) (running : Option Rested) → Takes place p.activities.items mid running
+      → IfSome running (λ r. Owns p.common r × IsArena (joined p.common.arena r.objects))
+  owns_there mid running t = by running refl
+    where
+      by : (o : Option Rested) → running ≡ o → IfSome o (λ r. Owns p.common r × IsArena (joined p.common.arena r.objects))
+      by None e = tt
+      by (Some r) e =
+          let rests = rests_at g.library g.parts rules.budget g.copy g.arena p g.ends g.is place t.was r t.there (sym t.value ∙ e) in
+          (rests.owns, rests.sound.base.heap.arena)
+
+  -- the others' objects are those that are shared, by themselves an arena
+  pub others_there : (running : Option Rested) (c : Config Session)
+      → (running ≡ None → Begun session_meaning (p.drawn + 1) (rules.first + place) rules.budget p.common c)
+      → ((r : Rested) → running ≡ Some r → GoesOnAs session_meaning p.common r c) → IsArena (others_of c.heap.arena c.owner)
+  others_there running c begun goes_on = by running refl
+    where
+      from : others_of c.heap.arena c.owner ≡ p.common.arena → IsArena (others_of c.heap.arena c.owner)
+      from same = subst (λ (m : Objects). IsArena m) (sym same) g.is.common.arena_is
+
+      by : (o : Option Rested) → running ≡ o → IsArena (others_of c.heap.arena c.owner)
+      by None e = from (begun e).others
+      by (Some r) e = from (goes_on r e).others
 
   -- the list has an entry for the activity
   pub entry_there : place < length p.common.apart.items

@@ -9,7 +9,7 @@ use Rattle.wjs_by_content.specs.Objects.{Arena}
 use Rattle.wjs_machine.specs.declared.halt.Halt.{Halt}
 use Rattle.wjs_machine.specs.declared.halt.Halt.TheVariants as halts
 use Rattle.wjs_meaning.specs.Trees.{Tree}
-use Rattle.wjs_alone.specs.Alone.{Copy, Outcome, outcome_of, copy_after, printed}
+use Rattle.wjs_alone.specs.Alone.{Copy, Outcome, outcome_of, copy_after, objects_after, printed}
 use Rattle.wjs_alone.specs.Serial.{Run, End, runs_of, run_at, outcomes_by, printed_by, copy_by, ObjectsGrow, IsSerial, out_of, lines_from}
 use Rattle.wjs_activity.specs.SoFar.{left_by, SoFar, times_ended, times_owned}
 use Rattle.wjs_activity.specs.Rounds.{Further, WroteBy}
@@ -62,14 +62,14 @@ module _ (library : Option Tree) (parts : List Tree) (budget : ℕ) (copy : Copy
         ∙ ap (λ r. printed_by library parts budget copy (runs_of ends) ++ printed r) run_same
 
     so_far_one : SoFar library parts budget copy arena (copy_after owner now (run_at library parts budget now run))
-        ((run_at library parts budget now run).1).arena (ends ++ end ∷ [])
+        (objects_after run.objects (run_at library parts budget now run)) (ends ++ end ∷ [])
     so_far_one = record {
       grow = subst (ObjectsGrow library parts budget copy arena) (sym (runs_then ends end))
           (grow_then library parts budget copy arena (runs_of ends) run s.grow (λ o x at. at)
           (λ o x w none at is. let h : None ≡ Some x = sym none ∙ at in absurd (cc)));
-      left = holds_same (left_by library parts budget copy arena (runs_of (ends ++ end ∷ []))) ((run_at library parts budget now run).1).arena
+      left = holds_same (left_by library parts budget copy arena (runs_of (ends ++ end ∷ []))) (objects_after run.objects (run_at library parts budget now run))
           (ap (left_by library parts budget copy arena) (runs_then ends end) ∙ left_then library parts budget copy arena (runs_of ends) run
-          ∙ ap (λ r. (r.1).arena) run_same);
+          ∙ ap (objects_after run.objects) run_same);
       outcomes =
           told_then ends end
           ∙ ap (λ (l : List Outcome). l ++ end.outcome ∷ []) s.outcomes
@@ -148,9 +148,9 @@ module _ (library : Option Tree) (parts : List Tree) (budget : ℕ) (copy : Copy
         more = c.more ++ e ∷ [];
         rest = c.rest ++ printed (run_at library parts budget c.now e.run);
         now = copy_after e.run.owner c.now (run_at library parts budget c.now e.run);
-        objects = ((run_at library parts budget c.now e.run).1).arena;
+        objects = objects_after e.run.objects (run_at library parts budget c.now e.run);
         so_far = subst (SoFar library parts budget copy arena (copy_after e.run.owner c.now (run_at library parts budget c.now e.run))
-            ((run_at library parts budget c.now e.run).1).arena) whole (so_far_one before c.now c.objects c.so_far k number none);
+            (objects_after e.run.objects (run_at library parts budget c.now e.run))) whole (so_far_one before c.now c.objects c.so_far k number none);
         prints =
             ap (λ (es : List End). printed_by library parts budget copy (runs_of es)) (sym whole)
             ∙ prints_one before c.now c.objects c.so_far k number none

@@ -1,9 +1,9 @@
 -- Turns one after another, and what is written for them.
 use Rattle.std.proofs.Common.{ℕ, ◌≤◌, List, [], ◌++◌, length, Option, sym, ap, ◌∙◌, subst, arith, append_assoc, append-nil}
 use Rattle.std.specs.Prelude.{Result, Ok, Err, IfErr}
-use Rattle.wjs_io.specs.Faults.{Rises}
 use Rattle.wjs_io.specs.Streams.{Stream, stream, Got}
 use Rattle.wjs_io.proofs.Written.{Appends-nil, Appends-then}
+use Rattle.wjs_io.proofs.Rising.{later_rise}
 use Rattle.wjs_by_content.specs.Objects.{Arena}
 use Rattle.wjs_machine.specs.declared.halt.Halt.{Halt}
 use Rattle.wjs_machine.specs.declared.halt.Halt.TheVariants as halts
@@ -39,14 +39,10 @@ module _ (library : Option Tree) (parts : List Tree) (budget : ℕ) (copy : Copy
 
 -- ---- what is written
 
--- a count that rose later rose
-later_cause : (f0 f1 f2 : ℕ) → f0 ≤ f1 → Rises f1 f2 → Rises f0 f2
-later_cause f0 f1 f2 le h = omega (arith, le, h)
-
 pub wrote_then : (b0 b1 b2 : Option (List ℕ)) (f0 f1 f2 : ℕ) (halt : Halt) (one two : List ℕ) → f0 ≤ f1 → Got (stream b0 b1 f0 f1) one
     → WroteBy (stream b1 b2 f1 f2) halt two → WroteBy (stream b0 b2 f0 f2) halt (one ++ two)
 wrote_then b0 b1 b2 f0 f1 f2 halts.SinkFailed one two le got h = record {
-  cause = later_cause f0 f1 f2 le h.cause;
+  cause = later_rise f0 f1 f2 le h.cause;
   wrote = record {
     prefix = record {
       front = one ++ h.wrote.prefix.front;

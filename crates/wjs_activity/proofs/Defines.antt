@@ -1,10 +1,11 @@
 -- What one turn makes of a play is what the definition makes of it.
 use Rattle.std.proofs.Common.{◌≡◌, ℕ, ◌+◌, ◌==◌, true, false, cond, not, List, [], ◌∷◌, ◌++◌, set, Some, refl, sym, ap, ◌∙◌, subst, arith}
 use Rattle.std.specs.Prelude.{max, slice_get, map as each, filter}
+use Rattle.wjs_by_content.specs.Objects.{Arena}
 use Rattle.wjs_by_content.specs.Tables.{arena_in}
 use Rattle.wjs_meaning.specs.Deeds.{St}
 use Rattle.wjs_meaning.specs.Programs.{Ending}
-use Rattle.wjs_alone.specs.Alone.{copy_after}
+use Rattle.wjs_alone.specs.Alone.{copy_after, objects_after}
 use Rattle.wjs_alone.specs.Serial.{End}
 use Rattle.wjs_alone.specs.Playing as defined
 use Rattle.wjs_alone.specs.Playing.{goes_on, ends_with, end_of}
@@ -22,16 +23,16 @@ module _ (budget : ℕ) (p : Play) (ends : List End) (s : defined.Play) (is : Is
     (now : Activity) (items_is : after.activities.items ≡ set p.activities.items place now)
     (others : (j : ℕ) (y : Activity) (z : defined.Activity) → ¬ (j ≡ place + 1) → Stands budget p.common p.activities.items j y z
     → IsActivity budget next j y z)
-    (run : Ending × St) (objects : (run.1).arena ≡ arena_in next.texts next.arena) where
-  -- the play with the run's objects, its owner drawn
+    (run : Ending × St) where
+  -- the play with its owner drawn
   abbrev pub along : defined.Play
-  along = record s { objects = (run.1).arena; owners = max s.owners owner }
+  along = record s { owners = max s.owners owner }
 
   owners_now : max s.owners owner ≡ after.drawn
   owners_now = (λ j. max (is.owners j) (owner_is j)) ∙ sym drawn_is
 
-  objects_now : (run.1).arena ≡ arena_in after.common.texts after.common.arena
-  objects_now = objects ∙ (λ j. arena_in (sym common_is j).texts (sym common_is j).arena)
+  objects_now : (objects : Arena) → objects ≡ arena_in next.texts next.arena → objects ≡ arena_in after.common.texts after.common.arena
+  objects_now objects same = same ∙ (λ j. arena_in (sym common_is j).texts (sym common_is j).arena)
 
   numbers : (k : ℕ) (y : Activity) (z : defined.Activity) → Stands budget p.common p.activities.items k y z → z.number ≡ k
   numbers k y z h = (h.0).number
@@ -55,14 +56,15 @@ module _ (budget : ℕ) (p : Play) (ends : List End) (s : defined.Play) (is : Is
   -- ---- the activity goes on
 
   module _ (a' : defined.Activity) (number : a'.number ≡ place + 1) (on : now.ended ≡ false) (dropped : a'.dropped ≡ now.dropped)
-      (running : IsRunning budget next now.running a'.running) (same : first_in next ≡ first_in p.common) where
+      (running : IsRunning budget next now.running a'.running) (same : first_in next ≡ first_in p.common)
+      (objects : s.objects ≡ arena_in next.texts next.arena) where
     stands : Stands budget after.common after.activities.items (place + 1) now a'
     stands = (record { number = number; dropped = dropped; running = subst (λ c. IsRunning budget c now.running a'.running) (sym common_is) running }, here)
 
-    pub goes_on_exactly : IsExactly budget after ends (goes_on a' (record s { objects = (run.1).arena; owners = max s.owners owner }))
+    pub goes_on_exactly : IsExactly budget after ends (goes_on a' (record s { owners = max s.owners owner }))
     goes_on_exactly = record {
       copy = is.copy ∙ sym same ∙ ap first_in (sym common_is);
-      objects = objects_now;
+      objects = objects_now s.objects objects;
       owners = owners_now;
       ends_are = is.ends_are;
       activities =
@@ -76,14 +78,15 @@ module _ (budget : ℕ) (p : Play) (ends : List End) (s : defined.Play) (is : Is
 
   -- ---- it has ended
 
-  module _ (over : now.ended ≡ true) (leaves : first_in next ≡ copy_after owner s.copy run) where
-    pub ends_exactly : IsExactly budget after (ends ++ end_of b owner run ∷ [])
-        (ends_with b owner run (record s { objects = (run.1).arena; owners = max s.owners owner }))
+  module _ (over : now.ended ≡ true) (leaves : first_in next ≡ copy_after owner s.copy run)
+      (objects : objects_after s.objects run ≡ arena_in next.texts next.arena) where
+    pub ends_exactly : IsExactly budget after (ends ++ end_of b owner s.objects run ∷ [])
+        (ends_with b owner run (record s { owners = max s.owners owner }))
     ends_exactly = record {
       copy = sym leaves ∙ ap first_in (sym common_is);
-      objects = objects_now;
+      objects = objects_now (objects_after s.objects run) objects;
       owners = owners_now;
-      ends_are = ap (λ (es : List End). es ++ end_of b owner run ∷ []) is.ends_are;
+      ends_are = ap (λ (es : List End). es ++ end_of b owner s.objects run ∷ []) is.ends_are;
       activities =
           subst (λ l. Shows (Stands budget after.common after.activities.items) 1 l
           (filter (λ (x : defined.Activity). not (x.number == b.number)) s.activities)) (sym items_is) (

@@ -25,7 +25,7 @@ use Rattle.wjs_tries.specs.Passing.{Passes}
 use Rattle.wjs_tries.specs.Turning.{common_of, first_in}
 use Rattle.wjs_tries.specs.Exact.{goes_on_after, run_of, marks_of, base_of}
 use Rattle.wjs_tries.proofs.Overs.{held_grows}
-use Rattle.wjs_activity.proofs.Same.{same_resting, same_run, own_later}
+use Rattle.wjs_activity.proofs.Same.{same_resting, same_run, own_later, objects_later}
 use Rattle.wjs_tries.proofs.Soundly.{view_known}
 
 module _ (library : Option Tree) (parts : List Tree) (budget taken steps : ℕ) (common next : Common) (drawn : ℕ) (c : Config Session) (q : ℕ)
@@ -45,7 +45,7 @@ module _ (library : Option Tree) (parts : List Tree) (budget taken steps : ℕ) 
   abbrev n : ℕ
   n = min budget (t.taken + steps)
 
-  -- the definition's run, its marks, and the play with its objects
+  -- the definition's run, its marks, and the play with its owner drawn
   abbrev pub run : Ending × St
   run = alone (trees_of library parts) (tree_number library b.number) t.owner (own_view t.outer s.copy) s.objects (min budget (t.taken + steps))
 
@@ -53,7 +53,7 @@ module _ (library : Option Tree) (parts : List Tree) (budget taken steps : ℕ) 
   outer = marked t.owner (own_view t.outer s.copy) (run.1).done
 
   abbrev pub with_run : defined.Play
-  with_run = record s { objects = (run.1).arena; owners = max s.owners t.owner }
+  with_run = record s { owners = max s.owners t.owner }
 
   steps_are : min budget (t.taken + steps) ≡ min budget (taken + steps)
   steps_are = ap (λ k. min budget (k + steps)) steps_same
@@ -70,7 +70,12 @@ module _ (library : Option Tree) (parts : List Tree) (budget taken steps : ℕ) 
   first_known : KnowsView common.texts (first_copy (worlds_in common.shared))
   first_known = view_known common.texts common.arena (first_copy (worlds_in common.shared)) is.table is.slots
 
-  pub copy_before : s.copy ≡ base_of next.texts c
+  -- what was shared, by the later table
+  pub objects_before : s.objects ≡ arena_in next.texts common.arena
+  objects_before = objects_later trees tree n q t.owner common next drawn c is start owner_is owner_same grows (own_view t.outer s.copy) own_same own_known
+      s.objects objects_are
+
+  copy_before : s.copy ≡ base_of next.texts c
   copy_before = copy_is ∙ sym (held_grows common.texts next.texts (first_copy (worlds_in common.shared)) grows first_known)
       ∙ ap (held_in next.texts) (sym holds)
 

@@ -89,7 +89,7 @@ module _ (library : Option Tree) (parts : List Tree) (budget : ℕ) (a : defined
   outer = marked t.owner (own_view t.outer s.copy) (run.1).done
 
   abbrev with_run : defined.Play
-  with_run = record s { objects = (run.1).arena; owners = max s.owners t.owner }
+  with_run = record s { owners = max s.owners t.owner }
 
   goes_same : (a' : defined.Activity) → a'.number ≡ a.number → goes_on a' with_run ≡ goes_on a' (goes_on a with_run)
   goes_same a' h = λ i. record with_run { activities = sym (each_twice s.activities a a' h) i }

@@ -11,6 +11,7 @@ use Rattle.wjs_base.specs.declared.ids.WorldId.{WorldId}
 use Rattle.wjs_base.specs.Order.{obj_cmp, obj_total}
 use Rattle.wjs_base.specs.Text.{Table, Grows}
 use Rattle.wjs_base.proofs.TextLaws.{Grows-refl, Grows-trans}
+use Rattle.wjs_base.proofs.Booleans.{not_true}
 use Rattle.wjs_store.specs.Naming.{plain}
 use Rattle.wjs_store.specs.State.{World, find_world, has_world, first_world}
 use Rattle.wjs_store.specs.Shown.{first_of}
@@ -32,7 +33,7 @@ use Rattle.wjs_meaning.specs.Trees.{Tree}
 use Rattle.wjs_model.specs.declared.config.Config.{Config}
 use Rattle.wjs_model.specs.declared.config.State.{State}
 use Rattle.wjs_model.specs.declared.config.State.TheVariants as states
-use Rattle.wjs_model.specs.declared.unit.Unit.{Unit as Program}
+use Rattle.wjs_model.specs.declared.loaded.LoadedProgram.{LoadedProgram as Program}
 use Rattle.wjs_model.specs.Contents.{Frame, Run}
 use Rattle.wjs_model.specs.Configurations.{rest, rest_by, seen, after_done, run_in, frames_in, state_in}
 use Rattle.wjs_model.specs.Outside.{Outside, Admits, Knows, beside}
@@ -47,31 +48,23 @@ use Rattle.wjs_frames.proofs.Lists.{each_alike}
 use Rattle.wjs_overlay.specs.declared.overlay.Overlay.{Overlay}
 use Rattle.wjs_parts.specs.Opening.{StartsParts, units_of}
 use Rattle.wjs_parts.specs.Walking.{Stops, ended, paused, spent, Walks}
-use Rattle.wjs_start.specs.First.{IsNew, writes_told}
+use Rattle.wjs_start.specs.First.{writes_told}
 use Rattle.wjs_session.specs.Session.{first_copy}
 use Rattle.wjs_session.specs.Stores.{worlds_in}
 use Rattle.wjs_session.proofs.AnswerLaws.{overlay_reached}
 use Rattle.wjs_session.proofs.Worlds.{first_there, first_content}
+use Rattle.wjs_session.proofs.Leaving.{first_serial}
 use Rattle.wjs_alone.specs.Alone.{copy_in}
 use Rattle.wjs_alone.specs.Opening.{trees_of, part_names, opening}
 use Rattle.wjs_tries.specs.Common.{IsCommon}
 use Rattle.wjs_tries.specs.Trying.{ending_in}
 use Rattle.wjs_activity.specs.Plays.{IsOpened, RanLibrary}
 use Rattle.wjs_tries.proofs.Overs.{copy_of_world}
-use Rattle.wjs_tries.proofs.Turned.{not_is}
 
 abbrev pub overlay_meaning : Overlay → Meaning
 overlay_meaning s = fixed (worlds_in s) s.spent
 
-pub new_store : (m : Meaning) → m ≡ fixed fresh false → IsNew m
-new_store m e = subst IsNew (sym e) (record { own = refl; each_view = λ v h. refl; works = refl; silent = tt })
-
 -- ---- the first world
-
-first_serial : (F : Worlds) (i : WorldId) → IsReached F → first_of F ≡ Some i → i.serial ≡ 0
-first_serial [] i r h = absurd (false≢true (ap is_some h))
-first_serial (x ∷ []) i r h = let is : x.id ≡ i = cc in sym (ap (λ (j : WorldId). j.serial) is) ∙ r.0.serial
-first_serial (x ∷ y ∷ F) i r h = first_serial (y ∷ F) i r.1 h
 
 some_first : (F : Worlds) (w : WorldId) → has_world F w ≡ true → (i : WorldId) × (first_of F ≡ Some i)
 unfolding find_world
@@ -88,23 +81,23 @@ module _ (c : Config Overlay) (base : Base overlay_meaning c) (owner : c.owner �
   abbrev F : Worlds
   F = worlds_in c.heap.store
 
-  pub live : c.heap.store.spent ≡ false
-  live = not_is c.heap.store.spent base.works
+  live : c.heap.store.spent ≡ false
+  live = not_true c.heap.store.spent base.works
 
   reached : IsReached F
   reached = overlay_reached c.heap.store live
 
-  pub first_is : first_of F ≡ Some first_world
+  first_is : first_of F ≡ Some first_world
   first_is =
       let w = some_first F c.world base.world in
       let there = first_there F w.0 reached w.1 in
       let number : w.0 ≡ first_world = λ k. record { owner = (base.worlds_own w.0 there ∙ owner) k; serial = first_serial F w.0 reached w.1 k } in
       w.1 ∙ ap Some number
 
-  pub first_has : has_world F first_world ≡ true
+  first_has : has_world F first_world ≡ true
   first_has = first_there F first_world reached first_is
 
-  pub known_config : IsCommon c.heap.texts c.heap.arena c.units.items F 0
+  known_config : IsCommon c.heap.texts c.heap.arena c.units.items F 0
   known_config = record {
     reached = reached;
     first = first_is;

@@ -1,5 +1,5 @@
 -- Elements of lists by their places, and lists of which one was set.
-use Rattle.std.proofs.Common.{◌≡◌, ℕ, zero, suc, ◌<◌, List, [], ◌∷◌, length, set, None, Some, refl, ap, arith}
+use Rattle.std.proofs.Common.{◌≡◌, ℕ, zero, suc, List, [], ◌∷◌, set, None, Some, refl, ap}
 use Rattle.std.specs.Prelude.{slice_get}
 
 pub set_other : {A : Type 0} (xs : List A) (i j : ℕ) (y : A) → ¬ (j ≡ i) → slice_get (set xs i y) j ≡ slice_get xs j
@@ -18,8 +18,3 @@ pub set_twice : {A : Type 0} (xs : List A) (i : ℕ) (x y : A) → set (set xs i
 set_twice [] i x y = refl
 set_twice (z ∷ xs) zero x y = refl
 set_twice (z ∷ xs) (suc i) x y = ap (λ (l : List _). z ∷ l) (set_twice xs i x y)
-
-pub there_at : {A : Type 0} (xs : List A) (i : ℕ) → i < length xs → (a : A) × (slice_get xs i ≡ Some a)
-there_at [] i lt = absurd (omega (arith, lt))
-there_at (x ∷ xs) zero lt = (x, refl)
-there_at (x ∷ xs) (suc i) lt = there_at xs i (omega (arith, lt))

@@ -48,7 +48,7 @@ ended_once_more activity es e is none =
     ∙ ap (λ b. times_ended activity es + cond b 1 0) is in
     omega (arith, all, none)
 
-pub owned_as_before : (q : ℕ) (es : List End) (e : End) → (e.run.owner == q) ≡ false → times_owned q (es ++ e ∷ []) ≡ times_owned q es
+owned_as_before : (q : ℕ) (es : List End) (e : End) → (e.run.owner == q) ≡ false → times_owned q (es ++ e ∷ []) ≡ times_owned q es
 owned_as_before q es e apart =
     let all : times_owned q (es ++ e ∷ []) ≡ times_owned q es + 0 = count_push (λ (x : End). x.run.owner == q) es e
     ∙ ap (λ b. times_owned q es + cond b 1 0) apart in

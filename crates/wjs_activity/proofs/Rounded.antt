@@ -5,6 +5,7 @@ use Rattle.std.specs.Prelude.{slice_get, All, get_or, IfSome}
 use Rattle.std.proofs.lemmas.Bool.{false≢true}
 use Rattle.std.proofs.lemmas.Option.{slice_get-get_or, get_or_from_slice_get, slice_get_within, same_Some}
 use Rattle.wjs_base.proofs.Booleans.{by_bool}
+use Rattle.wjs_base.proofs.Lists.{get_there}
 use Rattle.wjs_alone.specs.Opening.{trees_of, tree_number}
 use Rattle.wjs_activity.specs.declared.activities.Activity.{Activity}
 use Rattle.wjs_activity.specs.declared.activities.Play.{Play}
@@ -14,7 +15,6 @@ use Rattle.wjs_tries.specs.Resting.{IsResting}
 use Rattle.wjs_activity.specs.SoFar.{StandsBy, times_owned}
 use Rattle.wjs_activity.specs.Rounds.{fuel, left_of, turns_left, Within, Sooner, AllSooner, TurnAt, Settled, IsGoing}
 use Rattle.wjs_activity.proofs.Standing.{by_place}
-use Rattle.wjs_activity.proofs.Places.{there_at}
 
 -- ---- a round
 
@@ -47,7 +47,7 @@ module _ (budget : ℕ) (p : Play) where
         let here : slice_get p.activities.items place ≡ Some a = ap (slice_get p.activities.items) (sym hi) ∙ at in
         t.sooner a b (h.ahead place (omega arith) ∙ here) (ap (slice_get r.activities.items) (sym hi) ∙ at'))
         (λ ni. h.sooner i a b (omega (arith, lt, ni)) at (sym (t.others i ni) ∙ at'));
-    less = by h.less (there_at p.activities.items place inside);
+    less = by h.less (get_there p.activities.items place inside);
   }
     where
       by : ((i : ℕ) (a : Activity) → i < place → slice_get p.activities.items i ≡ Some a → a.ended ≡ true) ⊎ (fuel budget q < fuel budget p) → (a : Activity)
@@ -122,7 +122,7 @@ pub within_next : (budget k : ℕ) (p q : Play) → Within budget (suc k) p.acti
 within_next budget k p q w s settled i b at on =
     let long = s.long in
     let inside = slice_get_within q.activities.items i b at in
-    let was = there_at p.activities.items i (omega (arith, long, inside)) in
+    let was = get_there p.activities.items i (omega (arith, long, inside)) in
     let less = s.sooner i was.0 b was.1 at on (settled i b at on) in
     less_left (turns_left budget b) (turns_left budget was.0) k less.1 (w i was.0 was.1 less.0)
 

@@ -3,6 +3,7 @@ use Rattle.std.proofs.Common.{◌≡◌, ℕ, List, Option, None, is_some, refl,
 use Rattle.std.specs.FinMap as map
 use Rattle.wjs_base.specs.Order.{obj_cmp}
 use Rattle.wjs_base.specs.Text.{Grows}
+use Rattle.wjs_arena.specs.Entries.{others_of}
 use Rattle.wjs_store.specs.Naming.{plain}
 use Rattle.wjs_store.specs.Meaning.{View, unseen}
 use Rattle.wjs_store.specs.State.{World, has_row}
@@ -84,7 +85,7 @@ module _ (trees : List Tree) (tree n q owner : ℕ) (common next : Common) (draw
   pub own_later : own ≡ held_in next.texts (session_meaning c.heap.store).own
   own_later = own_same ∙ sym (held_grows common.texts next.texts (session_meaning c.heap.store).own grows own_known)
 
-  objects_later : objects ≡ arena_in next.texts common.arena
+  pub objects_later : objects ≡ arena_in next.texts common.arena
   objects_later = objects_same ∙ sym (arena_grows common.texts next.texts grows common.arena
       (arena_known _ (heap_common common.texts common.arena common.units.items (worlds_in common.shared) drawn is))).1
 
@@ -92,5 +93,5 @@ module _ (trees : List Tree) (tree n q owner : ℕ) (common next : Common) (draw
   same_run =
       (λ i. alone trees tree (owner_same i) (own_later i) (objects_later i) n)
       ∙ left_out_lem trees tree c.owner (held_in next.texts (session_meaning c.heap.store).own) (arena_in next.texts common.arena)
-      (arena_in next.texts c.heap.arena) n
-      (same_in next.texts common.arena c.heap.arena c.owner start.objects (λ o e none at. start.made o e none at ∙ sym owner_is))
+      (arena_in next.texts (others_of c.heap.arena c.owner)) n
+      (same_in next.texts common.arena (others_of c.heap.arena c.owner) c.owner start.objects (λ o e none at. start.made o e none at ∙ sym owner_is))

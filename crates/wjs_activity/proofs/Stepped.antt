@@ -17,7 +17,7 @@ use Rattle.wjs_by_content.specs.Tables.{arena_in, entry_in, KnowsArena}
 use Rattle.wjs_by_content.proofs.ArenaGrowth.{arena_grows}
 use Rattle.wjs_by_content.proofs.ArenaMaps.{object_found}
 use Rattle.wjs_meaning.specs.Trees.{Tree}
-use Rattle.wjs_alone.specs.Alone.{Copy, Outcome, outcome_of, copy_after, printed}
+use Rattle.wjs_alone.specs.Alone.{Copy, Outcome, outcome_of, copy_after, objects_after, printed}
 use Rattle.wjs_alone.specs.Opening.{trees_of, tree_number}
 use Rattle.wjs_alone.specs.Serial.{Run, End, runs_of, Holds, WorldsOwn, run_at, outcomes_by, printed_by, copy_by, ObjectsGrow}
 use Rattle.wjs_tries.specs.declared.common.Common.{Common}
@@ -29,7 +29,7 @@ use Rattle.wjs_activity.proofs.Appended.{runs_then, told_then, holds_same, copy_
 
 -- ---- objects
 
-pub holds_then : (a b c : Arena) → Holds a b → Holds b c → Holds a c
+holds_then : (a b c : Arena) → Holds a b → Holds b c → Holds a c
 holds_then a b c h k = λ o e at. k o e (h o e at)
 
 -- objects that stay do so by content, under a later table
@@ -117,8 +117,8 @@ module _ (library : Option Tree) (parts : List Tree) (budget : ℕ) (copy : Copy
     run_same : run_at library parts budget (copy_by library parts budget copy (runs_of ends)) run ≡ run_at library parts budget now run
     run_same = ap (λ m. run_at library parts budget m run) s.holds
 
-    left_is : ((run_at library parts budget now run).1).arena ≡ arena_in common.texts common.arena
-    left_is = ap (λ m. ((run_at library parts budget m run).1).arena) (sym same) ∙ e.objects
+    left_is : objects_after (arena_in common.texts common.arena) (run_at library parts budget now run) ≡ arena_in common.texts common.arena
+    left_is = ap (λ m. objects_after (arena_in common.texts common.arena) (run_at library parts budget m run)) (sym same) ∙ e.objects
 
     pub prints_more : printed_by library parts budget copy (runs_of (ends ++ end ∷ [])) ≡ printed_by library parts budget copy (runs_of ends) ++ output
     prints_more =
@@ -144,7 +144,7 @@ module _ (library : Option Tree) (parts : List Tree) (budget : ℕ) (copy : Copy
           (λ o x w none at is. own o x w at is));
       left = holds_same (left_by library parts budget copy arena (runs_of (ends ++ end ∷ []))) (arena_in common.texts common.arena)
           (ap (left_by library parts budget copy arena) (runs_then ends end) ∙ left_then library parts budget copy arena (runs_of ends) run
-          ∙ ap (λ r. (r.1).arena) run_same ∙ left_is);
+          ∙ ap (objects_after run.objects) run_same ∙ left_is);
       outcomes =
           told_then ends end
           ∙ ap (λ (l : List Outcome). l ++ end.outcome ∷ []) s.outcomes

@@ -50,7 +50,7 @@ module _ (library : Option Tree) (parts : List Tree) (budget : ℕ) (copy : Copy
       (place + 1) q drawn c next came taken turned) turned.is_common turned.works own new after common_is drawn_is long others a' at'
 
   -- no end is of the turn's owner
-  pub unused : times_owned q ends ≡ 0
+  unused : times_owned q ends ≡ 0
   unused = by a.running refl on.rests
     where
       by : (o : Option Rested) → a.running ≡ o → IfSome o (λ r. IsResting (trees_of library parts) (tree_number library (place + 1)) budget p.drawn p.common r
@@ -146,7 +146,7 @@ module _ (library : Option Tree) (parts : List Tree) (budget : ℕ) (copy : Copy
     prints_step = prints_more library parts budget copy arena ends (first_in p.common) (arena_in p.common.texts p.common.arena) is.so_far (place + 1) q
         (a.dropped + 1) drawn (first_in p.common) next told output e refl objects_stay own_worlds tries_few number_in some unused on.none
 
-    pub so_far_step : SoFar library parts budget copy arena (first_in next) (arena_in next.texts next.arena) (ends ++ end ∷ [])
+    so_far_step : SoFar library parts budget copy arena (first_in next) (arena_in next.texts next.arena) (ends ++ end ∷ [])
     so_far_step = so_far_then library parts budget copy arena ends (first_in p.common) (arena_in p.common.texts p.common.arena) is.so_far (place + 1) q
         (a.dropped + 1) drawn (first_in p.common) next told output e refl objects_stay own_worlds tries_few number_in some unused on.none
 

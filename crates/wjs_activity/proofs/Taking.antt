@@ -9,7 +9,7 @@ use Rattle.wjs_base.specs.Text.{Grows}
 use Rattle.wjs_base.proofs.TextLaws.{Grows-refl}
 use Rattle.wjs_store.specs.Shown.{first_of}
 use Rattle.wjs_store.specs.Meaning.{Meaning, Worlds}
-use Rattle.wjs_arena.specs.Entries.{Objects, Keeps}
+use Rattle.wjs_arena.specs.Entries.{Objects, others_of}
 use Rattle.wjs_by_content.specs.Objects.{Arena}
 use Rattle.wjs_meaning.specs.Trees.{Tree}
 use Rattle.wjs_model.specs.declared.config.Config.{Config}
@@ -39,7 +39,7 @@ use Rattle.wjs_tries.proofs.Hidings.{trying_with}
 use Rattle.wjs_tries.proofs.Overs.{held_grows}
 use Rattle.wjs_activity.proofs.Playing.{trees_pass}
 use Rattle.wjs_tries.proofs.Soundly.{view_known}
-use Rattle.wjs_tries.proofs.Turned.{passes_then}
+use Rattle.wjs_tries.proofs.Turned.{passes_then, common_full}
 
 -- an owner that was not drawn yet has no end
 pub none_drawn : (ends : List End) (drawn q : ℕ) → drawn < q → All (λ e. e.run.owner ≤ drawn) ends → times_owned q ends ≡ 0
@@ -58,6 +58,7 @@ pub record Taken (trees : List Tree) (tree budget q drawn : ℕ) (shared : Commo
   pub start : Passes q shared (common_of c)
   pub owner : c.owner ≡ q
   pub holds : first_copy (worlds_in c.heap.store.shared) ≡ first_copy (worlds_in shared.shared)
+  pub others : others_of c.heap.arena c.owner ≡ shared.arena
   pub live : IsLive session_meaning trees tree budget drawn c
 
 module _ (library : Option Tree) (parts : List Tree) (budget : ℕ) (copy : Copy) (arena : Arena) (p : Play) (ends : List End)
@@ -91,6 +92,7 @@ taken_begun trees tree budget q part drawn shared c b number known are = record 
   start = b.leaves;
   owner = b.owner_is;
   holds = b.holds;
+  others = b.others;
   live = subst (λ k. IsLive session_meaning trees k budget q c) number
       (subst (λ ts. IsLive session_meaning ts part budget q c) (trees_pass q shared (common_of c) drawn known b.leaves ∙ are) b.live);
 }
@@ -108,37 +110,38 @@ module _ (trees : List Tree) (tree budget drawn : ℕ) (shared : Common) (rest :
   texts_same : c.heap.texts ≡ shared.texts
   texts_same = ap (λ (d : Config Meaning). d.heap.texts) g.same
 
-  arena_same : c.heap.arena ≡ shared.arena
-  arena_same = ap (λ (d : Config Meaning). d.heap.arena) g.same
-
   units_same : c.units ≡ shared.units
   units_same = ap (λ (d : Config Meaning). d.units) g.same
 
   worlds_same : worlds_in c.heap.store.shared ≡ F
   worlds_same = ap worlds_in g.shared
 
-  common_same : IsCommon c.heap.texts c.heap.arena c.units.items (worlds_in c.heap.store.shared) drawn
+  common_same : IsCommon c.heap.texts (others_of c.heap.arena c.owner) c.units.items (worlds_in c.heap.store.shared) drawn
   common_same =
-      subst (λ H. IsCommon c.heap.texts c.heap.arena c.units.items H drawn) (sym worlds_same) (
-      subst (λ us. IsCommon c.heap.texts c.heap.arena us.items F drawn) (sym units_same) (
-      subst (λ m. IsCommon c.heap.texts m shared.units.items F drawn) (sym arena_same) (
+      subst (λ H. IsCommon c.heap.texts (others_of c.heap.arena c.owner) c.units.items H drawn) (sym worlds_same) (
+      subst (λ us. IsCommon c.heap.texts (others_of c.heap.arena c.owner) us.items F drawn) (sym units_same) (
+      subst (λ m. IsCommon c.heap.texts m shared.units.items F drawn) (sym g.others) (
       subst (λ t. IsCommon t shared.arena shared.units.items F drawn) (sym texts_same) known)))
 
   start_same : Passes rest.owner shared (common_of c)
   start_same = record {
     texts = subst (λ t. Grows shared.texts t) (sym texts_same) (Grows-refl shared.texts);
-    objects = subst (λ m. Keeps shared.arena m) (sym arena_same) (λ o e at. at);
-    made = λ o e none at. not_both shared.arena o e (o.owner ≡ rest.owner) none (ap (λ (m : Objects). map.get m o) (sym arena_same) ∙ at);
+    objects = λ o e at. ap (λ (m : Objects). map.get m o) g.others ∙ at;
+    made = λ o e none at. not_both shared.arena o e (o.owner ≡ rest.owner) none (ap (λ (m : Objects). map.get m o) (sym g.others) ∙ at);
     units = units_same;
     first = ap first_of worlds_same;
     returns = λ i e child. subst (λ H. Returns F H i) (sym worlds_same) (record { reached = known.reached; child = child; marks = refl; holds = λ s t. refl });
   }
+
+  within : c.owner ≤ drawn
+  within = subst (λ k. k ≤ drawn) (sym owner_same) is.owner
 
   pub taken_resumed : Taken trees tree budget rest.owner drawn shared c
   taken_resumed = record {
     start = start_same;
     owner = owner_same;
     holds = ap first_copy worlds_same;
+    others = g.others;
     live = record {
       sound = sound;
       taken = is.taken;
@@ -146,9 +149,10 @@ module _ (trees : List Tree) (tree budget drawn : ℕ) (shared : Common) (rest :
           (trying_with trees tree budget is.taken (resting is.none shared rest) c.apart is.trying);
       number = g.number ∙ is.number ∙ ap world_of (sym owner_same);
       some = subst (λ k. 1 ≤ k) (sym owner_same) is.some;
-      owner = subst (λ k. k ≤ drawn) (sym owner_same) is.owner;
+      owner = within;
       none = is.none;
       none_is = is.none_is;
-      common = common_same;
+      common = common_full c sound.base drawn within common_same;
+      shared = common_same;
     };
   }

@@ -14,7 +14,7 @@ use Rattle.wjs_activity.specs.SoFar.{TellsEnd, TellsEnds}
 use Rattle.wjs_tries.specs.Turning.{Tells}
 
 -- one line more
-pub lines_more : (n first : ℕ) (es : List End) → lines_from (suc n) first es ≡ lines_from n first es ++ line_at es (first + n)
+lines_more : (n first : ℕ) (es : List End) → lines_from (suc n) first es ≡ lines_from n first es ++ line_at es (first + n)
 lines_more zero first es =
     let same : first + zero ≡ first = omega arith in
     append-nil (line_at es first) ∙ ap (line_at es) (sym same)
@@ -65,7 +65,7 @@ line_told x e t0 t1 t2 t3 t4 tells e1 e2 e3 e4 =
 
 -- ---- the end of an activity among all
 
-pub told_long : (xs : List Ended) (es : List End) → TellsEnds xs es → length es ≡ length xs
+told_long : (xs : List Ended) (es : List End) → TellsEnds xs es → length es ≡ length xs
 told_long [] [] h = refl
 told_long [] (e ∷ es) h = absurd h
 told_long (x ∷ xs) [] h = absurd h
@@ -77,7 +77,7 @@ pub record ToldAt (x : Ended) (es : List End) (i : ℕ) : Type 0 where
   pub tells : TellsEnd x end
   pub there : drop i es ≡ end ∷ drop (i + 1) es
 
-pub told_at : (xs : List Ended) (es : List End) (i : ℕ) (x : Ended) → slice_get xs i ≡ Some x → TellsEnds xs es → ToldAt x es i
+told_at : (xs : List Ended) (es : List End) (i : ℕ) (x : Ended) → slice_get xs i ≡ Some x → TellsEnds xs es → ToldAt x es i
 told_at [] es i x at h = let none : None ≡ Some x = at in absurd (cc)
 told_at (y ∷ xs) [] i x at h = absurd h
 told_at (y ∷ xs) (e ∷ es) zero x at h =

@@ -1,23 +1,24 @@
 -- A turn that the code takes of an activity is the one of the definition.
 use Rattle.std.proofs.Common.{◌≡◌, ℕ, ◌+◌, ◌≤◌, ◌<◌, true, false, inl, inr, List, [], ◌∷◌, ◌++◌, length, set, Option, None, Some, refl, sym, ap, ◌∙◌, subst}
-use Rattle.std.proofs.Common.{arith, append-nil, length-set}
+use Rattle.std.proofs.Common.{arith, append-nil, length-set, Vec, Global}
 use Rattle.std.specs.Prelude.{IfSome, min, max, slice_get, unwrap_or}
 use Rattle.std.proofs.Math.Nat.{min-le_left}
 use Rattle.std.proofs.lemmas.Option.{same_Some}
 use Rattle.wjs_store.specs.Meaning.{Meaning}
 use Rattle.wjs_store.specs.State.{World}
+use Rattle.wjs_arena.specs.Entries.{others_of}
 use Rattle.wjs_by_content.specs.Names.{content}
 use Rattle.wjs_by_content.specs.Objects.{Arena}
 use Rattle.wjs_by_content.specs.Tables.{arena_in}
 use Rattle.wjs_meaning.specs.Trees.{Tree}
 use Rattle.wjs_meaning.specs.Deeds.{St}
-use Rattle.wjs_meaning.specs.Programs.{Ending}
+use Rattle.wjs_meaning.specs.Programs.{Ending, Done, Threw as ThrewValue, StepsSpent}
 use Rattle.wjs_model.specs.declared.config.Config.{Config}
 use Rattle.wjs_session.specs.declared.session.Session.{Session}
 use Rattle.wjs_session.specs.Session.{world_at, first_copy}
 use Rattle.wjs_session.specs.Stores.{worlds_in}
 use Rattle.wjs_session.specs.Returns.{Returns}
-use Rattle.wjs_alone.specs.Alone.{Copy, alone, outcome_of, copy_after, printed}
+use Rattle.wjs_alone.specs.Alone.{Copy, alone, outcome_by, outcome_of, copy_after, objects_by, objects_after, printed}
 use Rattle.wjs_alone.specs.Opening.{trees_of, tree_number}
 use Rattle.wjs_alone.specs.Marks.{marked, own_view, agrees}
 use Rattle.wjs_alone.specs.Serial.{End, run_at}
@@ -27,6 +28,7 @@ use Rattle.wjs_tries.specs.declared.common.Common.{Common}
 use Rattle.wjs_tries.specs.declared.common.Rested.{Rested}
 use Rattle.wjs_activity.specs.declared.ends.Ended.{Ended}
 use Rattle.wjs_tries.specs.declared.outcome.Outcome.{Outcome as Told}
+use Rattle.wjs_tries.specs.declared.outcome.Outcome.TheVariants as told
 use Rattle.wjs_activity.specs.declared.activities.Activity.{Activity}
 use Rattle.wjs_activity.specs.declared.activities.Play.{Play}
 use Rattle.wjs_tries.specs.declared.turns.Came.{Came}
@@ -37,12 +39,12 @@ use Rattle.wjs_tries.specs.Passing.{Passes}
 use Rattle.wjs_tries.specs.Resting.{IsResting}
 use Rattle.wjs_activity.specs.Noting.{Notes}
 use Rattle.wjs_activity.specs.SoFar.{IsPlay, times_owned}
-use Rattle.wjs_tries.specs.Turning.{first_in, CameTo, EndsAlone, IsTurned, Begun, GoesOnAs}
-use Rattle.wjs_tries.specs.Exact.{goes_on_after, HasMarks, IsExact, run_of, marks_of, base_of}
+use Rattle.wjs_tries.specs.Turning.{first_in, Tells, CameTo, EndsAlone, IsTurned, Begun, GoesOnAs}
+use Rattle.wjs_tries.specs.Exact.{goes_on_after, HasMarks, KeepsObjects, IsExact, run_of, marks_of, base_of}
 use Rattle.wjs_activity.specs.Exactly.{IsTry, IsRunning, IsActivity, Stands, IsExactly, TurnIs}
 use Rattle.wjs_activity.proofs.Places.{set_other, set_there}
 use Rattle.wjs_activity.proofs.Defines.{goes_on_exactly, ends_exactly}
-use Rattle.wjs_activity.proofs.Exacts.{run_is, outer_is, turn_rests, turn_drops, turn_ends}
+use Rattle.wjs_activity.proofs.Exacts.{run_is, outer_is, objects_before, turn_rests, turn_drops, turn_ends}
 use Rattle.wjs_tries.proofs.LastRuns.{last_run}
 use Rattle.wjs_tries.proofs.Passed.{returns}
 use Rattle.wjs_activity.proofs.Same.{own_new, own_rests}
@@ -130,7 +132,7 @@ module _ (library : Option Tree) (parts : List Tree) (budget : ℕ) (copy : Copy
   passes : Passes q p.common next
   passes = passes_all library parts budget copy arena p ends is (place + 1) q drawn c next k taken turned
 
-  -- the definition's run, with its marks, and the play with the run's objects
+  -- the definition's run, with its marks, and the play with its owner drawn
   abbrev run : Ending × St
   run = alone trees (tree_number library b.number) t.owner (own_view t.outer s.copy) s.objects (min budget (t.taken + steps))
 
@@ -138,7 +140,7 @@ module _ (library : Option Tree) (parts : List Tree) (budget : ℕ) (copy : Copy
   outer = marked t.owner (own_view t.outer s.copy) (run.1).done
 
   abbrev with_run : defined.Play
-  with_run = record s { objects = (run.1).arena; owners = max s.owners t.owner }
+  with_run = record s { owners = max s.owners t.owner }
 
   run_same : run ≡ run_of session_meaning trees (tree_number library b.number) next.texts c (min budget (taken.live.taken + steps))
   run_same = run_is library parts budget taken.live.taken steps p.common next p.drawn c q is.common taken.start taken.owner passes.texts taken.holds s ex.copy
@@ -151,8 +153,12 @@ module _ (library : Option Tree) (parts : List Tree) (budget : ℕ) (copy : Copy
   exact_here : IsExact session_meaning trees (tree_number library b.number) budget taken.live.taken steps c next k
   exact_here = subst (λ j. IsExact session_meaning trees (tree_number library j) budget taken.live.taken steps c next k) (sym r.number) exact
 
-  objects : (run.1).arena ≡ arena_in next.texts next.arena
-  objects = (λ j. ((run_same j).1).arena) ∙ exact_here.objects
+  -- the objects are those that were there, where the turn left those of others
+  objects_on : next.arena ≡ others_of c.heap.arena c.owner → s.objects ≡ arena_in next.texts next.arena
+  objects_on kept =
+      objects_before library parts budget taken.live.taken steps p.common next p.drawn c q is.common taken.start taken.owner passes.texts taken.holds s ex.copy
+      ex.objects b t try.owner try.steps try.own try.known
+      ∙ ap (arena_in next.texts) (sym (kept ∙ taken.others))
 
   owner_same : t.owner ≡ q
   owner_same = try.owner ∙ taken.owner
@@ -204,10 +210,11 @@ module _ (library : Option Tree) (parts : List Tree) (budget : ℕ) (copy : Copy
 
   -- the activity goes on
   module _ (left : defined.Activity) (number : left.number ≡ b.number) (on : now.ended ≡ false) (dropped : left.dropped ≡ now.dropped)
-      (running : IsRunning budget next now.running left.running) (same : first_in next ≡ first_in p.common) where
+      (running : IsRunning budget next now.running left.running) (same : first_in next ≡ first_in p.common)
+      (kept : next.arena ≡ others_of c.heap.arena c.owner) where
     on_exactly : IsExactly budget after ends (goes_on left with_run)
     on_exactly = goes_on_exactly budget p ends s ex place a at alive b r t.owner q owner_same next after common_is latest_is now items_is others_same run
-        objects left (number ∙ r.number) on dropped running same
+        left (number ∙ r.number) on dropped running same (objects_on kept)
 
   stays_out : (output : List ℕ) → output ≡ [] → s.out ≡ s.out ++ output
   stays_out output none = sym (append-nil s.out) ∙ ap (λ (l : List ℕ). s.out ++ l) (sym none)
@@ -232,7 +239,7 @@ module _ (library : Option Tree) (parts : List Tree) (budget : ℕ) (copy : Copy
         there = there;
         now = goes_on left with_run;
         is = on_exactly left refl (ap (λ (x : Activity). x.ended) form ∙ alive) (r.dropped ∙ sym (ap (λ (x : Activity). x.dropped) form))
-            (subst (λ (o : Option Rested). IsRunning budget next o left.running) (sym (ap (λ (x : Activity). x.running) form)) try_now) same;
+            (subst (λ (o : Option Rested). IsRunning budget next o left.running) (sym (ap (λ (x : Activity). x.running) form)) try_now) same e.objects;
         turn = inl (record {
           turn = λ go. turn_rests library parts budget taken.live.taken steps p.common next p.drawn c q is.common taken.start taken.owner passes.texts
               taken.holds s ex.copy ex.objects b t try.owner try.steps try.own try.known go e.came.0;
@@ -250,7 +257,7 @@ module _ (library : Option Tree) (parts : List Tree) (budget : ℕ) (copy : Copy
     there = there;
     now = goes_on (drops b) with_run;
     is = on_exactly (drops b) refl (ap (λ (x : Activity). x.ended) form ∙ alive) (ap (λ n. n + 1) r.dropped ∙ sym (ap (λ (x : Activity). x.dropped) form))
-        (subst (λ (o : Option Rested). IsRunning budget next o None) (sym (ap (λ (x : Activity). x.running) form)) tt) same;
+        (subst (λ (o : Option Rested). IsRunning budget next o None) (sym (ap (λ (x : Activity). x.running) form)) tt) same e.objects;
     turn = inr (record {
       left = drops b;
       made = with_run;
@@ -271,8 +278,9 @@ module _ (library : Option Tree) (parts : List Tree) (budget : ℕ) (copy : Copy
       (run_of session_meaning (trees_of library parts) (tree_number library b.number) next.texts c (min budget (taken.live.taken + steps))).0 ≡ false)
       (agree : agrees (marks_of session_meaning (trees_of library parts) (tree_number library b.number) next.texts c (min budget (taken.live.taken + steps)))
       (base_of next.texts c) ≡ true)
-      (first : (session_meaning c.heap.store).own ≡ first_copy (worlds_in c.heap.store.shared)) (outcome : Told) (items : List ℕ)
-      (e : EndsAlone session_meaning (trees_of library parts) (tree_number library (place + 1)) budget drawn q (first_in p.common) next outcome items) where
+      (first : (session_meaning c.heap.store).own ≡ first_copy (worlds_in c.heap.store.shared)) (outcome : Told) (bytes : Vec ℕ Global)
+      (e : EndsAlone session_meaning (trees_of library parts) (tree_number library (place + 1)) budget drawn q (first_in p.common) next outcome bytes.items)
+      (kept : KeepsObjects c next (came.Ends outcome bytes)) where
     whole : run ≡ alone (trees_of library parts) (tree_number library (place + 1)) q (first_in p.common) (arena_in next.texts next.arena) budget
     whole =
         run_same
@@ -284,7 +292,25 @@ module _ (library : Option Tree) (parts : List Tree) (budget : ℕ) (copy : Copy
     leaves : first_in next ≡ copy_after t.owner s.copy run
     leaves = e.leaves ∙ (λ j. copy_after (sym owner_same j) (sym ex.copy j) (sym whole j))
 
-    end_same : end_of b t.owner run ≡ record {
+    abbrev left_now : Arena
+    left_now = arena_in next.texts next.arena
+
+    -- by how it has ended: the run's objects where it was committed, and else those that were there
+    by_ending : (o : Told) (en : Ending) (st : St) → KeepsObjects c next (came.Ends o bytes) → Tells o (outcome_by q en st)
+        → objects_by left_now en st ≡ left_now → objects_by s.objects en st ≡ left_now
+    by_ending o Done st k tells h = h
+    by_ending told.Committed (ThrewValue v) st k tells h = absurd tells
+    by_ending (told.Threw shown) (ThrewValue v) st k tells h = objects_on k
+    by_ending told.Spent (ThrewValue v) st k tells h = absurd tells
+    by_ending told.Committed StepsSpent st k tells h = absurd tells
+    by_ending (told.Threw shown) StepsSpent st k tells h = absurd tells
+    by_ending told.Spent StepsSpent st k tells h = objects_on k
+
+    objects : objects_after s.objects run ≡ arena_in next.texts next.arena
+    objects = by_ending outcome run.0 run.1 kept (subst (λ z. Tells outcome (outcome_of q z)) (sym whole) e.tells)
+        (ap (objects_after left_now) whole ∙ e.objects)
+
+    end_same : end_of b t.owner s.objects run ≡ record {
       run = record { activity = place + 1; owner = q; objects = arena_in next.texts next.arena };
       outcome = outcome_of q (run_at library parts budget (first_in p.common)
           (record { activity = place + 1; owner = q; objects = arena_in next.texts next.arena }));
@@ -296,7 +322,7 @@ module _ (library : Option Tree) (parts : List Tree) (budget : ℕ) (copy : Copy
       tries = r.dropped j + 1;
     }
 
-    ended : now.ended ≡ true → (output : List ℕ) → output ≡ items → TurnIs library parts budget steps place s after (ends ++ record {
+    ended : now.ended ≡ true → (output : List ℕ) → output ≡ bytes.items → TurnIs library parts budget steps place s after (ends ++ record {
       run = record { activity = place + 1; owner = q; objects = arena_in next.texts next.arena };
       outcome = outcome_of q (run_at library parts budget (first_in p.common)
           (record { activity = place + 1; owner = q; objects = arena_in next.texts next.arena }));
@@ -307,8 +333,8 @@ module _ (library : Option Tree) (parts : List Tree) (budget : ℕ) (copy : Copy
       there = there;
       now = ends_with b t.owner run with_run;
       is = subst (λ (x : End). IsExactly budget after (ends ++ x ∷ []) (ends_with b t.owner run with_run)) end_same
-          (ends_exactly budget p ends s ex place a at alive b r t.owner q owner_same next after common_is latest_is now items_is others_same run objects gone
-          leaves);
+          (ends_exactly budget p ends s ex place a at alive b r t.owner q owner_same next after common_is latest_is now items_is others_same run gone
+          leaves objects);
       turn = inl (record {
         turn = λ go. turn_ends library parts budget taken.live.taken steps p.common next p.drawn c q is.common taken.start taken.owner passes.texts
             taken.holds s ex.copy ex.objects b t try.owner try.steps try.own try.known go over agree;
@@ -330,4 +356,4 @@ module _ (library : Option Tree) (parts : List Tree) (budget : ℕ) (copy : Copy
           (rested rest e to.0 to.2 notes.0 output notes.2)
       by came.Drops e to notes = subst (λ (es : List End). TurnIs library parts budget steps place s after es output) (sym (append-nil ends))
           (dropped_one e to notes.0 output notes.2)
-      by (came.Ends outcome out) e to notes = ended e.came.0 e.came.1 e.came.2 outcome out.items to (ap (λ (x : Activity). x.ended) notes.0) output notes.2
+      by (came.Ends outcome out) e to notes = ended e.came.0 e.came.1 e.came.2 outcome out to e.objects (ap (λ (x : Activity). x.ended) notes.0) output notes.2

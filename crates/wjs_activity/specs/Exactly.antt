@@ -47,7 +47,7 @@ pub data Shows (R : ℕ → Activity → defined.Activity → Type 0) : ℕ → 
   on : (k : ℕ) (a : Activity) (items : List Activity) (b : defined.Activity) (shown : List defined.Activity) → a.ended ≡ false → R k a b
       → Shows R (k + 1) items shown → Shows R k (a ∷ items) (b ∷ shown)
 
--- what the first world holds, the objects, the owners that were drawn, the ends, and the activities
+-- what the first world holds, the objects that are shared, the owners that were drawn, the ends, and the activities
 pub record IsExactly (budget : ℕ) (p : Play) (ends : List End) (s : defined.Play) : Type 0 where
   pub copy : s.copy ≡ first_in p.common
   pub objects : s.objects ≡ arena_in p.common.texts p.common.arena
@@ -62,7 +62,7 @@ module _ (library : Option Tree) (parts : List Tree) (budget : ℕ) where
     pub turn : (go : defined.Activity → defined.Play → defined.Play) → turn_of_try library parts budget go steps b (try_of b s) s ≡ now
     pub at : (x : Activity) → slice_get new.activities.items place ≡ Some x → (x.ended ≡ true) ⊎ ¬ (x.running ≡ None)
 
-  -- it drops the try: what follows is asked of the activity without it, and of the play with the objects that it made
+  -- it drops the try: what follows is asked of the activity without it, and of the play with its owner drawn
   pub record Leaves (steps place : ℕ) (b : defined.Activity) (s : defined.Play) (new : Play) (now : defined.Play) : Type 0 where
     pub left : defined.Activity
     pub made : defined.Play

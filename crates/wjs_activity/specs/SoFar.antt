@@ -6,7 +6,7 @@ use Rattle.wjs_by_content.specs.Tables.{arena_in}
 use Rattle.wjs_meaning.specs.Trees.{Tree}
 use Rattle.wjs_model.specs.Units.{unit_in}
 use Rattle.wjs_session.specs.Stores.{worlds_in}
-use Rattle.wjs_alone.specs.Alone.{Copy, copy_after}
+use Rattle.wjs_alone.specs.Alone.{Copy, copy_after, objects_after}
 use Rattle.wjs_alone.specs.Opening.{trees_of, tree_number}
 use Rattle.wjs_alone.specs.Serial.{Run, End, runs_of, outcomes_of, Holds, run_at, outcomes_by, copy_by, ObjectsGrow}
 use Rattle.wjs_activity.specs.Unnamed.{NamesNone}
@@ -44,7 +44,7 @@ module _ (library : Option Tree) (parts : List Tree) (budget : ℕ) where
   -- what the last of some runs left that begin with a copy and some objects: before the first these
   abbrev pub left_by : Copy → Arena → List Run → Arena
   left_by m a [] = a
-  left_by m a (r ∷ rs) = left_by (copy_after r.owner m (run_at library parts budget m r)) ((run_at library parts budget m r).1).arena rs
+  left_by m a (r ∷ rs) = left_by (copy_after r.owner m (run_at library parts budget m r)) (objects_after r.objects (run_at library parts budget m r)) rs
 
 -- two tries that rest are of two owners
 abbrev pub Differ : Play → Type 0

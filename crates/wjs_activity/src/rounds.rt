@@ -2,6 +2,7 @@
 ghost use Rattle.std.specs.Prelude.{◌≡◌, ◌<◌, ◌≤◌, ◌+◌, ◌⊎◌, ℕ, max, true, false, length, set, slice_get, map, All, None, Some, IfSome, MatchOption, IfOk};
 ghost use Rattle.std.specs.Prelude.{IfErr, IsTrue};
 ghost use Rattle.wjs_io.specs.Streams.{over, Got, Stops};
+ghost use Rattle.wjs_arena.specs.Entries.{IsArena, joined};
 ghost use Rattle.wjs_model.specs.Apart.{is_apart};
 ghost use Rattle.wjs_model.specs.Soundness.{Sound};
 ghost use Rattle.wjs_session.specs.Stores.{worlds_in};
@@ -12,6 +13,7 @@ ghost use Rattle.wjs_activity.specs.declared.ends.PlayTurn.{PlayTurn};
 ghost use Rattle.wjs_tries.specs.Hiding.{no_owner, MayList};
 ghost use Rattle.wjs_tries.specs.Meant.{itself, Listed, resting};
 ghost use Rattle.wjs_tries.specs.Common.{IsCommon};
+ghost use Rattle.wjs_tries.specs.Resting.{Owns};
 ghost use Rattle.wjs_tries.specs.Turning.{Begun, GoesOnAs};
 ghost use Rattle.wjs_activity.specs.Rounds.{IsGoing, Settled, last_is_due, MayTurn, TurnAt, TurnsTo, HaltsIn, HaltsAt, TurnMade, OneTurn, LastTurn};
 ghost use Rattle.wjs_activity.specs.Rounds.{LastHalts, AllSooner, fuel, at_place, by_turn, by_turns, by_round, by_rounds, Is};
@@ -334,6 +336,7 @@ fn go_on_or_open(
     requires place { place < length common.apart.items }
     requires rests { IfSome running (λ (r : Rested). Rests (worlds_in common.shared) r.resting
         × ((us : Listed) → us.items ≡ set common.apart.items place no_owner → Sound itself (resting us common r))) }
+    requires owns { IfSome running (λ (r : Rested). Owns common r × IsArena (joined common.arena r.objects)) }
     requires apart { running ≡ None → drawn + 1 < no_owner → (u : ℕ) → IsTrue (is_apart common.apart.items u) → MayList (drawn + 1) common u }
     ensures running { IfOk result (λ config. config.state ≡ State.Running) }
     ensures sound { IfOk result (Sound (⟦<Session as WorldStore>⟧.meaning)) }
@@ -344,7 +347,7 @@ fn go_on_or_open(
     ensures list { IfOk result (λ config. (r : Rested) → running ≡ Some r → config.apart.items ≡ set common.apart.items place no_owner) }
 {
     match running {
-        Some(rest) => Ok(resume(common, rest, place as usize)),
+        Some(rest) => resume(common, rest, place as usize),
         None => open_next(alloc, common, drawn, rules, place),
     }
 }

@@ -25,7 +25,7 @@ use wjs_base::{OutOfMemory, Texts};
 use wjs_heap::Heap;
 use wjs_io::{Sink, write_pieces};
 use wjs_machine::Halt;
-use wjs_model::{Config, State, Unit};
+use wjs_model::{Config, LoadedProgram, State};
 use wjs_overlay::Overlay;
 use wjs_parts::{start_parts, walk};
 use wjs_store::WorldStore;
@@ -59,8 +59,8 @@ pub enum PlayEnd {
 pub fn play<O: Sink>(
     alloc: Global,
     texts: Texts,
-    library: Option<Unit>,
-    parts: Vec<Unit>,
+    library: Option<LoadedProgram>,
+    parts: Vec<LoadedProgram>,
     schedule: &[PlayTurn],
     turn: u64,
     budget: u64,
@@ -99,8 +99,8 @@ fn halted(halt: Halt) -> PlayEnd
 fn play_out<O: Sink>(
     alloc: Global,
     texts: Texts,
-    library: Option<Unit>,
-    parts: Vec<Unit>,
+    library: Option<LoadedProgram>,
+    parts: Vec<LoadedProgram>,
     schedule: &[PlayTurn],
     turn: u64,
     budget: u64,
@@ -217,7 +217,7 @@ fn all_turns<O: Sink>(
 }
 
 /// The number of the first part among the programs.
-fn first_number(library: &Option<Unit>) -> u32
+fn first_number(library: &Option<LoadedProgram>) -> u32
     ensures { (t : Table) → result ≡ first_number (option_map (unit_in t) library.now) }
 {
     match library {
@@ -230,8 +230,8 @@ fn first_number(library: &Option<Unit>) -> u32
 fn opened(
     alloc: Global,
     texts: Texts,
-    library: Option<Unit>,
-    parts: Vec<Unit>,
+    library: Option<LoadedProgram>,
+    parts: Vec<LoadedProgram>,
     budget: u64,
 ) -> Result<Config<Overlay>, OutOfMemory>
     requires table { IsTable texts }

@@ -5,7 +5,6 @@ use Rattle.std.specs.Option.{option_map_or}
 use Rattle.std.proofs.lemmas.Bool.{eqb-true, ne_eqb}
 use Rattle.wjs_store.specs.State.{World}
 use Rattle.wjs_by_content.specs.Names.{content}
-use Rattle.wjs_by_content.specs.Objects.{Arena}
 use Rattle.wjs_meaning.specs.Trees.{Tree}
 use Rattle.wjs_meaning.specs.Deeds.{St}
 use Rattle.wjs_meaning.specs.Programs.{Ending}
@@ -47,8 +46,8 @@ filtered_none (x ∷ acts) p j e = let h = none_head x acts j e in by (p x) h.0 
 
 -- ---- what turns keep
 
--- what stays where an activity goes on or ends, and where a run made objects and an owner was drawn
-module _ (library : Option Tree) (parts : List Tree) (budget : ℕ) (P : Play → Type 0) (goes : (a : Activity) (s : Play) → P s → P (goes_on a s)) (ends : (a : Activity) (owner : ℕ) (r : Ending × St) (s : Play) → P s → P (ends_with a owner r s)) (runs : (s : Play) (objects : Arena) (owners : ℕ) → P s → P (record s { objects = objects; owners = owners })) where
+-- what stays where an activity goes on or ends, and where an owner was drawn
+module _ (library : Option Tree) (parts : List Tree) (budget : ℕ) (P : Play → Type 0) (goes : (a : Activity) (s : Play) → P s → P (goes_on a s)) (ends : (a : Activity) (owner : ℕ) (r : Ending × St) (s : Play) → P s → P (ends_with a owner r s)) (runs : (s : Play) (owners : ℕ) → P s → P (record s { owners = owners })) where
   abbrev Keeps : (Activity → Play → Play) → Type 0
   Keeps go = (a : Activity) (s : Play) → P s → P (go a s)
 
@@ -68,7 +67,7 @@ module _ (library : Option Tree) (parts : List Tree) (budget : ℕ) (P : Play �
       let n = min budget (t.taken + steps) in
       let own = own_view t.outer s.copy in
       let r = alone (trees_of library parts) (tree_number library a.number) t.owner own s.objects n in
-      after_keeps go keeps a t.owner n r (marked t.owner own (r.1).done) (record s { objects = (r.1).arena; owners = max s.owners t.owner }) (runs s (r.1).arena (max s.owners t.owner) h)
+      after_keeps go keeps a t.owner n r (marked t.owner own (r.1).done) (record s { owners = max s.owners t.owner }) (runs s (max s.owners t.owner) h)
 
   next_keeps : Keeps (next_try library parts budget)
   next_keeps a s h = by (a.dropped == 3)
@@ -77,18 +76,18 @@ module _ (library : Option Tree) (parts : List Tree) (budget : ℕ) (P : Play �
       by true = try_keeps goes_on goes budget a (try_of a s) s h
       by false = goes a s h
 
-  pub turn_keeps : (s : Play) (t : PlayTurn) → P s → P (turn library parts budget s t)
+  turn_keeps : (s : Play) (t : PlayTurn) → P s → P (turn library parts budget s t)
   turn_keeps s t h = by (activity_in s.activities t.activity)
     where
       by : (o : Option Activity) → P (option_map_or (λ (a : Activity). turn_of_try library parts budget (next_try library parts budget) t.steps a (try_of a s) s) o s)
       by None = h
       by (Some a) = try_keeps (next_try library parts budget) next_keeps t.steps a (try_of a s) s h
 
-  pub turns_keep : (ts : List PlayTurn) (s : Play) → P s → P (fold (turn library parts budget) s ts)
+  turns_keep : (ts : List PlayTurn) (s : Play) → P s → P (fold (turn library parts budget) s ts)
   turns_keep [] s h = h
   turns_keep (t ∷ ts) s h = turns_keep ts (turn library parts budget s t) (turn_keeps s t h)
 
-  pub rounds_keep : (n steps : ℕ) (s : Play) → P s → P (rounds library parts budget n steps s)
+  rounds_keep : (n steps : ℕ) (s : Play) → P s → P (rounds library parts budget n steps s)
   rounds_keep zero steps s h = h
   rounds_keep (suc n) steps s h = by (length s.activities == 0) (rounds_keep n steps (round library parts budget steps s) (turns_keep (each (turn_for steps) s.activities) s h))
     where
@@ -99,7 +98,7 @@ module _ (library : Option Tree) (parts : List Tree) (budget : ℕ) (P : Play �
 -- a number that is none's stays so
 turn_none : (library : Option Tree) (parts : List Tree) (budget j : ℕ) (s : Play) (t : PlayTurn) → activity_in s.activities j ≡ None → activity_in (turn library parts budget s t).activities j ≡ None
 turn_none library parts budget j = turn_keeps library parts budget (λ s. activity_in s.activities j ≡ None) (λ a s h. replaced_none s.activities a j h)
-    (λ a owner r s h. filtered_none s.activities (λ (b : Activity). not (b.number == a.number)) j h) (λ s objects owners h. h)
+    (λ a owner r s h. filtered_none s.activities (λ (b : Activity). not (b.number == a.number)) j h) (λ s owners h. h)
 
 -- what was printed stays in front of what is
 ends_front : (front : List ℕ) (a : Activity) (owner : ℕ) (r : Ending × St) (s : Play) → Fronts front s → Fronts front (ends_with a owner r s)
@@ -109,17 +108,17 @@ goes_front : (front : List ℕ) (a : Activity) (s : Play) → Fronts front s →
 goes_front front a s h = h
 
 pub next_front : (library : Option Tree) (parts : List Tree) (budget : ℕ) (front : List ℕ) (a : Activity) (s : Play) → Fronts front s → Fronts front (next_try library parts budget a s)
-next_front library parts budget front = next_keeps library parts budget (Fronts front) (goes_front front) (ends_front front) (λ s objects owners h. h)
+next_front library parts budget front = next_keeps library parts budget (Fronts front) (goes_front front) (ends_front front) (λ s owners h. h)
 
 pub try_front : (library : Option Tree) (parts : List Tree) (budget : ℕ) (front : List ℕ) (go : Activity → Play → Play) → ((a : Activity) (s : Play) → Fronts front s → Fronts front (go a s))
     → (steps : ℕ) (a : Activity) (t : Try) (s : Play) → Fronts front s → Fronts front (turn_of_try library parts budget go steps a t s)
-try_front library parts budget front = try_keeps library parts budget (Fronts front) (goes_front front) (ends_front front) (λ s objects owners h. h)
+try_front library parts budget front = try_keeps library parts budget (Fronts front) (goes_front front) (ends_front front) (λ s owners h. h)
 
 pub turns_front : (library : Option Tree) (parts : List Tree) (budget : ℕ) (front : List ℕ) (ts : List PlayTurn) (s : Play) → Fronts front s → Fronts front (fold (turn library parts budget) s ts)
-turns_front library parts budget front = turns_keep library parts budget (Fronts front) (goes_front front) (ends_front front) (λ s objects owners h. h)
+turns_front library parts budget front = turns_keep library parts budget (Fronts front) (goes_front front) (ends_front front) (λ s owners h. h)
 
 pub rounds_front : (library : Option Tree) (parts : List Tree) (budget : ℕ) (front : List ℕ) (n steps : ℕ) (s : Play) → Fronts front s → Fronts front (rounds library parts budget n steps s)
-rounds_front library parts budget front = rounds_keep library parts budget (Fronts front) (goes_front front) (ends_front front) (λ s objects owners h. h)
+rounds_front library parts budget front = rounds_keep library parts budget (Fronts front) (goes_front front) (ends_front front) (λ s owners h. h)
 
 -- ---- a round
 

@@ -5,7 +5,7 @@ use Rattle.std.proofs.lemmas.List.Elements.{All-nil, All-cons}
 use Rattle.std.proofs.lemmas.List.Sums.{sum_by-cons}
 use Rattle.wjs_by_content.specs.Objects.{Arena}
 use Rattle.wjs_meaning.specs.Trees.{Tree}
-use Rattle.wjs_alone.specs.Alone.{Copy, Outcome, outcome_of, copy_after}
+use Rattle.wjs_alone.specs.Alone.{Copy, Outcome, outcome_of, copy_after, objects_after}
 use Rattle.wjs_alone.specs.Serial.{Run, End, runs_of, outcomes_of, Holds, NewOwn, run_at, outcomes_by, ObjectsGrow, IsSerial}
 use Rattle.wjs_alone.specs.Laws.{SomeAreSerial}
 
@@ -27,7 +27,7 @@ module _ (library : Option Tree) (parts : List Tree) (budget : ℕ) where
   copy_then k copy arena = copy_after k copy (run_at library parts budget copy (run_of k arena))
 
   abbrev arena_then : ℕ → Copy → Arena → Arena
-  arena_then k copy arena = ((run_at library parts budget copy (run_of k arena)).1).arena
+  arena_then k copy arena = objects_after arena (run_at library parts budget copy (run_of k arena))
 
   -- so many activities, from this one on
   abbrev ends_from : ℕ → ℕ → Copy → Arena → List End

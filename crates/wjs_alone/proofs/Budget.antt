@@ -73,7 +73,7 @@ module _ (trees : List Tree) (tree owner : ℕ) (copy : Copy) (arena : Arena) wh
       let st = before owner copy arena in
       ended_program (eval AtProgram env st n) (eval AtProgram env st (n + more)) more (ended_eval_to n more AtProgram env st n (omega arith)) enough
 
-  pub one_ending_of : (n m : ℕ) → ¬ ((alone trees tree owner copy arena n).0 ≡ StepsSpent) → ¬ ((alone trees tree owner copy arena m).0 ≡ StepsSpent) → alone trees tree owner copy arena n ≡ alone trees tree owner copy arena m
+  one_ending_of : (n m : ℕ) → ¬ ((alone trees tree owner copy arena n).0 ≡ StepsSpent) → ¬ ((alone trees tree owner copy arena m).0 ≡ StepsSpent) → alone trees tree owner copy arena n ≡ alone trees tree owner copy arena m
   one_ending_of n m a b = by (either n m)
     where
       by : ((k : ℕ) × (n + k ≡ m)) ⊎ ((k : ℕ) × (m + k ≡ n)) → alone trees tree owner copy arena n ≡ alone trees tree owner copy arena m

@@ -26,7 +26,7 @@ use Rattle.wjs_alone.proofs.OneAbove.{verdict_of_pair, commit_of_pair}
 abbrev pub another : WorldId → WorldId
 another i = record { owner = i.owner + 1; serial = 0 }
 
-pub apart : (i : WorldId) → same_world (another i) i ≡ false
+apart : (i : WorldId) → same_world (another i) i ≡ false
 apart i = ap (λ b. b && (0 == i.serial)) (false_from_ne_true ((i.owner + 1) == i.owner) (λ e. let h = eqb-true (i.owner + 1) i.owner e in omega (arith, h)))
 
 pub heads : {A : Type 0} (a b : A) → a ∷ [] ≡ b ∷ [] → a ≡ b
@@ -44,15 +44,15 @@ none_by (Some s) (Some t) e = refl
 -- ---- a world alone
 
 module _ {K V : Type 0} {n : Naming K V} where
-  pub alone_read : (x : World n) (s : K) → after_read (x ∷ []) x.id s ≡ read_in s x ∷ []
+  alone_read : (x : World n) (s : K) → after_read (x ∷ []) x.id s ≡ read_in s x ∷ []
   unfolding after_read
   alone_read x s = ap (λ b. cond b (read_in s x) x ∷ []) (same_self x.id)
 
-  pub alone_list : (x : World n) (o : ObjId) → after_list (x ∷ []) x.id o ≡ list_in o x ∷ []
+  alone_list : (x : World n) (o : ObjId) → after_list (x ∷ []) x.id o ≡ list_in o x ∷ []
   unfolding after_list
   alone_list x o = ap (λ b. cond b (list_in o x) x ∷ []) (same_self x.id)
 
-  pub alone_write : (x : World n) (s : K) (c : Option V) → after_write (x ∷ []) x.id s c ≡ write_in s c x ∷ []
+  alone_write : (x : World n) (s : K) (c : Option V) → after_write (x ∷ []) x.id s c ≡ write_in s c x ∷ []
   unfolding after_write
   alone_write x s c = ap (λ b. cond b (write_in s c x) (cond (is_below x.id s (x ∷ []) x.id) (record x { copy = put x.copy s c }) x) ∷ []) (same_self x.id)
 
@@ -60,7 +60,7 @@ module _ {K V J W : Type 0} {n : Naming K V} {m : Naming J W} (r : Names n m) wh
   pub known_head : (x : World n) (F : State n) → Known r (x ∷ F) → Knows r x
   known_head x F k = k.0
 
-  pub known_tail : (x : World n) (F : State n) → Known r (x ∷ F) → Known r F
+  known_tail : (x : World n) (F : State n) → Known r (x ∷ F) → Known r F
   known_tail x F k = k.1
 
   -- what an action leaves of a world alone
@@ -110,7 +110,7 @@ module _ {K V J W : Type 0} {n : Naming K V} {m : Naming J W} (r : Names n m) wh
 -- ---- over a first world that holds a view
 
 module _ (t : Table) where
-  pub holding_known : (i : WorldId) (v : View) → KnowsView t v → Knows (names_of t) (session_holding i v)
+  holding_known : (i : WorldId) (v : View) → KnowsView t v → Knows (names_of t) (session_holding i v)
   holding_known i v k = record {
     copy = λ s x e. k s x e;
     first = λ s c e. absurd (false≢true (sym (ap is_some (map.get-empty plain.cmp s)) ∙ ap is_some e));

@@ -17,7 +17,7 @@ pub map_if : {A B : Type 0} (g : A → B) (b : Bool) (x : A) (o : Option A) → 
 map_if g true x o = refl
 map_if g false x o = refl
 
-pub none_at : {A : Type 0} (o : Option A) → is_some o ≡ false → o ≡ None
+none_at : {A : Type 0} (o : Option A) → is_some o ≡ false → o ≡ None
 none_at None h = refl
 none_at (Some a) h = absurd (true≢false h)
 

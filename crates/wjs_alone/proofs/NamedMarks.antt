@@ -83,14 +83,14 @@ module _ {K V J W : Type 0} {n : Naming K V} {m : Naming J W} (r : Names n m) wh
   step_named G x (sprout d owner strict) kg kx ka = (refl, kx)
   step_named G x (commit d) kg kx ka = moved_named G x d kg kx
 
-  pub along_named : (actions : List (Act K V)) (G : State n) (x : World n) → Known r G → Knows r x → Holds (KnownAct r) actions → along (each (named_act r) actions) (named_state r G) (named_world r x) ≡ (named_state r (along actions G x).0, named_world r (along actions G x).1)
+  along_named : (actions : List (Act K V)) (G : State n) (x : World n) → Known r G → Knows r x → Holds (KnownAct r) actions → along (each (named_act r) actions) (named_state r G) (named_world r x) ≡ (named_state r (along actions G x).0, named_world r (along actions G x).1)
   along_named [] G x kg kx ka = refl
   along_named (a ∷ actions) G x kg kx ka =
       let s = step_named G x a kg kx ka.0 in
       (λ j. along (each (named_act r) actions) (sym (named_after r G a kg ka.0) j) (sym s.0 j))
       ∙ along_named actions (after G a) (marked_by G x a) (known_after r G a kg ka.0) s.1 ka.1
 
-  pub along_known : (actions : List (Act K V)) (G : State n) (x : World n) → Known r G → Knows r x → Holds (KnownAct r) actions → Known r (along actions G x).0 × Knows r (along actions G x).1
+  along_known : (actions : List (Act K V)) (G : State n) (x : World n) → Known r G → Knows r x → Holds (KnownAct r) actions → Known r (along actions G x).0 × Knows r (along actions G x).1
   along_known [] G x kg kx ka = (kg, kx)
   along_known (a ∷ actions) G x kg kx ka = along_known actions (after G a) (marked_by G x a) (known_after r G a kg ka.0) (step_named G x a kg kx ka.0).1 ka.1
 

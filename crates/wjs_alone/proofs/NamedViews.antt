@@ -59,7 +59,7 @@ module _ (t : Table) (x : World plain) (v : View) (kx : Knows (names_of t) x) (k
   view_known : KnownKeys (names_of t) v
   view_known s w e = (kv s w e).0
 
-  pub owned_known : KnownKeys (names_of t) (owned x v)
+  owned_known : KnownKeys (names_of t) (owned x v)
   owned_known s w e = by_bool (is_some (map.get x.first s))
       (λ f. with_some (map.get x.first s) f (λ c q. first_known s c q))
       (λ f. view_known s w (from_base (map.get x.first s) (map.contains_key x.closed s.object) (has_row x s) (map.get v s) w (sym (get_owned x v s) ∙ e) f))

@@ -59,7 +59,7 @@ module _ {K V : Type 0} {n : Naming K V} where
   -- ---- y is a child of x; it has read and listed nothing
 
   module _ (y x : World n) (up : y.parent ≡ Some x.id) (apart : same_world y.id x.id ≡ false) where
-    pub pair_of : with_parent (y ∷ x ∷ []) y.id ≡ Some (y, x)
+    pair_of : with_parent (y ∷ x ∷ []) y.id ≡ Some (y, x)
     unfolding with_parent
     pair_of =
         ap (option_and_then (λ (z : World n). option_map (λ p. (z, p)) (option_and_then (find_world (y ∷ x ∷ [])) z.parent))) (find_head y (x ∷ []))

@@ -76,6 +76,14 @@ copy_by owner copy ending st = copy
 abbrev pub copy_after : ℕ → Copy → Ending × St → Copy
 copy_after owner copy r = copy_by owner copy r.0 r.1
 
+-- the objects that are there then: those that the run left where it is committed, and else those that there were
+abbrev pub objects_by : Arena → Ending → St → Arena
+objects_by objects Done st = st.arena
+objects_by objects ending st = objects
+
+abbrev pub objects_after : Arena → Ending × St → Arena
+objects_after objects r = objects_by objects r.0 r.1
+
 -- what it prints counts where it is committed
 abbrev pub printed_by : Ending → St → List ℕ
 printed_by Done st = st.out

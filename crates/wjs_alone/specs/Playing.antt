@@ -7,7 +7,7 @@ use Rattle.wjs_by_content.specs.Objects.{Arena}
 use Rattle.wjs_meaning.specs.Trees.{Tree}
 use Rattle.wjs_meaning.specs.Deeds.{St}
 use Rattle.wjs_meaning.specs.Programs.{Ending, Done, Threw as ThrewValue, StepsSpent}
-use Rattle.wjs_alone.specs.Alone.{Copy, copy_in, alone, outcome_of, copy_after, printed}
+use Rattle.wjs_alone.specs.Alone.{Copy, copy_in, alone, outcome_of, copy_after, objects_after, printed}
 use Rattle.wjs_alone.specs.Opening.{trees_of, tree_number, opening}
 use Rattle.wjs_alone.specs.Serial.{End, lines_from}
 use Rattle.wjs_alone.specs.Marks.{child, marked, own_view, agrees}
@@ -24,7 +24,7 @@ pub record Activity : Type 0 where
   pub dropped : ℕ
   pub running : Option Try
 
--- what the first world holds, the objects, how many owners were drawn, the activities that have not ended, the ends so far in their order, and what was printed
+-- what the first world holds, the objects that what was committed left, how many owners were drawn, the activities that have not ended, the ends so far in their order, and what was printed
 pub record Play : Type 0 where
   pub copy : Copy
   pub objects : Arena
@@ -48,15 +48,16 @@ activity_in (a ∷ more) k = cond (a.number == k) (Some a) (activity_in more k)
 abbrev pub goes_on : Activity → Play → Play
 goes_on a s = record s { activities = each (λ b. cond (b.number == a.number) a b) s.activities }
 
-abbrev pub end_of : Activity → ℕ → Ending × St → End
-end_of a owner r = record { run = record { activity = a.number; owner = owner; objects = (r.1).arena }; outcome = outcome_of owner r; tries = a.dropped + 1 }
+abbrev pub end_of : Activity → ℕ → Arena → Ending × St → End
+end_of a owner objects r = record { run = record { activity = a.number; owner = owner; objects = objects_after objects r }; outcome = outcome_of owner r; tries = a.dropped + 1 }
 
--- it has ended with this run: what is committed is in the first world from now on
+-- it has ended with this run: what is committed is in the first world from now on, and its objects are there
 abbrev pub ends_with : Activity → ℕ → Ending × St → Play → Play
 ends_with a owner r s = record s {
   copy = copy_after owner s.copy r;
+  objects = objects_after s.objects r;
   activities = filter (λ b. not (b.number == a.number)) s.activities;
-  ends = s.ends ++ end_of a owner r ∷ [];
+  ends = s.ends ++ end_of a owner s.objects r ∷ [];
   out = s.out ++ printed r;
 }
 
@@ -104,9 +105,9 @@ module _ (library : Option Tree) (parts : List Tree) (budget : ℕ) where
     ]
   ]
 
-  -- the run of a turn is that of the part alone, from what the try takes the first world to hold and with the play's objects; its marks are those of the run's actions
+  -- the run of a turn is that of the part alone, from what the try takes the first world to hold and with the play's objects; its marks are those of the run's actions. What it makes is the try's own until it is committed
   abbrev pub turn_by_run : (Activity → Play → Play) → Activity → ℕ → ℕ → Copy → Ending × St → Play → Play
-  turn_by_run dropped a owner taken copy r s = after_turn dropped a owner taken r (marked owner copy (r.1).done) (record s { objects = (r.1).arena; owners = max s.owners owner })
+  turn_by_run dropped a owner taken copy r s = after_turn dropped a owner taken r (marked owner copy (r.1).done) (record s { owners = max s.owners owner })
 
   abbrev pub turn_from : (Activity → Play → Play) → Activity → ℕ → ℕ → Copy → Play → Play
   turn_from dropped a owner taken copy s = turn_by_run dropped a owner taken copy (alone (trees_of library parts) (tree_number library a.number) owner copy s.objects taken) s

@@ -10,10 +10,10 @@ use Rattle.wjs_store.specs.State.{first_world}
 use Rattle.wjs_meaning.specs.Trees.{Tree}
 use Rattle.wjs_meaning.specs.Deeds.{St}
 use Rattle.wjs_meaning.specs.Programs.{Ending}
-use Rattle.wjs_alone.specs.Alone.{Copy, copy_in, alone, Outcome, Committed, Threw, Spent, outcome_of, copy_after, printed}
+use Rattle.wjs_alone.specs.Alone.{Copy, copy_in, alone, Outcome, Committed, Threw, Spent, outcome_of, copy_after, objects_after, printed}
 use Rattle.wjs_alone.specs.Opening.{trees_of, tree_number, opening}
 
--- the run that an activity ended with: whose it was, and the objects of the play at its end
+-- the run that an activity ended with: whose it was, and the objects of the play behind its end
 pub record Run : Type 0 where
   pub activity : ℕ
   pub owner : ℕ
@@ -87,10 +87,10 @@ module _ (library : Option Tree) (parts : List Tree) (budget : ℕ) where
   copy_by copy [] = copy
   copy_by copy (r ∷ rs) = copy_by (copy_after r.owner copy (run_at copy r)) rs
 
-  -- the objects of each run hold those that were there, and those that the run before it left; none that comes beside them stands for the world of another owner
+  -- the objects of each run hold those that were there, and those that the run before it left where that is committed; none that comes beside them stands for the world of another owner
   abbrev pub ObjectsGrow : Copy → Arena → List Run → Type 0
   ObjectsGrow copy arena [] = Unit {0}
-  ObjectsGrow copy arena (r ∷ rs) = Holds arena r.objects × NewOwn arena r.objects × ObjectsGrow (copy_after r.owner copy (run_at copy r)) ((run_at copy r).1).arena rs
+  ObjectsGrow copy arena (r ∷ rs) = Holds arena r.objects × NewOwn arena r.objects × ObjectsGrow (copy_after r.owner copy (run_at copy r)) (objects_after r.objects (run_at copy r)) rs
 
   -- from what the first world held and the objects that were there: the ends are those of the parts, each run alone in this order
   pub record IsSerial (copy : Copy) (arena : Arena) (ends : List End) : Type 0 where

@@ -1,5 +1,8 @@
 pub mod Owners
 pub mod Made
+pub mod WorldsByOwner
+pub mod TakenOut
+pub mod Joined
 pub mod Walks
 pub mod Packing
 pub mod Fields

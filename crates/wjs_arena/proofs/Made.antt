@@ -31,15 +31,15 @@ module _ (m : Objects) (k : ObjId) (e : Entry) (new : has m k ≡ false) where
   pub more : Objects
   more = map.insert m k e
 
-  pub at_new : map.get more k ≡ Some e
+  at_new : map.get more k ≡ Some e
   unfolding more
   at_new = map.get-insert obj_total m k e k ∙ ap (λ b. cond b (Some e) (map.get m k)) (key_itself k)
 
-  pub at_old : (id : ObjId) → IsTrue (has m id) → map.get more id ≡ map.get m id
+  at_old : (id : ObjId) → IsTrue (has m id) → map.get more id ≡ map.get m id
   unfolding more
   at_old id h = map.get-insert obj_total m k e id ∙ ap (λ b. cond b (Some e) (map.get m id)) (key_apart id k (λ q. let t : has m k ≡ true = ap (has m) (sym q) ∙ h in cc))
 
-  pub by_key : (id : ObjId) {P : Type 0} → (id ≡ k → P) → (map.get more id ≡ map.get m id → P) → P
+  by_key : (id : ObjId) {P : Type 0} → (id ≡ k → P) → (map.get more id ≡ map.get m id → P) → P
   unfolding more
   by_key id {P} here old = by_bool (eq_by_cmp obj_cmp id k) (λ t. here (key_is id k t)) (λ f. old (map.get-insert obj_total m k e id ∙ ap (λ b. cond b (Some e) (map.get m id)) f))
 
@@ -88,7 +88,7 @@ module _ (m : Objects) (k : ObjId) (e : Entry) (new : has m k ≡ false) where
       (λ q. absurd (fresh_world e.object.world w a fresh (sym (world_new b q) ∙ hb) (sym (world_old a p) ∙ ha)))
       (λ q. was a b w (sym (world_old a p) ∙ ha) (sym (world_old b q) ∙ hb)))
 
-  pub arena_more : IsArena m → IsThere m e.object.prototype → IsThere m e.object.scope
+  arena_more : IsArena m → IsThere m e.object.prototype → IsThere m e.object.scope
       → depth_of m e.object.prototype < e.depth → depth_of m e.object.scope < e.depth
       → IfSome e.object.world (λ w. (o : ObjId) → ¬ (world_of m o ≡ Some w))
       → ((id : ObjId) → IsTrue (has more id) ↔ (id.serial < (next_number more id.owner).serial)) → IsArena more
@@ -144,7 +144,7 @@ module _ (m : Objects) (k : ObjId) (e : Entry) (new : has m k ≡ false) where
             ∙ (was w o).1 old),
       )
 
-  pub kept_more : (ws : WorldObjects) → IsKept m ws → IsThere m e.object.prototype → IsThere m e.object.scope
+  kept_more : (ws : WorldObjects) → IsKept m ws → IsThere m e.object.prototype → IsThere m e.object.scope
       → depth_of m e.object.prototype < e.depth → depth_of m e.object.scope < e.depth
       → IfSome e.object.world (λ w. (o : ObjId) → ¬ (world_of m o ≡ Some w))
       → ((id : ObjId) → IsTrue (has more id) ↔ (id.serial < (next_number more id.owner).serial)) → IsKept more (with_world ws e.object.world k)
@@ -153,15 +153,15 @@ module _ (m : Objects) (k : ObjId) (e : Entry) (new : has m k ≡ false) where
     worlds = worlds_more ws e.object.world refl fresh kept.worlds;
   }
 
-  pub keeps_more : Keeps m more
+  keeps_more : Keeps m more
   keeps_more id x h = at_old id (ap is_some h) ∙ h
 
 -- the next number is new
-pub next_is_new : (m : Objects) (owner : ℕ) → IsArena m → has m (next_number m owner) ≡ false
+next_is_new : (m : Objects) (owner : ℕ) → IsArena m → has m (next_number m owner) ≡ false
 next_is_new m owner a = by_bool (has m (next_number m owner)) (λ t. let l : (next_number m owner).serial < (next_number m owner).serial = (a.serials (next_number m owner)).0 t in absurd (omega arith)) (λ f. f)
 
 -- no world of an object that is not there
-pub fresh_at : (m : Objects) (ws : WorldObjects) (w : WorldId) → IsKept m ws → ((o : ObjId) → ¬ (world_of m o ≡ Some w)) → map.get ws w ≡ None
+fresh_at : (m : Objects) (ws : WorldObjects) (w : WorldId) → IsKept m ws → ((o : ObjId) → ¬ (world_of m o ≡ Some w)) → map.get ws w ≡ None
 fresh_at m ws w kept h = none (map.get ws w) (λ o e. h o ((kept.worlds w o).0 e))
   where
     none : (r : Option ObjId) → ((o : ObjId) → r ≡ Some o → ⊥) → r ≡ None

@@ -27,9 +27,14 @@ key_apart a b h = by_bool (eq_by_cmp obj_cmp a b) (λ e. absurd (h (key_is a b e
 pub owner_apart : (a b : ℕ) → (a ≡ b → ⊥) → (a == b) ≡ false
 owner_apart a b h = by_bool (a == b) (λ e. absurd (h (eqb-true a b e))) (λ e. e)
 
+pub eq_turned : (a b : ℕ) → (a == b) ≡ (b == a)
+eq_turned a b = by_bool (a == b)
+    (λ t. t ∙ sym (eq-eqb b a (sym (eqb-true a b t))))
+    (λ f. f ∙ sym (owner_apart b a (λ q. let u : (a == b) ≡ true = eq-eqb a b (sym q) in cc)))
+
 -- ---- one owner's objects over others
 
-put_other : (owner n : ℕ) (es : List Entry) (rest : Objects) (id : ObjId) → (id.owner ≡ owner → ⊥) → map.get (put_from owner n es rest) id ≡ map.get rest id
+pub put_other : (owner n : ℕ) (es : List Entry) (rest : Objects) (id : ObjId) → (id.owner ≡ owner → ⊥) → map.get (put_from owner n es rest) id ≡ map.get rest id
 put_other owner n [] rest id h = refl
 put_other owner n (e ∷ es) rest id h =
     let k : ObjId = record { owner = owner; serial = n } in
@@ -37,7 +42,7 @@ put_other owner n (e ∷ es) rest id h =
     ∙ ap (λ b. cond b (Some e) (map.get (put_from owner (n + 1) es rest) id)) (key_apart id k (λ q. h (ap (λ (z : ObjId). z.owner) q)))
     ∙ put_other owner (n + 1) es rest id h
 
-put_at : (owner n k : ℕ) (es : List Entry) (rest : Objects) (id : ObjId) → id.owner ≡ owner → id.serial ≡ n + k → map.get rest id ≡ None → map.get (put_from owner n es rest) id ≡ slice_get es k
+pub put_at : (owner n k : ℕ) (es : List Entry) (rest : Objects) (id : ObjId) → id.owner ≡ owner → id.serial ≡ n + k → map.get rest id ≡ None → map.get (put_from owner n es rest) id ≡ slice_get es k
 put_at owner n k [] rest id o s h = h
 put_at owner n zero (e ∷ es) rest id o s h =
     let key : ObjId = record { owner = owner; serial = n } in
@@ -80,7 +85,7 @@ module _ {V : Type 0} (items : V → List Entry) where
   at_owner xs owner = option_map_or items (lookup (is_at (nat_cmp owner)) xs) []
 
   -- what is there under a number
-  pub get_objects : (xs : List (ℕ × V)) (id : ObjId) → map.get (objects_in items xs) id ≡ slice_get (at_owner xs id.owner) id.serial
+  get_objects : (xs : List (ℕ × V)) (id : ObjId) → map.get (objects_in items xs) id ≡ slice_get (at_owner xs id.owner) id.serial
   unfolding at_owner
   get_objects [] id = map.get-empty obj_cmp id
   get_objects (x ∷ xs) id =
@@ -100,7 +105,7 @@ module _ {V : Type 0} (items : V → List Entry) where
       ∙ sym (ap (λ b. slice_get (option_map_or items (cond b (Some x.1) (lookup (is_at (nat_cmp id.owner)) xs)) []) id.serial) (tied ∙ e)))
 
   -- an owner's objects alone
-  pub objects_alone : (xs : List (ℕ × V)) (owner : ℕ) → objects_of (objects_in items xs) owner ≡ put_from owner 0 (at_owner xs owner) map.empty
+  objects_alone : (xs : List (ℕ × V)) (owner : ℕ) → objects_of (objects_in items xs) owner ≡ put_from owner 0 (at_owner xs owner) map.empty
   objects_alone xs owner = map.same_map obj_total obj_exact _ _ (λ id.
       let p : ObjId → Bool = λ z. z.owner == owner in
       let here = map.get-retain_keys (objects_in items xs) p id (λ z t. sym (ap p (obj_exact id z t))) in
@@ -116,17 +121,17 @@ module _ {V : Type 0} (items : V → List Entry) where
       ∙ sym (put_other owner 0 (at_owner xs owner) map.empty id (λ o. let t : (id.owner == owner) ≡ true = eq-eqb id.owner owner o in cc) ∙ map.get-empty obj_cmp id)))
 
   -- the next serial
-  pub serial_objects : (xs : List (ℕ × V)) (owner : ℕ) → (next_number (objects_in items xs) owner).serial ≡ length (at_owner xs owner)
+  serial_objects : (xs : List (ℕ × V)) (owner : ℕ) → (next_number (objects_in items xs) owner).serial ≡ length (at_owner xs owner)
   serial_objects xs owner = ap map.len (objects_alone xs owner) ∙ put_len owner 0 (at_owner xs owner)
 
-  pub within : (es : List Entry) (k : ℕ) → IsTrue (is_some (slice_get es k)) ↔ (k < length es)
+  within : (es : List Entry) (k : ℕ) → IsTrue (is_some (slice_get es k)) ↔ (k < length es)
   within [] k = (λ h. cc, λ h. absurd (omega arith))
   within (e ∷ es) zero = (λ h. omega arith, λ h. refl)
   within (e ∷ es) (suc k) =
       let ih = within es k in
       (λ h. let i : k < length es = ih.0 h in omega arith, λ h. let i : k < length es = omega arith in ih.1 i)
 
-  pub has_objects : (xs : List (ℕ × V)) (id : ObjId) → IsTrue (has (objects_in items xs) id) ↔ (id.serial < length (at_owner xs id.owner))
+  has_objects : (xs : List (ℕ × V)) (id : ObjId) → IsTrue (has (objects_in items xs) id) ↔ (id.serial < length (at_owner xs id.owner))
   has_objects xs id = subst (λ (r : Option Entry). IsTrue (is_some r) ↔ (id.serial < length (at_owner xs id.owner))) (sym (get_objects xs id)) (within (at_owner xs id.owner) id.serial)
 
   pub serials_objects : (xs : List (ℕ × V)) (id : ObjId) → IsTrue (has (objects_in items xs) id) ↔ (id.serial < (next_number (objects_in items xs) id.owner).serial)
@@ -205,6 +210,20 @@ module _ {V : Type 0} (items : V → List Entry) where
       left ∙ ap (λ b. slice_get (option_map_or items (cond b (Some rows) (lookup (is_at (nat_cmp id.owner)) m)) []) id.serial) (tied ∙ t)
       ∙ sym (get_objects m id)))
 
+  -- one owner's objects are others now, or none; the rest are the same
+  pub changed : (m n : List (ℕ × V)) (owner : ℕ) (now : Option V) → ((q : ℕ) → lookup (is_at (nat_cmp q)) n ≡ cond (is_at (nat_cmp owner) q) now (lookup (is_at (nat_cmp q)) m)) → (id : ObjId) → map.get (objects_in items n) id ≡ cond (id.owner == owner) (slice_get (option_map_or items now []) id.serial) (map.get (objects_in items m) id)
+  unfolding at_owner
+  changed m n owner now h id =
+      get_objects n id
+      ∙ ap (λ (r : Option V). slice_get (option_map_or items r []) id.serial) (h id.owner)
+      ∙ ap (λ b. slice_get (option_map_or items (cond b now (lookup (is_at (nat_cmp id.owner)) m)) []) id.serial)
+      (unsigned_tied owner id.owner ∙ eq_turned owner id.owner)
+      ∙ by (id.owner == owner)
+    where
+      by : (b : Bool) → slice_get (option_map_or items (cond b now (lookup (is_at (nat_cmp id.owner)) m)) []) id.serial ≡ cond b (slice_get (option_map_or items now []) id.serial) (map.get (objects_in items m) id)
+      by true = refl
+      by false = sym (get_objects m id)
+
   -- what an owner's list says of its objects
   pub owned : (xs : List (ℕ × V)) (owner : ℕ) (es : List Entry) → at_owner xs owner ≡ es → (id : ObjId) → id.owner ≡ owner → map.get (objects_in items xs) id ≡ slice_get es id.serial
   owned xs owner es h id o = get_objects xs id ∙ ap (λ w. slice_get (at_owner xs w) id.serial) o ∙ ap (λ l. slice_get l id.serial) h
@@ -239,18 +258,18 @@ module _ {V : Type 0} (items : V → List Entry) where
       let far : q ≡ 0 → ⊥ = λ z. let t : (owner == q) ≡ true = eq-eqb owner q (o ∙ sym z) in cc in
       others_after rows xs q far ∙ sym (others_after first xs q far) ∙ sym (ap (λ b. cond b (Some rows) (lookup (is_at (nat_cmp q)) ((0, first) ∷ xs))) (tied ∙ e)))
 
-  -- another is written
-  pub other_written : (first rows : V) (m n : List (ℕ × V)) (owner : ℕ) → (owner ≡ 0 → ⊥) → ((q : ℕ) → lookup (is_at (nat_cmp q)) n ≡ cond (is_at (nat_cmp owner) q) (Some rows) (lookup (is_at (nat_cmp q)) m)) → (q : ℕ) → lookup (is_at (nat_cmp q)) ((0, first) ∷ n) ≡ cond (is_at (nat_cmp owner) q) (Some rows) (lookup (is_at (nat_cmp q)) ((0, first) ∷ m))
-  other_written first rows m n owner o h q =
+  -- another is written, or taken out
+  pub other_written : (first : V) (now : Option V) (m n : List (ℕ × V)) (owner : ℕ) → (owner ≡ 0 → ⊥) → ((q : ℕ) → lookup (is_at (nat_cmp q)) n ≡ cond (is_at (nat_cmp owner) q) now (lookup (is_at (nat_cmp q)) m)) → (q : ℕ) → lookup (is_at (nat_cmp q)) ((0, first) ∷ n) ≡ cond (is_at (nat_cmp owner) q) now (lookup (is_at (nat_cmp q)) ((0, first) ∷ m))
+  other_written first now m n owner o h q =
       let tied : is_at (nat_cmp owner) q ≡ (owner == q) = unsigned_tied owner q in
       by_bool (q == 0)
       (λ e.
       let z : q ≡ 0 = eqb-true q 0 e in
       let far : (owner == q) ≡ false = apart_from owner q (λ t. o (t ∙ z)) in
-      zero_first first n q z ∙ sym (ap (λ b. cond b (Some rows) (lookup (is_at (nat_cmp q)) ((0, first) ∷ m))) (tied ∙ far) ∙ zero_first first m q z))
+      zero_first first n q z ∙ sym (ap (λ b. cond b now (lookup (is_at (nat_cmp q)) ((0, first) ∷ m))) (tied ∙ far) ∙ zero_first first m q z))
       (λ e.
       let far : q ≡ 0 → ⊥ = λ z. let t : (q == 0) ≡ true = eq-eqb q 0 z in cc in
-      others_after first n q far ∙ h q ∙ ap (λ r. cond (is_at (nat_cmp owner) q) (Some rows) r) (sym (others_after first m q far)))
+      others_after first n q far ∙ h q ∙ ap (λ r. cond (is_at (nat_cmp owner) q) now r) (sym (others_after first m q far)))
 
   -- of no lists
   pub nothing : (first : V) (xs : List (ℕ × V)) → items first ≡ [] → xs ≡ [] → objects_in items ((0, first) ∷ xs) ≡ map.empty
@@ -259,8 +278,6 @@ module _ {V : Type 0} (items : V → List Entry) where
       (λ t. at_found ((0, first) ∷ xs) id.owner first (zero_first first xs id.owner (eqb-true id.owner 0 t)) ∙ f)
       (λ t. at_missing ((0, first) ∷ xs) id.owner (at_zero first xs id.owner false t ∙ ap (λ l. lookup (is_at (nat_cmp id.owner)) l) e)) in
       get_objects ((0, first) ∷ xs) id ∙ ap (λ l. slice_get l id.serial) none ∙ sym (map.get-empty obj_cmp id))
-
--- ---- answers
 
 -- ---- tests
 

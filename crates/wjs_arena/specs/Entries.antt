@@ -1,5 +1,5 @@
 -- The arena as contracts see it: a finite map from the numbers of objects.
-use Rattle.std.specs.Prelude.{◌≡◌, ℕ, ◌+◌, ◌<◌, max, ◌==◌, Bool, Option, None, Some, IsTrue, ◌↔◌}
+use Rattle.std.specs.Prelude.{◌≡◌, ℕ, ◌+◌, ◌<◌, max, ◌==◌, Bool, not, ◌++◌, Option, None, Some, IsTrue, ◌↔◌}
 use Rattle.std.specs.Option.{option_and_then, option_map_or}
 use Rattle.std.specs.FinMap as map
 use Rattle.std.specs.FinMap.{FinMap}
@@ -47,6 +47,14 @@ depth_of arena (Some id) = depth_at arena id
 abbrev pub objects_of : Objects → ℕ → Objects
 objects_of arena owner = map.retain_keys arena (λ id. id.owner == owner)
 
+-- those of all others
+abbrev pub others_of : Objects → ℕ → Objects
+others_of arena owner = map.retain_keys arena (λ id. not (id.owner == owner))
+
+-- the objects of both, where those of the first come first
+abbrev pub joined : Objects → Objects → Objects
+joined arena more = map.from_entries (map.entries arena ++ map.entries more)
+
 -- the number of the owner's next object: the count of those that it has
 abbrev pub next_number : Objects → ℕ → ObjId
 next_number arena owner = record { owner = owner; serial = map.len (objects_of arena owner) }
@@ -80,6 +88,14 @@ pub record IsArena (arena : Objects) : Type 0 where
   pub scopes : (o p : ObjId) → scope_of arena o ≡ Some p → IsBelow arena p (depth_at arena o)
   -- at most one object stands for a world
   pub one_object : (a b : ObjId) (world : WorldId) → world_of arena a ≡ Some world → world_of arena b ≡ Some world → a ≡ b
+
+-- a world that an object stands for has the object's owner
+abbrev pub WorldsAreOwn : Objects → Type 0
+WorldsAreOwn arena = (o : ObjId) (world : WorldId) → world_of arena o ≡ Some world → world.owner ≡ o.owner
+
+-- no object of the first has the owner of one of the second
+abbrev pub NoOwnerInCommon : Objects → Objects → Type 0
+NoOwnerInCommon one two = (a b : ObjId) → IsTrue (has one a) → IsTrue (has two b) → ¬ (a.owner ≡ b.owner)
 
 -- each object that was there is there as it was
 abbrev pub Keeps : Objects → Objects → Type 0

@@ -1,8 +1,12 @@
 //! The arena: objects, fixed once made.
-ghost use Rattle.std.specs.Prelude.{◌≡◌, ◌↔◌, ◌<◌, ◌+◌, max, OnOk, OnErr, IfOk, IfSome, IfNone, IsTrue, Some, None};
+ghost use Rattle.std.specs.Prelude.{◌≡◌, ◌↔◌, ◌<◌, ◌+◌, ◌==◌, cond, max, slice_get, OnOk, OnErr, IfOk, IfSome, IfNone, IsTrue, Some, None};
+ghost use Rattle.std.specs.BTreeMap.{get};
 ghost use Rattle.std.specs.FinMap as map;
+ghost use Rattle.wjs_base.specs.Order.{world_cmp};
 ghost use Rattle.wjs_base.specs.declared.ids.ObjId.{ObjId};
-ghost use Rattle.wjs_arena.specs.Entries.{has, IsThere, IsArena, Keeps, created, entry_over, next_number, world_of, depth_of};
+ghost use Rattle.wjs_base.specs.declared.ids.WorldId.{WorldId};
+ghost use Rattle.wjs_arena.specs.Entries.{has, IsThere, IsArena, WorldsAreOwn, NoOwnerInCommon, Keeps, created, entry_over, next_number, objects_of};
+ghost use Rattle.wjs_arena.specs.Entries.{others_of, joined, world_of, depth_of};
 ghost use Rattle.wjs_arena.specs.Chains.{fixed, flags, flags_in};
 ghost use Rattle.wjs_arena.specs.Kept.{with_world, without_world};
 
@@ -13,6 +17,7 @@ use crate::rows::Rows;
 use crate::under::find;
 use crate::worlds::Worlds;
 use std::alloc::Global;
+use std::collections::BTreeMap;
 use std::marker::Model;
 use wjs_base::{Name, ObjId, OutOfMemory, Value, WorldId};
 
@@ -38,6 +43,30 @@ impl Model for Arena {
     ghost view = { λ a. a.rows };
 
     ghost invariant = { λ a. IsKept a.rows a.worlds };
+}
+
+/// An owner's objects, taken out of an arena. Contracts see them by their numbers.
+#[derive(Drop)]
+pub struct Owned {
+    owner: u32,
+    rows: Vec<Packed>,
+    worlds: BTreeMap<WorldId, ObjId>,
+}
+
+impl Model for Owned {
+    ghost use Rattle.std.specs.FinMap as map;
+    ghost use Rattle.wjs_arena.specs.Entries.{Objects};
+    ghost use Rattle.wjs_base.specs.Codes.{coded_object};
+    ghost use Rattle.wjs_arena.specs.Codes.{coded_entry};
+    ghost use Rattle.wjs_arena.specs.Kept.{owned_objects, IsOwned};
+
+    ghost Value = { Objects };
+
+    ghost coded = { map.code coded_object coded_entry };
+
+    ghost view = { λ o. owned_objects o.owner o.rows.items };
+
+    ghost invariant = { λ o. IsOwned o.owner (owned_objects o.owner o.rows.items) o.worlds };
 }
 
 impl Arena {
@@ -195,6 +224,42 @@ impl Arena {
         }
     }
 
+    /// Takes out an owner's objects. None of them is the prototype or the scope of another's, and each world that an object stands
+    /// for is its owner's.
+    pub fn take(&mut self, owner: u32) -> Owned
+        requires others { IsArena (others_of self.old owner) }
+        requires worlds { WorldsAreOwn self.old }
+        ensures taken { result ≡ objects_of self.old owner }
+        ensures left { self.new ≡ others_of self.old owner }
+    {
+        let rows = self.rows.take(owner);
+        let worlds = self.worlds.take(owner);
+        Owned {
+            owner,
+            rows,
+            worlds,
+        }
+    }
+
+    /// Puts an owner's objects back, of whom there are none, where with them it is an arena; after a refusal nothing has changed.
+    pub fn put(&mut self, owned: Owned) -> Result<(), OutOfMemory>
+        requires apart { NoOwnerInCommon self.old owned }
+        requires arena { IsArena (joined self.old owned) }
+        requires worlds { WorldsAreOwn self.old }
+        ensures ok { OnOk result (self.new ≡ joined self.old owned) }
+        ensures err { OnErr result (self.new ≡ self.old) }
+    {
+        let Owned {
+            owner,
+            rows,
+            worlds,
+        } = owned;
+        if rows.as_slice().is_empty() {
+            return Ok(());
+        }
+        put_owned(&mut self.rows, &mut self.worlds, owner, rows, worlds)
+    }
+
     fn depth_of(&self, id: Option<ObjId>) -> u64
         requires { IsThere self.now id }
         ensures { result ≡ depth_of self.now id }
@@ -260,6 +325,30 @@ fn put(
         Ok(()) => Ok(()),
         Err(_) => {
             forget(worlds, world);
+            Err(OutOfMemory)
+        }
+    }
+}
+
+/// Puts an owner's objects, of whom there are none, and those of its worlds; after a refusal nothing has changed.
+fn put_owned(
+    rows: &mut Rows,
+    worlds: &mut Worlds,
+    owner: u32,
+    list: Vec<Packed>,
+    tree: BTreeMap<WorldId, ObjId>,
+) -> Result<(), OutOfMemory>
+    requires { (w : WorldId) → w.owner ≡ owner → map.get worlds.old w ≡ None }
+    ensures rows { OnOk result ((id : ObjId) → map.get rows.new id ≡ cond (id.owner == owner) (slice_get list.items id.serial) (map.get rows.old id)) }
+    ensures worlds { OnOk result ((w : WorldId) → map.get worlds.new w ≡ cond (w.owner == owner) (get world_cmp tree w) (map.get worlds.old w)) }
+    ensures rows_err { OnErr result (rows.new ≡ rows.old) }
+    ensures worlds_err { OnErr result (worlds.new ≡ worlds.old) }
+{
+    worlds.put(owner, tree)?;
+    match rows.put(owner, list) {
+        Ok(()) => Ok(()),
+        Err(_) => {
+            let _ = worlds.take(owner);
             Err(OutOfMemory)
         }
     }

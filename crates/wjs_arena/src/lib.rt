@@ -1,4 +1,5 @@
-//! Objects as they are in all worlds: what is fixed when they are made, in an arena that only grows.
+//! Objects as they are in all worlds: what is fixed when they are made, in an arena that only grows, except that an owner's objects can
+//! be taken out together.
 #![tactic(auto)]
 
 mod arena;
@@ -16,7 +17,7 @@ mod rows;
 mod under;
 mod worlds;
 
-pub use arena::Arena;
+pub use arena::{Arena, Owned};
 pub use chain::Chain;
 pub use class::Class;
 pub use entry::Entry;

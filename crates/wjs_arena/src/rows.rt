@@ -1,5 +1,5 @@
 //! Objects by number: for each owner those that it has, by serial.
-ghost use Rattle.std.specs.Prelude.{◌≡◌, ◌<◌, ◌↔◌, ◌++◌, ◌∷◌, [], OnOk, OnErr, IsTrue, Some, length, slice_get};
+ghost use Rattle.std.specs.Prelude.{◌≡◌, ◌<◌, ◌==◌, ◌↔◌, ◌++◌, ◌∷◌, [], cond, OnOk, OnErr, IsTrue, None, Some, length, slice_get};
 ghost use Rattle.std.specs.FinMap as map;
 ghost use Rattle.wjs_base.specs.declared.ids.ObjId.{ObjId};
 ghost use Rattle.wjs_arena.specs.Entries.{has, next_number};
@@ -9,6 +9,7 @@ use crate::packed::Packed;
 use std::alloc::Global;
 use std::collections::BTreeMap;
 use std::marker::Model;
+use std::mem;
 use wjs_base::{ObjId, OutOfMemory};
 
 /// The objects of each owner. Contracts see the finite map of all of them.
@@ -105,6 +106,33 @@ impl Rows {
             Some(rows) => push_last(rows, entry),
             None => push_first(self.alloc, &mut self.owners, owner, entry),
         }
+    }
+
+    /// Takes out an owner's objects, by serial.
+    pub fn take(&mut self, owner: u32) -> Vec<Packed>
+        ensures taken { (id : ObjId) → id.owner ≡ owner → slice_get result.items id.serial ≡ map.get self.old id }
+        ensures left { (id : ObjId) → map.get self.new id ≡ cond (id.owner == owner) None (map.get self.old id) }
+    {
+        if owner == 0 {
+            return mem::replace(&mut self.first, Vec::new(self.alloc));
+        }
+        if let Some(rows) = self.owners.remove(&owner) {
+            return rows;
+        }
+        Vec::new(self.alloc)
+    }
+
+    /// Puts an owner's objects, by serial, in place of those that there are; after a refusal nothing has changed.
+    pub fn put(&mut self, owner: u32, rows: Vec<Packed>) -> Result<(), OutOfMemory>
+        ensures ok { OnOk result ((id : ObjId) → map.get self.new id ≡ cond (id.owner == owner) (slice_get rows.items id.serial) (map.get self.old id)) }
+        ensures err { OnErr result (self.new ≡ self.old) }
+    {
+        if owner == 0 {
+            self.first = rows;
+            return Ok(());
+        }
+        self.owners.insert(owner, rows)?;
+        Ok(())
     }
 }
 

@@ -12,7 +12,7 @@ use wjs_base::{OutOfMemory, Value};
 use wjs_frames::{Part, enter, finish, hold, nest};
 use wjs_heap_steps::value_of;
 use wjs_model::{Completion, Config, ExprPoint, Frame, Held, Point, Reference, Start};
-use wjs_operators::quick;
+use wjs_quick::{calculated, quick};
 use wjs_step_common::{held_reference, held_value, store_and_give};
 use wjs_store::WorldStore;
 use wjs_tree::{AssignOperator, BinaryOperator, Node, NodeId};
@@ -68,7 +68,7 @@ fn assign_plain<S: WorldStore>(
     ensures { GoesOn S.meaning frame config.old config.new result (λ t env.
         Eval (AtExpr right.0) env (then_value (line.assign_value (reference_in t reference) env))) }
 {
-    match wjs_quick::quick(config, &frame, Part::Expr(right)) {
+    match quick(config, &frame, Part::Expr(right)) {
         Some(value) => store_and_give(config, frame, reference, value, value),
         None => enter_assigned(config, frame, right, reference),
     }
@@ -131,7 +131,7 @@ fn compound_old<S: WorldStore>(
     ensures { GoesOn S.meaning frame config.old config.new result (λ t env.
         line.compound_old operator right.0 (reference_in t reference) env (value_in t old)) }
 {
-    match wjs_quick::quick(config, &frame, Part::Expr(right)) {
+    match quick(config, &frame, Part::Expr(right)) {
         Some(value) => compound_both(config, frame, operator, reference, old, value),
         None => enter_right(config, frame, operator, right, reference, old),
     }
@@ -211,7 +211,7 @@ fn compound_both<S: WorldStore>(
     ensures { GoesOn S.meaning frame config.old config.new result (λ t env.
         line.compound_value operator (value_in t old) (reference_in t reference) env (value_in t value)) }
 {
-    match quick(operator, old, value) {
+    match calculated(operator, old, value) {
         Some(number) => {
             let stored = Value::Number(number);
             store_and_give(config, frame, reference, stored, stored)

@@ -55,7 +55,7 @@ module _ (part : List ℕ) (at : ℕ) where
       ∙ ap (λ bs. bs ++ z ∷ []) (append_assoc t (w ∷ x ∷ []) (y ∷ []))
       ∙ append_assoc t (w ∷ x ∷ y ∷ []) (z ∷ [])
 
-  pub drop_four : at + 3 < length part → drop at part ≡ four_at ++ drop (at + 4) part
+  drop_four : at + 3 < length part → drop at part ≡ four_at ++ drop (at + 4) part
   drop_four within =
       drop_next at (at + 1) refl (omega arith)
       ∙ ap (λ bs. get_or part at 0 ∷ bs) (drop_next (at + 1) (at + 2) (omega arith) (omega arith)

@@ -32,7 +32,7 @@ pub kept_fresh : (m : Meaning) → ((v : View) → IsTrue (m.admits v) → m.ful
 kept_fresh m same = record { right = refl; worlds = same; unnumbered = All-nil (λ (x : Entry). x.line ≡ 0) }
 
 -- one deed more
-pub kept_more : (old new : Meaning) (log : List Entry) (e : Entry) → IsKept old log → IsTrue (not old.spent) → Does old (act_of (action_of e.deed)) (reply_of_deed e.deed) new → (IsTrue (not new.spent) → IsSound new) → IsTrue (has_world (store.worlds old) (world_of (act_of (action_of e.deed)))) → e.line ≡ 0 → IsKept new (log ++ e ∷ [])
+kept_more : (old new : Meaning) (log : List Entry) (e : Entry) → IsKept old log → IsTrue (not old.spent) → Does old (act_of (action_of e.deed)) (reply_of_deed e.deed) new → (IsTrue (not new.spent) → IsSound new) → IsTrue (has_world (store.worlds old) (world_of (act_of (action_of e.deed)))) → e.line ≡ 0 → IsKept new (log ++ e ∷ [])
 kept_more old new log e kept works does sound there zero =
     let F = after_all fresh (actions_of log) in
     let a = action_of e.deed in
@@ -53,7 +53,7 @@ kept_more old new log e kept works does sound there zero =
     }
 
 -- what the inner store does the store does that tells it
-pub told_did : (m new : Meaning) (log : List Entry) (e : Entry) (spent still : Bool) → still ≡ spent → Does m (act_of (action_of e.deed)) (reply_of_deed e.deed) new → Does (telling m log spent) (act_of (action_of e.deed)) (reply_of_deed e.deed) (telling new (log ++ e ∷ []) still)
+told_did : (m new : Meaning) (log : List Entry) (e : Entry) (spent still : Bool) → still ≡ spent → Does m (act_of (action_of e.deed)) (reply_of_deed e.deed) new → Does (telling m log spent) (act_of (action_of e.deed)) (reply_of_deed e.deed) (telling new (log ++ e ∷ []) still)
 told_did m new log e spent still same does = record {
   narrows = does.narrows;
   answers = does.answers;
@@ -70,12 +70,12 @@ neither true b h e = h
 neither false true h e = cc
 neither false false h e = h
 
-pub told_works : (m : Meaning) (log : List Entry) (spent : Bool) → spent ≡ false → IsTrue (not m.spent) → IsTrue (not (telling m log spent).spent)
+told_works : (m : Meaning) (log : List Entry) (spent : Bool) → spent ≡ false → IsTrue (not m.spent) → IsTrue (not (telling m log spent).spent)
 told_works m log spent e works = neither m.spent spent works e
 
 -- what a call of the store leaves, by what the inner one answered
 module _ {S : Type 0} (mean : S → Meaning) (inside now after : Recorded S) (view_is : inside ≡ now) where
-  pub is_there : (w : WorldId) → IsTrue (has_world (store.worlds (telling (mean now.inner) now.log now.spent)) w) → IsTrue (has_world (store.worlds (mean inside.inner)) w)
+  is_there : (w : WorldId) → IsTrue (has_world (store.worlds (telling (mean now.inner) now.log now.spent)) w) → IsTrue (has_world (store.worlds (mean inside.inner)) w)
   is_there w h = ap (λ (r : Recorded S). has_world (store.worlds (mean r.inner)) w) view_is ∙ h
 
   pub logged_did : (e : Entry) → inside.spent ≡ false → after.spent ≡ false → after.log ≡ inside.log ++ e ∷ [] → Does (mean inside.inner) (act_of (action_of e.deed)) (reply_of_deed e.deed) (mean after.inner) × IsTrue (not (mean inside.inner).spent)
@@ -94,14 +94,6 @@ module _ {S : Type 0} (mean : S → Meaning) (inside now after : Recorded S) (vi
       → IsTrue (has_world (store.worlds (telling (mean now.inner) now.log now.spent)) (world_of (act_of (action_of e.deed)))) → after.log ≡ inside.log ++ e ∷ [] → e.line ≡ 0 → IsKept (mean after.inner) after.log
   logged_kept e kept does sound there log zero =
       subst (IsKept (mean after.inner)) (sym log) (kept_more (mean inside.inner) (mean after.inner) inside.log e kept does.1 does.0 sound (is_there (world_of (act_of (action_of e.deed))) there) zero)
-
--- a store that is marked spent is
-pub told_spent : (m : Meaning) (log : List Entry) → IsTrue (telling m log true).spent
-told_spent m log = by m.spent
-  where
-    by : (a : Bool) → IsTrue (a || true)
-    by true = refl
-    by false = refl
 
 -- ---- a listing's names ascend
 

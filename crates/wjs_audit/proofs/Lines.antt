@@ -90,7 +90,7 @@ text_words n units fits is =
     All-cons IsWord (codes "text") (decimal n ∷ hex_parts units) (word_by (codes "text") refl)
     (All-cons IsWord (decimal n) (hex_parts units) (decimal_word n fits) (hex_words units is.sixteen_bits))
 
-pub line_words : (known : Known) (l : Line) → MayFollow known l → AreWords (line_parts l)
+line_words : (known : Known) (l : Line) → MayFollow known l → AreWords (line_parts l)
 line_words known (text n units) h = text_words n units h.fits h.is_text
 line_words known (done d) h = deed_words (knows_in known) d h.fits h.knows
 
@@ -112,7 +112,7 @@ line_by known (done (Sprout w o s c)) (text a us) h k e i = absurd (omega arith)
 line_by known (done (Commit w v)) (text a us) h k e i = absurd (omega arith)
 
 -- lines of the same parts are one
-pub line_parts_one : (known : Known) (l m : Line) → MayFollow known l → MayFollow known m → line_parts l ≡ line_parts m → l ≡ m
+line_parts_one : (known : Known) (l m : Line) → MayFollow known l → MayFollow known m → line_parts l ≡ line_parts m → l ≡ m
 line_parts_one known l m h k e = line_by known l m h k e (ap lead e)
 
 joined_parts_one : (ps qs : List (List ℕ)) → 0 < length ps → 0 < length qs → AreWords ps → AreWords qs → joined ps ≡ joined qs → ps ≡ qs

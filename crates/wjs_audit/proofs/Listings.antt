@@ -70,7 +70,7 @@ pub ascends_last : (names : List Name) (i : ℕ) (last y : Name) → slice_get n
 ascends_last names i last y at h = ascends_at names i last y [] h at
 
 -- names in front ascend
-pub ascends_front : (xs more : List Name) → Ascends name_cmp (xs ++ more) → Ascends name_cmp xs
+ascends_front : (xs more : List Name) → Ascends name_cmp (xs ++ more) → Ascends name_cmp xs
 ascends_front [] more h = tt
 ascends_front (x ∷ xs) more h =
     both_true (below_all name_cmp x (tagged xs)) (map.is_sorted name_cmp (tagged xs)) (below_front x xs more (left_true (below_all name_cmp x (tagged (xs ++ more))) (map.is_sorted name_cmp (tagged (xs ++ more))) h))
@@ -85,7 +85,7 @@ at_seam P xs y ys h =
 
 module _ (knows : TextId → Type 0) where
   -- names whose parts begin with those of others begin with them
-  pub names_front : (xs all : List Name) (rest : List (List ℕ)) → All FitsName xs → All (KnowsName knows) xs → All FitsName all → All (KnowsName knows) all → each name_text xs ++ rest ≡ each name_text all
+  names_front : (xs all : List Name) (rest : List (List ℕ)) → All FitsName xs → All (KnowsName knows) xs → All FitsName all → All (KnowsName knows) all → each name_text xs ++ rest ≡ each name_text all
       → (more : List Name) × (all ≡ xs ++ more) × (rest ≡ each name_text more)
   names_front [] all rest f h g k e = (all, refl, e)
   names_front (x ∷ xs) [] rest f h g k e = cc

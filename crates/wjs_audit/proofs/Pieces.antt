@@ -8,7 +8,7 @@ use Rattle.wjs_audit.specs.Spelling.{spaced}
 use Rattle.wjs_audit.proofs.Words.{lacks_not, cut_one}
 
 -- the bytes around the one at a place
-pub cut_is : (bytes : List ℕ) (byte place : ℕ) → place < length bytes → get_or bytes place 0 ≡ byte → bytes ≡ take place bytes ++ byte ∷ drop (place + 1) bytes
+cut_is : (bytes : List ℕ) (byte place : ℕ) → place < length bytes → get_or bytes place 0 ≡ byte → bytes ≡ take place bytes ++ byte ∷ drop (place + 1) bytes
 cut_is bytes byte place within found =
     sym (take-append-drop place bytes) ∙ ap (λ (bs : List ℕ). take place bytes ++ bs) (drop_more bytes place 0 within ∙ ap (λ (b : ℕ). b ∷ drop (place + 1) bytes) found)
 

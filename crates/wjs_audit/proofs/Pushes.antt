@@ -18,19 +18,12 @@ use Rattle.wjs_audit.specs.Tables.{name_ids, deed_ids, text_line, lines_for, mar
 pub two : (before mid after a b : List ℕ) → mid ≡ before ++ a → after ≡ mid ++ b → after ≡ before ++ (a ++ b)
 two before mid after a b e f = f ∙ ap (λ l. l ++ b) e ∙ append_assoc before a b
 
--- one part, with its space
-pub one_part : (before after part : List ℕ) → after ≡ before ++ 32 ∷ part → after ≡ before ++ spaced (part ∷ [])
-one_part before after part e = e ∙ ap (λ l. before ++ l) (sym (append-nil (32 ∷ part)))
-
-pub more_parts : (before mid after : List ℕ) (ps qs : List (List ℕ)) → mid ≡ before ++ spaced ps → after ≡ mid ++ spaced qs → after ≡ before ++ spaced (ps ++ qs)
-more_parts before mid after ps qs e f = two before mid after (spaced ps) (spaced qs) e f ∙ ap (λ l. before ++ l) (sym (flat_map-append (λ part. 32 ∷ part) ps qs))
-
 pub All-next : {X : Type 0} (P : X → Type 0) (xs : List X) (i : ℕ) (x : X) → slice_get xs i ≡ Some x → All P (take i xs) → P x → All P (take (i + 1) xs)
 All-next P xs i x e h p = All-more P xs i x (slice_get_within xs i x e) h (subst P (sym (get_or_from_slice_get xs i x x e)) p)
 
 module _ {X : Type 0} (f : X → List ℕ) where
   -- the pieces of a list's elements, one element on
-  pub pieces_more : (before mid after : List ℕ) (xs : List X) (x : X) (ys : List X) → mid ≡ before ++ flat_map f xs → after ≡ mid ++ f x → ys ≡ xs ++ x ∷ [] → after ≡ before ++ flat_map f ys
+  pieces_more : (before mid after : List ℕ) (xs : List X) (x : X) (ys : List X) → mid ≡ before ++ flat_map f xs → after ≡ mid ++ f x → ys ≡ xs ++ x ∷ [] → after ≡ before ++ flat_map f ys
   pieces_more before mid after xs x ys e g h = g ∙ ap (λ l. l ++ f x) e ∙ flat_map_more f before xs x ∙ ap (λ zs. before ++ flat_map f zs) (sym h)
 
 pub names_more : (before mid after : List ℕ) (names : List Name) (i : ℕ) (n : Name) → mid ≡ before ++ spaced (each name_text (take i names)) → after ≡ mid ++ 32 ∷ name_text n → slice_get names i ≡ Some n → after ≡ before ++ spaced (each name_text (take (i + 1) names))

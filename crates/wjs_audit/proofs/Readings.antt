@@ -25,7 +25,7 @@ log_none (l ∷ ls) r e =
     absurd (omega (arith, long, same, e))
 
 -- of two logs with the same bytes and what follows them, one is the front of the other
-pub log_two : (known : Known) (ls ks : List Line) (r s : List ℕ) → IsLogFrom known ls → IsLogFrom known ks → log_text ls ++ r ≡ log_text ks ++ s
+log_two : (known : Known) (ls ks : List Line) (r s : List ℕ) → IsLogFrom known ls → IsLogFrom known ks → log_text ls ++ r ≡ log_text ks ++ s
     → ((more : List Line) × (ks ≡ ls ++ more) × (r ≡ log_text more ++ s)) ⊎ ((more : List Line) × (ls ≡ ks ++ more) × (s ≡ log_text more ++ r))
 log_two known [] ks r s h k e = inl (ks, refl, e)
 log_two known (l ∷ ls) [] r s h k e = inr (l ∷ ls, refl, sym e)

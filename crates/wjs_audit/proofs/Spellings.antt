@@ -43,7 +43,7 @@ pub pair_word : (owner serial : ℕ) → FitsPair owner serial → IsWord (pair_
 pair_word owner serial fits =
     All-append (λ b. 32 < b) (decimal owner) (46 ∷ decimal serial) (decimal_word owner (omega (arith, fits.0))) (All-cons (λ b. 32 < b) 46 (decimal serial) (omega arith) (decimal_word serial fits.1))
 
-pub pair_one : (a b c d : ℕ) → FitsPair a b → FitsPair c d → pair_text a b ≡ pair_text c d → (a ≡ c) × (b ≡ d)
+pair_one : (a b c d : ℕ) → FitsPair a b → FitsPair c d → pair_text a b ≡ pair_text c d → (a ≡ c) × (b ≡ d)
 pair_one a b c d f g e =
     let p = cut_one 46 (decimal a) (decimal b) (decimal c) (decimal d) (decimal_lacks a 46 (omega (arith, f.0)) (omega arith)) (decimal_lacks c 46 (omega (arith, g.0)) (omega arith)) e in
     (decimal_injective a c (omega (arith, f.0)) (omega (arith, g.0)) p.0, decimal_injective b d f.1 g.1 p.1)
@@ -92,7 +92,7 @@ small_pos n h = omega (arith, ints, h.1)
 small_neg : (n : ℕ) → InRange (negsuc n) → suc n < 2 ^ 63
 small_neg n h = omega (arith, ints, h.0)
 
-pub number_word : (x : Option ℤ) → IsInRange x → IsWord (number_text x)
+number_word : (x : Option ℤ) → IsInRange x → IsWord (number_text x)
 number_word None h = word_by (codes "n") refl
 number_word (Some (pos n)) h = decimal_word n (let s = small_pos n h in omega (arith, s))
 number_word (Some (negsuc n)) h = All-cons (λ b. 32 < b) 45 (decimal (suc n)) (omega arith) (decimal_word (suc n) (let s = small_neg n h in omega (arith, s)))
@@ -122,7 +122,7 @@ number_one (Some (negsuc m)) (Some (negsuc n)) h k e =
 
 -- ---- contents
 
-pub value_word : (v : Value) → FitsValue v → IsWord (value_text v)
+value_word : (v : Value) → FitsValue v → IsWord (value_text v)
 value_word Undefined f = word_by (codes "u") refl
 value_word Null f = word_by (codes "l") refl
 value_word (Truth true) f = word_by (codes "t") refl
@@ -204,7 +204,7 @@ abbrev pub lead : List (List ℕ) → ℕ
 lead parts = initial (get_or parts 0 [])
 
 module _ (knows : TextId → Type 0) where
-  pub slot_words : (s : Slot) → FitsObject s.object × FitsName s.name → KnowsName knows s.name → AreWords (object_text s.object ∷ name_text s.name ∷ [])
+  slot_words : (s : Slot) → FitsObject s.object × FitsName s.name → KnowsName knows s.name → AreWords (object_text s.object ∷ name_text s.name ∷ [])
   slot_words s f k = All-cons IsWord (object_text s.object) (name_text s.name ∷ []) (pair_word s.object.owner s.object.serial f.0) (All-cons IsWord (name_text s.name) [] (name_word knows s.name f.1 k) (All-nil IsWord))
 
   pub slot_one : (s t : Slot) → FitsObject s.object × FitsName s.name → KnowsName knows s.name → FitsObject t.object × FitsName t.name → KnowsName knows t.name → object_text s.object ≡ object_text t.object → name_text s.name ≡ name_text t.name → s ≡ t
@@ -256,7 +256,7 @@ module _ (u : ℕ) (fits : u < 2 ^ 16) where
   unit_glyphs = λ i.
       hex_one_digit false (u / 4096) (omega arith) i ++ (hex_one_digit false (u / 256 % 16) (omega arith) i ++ (hex_one_digit false (u / 16 % 16) (omega arith) i ++ hex_one_digit false (u % 16) (omega arith) i))
 
-  pub unit_word : IsWord (unit_text u)
+  unit_word : IsWord (unit_text u)
   unit_word =
       All-append (λ b. 32 < b) (digits 16 false (u / 4096)) (digits 16 false (u / 256 % 16) ++ (digits 16 false (u / 16 % 16) ++ digits 16 false (u % 16))) (digit_word (u / 4096) (omega arith))
       (All-append (λ b. 32 < b) (digits 16 false (u / 256 % 16)) (digits 16 false (u / 16 % 16) ++ digits 16 false (u % 16)) (digit_word (u / 256 % 16) (omega arith))
@@ -273,12 +273,12 @@ unit_one u v f g e =
     let d = glyph_one (u % 16) (v % 16) (omega arith) (omega arith) (ap (λ bs. get_or bs 3 0) e) in
     unit_parts u f ∙ (λ i. 4096 * a i + 256 * b i + 16 * c i + d i) ∙ sym (unit_parts v g)
 
-pub hex_word : (units : Units) → AreUnits units → IsWord (hex units)
+hex_word : (units : Units) → AreUnits units → IsWord (hex units)
 hex_word [] h = All-nil (λ b. 32 < b)
 hex_word (u ∷ units) h =
     All-append (λ b. 32 < b) (unit_text u) (hex units) (unit_word u (All-head (λ v. v < 2 ^ 16) u units h)) (hex_word units (All-tail (λ v. v < 2 ^ 16) u units h))
 
-pub hex_one : (us vs : Units) → AreUnits us → AreUnits vs → hex us ≡ hex vs → us ≡ vs
+hex_one : (us vs : Units) → AreUnits us → AreUnits vs → hex us ≡ hex vs → us ≡ vs
 hex_one [] [] f g e = refl
 hex_one [] (v ∷ vs) f g e =
     let p = unit_glyphs v (All-head (λ x. x < 2 ^ 16) v vs g) in

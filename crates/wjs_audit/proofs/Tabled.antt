@@ -134,7 +134,7 @@ module _ (P : TextId → Type 0) where
   ids_of_verdict (Disagrees s) k = ids_of_name s.name k
   ids_of_verdict NoParent k = tt
 
-  pub ids_of_deed : (d : Deed) → KnowsDeed P d → Each P (deed_ids d)
+  ids_of_deed : (d : Deed) → KnowsDeed P d → Each P (deed_ids d)
   ids_of_deed (Read w s c) k = each_append (name_ids s.name) (content_ids c) (ids_of_name s.name k.0) (ids_of_content c k.1)
   ids_of_deed (Write w s c) k = each_append (name_ids s.name) (content_ids c) (ids_of_name s.name k.0) (ids_of_content c k.1)
   ids_of_deed (ListOf w o names) k = ids_of_names names k
@@ -195,10 +195,6 @@ all_marked marks (id ∷ ids) h =
       marked_stays (set marks id.0 true) ids id.0 (let within = h.0 in omega (arith, long, within)) (get_or-set_same marks id.0 true false h.0),
       all_marked (set marks id.0 true) ids (subst (λ (n : ℕ). Each (λ (i : TextId). i.0 < n) ids) (sym long) h.1),
     )
-
-pub marks_long : (marks : List Bool) (ids : List TextId) → length (marks_after marks ids) ≡ length marks
-marks_long marks [] = refl
-marks_long marks (id ∷ ids) = marks_long (set marks id.0 true) ids ∙ length-set marks id.0 true
 
 -- ---- lines of texts
 

@@ -109,7 +109,7 @@ module _ (old new : KnownTexts) (tail : List ℕ) (number : ℕ) (units : Units)
 
 -- ---- the first line of what is left
 
-pub line_end : (l : Line) (behind : List ℕ) → line_text l ++ behind ≡ joined (line_parts l) ++ 10 ∷ behind
+line_end : (l : Line) (behind : List ℕ) → line_text l ++ behind ≡ joined (line_parts l) ++ 10 ∷ behind
 line_end l behind = append_assoc (joined (line_parts l)) (10 ∷ []) behind
 
 pub no_first : (s : KnownTexts) (rest line after : List ℕ) → rest ≡ line ++ 10 ∷ after → Lacks 10 line → ((l : Line) → LineMay s l → line ≡ joined (line_parts l) → ⊥) → (l : Line) (behind : List ℕ) → LineMay s l → rest ≡ line_text l ++ behind → ⊥

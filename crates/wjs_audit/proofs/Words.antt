@@ -31,7 +31,7 @@ decimal_word n fits = All-weaker (λ b. (48 ≤ b) × (b ≤ 57)) (λ b. 32 < b)
 pub decimal_lacks : (n c : ℕ) → n < 2 ^ 64 → c < 48 → Lacks c (decimal n)
 decimal_lacks n c fits low = All-weaker (λ b. (48 ≤ b) × (b ≤ 57)) (λ b. b ≢ c) (λ b h e. omega (arith, h.0)) (decimal n) (decimal_digits n fits)
 
-pub word_lacks : (c : ℕ) (part : List ℕ) → c ≤ 32 → IsWord part → Lacks c part
+word_lacks : (c : ℕ) (part : List ℕ) → c ≤ 32 → IsWord part → Lacks c part
 word_lacks c part low h = All-weaker (λ b. 32 < b) (λ b. b ≢ c) (λ b above e. omega arith) part h
 
 -- ---- cut at a byte
@@ -53,7 +53,7 @@ cut_one c (x ∷ xs) ys (u ∷ us) bs h k e =
 
 -- ---- parts of a line
 
-pub spaced_lacks : (parts : List (List ℕ)) → AreWords parts → Lacks 10 (spaced parts)
+spaced_lacks : (parts : List (List ℕ)) → AreWords parts → Lacks 10 (spaced parts)
 spaced_lacks [] h = All-nil (λ b. b ≢ 10)
 spaced_lacks (part ∷ parts) h =
     All-append (λ b. b ≢ 10) (32 ∷ part) (spaced parts)

@@ -11,7 +11,6 @@ use crate::fault::AuditFault;
 use crate::log::Log;
 use crate::same::is_same;
 use std::alloc::Global;
-use wjs_base::OutOfMemory;
 use wjs_full::{FullStore, act};
 use wjs_store::WorldStore;
 
@@ -24,15 +23,11 @@ fn judge<S: WorldStore>(store: &mut S, entry: &Entry) -> Result<(), AuditFault>
         → ¬ (answer_in (worlds (S.meaning store.old)) (action_of entry.now.deed) ≡ answer_of_deed entry.now.deed) }
     ensures never { (n : ℕ) → ¬ (IsErrOf result (AuditFault.NotALog n)) }
 {
-    match act(store, entry.deed.action()) {
-        Ok(answer) => {
-            if is_same(&answer, &entry.deed) {
-                return Ok(());
-            }
-            Err(AuditFault::NotTheAnswer { line: entry.line })
-        }
-        Err(OutOfMemory) => Err(AuditFault::OutOfMemory),
+    let answer = act(store, entry.deed.action())?;
+    if is_same(&answer, &entry.deed) {
+        return Ok(());
     }
+    Err(AuditFault::NotTheAnswer { line: entry.line })
 }
 
 /// The first entry whose answer isn't the full-copy machine's, from the fresh state on: NotTheAnswer comes exactly where
@@ -63,8 +58,6 @@ pub fn audit(alloc: Global, log: &Log) -> Result<(), AuditFault>
     ensures wrong { (n : ℕ) → IsErrOf result (AuditFault.NotTheAnswer n) → WrongAt log.now n }
     ensures never { (n : ℕ) → ¬ (IsErrOf result (AuditFault.NotALog n)) }
 {
-    match FullStore::new(alloc) {
-        Ok(store) => audit_in(store, log),
-        Err(OutOfMemory) => Err(AuditFault::OutOfMemory),
-    }
+    let store = FullStore::new(alloc)?;
+    audit_in(store, log)
 }

@@ -1,5 +1,9 @@
 //! Why a log is refused.
 
+ghost use Rattle.std.specs.Prelude.{◌≡◌};
+
+use wjs_base::OutOfMemory;
+
 /// Why bytes are no log, or a log is not the machine's.
 #[derive(Clone, Copy, Debug, PartialEq, Eq)]
 pub enum AuditFault {
@@ -8,4 +12,14 @@ pub enum AuditFault {
     /// The line of the first entry whose answer is not the full-copy machine's.
     NotTheAnswer { line: u64 },
     OutOfMemory,
+}
+
+impl From<OutOfMemory> for AuditFault {
+    ghost use Rattle.wjs_audit.specs.declared.fault.AuditFault.TheVariants.{OutOfMemory};
+
+    ghost from_gives = { λ _ fault. fault ≡ OutOfMemory };
+
+    fn from(_: OutOfMemory) -> Self {
+        AuditFault::OutOfMemory
+    }
 }

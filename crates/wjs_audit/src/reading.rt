@@ -107,10 +107,7 @@ pub fn read_log(alloc: Global, bytes: &[u8]) -> Result<Log, AuditFault>
     ensures breaks { (n : ℕ) → IsErrOf result (AuditFault.NotALog n) → BreaksAt bytes.now n }
     ensures never { (n : ℕ) → ¬ (IsErrOf result (AuditFault.NotTheAnswer n)) }
 {
-    let mut reading = match Reading::new(alloc) {
-        Ok(reading) => reading,
-        Err(OutOfMemory) => return Err(AuditFault::OutOfMemory),
-    };
+    let mut reading = Reading::new(alloc)?;
     let mut rest = bytes;
     let mut line: u64 = 0;
     while !rest.is_empty() {

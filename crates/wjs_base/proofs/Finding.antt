@@ -1,5 +1,5 @@
 -- Texts that are found by their keys.
-use Rattle.std.proofs.Common.{◌≡◌, ℕ, suc, ◌+◌, ◌<◌, ◌≤◌, ◌⊎◌, ⊎_elim, inl, inr, Bool, true, false, cond, [], ◌∷◌, ◌++◌, Option, None, Some, length, map, slice_get, IsSome, is_some, refl, sym, ap, subst, ◌∙◌, true≢false, arith, append-nil}
+use Rattle.std.proofs.Common.{◌≡◌, ℕ, suc, ◌+◌, ◌<◌, ◌≤◌, ◌⊎◌, ⊎_elim, inr, Bool, true, false, cond, [], ◌∷◌, ◌++◌, Option, None, Some, length, map, slice_get, IsSome, is_some, refl, sym, ap, subst, ◌∙◌, true≢false, arith, append-nil}
 use Rattle.std.proofs.lemmas.Bool.{cases_Bool, cases_lt, cases_order}
 use Rattle.std.proofs.lemmas.List.{length-map, map_push}
 use Rattle.std.proofs.lemmas.List.Elements.{All-push}
@@ -18,7 +18,7 @@ use Rattle.wjs_base.specs.Spans.{units_in, IsWithin, Stands}
 use Rattle.wjs_base.specs.Text.{Units, Table, Denotes, IsText, IsTable, Grows, Interns}
 use Rattle.wjs_base.proofs.Lists.{get_last, get_pushed}
 
-pub same_key_laws : IsEquivalence same_key
+same_key_laws : IsEquivalence same_key
 same_key_laws = and_equiv (on_equiv (λ (k : Key). k.hash) nat_eq_equiv) (on_equiv (λ (k : Key). k.turn) nat_eq_equiv)
 
 -- a key that is there is there with an entry more
@@ -30,7 +30,7 @@ some_more test (e ∷ es) more is = ⊎_elim
     (cases_Bool (test e.0))
 
 -- a table with a text more, which it had not
-pub table_more : (table : Table) (units : Units) → IsTable table → IsText units → ((id : TextId) → Denotes table id units → ⊥) → IsTable (table ++ units ∷ [])
+table_more : (table : Table) (units : Units) → IsTable table → IsText units → ((id : TextId) → Denotes table id units → ⊥) → IsTable (table ++ units ∷ [])
 table_more table units is text none = record {
   are_texts = All-push IsText table units is.are_texts text;
   one_number = λ a b us at other. ⊎_elim
@@ -51,7 +51,7 @@ module _ (buffers : Table) (entries : Entries) where
   text_at place entry at = slice_get-map (λ (e : Key × Span). units_in buffers e.1) entries place ∙ ap (option_map (λ (e : Key × Span). units_in buffers e.1)) at
 
   -- the entry of a text
-  pub entry_of : (place : ℕ) (units : Units) → slice_get (texts_in buffers entries) place ≡ Some units → (entry : Key × Span) × (slice_get entries place ≡ Some entry) × (units_in buffers entry.1 ≡ units)
+  entry_of : (place : ℕ) (units : Units) → slice_get (texts_in buffers entries) place ≡ Some units → (entry : Key × Span) × (slice_get entries place ≡ Some entry) × (units_in buffers entry.1 ≡ units)
   entry_of place units at = by (slice_get entries place) refl
     where
       by : (r : Option (Key × Span)) → slice_get entries place ≡ r → (entry : Key × Span) × (slice_get entries place ≡ Some entry) × (units_in buffers entry.1 ≡ units)
@@ -188,7 +188,3 @@ module _ (old new : Table) (stands : Stands old new) where
             (ap (slice_get (texts_in old entries ++ units ∷ [])) (number ∙ sym (length-map entries (λ (e : Key × Span). units_in old e.1))) ∙ get_last (texts_in old entries) units);
         table = inr texts_more;
       }
-
--- a text that is there
-pub interned_already : (table : Table) (units : Units) (id : TextId) → Denotes table id units → Interns table table units id
-interned_already table units id at = record { denotes = at; table = inl refl }

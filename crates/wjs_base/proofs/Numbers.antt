@@ -8,6 +8,9 @@ equal_from_test a b h = grind (arith, nat_tests)
 pub test_from_equal : (a b : ℕ) → a ≡ b → (a == b) ≡ true
 test_from_equal a b h = grind (arith, nat_tests)
 
+pub equals_itself : (a : ℕ) → (a == a) ≡ true
+equals_itself a = grind (arith, nat_tests)
+
 pub of_le : (a b : ℕ) → a ≤ b → nat_le a b ≡ true
 of_le a b h = grind (arith, nat_tests)
 

@@ -18,6 +18,13 @@ none_of (Some a) h = absurd (true≢false h)
 pub no_none : {A P : Type 0} (a : A) → None ≡ Some a → P
 no_none a h = cc
 
+-- what is there is one thing
+pub same_there : {A : Type 0} (o : Option A) (a b : A) → o ≡ Some a → o ≡ Some b → a ≡ b
+same_there o a b p q = cc
+
+pub none_there : {A : Type 0} (o : Option A) (a : A) → o ≡ None → o ≡ Some a → ⊥
+none_there o a p q = cc
+
 -- a function leaves whether something is there
 pub some_map : {A B : Type 0} (f : A → B) (o : Option A) → is_some (option_map f o) ≡ is_some o
 some_map f None = refl

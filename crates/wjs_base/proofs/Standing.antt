@@ -1,7 +1,7 @@
 -- Texts that stand in buffers.
-use Rattle.std.proofs.Common.{◌≡◌, ℕ, zero, suc, ◌+◌, ◌-◌, ◌^◌, ◌<◌, ◌≤◌, ◌≢◌, ◌↔◌, Bool, true, false, cond, List, [], ◌∷◌, ◌++◌, length, map, take, drop, set, get_or, refl, sym, ap, subst, ◌∙◌, ⊎_elim, arith, append-nil, length-append, length-drop, length-set, length-take-le, take-append-drop, take-take, take_all, take_at, drop_at, get_or-set_same, get_or-set_other, Fits, w16, Vec, Global}
+use Rattle.std.proofs.Common.{◌≡◌, ℕ, zero, suc, ◌+◌, ◌-◌, ◌^◌, ◌<◌, ◌≤◌, ◌≢◌, ◌↔◌, Bool, true, false, cond, List, [], ◌++◌, length, map, take, drop, set, get_or, refl, sym, ap, subst, ◌∙◌, ⊎_elim, arith, append-nil, length-append, length-drop, length-set, length-take-le, take-append-drop, take_all, take_at, drop_at, get_or-set_same, get_or-set_other, Fits, w16, Vec, Global}
 use Rattle.std.proofs.lemmas.Bool.{cases_eq}
-use Rattle.std.proofs.lemmas.List.{drop-append-le, get_or_append_left, get_or_push, get_or-map, length-map, length_push, map-set, map_push, take-append-le}
+use Rattle.std.proofs.lemmas.List.{drop-append-le, get_or-map, length-map, map-set, take-append-le}
 use Rattle.std.proofs.lemmas.List.Elements.{All-append, All-from_get_or}
 use Rattle.std.proofs.Math.Facts.{Fits-lt-pow}
 use Rattle.std.specs.Prelude.{slice_range}
@@ -34,21 +34,8 @@ module _ (buffers : Table) where
       let same : span.start + span.len - span.start ≡ span.len = omega arith in
       length-take-le (span.start + span.len - span.start) (drop span.start (buffer_of buffers span)) room ∙ same
 
-  pub last_within : (span : Span) → IsLast buffers span → IsWithin buffers span
-  last_within span last = record { buffer = last.buffer; units = omega (arith, last.end) }
-
   pub stands_still : Stands buffers buffers
   stands_still = record { within = λ span w. w; units = λ span w. refl }
-
-  -- an empty text
-  pub no_units : (span : Span) → span.len ≡ 0 → units_in buffers span ≡ []
-  no_units span none = ap (λ (n : ℕ). take n (drop span.start (buffer_of buffers span))) {y = 0} (omega (arith, none))
-
-pub stands_on : (a b c : Table) → Stands a b → Stands b c → Stands a c
-stands_on a b c s t = record {
-  within = λ span w. t.within span (s.within span w);
-  units = λ span w. t.units span (s.within span w) ∙ s.units span w;
-}
 
 -- units put behind those of a buffer
 module _ (buffers : Table) (place : ℕ) (more : Units) (there : place < length buffers) where
@@ -62,7 +49,7 @@ module _ (buffers : Table) (place : ℕ) (more : Units) (there : place < length 
       (λ ne. ([], get_or-set_other buffers place other (get_or buffers place [] ++ more) [] ne ∙ sym (append-nil (get_or buffers other []))))
       (cases_eq other place)
 
-  pub append_stands : Stands buffers longer
+  append_stands : Stands buffers longer
   append_stands = record {
     within = λ span w.
         let g = grown span.buffer in
@@ -82,39 +69,16 @@ module _ (buffers : Table) (place : ℕ) (more : Units) (there : place < length 
     long : length (buffer_of longer new) ≡ span.start + span.len + length more
     long = ap (λ (us : Units). length us) held ∙ length-append (get_or buffers place []) more ∙ ap (λ (n : ℕ). n + length more) (sym end)
 
-    pub append_within : IsWithin longer new
+    append_within : IsWithin longer new
     append_within = record { buffer = omega (arith, length-set buffers place (get_or buffers place [] ++ more), same, there); units = omega (arith, long, start, len) }
 
-    pub append_units : units_in longer new ≡ units_in buffers span ++ more
+    append_units : units_in longer new ≡ units_in buffers span ++ more
     append_units =
         let all : units_in longer new ≡ drop new.start (buffer_of longer new) = part_last (buffer_of longer new) new.start (new.start + new.len) (omega (arith, long, start, len)) in
         let old : units_in buffers span ≡ drop span.start (get_or buffers place []) =
         ap (λ (n : ℕ). slice_range (get_or buffers n []) span.start (span.start + span.len)) buffer ∙ part_last (get_or buffers place []) span.start (span.start + span.len) (omega (arith, end)) in
         all ∙ ap (drop new.start) held ∙ ap (λ (n : ℕ). drop n (get_or buffers place [] ++ more)) start
         ∙ drop-append-le span.start (get_or buffers place []) more (omega (arith, end)) ∙ ap (λ (us : Units). us ++ more) (sym old)
-
--- a buffer put behind the others
-module _ (buffers : Table) (units : Units) where
-  pub push_stands : Stands buffers (buffers ++ units ∷ [])
-  push_stands = record {
-    within = λ span w. record {
-      buffer = omega (arith, length_push buffers units, w.buffer);
-      units = subst (λ (us : Units). span.start + span.len ≤ length us) (sym (get_or_append_left buffers (units ∷ []) [] span.buffer w.buffer)) w.units;
-    };
-    units = λ span w. ap (λ (us : Units). slice_range us span.start (span.start + span.len)) (get_or_append_left buffers (units ∷ []) [] span.buffer w.buffer);
-  }
-
-  module _ (span : Span) (buffer : span.buffer ≡ length buffers) (start : span.start ≡ 0) (len : span.len ≡ length units) where
-    pushed : buffer_of (buffers ++ units ∷ []) span ≡ units
-    pushed = get_or_push buffers units [] span.buffer (sym buffer)
-
-    pub push_last : IsLast (buffers ++ units ∷ []) span
-    push_last = record { buffer = omega (arith, length_push buffers units, buffer); end = omega (arith, ap (λ (us : Units). length us) pushed, start, len) }
-
-    pub push_units : units_in (buffers ++ units ∷ []) span ≡ units
-    push_units =
-        part_last (buffer_of (buffers ++ units ∷ []) span) span.start (span.start + span.len) (omega (arith, ap (λ (us : Units). length us) pushed, start, len))
-        ∙ ap (drop span.start) pushed ∙ ap (λ (n : ℕ). drop n units) start
 
 -- a list is a front and what is behind it
 pub front_and_back : (units front back : Units) (len : ℕ) → length front ≡ len → (take len units ≡ front) → (drop len units ≡ back) → units ≡ front ++ back
@@ -126,31 +90,16 @@ front_of units front back len long e = ap (take len) e ∙ take_at front back le
 pub back_of : (units front back : Units) (len : ℕ) → length front ≡ len → units ≡ front ++ back → drop len units ≡ back
 back_of units front back len long e = ap (drop len) e ∙ drop_at front back len long
 
--- the front of a text that begins where another one does
-pub same_start : (buffers : Table) (span front : Span) → IsWithin buffers span → IsWithin buffers front → front.len ≤ span.len → span.buffer ≡ front.buffer → span.start ≡ front.start
-    → take front.len (units_in buffers span) ≡ units_in buffers front
-same_start buffers span front w v long buffer start =
-    let one : span.start + span.len - span.start ≡ span.len = omega arith in
-    let two : front.start + front.len - front.start ≡ front.len = omega arith in
-    ap (λ (n : ℕ). take front.len (take n (drop span.start (buffer_of buffers span)))) one
-    ∙ take-take front.len span.len (drop span.start (buffer_of buffers span)) long
-    ∙ ap (λ (n : ℕ). take front.len (drop n (buffer_of buffers span))) start
-    ∙ ap (λ (n : ℕ). take front.len (drop front.start (get_or buffers n []))) buffer
-    ∙ ap (λ (n : ℕ). take n (drop front.start (buffer_of buffers front))) (sym two)
-
 -- the buffers as their owner has them
 module _ (owned : List Owned) where
   -- the units of the buffer that a place has
-  pub at_buffer : (place : ℕ) (buffer : Owned) → place < length owned → buffer ≡ get_or owned place buffer → get_or (contents owned) place [] ≡ buffer.items
+  at_buffer : (place : ℕ) (buffer : Owned) → place < length owned → buffer ≡ get_or owned place buffer → get_or (contents owned) place [] ≡ buffer.items
   at_buffer place buffer there is = get_or-map (λ (b : Owned). b.items) owned place buffer [] there ∙ ap (λ (b : Owned). b.items) (sym is)
 
   pub contents_set : (place : ℕ) (buffer : Owned) → contents (set owned place buffer) ≡ set (contents owned) place buffer.items
   contents_set place buffer = map-set (λ (b : Owned). b.items) owned place buffer
 
-  pub contents_push : (buffer : Owned) → contents (owned ++ buffer ∷ []) ≡ contents owned ++ buffer.items ∷ []
-  contents_push buffer = map_push (λ (b : Owned). b.items) owned buffer
-
-pub count_is : (owned : List Owned) (buffers : Table) → contents owned ≡ buffers → length owned ≡ length buffers
+count_is : (owned : List Owned) (buffers : Table) → contents owned ≡ buffers → length owned ≡ length buffers
 count_is owned buffers e = sym (length-map owned (λ (b : Owned). b.items)) ∙ ap (λ (bs : Table). length bs) e
 
 -- what a `Vec` holds after more is put behind, or after that failed
@@ -178,14 +127,7 @@ module _ (buffers view : Table) (more : Units) (span new : Span) (e : view ≡ s
   pub after_units : units_in view new ≡ units_in buffers span ++ more
   after_units = subst (λ (bs : Table). units_in bs new ≡ units_in buffers span ++ more) (sym e) (append_units buffers span.buffer more last.buffer span new refl last.end same start len)
 
--- units of a slice that is not too long are a text
-pub a_text : (units : Units) → ((i : ℕ) → Fits w16 (get_or units i 0)) → length units ≤ longest → IsText units
-a_text units fits short = record {
-  sixteen_bits = All-from_get_or (λ unit. unit < 2 ^ 16) units 0 (λ i _. Fits-lt-pow {w = w16} (fits i));
-  short = short;
-}
-
--- and so are those of a text with such behind it
+-- a text with units of a slice behind it that is not too long is a text
 pub longer_text : (front back : Units) → IsText front → ((i : ℕ) → Fits w16 (get_or back i 0)) → length front + length back ≤ longest → IsText (front ++ back)
 longer_text front back text fits short = record {
   sixteen_bits = All-append (λ unit. unit < 2 ^ 16) front back text.sixteen_bits (All-from_get_or (λ unit. unit < 2 ^ 16) back 0 (λ i _. Fits-lt-pow {w = w16} (fits i)));

@@ -1,17 +1,12 @@
 -- Laws of tables of texts and of names, for those who hold text numbers.
 use Rattle.std.proofs.Common.{◌≡◌, [], ◌∷◌, ◌++◌, Some, length, slice_get, get_or, ⊎_elim, sym, ap, subst, ◌∙◌, append_assoc, append-nil, arith}
-use Rattle.std.proofs.lemmas.Fmt.{decimal_injective}
 use Rattle.std.proofs.lemmas.List.{get_or_append_left, length-append}
 use Rattle.std.proofs.lemmas.Option.{slice_get-get_or, slice_get_within, get_or_from_slice_get, unwrap_or-slice_get}
 use Rattle.std.specs.Prelude.{decimal}
 use Rattle.wjs_base.specs.declared.ids.TextId.{TextId}
 use Rattle.wjs_base.specs.declared.values.Name.{Name}
 use Rattle.wjs_base.specs.declared.values.Name.TheVariants.{Index, Text}
-use Rattle.std.specs.FinMap.{nat_cmp-IsAntisymmetric, slice_cmp-IsAntisymmetric}
-use Rattle.std.specs.Ordering.{nat_cmp}
-use Rattle.std.specs.declared.cmp.Ordering.TheVariants.{Equal}
-use Rattle.wjs_base.specs.Order.{then_tied}
-use Rattle.wjs_base.specs.Spelling.{HasName, Spells, IsNameOf, IsName, units_of, spelling_cmp}
+use Rattle.wjs_base.specs.Spelling.{IsNameOf, IsName, units_of}
 use Rattle.wjs_base.specs.Text.{Units, Table, Has, Denotes, IsText, IsTable, Grows, Interns}
 
 pub Denotes-Has : (texts : Table) (id : TextId) (units : Units) → Denotes texts id units → Has texts id
@@ -52,49 +47,18 @@ Grows-Denotes-back old new id units g has at =
     let kept = Grows-Denotes old new id (get_or old id.0 units) g there in
     there ∙ ap Some (Denotes-unique new id (get_or old id.0 units) units kept at)
 
-pub Interns-Grows : (old new : Table) (units : Units) (id : TextId) → Interns old new units id → Grows old new
+Interns-Grows : (old new : Table) (units : Units) (id : TextId) → Interns old new units id → Grows old new
 Interns-Grows old new units id h = ⊎_elim (λ e. ([], e ∙ sym (append-nil old))) (λ e. (units ∷ [], e)) h.table
-
--- a name keeps what it spells, and stays a name
-pub Grows-HasName : (old new : Table) (name : Name) → Grows old new → HasName old name → HasName new name
-Grows-HasName old new (Index index) g has = tt
-Grows-HasName old new (Text id) g has = Grows-Has old new id g has
-
-pub Grows-Spells : (old new : Table) (name : Name) (units : Units) → Grows old new → Spells old name units → Spells new name units
-Grows-Spells old new (Index index) units g is = is
-Grows-Spells old new (Text id) units g is = Grows-Denotes old new id units g is
 
 pub Grows-IsName : (old new : Table) (name : Name) → Grows old new → IsName old name → IsName new name
 Grows-IsName old new (Index index) g is = is
 Grows-IsName old new (Text id) g is =
     (Grows-Has old new id g is.0, λ index small at. is.1 index small (Grows-Denotes-back old new id (decimal index) g is.0 at))
 
--- a text has one name, and names that spell the same are one
-pub IsName-Spells-unique : (texts : Table) (a b : Name) (units : Units) → IsTable texts → IsName texts a → IsName texts b → Spells texts a units → Spells texts b units → a ≡ b
-IsName-Spells-unique texts (Index m) (Index n) units table is other spells spelt = ap Index (decimal_injective m n (omega arith) (omega arith) (sym spells ∙ spelt))
-IsName-Spells-unique texts (Index m) (Text b) units table is other spells spelt = absurd (other.1 m is (spelt ∙ ap Some spells))
-IsName-Spells-unique texts (Text a) (Index n) units table is other spells spelt = absurd (is.1 n other (spells ∙ ap Some spelt))
-IsName-Spells-unique texts (Text a) (Text b) units table is other spells spelt = ap Text (table.one_number a b units spells spelt)
-
 pub IsNameOf-IsName : (texts : Table) (id : TextId) (name : Name) → Has texts id → IsNameOf texts id name → IsName texts name
 IsNameOf-IsName texts id (Index index) has is = is.0
 IsNameOf-IsName texts id (Text itself) has is =
     (subst (Has texts) (sym is.0) has, λ index small at. is.1 index small (subst (λ (t : TextId). Denotes texts t (decimal index)) is.0 at))
-
-pub IsNameOf-Spells : (texts : Table) (id : TextId) (name : Name) (units : Units) → Denotes texts id units → IsNameOf texts id name → Spells texts name units
-IsNameOf-Spells texts id (Index index) units at is = Denotes-unique texts id units (decimal index) at is.1
-IsNameOf-Spells texts id (Text itself) units at is = subst (λ (t : TextId). Denotes texts t units) (sym is.0) at
-
--- names that tie by content are one
-pub spelling_exact : (texts : Table) (a b : Name) → IsTable texts → HasName texts a → HasName texts b → spelling_cmp texts a b ≡ Equal → a ≡ b
-spelling_exact texts (Index m) (Index n) table has had tie = ap Index (nat_cmp-IsAntisymmetric m n (then_tied (nat_cmp m n) Equal tie).0)
-spelling_exact texts (Index m) (Text b) table has had tie = cc
-spelling_exact texts (Text a) (Index n) table has had tie = cc
-spelling_exact texts (Text a) (Text b) table has had tie =
-    let same : units_of texts (Text a) ≡ units_of texts (Text b) = slice_cmp-IsAntisymmetric nat_cmp-IsAntisymmetric (units_of texts (Text a)) (units_of texts (Text b)) tie in
-    let at = Has-Denotes texts a has in
-    let other = Has-Denotes texts b had in
-    ap Text (table.one_number a b (units_of texts (Text a)) at (other ∙ ap Some (sym same)))
 
 -- the text of the name of a text is that text
 pub text_again : (old new : Table) (units : Units) (id text : TextId) → IsTable new → Interns old new units id → Denotes old text units → id ≡ text

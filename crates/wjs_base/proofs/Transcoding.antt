@@ -188,7 +188,7 @@ one_read point units is = ⊎_elim low high (scalar_cases point is)
     high h = ⊎_elim (λ small. alone small (λ p. omega arith) (lone_unit_char_high point h.0)) (λ large. pair large h.1) (cases_lt point 0x1_0000)
 
 -- so the units of scalar values show just these
-pub scalars_back : (points : List ℕ) → all_scalars points ≡ true → utf16_lossy_chars (utf16 points) ≡ points
+scalars_back : (points : List ℕ) → all_scalars points ≡ true → utf16_lossy_chars (utf16 points) ≡ points
 scalars_back [] is = ap (map (λ (o : Option ℕ). unwrap_or o 0xFFFD)) utf16_chars-nil
 scalars_back (point ∷ points) is =
     let parts = and_parts (scalar point) (all_scalars points) is in

@@ -6,5 +6,6 @@ pub mod Range
 pub mod Same
 pub mod Spans
 pub mod Spelling
+pub mod Stacks
 pub mod Text
 pub mod Unicode

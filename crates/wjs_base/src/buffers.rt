@@ -128,9 +128,7 @@ impl Buffers {
         if front.len == 0 {
             return self.place(back);
         }
-        let Ok(text) = joined(self.allocator(), self.units(front), back) else {
-            return Err(OutOfMemory);
-        };
+        let text = joined(self.allocator(), self.units(front), back)?;
         if text.len() <= SHORT {
             return self.place(text.as_slice());
         }

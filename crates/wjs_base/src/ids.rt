@@ -22,8 +22,8 @@ impl<T: Drop> From<AllocFailed<T>> for OutOfMemory {
 #[derive(Clone, Copy, PartialEq, Eq)]
 pub struct TextId(pub u64);
 
-/// The number of a node of a script's tree. A child has a smaller number than its parent.
-#[derive(Clone, Copy)]
+/// The number of a node of a tree, counted from 0. A part has a smaller number than the form that it stands in.
+#[derive(Clone, Copy, PartialEq, Eq)]
 pub struct NodeId(pub u64);
 
 /// An object: who made it, and its place among that owner's objects, counted from 0.

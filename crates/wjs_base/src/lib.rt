@@ -16,5 +16,5 @@ pub use ids::{NodeId, ObjId, OutOfMemory, TextId, WorldId};
 pub use list::Names;
 pub use number::Whole;
 pub use texts::{LONGEST_TEXT, TextFault, Texts};
-pub use unicode::{Utf8Fault, units_of_utf8, utf8_of_units};
+pub use unicode::{Utf8Fault, units_of_ascii, units_of_utf8, utf8_of_units};
 pub use values::{Content, Name, Slot, Value, same_value};

@@ -55,10 +55,7 @@ impl Texts {
         };
         let mut digits = [ZERO; MOST_DIGITS];
         let start = write_decimal(index, &mut digits);
-        match self.intern(&digits[start..]) {
-            Ok(id) => Ok(id),
-            Err(_) => Err(OutOfMemory),
-        }
+        Ok(self.intern(&digits[start..])?)
     }
 
     /// The order of names by content: indices ascending, then texts by their code units.

@@ -30,6 +30,23 @@ pub enum TextFault {
     OutOfMemory,
 }
 
+impl From<OutOfMemory> for TextFault {
+    ghost use Rattle.wjs_base.specs.declared.texts.TextFault.TheVariants.{OutOfMemory};
+
+    ghost from_gives = { λ _ fault. fault ≡ OutOfMemory };
+
+    fn from(_: OutOfMemory) -> Self {
+        TextFault::OutOfMemory
+    }
+}
+
+/// A caller whose texts are short enough meets want of memory alone.
+impl From<TextFault> for OutOfMemory {
+    fn from(_: TextFault) -> Self {
+        OutOfMemory
+    }
+}
+
 /// A list of different texts. A text is known by its place in it, which it keeps: equal content has equal number.
 ///
 /// A call that fails leaves the list as it was.
@@ -83,10 +100,7 @@ impl Texts {
             return Err(TextFault::TooLong);
         }
         let hash = hash_behind(FACTOR, EMPTY_HASH, units);
-        match put(&mut self.spans, &mut self.buffers, hash, nothing, units) {
-            Ok(id) => Ok(id),
-            Err(OutOfMemory) => Err(TextFault::OutOfMemory),
-        }
+        Ok(put(&mut self.spans, &mut self.buffers, hash, nothing, units)?)
     }
 
     /// The number of the text of these code units; None exactly where no text of the table has them. It copies nothing.
@@ -183,10 +197,7 @@ impl Texts {
             return Err(TextFault::TooLong);
         }
         let hash = hash_behind(FACTOR, first_hash(key, self.buffers.units(span)), back);
-        let Ok(id) = put(&mut self.spans, &mut self.buffers, hash, span, back) else {
-            return Err(TextFault::OutOfMemory);
-        };
-        Ok(id)
+        Ok(put(&mut self.spans, &mut self.buffers, hash, span, back)?)
     }
 
     /// How many texts there are.

@@ -37,6 +37,17 @@ pub fn units_of_utf8(alloc: Global, bytes: &[u8]) -> Result<Vec<u16>, Utf8Fault>
     Ok(units)
 }
 
+/// The code units of a text in ASCII.
+pub fn units_of_ascii(alloc: Global, ascii: &[u8]) -> Result<Vec<u16>, OutOfMemory>
+    ensures { IfOk result (λ units. units.items ≡ ascii.now) }
+{
+    let mut units = Vec::with_capacity(alloc, ascii.len())?;
+    for byte in ascii {
+        units.push(u16::from(*byte))?;
+    }
+    Ok(units)
+}
+
 /// The bytes in UTF-8 of code units, with U+FFFD for each surrogate outside a pair.
 pub fn utf8_of_units(alloc: Global, units: &[u16]) -> Result<Vec<u8>, OutOfMemory>
     ensures shows { IfOk result (λ bytes. Shows units.now bytes.items) }

@@ -28,7 +28,7 @@ inner_same run goal env go fs st n = ap (λ o. run_next (then_do (then_do o (λ 
 
 module _ {S : Type 0} (meaning : S → Meaning) where
   -- the middle one differs by its frames alone
-  pub inner_keeps : (t : Table) (goal : Goal) (env : Env) (go : Completion → Act) (old new : Config S) (frames : List NumberedFrame) → Keeps meaning t 1 (Sub (Eval goal env Ret) go) old new → Keeps meaning t 1 (Eval goal env Ret) (record old { frames = frames }) new → Keeps meaning t 1 (Eval goal env go) old new
+  inner_keeps : (t : Table) (goal : Goal) (env : Env) (go : Completion → Act) (old new : Config S) (frames : List NumberedFrame) → Keeps meaning t 1 (Sub (Eval goal env Ret) go) old new → Keeps meaning t 1 (Eval goal env Ret) (record old { frames = frames }) new → Keeps meaning t 1 (Eval goal env go) old new
   inner_keeps t goal env go old new frames outer inner = record {
     stays = outer.stays;
     cost = outer.cost;

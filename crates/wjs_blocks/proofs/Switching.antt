@@ -2,7 +2,7 @@
 use Rattle.std.proofs.Common.{◌≡◌, ℕ, zero, suc, ◌+◌, ◌-◌, ◌<◌, Bool, true, false, List, [], ◌∷◌, ◌++◌, Option, None, Some, refl, sym, ap, ◌∙◌, subst, length, drop, get_or, arith}
 use Rattle.std.specs.Prelude.{map, slice_get}
 use Rattle.wjs_base.specs.Text.{Table}
-use Rattle.wjs_tree.specs.declared.node.NodeId.{NodeId}
+use Rattle.wjs_base.specs.declared.ids.NodeId.{NodeId}
 use Rattle.wjs_tree.specs.declared.node.Clause.{Clause}
 use Rattle.wjs_tree.specs.declared.node.Node.{Node as NumberedNode}
 use Rattle.wjs_tree.specs.declared.node.Node.TheVariants as nodes
@@ -20,7 +20,7 @@ use Rattle.wjs_blocks.specs.Switches.{case_goes}
 use Rattle.wjs_step_common.proofs.Parts.{each_at, each_past}
 
 -- the clauses under a table
-pub clauses_same : (t : Table) (node : NumberedNode) → clauses_of (node_in t node) ≡ map (clause_in t) (clauses_in node)
+clauses_same : (t : Table) (node : NumberedNode) → clauses_of (node_in t node) ≡ map (clause_in t) (clauses_in node)
 clauses_same t (nodes.Switch e clauses) = refl
 clauses_same t _ = refl
 
@@ -29,11 +29,11 @@ numbers_append [] ys = refl
 numbers_append (x ∷ xs) ys = ap (λ (l : List ℕ). x.0 ∷ l) (numbers_append xs ys)
 
 -- their statements
-pub statements_same : (t : Table) (clauses : List Clause) → statements_of (map (clause_in t) clauses) ≡ numbers (statements_of_clauses clauses)
+statements_same : (t : Table) (clauses : List Clause) → statements_of (map (clause_in t) clauses) ≡ numbers (statements_of_clauses clauses)
 statements_same t [] = refl
 statements_same t (c ∷ cs) = ap (λ (l : List ℕ). numbers c.body ++ l) (statements_same t cs) ∙ sym (numbers_append c.body (statements_of_clauses cs))
 
-pub node_statements : (t : Table) (node : NumberedNode) → statements_of (clauses_of (node_in t node)) ≡ numbers (statements_of_clauses (clauses_in node))
+node_statements : (t : Table) (node : NumberedNode) → statements_of (clauses_of (node_in t node)) ≡ numbers (statements_of_clauses (clauses_in node))
 node_statements t node = ap statements_of (clauses_same t node) ∙ statements_same t (clauses_in node)
 
 drop_map : {X Y : Type 0} (f : X → Y) (xs : List X) (i : ℕ) → drop i (map f xs) ≡ map f (drop i xs)

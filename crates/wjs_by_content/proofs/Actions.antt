@@ -231,7 +231,7 @@ module _ {K V J W : Type 0} {n : Naming K V} {m : Naming J W} (r : Renaming n m)
   any_keys : {X Y : Type 0} (p : J → Bool) (q : K → Bool) → ((s : K) → p (r.slot s) ≡ q s) → (g : X → Y) (f : FinMap n.cmp X) → list_any p (map.keys (renamed {S = m.cmp} r.slot g f)) ≡ list_any q (map.keys f)
   any_keys p q e g f = keys_alike (λ xs ys. list_any p ys ≡ list_any p xs) (anys m.cmp p) g f ∙ any_each r.slot p q e (map.keys f)
 
-  pub fault_alike : (x p : World n) → is_some (fault_in (renamed_world r x) (renamed_world r p)) ≡ is_some (fault_in x p)
+  fault_alike : (x p : World n) → is_some (fault_in (renamed_world r x) (renamed_world r p)) ≡ is_some (fault_in x p)
   fault_alike x p =
       let y = renamed_world r x in
       let q = renamed_world r p in

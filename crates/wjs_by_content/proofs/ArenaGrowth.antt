@@ -21,7 +21,7 @@ module _ (old new : Table) (g : Grows old new) where
       let rest = under_grows knows more f h same xs k.1 in
       (((n.0, v.0), rest.0), λ i. (n.1 i, v.1 i) ∷ rest.1 i)
 
-  pub object_grows : (x : NumberedObject) → KnowsObject old x → KnowsObject new x × (object_in new x ≡ object_in old x)
+  object_grows : (x : NumberedObject) → KnowsObject old x → KnowsObject new x × (object_in new x ≡ object_in old x)
   object_grows x k =
       let p = value_grows old new g x.primitive k.primitive in
       let f = under_grows (knows_value old) (knows_value new) (value_in old) (value_in new) (value_grows old new g) x.fixed k.fixed in

@@ -32,24 +32,24 @@ module _ {X Y : Type 0} (g : X → Y) where
   sorted_same [] = refl
   sorted_same (e ∷ es) = λ i. below_same e.0 es i && sorted_same es i
 
-  pub entries_in : (m : FinMap obj_cmp X) → map.entries (renamed {S = obj_cmp} (λ o. o) g m) ≡ each (λ e. (e.0, g e.1)) (map.entries m)
+  entries_in : (m : FinMap obj_cmp X) → map.entries (renamed {S = obj_cmp} (λ o. o) g m) ≡ each (λ e. (e.0, g e.1)) (map.entries m)
   entries_in m =
       let es = each (λ (e : ObjId × X). (e.0, g e.1)) (map.entries m) in
       let rises : T (map.is_sorted obj_cmp es) = subst (λ b. T b) (sym (sorted_same (map.entries m))) (map.entries_sorted m) in
       ap map.entries (map.same_map obj_total obj_exact (map.from_entries {R = obj_cmp} es) (map.from_sorted {R = obj_cmp} es) (λ q. map.get-from_entries obj_total es q ∙ sym (map.get-from_sorted obj_cmp es q rises)))
       ∙ map.entries-from_sorted obj_cmp es rises
 
-  pub get_in : (m : FinMap obj_cmp X) (o : ObjId) → map.get (renamed {S = obj_cmp} (λ o. o) g m) o ≡ option_map g (map.get m o)
+  get_in : (m : FinMap obj_cmp X) (o : ObjId) → map.get (renamed {S = obj_cmp} (λ o. o) g m) o ≡ option_map g (map.get m o)
   get_in m o = get_renamed obj_total obj_exact obj_total obj_exact (λ o. o) (λ a b e. e) g m o
 
-  pub len_in : (m : FinMap obj_cmp X) → map.len (renamed {S = obj_cmp} (λ o. o) g m) ≡ map.len m
+  len_in : (m : FinMap obj_cmp X) → map.len (renamed {S = obj_cmp} (λ o. o) g m) ≡ map.len m
   len_in m = map.len-entries (renamed {S = obj_cmp} (λ o. o) g m) ∙ ap (λ (es : List (ObjId × Y)). length es) (entries_in m) ∙ length-map (map.entries m) (λ (e : ObjId × X). (e.0, g e.1)) ∙ sym (map.len-entries m)
 
   where_none : (b : Bool) (x : Option X) → option_map g (cond b x None) ≡ cond b (option_map g x) None
   where_none true x = refl
   where_none false x = refl
 
-  pub retain_in : (m : FinMap obj_cmp X) (p : ObjId → Bool) → renamed {S = obj_cmp} (λ o. o) g (map.retain_keys m p) ≡ map.retain_keys (renamed {S = obj_cmp} (λ o. o) g m) p
+  retain_in : (m : FinMap obj_cmp X) (p : ObjId → Bool) → renamed {S = obj_cmp} (λ o. o) g (map.retain_keys m p) ≡ map.retain_keys (renamed {S = obj_cmp} (λ o. o) g m) p
   retain_in m p =
       let alike : (q x : ObjId) → obj_cmp q x ≡ Ordering.Equal → p x ≡ p q = λ q x t. ap p (sym (obj_exact q x t)) in
       map.same_map obj_total obj_exact (renamed {S = obj_cmp} (λ o. o) g (map.retain_keys m p)) (map.retain_keys (renamed {S = obj_cmp} (λ o. o) g m) p) (λ q.

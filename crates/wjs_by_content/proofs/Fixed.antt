@@ -47,7 +47,7 @@ module _ (texts : Table) where
       let d = text_Decides (name_in texts a) (name_in texts b) in
       same_from_decides (same_text (name_in texts a) (name_in texts b)) (numbered.same_name a b) ((λ e. names_tell texts a b k l (d.0 e)), (λ e. d.1 (ap (name_in texts) e))) (name_Decides a b)
 
-  pub at_same : {A B : Type 0} (knows : A → Bool) (f : A → B) (xs : List (Name × A)) (n : Name) → KnowsUnder texts knows xs → knows_name texts n ≡ true → at_name (under_in texts f xs) (name_in texts n) ≡ option_map f (numbered.at_name xs n)
+  at_same : {A B : Type 0} (knows : A → Bool) (f : A → B) (xs : List (Name × A)) (n : Name) → KnowsUnder texts knows xs → knows_name texts n ≡ true → at_name (under_in texts f xs) (name_in texts n) ≡ option_map f (numbered.at_name xs n)
   at_same knows f [] n k l = refl
   at_same knows f (x ∷ xs) n k l =
       (λ i. cond (same_names x.0 n (k.0).0 l i) (Some (f x.1)) (at_same knows f xs n k.1 l i))

@@ -1,5 +1,5 @@
 -- What a known state answers is known; known actions one after another.
-use Rattle.std.proofs.Common.{◌≡◌, Bool, true, false, cond, List, [], ◌∷◌, ◌++◌, refl, ap, ◌∙◌, subst, fold, filter, map as each, Option, None, Some, Ordering}
+use Rattle.std.proofs.Common.{◌≡◌, Bool, true, false, cond, List, [], ◌∷◌, ◌++◌, refl, ap, subst, fold, filter, Option, None, Some, Ordering}
 use Rattle.std.specs.Option.{option_map_or, option_and_then}
 use Rattle.std.specs.Ordering.{is_lt}
 use Rattle.std.specs.FinMap as map
@@ -7,11 +7,11 @@ use Rattle.std.specs.FinMap.{FinMap}
 use Rattle.wjs_base.specs.declared.ids.WorldId.{WorldId}
 use Rattle.wjs_base.specs.declared.ids.ObjId.{ObjId}
 use Rattle.wjs_store.specs.Naming.{Naming}
-use Rattle.wjs_store.specs.State.{World, State, Act, after, same_world, same_object, find_world, content_at, slots_in, slots_at, lesser, fails, fault_in, with_parent, verdict_in, verdict_at, moved, differs, no_parent}
+use Rattle.wjs_store.specs.State.{World, State, same_world, same_object, find_world, content_at, slots_in, slots_at, lesser, fails, fault_in, with_parent, verdict_in, verdict_at, moved, differs, no_parent}
 use Rattle.wjs_store.proofs.Commits.{pair_parts}
-use Rattle.wjs_by_content.specs.Renamed.{Names, Holds, Knows, Known, KnownAct, KnowsContent, named_state, named_act}
+use Rattle.wjs_by_content.specs.Renamed.{Names, Holds, Knows, Known, KnowsContent}
 use Rattle.wjs_by_content.proofs.Keys.{firsts}
-use Rattle.wjs_by_content.proofs.RenamedKnown.{entries_hold, named_after, known_after}
+use Rattle.wjs_by_content.proofs.RenamedKnown.{entries_hold}
 
 holds_firsts : {K X : Type 0} (P : K → Type 0) (es : List (K × X)) → Holds (λ (e : K × X). P e.0) es → Holds P (firsts es)
 holds_firsts P [] h = tt
@@ -94,10 +94,3 @@ module _ {K V J W : Type 0} {n : Naming K V} {m : Naming J W} (r : Names n m) wh
       by (Some e) is h =
           let parts = pair_parts F w e is in
           refused_at (fault_in e.0 e.1) s (fault_known e.0 e.1 (known_found F w e.0 k parts.0) (known_found F parts.1 e.1 k parts.3) s) h
-
-  -- known actions, one after another
-  pub named_run : (F : State n) (acts : List (Act K V)) → Known r F → Holds (KnownAct r) acts → (named_state r (fold after F acts) ≡ fold after (named_state r F) (each (named_act r) acts)) × Known r (fold after F acts)
-  named_run F [] k h = (refl, k)
-  named_run F (a ∷ acts) k h =
-      let rest = named_run (after F a) acts (known_after r F a k h.0) h.1 in
-      (rest.0 ∙ ap (λ G. fold after G (each (named_act r) acts)) (named_after r F a k h.0), rest.1)

@@ -64,7 +64,7 @@ module _ {J Y : Type 0} {S : J → J → Ordering} (L : List J → List J → Ty
   put_order k v (e ∷ es) h = put_at (S k e.0) k v e es refl h (put_order k v es (or_parts (eq_by_cmp S k e.0) (list_any (eq_by_cmp S k) (firsts es)) h).1)
 
   -- the keys of a map that is made of entries are the entries' keys in another order
-  pub made_order : IsTotalOrder S → (es : List (J × Y)) → Apart S es → L (firsts es) (map.keys (map.from_entries {R = S} es))
+  made_order : IsTotalOrder S → (es : List (J × Y)) → Apart S es → L (firsts es) (map.keys (map.from_entries {R = S} es))
   made_order t [] h = subst (λ (fs : List (J × Y)). L [] (firsts fs)) (sym (empty_entries S)) (l.same [])
   made_order t (e ∷ es) h =
       let m = map.from_entries {R = S} es in

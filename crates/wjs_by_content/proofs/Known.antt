@@ -10,8 +10,8 @@ use Rattle.wjs_base.specs.declared.ids.TextId.{TextId}
 use Rattle.wjs_base.specs.declared.values.Name.{Name}
 use Rattle.wjs_base.specs.declared.values.Name.TheVariants as name
 use Rattle.wjs_base.specs.Spelling.{greatest_index, IsName, SpellsNoIndex}
-use Rattle.wjs_base.specs.Text.{Table, IsTable, Has, Denotes, Interns, Units}
-use Rattle.wjs_base.proofs.TextLaws.{Has-Denotes, Denotes-Has}
+use Rattle.wjs_base.specs.Text.{Table, IsTable, Has, Denotes, Units}
+use Rattle.wjs_base.proofs.TextLaws.{Has-Denotes}
 use Rattle.wjs_by_content.specs.Values.{Text, same_text, text_Decides}
 use Rattle.wjs_by_content.specs.Names.{index_of}
 use Rattle.wjs_by_content.specs.Indices.{index_again, index_spells}
@@ -64,7 +64,3 @@ module _ (texts : Table) where
   name_known_is_name (name.Text id) k =
       let p = and_parts (knows_text texts id) (is_none (index_of (text_in texts id))) k in
       (text_known_is_there id p.0, λ n small at. no_index (text_in texts id) n p.1 (ap index_of (text_is id (decimal n) at) ∙ index_again n small))
-
--- a text that was interned is known
-pub interned_known : (old new : Table) (units : Units) (id : TextId) → IsTable new → Interns old new units id → knows_text new id ≡ true
-interned_known old new units id table interns = text_known new table id (Denotes-Has new id units interns.denotes)

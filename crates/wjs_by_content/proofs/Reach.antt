@@ -95,11 +95,11 @@ module _ {K V J W : Type 0} {n : Naming K V} {m : Naming J W} (r : Renaming n m)
     no_closed = f.no_closed;
   }
 
-  pub reached_renamed : (F : State n) → IsReached F → IsReached (renamed_state r F)
+  reached_renamed : (F : State n) → IsReached F → IsReached (renamed_state r F)
   reached_renamed [] h = h
   reached_renamed (x ∷ older) h = (fits_renamed x older h.0, reached_renamed older h.1)
 
-  pub reached_back : (F : State n) → IsReached (renamed_state r F) → IsReached F
+  reached_back : (F : State n) → IsReached (renamed_state r F) → IsReached F
   reached_back [] h = h
   reached_back (x ∷ older) h = (fits_back x older h.0, reached_back older h.1)
 

@@ -30,10 +30,6 @@ each_agree : {A B C : Type 0} (f : B → C) (g : A → B) (h : A → C) (xs : Li
 each_agree f g h [] e = refl
 each_agree f g h (x ∷ xs) e = λ i. e.0 i ∷ each_agree f g h xs e.1 i
 
-holds_more : {A : Type 0} (P Q : A → Type 0) → ((x : A) → P x → Q x) → (xs : List A) → Holds P xs → Holds Q xs
-holds_more P Q f [] h = tt
-holds_more P Q f (x ∷ xs) h = (f x h.0, holds_more P Q f xs h.1)
-
 module _ {K X : Type 0} {R : K → K → Ordering} (total : IsTotalOrder R) (exact : IsAntisymmetric R) (P : K → X → Type 0) where
   later : (e : K × X) (es : List (K × X)) → list_any (eq_by_cmp R e.0) (firsts es) ≡ false → (k : K) (v : X) → map.find R k es ≡ Some v → map.find R k (e ∷ es) ≡ Some v
   later e es a k v q = by_bool (eq_by_cmp R k e.0)
@@ -208,7 +204,7 @@ module _ {K V J W : Type 0} {n : Naming K V} {m : Naming J W} (r : Names n m) wh
       let bare = IsPermutation-map (un r.slot) (each (pad r.knows r.slot) ss) (each (λ j. new j) ts) both in
       subst (λ us. IsPermutation us ts) (unpads r.knows r.slot ss) (subst (IsPermutation (each (un r.slot) (each (pad r.knows r.slot) ss))) (unnews r.slot ts) bare)
 
-  pub named_next : (F : State n) → Known r F → (owner : ℕ) → next_id (named_state r F) owner ≡ next_id F owner
+  named_next : (F : State n) → Known r F → (owner : ℕ) → next_id (named_state r F) owner ≡ next_id F owner
   named_next F f owner = sym (next_alike (among r) (named_state r F) owner) ∙ ap (λ G. next_id G owner) (shows F f) ∙ next_alike (padding r) F owner
 
   pub named_verdict : (F : State n) (w : WorldId) → Known r F → shape (verdict_at (named_state r F) w) ≡ shape (verdict_at F w)

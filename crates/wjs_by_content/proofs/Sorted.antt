@@ -16,7 +16,7 @@ pub use Rattle.wjs_store.proofs.Ascending.{slots_ascend}
 use Rattle.wjs_by_content.proofs.RenamedKnown.{named_slots}
 
 -- a list has one ascending order
-pub one_order : {J : Type 0} {S : J → J → Ordering} → IsTotalOrder S → IsAntisymmetric S → (ss ts : List J) → Ascends S ss → Ascends S ts → IsPermutation ss ts → ss ≡ ts
+one_order : {J : Type 0} {S : J → J → Ordering} → IsTotalOrder S → IsAntisymmetric S → (ss ts : List J) → Ascends S ss → Ascends S ts → IsPermutation ss ts → ss ≡ ts
 one_order {S = S} total exact ss ts h k p = sym (untagged ss)
     ∙ ap firsts (same_entries S total exact (tagged ss) (tagged ts) h k (λ q. find_tag S q ss ∙ ap (λ b. cond b (Some tt) None) (list_any-IsPermutation (eq_by_cmp S q) ss ts p) ∙ sym (find_tag S q ts)))
     ∙ untagged ts

@@ -20,7 +20,7 @@ each_each f g h k e [] = refl
 each_each f g h k e (x ∷ xs) = λ i. e x i ∷ each_each f g h k e xs i
 
 module _ {K V J W : Type 0} {n : Naming K V} {m : Naming J W} (r : Renaming n m) where
-  pub has_first : (x : World n) (s : K) → map.contains_key (renamed_world r x).first (r.slot s) ≡ map.contains_key x.first s
+  has_first : (x : World n) (s : K) → map.contains_key (renamed_world r x).first (r.slot s) ≡ map.contains_key x.first s
   has_first x s = has_renamed n.total n.exact m.total m.exact r.slot r.slots_tell (option_map r.value) x.first s
 
   pub has_written : (x : World n) (s : K) → map.contains_key (renamed_world r x).written (r.slot s) ≡ map.contains_key x.written s
@@ -64,11 +64,11 @@ module _ {K V J W : Type 0} {n : Naming K V} {m : Naming J W} (r : Renaming n m)
 
   -- ---- write
 
-  pub put_alike : (x : World n) (s : K) (c : Option V) → renamed {S = m.cmp} r.slot r.value (put x.copy s c) ≡ put (renamed {S = m.cmp} r.slot r.value x.copy) (r.slot s) (option_map r.value c)
+  put_alike : (x : World n) (s : K) (c : Option V) → renamed {S = m.cmp} r.slot r.value (put x.copy s c) ≡ put (renamed {S = m.cmp} r.slot r.value x.copy) (r.slot s) (option_map r.value c)
   put_alike x s None = renamed_remove n.total n.exact m.total m.exact r.slot r.slots_tell r.value x.copy s
   put_alike x s (Some v) = renamed_insert n.total n.exact m.total m.exact r.slot r.slots_tell r.value x.copy s v
 
-  pub below_alike : (w : WorldId) (s : K) (F : State n) (d : WorldId) → is_below w (r.slot s) (renamed_state r F) d ≡ is_below w s F d
+  below_alike : (w : WorldId) (s : K) (F : State n) (d : WorldId) → is_below w (r.slot s) (renamed_state r F) d ≡ is_below w s F d
   unfolding is_below
   below_alike w s [] d = refl
   below_alike w s (x ∷ older) d =

@@ -4,8 +4,8 @@ use Rattle.std.specs.Prelude.{OnOk, Result, Ok, Err}
 use Rattle.wjs_base.specs.declared.ids.ObjId.{ObjId}
 use Rattle.wjs_base.specs.declared.ids.OutOfMemory.{OutOfMemory}
 use Rattle.wjs_base.specs.Text.{Table, Grows}
+use Rattle.wjs_base.specs.declared.ids.NodeId.{NodeId}
 use Rattle.wjs_store.specs.Meaning.{Meaning}
-use Rattle.wjs_tree.specs.declared.node.NodeId.{NodeId}
 use Rattle.wjs_by_content.specs.Values.{Text, Object}
 use Rattle.wjs_by_content.specs.Names.{slot}
 use Rattle.wjs_meaning.specs.Trees.{name_of}

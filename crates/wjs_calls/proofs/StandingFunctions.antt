@@ -3,8 +3,8 @@ use Rattle.std.proofs.Common.{◌≡◌, ℕ, suc, ◌+◌, true, List, Option, 
 use Rattle.std.specs.Prelude.{slice_get, unwrap_or}
 use Rattle.wjs_base.specs.declared.ids.ObjId.{ObjId}
 use Rattle.wjs_base.specs.declared.ids.TextId.{TextId}
+use Rattle.wjs_base.specs.declared.ids.NodeId.{NodeId}
 use Rattle.wjs_store.specs.Meaning.{Meaning}
-use Rattle.wjs_tree.specs.declared.node.NodeId.{NodeId}
 use Rattle.wjs_tree.specs.declared.node.Node.{Node}
 use Rattle.wjs_tree.specs.declared.node.Node.TheVariants as nodes
 use Rattle.wjs_tree.specs.Shows.{Has}
@@ -14,7 +14,7 @@ use Rattle.wjs_arena.specs.declared.object.Object.{Object}
 use Rattle.wjs_arena.specs.Entries.{Objects, Keeps, scope_of}
 use Rattle.wjs_model.specs.declared.config.Config.{Config}
 use Rattle.wjs_model.specs.declared.frame.Activation.{Activation as Frame}
-use Rattle.wjs_model.specs.declared.unit.Unit.{Unit as Program}
+use Rattle.wjs_model.specs.declared.loaded.LoadedProgram.{LoadedProgram as Program}
 use Rattle.wjs_model.specs.Soundness.{IsThere}
 use Rattle.wjs_model.specs.Standing.{Outwards, is_function, count_of, own_scopes, IsFunction, FunctionStands}
 use Rattle.wjs_model.proofs.Standing.{stands_kept, stands_inner, function_kept}
@@ -25,10 +25,10 @@ use Rattle.wjs_calls.specs.Standing.{StandsNamed}
 use Rattle.wjs_calls.proofs.Rows.{same_units}
 
 -- the object of a function stands with its node
-pub script_stands : (units : List Program) (arena : Objects) (x : Object) (tree : ℕ) (node : NodeId) (scope : ObjId) → x.code ≡ code.Script tree (record { 0 = node.0 }) → x.scope ≡ Some scope → IsFunction units arena tree node scope 0 → FunctionStands units arena x.code x.scope
+pub script_stands : (units : List Program) (arena : Objects) (x : Object) (tree : ℕ) (node : NodeId) (scope : ObjId) → x.code ≡ code.Script tree node → x.scope ≡ Some scope → IsFunction units arena tree node scope 0 → FunctionStands units arena x.code x.scope
 script_stands units arena x tree node scope ec es h =
     subst (λ (k : Code). FunctionStands units arena k x.scope) (sym ec) (
-    subst (λ (o : Option ObjId). FunctionStands units arena (code.Script tree (record { 0 = node.0 })) o) (sym es) h)
+    subst (λ (o : Option ObjId). FunctionStands units arena (code.Script tree node) o) (sym es) h)
 
 -- it stands still after a deed
 pub function_later : {S : Type 0} (meaning : S → Meaning) (old new : Config S) (tree : ℕ) (node : NodeId) (scope : ObjId) (more : ℕ) → Later meaning old new → IsFunction old.units.items old.heap.arena tree node scope more → IsFunction new.units.items new.heap.arena tree node scope more
@@ -40,7 +40,7 @@ same_program : (units : List Program) (tree : ℕ) (x y : Program) (node : NodeI
 same_program units tree x y node n e q h = let same : x ≡ y = cc in subst (λ (u : Program). Has u.program.nodes node n) same h
 
 -- the node of a named function stands still
-pub named_kept : (units : List Program) (old new : Objects) → Keeps old new → (tree : ℕ) (node : NodeId) (scope : ObjId) (name : Option TextId) → StandsNamed units old tree node scope name → StandsNamed units new tree node scope name
+named_kept : (units : List Program) (old new : Objects) → Keeps old new → (tree : ℕ) (node : NodeId) (scope : ObjId) (name : Option TextId) → StandsNamed units old tree node scope name → StandsNamed units new tree node scope name
 named_kept units old new keeps tree node scope name h =
     let s = stands_kept old new keeps units tree node scope 0 h.stands in
     record { function = h.function; is = h.is; named = h.named; stands = s; has = same_program units tree h.stands.unit s.unit node h.function h.stands.found s.found h.has }

@@ -1,5 +1,5 @@
 -- Two objects that are made at once, of which the first may name the second.
-use Rattle.std.proofs.Common.{◌≡◌, ℕ, ◌+◌, ◌<◌, List, [], ◌∷◌, ◌++◌, Bool, true, false, cond, ◌⊎◌, inl, inr, Option, None, Some, refl, sym, ap, ◌∙◌, subst, append-nil, IsTrue, arith}
+use Rattle.std.proofs.Common.{◌≡◌, ℕ, ◌+◌, ◌<◌, [], ◌++◌, Bool, true, false, cond, ◌⊎◌, inl, inr, Option, None, Some, refl, sym, ap, ◌∙◌, subst, append-nil, IsTrue, arith}
 use Rattle.std.specs.Prelude.{is_some}
 use Rattle.std.specs.Option.{option_and_then}
 use Rattle.std.specs.FinMap as map
@@ -7,15 +7,10 @@ use Rattle.std.specs.Ordering.{eq_by_cmp}
 use Rattle.std.specs.Cmp.{Equal-is}
 use Rattle.wjs_base.specs.declared.ids.ObjId.{ObjId}
 use Rattle.wjs_base.specs.declared.ids.WorldId.{WorldId}
-use Rattle.wjs_base.specs.declared.values.Name.{Name}
-use Rattle.wjs_base.specs.declared.values.Value.{Value}
-use Rattle.wjs_base.specs.declared.values.Value.TheVariants as values
 use Rattle.wjs_base.specs.Order.{obj_cmp, obj_total, obj_exact}
-use Rattle.wjs_base.specs.Spelling.{IsName}
 use Rattle.wjs_base.specs.Text.{Table, Grows}
 use Rattle.wjs_base.proofs.TextLaws.{Grows-refl}
 use Rattle.wjs_store.specs.Meaning.{Meaning}
-use Rattle.wjs_by_content.specs.Renamed.{Holds}
 use Rattle.wjs_arena.specs.declared.object.Code.TheVariants as code
 use Rattle.wjs_arena.specs.declared.object.Object.{Object}
 use Rattle.wjs_arena.specs.Entries.{Objects, Entry, IsArena, IsThere, Keeps, has, created as numbered_created, next_number as number_of_next, entry_over, scope_of}
@@ -23,8 +18,9 @@ use Rattle.wjs_arena.proofs.Owners.{key_itself}
 use Rattle.wjs_by_content.specs.Objects.{Internals, created, next_number}
 use Rattle.wjs_by_content.specs.Tables.{arena_in, object_in}
 use Rattle.wjs_by_content.proofs.ArenaMaps.{number_same, created_same}
-use Rattle.wjs_heap.specs.Heap.{HasNamed, HasValue, IsHeap}
+use Rattle.wjs_heap.specs.Heap.{HasNamed, IsHeap}
 use Rattle.wjs_heap.specs.Means.{parts}
+use Rattle.wjs_heap.proofs.Growing.{value_stays_there, named_stays_there}
 use Rattle.wjs_meaning.specs.Deeds.{St, Do, Create, interp}
 use Rattle.wjs_meaning.specs.Programs.{eval}
 use Rattle.wjs_model.specs.declared.config.Config.{Config}
@@ -52,7 +48,7 @@ module _ (arena mid : Objects) (owner : ℕ) (x : Object) (is : mid ≡ numbered
   found o = ap (λ (m : Objects). map.get m o) is ∙ map.get-insert obj_total arena (number_of_next arena owner) (entry_over arena x) o
 
   -- an object that is there is the new one or an old one
-  pub new_or_old : (o : ObjId) (e : Entry) → map.get mid o ≡ Some e → (entry_over arena x ≡ e) ⊎ (map.get arena o ≡ Some e)
+  new_or_old : (o : ObjId) (e : Entry) → map.get mid o ≡ Some e → (entry_over arena x ≡ e) ⊎ (map.get arena o ≡ Some e)
   new_or_old o e q = by (eq_by_cmp obj_cmp o (number_of_next arena owner)) (sym (found o) ∙ q)
     where
       by : (b : Bool) → cond b (Some (entry_over arena x)) (map.get arena o) ≡ Some e → (entry_over arena x ≡ e) ⊎ (map.get arena o ≡ Some e)
@@ -78,12 +74,12 @@ module _ (arena mid : Objects) (owner : ℕ) (x : Object) (is : mid ≡ numbered
   counts n m h k = omega arith
 
   -- the number after that of the new one
-  pub number_after : IsArena arena → IsArena mid → IsTrue (has mid (number_of_next arena owner)) → number_of_next mid owner ≡ second_number arena owner
+  number_after : IsArena arena → IsArena mid → IsTrue (has mid (number_of_next arena owner)) → number_of_next mid owner ≡ second_number arena owner
   number_after a b there =
       let e = counts (number_of_next arena owner).serial (number_of_next mid owner).serial ((b.serials (number_of_next arena owner)).0 there) (no_gap a b) in
       λ i. record { owner = owner; serial = e i }
 
-pub has_more : (old new : Objects) → Keeps old new → (o : ObjId) → IsTrue (has old o) → IsTrue (has new o)
+has_more : (old new : Objects) → Keeps old new → (o : ObjId) → IsTrue (has old o) → IsTrue (has new o)
 has_more old new keeps o h = by (map.get old o) refl h
   where
     by : (r : Option Entry) → map.get old o ≡ r → IsTrue (is_some r) → IsTrue (has new o)
@@ -98,22 +94,6 @@ keeps_twice old mid new f s o e h = s o e (f o e h)
 pub named_still : (old new : Objects) → Keeps old new → (o : Option ObjId) → IsThere old o → IsThere new o
 named_still old new keeps None h = tt
 named_still old new keeps (Some o) h = has_more old new keeps o h
-
-module _ (texts : Table) (old new : Objects) (more : (o : ObjId) → IsTrue (has old o) → IsTrue (has new o)) where
-  value_more : (v : Value) → HasValue texts old v → HasValue texts new v
-  value_more values.Undefined h = tt
-  value_more values.Null h = tt
-  value_more (values.Bool b) h = tt
-  value_more (values.Number x) h = tt
-  value_more (values.Text id) h = h
-  value_more (values.Object o) h = more o h
-
-  fixed_more : (xs : List (Name × Value)) → Holds (λ e. IsName texts e.0 × HasValue texts old e.1) xs → Holds (λ e. IsName texts e.0 × HasValue texts new e.1) xs
-  fixed_more [] h = tt
-  fixed_more (e ∷ xs) h = ((h.0.0, value_more e.1 h.0.1), fixed_more xs h.1)
-
-  pub named_more : (z : Object) → HasNamed texts old z → HasNamed texts new z
-  named_more z h = record { primitive = value_more z.primitive h.primitive; fixed = fixed_more z.fixed h.fixed; flags = h.flags }
 
 -- ---- deeds
 
@@ -203,10 +183,10 @@ module _ {S : Type 0} (meaning : S → Meaning) where
         | inl same ↦ subst (λ (z : Entry). HasNamed old.heap.texts new z.object) same two
         | inr q' ↦ elim (new_or_old old.heap.arena mid old.owner x is_mid o e q') [
           | inl same ↦ subst (λ (z : Entry). HasNamed old.heap.texts new z.object) same one
-          | inr q'' ↦ named_more old.heap.texts old.heap.arena new more e.object (heap.objects o e q'')
+          | inr q'' ↦ named_stays_there old.heap.texts old.heap.arena new more e.object (heap.objects o e q'')
         ]
       ];
-      slots = λ i s v q. let both = heap.slots i s v q in (record { object = more s.object both.0.object; name = both.0.name }, value_more old.heap.texts old.heap.arena new more v both.1);
+      slots = λ i s v q. let both = heap.slots i s v q in (record { object = more s.object both.0.object; name = both.0.name }, value_stays_there old.heap.texts old.heap.arena new more v both.1);
     }
 
     no_world : (z : Object) (e : Entry) (w : WorldId) (arena : Objects) → z.world ≡ None → entry_over arena z ≡ e → e.object.world ≡ Some w → ⊥

@@ -5,7 +5,7 @@ use Rattle.wjs_base.specs.Text.{Table}
 use Rattle.wjs_arena.specs.declared.object.Object.{Object}
 use Rattle.wjs_arena.specs.Entries.{Objects, Keeps, has, next_number, scope_of}
 use Rattle.wjs_heap.specs.Heap.{HasNamed}
-use Rattle.wjs_model.specs.declared.unit.Unit.{Unit as Program}
+use Rattle.wjs_model.specs.declared.loaded.LoadedProgram.{LoadedProgram as Program}
 use Rattle.wjs_model.specs.Standing.{FunctionStands}
 
 -- the number of the second

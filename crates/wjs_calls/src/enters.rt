@@ -13,7 +13,7 @@ use wjs_model::{Config, Frame, Start};
 use wjs_store::WorldStore;
 
 /// The body of a function that a script made.
-pub fn enter_body<S: WorldStore>(
+pub(crate) fn enter_body<S: WorldStore>(
     config: &mut Config<S>,
     frame: Frame,
     function: ObjId,
@@ -31,7 +31,7 @@ pub fn enter_body<S: WorldStore>(
 }
 
 /// A native function.
-pub fn enter_native<S: WorldStore>(
+pub(crate) fn enter_native<S: WorldStore>(
     config: &mut Config<S>,
     frame: Frame,
     native: Native,
@@ -48,7 +48,7 @@ pub fn enter_native<S: WorldStore>(
 }
 
 /// A native function that `new` calls; its `this` is undefined.
-pub fn enter_constructor<S: WorldStore>(
+pub(crate) fn enter_constructor<S: WorldStore>(
     config: &mut Config<S>,
     frame: Frame,
     native: Native,

@@ -24,7 +24,7 @@ use wjs_store::WorldStore;
 use wjs_tree::NodeId;
 
 /// Makes the function of a node in a scope.
-pub fn make_function_in<S: WorldStore>(
+fn make_function_in<S: WorldStore>(
     config: &mut Config<S>,
     frame: &Frame,
     body: NodeId,

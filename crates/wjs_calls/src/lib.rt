@@ -16,6 +16,5 @@ mod pairs;
 pub use arrays::{make_array, whole_value, write_elements};
 pub use bodies::own_name;
 pub use calls::{call, call_below, call_held, call_value};
-pub use enters::{enter_body, enter_constructor, enter_native};
-pub use functions::{declare_functions, make_function, make_function_in};
+pub use functions::{declare_functions, make_function};
 pub use news::construct;

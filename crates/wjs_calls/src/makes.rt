@@ -20,12 +20,11 @@ use crate::arrays::whole_value;
 use crate::bodies::formals_count;
 use std::alloc::Global;
 use wjs_arena::{Class, Code, Flags, Listed, Object};
-use wjs_base::{Name, NodeId as Body, ObjId, OutOfMemory};
+use wjs_base::{Name, NodeId, ObjId, OutOfMemory};
 use wjs_heap_steps::{Known, builtin, create, known_name, object_of, one_fixed};
 use wjs_meaning::Builtin;
 use wjs_model::{Config, Frame};
 use wjs_store::WorldStore;
-use wjs_tree::NodeId;
 
 /// The names `length` and `prototype`.
 #[derive(Clone, Copy)]
@@ -69,7 +68,7 @@ pub(crate) fn function_object<S: WorldStore>(
         object_in t x ≡ line.function_object frame.now.tree body.0 (length (formals_of (node_here (env_in S.meaning config.now t frame.now) body.0))) scope) }
     ensures prototype { IfOk result (λ x. x.prototype ≡ Some function_prototype) }
     ensures scope { IfOk result (λ x. x.scope ≡ Some scope) }
-    ensures code { IfOk result (λ x. x.code ≡ Code.Script frame.now.tree (record { 0 = body.0 })) }
+    ensures code { IfOk result (λ x. x.code ≡ Code.Script frame.now.tree body) }
     ensures world { IfOk result (λ x. x.world ≡ None) }
     ensures near { IfOk result (λ x. NamesNear config.now.apart.items x) }
     ensures named { IfOk result (λ x. HasNamed config.now.heap.texts config.now.heap.arena x) }
@@ -87,7 +86,7 @@ pub(crate) fn function_object<S: WorldStore>(
     object.scope = Some(scope);
     object.code = Code::Script {
         tree: frame.tree(),
-        node: Body(body.0),
+        node: body,
     };
     object.fixed = fixed;
     object.flags = flags;

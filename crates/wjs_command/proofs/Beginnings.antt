@@ -1,11 +1,12 @@
 -- A run before its first step.
-use Rattle.std.proofs.Common.{◌≡◌, ℕ, List, [], ◌∷◌, ◌++◌, Option, None, Some, refl, ◌∙◌, sym, ap, subst, not, IsTrue, IfSome, Result, Ok, Err, IfOk}
+use Rattle.std.proofs.Common.{◌≡◌, ℕ, List, [], ◌∷◌, ◌++◌, Option, None, Some, ◌∙◌, sym, ap, subst, not, IsTrue, IfSome, Result, Ok, Err, IfOk}
 use Rattle.std.specs.Prelude.{map as each, is_some}
 use Rattle.std.specs.Option.{option_map}
 use Rattle.std.proofs.lemmas.List.Elements.{All-nil, All-cons, All-head}
 use Rattle.wjs_base.specs.declared.ids.OutOfMemory.{OutOfMemory}
 use Rattle.wjs_base.specs.Text.{Table, Grows}
 use Rattle.wjs_base.proofs.TextLaws.{Grows-refl, Grows-trans}
+use Rattle.wjs_base.proofs.Options.{some_map}
 use Rattle.wjs_store.specs.Meaning.{Meaning, PlainAct, PlainReply, IsSound}
 use Rattle.wjs_by_content.specs.Carried.{tell}
 use Rattle.wjs_by_content.specs.Plans.{Told}
@@ -15,7 +16,7 @@ use Rattle.wjs_meaning.specs.Programs.{machine}
 use Rattle.wjs_meaning.specs.Start.{properties}
 use Rattle.wjs_meaning.specs.declared.library.TheConstants.{LIBRARY}
 use Rattle.wjs_model.specs.declared.config.Config.{Config}
-use Rattle.wjs_model.specs.declared.unit.Unit.{Unit as Program}
+use Rattle.wjs_model.specs.declared.loaded.LoadedProgram.{LoadedProgram as Program}
 use Rattle.wjs_model.specs.Configurations.{seen, after_done}
 use Rattle.wjs_model.specs.Soundness.{Sound}
 use Rattle.wjs_model.specs.Texts.{KnowsUnit, PlacesUnit}
@@ -38,14 +39,9 @@ pub places_later : (old new : Table) (u : Program) → Grows old new → KnowsUn
 places_later old new u g h p = All-head (PlacesUnit new) u [] (placed_stay old new g (u ∷ []) (All-cons (KnowsUnit old) u [] h (All-nil (KnowsUnit old))) (All-cons (PlacesUnit old) u [] p (All-nil (PlacesUnit old))))
 
 -- the library's tree, in a table that has grown
-pub library_is : (texts t : Table) (library : Option Program) → Grows texts t → IsProgramOrNot LIBRARY.now (option_map (unit_in texts) library) → IfSome library (KnowsUnit texts) → IsLibrary (option_map (unit_in t) library)
+library_is : (texts t : Table) (library : Option Program) → Grows texts t → IsProgramOrNot LIBRARY.now (option_map (unit_in texts) library) → IfSome library (KnowsUnit texts) → IsLibrary (option_map (unit_in t) library)
 library_is texts t None g loads known = loads
 library_is texts t (Some u) g loads known = subst (λ (tree : Tree). IsLibrary (Some tree)) (sym (unit_grows texts t g u known)) loads
-
--- what comes behind leaves whether actions are told
-some_map : {A B : Type 0} (f : A → B) (o : Option A) → is_some (option_map f o) ≡ is_some o
-some_map f None = refl
-some_map f (Some a) = refl
 
 tells_alike : (t : Table) (before after : Option (List (PlainAct × PlainReply))) (more : List Told) → told_by t after ≡ tell more (told_by t before) → is_some before ≡ is_some after
 tells_alike t before after more e =

@@ -113,7 +113,7 @@ module _ {S : Type 0} (meaning : S → Meaning) where
   pub told_spent : (c : Config S) (report : Report) → IsReport statuses.StepsSpent (line (codes "step budget spent")) report → (r : Ending × St) → IsEndOf meaning c outcomes.StepsSpent r → IsReport (status_of_end r.0) (line_of_end r.0 r.1) report
   told_spent c report h r is = by_end report StepsSpent r.0 r.1 is.ends h
 
-  pub told_thrown : (c : Config S) (v : NumberedValue) (text : List ℕ) (report : Report) → c.world ≡ first_world → ShowsIn meaning c v text → IsReport statuses.Threw (line (codes "uncaught " ++ text)) report → (r : Ending × St) → IsEndOf meaning c (outcomes.Threw v) r → IsReport (status_of_end r.0) (line_of_end r.0 r.1) report
+  told_thrown : (c : Config S) (v : NumberedValue) (text : List ℕ) (report : Report) → c.world ≡ first_world → ShowsIn meaning c v text → IsReport statuses.Threw (line (codes "uncaught " ++ text)) report → (r : Ending × St) → IsEndOf meaning c (outcomes.Threw v) r → IsReport (status_of_end r.0) (line_of_end r.0 r.1) report
   told_thrown c v text report first shows h r is =
       let t = c.heap.texts in
       let same = shows_first meaning c v text first shows r.1 is.worlds_are is.arena_is in

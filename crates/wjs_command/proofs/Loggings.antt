@@ -1,11 +1,12 @@
 -- The run of a script whose log is written.
-use Rattle.std.proofs.Common.{◌≡◌, ℕ, Bool, true, false, not, ◌||◌, List, [], ◌++◌, Option, None, Some, Result, Err, refl, sym, ap, ◌∙◌, subst, arith, IsTrue}
+use Rattle.std.proofs.Common.{◌≡◌, ℕ, Bool, true, false, not, ◌||◌, List, [], ◌++◌, Option, None, Some, Result, Err, refl, sym, ap, ◌∙◌, subst, IsTrue}
 use Rattle.std.specs.Prelude.{unwrap_or}
 use Rattle.wjs_base.specs.Text.{Table}
+use Rattle.wjs_base.proofs.Booleans.{or_false}
 use Rattle.wjs_store.specs.Meaning.{Meaning}
-use Rattle.wjs_io.specs.Faults.{Rises}
 use Rattle.wjs_io.specs.Streams.{Stream, stream}
 use Rattle.wjs_io.proofs.Written.{Appends-nil}
+use Rattle.wjs_io.proofs.Rising.{never_rises}
 use Rattle.wjs_audit.specs.Recorded.{Recorded}
 use Rattle.wjs_by_content.specs.Worlds.{told_by}
 use Rattle.wjs_logs.specs.Telling.{Tells, logged}
@@ -13,7 +14,7 @@ use Rattle.wjs_meaning.specs.Deeds.{St}
 use Rattle.wjs_meaning.specs.Programs.{Ending, machine}
 use Rattle.wjs_meaning.specs.Start.{properties}
 use Rattle.wjs_model.specs.declared.config.Config.{Config}
-use Rattle.wjs_model.specs.declared.unit.Unit.{Unit as Program}
+use Rattle.wjs_model.specs.declared.loaded.LoadedProgram.{LoadedProgram as Program}
 use Rattle.wjs_model.specs.Units.{unit_in}
 use Rattle.wjs_start.specs.First.{IsNew, writes_told}
 use Rattle.wjs_machine.specs.declared.halt.Ending.{Ending as Outcome}
@@ -37,10 +38,6 @@ logged_new {S} meaning store r new e = subst (λ (x : Recorded S). IsNew (logged
   works = ap not (or_false (meaning store).spent) ∙ new.works;
   silent = refl;
 })
-  where
-    or_false : (b : Bool) → (b || false) ≡ b
-    or_false true = refl
-    or_false false = refl
 
 -- a logged store that works is not marked spent
 pub not_marked : (a b : Bool) → IsTrue (not (a || b)) → b ≡ false
@@ -50,12 +47,9 @@ not_marked false false h = refl
 
 -- ---- a run that nobody hears
 
-never_rises : Rises 0 0 → ⊥
-never_rises h = absurd (omega (arith, h))
-
 module _ {S : Type 0} (meaning : S → Meaning) where
   -- no sink fails, so only memory stops it
-  pub unheard_stop : (old new : Config S) (ending : Outcome) (stop : Stop) → stop_in ending ≡ Some stop → RunsTo meaning (stream None None 0 0) old new ending → stop ≡ OutOfMemory
+  unheard_stop : (old new : Config S) (ending : Outcome) (stop : Stop) → stop_in ending ≡ Some stop → RunsTo meaning (stream None None 0 0) old new ending → stop ≡ OutOfMemory
   unheard_stop old new outcomes.SinkFailed stop e h = absurd (never_rises h.cause)
   unheard_stop old new outcomes.OutOfMemory stop e h = cc
   unheard_stop old new outcomes.Done stop e h = absurd (cc)
@@ -63,7 +57,7 @@ module _ {S : Type 0} (meaning : S → Meaning) where
   unheard_stop old new outcomes.StepsSpent stop e h = absurd (cc)
 
   -- at its end the store has told its actions
-  pub has_told : (s : Stream) (old new : Config S) (ending : Outcome) → stop_in ending ≡ None → RunsTo meaning s old new ending → unwrap_or (told_by new.heap.texts (meaning new.heap.store).told) [] ≡ ((run_of meaning old).1).done
+  has_told : (s : Stream) (old new : Config S) (ending : Outcome) → stop_in ending ≡ None → RunsTo meaning s old new ending → unwrap_or (told_by new.heap.texts (meaning new.heap.store).told) [] ≡ ((run_of meaning old).1).done
   has_told s old new outcomes.Done e h = sym h.done
   has_told s old new (outcomes.Threw v) e h = sym (h.0).done
   has_told s old new outcomes.StepsSpent e h = sym h.done

@@ -6,7 +6,7 @@ use Rattle.wjs_base.specs.Text.{Table, Grows}
 use Rattle.wjs_io.specs.Streams.{Stream, stream, Got}
 use Rattle.wjs_io.proofs.Written.{Appends-nil}
 use Rattle.wjs_meaning.specs.Trees.{Tree}
-use Rattle.wjs_model.specs.declared.unit.Unit.{Unit as Program}
+use Rattle.wjs_model.specs.declared.loaded.LoadedProgram.{LoadedProgram as Program}
 use Rattle.wjs_model.specs.Texts.{KnowsUnit}
 use Rattle.wjs_model.specs.Units.{unit_in}
 use Rattle.wjs_frames.proofs.NodesGrow.{unit_grows}

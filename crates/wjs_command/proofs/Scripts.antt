@@ -7,7 +7,7 @@ use Rattle.wjs_load.specs.declared.tokens.Refusal.{Refusal}
 use Rattle.wjs_load.specs.declared.tokens.LoadFault.{LoadFault}
 use Rattle.wjs_load.specs.declared.tokens.LoadFault.TheVariants as faults
 use Rattle.wjs_load.specs.Loading.{Refuses as AreRefused, IsRefused as IsNone}
-use Rattle.wjs_model.specs.declared.unit.Unit.{Unit as Program}
+use Rattle.wjs_model.specs.declared.loaded.LoadedProgram.{LoadedProgram as Program}
 use Rattle.wjs_model.specs.Units.{unit_in}
 use Rattle.wjs_audit.specs.declared.fault.AuditFault.{AuditFault}
 use Rattle.wjs_audit.specs.declared.fault.AuditFault.TheVariants.{NotALog, NotTheAnswer, OutOfMemory}

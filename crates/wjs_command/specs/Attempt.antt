@@ -12,7 +12,7 @@ use Rattle.wjs_meaning.specs.Trees.{Tree}
 use Rattle.wjs_meaning.specs.Programs.{Ending, Done, Threw, StepsSpent, machine}
 use Rattle.wjs_meaning.specs.Start.{properties}
 use Rattle.wjs_model.specs.declared.config.Config.{Config}
-use Rattle.wjs_model.specs.declared.unit.Unit.{Unit as Program}
+use Rattle.wjs_model.specs.declared.loaded.LoadedProgram.{LoadedProgram as Program}
 use Rattle.wjs_model.specs.Configurations.{seen, after_done, tells}
 use Rattle.wjs_model.specs.Soundness.{Sound, HasValue}
 use Rattle.wjs_model.specs.Units.{unit_in}

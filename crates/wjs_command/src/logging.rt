@@ -16,11 +16,11 @@ use crate::report::{Report, Stop};
 use crate::running::{begin, stop_of, tell, write_or_stop};
 use std::alloc::Global;
 use wjs_audit::Logged;
-use wjs_base::{OutOfMemory, Texts};
+use wjs_base::Texts;
 use wjs_io::{Sink, Unheard};
 use wjs_logs::spell_store;
 use wjs_machine::{Ending, run};
-use wjs_model::{Config, Unit};
+use wjs_model::{Config, LoadedProgram};
 use wjs_store::WorldStore;
 
 /// Runs a script's program behind the library, with so many steps, over a new store, and writes the log of its actions in place of
@@ -29,7 +29,7 @@ pub fn log_script<S: WorldStore + Drop, O: Sink>(
     alloc: Global,
     store: S,
     texts: Texts,
-    script: Unit,
+    script: LoadedProgram,
     steps: u64,
     out: &mut O,
 ) -> Result<Report, Stop>
@@ -39,10 +39,8 @@ pub fn log_script<S: WorldStore + Drop, O: Sink>(
     requires places { PlacesUnit texts script }
     ensures { Comes (IsLogRun texts script steps) (over O.seen out.old out.new) result }
 {
-    match begin(alloc, Logged::new(alloc, store), texts, script, steps) {
-        Ok(config) => log_whole(alloc, config, out),
-        Err(OutOfMemory) => Err(Stop::OutOfMemory),
-    }
+    let config = begin(alloc, Logged::new(alloc, store), texts, script, steps)?;
+    log_whole(alloc, config, out)
 }
 
 /// Runs to the end, where nobody hears what is printed, and writes the log.
@@ -78,10 +76,8 @@ fn conclude_log<S: WorldStore + Drop, O: Sink>(
     requires thrown { HasThrown config ending }
     ensures { (r : Meant × St) → IsEndOf (logged S.meaning) config ending r → HasLogged config r → Comes (LogsRun r) (over O.seen out.old out.new) result }
 {
-    match spell_store(alloc, &config.heap.store, &config.heap.texts) {
-        Ok(log) => write_and_tell(alloc, config, ending, log.as_slice(), out),
-        Err(OutOfMemory) => Err(Stop::OutOfMemory),
-    }
+    let log = spell_store(alloc, &config.heap.store, &config.heap.texts)?;
+    write_and_tell(alloc, config, ending, log.as_slice(), out)
 }
 
 /// Writes the bytes, and tells of the end of a run that has ended so.
@@ -102,8 +98,5 @@ fn write_and_tell<S: WorldStore + Drop, O: Sink>(
         Ok(()) => {}
         Err(stop) => return Err(stop),
     }
-    match tell(alloc, config, ending) {
-        Ok(report) => Ok(report),
-        Err(OutOfMemory) => Err(Stop::OutOfMemory),
-    }
+    Ok(tell(alloc, config, ending)?)
 }

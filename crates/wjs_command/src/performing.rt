@@ -14,7 +14,7 @@ use crate::playing::play_parts;
 use crate::report::{Report, Stop, done, refuse};
 use crate::running::{run_script, write_or_stop};
 use std::alloc::Global;
-use wjs_base::{OutOfMemory, Texts};
+use wjs_base::Texts;
 use wjs_io::Sink;
 use wjs_load::{LoadFault, load};
 use wjs_options::{Mode, Options};
@@ -53,10 +53,8 @@ fn perform_one<O: Sink>(
     requires within { length bytes.now ≤ most_of options.mode }
     ensures { Comes (IsTold options bytes.now) (over O.seen out.old out.new) result }
 {
-    match Overlay::new(alloc) {
-        Ok(store) => perform_in(alloc, store, options, bytes, out),
-        Err(OutOfMemory) => Err(Stop::OutOfMemory),
-    }
+    let store = Overlay::new(alloc)?;
+    perform_in(alloc, store, options, bytes, out)
 }
 
 /// Does what the options ask with the bytes of one script or log, over a new store of worlds, which may tell its actions.
@@ -92,10 +90,7 @@ fn perform_script<S: WorldStore + Drop, O: Sink>(
     requires within { length bytes.now ≤ most_of options.mode }
     ensures { Comes (owed_in options.mode options.steps options.turn bytes.now) (over O.seen out.old out.new) result }
 {
-    let mut texts = match Texts::new(alloc) {
-        Ok(texts) => texts,
-        Err(_) => return Err(Stop::OutOfMemory),
-    };
+    let mut texts = Texts::new(alloc)?;
     let script = match load(alloc, bytes, &mut texts) {
         Ok(script) => script,
         Err(fault) => return refuse_or_stop(alloc, fault),
@@ -112,10 +107,7 @@ fn refuse_or_stop(alloc: Global, fault: LoadFault) -> Result<Report, Stop>
     ensures { RefusesAs fault result }
 {
     match fault {
-        LoadFault::Refused(refusal) => match refuse(alloc, refusal) {
-            Ok(report) => Ok(report),
-            Err(OutOfMemory) => Err(Stop::OutOfMemory),
-        },
+        LoadFault::Refused(refusal) => Ok(refuse(alloc, refusal)?),
         LoadFault::OutOfMemory => Err(Stop::OutOfMemory),
     }
 }

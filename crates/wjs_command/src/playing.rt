@@ -12,11 +12,11 @@ use crate::status::Status;
 use std::alloc::Global;
 use std::mem::ManuallyDrop;
 use wjs_activity::{PlayEnd, play};
-use wjs_base::{OutOfMemory, Texts};
+use wjs_base::Texts;
 use wjs_division::{InputFault, load_parts};
 use wjs_io::Sink;
 use wjs_load::library;
-use wjs_model::Unit;
+use wjs_model::LoadedProgram;
 
 /// Plays the scripts that the bytes are divided into, in rounds of turns of so many steps, each with this budget for a try: in worlds
 /// of their own under one first world.
@@ -33,10 +33,7 @@ pub fn play_parts<O: Sink>(
     ensures told { Comes (OfPlay budget turn bytes.now) (over O.seen out.old out.new) result }
     ensures alone { ComesAlone (PlayedAlone budget bytes.now) (over O.seen out.old out.new) result }
 {
-    let mut texts = match Texts::new(alloc) {
-        Ok(texts) => texts,
-        Err(_) => return Err(Stop::OutOfMemory),
-    };
+    let mut texts = Texts::new(alloc)?;
     match load_parts(alloc, bytes, &mut texts) {
         Ok(parts) => play_units(alloc, texts, parts, budget, turn, out),
         Err(fault) => refuse_input(alloc, fault),
@@ -47,7 +44,7 @@ pub fn play_parts<O: Sink>(
 fn play_units<O: Sink>(
     alloc: Global,
     texts: Texts,
-    parts: Vec<Unit>,
+    parts: Vec<LoadedProgram>,
     budget: u64,
     turn: u64,
     out: &mut O,
@@ -62,10 +59,7 @@ fn play_units<O: Sink>(
     ensures alone { ComesAlone (RanAlone budget (map (unit_in texts) parts.items)) (over O.seen out.old out.new) result }
 {
     let mut texts = texts;
-    let library = match library(alloc, &mut texts) {
-        Ok(library) => library,
-        Err(OutOfMemory) => return Err(Stop::OutOfMemory),
-    };
+    let library = library(alloc, &mut texts)?;
     let end = play(alloc, texts, library, parts, &[], turn, budget, out);
     tell_play(alloc, end)
 }
@@ -91,10 +85,7 @@ fn tell_play(alloc: Global, end: PlayEnd) -> Result<Report, Stop>
 fn tell_spent(alloc: Global) -> Result<Report, Stop>
     ensures { TellsPlay PlayEnd.StepsSpent result }
 {
-    match report_line(alloc, Status::StepsSpent, b"step budget spent", b"") {
-        Ok(report) => Ok(report),
-        Err(OutOfMemory) => Err(Stop::OutOfMemory),
-    }
+    Ok(report_line(alloc, Status::StepsSpent, b"step budget spent", b"")?)
 }
 
 /// The report of bytes that are no input of a play.
@@ -104,10 +95,7 @@ fn refuse_input(alloc: Global, fault: InputFault) -> Result<Report, Stop>
     match fault {
         InputFault::NotUtf8 => refuse_by(alloc, b"not UTF-8"),
         InputFault::TooMany => refuse_by(alloc, b"too many activities"),
-        InputFault::Refused(refusal) => match refuse(alloc, refusal) {
-            Ok(report) => Ok(report),
-            Err(OutOfMemory) => Err(Stop::OutOfMemory),
-        },
+        InputFault::Refused(refusal) => Ok(refuse(alloc, refusal)?),
         InputFault::OutOfMemory => Err(Stop::OutOfMemory),
     }
 }

@@ -28,6 +28,16 @@ pub enum Stop {
     OutOfMemory,
 }
 
+impl From<OutOfMemory> for Stop {
+    ghost use Rattle.wjs_command.specs.declared.report.Stop.TheVariants.{OutOfMemory};
+
+    ghost from_gives = { λ _ stop. stop ≡ OutOfMemory };
+
+    fn from(_: OutOfMemory) -> Self {
+        Stop::OutOfMemory
+    }
+}
+
 /// The report of a run that ended normally: there is no line.
 pub fn done(alloc: Global) -> Report
     ensures { IsReport statuses.Done [] result }
@@ -48,12 +58,9 @@ pub fn report_line(
     ensures { IfOk result (IsReport status (as_line (first.now ++ second.now))) }
 {
     let mut line = Vec::new(alloc);
-    if line.extend_from_slice(first).is_err()
-        || line.extend_from_slice(second).is_err()
-        || line.push(b'\n').is_err()
-    {
-        return Err(OutOfMemory);
-    }
+    line.extend_from_slice(first)?;
+    line.extend_from_slice(second)?;
+    line.push(b'\n')?;
     Ok(Report { status, line })
 }
 
@@ -61,10 +68,7 @@ pub fn report_line(
 pub fn refuse_by(alloc: Global, words: &[u8]) -> Result<Report, Stop>
     ensures { Refuses words.now result }
 {
-    match report_line(alloc, Status::Refused, b"", words) {
-        Ok(report) => Ok(report),
-        Err(OutOfMemory) => Err(Stop::OutOfMemory),
-    }
+    Ok(report_line(alloc, Status::Refused, b"", words)?)
 }
 
 /// The report of bytes that are no script.

@@ -22,7 +22,7 @@ use wjs_base::{OutOfMemory, Texts, Value};
 use wjs_io::{Sink, write_pieces};
 use wjs_load::library;
 use wjs_machine::{Ending, run};
-use wjs_model::{Config, Unit};
+use wjs_model::{Config, LoadedProgram};
 use wjs_options::Mode;
 use wjs_reports::{show_thrown, world_lines};
 use wjs_start::start;
@@ -33,7 +33,7 @@ pub fn run_script<S: WorldStore + Drop, O: Sink>(
     alloc: Global,
     store: S,
     texts: Texts,
-    script: Unit,
+    script: LoadedProgram,
     steps: u64,
     mode: Mode,
     out: &mut O,
@@ -44,10 +44,8 @@ pub fn run_script<S: WorldStore + Drop, O: Sink>(
     requires places { PlacesUnit texts script }
     ensures { Comes (IsRunOf texts script steps mode) (over O.seen out.old out.new) result }
 {
-    match begin(alloc, store, texts, script, steps) {
-        Ok(config) => run_whole(alloc, config, mode, out),
-        Err(OutOfMemory) => Err(Stop::OutOfMemory),
-    }
+    let config = begin(alloc, store, texts, script, steps)?;
+    run_whole(alloc, config, mode, out)
 }
 
 /// The run before its first step.
@@ -55,7 +53,7 @@ pub fn begin<S: WorldStore + Drop>(
     alloc: Global,
     store: S,
     texts: Texts,
-    script: Unit,
+    script: LoadedProgram,
     steps: u64,
 ) -> Result<Config<S>, OutOfMemory>
     requires new { IsNew (S.meaning store) }
@@ -117,10 +115,7 @@ fn conclude<S: WorldStore + Drop, O: Sink>(
         Ok(()) => {}
         Err(stop) => return Err(stop),
     }
-    match tell(alloc, config, ending) {
-        Ok(report) => Ok(report),
-        Err(OutOfMemory) => Err(Stop::OutOfMemory),
-    }
+    Ok(tell(alloc, config, ending)?)
 }
 
 /// Writes what stands behind the output.
@@ -149,10 +144,8 @@ fn write_worlds<S: WorldStore, O: Sink>(
     requires sound { Sound S.meaning config.now }
     ensures { Writes (lines_of (worlds_in config.now.heap.texts (worlds (S.meaning config.now.heap.store)))) (over O.seen out.old out.new) result }
 {
-    match world_lines(alloc, &config.heap.store) {
-        Ok(lines) => write_or_stop(lines.as_slice(), out),
-        Err(OutOfMemory) => Err(Stop::OutOfMemory),
-    }
+    let lines = world_lines(alloc, &config.heap.store)?;
+    write_or_stop(lines.as_slice(), out)
 }
 
 /// Writes bytes in pieces.

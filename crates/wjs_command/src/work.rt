@@ -11,7 +11,6 @@ use crate::performing::perform;
 use crate::report::{Report, Stop, refuse_by};
 use crate::status::Status;
 use std::alloc::Global;
-use wjs_base::OutOfMemory;
 use wjs_gen::script_of;
 use wjs_io::{ReadFault, Sink, Source, read_all, write_all_of};
 use wjs_options::{Mode, Options, WordsFault, options};
@@ -33,10 +32,8 @@ fn generate<O: Sink>(alloc: Global, options: Options, out: &mut O) -> Result<Rep
     requires greatest { options.number ≤ 50000 }
     ensures { Comes (IsTold options (script options.number)) (over O.seen out.old out.new) result }
 {
-    match script_of(alloc, options.number) {
-        Ok(bytes) => perform(alloc, options, bytes.as_slice(), out),
-        Err(OutOfMemory) => Err(Stop::OutOfMemory),
-    }
+    let bytes = script_of(alloc, options.number)?;
+    perform(alloc, options, bytes.as_slice(), out)
 }
 
 /// Reads the source to its end, and does what the options ask with the bytes that it gives.

@@ -1,9 +1,9 @@
 //! Truth values, numbers and texts of values.
 ghost use Rattle.std.specs.Prelude.{◌≡◌, true, Some, IfOk, OnOk, OnErr};
 ghost use Rattle.wjs_base.specs.Range.{InRange};
-ghost use Rattle.wjs_base.specs.Text.{Table, Grows, Interns, IsTable};
+ghost use Rattle.wjs_base.specs.Text.{Grows, Interns, IsTable};
 ghost use Rattle.wjs_by_content.specs.Tables.{value_in, knows_value};
-ghost use Rattle.wjs_by_content.specs.Conversions.{is_primitive, to_boolean, primitive_number, primitive_text};
+ghost use Rattle.wjs_by_content.specs.Conversions.{to_boolean, primitive_number, primitive_text};
 
 use std::alloc::Global;
 use wjs_base::{LONGEST_TEXT, OutOfMemory, TextId, Texts, Value, Whole};
@@ -17,13 +17,6 @@ const NULL: [u16; 4] = [110, 117, 108, 108];
 const TRUE: [u16; 4] = [116, 114, 117, 101];
 
 const FALSE: [u16; 5] = [102, 97, 108, 115, 101];
-
-/// Whether it is no object (ECMA-262, 3rd edition, section 4.3.2).
-pub fn is_primitive(value: Value) -> bool
-    ensures { (texts : Table) → result ≡ is_primitive (value_in texts value) }
-{
-    !matches!(value, Value::Object(_))
-}
 
 /// Whether the value counts as true (ECMA-262, 3rd edition, section 9.2): not undefined, null, false, 0, NaN and the empty
 /// text.
@@ -98,8 +91,5 @@ fn interned(texts: &mut Texts, units: &[u16]) -> Result<TextId, OutOfMemory>
     ensures table { IsTable texts.new }
     ensures grows { Grows texts.old texts.new }
 {
-    match texts.intern(units) {
-        Ok(id) => Ok(id),
-        Err(_) => Err(OutOfMemory),
-    }
+    Ok(texts.intern(units)?)
 }

@@ -8,4 +8,4 @@ mod compare;
 mod convert;
 
 pub use compare::{less_than, loosely_equal, strictly_equal};
-pub use convert::{is_primitive, to_boolean, to_number, to_text};
+pub use convert::{to_boolean, to_number, to_text};

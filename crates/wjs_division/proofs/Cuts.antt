@@ -26,7 +26,7 @@ cut_at (b ∷ bytes) (suc n) lt none feed =
     byte_first b bytes other ∙ ap (onto_first b) rest
 
 -- no LF stands there
-pub uncut : (bytes : List ℕ) → ((k : ℕ) → k < length bytes → get_or bytes k 0 ≡ 10 → ⊥) → lines_of bytes ≡ one_line bytes
+uncut : (bytes : List ℕ) → ((k : ℕ) → k < length bytes → get_or bytes k 0 ≡ 10 → ⊥) → lines_of bytes ≡ one_line bytes
 uncut [] none = refl
 uncut (b ∷ bytes) none =
     let other : (b == 10) ≡ false = ne_eqb b 10 (none 0 (omega arith)) in

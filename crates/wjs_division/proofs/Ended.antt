@@ -1,17 +1,14 @@
 -- The lines that end among characters.
-use Rattle.std.proofs.Common.{◌≡◌, ℕ, ◌+◌, ◌≤◌, ◌^◌, List, length, refl, ap, ◌∙◌, subst, arith, add-one, slice_get}
+use Rattle.std.proofs.Common.{◌≡◌, ℕ, ◌+◌, ◌≤◌, ◌^◌, List, length, refl, ap, ◌∙◌, subst, arith, slice_get}
 use Rattle.std.specs.Str.{IsUtf8, chars, encode_utf8_all}
 use Rattle.std.proofs.lemmas.Str.{chars_from_encodes, length-le-encodes}
 use Rattle.wjs_lexer.specs.Places.{line_at, line_step}
+use Rattle.wjs_lexer.proofs.Places.{line_more}
 
 -- a text begins on its first line
 pub first_line : (cs : List ℕ) → line_at cs 0 ≡ 1
 unfolding line_at
 first_line cs = refl
-
-pub line_more : (cs : List ℕ) (i : ℕ) → line_at cs (i + 1) ≡ line_at cs i + line_step (slice_get cs i) (slice_get cs (i + 1))
-unfolding line_at
-line_more cs i = ap (line_at cs) (add-one i)
 
 -- one character more
 pub ends_more : (cs : List ℕ) (i ends step : ℕ) → ends + 1 ≡ line_at cs i → step ≡ line_step (slice_get cs i) (slice_get cs (i + 1)) → (ends + step) + 1 ≡ line_at cs (i + 1)

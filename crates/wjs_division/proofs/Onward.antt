@@ -9,9 +9,10 @@ use Rattle.std.proofs.lemmas.Option.{none-some, same_Some, slice_get_past}
 use Rattle.std.proofs.lemmas.Slice.Eq.{bytes_eq-Decides}
 use Rattle.std.proofs.lemmas.Str.{chars-nil, chars-append, chars_past_char, encode_ascii, IsUtf8-append, IsUtf8-nil, IsUtf8-take, IsCharBoundary-before_ascii}
 use Rattle.wjs_lexer.specs.Places.{line_at, line_step}
+use Rattle.wjs_lexer.proofs.Places.{line_more}
 use Rattle.wjs_division.specs.Division.{Part, part_behind, divides, lines_of, onto_first, divided}
 use Rattle.wjs_division.specs.Laws.{LinesGoOn}
-use Rattle.wjs_division.proofs.Ended.{first_line, line_more}
+use Rattle.wjs_division.proofs.Ended.{first_line}
 use Rattle.wjs_division.proofs.Texts.{AreTexts, lines_are_texts, part_texts}
 
 -- ---- a list behind another

@@ -8,7 +8,7 @@ use Rattle.std.proofs.lemmas.Option.{slice_get-get_or, slice_get-map, get_or_fro
 use Rattle.wjs_base.specs.Text.{Table, Grows, IsTable}
 use Rattle.wjs_base.proofs.TextLaws.{Grows-refl, Grows-trans}
 use Rattle.wjs_meaning.specs.Trees.{Tree}
-use Rattle.wjs_model.specs.declared.unit.Unit.{Unit as Program}
+use Rattle.wjs_model.specs.declared.loaded.LoadedProgram.{LoadedProgram as Program}
 use Rattle.wjs_model.specs.Texts.{KnowsUnit, PlacesUnit}
 use Rattle.wjs_model.specs.Units.{unit_in}
 use Rattle.wjs_model.proofs.Placed.{placed_stay}
@@ -25,7 +25,7 @@ use Rattle.wjs_division.proofs.Texts.{part_texts}
 
 -- ---- programs in order
 
-pub programs_append : (ps qs : List Part) (ts us : List Tree) → ArePrograms ps ts → ArePrograms qs us → ArePrograms (ps ++ qs) (ts ++ us)
+programs_append : (ps qs : List Part) (ts us : List Tree) → ArePrograms ps ts → ArePrograms qs us → ArePrograms (ps ++ qs) (ts ++ us)
 programs_append [] qs [] us h k = k
 programs_append [] qs (t ∷ ts) us h k = absurd h
 programs_append (p ∷ ps) qs [] us h k = absurd h
@@ -34,7 +34,7 @@ programs_append (p ∷ ps) qs (t ∷ ts) us h k = (h.0, programs_append ps qs ts
 -- ---- the part at a place
 
 -- the part that is at a place of an input is that of the piece there
-pub part_there : (bytes : List ℕ) (pieces : List Piece) (i : ℕ) (d : Piece) → pieces_in bytes pieces ≡ parts_of bytes → i < length pieces → slice_get (parts_of bytes) i ≡ Some (piece_in bytes (get_or pieces i d))
+part_there : (bytes : List ℕ) (pieces : List Piece) (i : ℕ) (d : Piece) → pieces_in bytes pieces ≡ parts_of bytes → i < length pieces → slice_get (parts_of bytes) i ≡ Some (piece_in bytes (get_or pieces i d))
 part_there bytes pieces i d same low =
     ap (λ (ps : List Part). slice_get ps i) (sym same)
     ∙ slice_get-map (piece_in bytes) pieces i

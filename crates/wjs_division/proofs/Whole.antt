@@ -1,11 +1,12 @@
 -- The parts of an input, by their pieces as a slice.
-use Rattle.std.proofs.Common.{◌≡◌, ℕ, suc, ◌<◌, ◌≤◌, List, [], ◌∷◌, length, Vec, Global, Result, Ok, Err, IfOk, refl, sym, ap, ◌∙◌, subst, arith}
+use Rattle.std.proofs.Common.{◌≡◌, ℕ, suc, ◌<◌, ◌≤◌, List, [], ◌∷◌, length, Vec, Global, Result, IfOk, refl, sym, ap, ◌∙◌, subst, arith}
 use Rattle.std.specs.Prelude.{All, map as each}
 use Rattle.std.specs.Str.{IsUtf8}
 use Rattle.std.proofs.lemmas.List.{length-map}
+use Rattle.std.proofs.lemmas.Result.{IfOk-weaker}
 use Rattle.wjs_base.specs.Text.{Table}
 use Rattle.wjs_meaning.specs.Trees.{Tree}
-use Rattle.wjs_model.specs.declared.unit.Unit.{Unit as Program}
+use Rattle.wjs_model.specs.declared.loaded.LoadedProgram.{LoadedProgram as Program}
 use Rattle.wjs_model.specs.Units.{unit_in}
 use Rattle.wjs_division.specs.declared.division.Piece.{Piece}
 use Rattle.wjs_division.specs.declared.input.InputFault.{InputFault}
@@ -36,16 +37,12 @@ few_pieces pieces tested slice tested_is slice_is low =
     let same = ap (λ (ps : List Piece). length ps) (slice_is ∙ sym tested_is) in
     omega arith
 
-if_ok : {A E : Type 0} (r : Result A E) (P Q : A → Type 0) → ((a : A) → P a → Q a) → IfOk r P → IfOk r Q
-if_ok (Ok a) P Q f h = f a h
-if_ok (Err e) P Q f h = h
-
 pub is_input : (bytes : List ℕ) (pieces slice : List Piece) (texts : Table) (r : Result (Vec Program Global) InputFault) → IsUtf8 bytes → pieces_in bytes pieces ≡ parts_of bytes → slice ≡ pieces → length slice ≤ 1000 → IfOk r (λ units. ArePrograms (parts_of bytes) (each (unit_in texts) units.items)) → IfOk r (λ units. IsInput bytes (each (unit_in texts) units.items))
 is_input bytes pieces slice texts r utf8 parts same few h =
     let count = count_parts bytes pieces parts in
     let long = ap (λ (ps : List Piece). length ps) same in
     let low : length (parts_of bytes) ≤ 1000 = omega arith in
-    if_ok r _ _ (λ units programs. record { text = utf8; few = low; programs = programs }) h
+    IfOk-weaker r _ _ (λ units programs. record { text = utf8; few = low; programs = programs }) h
 
 -- ---- how many programs there are
 
@@ -59,10 +56,10 @@ units_count : (bytes : List ℕ) (texts : Table) (units : List Program) → AreP
 units_count bytes texts units programs = sym (length-map units (unit_in texts)) ∙ programs_count (parts_of bytes) (each (unit_in texts) units) programs
 
 pub some_units : (bytes : List ℕ) (texts : Table) (r : Result (Vec Program Global) InputFault) → IfOk r (λ units. ArePrograms (parts_of bytes) (each (unit_in texts) units.items)) → IfOk r (λ units. 1 ≤ length units.items)
-some_units bytes texts r h = if_ok r _ _ (λ units programs. let count = units_count bytes texts units.items programs in let some : 0 < length (parts_of bytes) = some_part [] [] (lines_of bytes) in omega arith) h
+some_units bytes texts r h = IfOk-weaker r _ _ (λ units programs. let count = units_count bytes texts units.items programs in let some : 0 < length (parts_of bytes) = some_part [] [] (lines_of bytes) in omega arith) h
 
 pub few_units : (bytes : List ℕ) (pieces slice : List Piece) (texts : Table) (r : Result (Vec Program Global) InputFault) → pieces_in bytes pieces ≡ parts_of bytes → slice ≡ pieces → length slice ≤ 1000 → IfOk r (λ units. ArePrograms (parts_of bytes) (each (unit_in texts) units.items)) → IfOk r (λ units. length units.items ≤ 1000)
 few_units bytes pieces slice texts r parts same few h =
     let count = count_parts bytes pieces parts in
     let long = ap (λ (ps : List Piece). length ps) same in
-    if_ok r _ _ (λ units programs. let all = units_count bytes texts units.items programs in omega arith) h
+    IfOk-weaker r _ _ (λ units programs. let all = units_count bytes texts units.items programs in omega arith) h

@@ -15,7 +15,7 @@ use crate::lines::line_ends;
 use std::alloc::Global;
 use wjs_base::{OutOfMemory, Texts};
 use wjs_load::{LoadFault, Refusal, load};
-use wjs_model::Unit;
+use wjs_model::LoadedProgram;
 
 /// The most parts of a play.
 const MOST: usize = 1000;
@@ -34,7 +34,11 @@ pub enum InputFault {
 /// The loaded programs of the parts that at most 16,777,216 bytes are divided into by lines that are `---`; their texts are put into the table,
 /// in which what was there keeps its number, also after a fault. Each fault but want of memory comes exactly where it holds of the
 /// bytes.
-pub fn load_parts(alloc: Global, bytes: &[u8], texts: &mut Texts) -> Result<Vec<Unit>, InputFault>
+pub fn load_parts(
+    alloc: Global,
+    bytes: &[u8],
+    texts: &mut Texts,
+) -> Result<Vec<LoadedProgram>, InputFault>
     requires { length bytes.now ≤ 2 ^ 24 }
     ensures ok { IfOk result (λ units. IsInput bytes.now (map (unit_in texts.new) units.items)) }
     ensures known { IfOk result (λ units. All (KnowsUnit texts.new) units.items) }
@@ -52,7 +56,11 @@ pub fn load_parts(alloc: Global, bytes: &[u8], texts: &mut Texts) -> Result<Vec<
 }
 
 /// The same of bytes that are text.
-fn load_text(alloc: Global, bytes: &[u8], texts: &mut Texts) -> Result<Vec<Unit>, InputFault>
+fn load_text(
+    alloc: Global,
+    bytes: &[u8],
+    texts: &mut Texts,
+) -> Result<Vec<LoadedProgram>, InputFault>
     requires short { length bytes.now ≤ 2 ^ 24 }
     requires utf8 { IsUtf8 bytes.now }
     ensures ok { IfOk result (λ units. IsInput bytes.now (map (unit_in texts.new) units.items)) }
@@ -87,7 +95,7 @@ fn load_pieces(
     bytes: &[u8],
     pieces: &[Piece],
     texts: &mut Texts,
-) -> Result<Vec<Unit>, InputFault>
+) -> Result<Vec<LoadedProgram>, InputFault>
     requires short { length bytes.now ≤ 2 ^ 24 }
     requires utf8 { IsUtf8 bytes.now }
     requires parts { pieces_in bytes.now pieces.now ≡ parts_of bytes.now }
@@ -120,7 +128,7 @@ fn load_piece(
     bytes: &[u8],
     piece: Piece,
     texts: &mut Texts,
-) -> Result<Unit, InputFault>
+) -> Result<LoadedProgram, InputFault>
     requires short { length bytes.now ≤ 2 ^ 24 }
     requires inside { IsInside bytes.now piece }
     requires front { IsUtf8 (take piece.from bytes.now) }

@@ -1,11 +1,11 @@
 //! The lines that end in a text, counted as a script's are.
 ghost use Rattle.std.specs.Prelude.{◌≡◌, ◌+◌, ◌<◌, ◌≤◌, ◌^◌, IfOk, length, slice_get};
 ghost use Rattle.std.specs.Str.{IsUtf8, chars, encode_utf8_all};
-ghost use Rattle.wjs_lexer.specs.Characters.{is_line_end};
 ghost use Rattle.wjs_lexer.specs.Places.{line_at, line_step};
 
 use std::alloc::{AllocError, Global};
 use wjs_base::OutOfMemory;
+use wjs_lexer::is_line_end;
 
 /// How many lines end in a text, at its line terminators, of which CR LF is one (ECMA-262, 3rd edition, section 7.3).
 pub(crate) fn line_ends(alloc: Global, text: &[u8]) -> Result<u64, OutOfMemory>
@@ -64,10 +64,4 @@ fn ends_at(chars: &[char], at: usize) -> u64
         Some(ch) => { if is_line_end(ch) { 1 } else { 0 } }
         None => 0,
     }
-}
-
-fn is_line_end(ch: char) -> bool
-    ensures { result ≡ is_line_end ch }
-{
-    matches!(ch, '\n' | '\r' | '\u{2028}' | '\u{2029}')
 }

@@ -8,12 +8,12 @@ use borrow.Author.Tests.{eqb-true}
 use Rattle.wjs_base.specs.declared.ids.TextId.{TextId}
 use Rattle.wjs_base.specs.Text.{Table, IsTable, Has, Grows}
 use Rattle.wjs_base.proofs.TextLaws.{Grows-Has}
+use Rattle.wjs_base.specs.declared.ids.NodeId.{NodeId}
 use Rattle.wjs_by_content.specs.Names.{arguments_name}
 use Rattle.wjs_by_content.specs.Values.{Text, same_text}
 use Rattle.wjs_by_content.specs.Tables.{text_in}
 use Rattle.wjs_scope.specs.Declarations.{with_name}
 use Rattle.wjs_scope.specs.Scopes.{is_in}
-use Rattle.wjs_tree.specs.declared.node.NodeId.{NodeId}
 use Rattle.wjs_meaning.specs.Deeds.{Env, node_here}
 use Rattle.wjs_meaning.specs.Functions.{function_names}
 use Rattle.wjs_meaning.specs.Reading.{numbers}
@@ -49,7 +49,7 @@ again names x y e true q =
     there ∙ sym (ap (λ b. b || (true || false)) there)
 again names x y e false q = or_false (is_in names x)
 
-pub one_more : (names : List TextId) (x y : TextId) → is_in (with_name names y) x ≡ (is_in names x || is_in (y ∷ []) x)
+one_more : (names : List TextId) (x y : TextId) → is_in (with_name names y) x ≡ (is_in names x || is_in (y ∷ []) x)
 one_more names x y = by (is_in names y) refl
   where
     by : (b : Bool) → is_in names y ≡ b → is_in (if b then names else (names ++ y ∷ [])) x ≡ (is_in names x || is_in (y ∷ []) x)

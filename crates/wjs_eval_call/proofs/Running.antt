@@ -1,7 +1,7 @@
 -- Bodies at their elements.
 use Rattle.std.proofs.Common.{◌≡◌, ℕ, ◌+◌, ◌<◌, ◌≤◌, length, List, ◌∷◌, None, Some, sym, ap, ◌∙◌, drop}
 use Rattle.std.specs.Prelude.{slice_index_or}
-use Rattle.wjs_tree.specs.declared.node.NodeId.{NodeId}
+use Rattle.wjs_base.specs.declared.ids.NodeId.{NodeId}
 use Rattle.wjs_meaning.specs.Deeds.{Env, Eval, AtStmt, then_normal}
 use Rattle.wjs_meaning.specs.Functions.{program_from, body_from, body_next}
 use Rattle.wjs_meaning.specs.Reading.{numbers}

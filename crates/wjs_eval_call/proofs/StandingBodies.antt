@@ -5,10 +5,9 @@ use Rattle.std.specs.FinMap as map
 use Rattle.std.proofs.lemmas.List.Elements.{All-nil, All-cons, All-get_or}
 use Rattle.std.proofs.lemmas.Option.{slice_get_within, get_or_from_slice_get}
 use Rattle.wjs_base.specs.declared.ids.ObjId.{ObjId}
-use Rattle.wjs_base.specs.declared.ids.NodeId.{NodeId as Body}
 use Rattle.wjs_base.specs.Text.{Table}
+use Rattle.wjs_base.specs.declared.ids.NodeId.{NodeId}
 use Rattle.wjs_store.specs.Meaning.{Meaning}
-use Rattle.wjs_tree.specs.declared.node.NodeId.{NodeId}
 use Rattle.wjs_tree.specs.declared.node.Node.{Node}
 use Rattle.wjs_tree.specs.declared.node.Node.TheVariants as nodes
 use Rattle.wjs_tree.specs.Shows.{Has}
@@ -22,7 +21,7 @@ use Rattle.wjs_meaning.specs.Reading.{numbers, node_in}
 use Rattle.wjs_meaning.specs.Trees as content
 use Rattle.wjs_model.specs.declared.config.Config.{Config}
 use Rattle.wjs_model.specs.declared.frame.Activation.{Activation as Frame}
-use Rattle.wjs_model.specs.declared.unit.Unit.{Unit as Program}
+use Rattle.wjs_model.specs.declared.loaded.LoadedProgram.{LoadedProgram as Program}
 use Rattle.wjs_model.specs.Texts.{PlacesUnit}
 use Rattle.wjs_model.specs.Standing.{Stands, is_function, own_scopes, IsFunction, FunctionStands}
 use Rattle.wjs_model.specs.Soundness.{HasObject, StandsHere, IsThere, Base}
@@ -66,7 +65,7 @@ same_elements t n list e = rw e refl
 
 module _ (units : List Program) (arena : Objects) where
   -- the body of a program stands in its scope
-  pub body_stands : (tree : ℕ) (scope : ObjId) (u : Program) → slice_get units tree ≡ Some u → Stands units arena tree u.program.body scope 0
+  body_stands : (tree : ℕ) (scope : ObjId) (u : Program) → slice_get units tree ≡ Some u → Stands units arena tree u.program.body scope 0
   body_stands tree scope u e = record { unit = u; found = e; arguments = None; scopes = []; around = ([], (refl, refl)); outwards = tt }
 
   -- ---- the functions that a body declares
@@ -102,10 +101,10 @@ module _ (units : List Program) (arena : Objects) where
 
 module _ {S : Type 0} (meaning : S → Meaning) where
   -- where a function stands that is there
-  pub function_at : (c : Config S) (o : ObjId) (tree : ℕ) (node : Body) (scope : ObjId) → Base meaning c → HasObject c o → ((e : Entry) → map.get c.heap.arena o ≡ Some e → e.object.code ≡ code.Script tree node) → ((e : Entry) → map.get c.heap.arena o ≡ Some e → e.object.scope ≡ Some scope) → IsFunction c.units.items c.heap.arena tree (record { 0 = node.0 }) scope 0
+  pub function_at : (c : Config S) (o : ObjId) (tree : ℕ) (node : NodeId) (scope : ObjId) → Base meaning c → HasObject c o → ((e : Entry) → map.get c.heap.arena o ≡ Some e → e.object.code ≡ code.Script tree node) → ((e : Entry) → map.get c.heap.arena o ≡ Some e → e.object.scope ≡ Some scope) → IsFunction c.units.items c.heap.arena tree node scope 0
   function_at c o tree node scope b h ec es = by (map.get c.heap.arena o) refl h.0
     where
-      by : (r : Option Entry) → map.get c.heap.arena o ≡ r → IsTrue (is_some r) → IsFunction c.units.items c.heap.arena tree (record { 0 = node.0 }) scope 0
+      by : (r : Option Entry) → map.get c.heap.arena o ≡ r → IsTrue (is_some r) → IsFunction c.units.items c.heap.arena tree node scope 0
       by None q t = absurd (cc)
       by (Some e) q t =
           subst (λ (s : Option ObjId). FunctionStands c.units.items c.heap.arena (code.Script tree node) s) (es e q)

@@ -1,12 +1,12 @@
 -- The trees of units, by content.
-use Rattle.std.proofs.Common.{◌≡◌, ℕ, zero, suc, ◌<◌, ◌≤◌, List, [], ◌∷◌, Option, None, Some, length, refl, sym, ap, ◌∙◌, subst, arith}
+use Rattle.std.proofs.Common.{◌≡◌, ℕ, zero, suc, ◌<◌, ◌≤◌, List, [], ◌∷◌, Option, Some, length, sym, ap, ◌∙◌, subst, arith}
 use Rattle.std.specs.Prelude.{map as each, slice_get, slice_index_or, unwrap_or, All}
 use Rattle.std.specs.Option.{option_map}
-use Rattle.std.proofs.lemmas.Option.{slice_get-map, same_Some, none-some}
+use Rattle.std.proofs.lemmas.Option.{slice_get-map, same_Some, none-some, slice_get_past}
 use Rattle.std.proofs.lemmas.List.Elements.{All-get_or}
 use Rattle.wjs_base.specs.Text.{Table, Grows}
 use Rattle.wjs_meaning.specs.Trees.{Tree, empty_tree, tree_at}
-use Rattle.wjs_model.specs.declared.unit.Unit.{Unit as Program}
+use Rattle.wjs_model.specs.declared.loaded.LoadedProgram.{LoadedProgram as Program}
 use Rattle.wjs_model.specs.Units.{unit_in}
 use Rattle.wjs_model.specs.Texts.{KnowsUnit}
 use Rattle.wjs_heap_steps.proofs.Staying.{units_stay}
@@ -16,16 +16,11 @@ got [] i x lt e = absurd (omega arith)
 got (y ∷ xs) zero x lt e = ap (λ z. Some z) (sym e)
 got (y ∷ xs) (suc i) x lt e = got xs i x (omega arith) e
 
-none_got : {A : Type 0} (xs : List A) (i : ℕ) → length xs ≤ i → slice_get xs i ≡ None
-none_got [] i le = refl
-none_got (y ∷ xs) zero le = absurd (omega arith)
-none_got (y ∷ xs) (suc i) le = none_got xs i (omega arith)
-
 pub tree_some : (t : Table) (units : List Program) (i : ℕ) (u : Program) → i < length units → u ≡ slice_index_or units i u → tree_at (each (unit_in t) units) i ≡ unit_in t u
 tree_some t units i u lt e = ap (λ (o : Option Tree). unwrap_or o empty_tree) (slice_get-map (unit_in t) units i ∙ ap (option_map (unit_in t)) (got units i u lt e))
 
 pub tree_none : (t : Table) (units : List Program) (i : ℕ) → length units ≤ i → tree_at (each (unit_in t) units) i ≡ empty_tree
-tree_none t units i le = ap (λ (o : Option Tree). unwrap_or o empty_tree) (slice_get-map (unit_in t) units i ∙ ap (option_map (unit_in t)) (none_got units i le))
+tree_none t units i le = ap (λ (o : Option Tree). unwrap_or o empty_tree) (slice_get-map (unit_in t) units i ∙ ap (option_map (unit_in t)) (slice_get_past units i le))
 
 pub unit_known : (old t : Table) (grows : Grows old t) (units : List Program) (i : ℕ) (u : Program) → i < length units → u ≡ slice_index_or units i u → All (KnowsUnit old) units → KnowsUnit t u
 unit_known old t grows units i u lt e h = subst (KnowsUnit t) (sym e) (All-get_or (KnowsUnit t) units i u lt (units_stay old t grows units h))
@@ -35,4 +30,4 @@ pub unit_is : (units : List Program) (i : ℕ) (u v : Program) → i < length un
 unit_is units i u v lt e h = same_Some v u (sym (got units i v lt e) ∙ h)
 
 pub no_unit : (units : List Program) (i : ℕ) (u : Program) → length units ≤ i → slice_get units i ≡ Some u → ⊥
-no_unit units i u le h = none-some u (sym (none_got units i le) ∙ h)
+no_unit units i u le h = none-some u (sym (slice_get_past units i le) ∙ h)

@@ -20,13 +20,12 @@ use crate::declarations::declared_at;
 use crate::elements::element_at;
 use crate::variables::other_variables;
 use wjs_arena::Code;
-use wjs_base::{NodeId as Body, ObjId, OutOfMemory, Value};
+use wjs_base::{NodeId, ObjId, OutOfMemory, Value};
 use wjs_frames::{Part, enter, finish};
 use wjs_heap_steps::{code_of, create_scope, scope_of};
 use wjs_model::{CallPoint, Completion, Config, Frame, Point, Start, Trouble};
 use wjs_step_common::{number_after, throw};
 use wjs_store::WorldStore;
-use wjs_tree::NodeId;
 
 /// A function's body begins, by its code and its scope; the values that the frame holds are the arguments.
 pub fn body<S: WorldStore>(
@@ -51,7 +50,7 @@ fn begin_script<S: WorldStore>(
     frame: Frame,
     function: ObjId,
     tree: u32,
-    node: Body,
+    node: NodeId,
 ) -> Result<(), OutOfMemory>
     requires runs { Runs S.meaning config.old frame }
     requires function { HasObject config.old function }
@@ -61,7 +60,7 @@ fn begin_script<S: WorldStore>(
 {
     match scope_of(config, function) {
         None => throw(config, frame, Trouble::NotAFunction),
-        Some(scope) => begin_scope(config, frame, function, tree, NodeId(node.0), scope),
+        Some(scope) => begin_scope(config, frame, function, tree, node, scope),
     }
 }
 

@@ -6,7 +6,7 @@ ghost use Rattle.wjs_meaning.specs.Deeds.{tree_here};
 ghost use Rattle.wjs_meaning.specs.Declarations.{declared_by};
 ghost use Rattle.wjs_meaning.specs.Functions as line;
 ghost use Rattle.wjs_meaning.specs.Reading.{numbers};
-ghost use Rattle.wjs_model.specs.declared.unit.Unit.{Unit as Program};
+ghost use Rattle.wjs_model.specs.declared.loaded.LoadedProgram.{LoadedProgram as Program};
 ghost use Rattle.wjs_model.specs.Soundness.{Base, IsThere};
 ghost use Rattle.wjs_scope.specs.Bodies.{elements_at};
 ghost use Rattle.wjs_scope.specs.Declarations.{functions_among};

@@ -9,7 +9,6 @@ mod elements;
 mod methods;
 mod points;
 mod programs;
-mod taken;
 mod values;
 mod variables;
 

@@ -11,12 +11,11 @@ ghost use Rattle.wjs_model.specs.Soundness.{Base};
 ghost use Rattle.wjs_frames.specs.Parts.{env_in};
 ghost use Rattle.wjs_eval_call.specs.Taking.{Takes};
 
-use crate::taken::Taken;
 use wjs_base::{OutOfMemory, TextId};
 use wjs_calls::own_name;
 use wjs_heap_steps::units_of;
 use wjs_model::{Config, Frame};
-use wjs_scope::Declared;
+use wjs_scope::{Declared, NameSet};
 use wjs_store::WorldStore;
 use wjs_tree::NodeId;
 
@@ -69,7 +68,7 @@ fn others_among<S: WorldStore>(
 /// Puts a variable last, unless its name is taken.
 fn push_other<S: WorldStore>(
     config: &Config<S>,
-    taken: &Taken,
+    taken: &NameSet,
     name: TextId,
     others: &mut Vec<TextId>,
 ) -> Result<(), OutOfMemory>
@@ -98,13 +97,13 @@ fn taken_names<S: WorldStore>(
     config: &Config<S>,
     frame: &Frame,
     declared: &Declared,
-) -> Result<Taken, OutOfMemory>
+) -> Result<NameSet, OutOfMemory>
     requires base { Base S.meaning config.now }
     requires formals { All (Has config.now.heap.texts) declared.now.formals }
     ensures { IfOk result (λ taken. (t : Table) → IsTable t → Grows config.now.heap.texts t →
         Takes t (map (text_in t) declared.now.formals ++ function_names (env_in S.meaning config.now t frame.now) (numbers declared.now.functions)) taken) }
 {
-    let mut taken = Taken::new(config.heap.arena.allocator());
+    let mut taken = NameSet::new(config.heap.arena.allocator());
     take_formals(config, declared.formals(), &mut taken)?;
     for function in declared.functions() {
         take_function(config, frame, *function, &mut taken)?;
@@ -116,7 +115,7 @@ fn taken_names<S: WorldStore>(
 fn take_formals<S: WorldStore>(
     config: &Config<S>,
     formals: &[TextId],
-    taken: &mut Taken,
+    taken: &mut NameSet,
 ) -> Result<(), OutOfMemory>
     requires empty { taken.old ≡ [] }
     requires formals { All (Has config.now.heap.texts) formals.now }
@@ -134,7 +133,7 @@ fn take_function<S: WorldStore>(
     config: &Config<S>,
     frame: &Frame,
     function: NodeId,
-    taken: &mut Taken,
+    taken: &mut NameSet,
 ) -> Result<(), OutOfMemory>
     requires base { Base S.meaning config.now }
     ensures { OnOk result ((t : Table) → IsTable t → Grows config.now.heap.texts t → (seen : List Text) → Takes t seen taken.old →

@@ -31,7 +31,7 @@ each_index f (x ∷ xs) zero d = refl
 each_index f (x ∷ xs) (suc i) d = each_index f xs i d
 
 -- the value of a number, under a table
-pub value_is : (t : Table) (held found : List NumberedValue) (i : ℕ) (v : NumberedValue) → found ≡ earliest_first held → v ≡ slice_index_or found i values.Undefined → value_in t v ≡ value_at (earliest_first (each (value_in t) held)) i
+value_is : (t : Table) (held found : List NumberedValue) (i : ℕ) (v : NumberedValue) → found ≡ earliest_first held → v ≡ slice_index_or found i values.Undefined → value_in t v ≡ value_at (earliest_first (each (value_in t) held)) i
 value_is t held found i v ef ev =
     ap (value_in t) (ev ∙ ap (λ l. slice_index_or l i values.Undefined) ef)
     ∙ each_index (value_in t) (earliest_first held) i values.Undefined

@@ -1,5 +1,6 @@
 -- What begins a part does the same where the part may also be missing, or is one of several.
 use Rattle.std.proofs.Common.{◌≡◌, ℕ, ◌+◌, ◌⊎◌, inl, inr, Bool, true, false, List, [], ◌∷◌, Option, Some, None, refl, sym, ap, ◌∙◌, subst}
+use Rattle.wjs_base.proofs.Options.{none_there}
 use Rattle.wjs_tree.specs.declared.tokens.Tok.{Tok}
 use Rattle.wjs_tree.specs.declared.tokens.Token.{Token}
 use Rattle.wjs_tree.specs.declared.tokens.Token.TheVariants as tokens
@@ -21,7 +22,7 @@ use Rattle.wjs_forms.specs.declared.forms.Form.TheVariants as forms
 use Rattle.wjs_forms.specs.declared.forms.Control.TheVariants as controls
 use Rattle.wjs_forms.specs.Classes.{class_of, class_at}
 use Rattle.wjs_forms.specs.States.{State, state, step, step_at, Runs, halts, goes}
-use Rattle.wjs_forms.proofs.Runs.{class_here, joined_here, lift, lift_here, step_on, no_step, no_state}
+use Rattle.wjs_forms.proofs.Runs.{class_here, joined_here, lift, lift_here, step_on, no_step}
 
 -- a list of statements or elements is open innermost
 abbrev pub holds_list : List Form → Bool
@@ -129,11 +130,11 @@ no_finally (f ∷ rest) j = refl
 
 label_step : (k : Class) (j : Bool) (s : List Form) (r : State) → step k j (forms.Value ∷ s) (controls.Have places.Whole true) ≡ Some r → step k j (forms.Value ∷ s) controls.NameOrLabel ≡ Some r
 label_step classes.Colon true s r h = cc
-label_step classes.Colon false s r h = absurd (no_state _ r (no_colon s false) h)
+label_step classes.Colon false s r h = absurd (none_there _ r (no_colon s false) h)
 label_step _ j s r h = h
 
 -- behind a name that begins an expression
-pub label_runs : (toks : List Tok) (i : ℕ) (s : List Form) → Runs toks i (state (controls.Have places.Whole true) (forms.Value ∷ s)) → Runs toks i (state controls.NameOrLabel (forms.Value ∷ s))
+label_runs : (toks : List Tok) (i : ℕ) (s : List Form) → Runs toks i (state (controls.Have places.Whole true) (forms.Value ∷ s)) → Runs toks i (state controls.NameOrLabel (forms.Value ∷ s))
 label_runs toks i s run = lift toks i _ _ (λ k j r h. label_step k j s r h) run
 
 then_step : (k : Class) (j : Bool) (s : List Form) (r : State) → (k ≡ classes.Else → ⊥) → step k j s controls.Done ≡ Some r → step k j (forms.Then ∷ s) controls.Done ≡ Some r
@@ -145,7 +146,7 @@ pub then_runs : (toks : List Tok) (i : ℕ) (s : List Form) → (class_here toks
 then_runs toks i s bar run = lift_here toks i (state controls.Done s) (state controls.Done (forms.Then ∷ s)) (λ r h. then_step (class_here toks i) (joined_here toks i) s r bar h) run
 
 finally_step : (k : Class) (j : Bool) (s : List Form) (r : State) → step k j s controls.Done ≡ Some r → step k j s controls.FinallyOrDone ≡ Some r
-finally_step classes.Finally j s r h = absurd (no_state _ r (no_finally s j) h)
+finally_step classes.Finally j s r h = absurd (none_there _ r (no_finally s j) h)
 finally_step _ j s r h = h
 
 pub finally_runs : (toks : List Tok) (i : ℕ) (s : List Form) → Runs toks i (state controls.Done s) → Runs toks i (state controls.FinallyOrDone s)
@@ -198,7 +199,7 @@ is_brace classes.OpenBrace = true
 is_brace classes.Function = true
 is_brace _ = false
 
-prefix_brace : (op : PrefixOperator) → is_brace (class_of (prefix_token op)) ≡ false
+pub prefix_brace : (op : PrefixOperator) → is_brace (class_of (prefix_token op)) ≡ false
 prefix_brace prefixes.Delete = refl
 prefix_brace _ = refl
 
@@ -273,7 +274,7 @@ word_begins toks i s token r b h e run (inr w) = goes token r h (begin_step (cla
 no_end : (toks : List Tok) (i : ℕ) (s : List Form) (r : State) → token_at toks i ≡ None → step_at toks i (state (controls.Want places.Whole) (forms.Value ∷ s)) ≡ Some r → ⊥
 no_end toks i s r h e =
     let q = subst (λ (z : Option Token). step (class_at z) (joined_here toks i) (forms.Value ∷ s) (controls.Want places.Whole) ≡ Some r) h e in
-    no_state None r refl q
+    none_there None r refl q
 
 -- an expression that is a statement
 pub begin_runs : (toks : List Tok) (i : ℕ) (s : List Form) → is_brace (class_here toks i) ≡ false → Runs toks i (state (controls.Want places.Whole) (forms.Value ∷ s)) → Runs toks i (state controls.Body s)

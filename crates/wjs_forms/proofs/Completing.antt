@@ -186,17 +186,17 @@ behind_formal s h = close_paren controls.FormalBehind controls.Brace s s refl (b
 formals_end : (s : List Form) → OnBody s → CanEnd controls.Formals s
 formals_end s h = open_paren controls.Formals controls.FormalOrEnd s s refl (close_paren controls.FormalOrEnd controls.Brace s s refl (brace_ends s (body_ends s h)))
 
-function_body : (s : List Form) → OnFunction s → OnBody s
+pub function_body : (s : List Form) → OnFunction s → OnBody s
 function_body [] h = absurd h
 function_body (forms.Function p ∷ s) h = h
 function_body (_ ∷ s) h = absurd h
 
-declaration_body : (s : List Form) → OnDeclaration s → OnBody s
+pub declaration_body : (s : List Form) → OnDeclaration s → OnBody s
 declaration_body [] h = absurd h
 declaration_body (forms.Declaration ∷ s) h = h
 declaration_body (_ ∷ s) h = absurd h
 
-condition_holds : (s : List Form) → OnCondition s → Holds s
+pub condition_holds : (s : List Form) → OnCondition s → Holds s
 condition_holds [] h = absurd h
 condition_holds (forms.If ∷ s) h = h
 condition_holds (forms.While ∷ s) h = h

@@ -52,7 +52,7 @@ step_along toks i o s r h e = subst (λ (z : Option Tok). step_of z s ≡ Some r
 step_back : (toks : List Tok) (i : ℕ) (o : Option Tok) (s r : State) → slice_get toks i ≡ o → step_of o s ≡ Some r → step_at toks i s ≡ Some r
 step_back toks i o s r h e = subst (λ (z : Option Tok). step_of z s ≡ Some r) (sym h) e
 
-pub runs_accepts : (toks : List Tok) (i : ℕ) (s : State) → Runs toks i s → Accepts s (drop i toks)
+runs_accepts : (toks : List Tok) (i : ℕ) (s : State) → Runs toks i s → Accepts s (drop i toks)
 runs_accepts toks i s (halts r none e) =
     let h = no_token (slice_get toks i) none in
     subst (Accepts s) (sym (left_end toks i h)) (s, refl, (r, step_along toks i None s r h e))
@@ -63,7 +63,7 @@ runs_accepts toks i s (goes token r h e run) =
     (later.0, ap (λ (z : Option State). and_then z (λ q. reach (drop (i + 1) toks) q)) (step_along toks i (Some w.0) s r w.1 e) ∙ later.1, later.2)
 
 -- a step that leads on
-then_some : (o : Option State) (f : State → Option State) (r : State) → and_then o f ≡ Some r → (q : State) × (o ≡ Some q) × (f q ≡ Some r)
+pub then_some : (o : Option State) (f : State → Option State) (r : State) → and_then o f ≡ Some r → (q : State) × (o ≡ Some q) × (f q ≡ Some r)
 then_some None f r h = cc
 then_some (Some q) f r h = (q, refl, h)
 

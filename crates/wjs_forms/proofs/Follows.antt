@@ -125,7 +125,7 @@ target_high b (Comma l r) g f = cc
 target_high b _ g f = cc
 
 -- a primary expression with suffixes ends in no `++` or `--`
-pub chain_end : (e : Expr) → 15 ≤ level e → ends_in_update e ≡ false
+chain_end : (e : Expr) → 15 ≤ level e → ends_in_update e ≡ false
 chain_end (Postfix e op) h = absurd (omega arith)
 chain_end (Prefix op e) h = absurd (omega arith)
 chain_end (Binary l op r) h = absurd (let q = binary_low op in omega arith)
@@ -233,7 +233,7 @@ have_step classes.Dot j p s e r q u f h = absurd (let w : true ≡ false = sym f
 have_step k j p s e r q u f h = plain_step k j p s e r q u f h
 
 -- behind a primary expression with suffixes stands no further one
-pub chain_other : (toks : List Tok) (p : Place) (s : List Form) (e : Expr) (i n : ℕ) → 16 ≤ level e → (Runs toks n (state (controls.Have p (is_target e)) s) → Runs toks i (state (controls.Want p) s))
+chain_other : (toks : List Tok) (p : Place) (s : List Form) (e : Expr) (i n : ℕ) → 16 ≤ level e → (Runs toks n (state (controls.Have p (is_target e)) s) → Runs toks i (state (controls.Want p) s))
     → Places p s e → Follows (class_here toks n) p s e → Runs toks n (state controls.Behind s) → Runs toks i (state (controls.Want p) s)
 chain_other toks p s e i n l chain q f run =
     chain (lift_here toks n (state controls.Behind s) (state (controls.Have p (is_target e)) s)

@@ -25,7 +25,7 @@ use Rattle.wjs_forms.proofs.Rests.{Rests, least, Reading, NoSuffix, Sealed, Whol
 pub weaken : (toks : List Tok) (b : Bool) (l k i : ℕ) (e : Expr) (n : ℕ) → k ≤ l → Reading toks b l i e n → Reading toks b k i e n
 weaken toks b l k i e n h q = record { binds = (let g = q.binds in omega arith); formed = q.formed; stands = q.stands }
 
-pub least_low : (b : Bool) → least b ≤ 1
+least_low : (b : Bool) → least b ≤ 1
 least_low true = omega arith
 least_low false = omega arith
 
@@ -49,7 +49,7 @@ module _ (toks : List Tok) (b : Bool) (op : BinaryOperator) (u : Expr) (m n : �
     last = refl;
   }
 
-  pub append : (a : Expr) (i : ℕ) → 3 ≤ level a → Shaped b a → Stands toks a i m → Appended toks b (min (level a) (binary_level op)) i u n
+  append : (a : Expr) (i : ℕ) → 3 ≤ level a → Shaped b a → Stands toks a i m → Appended toks b (min (level a) (binary_level op)) i u n
   append (Binary x o y) i l f s =
       elim (cases_lt (binary_level o) (binary_level op)) [
         | inl lt ↦

@@ -44,7 +44,7 @@ pub moved : (toks : List Tok) (s : State) (n m : ℕ) → n ≡ m → Runs toks 
 moved toks s n m e run = subst (λ (z : ℕ). Runs toks z s) e run
 
 -- each key is a name behind a dot
-pub key_is_name : (k : Key) → is_name (class_of (tokens.Key k)) ≡ true
+key_is_name : (k : Key) → is_name (class_of (tokens.Key k)) ≡ true
 key_is_name keys.Break = refl
 key_is_name _ = refl
 
@@ -72,7 +72,7 @@ prefix_place prefixes.Increment = places.Update
 prefix_place prefixes.Decrement = places.Update
 prefix_place _ = places.Later
 
-pub update_prefix : (op : PrefixOperator) → prefix_place op ≡ places.Update → is_update op ≡ true
+update_prefix : (op : PrefixOperator) → prefix_place op ≡ places.Update → is_update op ≡ true
 update_prefix prefixes.Increment h = refl
 update_prefix prefixes.Decrement h = refl
 update_prefix _ h = cc

@@ -1,5 +1,5 @@
 -- A token keeps what is to come next in fit with the forms.
-use Rattle.std.proofs.Common.{◌≡◌, Bool, true, false, not, List, [], ◌∷◌, Option, Some, None, refl, sym, ap, ◌∙◌, subst}
+use Rattle.std.proofs.Common.{◌≡◌, Bool, true, false, not, List, [], ◌∷◌, Option, Some, refl, sym, ap, ◌∙◌, subst}
 use Rattle.wjs_tree.specs.declared.tokens.Tok.{Tok}
 use Rattle.wjs_tree.specs.declared.tokens.Token.{Token}
 use Rattle.wjs_forms.specs.declared.class.Class.{Class}
@@ -15,23 +15,18 @@ use Rattle.wjs_forms.specs.declared.forms.Move.TheVariants as moves
 use Rattle.wjs_forms.specs.Classes.{class_of, is_name}
 use Rattle.wjs_forms.specs.Table.{unless, on_colon, on_semicolon, on_open_paren, on_close_paren, on_close_bracket, on_open_brace, on_close_brace, on_word, operand, ends, behind_top, behind, comma, bare_top, bare, target, target_in, target_closed, postfix, assigns, call, have, bars_operator, bars_in, after_update}
 use Rattle.wjs_forms.specs.Moves.{opened, value, statement, closes, declares, in_clauses, listed, done, complete, named_key, dotted}
-use Rattle.wjs_forms.specs.States.{State, state, start, top, act, below, step, step_tok, and_then, reach, Accepts}
+use Rattle.wjs_forms.specs.States.{State, state, start, top, act, below, step, step_tok, reach, Accepts}
 use Rattle.wjs_forms.specs.Spells.{IsReached}
+use Rattle.wjs_forms.proofs.Tops.{Again, unless_is}
 use Rattle.wjs_forms.proofs.Standing.{Is, token_is}
-use Rattle.wjs_forms.proofs.Fitting.{Stmts, Elems, Holds, Clausal, Lists, OnArguments, OnArray, OnObject, OnFunction, OnDeclaration, OnBody, OnBrace, OnValue, OnCondition, OnVariables, OnForVar, OnTest, OnUpdate, Fits, FitsIn, elems_stmts, elems_lists, clausal_stmts, clausal_lists, lists_stmts}
-use Rattle.wjs_forms.proofs.Completing.{completes}
+use Rattle.wjs_forms.proofs.Fitting.{Stmts, Elems, Holds, Clausal, Lists, OnArguments, OnArray, OnObject, OnBody, OnBrace, OnValue, OnVariables, OnForVar, OnTest, OnUpdate, Fits, FitsIn, elems_stmts, elems_lists, clausal_stmts, clausal_lists, lists_stmts}
+use Rattle.wjs_forms.proofs.Completing.{completes, function_body, declaration_body, condition_holds}
+use Rattle.wjs_forms.proofs.Folding.{then_some}
 
 -- what is looked at below the innermost form
-abbrev Again : Type 0
-Again = Control → Option State
-
 -- the state behind the move
 is : (a r : State) → Some a ≡ Some r → FitsIn a → FitsIn r
 is a r e h = subst FitsIn (let q : a ≡ r = cc in q) h
-
-unless_is : (b : Bool) (m : Move) (s : List Form) (g : Again) (r : State) → act (unless b m) s g ≡ Some r → act m s g ≡ Some r
-unless_is true m s g r h = cc
-unless_is false m s g r h = h
 
 colon_is : (k : Class) (m : Move) (s : List Form) (g : Again) (r : State) → act (on_colon k m) s g ≡ Some r → act m s g ≡ Some r
 colon_is classes.Colon m s g r h = h
@@ -306,16 +301,6 @@ object_holds [] w = absurd w
 object_holds (forms.Object p ∷ s) w = w
 object_holds (_ ∷ s) w = absurd w
 
-function_body : (s : List Form) → OnFunction s → OnBody s
-function_body [] h = absurd h
-function_body (forms.Function p ∷ s) h = h
-function_body (_ ∷ s) h = absurd h
-
-declaration_body : (s : List Form) → OnDeclaration s → OnBody s
-declaration_body [] h = absurd h
-declaration_body (forms.Declaration ∷ s) h = h
-declaration_body (_ ∷ s) h = absurd h
-
 body_brace : (s : List Form) → OnBody s → OnBrace s
 body_brace [] h = absurd h
 body_brace (forms.Function p ∷ s) h = h
@@ -352,24 +337,11 @@ label_fits (forms.Value ∷ s) classes.Colon j r e w h = is (state controls.Body
 label_fits (forms.Value ∷ s) k j r e w h = have_fits k j places.Whole true (forms.Value ∷ s) r e w h
 label_fits (_ ∷ s) k j r e w h = absurd w
 
-condition_holds : (s : List Form) → OnCondition s → Holds s
-condition_holds [] h = absurd h
-condition_holds (forms.If ∷ s) h = h
-condition_holds (forms.While ∷ s) h = h
-condition_holds (forms.Switch ∷ s) h = h
-condition_holds (forms.DoWhile ∷ s) h = h
-condition_holds (_ ∷ s) h = absurd h
-
 variables_hold : (s : List Form) → OnVariables s → Holds s
 variables_hold [] h = absurd h
 variables_hold (forms.Var ∷ s) h = h
 variables_hold (forms.ForVar ∷ s) h = h
 variables_hold (_ ∷ s) h = absurd h
-
-for_var : (s : List Form) → OnForVar s → OnVariables s
-for_var [] h = absurd h
-for_var (forms.ForVar ∷ s) h = h
-for_var (_ ∷ s) h = absurd h
 
 named_ends_fits : (s : List Form) (k : Class) (j : Bool) (r : State) → (k ≡ classes.End → ⊥) → OnVariables s → act (ends (top s) k) s (λ d. below k j s d) ≡ Some r → FitsIn r
 named_ends_fits [] k j r e w h = absurd w
@@ -438,7 +410,7 @@ clause_fits (forms.Clauses ∷ s) classes.Default j r w h = is (state controls.D
 clause_fits (forms.Clauses ∷ s) _ j r w h = cc
 clause_fits (_ ∷ s) k j r w h = absurd w
 
-pub keeps : (c : Control) (s : List Form) (k : Class) (j : Bool) (r : State) → (k ≡ classes.End → ⊥) → Fits c s → step k j s c ≡ Some r → FitsIn r
+keeps : (c : Control) (s : List Form) (k : Class) (j : Bool) (r : State) → (k ≡ classes.End → ⊥) → Fits c s → step k j s c ≡ Some r → FitsIn r
 keeps (controls.Want p) s k j r e w h = operand_fits k p (top s) s (λ d. below k j s d) r w h
 keeps (controls.Have p t) s k j r e w h = have_fits k j p t s r e w h
 keeps controls.Behind s k j r e w h = behind_fits s k j r e w h
@@ -484,14 +456,10 @@ keeps controls.Accepted s k j r e w h = absurd w
 no_end : (t : Token) → class_of t ≡ classes.End → ⊥
 no_end t e = subst (λ (z : Class). Is z t) e (token_is t)
 
-then_fits : (o : Option State) (f : State → Option State) (s : State) → and_then o f ≡ Some s → (r : State) × (o ≡ Some r) × (f r ≡ Some s)
-then_fits None f s h = cc
-then_fits (Some r) f s h = (r, refl, h)
-
 reached_fits : (toks : List Tok) (s r : State) → FitsIn s → reach toks s ≡ Some r → FitsIn r
 reached_fits [] s r w h = is s r h w
 reached_fits (t ∷ ts) s r w h =
-    let q = then_fits (step_tok t s) (λ z. reach ts z) r h in
+    let q = then_some (step_tok t s) (λ z. reach ts z) r h in
     reached_fits ts q.0 r (keeps s.control s.forms (class_of t.token) (not t.after_line) q.0 (no_end t.token) w q.1) q.2
 
 pub goes_on : (toks : List Tok) (s : State) → IsReached toks s → (more : List Tok) × Accepts s more

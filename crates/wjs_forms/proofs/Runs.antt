@@ -1,5 +1,6 @@
 -- Runs of the machine over the tokens of a script.
 use Rattle.std.proofs.Common.{◌≡◌, ℕ, ◌+◌, Bool, List, Option, Some, None, slice_get, refl, sym, ap, ◌∙◌, subst}
+use Rattle.wjs_base.proofs.Options.{same_there, none_there}
 use Rattle.wjs_tree.specs.declared.tokens.Tok.{Tok}
 use Rattle.wjs_tree.specs.declared.tokens.Token.{Token}
 use Rattle.wjs_tree.specs.Ends.{token_at, HasToken, is_joined}
@@ -15,7 +16,7 @@ class_here toks i = class_at (token_at toks i)
 abbrev pub joined_here : List Tok → ℕ → Bool
 joined_here toks i = is_joined (slice_get toks i)
 
-pub step_at_token : (toks : List Tok) (i : ℕ) (token : Token) (s r : State) → HasToken toks i token → step (class_of token) (joined_here toks i) s.forms s.control ≡ Some r → step_at toks i s ≡ Some r
+step_at_token : (toks : List Tok) (i : ℕ) (token : Token) (s r : State) → HasToken toks i token → step (class_of token) (joined_here toks i) s.forms s.control ≡ Some r → step_at toks i s ≡ Some r
 step_at_token toks i token s r h e =
     subst (λ (z : Option Token). step (class_at z) (joined_here toks i) s.forms s.control ≡ Some r) (sym h) e
 
@@ -34,26 +35,17 @@ lift_here toks i s t f (halts r none e) = halts r none (f r e)
 lift_here toks i s t f (goes token r h e rest) = goes token r h (f r e) rest
 
 -- the first step of a run
-pub first_step : (toks : List Tok) (i : ℕ) (s : State) → Runs toks i s → (r : State) × (step_at toks i s ≡ Some r)
+first_step : (toks : List Tok) (i : ℕ) (s : State) → Runs toks i s → (r : State) × (step_at toks i s ≡ Some r)
 first_step toks i s (halts r none e) = (r, e)
 first_step toks i s (goes token r h e rest) = (r, e)
 
-same_state : (o : Option State) (a b : State) → o ≡ Some a → o ≡ Some b → a ≡ b
-same_state o a b p q = cc
-
-no_token : (o : Option Token) (t : Token) → o ≡ None → o ≡ Some t → ⊥
-no_token o t p q = cc
-
-pub no_state : (o : Option State) (a : State) → o ≡ None → o ≡ Some a → ⊥
-no_state o a p q = cc
-
 -- what is behind a token whose step is known
 pub after : (toks : List Tok) (i : ℕ) (token : Token) (s r : State) → HasToken toks i token → step (class_of token) (joined_here toks i) s.forms s.control ≡ Some r → Runs toks i s → Runs toks (i + 1) r
-after toks i token s r h e (halts q none f) = absurd (no_token _ token none h)
-after toks i token s r h e (goes t q g f rest) = subst (Runs toks (i + 1)) (same_state (step_at toks i s) q r f (step_at_token toks i token s r h e)) rest
+after toks i token s r h e (halts q none f) = absurd (none_there _ token none h)
+after toks i token s r h e (goes t q g f rest) = subst (Runs toks (i + 1)) (same_there (step_at toks i s) q r f (step_at_token toks i token s r h e)) rest
 
 -- of the token's class the machine's step is none
 pub no_step : (toks : List Tok) (i : ℕ) (s : State) (k : Class) → ((j : Bool) → step k j s.forms s.control ≡ None) → Runs toks i s → class_here toks i ≡ k → ⊥
 no_step toks i s k f run h =
     let w = first_step toks i s run in
-    no_state _ w.0 (subst (λ (z : Class). step z (joined_here toks i) s.forms s.control ≡ None) (sym h) (f (joined_here toks i))) w.1
+    none_there _ w.0 (subst (λ (z : Class). step z (joined_here toks i) s.forms s.control ≡ None) (sym h) (f (joined_here toks i))) w.1

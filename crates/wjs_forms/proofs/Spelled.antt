@@ -27,6 +27,7 @@ use Rattle.wjs_forms.specs.Table.{unless, after_update, behind, ends}
 use Rattle.wjs_forms.specs.Moves.{named_key, dotted, value}
 use Rattle.wjs_forms.specs.States.{State, state, start, top, act, below, step, step_at, Runs, halts, goes, Accepts}
 use Rattle.wjs_forms.specs.Spells.{Spells}
+use Rattle.wjs_forms.proofs.Tops.{unless_is}
 use Rattle.wjs_forms.proofs.Runs.{class_here, joined_here}
 use Rattle.wjs_forms.proofs.Endings.{continues_name_class, Ended}
 use Rattle.wjs_forms.proofs.Follows.{target_high}
@@ -42,10 +43,6 @@ use Rattle.wjs_forms.proofs.SpelledBehind.{behind_rest, have_rest}
 use Rattle.wjs_forms.proofs.Folding.{accepts_runs, past_end, within}
 
 -- What the end of the tokens does: it ends the program alone.
-unless_is : (b : Bool) (m : Move) (s : List Form) (g : Control → Option State) (r : State) → act (unless b m) s g ≡ Some r → act m s g ≡ Some r
-unless_is true m s g r h = cc
-unless_is false m s g r h = h
-
 done_end : (s : List Form) (j : Bool) (r : State) → step classes.End j s controls.Done ≡ Some r → r ≡ state controls.Accepted []
 done_end [] j r h = cc
 done_end (forms.Then ∷ s) j r h = done_end s j r h
@@ -437,7 +434,7 @@ module _ (toks : List Tok) where
   end_step : (i : ℕ) (s r : State) → token_at toks i ≡ None → step_at toks i s ≡ Some r → step classes.End (joined_here toks i) s.forms s.control ≡ Some r
   end_step i s r h e = subst (λ (o : Option Token). step (class_at o) (joined_here toks i) s.forms s.control ≡ Some r) h e
 
-  pub spelled : (i : ℕ) (s : State) → i ≤ length toks → Runs toks i s → Rest toks s i
+  spelled : (i : ℕ) (s : State) → i ≤ length toks → Runs toks i s → Rest toks s i
   spelled i s le (halts r none e) =
       rest_at i s r (end_here i none) e (end_rest i r (let q = past_end toks i none in omega arith) (end_is s.control s.forms (joined_here toks i) r (end_step i s r none e)))
   spelled i s le (goes t r h e run) = rest_at i s r (token_here i t h) e (spelled (i + 1) r (let q = within toks i t h in omega arith) run)

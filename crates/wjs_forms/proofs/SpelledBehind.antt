@@ -29,7 +29,7 @@ use Rattle.wjs_forms.specs.Classes.{class_of}
 use Rattle.wjs_forms.specs.Table.{unless, on_colon, on_semicolon, on_close_paren, on_close_bracket, on_open_brace, on_close_brace, ends, behind, behind_top, bars_in, after_update, comma, have, bare, bare_top, target, target_in, target_closed, postfix, call, assigns as assign_move}
 use Rattle.wjs_forms.specs.States.{State, state, top, act, below, step}
 use Rattle.wjs_forms.proofs.Runs.{class_here, joined_here}
-use Rattle.wjs_forms.proofs.Tops.{is_new, behind_is, bare_is}
+use Rattle.wjs_forms.proofs.Tops.{is_new, behind_is, bare_is, Again, unless_false, unless_is}
 use Rattle.wjs_forms.proofs.Endings.{is_suffix_class, is_operator_class, continues_name_class, Ended}
 use Rattle.wjs_forms.proofs.Declared.{part_ending, final}
 use Rattle.wjs_forms.proofs.Follows.{target_high}
@@ -37,19 +37,8 @@ use Rattle.wjs_forms.proofs.Standing.{Has, Is}
 use Rattle.wjs_forms.proofs.Rests.{Rests, Nested, least, have_level, Reading, NoSuffix, Sealed, Whole, AssignFed, First, UnaryFed, Later, Updated, WantOver, WantNew, WantRest, HaveRest, CompleteRest, ValueEnd, MoreArgumentsRest, ArgumentsRest, MoreRest, VarEnd, HeaderEnd, ListRest, rests, RestOf, Rest}
 use Rattle.wjs_forms.proofs.Grown.{weaken, first_whole, want_unary, not_update, operator_over, choice_over, assign_over, assigned, closed_over, comma_over, bare_new}
 use Rattle.wjs_forms.proofs.SpelledEnds.{ends_as}
-use Rattle.wjs_forms.proofs.SpelledExpr.{back, got, news_zero, want_in, want_out, have_low, more_name}
+use Rattle.wjs_forms.proofs.SpelledExpr.{back, got, want_in, want_out, have_low, more_name}
 use Rattle.wjs_forms.proofs.SpelledLists.{complete_rest}
-
-abbrev Again : Type 0
-Again = Control → Option State
-
-unless_false : (b : Bool) (m : Move) (s : List Form) (g : Again) (r : State) → act (unless b m) s g ≡ Some r → b ≡ false
-unless_false true m s g r h = cc
-unless_false false m s g r h = refl
-
-unless_is : (b : Bool) (m : Move) (s : List Form) (g : Again) (r : State) → act (unless b m) s g ≡ Some r → act m s g ≡ Some r
-unless_is true m s g r h = cc
-unless_is false m s g r h = h
 
 on_colon_is : (k : Class) (m : Move) (s : List Form) (g : Again) (r : State) → act (on_colon k m) s g ≡ Some r → (k ≡ classes.Colon) × (act m s g ≡ Some r)
 on_colon_is classes.Colon m s g r h = (refl, h)
@@ -215,10 +204,6 @@ module _ (toks : List Tok) where
   behind_rest [] k i j r u q w h n = top_rest k i j [] r refl u q w h n
   behind_rest (forms.New ∷ s) k i j r u q w h n = behind_rest s k i j r u q w h n
   behind_rest (f ∷ s) k i j r u q w h n = top_rest k i j (f ∷ s) r refl u q w h n
-
-  -- Behind a primary expression with suffixes.
-  low_new : (s : List Form) → is_new s ≡ false → have_level (rests toks s).news ≤ 16
-  low_new s z = subst (λ (k : ℕ). have_level k ≤ 16) (sym (news_zero toks s z)) (omega arith)
 
   high : (k l : ℕ) → have_level k ≤ l → 16 ≤ l
   high zero l h = h

@@ -32,7 +32,7 @@ use Rattle.wjs_forms.specs.Table.{unless, operand, ends, behind, behind_top, bar
 use Rattle.wjs_forms.specs.Moves.{value}
 use Rattle.wjs_forms.specs.States.{State, state, top, act, below, step}
 use Rattle.wjs_forms.proofs.Runs.{class_here, joined_here}
-use Rattle.wjs_forms.proofs.Tops.{is_new}
+use Rattle.wjs_forms.proofs.Tops.{is_new, Again, unless_false, unless_is}
 use Rattle.wjs_forms.proofs.Endings.{is_suffix_class, is_operator_class, continues_name_class, Ended}
 use Rattle.wjs_forms.proofs.Declared.{part_ending, final}
 use Rattle.wjs_forms.proofs.Standing.{Has, Is, Primary}
@@ -41,9 +41,6 @@ use Rattle.wjs_forms.proofs.Grown.{weaken, first_whole, want_unary, not_update, 
 use Rattle.wjs_forms.proofs.SpelledEnds.{ends_as}
 
 -- what is looked at below the innermost form
-abbrev Again : Type 0
-Again = Control → Option State
-
 pub have_low : (k : ℕ) → have_level k ≤ 17
 have_low zero = omega arith
 have_low (suc k) = omega arith
@@ -59,7 +56,7 @@ module _ (toks : List Tok) where
   pub got : (i : ℕ) (k : Class) (u : Token) → (t : Token) × HasToken toks i t × (class_of t ≡ k) × (t ≡ u) → HasToken toks i u
   got i k u w = w.1 ∙ ap Some w.3
 
-  pub news_zero : (s : List Form) → is_new s ≡ false → (rests toks s).news ≡ 0
+  news_zero : (s : List Form) → is_new s ≡ false → (rests toks s).news ≡ 0
   news_zero [] h = refl
   news_zero (forms.New ∷ s) h = cc
   news_zero (f ∷ s) h = refl
@@ -69,14 +66,6 @@ module _ (toks : List Tok) where
 
   pub want_out : (s : List Form) (p : Place) (i : ℕ) → is_new s ≡ false → WantOver toks (rests toks s).core p i → WantRest toks (rests toks s) p i
   want_out s p i h w = subst (λ (k : ℕ). WantNew toks (rests toks s).core p k i) (sym (news_zero s h)) w
-
-  unless_false : (b : Bool) (m : Move) (s : List Form) (g : Again) (r : State) → act (unless b m) s g ≡ Some r → b ≡ false
-  unless_false true m s g r h = cc
-  unless_false false m s g r h = refl
-
-  unless_is : (b : Bool) (m : Move) (s : List Form) (g : Again) (r : State) → act (unless b m) s g ≡ Some r → act m s g ≡ Some r
-  unless_is true m s g r h = cc
-  unless_is false m s g r h = h
 
   bars_none : (s : List Form) (p : Place) → bars_operator p (top s) ≡ false → (is_new s ≡ false) × (after_update p ≡ false)
   bars_none [] p h = (refl, h)

@@ -1,6 +1,7 @@
 -- A run is read backward: statements, by the token that begins them, and what is behind them.
 use Rattle.std.proofs.Common.{◌≡◌, ℕ, zero, suc, ◌+◌, ◌≤◌, ◌⊎◌, inl, inr, Bool, true, false, not, List, [], ◌∷◌, length, Option, Some, None, refl, sym, ap, ◌∙◌, subst, arith}
 use Rattle.wjs_base.specs.declared.ids.TextId.{TextId}
+use Rattle.wjs_forms.proofs.Tops.{Again}
 use Rattle.wjs_forms.proofs.Heads.{place_sign, place_word}
 use Rattle.wjs_tree.specs.declared.tokens.Tok.{Tok}
 use Rattle.wjs_tree.specs.declared.tokens.Token.{Token}
@@ -10,8 +11,6 @@ use Rattle.wjs_tree.specs.declared.signs.Sign.TheVariants as signs
 use Rattle.wjs_tree.specs.declared.keys.Key.{Key}
 use Rattle.wjs_tree.specs.declared.keys.Key.TheVariants as keys
 use Rattle.wjs_tree.specs.declared.node.End.{End}
-use Rattle.wjs_tree.specs.Operators.{prefix_token}
-use Rattle.wjs_tree.specs.declared.operators.PrefixOperator.{PrefixOperator}
 use Rattle.wjs_tree.specs.declared.operators.PrefixOperator.TheVariants as prefixes
 use Rattle.wjs_tree.specs.Trees.{Expr, Name, Number, Text, This, ThisWorld, Null, Boolean, Paren, ArrayLit, ObjectLit, Function, Dot, At, Call, NewWith, NewBare, Postfix, Prefix, Binary, Cond, Assign, Comma, Stmt, Continue, Break, NoElement}
 use Rattle.wjs_tree.specs.Levels.{starts_with_brace, ends_in_update}
@@ -33,18 +32,11 @@ use Rattle.wjs_forms.specs.Moves.{value, statement, closes, declares, in_clauses
 use Rattle.wjs_forms.specs.States.{State, state, top, act, below, step}
 use Rattle.wjs_forms.proofs.Runs.{class_here, joined_here}
 use Rattle.wjs_forms.proofs.Standing.{Has, Is}
-use Rattle.wjs_forms.proofs.Beginnings.{is_brace}
+use Rattle.wjs_forms.proofs.Beginnings.{is_brace, prefix_brace}
 use Rattle.wjs_forms.proofs.Rests.{Rests, Nested, Whole, First, BodyRest, CompleteRest, BlockRest, ElementsRest, ClausesRest, ClauseRest, CaughtRest, TriedRest, ThenRest, InitRest, ProgramRest, ListRest, HaveRest, NameOrFormalsRest, DeclaredNameRest, rests, RestOf, Rest, value_rest as ValueRest}
 use Rattle.wjs_forms.proofs.SpelledEnds.{written, at_end, at_brace, at_line}
 use Rattle.wjs_forms.proofs.SpelledStmt.{key_at, block, empty, expr_stmt, variables, label, if_stmt, while_stmt, do_stmt, switch_stmt, within_stmt, jump_stmt, return_none, return_value, throw_value, for_stmt, try_stmt, cons_block, cons_clause, cons_elements, nil_block, nil_elements, nil_clauses, case_clauses, default_clauses, in_clause, cons_declared, cons_program, declared_program}
 use Rattle.wjs_forms.proofs.SpelledExpr.{back, got, value_rest}
-
-abbrev Again : Type 0
-Again = Control → Option State
-
-prefix_brace : (op : PrefixOperator) → is_brace (class_of (prefix_token op)) ≡ false
-prefix_brace prefixes.Delete = refl
-prefix_brace _ = refl
 
 first_is : (toks : List Tok) (i : ℕ) (token : Token) (b : Bool) → HasToken toks i token → is_brace (class_of token) ≡ b → is_brace (class_here toks i) ≡ b
 first_is toks i token b h e = subst (λ (z : Option Token). is_brace (class_at z) ≡ b) (sym h) e

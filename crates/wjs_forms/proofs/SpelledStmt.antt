@@ -27,12 +27,9 @@ use Rattle.wjs_forms.proofs.Rests.{Rests, Nested, Reading, Whole, BodyRest, Comp
 pub key_at : (toks : List Tok) (i j : ℕ) (k : Key) → i ≡ j → HasKey toks i k → HasKey toks j k
 key_at toks i j k e h = subst (λ (z : ℕ). HasKey toks z k) e h
 
-pub closed_if : (P : Type 0) → false ≡ true → P
-closed_if P h = absurd (cc)
-
 module _ (toks : List Tok) (done : ℕ → Type 0) where
   -- a statement that ends in no open `if`
-  pub plain_stmt : (t : Stmt) (i m : ℕ) → is_open_if t ≡ false → StmtShaped t → StmtStands toks t i m → done m → BodyRest toks done i
+  plain_stmt : (t : Stmt) (i m : ℕ) → is_open_if t ≡ false → StmtShaped t → StmtStands toks t i m → done m → BodyRest toks done i
   plain_stmt t i m o f s d = (t, m, f, s, (λ q. absurd (let w : false ≡ true = sym o ∙ q in cc)), d)
 
   pub block : (i : ℕ) → HasSign toks i signs.OpenBrace → BlockRest toks done (i + 1) → BodyRest toks done i

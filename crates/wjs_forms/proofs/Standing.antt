@@ -1,5 +1,5 @@
 -- What stands at a place, by its class.
-use Rattle.std.proofs.Common.{◌≡◌, ℕ, ◌+◌, ◌≤◌, Bool, true, false, List, Option, Some, None, refl, sym, ap, ◌∙◌, subst, arith}
+use Rattle.std.proofs.Common.{◌≡◌, ℕ, ◌+◌, ◌≤◌, Bool, true, false, List, Option, None, refl, sym, subst, arith}
 use Rattle.wjs_base.specs.declared.ids.TextId.{TextId}
 use Rattle.wjs_tree.specs.declared.tokens.Tok.{Tok}
 use Rattle.wjs_tree.specs.declared.tokens.Token.{Token}
@@ -24,7 +24,7 @@ use Rattle.wjs_tree.specs.Operators.{update_token, prefix_token, binary_token, a
 use Rattle.wjs_tree.specs.Trees.{Expr, Name, Number, Text, This, ThisWorld, Null, Boolean}
 use Rattle.wjs_tree.specs.Levels.{level, is_target}
 use Rattle.wjs_tree.specs.Formed.{Shaped}
-use Rattle.wjs_tree.specs.Ends.{token_at, HasToken, HasSign, HasKey}
+use Rattle.wjs_tree.specs.Ends.{token_at, HasToken, HasKey}
 use Rattle.wjs_tree.specs.Spelling.{spelt_token, property_token, Stands}
 use Rattle.wjs_forms.specs.declared.class.Class.{Class}
 use Rattle.wjs_forms.specs.declared.class.Class.TheVariants as classes
@@ -202,12 +202,3 @@ pub has_token : (toks : List Tok) (i : ℕ) (t : Token) → HasToken toks i t �
 has_token toks i t h classes.End e = absurd (subst (λ (z : Class). Is z t) e (token_is t))
 has_token toks i t h classes.Word e = (t, h, e, subst (λ (z : Class). Is z t) e (token_is t))
 has_token toks i t h k e = (t, h, e, subst (λ (z : Class). Is z t) e (token_is t))
-
-pub has_sign : (toks : List Tok) (i : ℕ) (t : Token) (s : Sign) → HasToken toks i t → t ≡ tokens.Sign s → HasSign toks i s
-has_sign toks i t s h e = h ∙ ap Some e
-
-pub has_key : (toks : List Tok) (i : ℕ) (t : Token) (k : Key) → HasToken toks i t → t ≡ tokens.Key k → HasKey toks i k
-has_key toks i t k h e = h ∙ ap Some e
-
-pub has_same : (toks : List Tok) (i : ℕ) (t u : Token) → HasToken toks i t → t ≡ u → HasToken toks i u
-has_same toks i t u h e = h ∙ ap Some e

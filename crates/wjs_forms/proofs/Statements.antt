@@ -55,7 +55,7 @@ module _ (toks : List Tok) where
       on_sign i signs.Comma _ (state controls.Formal s) h.0 (λ j. refl)
       (on_word (i + 1) x _ (state controls.FormalBehind s) h.1 (λ j. refl) (moved toks _ (i + 2) (i + 1 + 1) (omega arith) (more_formals xs (i + 2) n s h.2 c run)))
 
-  pub formals : (xs : List TextId) (i n : ℕ) (s : List Form) → FormalsStand toks xs i n → HasSign toks n signs.CloseParen → Runs toks (n + 1) (state controls.Brace s) → Runs toks i (state controls.FormalOrEnd s)
+  formals : (xs : List TextId) (i n : ℕ) (s : List Form) → FormalsStand toks xs i n → HasSign toks n signs.CloseParen → Runs toks (n + 1) (state controls.Brace s) → Runs toks i (state controls.FormalOrEnd s)
   formals [] i n s h c run = moved toks _ n i h (on_sign n signs.CloseParen _ (state controls.Brace s) c (λ j. refl) run)
   formals (x ∷ xs) i n s h c run = on_word i x _ (state controls.FormalBehind s) h.0 (λ j. refl) (more_formals xs (i + 1) n s h.1 c run)
 
@@ -72,7 +72,7 @@ module _ (toks : List Tok) where
   name (Some x) i n s h bare run = on_word i x _ (state controls.Formals s) h.0 (λ j. refl) (moved toks _ n (i + 1) h.1 run)
 
   -- an expression with the end of its statement
-  pub to_end : (e : Expr) (end : End) (i m n : ℕ) (s : List Form) → Ends toks (InExpr (ends_in_update e)) end m n → Taking toks places.Whole (forms.Value ∷ s) e i m → Runs toks n (state controls.Done s)
+  to_end : (e : Expr) (end : End) (i m n : ℕ) (s : List Form) → Ends toks (InExpr (ends_in_update e)) end m n → Taking toks places.Whole (forms.Value ∷ s) e i m → Runs toks n (state controls.Done s)
       → Runs toks i (state (controls.Want places.Whole) (forms.Value ∷ s))
   to_end e end i m n s h x run =
       x.other (places_low places.Whole (forms.Value ∷ s) e refl) (ended_follows_value (class_here toks m) s e (ended_here toks (InExpr (ends_in_update e)) end m n h)) (value_runs toks (ends_in_update e) end m n s h run)
@@ -108,8 +108,3 @@ module _ (toks : List Tok) where
   guarded key f e i m s from to g c w k o p x run = on_key i key from (state controls.Open (f ∷ s)) k g
       (on_sign (i + 1) signs.OpenParen _ (state (controls.Want places.Whole) (f ∷ s)) o (λ j. refl)
       (moved toks _ (i + 2) (i + 1 + 1) (omega arith) (closed_by (i + 2) m signs.CloseParen e (f ∷ s) to p w c x run)))
-
-  -- `{`, what the form on top holds, and `}`
-  pub in_braces : (i m : ℕ) (c : Control) (s : List Form) (r : State) → HasSign toks i signs.OpenBrace → ((j : Bool) → step classes.OpenBrace j s c ≡ Some (state controls.List s)) → HasSign toks m signs.CloseBrace
-      → ((j : Bool) → step classes.CloseBrace j s controls.List ≡ Some r) → (Runs toks m (state controls.List s) → Runs toks (i + 1) (state controls.List s)) → Runs toks (m + 1) r → Runs toks i (state c s)
-  in_braces i m c s r o g h w body run = on_sign i signs.OpenBrace _ (state controls.List s) o g (body (on_sign m signs.CloseBrace _ r h w run))

@@ -1,5 +1,5 @@
 -- What a shaped tree stands for is taken, by recursion on the tree.
-use Rattle.std.proofs.Common.{◌≡◌, ℕ, ◌+◌, ◌≤◌, ◌⊎◌, inl, inr, Bool, true, false, List, [], ◌∷◌, length, Option, Some, None, refl, sym, ap, ◌∙◌, subst, arith}
+use Rattle.std.proofs.Common.{◌≡◌, ℕ, ◌+◌, ◌≤◌, inl, inr, Bool, true, false, List, [], ◌∷◌, length, Option, Some, None, refl, sym, ap, ◌∙◌, subst, arith}
 use Rattle.wjs_base.specs.declared.ids.TextId.{TextId}
 use Rattle.wjs_tree.specs.declared.tokens.Tok.{Tok}
 use Rattle.wjs_tree.specs.declared.tokens.Token.{Token}
@@ -15,10 +15,11 @@ use Rattle.wjs_tree.specs.declared.operators.PrefixOperator.{PrefixOperator}
 use Rattle.wjs_tree.specs.declared.operators.PrefixOperator.TheVariants as prefixes
 use Rattle.wjs_tree.specs.Operators.{is_update}
 use Rattle.wjs_tree.specs.Trees.{Expr, Optional, Arguments, Items, Properties, Variables, Init, Stmt, Stmts, Clauses, Elements, Name, Number, Text, This, ThisWorld, Null, Boolean, Paren, ArrayLit, ObjectLit, Function, Dot, At, Call, NewWith, NewBare, Postfix, Prefix, Binary, Cond, Assign, Comma, Absent, Present, NoArgument, Argument, NoItem, Hole, Item, LastItem, NoProperty, Property, LastProperty, NoVariable, Variable, NoInit, InitExpr, InitVar, Block, Var, Empty, ExprStmt, If, IfElse, DoWhile, While, For, ForIn, ForVarIn, Continue, Break, Return, Throw, Label, Switch, TryCatch, TryFinally, TryBoth, Within, NoStmt, MoreStmts, NoClause, Case, Default, NoElement, Statement, FunctionDecl}
-use Rattle.wjs_tree.specs.Levels.{level, is_target, is_bare, ends_in_update}
+use Rattle.wjs_tree.specs.Levels.{level, is_target, ends_in_update}
 use Rattle.wjs_tree.specs.Formed.{is_open_if, AreSome, Shaped, OptionalShaped, InitialiserShaped, ArgumentsShaped, ItemsShaped, PropertiesShaped, VariablesShaped, InitShaped, StmtShaped, StmtsShaped, ClausesShaped, ElementsShaped}
 use Rattle.wjs_tree.specs.Ends.{HasToken, HasSign, HasKey, Ending, Complete, InName, InExpr, Ends}
 use Rattle.wjs_tree.specs.Spelling.{property_token, last_ending, Stands, OptionalStands, InitialiserStands, ArgumentsStand, MoreArgumentsStand, ItemsStand, PropertiesStand, VariablesStand, MoreVariablesStand, InitStands, StmtStands, StmtsStand, ClausesStand, ElementsStand}
+use Rattle.wjs_tree.proofs.Levels.{new_level}
 use Rattle.wjs_forms.specs.declared.class.Class.{Class}
 use Rattle.wjs_forms.specs.declared.class.Class.TheVariants as classes
 use Rattle.wjs_forms.specs.declared.forms.Place.{Place}
@@ -45,16 +46,6 @@ use Rattle.wjs_forms.proofs.Statements.{on_sign, on_key, on_word, closed_by, hea
 -- behind the operand a comma leads to a further one
 abbrev CommaStays : List Form → Type 0
 CommaStays s = (j : Bool) → step classes.Comma j s controls.Behind ≡ Some (state (controls.Want places.First) s)
-
-bare_level : (e : Expr) → is_bare e ≡ true → level e ≡ 15
-bare_level (NewBare f) h = refl
-bare_level (Name x) h = cc
-bare_level _ h = cc
-
--- what stands behind `new` binds more tightly than any operator
-new_level : (e : Expr) → (17 ≤ level e) ⊎ (is_bare e ≡ true) → 15 ≤ level e
-new_level e (inl h) = omega arith
-new_level e (inr h) = let q = bare_level e h in omega arith
 
 binds_new : (p : Place) (e : Expr) → after_update p ≡ false → 15 ≤ level e → Binds p e
 binds_new places.Whole e u h = tt

@@ -30,6 +30,18 @@ no_in (forms.ForInit ∷ rest) = true
 no_in (forms.ForVar ∷ rest) = true
 no_in _ = false
 
+-- what is done with a token that is looked at again
+abbrev pub Again : Type 0
+Again = Control → Option State
+
+pub unless_false : (b : Bool) (m : Move) (s : List Form) (g : Again) (r : State) → act (unless b m) s g ≡ Some r → b ≡ false
+unless_false true m s g r h = cc
+unless_false false m s g r h = refl
+
+pub unless_is : (b : Bool) (m : Move) (s : List Form) (g : Again) (r : State) → act (unless b m) s g ≡ Some r → act m s g ≡ Some r
+unless_is true m s g r h = cc
+unless_is false m s g r h = h
+
 pub behind_is : (s : List Form) → is_new s ≡ false → (k : Class) → behind (top s) k ≡ behind_top k (top s)
 behind_is [] h k = refl
 behind_is (forms.New ∷ rest) h k = cc
@@ -50,7 +62,7 @@ no_bar [] h p u = u
 no_bar (forms.New ∷ rest) h p u = cc
 no_bar (f ∷ rest) h p u = u
 
-pub no_in_top : (s : List Form) → is_new s ≡ false → bars_in (top s) ≡ no_in s
+no_in_top : (s : List Form) → is_new s ≡ false → bars_in (top s) ≡ no_in s
 no_in_top [] h = refl
 no_in_top (forms.New ∷ rest) h = cc
 no_in_top (forms.ForInit ∷ rest) h = refl
@@ -60,11 +72,7 @@ no_in_top (f ∷ rest) h = refl
 pub behind_step : (k : Class) (j : Bool) (s : List Form) → is_new s ≡ false → step k j s controls.Behind ≡ act (behind_top k (top s)) s (λ d. below k j s d)
 behind_step k j s h = ap (λ (z : Move). act z s (λ d. below k j s d)) (behind_is s h k)
 
--- behind a `new` without arguments an operand is as behind none
-pub behind_new : (k : Class) (j : Bool) (s : List Form) → step k j (forms.New ∷ s) controls.Behind ≡ step k j s controls.Behind
-behind_new k j s = refl
-
-pub in_allowed : (b : Bool) → IsAllowed b binaries.In → b ≡ false
+in_allowed : (b : Bool) → IsAllowed b binaries.In → b ≡ false
 in_allowed true h = absurd h
 in_allowed false h = refl
 

@@ -30,7 +30,7 @@ use Rattle.wjs_frames.proofs.Keeping.{keeps_framed}
 use Rattle.wjs_frames.proofs.OperandLines.{entered_same}
 
 -- what a part's frame begins with is the part's entry
-pub begins_part : (t : Table) (p : Part) (env : Env)
+begins_part : (t : Table) (p : Part) (env : Env)
     → begin_at (start_of p) ((node_of p).0) (node_here env (node_of p).0) (holding_in t []) env ≡ entry (goal_of p) env
 begins_part t (part.Expr e) env = refl
 begins_part t (part.Target e) env = refl
@@ -56,17 +56,17 @@ over_waiting run fs f o =
     then_do_assoc o _ (under run fs Ends)
     ∙ sym (then_same o _ _ (λ c st n. under_snoc run fs f Ends c st n))
 
-pub enter_rest : (run : Run) (goal : Goal) (env : Env) (fs : List Frame) (f : Frame) (st : St) (n : ℕ)
+enter_rest : (run : Run) (goal : Goal) (env : Env) (fs : List Frame) (f : Frame) (st : St) (n : ℕ)
     → rest_with run (Eval goal env (act_after run f)) fs st n ≡ rest_with run (Tick (entry goal env)) (fs ++ f ∷ []) st n
 enter_rest run goal env fs f st n =
     ap (λ o. run_next o (λ st' n'. (Done, st'))) (over_waiting run fs f (eval goal env st n) ∙ ap (λ o. then_do o (under run (fs ++ f ∷ []) Ends)) (entries_lem goal env st n))
 
-pub last_rest : (run : Run) (goal : Goal) (env : Env) (fs : List Frame) (st : St) (n : ℕ)
+last_rest : (run : Run) (goal : Goal) (env : Env) (fs : List Frame) (st : St) (n : ℕ)
     → rest_with run (Eval goal env Ret) fs st n ≡ rest_with run (Tick (entry goal env)) fs st n
 last_rest run goal env fs st n =
     ap (λ o. run_next (then_do o (under run fs Ends)) (λ st' n'. (Done, st'))) (then_ret (eval goal env st n) ∙ entries_lem goal env st n)
 
-pub sub_rest : (run : Run) (act : Act) (fs : List Frame) (f : Frame) (st : St) (n : ℕ)
+sub_rest : (run : Run) (act : Act) (fs : List Frame) (f : Frame) (st : St) (n : ℕ)
     → rest_with run (Sub act (act_after run f)) fs st n ≡ rest_with run act (fs ++ f ∷ []) st n
 sub_rest run act fs f st n = ap (λ o. run_next o (λ st' n'. (Done, st'))) (over_waiting run fs f (interp eval act st n))
 
@@ -93,7 +93,7 @@ module _ {S : Type 0} (meaning : S → Meaning) where
   given_then t old f point = ap (λ node. after point f.node.0 node (holding_in t f.held) (env_in meaning old t f)) (node_same t old.units.items f.tree f.node)
 
   -- and that of one that waits there
-  pub waits_then : (t : Table) (old : Config S) (f : NumberedFrame) (point : Point)
+  waits_then : (t : Table) (old : Config S) (f : NumberedFrame) (point : Point)
       → act_after (run_in meaning t old) (frame_in t (record f { phase = phases.Waiting point })) ≡ then_at meaning old f point t (env_in meaning old t f)
   waits_then t old f point = given_then t old f point
 

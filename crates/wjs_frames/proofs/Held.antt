@@ -21,7 +21,7 @@ module _ {S : Type 0} (c : Config S) where
   value_there (holds.Earlier e ∷ held) has = value_there held has.1
   value_there (holds.Visit s ∷ held) has = value_there held has.1
 
-  pub latest_values_there : (held : List Held) → HasItems c held → All (HasValue c) (values_held held)
+  latest_values_there : (held : List Held) → HasItems c held → All (HasValue c) (values_held held)
   latest_values_there [] has = All-nil (HasValue c)
   latest_values_there (holds.Value v ∷ held) has = All-cons (HasValue c) v (values_held held) has.0 (latest_values_there held has.1)
   latest_values_there (holds.Reference r ∷ held) has = latest_values_there held has.1
@@ -67,7 +67,7 @@ module _ {S : Type 0} (c : Config S) where
   earlier_there (holds.Earlier e ∷ held) has = has.0
   earlier_there (holds.Visit s ∷ held) has = earlier_there held has.1
 
-  pub visits_there : (held : List Held) → HasItems c held → All (HasSlot c) (visits_held held)
+  visits_there : (held : List Held) → HasItems c held → All (HasSlot c) (visits_held held)
   visits_there [] has = All-nil (HasSlot c)
   visits_there (holds.Value v ∷ held) has = visits_there held has.1
   visits_there (holds.Reference r ∷ held) has = visits_there held has.1

@@ -4,6 +4,7 @@ use Rattle.std.specs.Prelude.{All, is_some}
 use Rattle.std.proofs.lemmas.Result.{on_ok_weaker}
 use Rattle.std.proofs.lemmas.List.Elements.{All-nil, All-push, All-same}
 use Rattle.wjs_base.specs.Text.{Table}
+use Rattle.wjs_base.specs.declared.ids.NodeId.{NodeId}
 use Rattle.wjs_store.specs.Meaning.{Meaning}
 use Rattle.wjs_meaning.specs.Deeds.{Act, Ret, Tick, Eval, Sub}
 use Rattle.wjs_model.specs.declared.config.Config.{Config}
@@ -24,7 +25,6 @@ use Rattle.wjs_model.specs.Begun.{resumed as given_to}
 use Rattle.wjs_model.specs.Contents.{completion_in, holding_in}
 use Rattle.wjs_model.specs.Rest.{begin_at}
 use Rattle.wjs_meaning.specs.Reading.{node_in}
-use Rattle.wjs_tree.specs.declared.node.NodeId.{NodeId}
 use Rattle.wjs_model.specs.Soundness.{StandsHere, HasStart, HasPoint, HasPhase, HasCompletion, HasItems, HasThrown, IsThere, IsStacked, Base}
 use Rattle.wjs_frames.specs.declared.part.Part.{Part}
 use Rattle.wjs_frames.specs.declared.part.Part.TheVariants as part
@@ -178,7 +178,7 @@ module _ {S : Type 0} (meaning : S → Meaning) where
   given_there old f (phases.Entering point o) c h k = h
 
   -- the frame below is given the completion
-  pub follows_given : (old : Config S) (c : Completion) (frames fs : List Frame) (f : Frame) → old.state ≡ states.Running → Base meaning old
+  follows_given : (old : Config S) (c : Completion) (frames fs : List Frame) (f : Frame) → old.state ≡ states.Running → Base meaning old
       → HasCompletion old c → old.frames ≡ fs ++ f ∷ [] → frames ≡ fs ++ record f { phase = given_to f.phase c } ∷ []
       → Follows meaning (Ret (completion_in old.heap.texts c)) old (record old { frames = frames })
   follows_given old c frames fs f er b h eo ef =

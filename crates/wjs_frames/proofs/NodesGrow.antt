@@ -20,7 +20,7 @@ use Rattle.wjs_by_content.specs.Tables.{text_in}
 use Rattle.wjs_by_content.proofs.Growth.{text_stays}
 use Rattle.wjs_meaning.specs.Trees.{Spelled, Init, InitVar, Name, TextLit, ObjectLit, Function, Dot, Var, For, ForVarIn, Continue, Break, Label, Try, FunctionDecl}
 use Rattle.wjs_meaning.specs.Reading.{numbers, number, spelt_in, key_in, pair_in, variable_in, init_in, handler_in, label_in, node_in}
-use Rattle.wjs_model.specs.declared.unit.Unit.{Unit as Program}
+use Rattle.wjs_model.specs.declared.loaded.LoadedProgram.{LoadedProgram as Program}
 use Rattle.wjs_model.specs.Units.{unit_in, rows_from}
 use Rattle.wjs_model.specs.Texts.{HasText, KnowsSpelt, KnowsKey, KnowsInit, KnowsHandler, KnowsNode, KnowsUnit}
 use Rattle.wjs_frames.proofs.Lists.{each_alike}
@@ -60,7 +60,7 @@ module _ (old new : Table) (g : Grows old new) where
   handler_grows None k = refl
   handler_grows (Some h) k = let e = text_stays old new g h.name k in λ i. Some (e i, h.block.0)
 
-  pub node_grows : (n : NumberedNode) → KnowsNode old n → node_in new n ≡ node_in old n
+  node_grows : (n : NumberedNode) → KnowsNode old n → node_in new n ≡ node_in old n
   node_grows (form.Name id) k = ap Name (text_stays old new g id k)
   node_grows (form.Text id) k = ap TextLit (text_stays old new g id k)
   node_grows (form.ObjectLit pairs comma) k = ap ObjectLit (each_alike (pair_in new) (pair_in old) (λ p. KnowsKey old p.key) pair_grows pairs k)

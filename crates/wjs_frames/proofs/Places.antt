@@ -5,14 +5,14 @@ use Rattle.std.specs.Option.{option_map}
 use Rattle.std.proofs.lemmas.List.Elements.{All-head, All-tail}
 use Rattle.std.proofs.lemmas.Option.{slice_get-map}
 use Rattle.wjs_base.specs.Text.{Table}
-use Rattle.wjs_tree.specs.declared.node.NodeId.{NodeId}
+use Rattle.wjs_base.specs.declared.ids.NodeId.{NodeId}
 use Rattle.wjs_tree.specs.declared.node.Node.{Node as NumberedNode}
 use Rattle.wjs_tree.specs.declared.node.Node.TheVariants as nodes
 use Rattle.wjs_scope.specs.declared.place.Place.{Place as Found}
 use Rattle.wjs_scope.specs.Places.{placed_names}
 use Rattle.wjs_meaning.specs.Trees.{Tree, Global, Empty, empty_tree, node_at, tree_at, name_place}
 use Rattle.wjs_meaning.specs.Reading.{node_in}
-use Rattle.wjs_model.specs.declared.unit.Unit.{Unit as Program}
+use Rattle.wjs_model.specs.declared.loaded.LoadedProgram.{LoadedProgram as Program}
 use Rattle.wjs_model.specs.Texts.{KnowsNode, KnowsUnit}
 use Rattle.wjs_model.specs.Units as program
 use Rattle.wjs_frames.specs.Parts.{node_among}

@@ -10,10 +10,10 @@ use Rattle.wjs_model.specs.declared.frame.Phase.{Phase}
 use Rattle.wjs_model.specs.declared.frame.Activation.{Activation as Frame}
 use Rattle.wjs_model.specs.Soundness.{HasPhase, HasThrown, IsThere, IsStacked, Base, Sound}
 
-pub thrown_running : {S : Type 0} (c : Config S) (s : State) → s ≡ states.Running → HasThrown c s
+thrown_running : {S : Type 0} (c : Config S) (s : State) → s ≡ states.Running → HasThrown c s
 thrown_running c s e = subst (λ q. HasThrown c q) (sym e) tt
 
-pub not_empty : {A : Type 0} (all xs : List A) (x : A) → all ≡ xs ++ x ∷ [] → all ≡ [] → ⊥
+not_empty : {A : Type 0} (all xs : List A) (x : A) → all ≡ xs ++ x ∷ [] → all ≡ [] → ⊥
 not_empty all [] x e h = cc
 not_empty all (y ∷ xs) x e h = cc
 

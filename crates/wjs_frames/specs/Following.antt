@@ -1,4 +1,4 @@
--- What a handler of a frame's form does: it goes on with the deeds of a line.
+-- What a handler does: it goes on with the deeds of a line.
 use Rattle.std.specs.Prelude.{◌≡◌, List}
 use Rattle.wjs_base.specs.declared.ids.ObjId.{ObjId}
 use Rattle.wjs_base.specs.declared.ids.WorldId.{WorldId}

@@ -38,11 +38,11 @@ unfolding worlds_in
 worlds_each g old new h = ap reverse h ∙ sym (map-reverse g (map world_in old))
 
 -- the newest row
-pub worlds_push : (rows : List Row) (r : Row) → worlds_in (rows ++ r ∷ []) ≡ world_in r ∷ worlds_in rows
+worlds_push : (rows : List Row) (r : Row) → worlds_in (rows ++ r ∷ []) ≡ world_in r ∷ worlds_in rows
 unfolding worlds_in
 worlds_push rows r = ap reverse (map-append world_in rows (r ∷ [])) ∙ reverse-append (map world_in rows) (world_in r ∷ [])
 
-pub worlds_more : (rows : List Row) (i : ℕ) (d : Row) → i < length rows → worlds_in (take (i + 1) rows) ≡ world_in (get_or rows i d) ∷ worlds_in (take i rows)
+worlds_more : (rows : List Row) (i : ℕ) (d : Row) → i < length rows → worlds_in (take (i + 1) rows) ≡ world_in (get_or rows i d) ∷ worlds_in (take i rows)
 worlds_more rows i d l = ap worlds_in (take_more rows i d l) ∙ worlds_push (take i rows) (get_or rows i d)
 
 -- such a loop at its end
@@ -55,7 +55,7 @@ rows_done f g rows i all l h =
 
 module _ (rows : List Row) (n : ℕ) (d r : Row) (is : r ≡ get_or rows (n - 1) d) (z : 0 < n) (l : n ≤ length rows) where
   -- the rows up to n, newest first
-  pub worlds_last : worlds_in (take n rows) ≡ world_in r ∷ worlds_in (take (n - 1) rows)
+  worlds_last : worlds_in (take n rows) ≡ world_in r ∷ worlds_in (take (n - 1) rows)
   worlds_last =
       let e : n ≡ (n - 1) + 1 = omega arith in
       let lt : n - 1 < length rows = omega arith in
@@ -82,7 +82,7 @@ module _ (rows : List Row) (n : ℕ) (d r : Row) (is : r ≡ get_or rows (n - 1)
         ap (λ F. is_below w s F at) worlds_last
         ∙ ap (λ b. cond b (not (is_touched (world_in r) s) && option_map_or (λ p. same_world p w || is_below w s (worlds_in (take (n - 1) rows)) p) r.parent false) (is_below w s (worlds_in (take (n - 1) rows)) at)) past
 
-    pub below_here : same_world r.id at ≡ true → is_below w s (worlds_in (take n rows)) at ≡ (not (is_touched (world_in r) s) && option_map_or (λ p. same_world p w || is_below w s (worlds_in (take (n - 1) rows)) p) r.parent false)
+    below_here : same_world r.id at ≡ true → is_below w s (worlds_in (take n rows)) at ≡ (not (is_touched (world_in r) s) && option_map_or (λ p. same_world p w || is_below w s (worlds_in (take (n - 1) rows)) p) r.parent false)
     unfolding is_below
     below_here here =
         ap (λ F. is_below w s F at) worlds_last

@@ -6,7 +6,7 @@ ghost use Rattle.wjs_base.specs.Order.{slot_cmp};
 ghost use Rattle.wjs_store.specs.State.{put, same_object};
 
 use std::alloc::Global;
-use std::collections::{BTreeMap, BTreeSet};
+use std::collections::BTreeMap;
 use std::marker::Model;
 use wjs_base::{ObjId, OutOfMemory, Slot, Value};
 

@@ -13,7 +13,7 @@ ghost use Rattle.wjs_store.specs.Shown.{slots_of};
 
 use crate::maps::{ObjSet, SlotMap};
 use std::alloc::Global;
-use wjs_base::{Name, Names, ObjId, OutOfMemory, Slot, Value, WorldId};
+use wjs_base::{Names, ObjId, OutOfMemory, Slot, Value, WorldId};
 
 /// A world with all that it holds.
 #[derive(Drop)]

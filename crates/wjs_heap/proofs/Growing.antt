@@ -51,7 +51,7 @@ module _ (old new : Table) (g : Grows old new) (arena : Objects) where
   flags_stay [] h = tt
   flags_stay (x ∷ xs) h = (Grows-IsName old new x.0 g h.0, flags_stay xs h.1)
 
-  named_stays : (x : Object) → HasNamed old arena x → HasNamed new arena x
+  pub named_stays : (x : Object) → HasNamed old arena x → HasNamed new arena x
   named_stays x has = record { primitive = value_stays x.primitive has.primitive; fixed = fixed_stay x.fixed has.fixed; flags = flags_stay x.flags has.flags }
 
 module _ (h : Parts) (new : Table) (table : IsTable new) (g : Grows h.texts new) where
@@ -82,7 +82,7 @@ module _ (h : Parts) (new : Table) (table : IsTable new) (g : Grows h.texts new)
 -- ---- more objects
 
 module _ (texts : Table) (old new : Objects) (more : (o : ObjId) → IsTrue (has old o) → IsTrue (has new o)) where
-  value_stays_there : (v : Value) → HasValue texts old v → HasValue texts new v
+  pub value_stays_there : (v : Value) → HasValue texts old v → HasValue texts new v
   value_stays_there value.Undefined h = tt
   value_stays_there value.Null h = tt
   value_stays_there (value.Bool b) h = tt
@@ -94,7 +94,7 @@ module _ (texts : Table) (old new : Objects) (more : (o : ObjId) → IsTrue (has
   fixed_stay_there [] h = tt
   fixed_stay_there (x ∷ xs) h = ((h.0.0, value_stays_there x.1 h.0.1), fixed_stay_there xs h.1)
 
-  named_stays_there : (x : Object) → HasNamed texts old x → HasNamed texts new x
+  pub named_stays_there : (x : Object) → HasNamed texts old x → HasNamed texts new x
   named_stays_there x h = record { primitive = value_stays_there x.primitive h.primitive; fixed = fixed_stay_there x.fixed h.fixed; flags = h.flags }
 
 module _ (h : Parts) (heap : IsHeap h) (owner : ℕ) (x : Object) (named : HasNamed h.texts h.arena x) where

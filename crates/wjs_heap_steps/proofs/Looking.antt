@@ -94,7 +94,7 @@ has_world_there : (r : Option Entry) (w : WorldId) → option_and_then (λ (e : 
 has_world_there None w h = absurd (cc)
 has_world_there (Some e) w h = refl
 
-pub world_there : (arena : Objects) (w : WorldId) (o : ObjId) → world_of arena o ≡ Some w → IsTrue (has arena o)
+world_there : (arena : Objects) (w : WorldId) (o : ObjId) → world_of arena o ≡ Some w → IsTrue (has arena o)
 world_there arena w o h = has_world_there (map.get arena o) w h
 
 -- ---- prototypes past an object

@@ -32,7 +32,7 @@ use Rattle.wjs_meaning.specs.NewObjects.{array_object}
 use Rattle.wjs_meaning.specs.WorldValues.{world_object_of}
 use Rattle.wjs_meaning.specs.Deeds.{Do, Create}
 use Rattle.wjs_model.specs.declared.config.Config.{Config}
-use Rattle.wjs_model.specs.declared.unit.Unit.{Unit as Program}
+use Rattle.wjs_model.specs.declared.loaded.LoadedProgram.{LoadedProgram as Program}
 use Rattle.wjs_model.specs.Standing.{FunctionStands}
 use Rattle.wjs_model.specs.Apart.{IsNear, NearValue, NearIf, NamesNear}
 use Rattle.wjs_frames.specs.Doing.{Does}

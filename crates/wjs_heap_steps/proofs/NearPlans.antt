@@ -52,7 +52,7 @@ module _ (near : ObjId → Type 0) where
   reached P (Writes s c go) w F r h = reached P go w (after_write F w s c) r.1 (within_write NearSlot F w s c (λ v e. (r.0.0, of_some c v r.0.1 e)) h)
   reached P (Lists o go) w F r h = reached P (go (names_at F w o)) w (after_list F w o) (r (names_at F w o)) (within_list NearSlot F w o h)
 
-  pub reaches_then : {A B : Type 0} (P : A → Type 0) (Q : B → Type 0) (go : A → Plan B) → ((a : A) → P a → Reaches Q (go a)) → (p : Plan A) → Reaches P p → Reaches Q (then_plan p go)
+  reaches_then : {A B : Type 0} (P : A → Type 0) (Q : B → Type 0) (go : A → Plan B) → ((a : A) → P a → Reaches Q (go a)) → (p : Plan A) → Reaches P p → Reaches Q (then_plan p go)
   reaches_then P Q go k (Gives a) r = k a r
   reaches_then P Q go k (Reads s next) r = λ c n. reaches_then P Q go k (next c) (r c n)
   reaches_then P Q go k (Writes s c next) r = (r.0, reaches_then P Q go k next r.1)

@@ -47,7 +47,7 @@ pub has_named : (t : Table) (F : Worlds) (i : WorldId) → has_world (worlds_in 
 has_named t F i = ap is_some (find_named t F i) ∙ named_some (named_world (names_of t)) (find_world F i)
 
 -- a plan makes none
-pub none_made : {A : Type 0} (p : Plan A) (w : WorldId) (F : State content) (i : WorldId) → has_world (worlds_after p w F) i ≡ has_world F i
+none_made : {A : Type 0} (p : Plan A) (w : WorldId) (F : State content) (i : WorldId) → has_world (worlds_after p w F) i ≡ has_world F i
 unfolding after_read after_list
 none_made (Gives a) w F i = refl
 none_made (Reads s go) w F i = none_made (go (content_at F w s)) w (after_read F w s) i ∙ has_at w (read_in s) (λ x. (marks_read s x).id) F i
@@ -55,7 +55,7 @@ none_made (Writes s c go) w F i = none_made go w (after_write F w s c) i ∙ has
 none_made (Lists o go) w F i = none_made (go (names_at F w o)) w (after_list F w o) i ∙ has_at w (list_in o) (λ x. (marks_list o x).id) F i
 
 -- nor does a commit
-pub none_by_commit : (F : State content) (w i : WorldId) → has_world (after_commit F w) i ≡ true → has_world F i ≡ true
+none_by_commit : (F : State content) (w i : WorldId) → has_world (after_commit F w) i ≡ true → has_world F i ≡ true
 unfolding after_commit
 none_by_commit F w i = by (with_parent F w)
   where

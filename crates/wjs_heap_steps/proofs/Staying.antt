@@ -30,7 +30,7 @@ use Rattle.wjs_by_content.specs.Worlds.{KnowsWorlds}
 use Rattle.wjs_heap.specs.declared.heap.Heap.{Heap}
 use Rattle.wjs_heap.specs.Heap.{IsHeap, KnowsTold}
 use Rattle.wjs_heap.specs.Means.{parts}
-use Rattle.wjs_model.specs.declared.unit.Unit.{Unit as Program}
+use Rattle.wjs_model.specs.declared.loaded.LoadedProgram.{LoadedProgram as Program}
 use Rattle.wjs_model.specs.declared.frame.Reference.{Reference}
 use Rattle.wjs_model.specs.declared.frame.Reference.TheVariants as references
 use Rattle.wjs_model.specs.declared.frame.Completion.{Completion}
@@ -110,7 +110,7 @@ module _ (old new : Table) (g : Grows old new) where
 -- ---- configurations
 
 module _ {S : Type 0} (old new : Config S) (g : Grows old.heap.texts new.heap.texts) (objects : (o : ObjId) → HasObject old o → HasObject new o) where
-  pub value_there : (v : Value) → HasValue old v → HasValue new v
+  value_there : (v : Value) → HasValue old v → HasValue new v
   value_there values.Undefined h = tt
   value_there values.Null h = tt
   value_there (values.Bool b) h = tt
@@ -118,7 +118,7 @@ module _ {S : Type 0} (old new : Config S) (g : Grows old.heap.texts new.heap.te
   value_there (values.Text id) h = Grows-Has old.heap.texts new.heap.texts id g h
   value_there (values.Object o) h = objects o h
 
-  pub name_there : (n : Name) → HasName old n → HasName new n
+  name_there : (n : Name) → HasName old n → HasName new n
   name_there n h = Grows-IsName old.heap.texts new.heap.texts n g h
 
   label_there : (l : Option TextId) → HasLabel old l → HasLabel new l
@@ -139,7 +139,7 @@ module _ {S : Type 0} (old new : Config S) (g : Grows old.heap.texts new.heap.te
   completion_there (completions.Returns v) h = value_there v h
   completion_there (completions.Throws v) h = value_there v h
 
-  pub slot_there : (s : Slot) → HasSlot old s → HasSlot new s
+  slot_there : (s : Slot) → HasSlot old s → HasSlot new s
   slot_there s h = (objects s.object h.0, name_there s.name h.1)
 
   item_there : (i : Held) → HasItem old i → HasItem new i

@@ -37,14 +37,12 @@ pub fn create_error<S: WorldStore>(
     ensures found { IfOk result (λ o. HasObject config.new o) }
 {
     let alloc = config.heap.arena.allocator();
-    match messages::units_of_ascii(alloc, messages::message_of(trouble)) {
-        Ok(message) => create_with(config, trouble, message.as_slice()),
-        Err(_) => Err(OutOfMemory),
-    }
+    let message = messages::units_of_ascii(alloc, messages::message_of(trouble))?;
+    create_with(config, trouble, message.as_slice())
 }
 
 /// Makes the error about a name that is not defined.
-pub fn create_undefined<S: WorldStore>(
+pub(crate) fn create_undefined<S: WorldStore>(
     config: &mut Config<S>,
     name: Name,
 ) -> Result<ObjId, OutOfMemory>
@@ -57,10 +55,8 @@ pub fn create_undefined<S: WorldStore>(
 {
     let id = text_of(config, name)?;
     let alloc = config.heap.arena.allocator();
-    match messages::message_about(alloc, units_of(config, id)) {
-        Ok(message) => create_with(config, Trouble::NotDefined, message.as_slice()),
-        Err(_) => Err(OutOfMemory),
-    }
+    let message = messages::message_about(alloc, units_of(config, id))?;
+    create_with(config, Trouble::NotDefined, message.as_slice())
 }
 
 /// Makes an error with a message, which is the one about some name.

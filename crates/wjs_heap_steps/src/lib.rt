@@ -18,22 +18,21 @@ mod texts;
 mod values;
 mod worlds;
 
-pub use errors::{create_error, create_undefined};
+pub use errors::create_error;
 pub use known::{Known, get_known, known_name, write_known};
 pub use looks::{
     class_of, code_of, fixed, function_of, is_array, is_callable, is_hidden, is_past, next_number,
-    primitive_of, prototype_of, scope_of, scope_up, world_for, world_object,
+    primitive_of, scope_of, world_object,
 };
 pub use makes::{
-    builtin, create, create_array, create_plain, create_scope, create_wrapper, object_of,
-    one_fixed, two_fixed,
+    builtin, create, create_array, create_plain, create_scope, create_wrapper, object_of, one_fixed,
 };
 pub use operands::operand_completion;
 pub use output::emit;
 pub use peeks::{peek_member, peek_operand};
 pub use properties::{delete, get, get_value, has, put, visits};
-pub use references::{local_value, reference_at, store, value_of};
+pub use references::{reference_at, store, value_of};
 pub use slots::{read, read_content, write};
 pub use texts::{extend, intern, name_of, text_of, units_of};
-pub use values::{length_value, member_value};
+pub use values::member_value;
 pub use worlds::{commit, create_world_object, has_world, sprout, world_of};

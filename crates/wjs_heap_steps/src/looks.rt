@@ -41,7 +41,7 @@ pub fn class_of<S: WorldStore>(config: &Config<S>, object: ObjId) -> Class
 }
 
 /// The prototype of an object.
-pub fn prototype_of<S: WorldStore>(config: &Config<S>, object: ObjId) -> Option<ObjId>
+pub(crate) fn prototype_of<S: WorldStore>(config: &Config<S>, object: ObjId) -> Option<ObjId>
     requires base { Base S.meaning config.now }
     requires object { HasObject config.now object }
     ensures does { Does S.meaning (λ t go. Do Look (λ arena. go (objects.object_at arena object).prototype)) (λ t. result) config.now config.now }
@@ -65,7 +65,7 @@ pub fn scope_of<S: WorldStore>(config: &Config<S>, object: ObjId) -> Option<ObjI
 }
 
 /// The world for which an object stands, if there is one.
-pub fn world_for<S: WorldStore>(config: &Config<S>, object: ObjId) -> Option<WorldId>
+pub(crate) fn world_for<S: WorldStore>(config: &Config<S>, object: ObjId) -> Option<WorldId>
     requires { HasObject config.now object }
     ensures does { Does S.meaning (λ t go. Do Look (λ arena. go (objects.object_at arena object).world)) (λ t. result) config.now config.now }
     ensures is { (t : Table) (arena : Arena) → Sees S.meaning config.now t arena → (objects.object_at arena object).world ≡ result }
@@ -181,7 +181,7 @@ pub fn is_hidden<S: WorldStore>(config: &Config<S>, object: ObjId, name: Name) -
 
 /// The scope that is so many scopes outwards. Where there is none further out, it is the last.
 #[inline(always)]
-pub fn scope_up<S: WorldStore>(config: &Config<S>, scope: ObjId, hops: u32) -> ObjId
+pub(crate) fn scope_up<S: WorldStore>(config: &Config<S>, scope: ObjId, hops: u32) -> ObjId
     requires base { Base S.meaning config.now }
     requires scope { HasObject config.now scope }
     ensures does { Does S.meaning (λ t go. Do Look (λ arena. go (objects.scope_up arena hops scope))) (λ t. result) config.now config.now }

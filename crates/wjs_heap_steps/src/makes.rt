@@ -230,7 +230,7 @@ pub fn one_fixed(alloc: Global, name: Name, value: Value) -> Result<Under<Value>
 }
 
 /// Two values under names.
-pub fn two_fixed(
+pub(crate) fn two_fixed(
     alloc: Global,
     first: (Name, Value),
     second: (Name, Value),

@@ -80,7 +80,7 @@ pub fn value_of<S: WorldStore>(
 
 /// The value of a name in a scope: a function's own name is fixed.
 #[inline(always)]
-pub fn local_value<S: WorldStore>(
+pub(crate) fn local_value<S: WorldStore>(
     config: &mut Config<S>,
     frame: &Frame,
     scope: ObjId,

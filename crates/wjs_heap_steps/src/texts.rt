@@ -19,10 +19,7 @@ pub fn intern<S: WorldStore>(config: &mut Config<S>, units: &[u16]) -> Result<Te
     ensures found { IfOk result (λ id. Has config.new.heap.texts id) }
     ensures text { IfOk result (λ id. (t : Table) → Grows config.new.heap.texts t → text_in t id ≡ units.now) }
 {
-    match config.heap.texts.intern(units) {
-        Ok(id) => Ok(id),
-        Err(_) => Err(OutOfMemory),
-    }
+    Ok(config.heap.texts.intern(units)?)
 }
 
 /// The number of the text that has the units of `front` and then these, which is put last where it is new. No deed is done.
@@ -39,10 +36,7 @@ pub fn extend<S: WorldStore>(
     ensures found { IfOk result (λ id. Has config.new.heap.texts id) }
     ensures text { IfOk result (λ id. (t : Table) → Grows config.new.heap.texts t → text_in t id ≡ text_in t front ++ back.now) }
 {
-    match config.heap.texts.extend(front, back) {
-        Ok(id) => Ok(id),
-        Err(_) => Err(OutOfMemory),
-    }
+    Ok(config.heap.texts.extend(front, back)?)
 }
 
 /// The name of a text.

@@ -21,7 +21,7 @@ use wjs_model::{Config, Frame};
 use wjs_store::WorldStore;
 
 /// A length as a value.
-pub fn length_value(length: usize) -> Value
+pub(crate) fn length_value(length: usize) -> Value
     requires { length ≤ longest }
     ensures { (t : Table) → value_in t result ≡ whole length }
 {

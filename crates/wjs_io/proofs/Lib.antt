@@ -1,3 +1,4 @@
 -- Lemmas on what a source lost and a sink gained.
 pub mod Pieces
+pub mod Rising
 pub mod Written

@@ -1,10 +1,10 @@
 -- Bytes that are written in pieces.
-use Rattle.std.proofs.Common.{◌≡◌, ℕ, ◌<◌, ◌≤◌, ◌^◌, List, [], ◌∷◌, ◌++◌, Option, None, Some, length, take, drop, refl, sym, ◌∙◌, ap, arith, append_assoc, length-append, length-drop, ◌⊎◌, inl, inr, Result, Ok, Err, OnOk, IfErr}
+use Rattle.std.proofs.Common.{◌≡◌, ℕ, ◌<◌, ◌≤◌, ◌^◌, List, [], ◌∷◌, ◌++◌, Option, None, Some, length, take, drop, sym, ◌∙◌, ap, arith, append_assoc, length-append, length-drop, ◌⊎◌, inl, inr, Result, Ok, Err, OnOk, IfErr}
 use Rattle.std.specs.Io.KnownBytes.{Appends}
 use Rattle.std.proofs.lemmas.List.{take-append-drop, append-nil}
 use Rattle.wjs_io.specs.Faults.{Rises, HasCause}
 use Rattle.wjs_io.specs.declared.loops.Stopped.{Stopped}
-use Rattle.wjs_io.specs.Streams.{stream, GotPrefix, Got, Stops}
+use Rattle.wjs_io.specs.Streams.{stream, Got, Stops}
 
 -- the front of the bytes is written, and this is the rest
 pub record Written (before after : Option (List ℕ)) (faults_before faults_after : ℕ) (bytes rest : List ℕ) : Type 0 where
@@ -48,9 +48,6 @@ written_more before middle after faults counted counted_after bytes rest piece b
       never_falls = omega arith;
     }
 
-pub written_none : (a : Option (List ℕ)) (faults : ℕ) (bytes : List ℕ) → Written a a faults faults bytes bytes
-written_none a faults bytes = record { front = []; whole = refl; got = Appends-nil a; never_falls = omega arith }
-
 pub stops_at : (before after : Option (List ℕ)) (faults more : ℕ) (bytes : List ℕ) (gone : ℕ) → gone < length bytes → Appends before after (take gone bytes) → Rises faults more → Stops (stream before after faults more) bytes
 stops_at before after faults more bytes gone few got rises =
     record {
@@ -65,6 +62,3 @@ stops_at before after faults more bytes gone few got rises =
 pub tried : (before after : Option (List ℕ)) (faults more : ℕ) (bytes : List ℕ) (r : Result (Unit {0}) Stopped) → OnOk r (Appends before after bytes) → IfErr r (λ s. s.gone < length bytes) → IfErr r (λ s. Appends before after (take s.gone bytes)) → HasCause faults more r → Got (stream before after faults more) bytes ⊎ Stops (stream before after faults more) bytes
 tried before after faults more bytes (Ok done) ok few gone cause = inl ok
 tried before after faults more bytes (Err s) ok few gone cause = inr (stops_at before after faults more bytes s.gone few gone cause.rises)
-
-pub got_none : (a : Option (List ℕ)) (faults : ℕ) (bytes : List ℕ) → GotPrefix (stream a a faults faults) bytes
-got_none a faults bytes = record { front = []; rest = bytes; whole = refl; got = Appends-nil a }

@@ -1,18 +1,12 @@
 -- Labels that stand around.
-use Rattle.std.specs.Prelude.{◌≡◌, zero, suc, ◌⊎◌, ◌↔◌, Bool, true, false, List, [], ◌∷◌, Contains}
+use Rattle.std.specs.Prelude.{◌≡◌, zero, suc, ◌⊎◌, ◌↔◌, Bool, true, false, List, ◌∷◌, Contains}
 use Rattle.std.proofs.Common.{inl, inr, arith, IsTrue, nat_eq, subst}
 use Rattle.wjs_base.specs.declared.ids.TextId.{TextId}
 
-pub contains_nothing : {X : Type 0} (y : X) → Contains [] y → ⊥
-contains_nothing y h = absurd (let k = h.1 in omega arith)
-
-pub contains_head : {X : Type 0} (x y : X) (xs : List X) → x ≡ y → Contains (x ∷ xs) y
-contains_head x y xs e = (0, omega arith, e)
-
-pub contains_tail : {X : Type 0} (x y : X) (xs : List X) → Contains xs y → Contains (x ∷ xs) y
+contains_tail : {X : Type 0} (x y : X) (xs : List X) → Contains xs y → Contains (x ∷ xs) y
 contains_tail x y xs h = (suc h.0, (let k = h.1 in omega arith), h.2)
 
-pub contains_either : {X : Type 0} (x y : X) (xs : List X) → Contains (x ∷ xs) y → (x ≡ y) ⊎ Contains xs y
+contains_either : {X : Type 0} (x y : X) (xs : List X) → Contains (x ∷ xs) y → (x ≡ y) ⊎ Contains xs y
 contains_either x y xs (zero, lt, e) = inl e
 contains_either x y xs (suc k, lt, e) = inr (k, omega arith, e)
 

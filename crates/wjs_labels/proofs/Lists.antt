@@ -2,13 +2,13 @@
 use Rattle.std.specs.Prelude.{◌≡◌, ℕ, ◌+◌, ◌<◌, ◌≤◌, ◌⊎◌, ◌↔◌, Bool, true, false, not, is_some, cond, IsTrue, List, ◌∷◌, length, count_by, None}
 use Rattle.std.proofs.Common.{refl, sym, ap, subst, ◌∙◌, inl, inr, arith, get_or}
 use Rattle.std.proofs.lemmas.List.Sums.{sum_by-cons}
+use Rattle.wjs_base.specs.declared.ids.NodeId.{NodeId}
 use Rattle.wjs_tree.specs.declared.node.Node.{Node}
-use Rattle.wjs_tree.specs.declared.node.NodeId.{NodeId}
 use Rattle.wjs_tree.specs.declared.node.Clause.{Clause}
 use Rattle.wjs_tree.specs.Trees.{Expr, Stmts, Clauses, NoClause, Case, Default}
 use Rattle.wjs_tree.specs.Jumps.{Around, default_count, AllJumpRight, ClausesJumpRight, ElementsJumpRight}
 use Rattle.wjs_tree.specs.Forms.{AreClauses}
-use Rattle.wjs_tree.specs.There.{StmtThere, StmtsThere, ClausesThere, ElementsThere, ElementThere}
+use Rattle.wjs_tree.specs.There.{StmtThere, StmtsThere, ElementThere}
 use Rattle.wjs_tree.proofs.Lists as along
 use Rattle.wjs_labels.specs.Answers.{StmtAnswer, StmtsAnswer, ElementAnswer, ElementsAnswer}
 use Rattle.wjs_labels.proofs.Walks.{AskAlike, alike, joined}
@@ -16,9 +16,6 @@ use Rattle.wjs_labels.proofs.Walks.{AskAlike, alike, joined}
 -- of a list of statements, those from k on are left to ask
 abbrev pub StmtsWalk : List Node → Around → ℕ → List NodeId → ℕ → Type 0
 StmtsWalk ns a room list k = along.StmtsWalk ns room list k (AskAlike (AllJumpRight a))
-
-pub stmts_begin : (ns : List Node) (a : Around) (room : ℕ) (list : List NodeId) → StmtsThere ns room list → StmtsWalk ns a room list 0
-stmts_begin ns a room list h = along.stmts_begin ns room list (AskAlike (AllJumpRight a)) (alike (AllJumpRight a)) h
 
 pub stmts_here : (ns : List Node) (a : Around) (room : ℕ) (list : List NodeId) (k : ℕ) (d : NodeId) → k < length list → StmtsWalk ns a room list k → StmtThere ns room (get_or list k d)
 stmts_here ns a room list k d lt w = along.stmts_here ns room list k (AskAlike (AllJumpRight a)) d lt w
@@ -44,9 +41,6 @@ ClausesAnswer ns a list b = (t : Clauses) → AreClauses ns t list → IsTrue b 
 -- of a list of clauses
 abbrev pub ClausesWalk : List Node → Around → ℕ → List Clause → ℕ → Type 0
 ClausesWalk ns a room list k = along.ClausesWalk ns room list k (AskAlike (ClausesJumpRight a))
-
-pub clauses_begin : (ns : List Node) (a : Around) (room : ℕ) (list : List Clause) → ClausesThere ns room list → ClausesWalk ns a room list 0
-clauses_begin ns a room list h = along.clauses_begin ns room list (AskAlike (ClausesJumpRight a)) (alike (ClausesJumpRight a)) h
 
 pub clauses_here : (ns : List Node) (a : Around) (room : ℕ) (list : List Clause) (k : ℕ) (d : Clause) → k < length list → ClausesWalk ns a room list k → StmtsThere ns room (get_or list k d).body
 clauses_here ns a room list k d lt w = along.clauses_here ns room list k (AskAlike (ClausesJumpRight a)) d lt w
@@ -87,9 +81,6 @@ defaults ns (Default body rest) list h =
 -- of the elements of a body
 abbrev pub ElementsWalk : List Node → Around → ℕ → List NodeId → ℕ → Type 0
 ElementsWalk ns a room list k = along.ElementsWalk ns room list k (AskAlike (ElementsJumpRight a))
-
-pub elements_begin : (ns : List Node) (a : Around) (room : ℕ) (list : List NodeId) → ElementsThere ns room list → ElementsWalk ns a room list 0
-elements_begin ns a room list h = along.elements_begin ns room list (AskAlike (ElementsJumpRight a)) (alike (ElementsJumpRight a)) h
 
 pub elements_here : (ns : List Node) (a : Around) (room : ℕ) (list : List NodeId) (k : ℕ) (d : NodeId) → k < length list → ElementsWalk ns a room list k → ElementThere ns room (get_or list k d)
 elements_here ns a room list k d lt w = along.elements_here ns room list k (AskAlike (ElementsJumpRight a)) d lt w

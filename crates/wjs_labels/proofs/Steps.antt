@@ -2,22 +2,21 @@
 use Rattle.std.specs.Prelude.{◌≡◌, ℕ, suc, ◌<◌, ◌≤◌, ◌↔◌, Bool, true, false, not, is_some, IsTrue, List, count_by, option_map, Option, Some, None}
 use Rattle.std.proofs.Common.{sym, subst, ◌∙◌, arith}
 use Rattle.wjs_base.specs.declared.ids.TextId.{TextId}
+use Rattle.wjs_base.specs.declared.ids.NodeId.{NodeId}
 use Rattle.wjs_tree.specs.declared.node.Node.{Node}
-use Rattle.wjs_tree.specs.declared.node.NodeId.{NodeId}
 use Rattle.wjs_tree.specs.declared.node.Node.TheVariants as nodes
 use Rattle.wjs_tree.specs.declared.node.Clause.{Clause}
 use Rattle.wjs_tree.specs.declared.node.Handler.{Handler}
 use Rattle.wjs_tree.specs.declared.node.End.{End}
 use Rattle.wjs_tree.specs.declared.node.ForInit.{ForInit}
-use Rattle.wjs_tree.specs.Trees.{Stmt, Block, If, DoWhile, While, For, ForIn, ForVarIn, Label, Switch, Within}
+use Rattle.wjs_tree.specs.Trees.{Stmt, Block, If, DoWhile, While, For, ForIn, ForVarIn, Label, Within}
 use Rattle.wjs_tree.specs.Shows.{Has}
 use Rattle.wjs_tree.specs.Jumps.{Around, in_loop, in_switch, JumpsRight}
 use Rattle.wjs_tree.specs.Forms.{IsPart, HasForm}
-use Rattle.wjs_tree.specs.There.{StmtThere}
-use Rattle.wjs_labels.specs.Answers.{StmtAnswer, OptionAnswer, StmtsAnswer, LabelAnswer, SwitchAnswer, FormAnswer}
+use Rattle.wjs_labels.specs.Answers.{StmtAnswer, OptionAnswer, LabelAnswer, SwitchAnswer, FormAnswer}
 use Rattle.wjs_tree.proofs.Forms.{form_of}
 use Rattle.wjs_tree.proofs.Steps as steps
-use Rattle.wjs_labels.proofs.Walks.{AskAlike, alike, joined, settle}
+use Rattle.wjs_labels.proofs.Walks.{AskAlike, joined, settle}
 use Rattle.wjs_labels.proofs.Lists.{ClausesAnswer, defaults}
 
 pub answered : (ns : List Node) (a : Around) (i : NodeId) (m n : Node) (b : Bool) → Has ns i m → m ≡ n → FormAnswer ns a n b → StmtAnswer ns a i b
@@ -25,9 +24,6 @@ answered ns a i m n b h e w t p = w t (subst (λ (z : Node). HasForm ns z t) e (
 
 moved : (a : Around) (u v : Stmt) (b : Bool) → u ≡ v → (IsTrue b ↔ JumpsRight a v) → IsTrue b ↔ JumpsRight a u
 moved a u v b e w = (λ h. subst (JumpsRight a) (sym e) (w.0 h), λ j. w.1 (subst (JumpsRight a) e j))
-
-pub block_right : (ns : List Node) (a : Around) (list : List NodeId) (b : Bool) → StmtsAnswer ns a list b → FormAnswer ns a (nodes.Block list) b
-block_right ns a list b w t f = moved a t (Block f.0) b f.1 (w f.0 f.2)
 
 pub do_right : (ns : List Node) (a : Around) (x y : NodeId) (end : End) (b : Bool) → StmtAnswer ns (in_loop a) x b → FormAnswer ns a (nodes.DoWhile x y end) b
 do_right ns a x y end b w t f = moved a t (DoWhile f.0 f.1 end) b f.2 (w f.0 f.3)
@@ -46,9 +42,6 @@ for_var_right ns a x y z b w t f = moved a t (ForVarIn x f.0 f.1) b f.2 (w f.1 f
 
 pub label_right : (ns : List Node) (a : Around) (x : TextId) (y : NodeId) (b : Bool) → LabelAnswer ns a x y b → FormAnswer ns a (nodes.Label x y) b
 label_right ns a x y b w t f = moved a t (Label x f.0) b f.1 (w f.0 f.2)
-
-pub switch_right : (ns : List Node) (a : Around) (x : NodeId) (list : List Clause) (b : Bool) → SwitchAnswer ns a list b → FormAnswer ns a (nodes.Switch x list) b
-switch_right ns a x list b w t f = moved a t (Switch f.0 f.1) b f.2 (w f.1 f.3)
 
 pub world_right : (ns : List Node) (a : Around) (x y : NodeId) (b : Bool) → StmtAnswer ns a y b → FormAnswer ns a (nodes.Within x y) b
 world_right ns a x y b w t f = moved a t (Within f.0 f.1) b f.2 (w (Block f.1) f.3)
@@ -85,9 +78,6 @@ switch_clauses ns a list n b e few w t h = let d = defaults ns t list h in (λ k
 -- a walk along a chain of `else`
 abbrev pub StmtWalk : List Node → Around → ℕ → NodeId → NodeId → Type 0
 StmtWalk ns a room i j = steps.StmtWalk ns room i j (AskAlike (JumpsRight a))
-
-pub walk_begin : (ns : List Node) (a : Around) (room : ℕ) (i : NodeId) → StmtThere ns room i → StmtWalk ns a room i i
-walk_begin ns a room i h = steps.walk_begin ns room i (AskAlike (JumpsRight a)) (alike (JumpsRight a)) h
 
 -- the answer for the last statement is that for the first
 pub walk_answer : (ns : List Node) (a : Around) (room : ℕ) (i j : NodeId) (b : Bool) → StmtWalk ns a room i j → StmtAnswer ns a j b → StmtAnswer ns a i b

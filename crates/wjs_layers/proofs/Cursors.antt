@@ -1,48 +1,20 @@
 -- The first entry that passes is the least one.
-use Rattle.std.proofs.Common.{◌≡◌, Bool, true, false, cond, ◌&&◌, T, List, [], ◌∷◌, Option, None, Some, is_some, MatchOption, refl, ap, sym, ◌∙◌, subst}
+use Rattle.std.proofs.Common.{◌≡◌, Bool, true, false, cond, T, List, [], ◌∷◌, Option, None, Some, is_some, MatchOption, refl, ap, sym, ◌∙◌, subst}
 use Rattle.std.specs.declared.cmp.Ordering.{Ordering}
-use Rattle.std.specs.declared.cmp.Ordering.TheVariants.{Less, Equal, Greater}
-use Rattle.std.specs.Ordering.{eq_by_cmp, is_lt, is_eq, ordering_reverse}
+use Rattle.std.specs.Ordering.{eq_by_cmp, is_lt, is_eq}
 use Rattle.std.specs.Cmp.{IsTotalOrder, tied_itself}
 use Rattle.std.specs.FinMap as map
 use Rattle.std.specs.FinMap.{FinMap, IsAntisymmetric}
 use Rattle.std.specs.FinMap.Entries.{below_all, is_sorted}
 use Rattle.std.specs.Map.{lookup_entry}
 use Rattle.std.proofs.lemmas.Bool.{true≢false, false≢true}
-use Rattle.wjs_base.proofs.Booleans.{by_bool}
+use Rattle.wjs_base.proofs.Booleans.{by_bool, left_true, right_true, T_true}
+use Rattle.wjs_base.proofs.Orders.{not_back, not_self}
 use Rattle.wjs_store.proofs.Marks.{key_is}
 
-left_true : (a b : Bool) → T (a && b) → T a
-left_true true b h = tt
-left_true false b h = h
-
-right_true : (a b : Bool) → T (a && b) → T b
-right_true true b h = h
-right_true false b h = absurd h
-
-T_true : (b : Bool) → T b → b ≡ true
-T_true true h = refl
-T_true false h = absurd h
-
-less_is : (o : Ordering) → is_lt o ≡ true → o ≡ Less
-less_is Less h = refl
-less_is Equal h = absurd (false≢true h)
-less_is Greater h = absurd (false≢true h)
-
-pub match_weaker : {A P P' : Type 0} {Q Q' : A → Type 0} (o : Option A) → (P → P') → ((a : A) → Q a → Q' a) → MatchOption o P Q → MatchOption o P' Q'
+match_weaker : {A P P' : Type 0} {Q Q' : A → Type 0} (o : Option A) → (P → P') → ((a : A) → Q a → Q' a) → MatchOption o P Q → MatchOption o P' Q'
 match_weaker None f g h = f h
 match_weaker (Some a) f g h = g a h
-
-module _ {K : Type 0} {R : K → K → Ordering} (total : IsTotalOrder R) where
-  -- a key that is less is not greater
-  pub not_back : (x y : K) → is_lt (R x y) ≡ true → is_lt (R y x) ≡ false
-  not_back x y h = ap is_lt (total.antisymm y x ∙ ap ordering_reverse (less_is (R x y) h))
-
-  pub not_self : (x : K) → is_lt (R x x) ≡ false
-  not_self x = ap is_lt (tied_itself total x)
-
-  pub lt_trans : (x y z : K) → is_lt (R x y) ≡ true → is_lt (R y z) ≡ true → is_lt (R x z) ≡ true
-  lt_trans x y z h k = ap is_lt (total.trans x y z (less_is (R x y) h) (less_is (R y z) k))
 
 module _ {K V : Type 0} {R : K → K → Ordering} (total : IsTotalOrder R) (exact : IsAntisymmetric R) where
   below_find : (x : K) (es : List (K × V)) (q : K) → T (below_all R x es) → is_some (map.find R q es) ≡ true → is_lt (R x q) ≡ true

@@ -1,5 +1,5 @@
 -- The entries of a map, one after another.
-use Rattle.std.proofs.Common.{◌≡◌, ℕ, ◌+◌, ◌<◌, ◌≤◌, Bool, true, false, cond, ◌&&◌, T, List, [], ◌∷◌, ◌++◌, length, take, map as each, None, Some, slice_get, get_or, refl, ap, sym, ◌∙◌, arith, suc, zero}
+use Rattle.std.proofs.Common.{◌≡◌, ℕ, ◌+◌, Bool, true, cond, T, List, [], ◌∷◌, map as each, Some, slice_get, refl, ap, sym, ◌∙◌, arith, suc, zero}
 use Rattle.std.specs.declared.cmp.Ordering.{Ordering}
 use Rattle.std.specs.declared.cmp.Ordering.TheVariants.{Less, Equal, Greater}
 use Rattle.std.specs.Ordering.{is_lt, is_le, nat_cmp, ordering_then}
@@ -11,35 +11,24 @@ use Rattle.std.specs.FinMap.Entries.{below_all, is_sorted}
 use Rattle.std.specs.Map.{lookup_entry, lookup_key}
 use Rattle.std.proofs.lemmas.Bool.{false≢true}
 use Rattle.std.proofs.lemmas.Bool.Decides.{nat_tests}
-use Rattle.std.proofs.lemmas.List.{take_more}
+use Rattle.std.proofs.lemmas.Option.{same_Some}
 use Rattle.wjs_base.specs.declared.ids.ObjId.{ObjId}
 use Rattle.wjs_base.specs.declared.values.Slot.{Slot}
-use Rattle.wjs_base.specs.declared.values.Name.{Name}
-use Rattle.wjs_base.specs.declared.values.Name.TheVariants.{Index, Text}
+use Rattle.wjs_base.specs.declared.values.Name.TheVariants.{Index}
 use Rattle.wjs_base.specs.Order.{slot_cmp, obj_cmp, name_cmp}
+use Rattle.wjs_base.proofs.Booleans.{left_true, right_true, T_true}
+use Rattle.wjs_base.proofs.Options.{no_none}
+use Rattle.wjs_base.proofs.Orders.{not_back, not_self}
 use Rattle.wjs_rows.specs.Order.{is_from, is_after}
 use Rattle.wjs_layers.specs.Least.{first_object}
 use Rattle.wjs_slots.specs.Least.{first_slot}
-use Rattle.wjs_layers.proofs.Places.{some_is, no_none}
+use Rattle.wjs_names.proofs.Walks.{first_name}
 use Rattle.wjs_layers.proofs.Lists.{key_of_entry}
-use Rattle.wjs_layers.proofs.Cursors.{not_back, not_self}
-
-left_true : (a b : Bool) → T (a && b) → T a
-left_true true b h = tt
-left_true false b h = h
-
-right_true : (a b : Bool) → T (a && b) → T b
-right_true true b h = h
-right_true false b h = absurd h
-
-T_true : (b : Bool) → T b → b ≡ true
-T_true true h = refl
-T_true false h = absurd h
 
 module _ {K V : Type 0} {R : K → K → Ordering} (total : IsTotalOrder R) where
   pub below_at : (k : K) (es : List (K × V)) (i : ℕ) (e : K × V) → T (below_all R k es) → slice_get es i ≡ Some e → is_lt (R k e.0) ≡ true
   below_at k [] i e h s = no_none e s
-  below_at k (d ∷ ds) zero e h s = ap (λ (z : K × V). is_lt (R k z.0)) (sym (some_is d e s)) ∙ T_true (is_lt (R k d.0)) (left_true (is_lt (R k d.0)) (below_all R k ds) h)
+  below_at k (d ∷ ds) zero e h s = ap (λ (z : K × V). is_lt (R k z.0)) (sym (same_Some d e s)) ∙ T_true (is_lt (R k d.0)) (left_true (is_lt (R k d.0)) (below_all R k ds) h)
   below_at k (d ∷ ds) (suc i) e h s = below_at k ds i e (right_true (is_lt (R k d.0)) (below_all R k ds) h) s
 
   first_below : (k : K) (ds : List (K × V)) → T (below_all R k ds) → lookup_entry (is_after R k) ds ≡ slice_get ds 0
@@ -49,7 +38,7 @@ module _ {K V : Type 0} {R : K → K → Ordering} (total : IsTotalOrder R) wher
   after_on : (es : List (K × V)) (i : ℕ) (e : K × V) → T (is_sorted R es) → slice_get es i ≡ Some e → lookup_entry (is_after R e.0) es ≡ slice_get es (suc i)
   after_on [] i e h s = no_none e s
   after_on (d ∷ ds) zero e h s =
-      ap (λ (z : K × V). lookup_entry (is_after R z.0) (d ∷ ds)) (sym (some_is d e s))
+      ap (λ (z : K × V). lookup_entry (is_after R z.0) (d ∷ ds)) (sym (same_Some d e s))
       ∙ ap (λ b. cond b (Some d) (lookup_entry (is_after R d.0) ds)) (not_self total d.0)
       ∙ first_below d.0 ds (left_true (below_all R d.0 ds) (is_sorted R ds) h)
   after_on (d ∷ ds) (suc i) e h s =
@@ -71,7 +60,7 @@ key_at (e ∷ es) (suc i) = key_at es i
 
 entry_at : {K V : Type 0} (es : List (K × V)) (i : ℕ) (k : K) → slice_get (each (λ (e : K × V). e.0) es) i ≡ Some k → (v : V) × (slice_get es i ≡ Some (k, v))
 entry_at [] i k h = no_none k h
-entry_at (e ∷ es) zero k h = let is = some_is e.0 k h in (e.1, ap (λ j. Some (j, e.1)) is)
+entry_at (e ∷ es) zero k h = let is = same_Some e.0 k h in (e.1, ap (λ j. Some (j, e.1)) is)
 entry_at (e ∷ es) (suc i) k h = entry_at es i k h
 
 -- the same of keys
@@ -82,26 +71,6 @@ after_key {R = R} total m i k s =
 
 pub from_key : {K V : Type 0} (p : K → Bool) (es : List (K × V)) → ((k : K) → p k ≡ true) → lookup_key p es ≡ slice_get (each (λ (e : K × V). e.0) es) 0
 from_key p es h = key_of_entry p es ∙ ap (option_map (λ e. e.0)) (from_is p es h) ∙ key_at es 0
-
--- ---- lists by place
-
-pub slice_below : {A : Type 0} (xs : List A) (i : ℕ) (a : A) → slice_get xs i ≡ Some a → i < length xs
-slice_below [] i a h = no_none a h
-slice_below (x ∷ xs) zero a h = omega arith
-slice_below (x ∷ xs) (suc i) a h = let l : i < length xs = slice_below xs i a h in omega arith
-
-pub slice_past : {A : Type 0} (xs : List A) (i : ℕ) → slice_get xs i ≡ None → length xs ≤ i
-slice_past [] i h = omega arith
-slice_past (x ∷ xs) zero h = cc
-slice_past (x ∷ xs) (suc i) h = let l : length xs ≤ i = slice_past xs i h in omega arith
-
-pub take_next : {A : Type 0} (xs : List A) (i : ℕ) (a : A) → slice_get xs i ≡ Some a → take (i + 1) xs ≡ take i xs ++ a ∷ []
-take_next xs i a h = take_more xs i a (slice_below xs i a h) ∙ ap (λ y. take i xs ++ y ∷ []) (got xs i a h)
-  where
-    got : {A : Type 0} (xs : List A) (i : ℕ) (a : A) → slice_get xs i ≡ Some a → get_or xs i a ≡ a
-    got [] i a h = refl
-    got (x ∷ xs) zero a h = some_is x a h
-    got (x ∷ xs) (suc i) a h = got xs i a h
 
 -- ---- the least of all
 
@@ -115,10 +84,6 @@ le_then Greater b h k = absurd (false≢true h)
 
 pub all_objects : (o : ObjId) → is_from obj_cmp first_object o ≡ true
 all_objects o = le_then (nat_cmp 0 o.owner) (nat_cmp 0 o.serial) (zero_le o.owner) (zero_le o.serial)
-
-first_name : (name : Name) → is_le (name_cmp (Index 0) name) ≡ true
-first_name (Index n) = zero_le n
-first_name (Text t) = refl
 
 pub all_slots : (s : Slot) → is_from slot_cmp first_slot s ≡ true
 all_slots s = le_then (obj_cmp first_object s.object) (name_cmp (Index 0) s.name) (all_objects s.object) (first_name s.name)

@@ -1,16 +1,19 @@
 -- Rows that are exactly the marks of a reached state stand for it.
-use Rattle.std.proofs.Common.{◌≡◌, ℕ, ◌<◌, ◌≤◌, ◌+◌, Bool, true, false, cond, not, ◌||◌, List, [], ◌∷◌, ◌++◌, length, refl, ap, sym, ◌∙◌, take, get_or, Option, None, Some, is_some, slice_get, suc, zero, arith}
+use Rattle.std.proofs.Common.{◌≡◌, ℕ, ◌<◌, ◌≤◌, ◌+◌, Bool, true, false, cond, not, ◌||◌, List, [], ◌∷◌, ◌++◌, length, refl, ap, sym, ◌∙◌, take, Option, None, Some, is_some, slice_get, suc, arith}
 use Rattle.std.specs.Option.{option_map, option_map_or, option_and_then}
 use Rattle.std.specs.Ordering.{eq_by_cmp}
 use Rattle.std.specs.FinMap as map
 use Rattle.std.specs.FinMap.{FinMap}
 use Rattle.std.proofs.lemmas.List.{take_more, take_all}
 use Rattle.std.proofs.lemmas.List.Sums.{fold_push}
+use Rattle.std.proofs.lemmas.Option.{get_or_from_slice_get}
 use Rattle.wjs_base.specs.declared.ids.WorldId.{WorldId}
 use Rattle.wjs_base.specs.declared.values.Slot.{Slot}
 use Rattle.wjs_base.specs.declared.values.Value.{Value}
 use Rattle.wjs_base.specs.Order.{slot_cmp, slot_total, slot_exact, obj_cmp}
 use Rattle.wjs_base.proofs.Booleans.{by_bool}
+use Rattle.wjs_base.proofs.Options.{some_map, by_option}
+use Rattle.wjs_base.proofs.Lists.{get_there}
 use Rattle.wjs_store.specs.Naming.{plain}
 use Rattle.wjs_store.specs.State.{World, State, KeySet, find_world, has_row, is_touched, content_at}
 use Rattle.wjs_store.specs.Reached.{Fits, IsReached}
@@ -20,7 +23,7 @@ use Rattle.wjs_layers.specs.declared.maps.Row.{Row}
 use Rattle.wjs_layers.specs.declared.layer.Spot.{Spot}
 use Rattle.wjs_layers.specs.declared.layer.Layer.{Layer}
 use Rattle.wjs_layers.specs.Sparse.{now_of, read_of, mark_of, laid, unclosed, copy_at, copy_of, world_of, full_of, place_of, Keeps, AreKept}
-use Rattle.wjs_layers.proofs.Places.{some_is, no_none, place_head, place_older, find_top, find_older, slice_some}
+use Rattle.wjs_layers.proofs.Places.{place_head, place_older, find_top, find_older}
 
 -- ---- maps made of rows
 
@@ -40,7 +43,7 @@ get_laid_on f m (e ∷ es) q =
     ∙ ap (cond (eq_by_cmp slot_cmp q e.0) (f e.1)) (get_laid_on f m es q)
     ∙ over_cond f (map.get m q) (eq_by_cmp slot_cmp q e.0) e.1 (map.find slot_cmp q es)
 
-pub get_laid : {V : Type 0} (f : Row → Option V) (m : FinMap slot_cmp V) (rows : FinMap slot_cmp Row) (q : Slot) → map.get (laid f m (map.entries rows)) q ≡ over f (map.get m q) (map.get rows q)
+get_laid : {V : Type 0} (f : Row → Option V) (m : FinMap slot_cmp V) (rows : FinMap slot_cmp Row) (q : Slot) → map.get (laid f m (map.entries rows)) q ≡ over f (map.get m q) (map.get rows q)
 get_laid f m rows q = get_laid_on f m (map.entries rows) q ∙ ap (over f (map.get m q)) (sym (map.get-entries rows q))
 
 over_none : {V : Type 0} (f : Row → Option V) (o : Option Row) → over f None o ≡ option_and_then f o
@@ -55,14 +58,10 @@ get_unclosed closed m q = map.get-retain_keys m (λ (s : Slot). not (map.contain
 
 -- ---- tests on rows
 
-some_map : {A B : Type 0} (f : A → B) (o : Option A) → is_some (option_map f o) ≡ is_some o
-some_map f None = refl
-some_map f (Some a) = refl
-
-abbrev mark_by : Bool → Option (Unit {0})
+abbrev pub mark_by : Bool → Option (Unit {0})
 mark_by b = cond b (Some tt) None
 
-some_mark : (b : Bool) → is_some (mark_by b) ≡ b
+pub some_mark : (b : Bool) → is_some (mark_by b) ≡ b
 some_mark true = refl
 some_mark false = refl
 
@@ -78,7 +77,7 @@ marks_row (Some row) =
     ∙ ap (λ b. is_some row.read || b) (some_mark row.written)
 
 module _ (r : Layer) (x : World plain) (k : Keeps r x) where
-  pub row_of : (s : Slot) → has_row x s ≡ is_marked (map.get r.rows s)
+  row_of : (s : Slot) → has_row x s ≡ is_marked (map.get r.rows s)
   row_of s =
       ap (λ o. is_some o || map.contains_key x.written s) (k.first s)
       ∙ ap (λ o. is_some (option_and_then read_of (map.get r.rows s)) || is_some o) (k.written s)
@@ -109,10 +108,6 @@ get_copy_at F i q = copy_found (find_world F i) q
 cond_none : {A : Type 0} (b : Bool) (o : Option A) → o ≡ None → cond b o None ≡ None
 cond_none true o h = h
 cond_none false o h = refl
-
-pub by_option : {A P : Type 0} (o : Option A) → (o ≡ None → P) → ((a : A) → o ≡ Some a → P) → P
-by_option None f g = f refl
-by_option (Some a) f g = g a refl
 
 module _ (r : Layer) (x : World plain) (older : State plain) (k : Keeps r x) (f : Fits x older) where
   base : FinMap slot_cmp Value
@@ -146,7 +141,7 @@ module _ (r : Layer) (x : World plain) (older : State plain) (k : Keeps r x) (f 
   written_is : laid mark_of map.empty (map.entries r.rows) ≡ x.written
   written_is = map.same_map slot_total slot_exact _ _ (λ q. get_marks mark_of r.rows q ∙ sym (k.written q))
 
-  pub world_is_of : world_of r older ≡ x
+  world_is_of : world_of r older ≡ x
   world_is_of =
       let a = sym k.id in
       let b = sym k.parent in
@@ -156,11 +151,6 @@ module _ (r : Layer) (x : World plain) (older : State plain) (k : Keeps r x) (f 
       let g = written_is in
       let h = sym k.closed in
       λ i. record { id = a i; parent = b i; strict = c i; copy = d i; first = e i; written = g i; closed = h i }
-
-slice_get_or : {A : Type 0} (xs : List A) (i : ℕ) (a d : A) → slice_get xs i ≡ Some a → get_or xs i d ≡ a
-slice_get_or [] i a d h = no_none a h
-slice_get_or (x ∷ xs) zero a d h = some_is x a h
-slice_get_or (x ∷ xs) (suc i) a d h = slice_get_or xs i a d h
 
 full_push : (layers : List Layer) (r : Layer) → full_of (layers ++ r ∷ []) ≡ world_of r (full_of layers) ∷ full_of layers
 unfolding full_of
@@ -175,11 +165,11 @@ full_take layers [] l h at = full_nil
 full_take layers (x ∷ older) l h at =
     let lt : length older < length layers = omega arith in
     let le : length older ≤ length layers = omega arith in
-    let s = slice_some layers (length older) lt in
+    let s = get_there layers (length older) lt in
     let n : suc (length older) ≡ length older + 1 = omega arith in
     let rest = full_take layers older le h.1 (λ w i y r p f q. at w i y r (place_older x older w i h p) (find_older x older w i h p ∙ f) q) in
     ap (λ m. full_of (take m layers)) n
-    ∙ ap full_of (take_more layers (length older) s.0 lt ∙ ap (λ r. take (length older) layers ++ r ∷ []) (slice_get_or layers (length older) s.0 s.0 s.1))
+    ∙ ap full_of (take_more layers (length older) s.0 lt ∙ ap (λ r. take (length older) layers ++ r ∷ []) (get_or_from_slice_get layers (length older) s.0 s.0 s.1))
     ∙ full_push (take (length older) layers) s.0
     ∙ ap (λ F. world_of s.0 F ∷ F) rest
     ∙ ap (λ y. y ∷ older) (world_is_of s.0 x older (at x.id (length older) x s.0 (place_head x older x.id (same_self x.id)) (find_top x older x.id (same_self x.id)) s.1) h.0)

@@ -7,11 +7,13 @@ use Rattle.std.specs.FinMap as map
 use Rattle.std.proofs.lemmas.Bool.{true≢false, false≢true, or_parts}
 use Rattle.std.proofs.lemmas.List.{take_more}
 use Rattle.std.proofs.lemmas.List.Sums.{fold_push}
+use Rattle.std.proofs.lemmas.Option.{same_Some}
 use Rattle.wjs_base.specs.declared.ids.ObjId.{ObjId}
 use Rattle.wjs_base.specs.declared.values.Slot.{Slot}
 use Rattle.wjs_base.specs.declared.values.Value.{Value}
 use Rattle.wjs_base.specs.declared.values.Content.{Content}
 use Rattle.wjs_base.specs.Order.{slot_cmp, slot_total}
+use Rattle.wjs_base.proofs.Options.{by_option, no_none}
 use Rattle.wjs_store.specs.Naming.{plain}
 use Rattle.wjs_store.specs.Shown.{content_of}
 use Rattle.wjs_store.specs.State.{World, is_touched, close_in, put, clear_marks}
@@ -21,8 +23,7 @@ use Rattle.wjs_layers.specs.declared.layer.Layer.{Layer}
 use Rattle.wjs_layers.specs.Look.{Puts, closed_layer}
 use Rattle.wjs_layers.specs.Moves.{handed_by, handed, handed_rows, closed_all, cleared}
 use Rattle.wjs_layers.specs.Sparse.{read_of, mark_of, Keeps}
-use Rattle.wjs_layers.proofs.Places.{some_is, no_none}
-use Rattle.wjs_layers.proofs.Full.{by_option, row_some, row_none, closed_same}
+use Rattle.wjs_layers.proofs.Full.{row_some, row_none, closed_same}
 use Rattle.wjs_layers.proofs.Puts.{keeps_put}
 use Rattle.wjs_layers.proofs.ListLaws.{close_id, keeps_close, closed_above}
 
@@ -66,7 +67,7 @@ module _ (r : Layer) (y : World plain) (k : Keeps r y) where
         first_other = λ q b. map.get-insert slot_total y.first s (content_of read) q ∙ ap (λ d. cond d (Some (content_of read)) (map.get y.first q)) b;
         written_other = λ q b. refl;
         copy_other = λ q b. refl;
-        marked = λ w q. let is : new ≡ w = some_is new w q in ap (λ (w : Row). is_some w.read || w.written) (sym is) ∙ sym (above_some p);
+        marked = λ w q. let is : new ≡ w = same_Some new w q in ap (λ (w : Row). is_some w.read || w.written) (sym is) ∙ sym (above_some p);
         present = λ w u q. absurd (false≢true (sym (parent_none u) ∙ p));
       } in
       subst (λ o. Keeps (record r { rows = put r.rows s (Some new) }) (handed_by (option_map content_of o) y s)) (sym e)

@@ -1,6 +1,7 @@
 pub mod Lists
 pub mod Packing
 pub mod Tables
+pub mod Marked
 pub mod Shapes
 pub mod Places
 pub mod Full

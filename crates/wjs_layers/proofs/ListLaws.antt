@@ -3,10 +3,12 @@ use Rattle.std.proofs.Common.{◌≡◌, ℕ, Bool, true, false, cond, List, [],
 use Rattle.std.specs.Option.{option_map, option_map_or}
 use Rattle.std.specs.FinMap as map
 use Rattle.std.proofs.lemmas.List.{drop_more}
+use Rattle.std.proofs.lemmas.Option.{same_Some}
 use Rattle.wjs_base.specs.declared.ids.ObjId.{ObjId}
 use Rattle.wjs_base.specs.declared.ids.WorldId.{WorldId}
 use Rattle.wjs_base.specs.declared.values.Slot.{Slot}
 use Rattle.wjs_base.proofs.Booleans.{by_bool}
+use Rattle.wjs_base.proofs.Options.{by_option}
 use Rattle.wjs_store.specs.Naming.{plain}
 use Rattle.wjs_store.specs.State.{World, State, find_world, same_world, read_in, read_all, close_in, list_in, slots_in, slots_at, after_read, after_list, at_world}
 use Rattle.wjs_store.specs.Reached.{IsReached}
@@ -17,8 +19,7 @@ use Rattle.wjs_layers.specs.declared.layer.Spot.{Spot}
 use Rattle.wjs_layers.specs.declared.layer.Layer.{Layer}
 use Rattle.wjs_layers.specs.Look.{closed_layer}
 use Rattle.wjs_layers.specs.Sparse.{full_of, place_of, Keeps, AreKept, IsSparse, IsAt, StandFor, after_reads}
-use Rattle.wjs_layers.proofs.Places.{some_is, find_top, find_rest, place_each}
-use Rattle.wjs_layers.proofs.Full.{by_option}
+use Rattle.wjs_layers.proofs.Places.{find_top, find_rest, place_each}
 use Rattle.wjs_layers.proofs.Changes.{kept_set}
 use Rattle.wjs_layers.proofs.Puts.{stand_by, at_one, at_other}
 
@@ -62,7 +63,7 @@ all_id [] x = refl
 all_id (s ∷ ss) x = all_id ss (read_in s x) ∙ (marks_read s x).id
 
 -- the reads of the present slots and the mark are the listing
-pub list_is : (F : State plain) (w : WorldId) (o : ObjId) (x : World plain) → IsReached F → find_world F w ≡ Some x → at_world w (close_in o) (after_reads w (slots_at F w o) F) ≡ after_list F w o
+list_is : (F : State plain) (w : WorldId) (o : ObjId) (x : World plain) → IsReached F → find_world F w ≡ Some x → at_world w (close_in o) (after_reads w (slots_at F w o) F) ≡ after_list F w o
 unfolding after_list
 list_is F w o x r f =
     let ss = slots_at F w o in
@@ -72,7 +73,7 @@ list_is F w o x r f =
     ∙ has_own F (λ y. cond (same_world y.id w) (close_in o (read_all ss y)) y) (λ y. cond (same_world y.id w) (list_in o y) y) r
     (λ y e. by_bool (same_world y.id w)
     (λ b.
-    let is : x ≡ y = some_is x y (sym f ∙ ap (find_world F) (sym (world_is y.id w b)) ∙ e) in
+    let is : x ≡ y = same_Some x y (sym f ∙ ap (find_world F) (sym (world_is y.id w b)) ∙ e) in
     ap (λ c. cond c (close_in o (read_all ss y)) y) b ∙ ap (λ ts. close_in o (read_all ts y)) (here ∙ ap (slots_in o) is) ∙ sym (ap (λ c. cond c (list_in o y) y) b))
     (λ b. ap (λ c. cond c (close_in o (read_all ss y)) y) b ∙ sym (ap (λ c. cond c (list_in o y) y) b)))
 

@@ -8,10 +8,7 @@ use Rattle.std.specs.FinMap.{IsAntisymmetric}
 use Rattle.std.specs.Map.{lookup, lookup_entry, lookup_key}
 use Rattle.std.specs.Option.{option_map}
 use Rattle.std.specs.BTreeMap.{is_at}
-
-pub find_lookup : {K V : Type 0} (R : K → K → Ordering) (es : List (K × V)) (q : K) → map.find R q es ≡ lookup (is_at (R q)) es
-find_lookup R [] q = refl
-find_lookup R (e ∷ es) q = ap (cond (is_at (R q) e.0) (Some e.1)) (find_lookup R es q)
+use Rattle.wjs_base.proofs.Trees.{find_lookup}
 
 module _ {K V : Type 0} {R : K → K → Ordering} (total : IsTotalOrder R) where
   pub get_list : (es : List (K × V)) (q : K) → map.get (map.from_entries {R = R} es) q ≡ lookup (is_at (R q)) es

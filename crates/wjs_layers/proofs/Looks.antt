@@ -3,10 +3,11 @@ use Rattle.std.proofs.Common.{◌≡◌, ℕ, ◌<◌, ◌+◌, true, false, con
 use Rattle.std.specs.Option.{option_map, option_map_or, option_and_then}
 use Rattle.std.specs.FinMap as map
 use Rattle.std.proofs.lemmas.Bool.{false≢true}
+use Rattle.std.proofs.lemmas.Option.{same_Some}
 use Rattle.wjs_base.specs.declared.ids.WorldId.{WorldId}
 use Rattle.wjs_base.specs.declared.values.Slot.{Slot}
 use Rattle.wjs_base.specs.declared.values.Content.{Content}
-use Rattle.wjs_base.proofs.Options.{some_map}
+use Rattle.wjs_base.proofs.Options.{some_map, by_option, no_none}
 use Rattle.wjs_base.proofs.Booleans.{by_bool}
 use Rattle.wjs_store.specs.Naming.{plain}
 use Rattle.wjs_store.specs.State.{World, State, find_world, same_world, content_at, parent_of}
@@ -18,8 +19,8 @@ use Rattle.wjs_layers.specs.declared.maps.Row.{Row}
 use Rattle.wjs_layers.specs.declared.layer.Spot.{Spot}
 use Rattle.wjs_layers.specs.declared.layer.Layer.{Layer}
 use Rattle.wjs_layers.specs.Sparse.{now_of, place_of, full_of, depth_of, Keeps, IsSparse, IsAt}
-use Rattle.wjs_layers.proofs.Places.{some_is, no_none, place_find, place_below, find_top, find_rest}
-use Rattle.wjs_layers.proofs.Full.{row_none, closed_same, untouched, by_option}
+use Rattle.wjs_layers.proofs.Places.{place_find, place_below, find_top, find_rest, find_nil}
+use Rattle.wjs_layers.proofs.Full.{row_none, closed_same, untouched}
 
 -- ---- depths
 
@@ -31,16 +32,12 @@ pub depth_rest : (x : World plain) (older : State plain) (w : WorldId) → same_
 unfolding depth_of
 depth_rest x older w e = ap (λ b. cond b (option_map_or (λ p. depth_of older p + 1) x.parent 0) (depth_of older w)) e
 
-find_empty : (w : WorldId) → find_world {n = plain} [] w ≡ None
-unfolding find_world
-find_empty w = refl
-
 -- a world is one deeper than its parent
-pub depth_up : (F : State plain) (w p : WorldId) (x : World plain) → IsReached F → find_world F w ≡ Some x → x.parent ≡ Some p → depth_of F w ≡ depth_of F p + 1
-depth_up [] w p x h f e = no_none x (sym (find_empty w) ∙ f)
+depth_up : (F : State plain) (w p : WorldId) (x : World plain) → IsReached F → find_world F w ≡ Some x → x.parent ≡ Some p → depth_of F w ≡ depth_of F p + 1
+depth_up [] w p x h f e = no_none x (sym (find_nil w) ∙ f)
 depth_up (y ∷ older) w p x h f e = by_bool (same_world y.id w)
     (λ b.
-    let up : y.parent ≡ Some p = ap (λ (z : World plain). z.parent) (some_is y x (sym (find_top y older w b) ∙ f)) ∙ e in
+    let up : y.parent ≡ Some p = ap (λ (z : World plain). z.parent) (same_Some y x (sym (find_top y older w b) ∙ f)) ∙ e in
     depth_top y older w b ∙ ap (λ o. option_map_or (λ p. depth_of older p + 1) o 0) up
     ∙ ap (λ m. m + 1) (sym (depth_rest y older p (not_older y older p h (h.0.parent_older p up)))))
     (λ b.
@@ -54,7 +51,7 @@ depth_up (y ∷ older) w p x h f e = by_bool (same_world y.id w)
 -- what a row says, by the row
 pub now_row : (o : Option Row) (c : Content) → Some c ≡ option_map (λ (row : Row). row.now) o → (row : Row) × (o ≡ Some row) × (row.now ≡ c)
 now_row None c e = absurd (no_none c (sym e))
-now_row (Some row) c e = (row, refl, sym (some_is c row.now e))
+now_row (Some row) c e = (row, refl, sym (same_Some c row.now e))
 
 pub now_none : (o : Option Row) → None ≡ option_map (λ (row : Row). row.now) o → o ≡ None
 now_none None e = refl
@@ -76,7 +73,7 @@ module _ (layers : List Layer) (h : IsSparse layers) (at : Spot) (here : IsAt la
   pub holds : (q : Slot) → content_at (full_of layers) at.world q ≡ map.get world_at.0.copy q
   holds q = ap (option_and_then (λ (x : World plain). map.get x.copy q)) world_at.1
 
-  pub content_row : (q : Slot) (row : Row) → map.get r.rows q ≡ Some row → content_at (full_of layers) at.world q ≡ now_of row
+  content_row : (q : Slot) (row : Row) → map.get r.rows q ≡ Some row → content_at (full_of layers) at.world q ≡ now_of row
   content_row q row e = holds q ∙ keeps_at.now q row e
 
   pub content_now : (q : Slot) (c : Content) → Some c ≡ option_map (λ (row : Row). row.now) (map.get r.rows q) → content_of c ≡ content_at (full_of layers) at.world q

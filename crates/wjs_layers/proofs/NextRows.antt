@@ -7,16 +7,16 @@ use Rattle.std.specs.FinMap.{FinMap}
 use Rattle.std.specs.Map.{lookup_entry}
 use Rattle.std.specs.Option.{option_map}
 use Rattle.std.proofs.lemmas.Bool.{true≢false, and_parts}
+use Rattle.std.proofs.lemmas.Option.{same_Some}
 use Rattle.wjs_base.specs.declared.ids.ObjId.{ObjId}
 use Rattle.wjs_base.specs.declared.values.Slot.{Slot}
 use Rattle.wjs_base.specs.declared.values.Name.{Name}
 use Rattle.wjs_base.specs.Order.{slot_cmp, slot_total, slot_exact, obj_cmp, obj_total, name_cmp}
 use Rattle.wjs_base.specs.Same.{object_Decides}
+use Rattle.wjs_base.proofs.Options.{by_option, no_none}
 use Rattle.wjs_slots.specs.Least.{is_object, comes_past, is_next_on}
 use Rattle.wjs_layers.specs.declared.maps.Row.{Row}
 use Rattle.wjs_layers.specs.Cursor.{to_come, IsNextRow}
-use Rattle.wjs_layers.proofs.Places.{some_is, no_none}
-use Rattle.wjs_layers.proofs.Full.{by_option}
 use Rattle.wjs_layers.proofs.Cursors.{first_is}
 
 abbrev name_in : Option Slot → Option Name
@@ -51,9 +51,9 @@ module _ (rows : FinMap slot_cmp Row) (o : ObjId) (passed : Option Slot) (on : I
     least = λ s e h b. g s (passes_from s e h);
   }
   next_of (Some d) g = record {
-    on = λ s h. ap (λ (v : Slot). v.object) (sym (some_is d.0 s h)) ∙ (passes_is d.0 g.0).0;
-    later = λ s h. ap (to_come passed) (sym (some_is d.0 s h)) ∙ (passes_is d.0 g.0).1;
-    there = λ s h. ap (λ v. is_some (map.get rows v)) (sym (some_is d.0 s h)) ∙ ap is_some g.1;
+    on = λ s h. ap (λ (v : Slot). v.object) (sym (same_Some d.0 s h)) ∙ (passes_is d.0 g.0).0;
+    later = λ s h. ap (to_come passed) (sym (same_Some d.0 s h)) ∙ (passes_is d.0 g.0).1;
+    there = λ s h. ap (λ v. is_some (map.get rows v)) (sym (same_Some d.0 s h)) ∙ ap is_some g.1;
     least = λ s e h b. none_lt s d.0 b (g.2 s (passes_from s e h));
   }
 

@@ -1,30 +1,25 @@
 -- Contents in few bytes.
-use Rattle.std.proofs.Common.{◌≡◌, true, false, cond, Option, None, Some, ℤ, ap, sym, ◌∙◌, subst, arith, to_z, of_z, w64}
+use Rattle.std.proofs.Common.{◌≡◌, false, Option, None, Some, ℤ, ap, sym, ◌∙◌, subst, arith, to_z, of_z, w64}
 use Rattle.std.proofs.lemmas.Int.{to_z-of_z, ints}
-use mathlib.Core.HLevel.{is_prop→PathP}
-use Rattle.wjs_base.specs.Range.{IsInRange, InRange, in_range_prop}
+use Rattle.wjs_base.specs.Same.{whole_same}
+use Rattle.wjs_base.specs.Range.{IsInRange, InRange}
 use Rattle.wjs_base.specs.declared.number.Whole.{Whole}
 use Rattle.wjs_base.specs.declared.values.Value.{Value}
-use Rattle.wjs_base.specs.declared.values.Content.{Content}
 use Rattle.wjs_base.specs.declared.values.Content.TheVariants.{Present}
 use Rattle.wjs_layers.specs.declared.compact.Kind.{Kind}
 use Rattle.wjs_layers.specs.declared.compact.ShortContent.{ShortContent}
 use Rattle.wjs_layers.specs.Kinds.{number_in}
-use Rattle.wjs_layers.specs.Shorts.{content_by, content_in, read_in, row_first, whole_in}
+use Rattle.wjs_layers.specs.Shorts.{content_by, content_in, row_first, whole_in}
 use Rattle.wjs_layers.specs.Tables.{row_with}
 
--- a number of the language by its number alone
-pub same_whole : (a b : Whole) → a.number ≡ b.number → a ≡ b
-same_whole a b e = λ z. record { number = e z; in_range = is_prop→PathP (λ y. IsInRange (e y)) (λ y. in_range_prop (e y)) a.in_range b.in_range z }
-
 -- what is kept, by a kind that is known
-pub shown_by : (s : ShortContent) (k : Kind) → s.kind ≡ k → content_by k s.number s.owner (whole_in s) ≡ content_in s
+shown_by : (s : ShortContent) (k : Kind) → s.kind ≡ k → content_by k s.number s.owner (whole_in s) ≡ content_in s
 shown_by s k e = ap (λ j. content_by j s.number s.owner (whole_in s)) (sym e)
 
 -- a number of the language that is read out of what is kept by its kind
 pub number_shown : (s : ShortContent) (k : Kind) (w : Whole) → s.kind ≡ k → w.number ≡ number_in k s.number → content_by k s.number s.owner w ≡ content_in s
 number_shown s k w e n =
-    ap (content_by k s.number s.owner) (same_whole w (whole_in s) (n ∙ ap (λ j. number_in j s.number) (sym e)))
+    ap (content_by k s.number s.owner) (whole_same w (whole_in s) (n ∙ ap (λ j. number_in j s.number) (sym e)))
     ∙ shown_by s k e
 
 pub number_in_range : (w : Whole) (n : ℤ) → w.number ≡ Some n → InRange n
@@ -37,9 +32,3 @@ passed n r = to_z-of_z w64 n (omega (arith, ints, r.0, r.1))
 -- a slot of the first world that has a value
 pub row_present : (s : ShortContent) (v : Value) → content_in s ≡ Present v → row_first s ≡ row_with v
 row_present s v e = λ i. record { read = None; now = e i; written = false }
-
-pub read_there : (s : ShortContent) (k : Content) → s.mark ≡ true → content_in s ≡ k → read_in s ≡ Some k
-read_there s k m e = ap (λ b. cond b (Some (content_in s)) None) m ∙ ap Some e
-
-pub read_not_there : (s : ShortContent) → s.mark ≡ false → read_in s ≡ None
-read_not_there s m = ap (λ b. cond b (Some (content_in s)) None) m

@@ -1,7 +1,9 @@
 -- Worlds by their places.
-use Rattle.std.proofs.Common.{◌≡◌, ℕ, ◌<◌, true, false, cond, List, [], ◌∷◌, ◌++◌, length, refl, ap, sym, ◌∙◌, map as each, None, Some, is_some, slice_get, get_or, set, suc, zero, arith}
+use Rattle.std.proofs.Common.{◌≡◌, ℕ, ◌<◌, true, false, cond, List, [], ◌∷◌, ◌++◌, length, refl, ap, sym, ◌∙◌, map as each, None, Some, is_some, slice_get, get_or, suc, zero, arith}
+use Rattle.std.proofs.lemmas.Option.{same_Some}
 use Rattle.wjs_base.specs.declared.ids.WorldId.{WorldId}
 use Rattle.wjs_base.proofs.Booleans.{by_bool}
+use Rattle.wjs_base.proofs.Options.{no_none}
 use Rattle.wjs_store.specs.Naming.{plain}
 use Rattle.wjs_store.specs.State.{World, State, find_world, has_world, same_world}
 use Rattle.wjs_store.specs.Reached.{IsReached}
@@ -9,12 +11,6 @@ use Rattle.wjs_store.proofs.States.{length_each}
 use Rattle.wjs_store.proofs.Writes.{world_is, not_older}
 use Rattle.wjs_store.proofs.Parents.{slice_get_at}
 use Rattle.wjs_layers.specs.Sparse.{place_of}
-
-pub some_is : {A : Type 0} (a b : A) → Some a ≡ Some b → a ≡ b
-some_is a b h = cc
-
-pub no_none : {A P : Type 0} (a : A) → None ≡ Some a → P
-no_none a h = cc
 
 pub place_none : (i : WorldId) → place_of [] i ≡ None
 unfolding place_of
@@ -36,7 +32,7 @@ pub find_rest : (x : World plain) (older : State plain) (i : WorldId) → same_w
 unfolding find_world
 find_rest x older i e = ap (λ b. cond b (Some x) (find_world older i)) e
 
-find_nil : (i : WorldId) → find_world {n = plain} [] i ≡ None
+pub find_nil : (i : WorldId) → find_world {n = plain} [] i ≡ None
 unfolding find_world
 find_nil i = refl
 
@@ -44,7 +40,7 @@ find_nil i = refl
 pub place_below : (F : State plain) (w : WorldId) (i : ℕ) → place_of F w ≡ Some i → i < length F
 place_below [] w i h = no_none i (sym (place_none w) ∙ h)
 place_below (x ∷ older) w i h = by_bool (same_world x.id w)
-    (λ e. let q : length older ≡ i = some_is (length older) i (sym (place_head x older w e) ∙ h) in omega arith)
+    (λ e. let q : length older ≡ i = same_Some (length older) i (sym (place_head x older w e) ∙ h) in omega arith)
     (λ e. let q : i < length older = place_below older w i (sym (place_tail x older w e) ∙ h) in omega arith)
 
 -- two worlds are at two places
@@ -54,10 +50,10 @@ place_one (x ∷ older) v w i h k = by_bool (same_world x.id v)
     (λ e. by_bool (same_world x.id w)
     (λ f. sym (world_is x.id v e) ∙ world_is x.id w f)
     (λ f. let p : i < length older = place_below older w i (sym (place_tail x older w f) ∙ k) in
-    let q : length older ≡ i = some_is (length older) i (sym (place_head x older v e) ∙ h) in absurd (omega arith)))
+    let q : length older ≡ i = same_Some (length older) i (sym (place_head x older v e) ∙ h) in absurd (omega arith)))
     (λ e. by_bool (same_world x.id w)
     (λ f. let p : i < length older = place_below older v i (sym (place_tail x older v e) ∙ h) in
-    let q : length older ≡ i = some_is (length older) i (sym (place_head x older w f) ∙ k) in absurd (omega arith))
+    let q : length older ≡ i = same_Some (length older) i (sym (place_head x older w f) ∙ k) in absurd (omega arith))
     (λ f. place_one older v w i (sym (place_tail x older v e) ∙ h) (sym (place_tail x older w f) ∙ k)))
 
 -- a world that is there has a place, and one with a place is there
@@ -85,31 +81,10 @@ module _ (g : World plain → World plain) (ids : (x : World plain) → (g x).id
 
 -- ---- lists by place
 
-pub slice_some : {A : Type 0} (xs : List A) (i : ℕ) → i < length xs → (a : A) × (slice_get xs i ≡ Some a)
-slice_some [] i h = absurd (omega arith)
-slice_some (x ∷ xs) zero h = (x, refl)
-slice_some (x ∷ xs) (suc i) h = slice_some xs i (omega arith)
-
-pub slice_set_same : {A : Type 0} (xs : List A) (i : ℕ) (a : A) → i < length xs → slice_get (set xs i a) i ≡ Some a
-slice_set_same [] i a h = absurd (omega arith)
-slice_set_same (x ∷ xs) zero a h = refl
-slice_set_same (x ∷ xs) (suc i) a h = slice_set_same xs i a (omega arith)
-
-pub slice_set_other : {A : Type 0} (xs : List A) (i j : ℕ) (a : A) → (i ≡ j → ⊥) → slice_get (set xs i a) j ≡ slice_get xs j
-slice_set_other [] i j a h = refl
-slice_set_other (x ∷ xs) zero zero a h = absurd (h refl)
-slice_set_other (x ∷ xs) zero (suc j) a h = refl
-slice_set_other (x ∷ xs) (suc i) zero a h = refl
-slice_set_other (x ∷ xs) (suc i) (suc j) a h = slice_set_other xs i j a (λ e. h (omega arith))
-
 pub slice_push_old : {A : Type 0} (xs : List A) (a : A) (i : ℕ) → i < length xs → slice_get (xs ++ a ∷ []) i ≡ slice_get xs i
 slice_push_old [] a i h = absurd (omega arith)
 slice_push_old (x ∷ xs) a zero h = refl
 slice_push_old (x ∷ xs) a (suc i) h = slice_push_old xs a i (omega arith)
-
-pub slice_push_new : {A : Type 0} (xs : List A) (a : A) → slice_get (xs ++ a ∷ []) (length xs) ≡ Some a
-slice_push_new [] a = refl
-slice_push_new (x ∷ xs) a = slice_push_new xs a
 
 -- what was read at a place
 pub slice_read : {A : Type 0} (xs : List A) (i : ℕ) (a : A) → a ≡ get_or xs i a → i < length xs → slice_get xs i ≡ Some a

@@ -8,7 +8,7 @@ use Rattle.std.proofs.lemmas.Bool.{true≢false, false≢true}
 use Rattle.wjs_base.specs.declared.values.Slot.{Slot}
 use Rattle.wjs_base.specs.declared.values.Content.{Content}
 use Rattle.wjs_base.specs.Order.{slot_total}
-use Rattle.wjs_base.proofs.Options.{with_some}
+use Rattle.wjs_base.proofs.Options.{with_some, by_option}
 use Rattle.wjs_store.specs.Naming.{plain}
 use Rattle.wjs_store.specs.Shown.{content_of}
 use Rattle.wjs_store.specs.State.{World, State, same_world, is_touched, read_in, after_read, put, content_at}
@@ -20,7 +20,7 @@ use Rattle.wjs_layers.specs.declared.layer.Layer.{Layer}
 use Rattle.wjs_layers.specs.declared.layer.Look.TheVariants.{Closed, Untouched}
 use Rattle.wjs_layers.specs.Look.{IsUntouched, Looked}
 use Rattle.wjs_layers.specs.Sparse.{mark_of, full_of, Keeps, IsSparse, IsAt, StandFor}
-use Rattle.wjs_layers.proofs.Full.{untouched, row_some, row_none, closed_same, by_option}
+use Rattle.wjs_layers.proofs.Full.{untouched, row_some, row_none, closed_same}
 use Rattle.wjs_layers.proofs.Changes.{kept_set}
 use Rattle.wjs_layers.proofs.Looks.{world_at, keeps_at, holds, parent_is, content_above, now_row}
 use Rattle.wjs_layers.specs.Look.{Puts}

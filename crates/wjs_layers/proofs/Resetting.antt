@@ -3,11 +3,12 @@ use Rattle.std.proofs.Common.{◌≡◌, true, false, cond, List, [], ◌∷◌,
 use Rattle.std.specs.Option.{option_map, option_map_or, option_and_then}
 use Rattle.std.specs.FinMap as map
 use Rattle.std.proofs.lemmas.Bool.{false≢true, or_parts}
+use Rattle.std.proofs.lemmas.Option.{same_Some}
 use Rattle.wjs_base.specs.declared.ids.WorldId.{WorldId}
 use Rattle.wjs_base.specs.declared.values.Slot.{Slot}
 use Rattle.wjs_base.specs.Order.{slot_cmp, obj_cmp}
 use Rattle.wjs_base.proofs.Booleans.{by_bool}
-use Rattle.wjs_base.proofs.Options.{with_some}
+use Rattle.wjs_base.proofs.Options.{with_some, by_option, no_none}
 use Rattle.wjs_store.specs.Naming.{plain}
 use Rattle.wjs_store.specs.State.{World, State, find_world, has_world, same_world, content_at, at_world, with_parent}
 use Rattle.wjs_store.specs.Reached.{Fits, IsReached}
@@ -22,10 +23,9 @@ use Rattle.wjs_layers.specs.declared.layer.Spot.{Spot}
 use Rattle.wjs_layers.specs.Moves.{cleared}
 use Rattle.wjs_layers.specs.Reset.{has_child, renewed, after_reset}
 use Rattle.wjs_layers.specs.Sparse.{read_of, mark_of, full_of, Keeps, IsSparse, IsAt, StandFor}
-use Rattle.wjs_layers.proofs.Full.{by_option}
 use Rattle.wjs_layers.proofs.ListLaws.{at_id, kept_at}
 use Rattle.wjs_layers.proofs.Looks.{found_at, world_at, keeps_at, above_at}
-use Rattle.wjs_layers.proofs.Places.{some_is, no_none, find_top, find_rest}
+use Rattle.wjs_layers.proofs.Places.{find_top, find_rest}
 use Rattle.wjs_layers.proofs.Puts.{stand_by}
 
 -- ---- a reached state stays one: x is the world w, which has no child, and p its parent, of number q
@@ -53,7 +53,7 @@ module _ (w q : WorldId) (x p : World plain) (up : x.parent ≡ Some q) where
         parent_older = λ d g. has_each one one_id older d ∙ f.parent_older d g;
         alone = λ g. no_none q (sym g ∙ parent);
         inherits = λ d s g u. sym (
-            ap (λ c. content_at (each one older) c s) (some_is d q (sym g ∙ parent))
+            ap (λ c. content_at (each one older) c s) (same_Some d q (sym g ∙ parent))
             ∙ content_other older q s other
             ∙ ap (option_and_then (λ (z : World plain). map.get z.copy s)) found);
         kept = λ s c g n. no_none c (sym (map.get-empty slot_cmp s) ∙ g);
@@ -94,7 +94,7 @@ reached_by : (F : State plain) (w : WorldId) → IsReached F → has_child F w �
 reached_by F w h leaf None e = h
 reached_by F w h leaf (Some pair) e =
     let parts = pair_parts F w pair e in
-    reached_one w parts.1 pair.0 pair.1 parts.2 F h leaf (λ y g. some_is y pair.0 (sym g ∙ parts.0)) (λ z g. some_is z pair.1 (sym g ∙ parts.3))
+    reached_one w parts.1 pair.0 pair.1 parts.2 F h leaf (λ y g. same_Some y pair.0 (sym g ∙ parts.0)) (λ z g. same_Some z pair.1 (sym g ∙ parts.3))
 
 pub reached_reset : (F : State plain) (w : WorldId) → IsReached F → has_child F w ≡ false → IsReached (after_reset F w)
 unfolding after_reset

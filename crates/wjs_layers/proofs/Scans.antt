@@ -1,10 +1,8 @@
 -- The slots of an object in a world, one after another.
-use Rattle.std.proofs.Common.{◌≡◌, ◌+◌, ◌≤◌, Bool, true, false, cond, not, ◌&&◌, ◌||◌, List, [], ◌∷◌, Option, None, Some, is_some, ◌⊎◌, inl, inr, ⊎_elim, slice_get, filter, refl, ap, sym, ◌∙◌, subst, arith}
+use Rattle.std.proofs.Common.{◌≡◌, ◌+◌, ◌≤◌, Bool, true, false, cond, not, ◌&&◌, ◌||◌, List, [], Option, None, Some, is_some, ◌⊎◌, inl, inr, ⊎_elim, slice_get, refl, ap, sym, ◌∙◌, subst, arith}
 use Rattle.std.specs.declared.cmp.Ordering.{Ordering}
 use Rattle.std.specs.declared.cmp.Ordering.TheVariants.{Less, Equal, Greater}
 use Rattle.std.specs.Ordering.{is_lt, eq_by_cmp, is_eq, ordering_reverse}
-use Rattle.std.specs.Cmp.{tied_itself}
-use Rattle.std.specs.List.{list_any}
 use Rattle.std.specs.Option.{option_map_or, option_and_then}
 use Rattle.std.specs.FinMap as map
 use Rattle.std.proofs.lemmas.Bool.{true≢false, false≢true, and_parts}
@@ -14,7 +12,9 @@ use Rattle.wjs_base.specs.declared.values.Slot.{Slot}
 use Rattle.wjs_base.specs.declared.values.Value.{Value}
 use Rattle.wjs_base.specs.Order.{slot_cmp, slot_total, slot_exact}
 use Rattle.wjs_base.specs.Same.{object_Decides}
-use Rattle.wjs_base.proofs.Booleans.{by_bool}
+use Rattle.wjs_base.proofs.Booleans.{by_bool, and_false}
+use Rattle.wjs_base.proofs.Options.{by_option, no_none}
+use Rattle.wjs_base.proofs.Orders.{not_self, lt_trans}
 use Rattle.wjs_store.specs.Naming.{plain}
 use Rattle.wjs_store.specs.State.{World, State, KeySet, find_world, content_at, same_object, slots_in, slots_at}
 use Rattle.wjs_store.proofs.Ascending.{same_listed}
@@ -24,11 +24,9 @@ use Rattle.wjs_layers.specs.declared.layer.Layer.{Layer}
 use Rattle.wjs_layers.specs.Sparse.{full_of, IsSparse, IsAt}
 use Rattle.wjs_layers.specs.Cursor.{to_come, comes_on, is_before, lesser_of, with_present, IsNextRow, IsNextSlot}
 use Rattle.wjs_layers.specs.Work.{kept_from}
-use Rattle.wjs_layers.proofs.Places.{no_none}
-use Rattle.wjs_layers.proofs.Full.{by_option}
-use Rattle.wjs_layers.proofs.Cursors.{not_self, lt_trans}
 use Rattle.wjs_layers.proofs.Looks.{world_at, keeps_at, parent_is, content_closed, content_first, content_above}
 use Rattle.wjs_layers.proofs.Works.{kept_two, kept_here, kept_up, row_counted}
+use Rattle.wjs_layers.proofs.SettleLaws.{filter_id}
 
 -- ---- the lesser of two
 
@@ -39,7 +37,7 @@ lesser_from (Some a) (Some b) s h = by_bool (is_lt (slot_cmp a b))
     (λ e. inl (sym (ap (λ c. cond c (Some a) (Some b)) e) ∙ h))
     (λ e. inr (sym (ap (λ c. cond c (Some a) (Some b)) e) ∙ h))
 
-pub not_lt : (a b s : Slot) (c : Ordering) → slot_cmp a b ≡ c → is_lt c ≡ false → is_lt (slot_cmp s b) ≡ true → is_lt (slot_cmp s a) ≡ true
+not_lt : (a b s : Slot) (c : Ordering) → slot_cmp a b ≡ c → is_lt c ≡ false → is_lt (slot_cmp s b) ≡ true → is_lt (slot_cmp s a) ≡ true
 not_lt a b s Less e n h = absurd (true≢false n)
 not_lt a b s Equal e n h = ap (λ k. is_lt (slot_cmp s k)) (slot_exact a b e) ∙ h
 not_lt a b s Greater e n h = lt_trans slot_total s b a h (ap is_lt (slot_total.antisymm b a ∙ ap ordering_reverse e))
@@ -116,10 +114,6 @@ module _ (layers : List Layer) (h : IsSparse layers) (w : WorldId) (o : ObjId) (
 
 -- ---- fewer are left
 
-and_no : (b : Bool) → (b && false) ≡ false
-and_no true = refl
-and_no false = refl
-
 -- what is after a later slot is after an earlier one
 pub to_come_on : (passed : Option Slot) (c s : Slot) → to_come passed c ≡ true → to_come (Some c) s ≡ true → to_come passed s ≡ true
 to_come_on None c s h k = refl
@@ -131,7 +125,7 @@ left_lt F w o passed c on h k =
     let two = kept_two (eq_by_cmp slot_cmp c) (comes_on o (Some c)) (comes_on o passed)
     (λ s e. ap (comes_on o passed) (sym (key_is slot_exact c s e)) ∙ here)
     (λ s e. let p = and_parts (same_object s.object o) (to_come (Some c) s) e in ap (λ b. b && to_come passed s) p.0 ∙ to_come_on passed c s h p.1)
-    (λ s e. ap (comes_on o (Some c)) (sym (key_is slot_exact c s e)) ∙ ap (λ b. same_object c.object o && b) (not_self slot_total c) ∙ and_no (same_object c.object o))
+    (λ s e. ap (comes_on o (Some c)) (sym (key_is slot_exact c s e)) ∙ ap (λ b. same_object c.object o && b) (not_self slot_total c) ∙ and_false (same_object c.object o))
     F w in
     omega (arith, two, k)
 
@@ -142,11 +136,11 @@ abbrev pub Found : KeySet slot_cmp → State plain → WorldId → ObjId → Opt
 Found found F w o passed = (s : Slot) → map.contains_key found s ≡ (same_object s.object o && (not (to_come passed s) && is_some (content_at F w s)))
 
 pub found_none : (F : State plain) (w : WorldId) (o : ObjId) → Found map.empty F w o None
-found_none F w o s = ap is_some (map.get-empty slot_cmp s) ∙ sym (and_no (same_object s.object o))
+found_none F w o s = ap is_some (map.get-empty slot_cmp s) ∙ sym (and_false (same_object s.object o))
 
 module _ (F : State plain) (w : WorldId) (o : ObjId) (passed : Option Slot) (c : Slot) (n : IsNextSlot F w o passed (Some c)) (found : KeySet slot_cmp) (f : Found found F w o passed) where
   not_yet : map.contains_key found c ≡ false
-  not_yet = f c ∙ ap (λ b. same_object c.object o && (not b && is_some (content_at F w c))) (n.later c refl) ∙ and_no (same_object c.object o)
+  not_yet = f c ∙ ap (λ b. same_object c.object o && (not b && is_some (content_at F w c))) (n.later c refl) ∙ and_false (same_object c.object o)
 
   -- another slot of the object
   other : (s : Slot) → eq_by_cmp slot_cmp s c ≡ false → s.object ≡ o → (not (to_come passed s) && is_some (content_at F w s)) ≡ (not (to_come (Some c) s) && is_some (content_at F w s))
@@ -156,7 +150,7 @@ module _ (F : State plain) (w : WorldId) (o : ObjId) (passed : Option Slot) (c :
       (λ l. by_bool (to_come passed s)
       (λ t.
       let z : content_at F w s ≡ None = n.least s on t (lower s e l) in
-      ap (λ d. not (to_come passed s) && is_some d) z ∙ and_no (not (to_come passed s)) ∙ sym (and_no (not (to_come (Some c) s))) ∙ ap (λ d. not (to_come (Some c) s) && is_some d) (sym z))
+      ap (λ d. not (to_come passed s) && is_some d) z ∙ and_false (not (to_come passed s)) ∙ sym (and_false (not (to_come (Some c) s))) ∙ ap (λ d. not (to_come (Some c) s) && is_some d) (sym z))
       (λ t. ap (λ b. not b && is_some (content_at F w s)) (t ∙ sym l)))
     where
       lower : (s : Slot) → eq_by_cmp slot_cmp s c ≡ false → is_lt (slot_cmp c s) ≡ false → is_lt (slot_cmp s c) ≡ true
@@ -175,12 +169,12 @@ module _ (F : State plain) (w : WorldId) (o : ObjId) (passed : Option Slot) (c :
   self_is : (b : Bool) → is_some (content_at F w c) ≡ b → (same_object c.object o && (not (to_come (Some c) c) && is_some (content_at F w c))) ≡ b
   self_is b e = ap (λ z. z && (not (to_come (Some c) c) && is_some (content_at F w c))) ((object_Decides c.object o).1 (n.on c refl)) ∙ ap (λ z. not z && is_some (content_at F w c)) (not_self slot_total c) ∙ e
 
-  pub found_present : (v : Value) → content_at F w c ≡ Some v → Found (map.insert found c tt) F w o (Some c)
+  found_present : (v : Value) → content_at F w c ≡ Some v → Found (map.insert found c tt) F w o (Some c)
   found_present v e s = contains_insert slot_total found c tt s ∙ by_bool (eq_by_cmp slot_cmp s c)
       (λ q. ap (λ b. b || map.contains_key found s) q ∙ sym (ap (λ k. same_object k.object o && (not (to_come (Some c) k) && is_some (content_at F w k))) (key_is slot_exact s c q) ∙ self_is true (ap is_some e)))
       (λ q. ap (λ b. b || map.contains_key found s) q ∙ same_else s q)
 
-  pub found_absent : content_at F w c ≡ None → Found found F w o (Some c)
+  found_absent : content_at F w c ≡ None → Found found F w o (Some c)
   found_absent e s = by_bool (eq_by_cmp slot_cmp s c)
       (λ q. let is = key_is slot_exact s c q in ap (map.contains_key found) is ∙ not_yet ∙ sym (ap (λ k. same_object k.object o && (not (to_come (Some c) k) && is_some (content_at F w k))) is ∙ self_is false (ap is_some e)))
       (λ q. same_else s q)
@@ -196,20 +190,10 @@ found_all F w o passed found n f s = f s ∙ by_bool (same_object s.object o)
     (λ y. ap (λ b. b && (not (to_come passed s) && is_some (content_at F w s))) y
     ∙ by_bool (to_come passed s)
     (λ t. let z : content_at F w s ≡ None = n.least s ((object_Decides s.object o).0 y) t refl in
-    ap (λ d. not (to_come passed s) && is_some d) z ∙ and_no (not (to_come passed s)) ∙ sym (ap is_some z))
+    ap (λ d. not (to_come passed s) && is_some d) z ∙ and_false (not (to_come passed s)) ∙ sym (ap is_some z))
     (λ t. ap (λ b. not b && is_some (content_at F w s)) t)
     ∙ ap (λ b. b && is_some (content_at F w s)) (sym y))
     (λ y. ap (λ b. b && (not (to_come passed s) && is_some (content_at F w s))) y ∙ ap (λ b. b && is_some (content_at F w s)) (sym y))
-
-filter_id : (p : Slot → Bool) (ks : List Slot) → ((k : Slot) → list_any (eq_by_cmp slot_cmp k) ks ≡ true → p k ≡ true) → filter p ks ≡ ks
-filter_id p [] f = refl
-filter_id p (k ∷ ks) f =
-    ap (λ b. cond b (k ∷ filter p ks) (filter p ks)) (f k (ap (λ o. is_eq o || list_any (eq_by_cmp slot_cmp k) ks) (tied_itself slot_total k)))
-    ∙ ap (λ xs. k ∷ xs) (filter_id p ks (λ q e. f q (or_later (eq_by_cmp slot_cmp q k) (list_any (eq_by_cmp slot_cmp q) ks) e)))
-  where
-    or_later : (a b : Bool) → b ≡ true → (a || b) ≡ true
-    or_later true b e = refl
-    or_later false b e = e
 
 and_left : (a b : Bool) → (a && b) ≡ true → a ≡ true
 and_left true b h = refl

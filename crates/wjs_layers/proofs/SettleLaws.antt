@@ -1,5 +1,5 @@
 -- The parts of a commit, one after another.
-use Rattle.std.proofs.Common.{◌≡◌, ℕ, ◌+◌, ◌<◌, Bool, true, false, cond, ◌&&◌, ◌||◌, T, List, [], ◌∷◌, length, drop, get_or, Option, None, Some, is_some, unwrap_or, slice_get, map as each, filter, fold, refl, ap, sym, ◌∙◌, subst, suc, zero}
+use Rattle.std.proofs.Common.{◌≡◌, ℕ, ◌+◌, ◌<◌, Bool, true, false, cond, ◌||◌, T, List, [], ◌∷◌, length, drop, get_or, Option, None, Some, is_some, unwrap_or, slice_get, map as each, filter, fold, refl, ap, sym, ◌∙◌, subst, suc, zero}
 use Rattle.std.specs.Ordering.{is_lt, eq_by_cmp, is_eq}
 use Rattle.std.specs.Cmp.{tied_itself}
 use Rattle.std.specs.List.{list_any}
@@ -7,14 +7,17 @@ use Rattle.std.specs.Option.{option_map, option_and_then}
 use Rattle.std.specs.FinMap as map
 use Rattle.std.specs.FinMap.{FinMap}
 use Rattle.std.specs.FinMap.Entries.{below_all, is_sorted}
-use Rattle.std.proofs.lemmas.Bool.{true≢false, false≢true}
+use Rattle.std.proofs.lemmas.Bool.{true≢false, false≢true, or_right}
 use Rattle.std.proofs.lemmas.List.{drop_more}
+use Rattle.std.proofs.lemmas.Option.{same_Some}
 use Rattle.wjs_base.specs.declared.ids.ObjId.{ObjId}
 use Rattle.wjs_base.specs.declared.ids.WorldId.{WorldId}
 use Rattle.wjs_base.specs.declared.values.Slot.{Slot}
 use Rattle.wjs_base.specs.declared.values.Value.{Value}
 use Rattle.wjs_base.specs.Order.{slot_cmp, slot_total, slot_exact}
-use Rattle.wjs_base.proofs.Booleans.{by_bool}
+use Rattle.wjs_base.proofs.Booleans.{by_bool, left_true, right_true}
+use Rattle.wjs_base.proofs.Options.{by_option, no_none}
+use Rattle.wjs_base.proofs.Orders.{not_self}
 use Rattle.wjs_store.specs.Naming.{plain}
 use Rattle.wjs_store.specs.State.{World, State, find_world, same_world, is_touched, after_write, write_at, write_all, moves, reads_of, hand_entries, hand_objects, clear_marks, at_world, settle, fails, fault_in, after_commit}
 use Rattle.wjs_store.proofs.Ascending.{same_listed}
@@ -27,28 +30,18 @@ use Rattle.wjs_layers.specs.declared.layer.Spot.{Spot}
 use Rattle.wjs_layers.specs.declared.layer.Layer.{Layer}
 use Rattle.wjs_layers.specs.Moves.{handed_by, handed, handed_rows, ReadsAgree, written_rows, closed_all}
 use Rattle.wjs_layers.specs.Sparse.{now_of, read_of, mark_of, full_of, place_of, Keeps, AreKept, IsSparse, IsAt, StandFor}
-use Rattle.wjs_layers.proofs.Places.{some_is, no_none, place_each}
-use Rattle.wjs_layers.proofs.Full.{by_option}
+use Rattle.wjs_layers.proofs.Places.{place_each}
 use Rattle.wjs_layers.proofs.Puts.{stand_by}
-use Rattle.wjs_layers.proofs.Cursors.{not_self}
 use Rattle.wjs_layers.proofs.Entries.{below_at}
 use Rattle.wjs_layers.proofs.ListLaws.{at_id}
 
 -- ---- entries
 
-left_true : (a b : Bool) → T (a && b) → T a
-left_true true b h = tt
-left_true false b h = h
-
-right_true : (a b : Bool) → T (a && b) → T b
-right_true true b h = h
-right_true false b h = absurd h
-
 -- an entry is what its map has there
 find_entry : (es : List (Slot × Row)) (i : ℕ) (e : Slot × Row) → T (is_sorted slot_cmp es) → slice_get es i ≡ Some e → map.find slot_cmp e.0 es ≡ Some e.1
 find_entry [] i e h s = no_none e s
 find_entry (d ∷ ds) zero e h s =
-    let is = some_is d e s in
+    let is = same_Some d e s in
     ap (λ (z : Slot × Row). map.find slot_cmp z.0 (d ∷ ds)) (sym is) ∙ ap (λ o. cond (is_eq o) (Some d.1) (map.find slot_cmp d.0 ds)) (tied_itself slot_total d.0) ∙ ap (λ (z : Slot × Row). Some z.1) is
 find_entry (d ∷ ds) (suc i) e h s =
     let lt = below_at slot_total d.0 ds i e (left_true (below_all slot_cmp d.0 ds) (is_sorted slot_cmp ds) h) s in
@@ -58,15 +51,11 @@ find_entry (d ∷ ds) (suc i) e h s =
 pub entry_is : (rows : FinMap slot_cmp Row) (i : ℕ) (e : Slot × Row) → slice_get (map.entries rows) i ≡ Some e → map.get rows e.0 ≡ Some e.1
 entry_is rows i e s = map.get-entries rows e.0 ∙ find_entry (map.entries rows) i e (map.entries_sorted rows) s
 
-filter_id : (p : Slot → Bool) (ks : List Slot) → ((k : Slot) → list_any (eq_by_cmp slot_cmp k) ks ≡ true → p k ≡ true) → filter p ks ≡ ks
+pub filter_id : (p : Slot → Bool) (ks : List Slot) → ((k : Slot) → list_any (eq_by_cmp slot_cmp k) ks ≡ true → p k ≡ true) → filter p ks ≡ ks
 filter_id p [] f = refl
 filter_id p (k ∷ ks) f =
     ap (λ b. cond b (k ∷ filter p ks) (filter p ks)) (f k (ap (λ o. is_eq o || list_any (eq_by_cmp slot_cmp k) ks) (tied_itself slot_total k)))
-    ∙ ap (λ xs. k ∷ xs) (filter_id p ks (λ q e. f q (or_later (eq_by_cmp slot_cmp q k) (list_any (eq_by_cmp slot_cmp q) ks) e)))
-  where
-    or_later : (a b : Bool) → b ≡ true → (a || b) ≡ true
-    or_later true b e = refl
-    or_later false b e = e
+    ∙ ap (λ xs. k ∷ xs) (filter_id p ks (λ q e. f q (or_right (eq_by_cmp slot_cmp q k) (list_any (eq_by_cmp slot_cmp q) ks) e)))
 
 -- the keys of a map of marks are those rows that have the mark
 pub mark_keys : {V : Type 0} (m : FinMap slot_cmp V) (rows : FinMap slot_cmp Row) → ((t : Slot) → is_some (map.get m t) ≡ true → is_some (map.get rows t) ≡ true) → map.keys m ≡ filter (λ s. is_some (map.get m s)) (map.keys rows)
@@ -104,7 +93,7 @@ module _ (r : Layer) (x : World plain) (k : Keeps r x) where
   row_there f t h = by_option (map.get r.rows t) (λ e. absurd (false≢true (sym (ap (λ o. is_some (option_and_then f o)) e) ∙ h))) (λ a e. ap is_some e)
 
   -- the rows' reads are the world's
-  pub reads_are : (y : World plain) → handed_rows (map.entries r.rows) y ≡ hand_entries (reads_of x) y
+  reads_are : (y : World plain) → handed_rows (map.entries r.rows) y ≡ hand_entries (reads_of x) y
   reads_are y = ap (λ z. cond (is_some y.parent) z y) (
       reads_on x (map.entries r.rows) y (λ i e s. k.first e.0 ∙ ap (option_and_then read_of) (entry_is r.rows i e s))
       ∙ ap (λ ks. fold one_read y (each (λ s. (s, unwrap_or (map.get x.first s) None)) ks)) (sym (mark_keys x.first r.rows (λ t h. row_there read_of t (sym (ap is_some (k.first t)) ∙ h)))))
@@ -134,7 +123,7 @@ module _ (r : Layer) (x : World plain) (k : Keeps r x) where
       mark_by : Bool → Option (Unit {0})
       mark_by c = cond c (Some tt) None
 
-  pub writes_are : (w : WorldId) (F : State plain) → written_rows w (map.entries r.rows) F ≡ write_all w (moves x) F
+  writes_are : (w : WorldId) (F : State plain) → written_rows w (map.entries r.rows) F ≡ write_all w (moves x) F
   writes_are w F =
       writes_on w (map.entries r.rows) F (λ i e s. entry_is r.rows i e s)
       ∙ ap (λ ks. write_all w (each (λ s. (s, map.get x.copy s)) ks) F) (sym (mark_keys x.written r.rows (λ t h. row_there mark_of t (sym (ap is_some (k.written t)) ∙ h))))
@@ -147,7 +136,7 @@ closes_on [] y false e = refl
 closes_on (o ∷ os) y true e = ap (closed_all os) (ap (λ b. cond b (record y { closed = map.insert y.closed o tt }) y) e) ∙ closes_on os (record y { closed = map.insert y.closed o tt }) true e
 closes_on (o ∷ os) y false e = ap (closed_all os) (ap (λ b. cond b (record y { closed = map.insert y.closed o tt }) y) e) ∙ closes_on os y false e
 
-pub closes_are : (os : List ObjId) (y : World plain) → closed_all os y ≡ hand_objects os y
+closes_are : (os : List ObjId) (y : World plain) → closed_all os y ≡ hand_objects os y
 closes_are os y = closes_on os y (is_some y.parent) refl
 
 -- ---- places
@@ -155,7 +144,7 @@ closes_are os y = closes_on os y (is_some y.parent) refl
 pub written_more : (w : WorldId) (rows : List (Slot × Row)) (i : ℕ) (e : Slot × Row) (F G Z : State plain) → i < length rows → e ≡ get_or rows i e → G ≡ cond e.1.written (after_write F w e.0 (now_of e.1)) F → written_rows w (drop i rows) F ≡ Z → written_rows w (drop (i + 1) rows) G ≡ Z
 written_more w rows i e F G Z l is h k = ap (written_rows w (drop (i + 1) rows)) h ∙ ap (λ ss. written_rows w ss F) (ap (λ d. d ∷ drop (i + 1) rows) is ∙ sym (drop_more rows i e l)) ∙ k
 
-pub write_places : (F : State plain) (w : WorldId) (s : Slot) (c : Option Value) (v : WorldId) → place_of (after_write F w s c) v ≡ place_of F v
+write_places : (F : State plain) (w : WorldId) (s : Slot) (c : Option Value) (v : WorldId) → place_of (after_write F w s c) v ≡ place_of F v
 unfolding after_write
 write_places F w s c v = place_each (write_at F w s c) (write_id F w s c) F v
 
@@ -207,7 +196,7 @@ module _ (layers : List Layer) (h : IsSparse layers) (at : Spot) (here : IsAt la
     -- the child is as it was
     pub parent_still : (z : World plain) → find_world (at_world a.world (closed_all (map.keys r.closed)) (full_of l2)) at.world ≡ Some z → is_some z.parent ≡ true
     parent_still z f =
-        let e : x ≡ z = some_is x z (sym (fx3 (full_of layers) x y h.reached fx' ux fy' clean) ∙ ap (λ G. find_world G x.id) (sym third) ∙ ap (find_world (at_world a.world (closed_all (map.keys r.closed)) (full_of l2))) xid ∙ f) in
+        let e : x ≡ z = same_Some x z (sym (fx3 (full_of layers) x y h.reached fx' ux fy' clean) ∙ ap (λ G. find_world G x.id) (sym third) ∙ ap (find_world (at_world a.world (closed_all (map.keys r.closed)) (full_of l2))) xid ∙ f) in
         ap (λ (v : World plain). is_some v.parent) (sym e) ∙ ap is_some ux
 
     -- after all

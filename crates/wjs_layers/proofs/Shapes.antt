@@ -6,24 +6,25 @@ use Rattle.wjs_base.specs.declared.ids.ObjId.{ObjId}
 use Rattle.wjs_base.specs.Order.{slot_cmp, obj_cmp}
 use Rattle.wjs_store.specs.State.{KeySet}
 use Rattle.wjs_layers.specs.declared.compact.ShortContent.{ShortContent}
-use Rattle.wjs_layers.specs.declared.compact.ShortRow.{ShortRow}
+use Rattle.wjs_layers.specs.declared.maps.Row.{Row}
 use Rattle.wjs_layers.specs.declared.layer.Spot.{Spot}
 use Rattle.wjs_layers.specs.declared.layer.Kept.{Kept}
 use Rattle.wjs_layers.specs.declared.layer.Kept.TheVariants.{First, Under}
 use Rattle.wjs_layers.specs.declared.layer.Layer.{Layer}
 use Rattle.wjs_layers.specs.declared.layer.Layer.TheInside.{Inside}
 use Rattle.wjs_layers.specs.Moves.{cleared}
-use Rattle.wjs_layers.specs.Shorts.{row_first, row_in}
-use Rattle.wjs_layers.specs.Tables.{rows_by, above_in, rows_in, shown}
+use Rattle.wjs_layers.specs.Keyed.{rows_by}
+use Rattle.wjs_layers.specs.Shorts.{at_first}
+use Rattle.wjs_layers.specs.Tables.{above_in, rows_in, shown}
 
 module _ (a : Inside) (r : Layer) (v : shown a ≡ r) where
-  pub above_shown : above_in a.kept ≡ r.above
+  above_shown : above_in a.kept ≡ r.above
   above_shown = ap (λ (l : Layer). l.above) v
 
-  pub rows_first : (m : FinMap slot_cmp ShortContent) → a.kept ≡ First m → rows_by row_first m ≡ r.rows
+  pub rows_first : (m : FinMap slot_cmp ShortContent) → a.kept ≡ First m → rows_by at_first m ≡ r.rows
   rows_first m e = sym (ap rows_in e) ∙ ap (λ (l : Layer). l.rows) v
 
-  pub rows_under : (up : Spot) (m : FinMap slot_cmp ShortRow) → a.kept ≡ Under up m → rows_by row_in m ≡ r.rows
+  pub rows_under : (up : Spot) (m : FinMap slot_cmp Row) → a.kept ≡ Under up m → m ≡ r.rows
   rows_under up m e = sym (ap rows_in e) ∙ ap (λ (l : Layer). l.rows) v
 
   pub close_shown : (n : KeySet obj_cmp) (o : ObjId) → n ≡ map.insert a.closed o tt → shown (record a { closed = n }) ≡ record r { closed = map.insert r.closed o tt }

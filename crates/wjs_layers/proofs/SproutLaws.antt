@@ -2,8 +2,10 @@
 use Rattle.std.proofs.Common.{◌≡◌, ℕ, Bool, List, [], ◌∷◌, ◌++◌, refl, ap, sym, ◌∙◌, subst, Some}
 use Rattle.std.specs.Option.{option_map_or, option_and_then}
 use Rattle.std.specs.FinMap as map
+use Rattle.std.proofs.lemmas.Option.{same_Some}
 use Rattle.wjs_base.specs.declared.ids.WorldId.{WorldId}
 use Rattle.wjs_base.specs.Order.{slot_cmp}
+use Rattle.wjs_base.proofs.Options.{no_none}
 use Rattle.wjs_store.specs.Naming.{plain}
 use Rattle.wjs_store.specs.State.{World, State, find_world, child_of, next_id, after_sprout}
 use Rattle.wjs_store.specs.Reached.{IsReached}
@@ -11,7 +13,6 @@ use Rattle.wjs_store.proofs.Writes.{found_id, reached_sprout}
 use Rattle.wjs_layers.specs.declared.layer.Spot.{Spot}
 use Rattle.wjs_layers.specs.declared.layer.Layer.{Layer}
 use Rattle.wjs_layers.specs.Sparse.{read_of, mark_of, place_of, full_of, Keeps, IsSparse, IsAt, StandFor}
-use Rattle.wjs_layers.proofs.Places.{some_is, no_none}
 use Rattle.wjs_layers.proofs.Changes.{kept_push}
 use Rattle.wjs_layers.proofs.Looks.{found_at}
 use Rattle.wjs_layers.proofs.Puts.{stand_by}
@@ -47,4 +48,4 @@ sprout_by layers h at here id strict e =
     subst (StandFor (layers ++ bare_layer id at strict ∷ [])) (sym is)
     (stand_by (layers ++ bare_layer id at strict ∷ []) (child_of x.0 id strict ∷ F) hr
     (kept_push layers F h.kept (bare_layer id at strict) (child_of x.0 id strict) hr (keeps_child x.0 id at strict (found_id F at.world x.0 x.1))
-    (λ a u. let z : at ≡ a = some_is at a u in subst (λ (b : Spot). place_of F b.world ≡ Some b.place) z here)))
+    (λ a u. let z : at ≡ a = same_Some at a u in subst (λ (b : Spot). place_of F b.world ≡ Some b.place) z here)))

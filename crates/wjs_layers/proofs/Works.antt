@@ -1,17 +1,20 @@
 -- How much is kept of a world and of those above it.
-use Rattle.std.proofs.Common.{◌≡◌, ℕ, ◌+◌, ◌*◌, ◌≤◌, Bool, true, false, cond, not, ◌&&◌, ◌||◌, List, [], ◌∷◌, ◌++◌, length, filter, map as each, Option, None, Some, is_some, slice_get, refl, ap, sym, ◌∙◌, arith, suc, length-append}
+use Rattle.std.proofs.Common.{◌≡◌, ℕ, ◌+◌, ◌*◌, ◌≤◌, Bool, true, false, cond, not, ◌&&◌, ◌||◌, List, [], ◌∷◌, length, filter, map as each, Option, None, Some, is_some, slice_get, refl, ap, sym, ◌∙◌, arith, suc, length-append}
 use Rattle.std.specs.Option.{option_map, option_map_or}
 use Rattle.std.specs.Ordering.{eq_by_cmp, is_eq}
 use Rattle.std.specs.Cmp.{tied_itself}
 use Rattle.std.specs.List.{list_any}
 use Rattle.std.specs.FinMap as map
 use Rattle.std.specs.FinMap.{FinMap}
-use Rattle.std.proofs.lemmas.Bool.{false≢true}
+use Rattle.std.proofs.lemmas.Bool.{false≢true, or_left, or_right}
 use Rattle.std.proofs.Math.Nat.{mul-le-mul_left}
+use Rattle.std.proofs.lemmas.Option.{same_Some}
+use Rattle.std.proofs.lemmas.List.Folds.{list_any-append}
 use Rattle.wjs_base.specs.declared.ids.WorldId.{WorldId}
 use Rattle.wjs_base.specs.declared.values.Slot.{Slot}
 use Rattle.wjs_base.specs.Order.{slot_cmp, obj_cmp, slot_total, slot_exact}
 use Rattle.wjs_base.proofs.Booleans.{by_bool}
+use Rattle.wjs_base.proofs.Options.{by_option, no_none}
 use Rattle.wjs_store.specs.Naming.{plain}
 use Rattle.wjs_store.specs.State.{World, State, KeySet, find_world, same_world, has_row}
 use Rattle.wjs_store.specs.Reached.{IsReached}
@@ -23,18 +26,18 @@ use Rattle.wjs_layers.specs.declared.layer.Layer.{Layer}
 use Rattle.wjs_layers.specs.Cursor.{count_passing}
 use Rattle.wjs_layers.specs.Sparse.{read_of, mark_of, full_of, Keeps, IsSparse, IsAt}
 use Rattle.wjs_layers.specs.Work.{row_slots, kept_slots, kept_from}
-use Rattle.wjs_layers.proofs.Places.{some_is, no_none, find_top, find_rest}
-use Rattle.wjs_layers.proofs.Full.{by_option, row_some}
+use Rattle.wjs_layers.proofs.Places.{find_top, find_rest, find_nil}
+use Rattle.wjs_layers.proofs.Full.{row_some}
 use Rattle.wjs_layers.proofs.HandLaws.{above_some}
 use Rattle.wjs_layers.proofs.SettleLaws.{mark_keys, row_there}
 
 -- ---- how many pass
 
-length_if : (b : Bool) (s : Slot) (ss : List Slot) → length (cond b (s ∷ ss) ss) ≡ cond b 1 0 + length ss
+pub length_if : (b : Bool) (s : Slot) (ss : List Slot) → length (cond b (s ∷ ss) ss) ≡ cond b 1 0 + length ss
 length_if true s ss = omega arith
 length_if false s ss = omega arith
 
-pub count_is : (p : Slot → Bool) (ss : List Slot) → length (filter p ss) ≡ count_passing p ss
+count_is : (p : Slot → Bool) (ss : List Slot) → length (filter p ss) ≡ count_passing p ss
 count_is p [] = refl
 count_is p (s ∷ ss) = length_if (p s) s (filter p ss) ∙ ap (λ m. cond (p s) 1 0 + m) (count_is p ss)
 
@@ -44,7 +47,7 @@ one_of b e = ap (λ b. cond {A = ℕ} b 1 0) e
 none_of : (b : Bool) → b ≡ false → cond {A = ℕ} b 1 0 ≡ 0
 none_of b e = ap (λ b. cond {A = ℕ} b 1 0) e
 
-one_most : (b : Bool) → cond {A = ℕ} b 1 0 ≤ 1
+pub one_most : (b : Bool) → cond {A = ℕ} b 1 0 ≤ 1
 one_most true = omega arith
 one_most false = omega arith
 
@@ -117,15 +120,11 @@ kept_two q r p f g h (x ∷ older) w = by_bool (same_world x.id w)
     let rest : kept_from q older w + kept_from r older w ≤ kept_from p older w = kept_two q r p f g h older w in
     omega (arith, a, b, c, rest))
 
-find_empty : (w : WorldId) → find_world {n = plain} [] w ≡ None
-unfolding find_world
-find_empty w = refl
-
 pub kept_here : (p : Slot → Bool) (F : State plain) (w : WorldId) (x : World plain) → find_world F w ≡ Some x → length (filter p (kept_slots x)) ≤ kept_from p F w
-kept_here p [] w x f = no_none x (sym (find_empty w) ∙ f)
+kept_here p [] w x f = no_none x (sym (find_nil w) ∙ f)
 kept_here p (y ∷ older) w x f = by_bool (same_world y.id w)
     (λ e.
-    let is = some_is y x (sym (find_top y older w e) ∙ f) in
+    let is = same_Some y x (sym (find_top y older w e) ∙ f) in
     let a = from_top p y older w e in
     let b = ap (λ (z : World plain). length (filter p (kept_slots z))) is in
     omega (arith, a, b))
@@ -139,7 +138,7 @@ pub kept_up : (p : Slot → Bool) (F : State plain) (w v : WorldId) (x : World p
 kept_up p [] w v x h f e = let a = from_none p v in omega (arith, a)
 kept_up p (y ∷ older) w v x h f e = by_bool (same_world y.id w)
     (λ b.
-    let up : y.parent ≡ Some v = ap (λ (z : World plain). z.parent) (some_is y x (sym (find_top y older w b) ∙ f)) ∙ e in
+    let up : y.parent ≡ Some v = ap (λ (z : World plain). z.parent) (same_Some y x (sym (find_top y older w b) ∙ f)) ∙ e in
     let a = from_top p y older w b in
     let c = ap (λ o. option_map_or (λ v. kept_from p older v) o 0) up in
     let d = from_rest p y older v (not_older y older v h (h.0.parent_older v up)) in
@@ -153,31 +152,15 @@ kept_up p (y ∷ older) w v x h f e = by_bool (same_world y.id w)
 
 -- ---- rows of a layer
 
-any_append : (p : Slot → Bool) (xs ys : List Slot) → list_any p (xs ++ ys) ≡ (list_any p xs || list_any p ys)
-any_append p [] ys = refl
-any_append p (x ∷ xs) ys = ap (λ b. p x || b) (any_append p xs ys) ∙ sym (or_assoc (p x) (list_any p xs) (list_any p ys))
-  where
-    or_assoc : (a b c : Bool) → ((a || b) || c) ≡ (a || (b || c))
-    or_assoc true b c = refl
-    or_assoc false b c = refl
-
-or_one : (a b : Bool) → a ≡ true → (a || b) ≡ true
-or_one true b e = refl
-or_one false b e = absurd (false≢true e)
-
-or_two : (a b : Bool) → b ≡ true → (a || b) ≡ true
-or_two true b e = refl
-or_two false b e = e
-
 -- a slot with a row is among the slots with a row
 row_listed : (x : World plain) (s : Slot) → has_row x s ≡ true → list_any (eq_by_cmp slot_cmp s) (row_slots x) ≡ true
 row_listed x s h =
     let e = eq_by_cmp slot_cmp s in
     let fresh : Slot → Bool = λ t. not (map.contains_key x.first t) in
-    any_append e (map.keys x.first) (filter fresh (map.keys x.written))
+    list_any-append e (map.keys x.first) (filter fresh (map.keys x.written))
     ∙ by_bool (map.contains_key x.first s)
-    (λ a. or_one (list_any e (map.keys x.first)) (list_any e (filter fresh (map.keys x.written))) (sym (map.contains_key-keys x.first s) ∙ a))
-    (λ a. or_two (list_any e (map.keys x.first)) (list_any e (filter fresh (map.keys x.written)))
+    (λ a. or_left (list_any e (map.keys x.first)) (list_any e (filter fresh (map.keys x.written))) (sym (map.contains_key-keys x.first s) ∙ a))
+    (λ a. or_right (list_any e (map.keys x.first)) (list_any e (filter fresh (map.keys x.written)))
     (any_filter e fresh (map.keys x.written) (λ k y. ap (λ t. not (map.contains_key x.first t)) (sym (key_is slot_exact s k y)) ∙ ap not a)
     (sym (map.contains_key-keys x.written s) ∙ sym (ap (λ b. b || map.contains_key x.written s) a) ∙ h)))
 
@@ -190,7 +173,7 @@ module _ (r : Layer) (x : World plain) (k : Keeps r x) where
       some_map (Some a) = refl
 
   -- a slot with a row in the layer is kept
-  pub row_kept : (s : Slot) → is_some (map.get r.rows s) ≡ true → list_any (eq_by_cmp slot_cmp s) (kept_slots x) ≡ true
+  row_kept : (s : Slot) → is_some (map.get r.rows s) ≡ true → list_any (eq_by_cmp slot_cmp s) (kept_slots x) ≡ true
   row_kept s h = by_option (map.get r.rows s)
       (λ e. absurd (false≢true (sym (ap is_some e) ∙ h)))
       (λ row e. by_option r.above
@@ -220,11 +203,11 @@ filter_twice p q (s ∷ ss) = by_bool (q s)
 count_cover : (p q : Slot → Bool) (ss : List Slot) → ((s : Slot) → list_any (eq_by_cmp slot_cmp s) ss ≡ true → (p s || q s) ≡ true) → length ss ≤ count_passing p ss + count_passing (λ s. q s && not (p s)) ss
 count_cover p q [] f = omega arith
 count_cover p q (s ∷ ss) f =
-    let rest : length ss ≤ count_passing p ss + count_passing (λ s. q s && not (p s)) ss = count_cover p q ss (λ t e. f t (or_two (eq_by_cmp slot_cmp t s) (list_any (eq_by_cmp slot_cmp t) ss) e)) in
+    let rest : length ss ≤ count_passing p ss + count_passing (λ s. q s && not (p s)) ss = count_cover p q ss (λ t e. f t (or_right (eq_by_cmp slot_cmp t s) (list_any (eq_by_cmp slot_cmp t) ss) e)) in
     by_bool (p s)
     (λ e. let a = one_of (p s) e in omega (arith, a, rest))
     (λ e.
-    let y : (q s && not (p s)) ≡ true = both (q s) (p s) e (sym (ap (λ b. b || q s) e) ∙ f s (or_one (eq_by_cmp slot_cmp s s) (list_any (eq_by_cmp slot_cmp s) ss) (ap is_eq (tied_itself slot_total s)))) in
+    let y : (q s && not (p s)) ≡ true = both (q s) (p s) e (sym (ap (λ b. b || q s) e) ∙ f s (or_left (eq_by_cmp slot_cmp s s) (list_any (eq_by_cmp slot_cmp s) ss) (ap is_eq (tied_itself slot_total s)))) in
     let b = one_of (q s && not (p s)) y in
     omega (arith, b, rest))
   where
@@ -232,14 +215,14 @@ count_cover p q (s ∷ ss) f =
     both true b e h = ap not e
     both false b e h = absurd (false≢true h)
 
-length_each : {A B : Type 0} (f : A → B) (xs : List A) → length (each f xs) ≡ length xs
+pub length_each : {A B : Type 0} (f : A → B) (xs : List A) → length (each f xs) ≡ length xs
 length_each f [] = refl
 length_each f (x ∷ xs) = ap suc (length_each f xs)
 
-pub length_keys : {V : Type 0} (m : FinMap slot_cmp V) → length (map.keys m) ≡ length (map.entries m)
+length_keys : {V : Type 0} (m : FinMap slot_cmp V) → length (map.keys m) ≡ length (map.entries m)
 length_keys m = length_each (λ e. e.0) (map.entries m)
 
-pub rows_many : (r : Layer) (x : World plain) → Keeps r x → is_some x.parent ≡ true → length (map.keys r.rows) ≤ length (row_slots x)
+rows_many : (r : Layer) (x : World plain) → Keeps r x → is_some x.parent ≡ true → length (map.keys r.rows) ≤ length (row_slots x)
 rows_many r x k px =
     let ks = map.keys r.rows in
     let p : Slot → Bool = λ s. is_some (map.get x.first s) in
@@ -260,7 +243,7 @@ times_le k a b h = omega (arith, mul-le-mul_left k h)
 
 -- ---- the work in a layer's world
 
-pub length_closed : (m : KeySet obj_cmp) → length (map.keys m) ≡ map.len m
+length_closed : (m : KeySet obj_cmp) → length (map.keys m) ≡ map.len m
 length_closed m = length_each (λ e. e.0) (map.entries m) ∙ sym (map.len-entries m)
 
 module _ (layers : List Layer) (h : IsSparse layers) (at : Spot) (here : IsAt layers at) (r : Layer) (s : slice_get layers at.place ≡ Some r) (x : World plain) (f : find_world (full_of layers) at.world ≡ Some x) where
@@ -276,7 +259,7 @@ module _ (layers : List Layer) (h : IsSparse layers) (at : Spot) (here : IsAt la
   pub rows_work : (k : ℕ) → is_some x.parent ≡ true → length (map.keys r.rows) * k ≤ length (row_slots x) * k
   rows_work k p = times_le k _ _ (rows_many r x kept_x p)
 
-  pub rows_least : is_some x.parent ≡ true → length (map.entries r.rows) ≤ length (row_slots x)
+  rows_least : is_some x.parent ≡ true → length (map.entries r.rows) ≤ length (row_slots x)
   rows_least p = let a = rows_many r x kept_x p in let b = length_keys r.rows in omega (arith, a, b)
 
   pub rows_under : (a : Spot) → r.above ≡ Some a → length (map.entries r.rows) ≤ length (row_slots x)

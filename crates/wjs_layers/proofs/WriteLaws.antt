@@ -6,6 +6,7 @@ use Rattle.std.specs.Cmp.{tied_itself}
 use Rattle.std.specs.FinMap as map
 use Rattle.std.specs.FinMap.{FinMap}
 use Rattle.std.proofs.lemmas.Bool.{true≢false, false≢true, and_parts, not-true, or_parts}
+use Rattle.std.proofs.lemmas.Option.{same_Some}
 use Rattle.wjs_base.specs.declared.ids.WorldId.{WorldId}
 use Rattle.wjs_base.specs.declared.values.Slot.{Slot}
 use Rattle.wjs_base.specs.declared.values.Value.{Value}
@@ -13,6 +14,7 @@ use Rattle.wjs_base.specs.declared.values.Content.{Content}
 use Rattle.wjs_base.specs.declared.values.Content.TheVariants.{Absent, Present}
 use Rattle.wjs_base.specs.Order.{slot_cmp, slot_total, slot_exact}
 use Rattle.wjs_base.proofs.Booleans.{by_bool}
+use Rattle.wjs_base.proofs.Options.{by_option, some_tested, no_none, with_some}
 use Rattle.wjs_store.specs.Naming.{plain}
 use Rattle.wjs_store.specs.Shown.{content_of}
 use Rattle.wjs_store.specs.State.{World, State, find_world, same_world, is_touched, is_below, has_row, write_in, write_at, after_write, put, content_at}
@@ -24,23 +26,18 @@ use Rattle.wjs_layers.specs.declared.maps.Row.{Row}
 use Rattle.wjs_layers.specs.declared.layer.Spot.{Spot}
 use Rattle.wjs_layers.specs.declared.layer.Layer.{Layer}
 use Rattle.wjs_layers.specs.declared.layer.Look.TheVariants.{Closed, Untouched, Nowhere}
+use Rattle.wjs_layers.specs.Keyed.{rewritten}
 use Rattle.wjs_layers.specs.Look.{Looked, Puts, read_after, first_row_of}
+use Rattle.wjs_layers.specs.Shorts.{row_written}
 use Rattle.wjs_layers.specs.Sparse.{now_of, read_of, mark_of, full_of, Keeps, IsSparse, IsAt, StandFor}
-use Rattle.wjs_layers.proofs.Places.{some_is, no_none, find_top, find_rest}
-use Rattle.wjs_layers.proofs.Full.{row_some, row_none, closed_same, by_option}
+use Rattle.wjs_layers.proofs.Places.{find_top, find_rest, find_nil}
+use Rattle.wjs_layers.proofs.Full.{row_some, row_none, closed_same}
 use Rattle.wjs_layers.proofs.Changes.{kept_set}
 use Rattle.wjs_layers.proofs.Looks.{content_above}
-use Rattle.wjs_layers.proofs.Puts.{keeps_put, stand_by}
+use Rattle.wjs_layers.proofs.Marked.{none_over}
+use Rattle.wjs_layers.proofs.Puts.{keeps_put, stand_by, set_same}
 
 -- ---- below
-
-find_empty : (w : WorldId) → find_world {n = plain} [] w ≡ None
-unfolding find_world
-find_empty w = refl
-
-has_if : {A : Type 0} (f : A → Bool) (o : Option A) → option_map_or f o false ≡ true → is_some o ≡ true
-has_if f None h = absurd (false≢true h)
-has_if f (Some a) h = refl
 
 below_top : (w : WorldId) (s : Slot) (y : World plain) (older : State plain) (d : WorldId) → same_world y.id d ≡ true → is_below w s (y ∷ older) d ≡ (not (is_touched y s) && option_map_or (λ p. same_world p w || is_below w s older p) y.parent false)
 unfolding is_below
@@ -52,12 +49,12 @@ below_rest w s y older d e = ap (λ b. cond b (not (is_touched y s) && option_ma
 
 -- a world that a write reaches from above is untouched at the slot, and has a parent
 below_open : (w : WorldId) (s : Slot) (F : State plain) (d : WorldId) (x : World plain) → find_world F d ≡ Some x → is_below w s F d ≡ true → (is_touched x s ≡ false) × (is_some x.parent ≡ true)
-below_open w s [] d x f b = no_none x (sym (find_empty d) ∙ f)
+below_open w s [] d x f b = no_none x (sym (find_nil d) ∙ f)
 below_open w s (y ∷ older) d x f b = by_bool (same_world y.id d)
     (λ e.
-    let is : y ≡ x = some_is y x (sym (find_top y older d e) ∙ f) in
+    let is : y ≡ x = same_Some y x (sym (find_top y older d e) ∙ f) in
     let p = and_parts (not (is_touched y s)) (option_map_or (λ p. same_world p w || is_below w s older p) y.parent false) (sym (below_top w s y older d e) ∙ b) in
-    (ap (λ (z : World plain). is_touched z s) (sym is) ∙ not-true (is_touched y s) p.0, ap (λ (z : World plain). is_some z.parent) (sym is) ∙ has_if (λ p. same_world p w || is_below w s older p) y.parent p.1))
+    (ap (λ (z : World plain). is_touched z s) (sym is) ∙ not-true (is_touched y s) p.0, ap (λ (z : World plain). is_some z.parent) (sym is) ∙ some_tested (λ p. same_world p w || is_below w s older p) y.parent p.1))
     (λ e. below_open w s older d x (sym (find_rest y older d e) ∙ f) (sym (below_rest w s y older d e) ∙ b))
 
 -- a layer without a row of the slot keeps the world whatever is at the slot
@@ -161,7 +158,7 @@ first_now (Present v) = refl
 first_bare : (content : Content) (row : Row) → first_row_of content ≡ Some row → ((is_some row.read || row.written) ≡ false) × (is_some (now_of row) ≡ true)
 first_bare Absent row e = no_none row e
 first_bare (Present v) row e =
-    let z : record { read = None; now = Present v; written = false } ≡ row = some_is (record { read = None; now = Present v; written = false }) row e in
+    let z : record { read = None; now = Present v; written = false } ≡ row = same_Some (record { read = None; now = Present v; written = false }) row e in
     (ap (λ (w : Row). is_some w.read || w.written) (sym z), ap (λ (w : Row). is_some (now_of w)) (sym z))
 
 -- the first world
@@ -200,7 +197,7 @@ module _ (layers : List Layer) (h : IsSparse layers) (at : Spot) (here : IsAt la
   open_first : read_after x q ≡ cond (not (has_row x q) && (map.contains_key x.closed q.object || x.strict)) (Some (map.get x.copy q)) (map.get x.first q)
   open_first = ap (λ b. cond (b && (not (has_row x q) && (map.contains_key x.closed q.object || x.strict))) (Some (map.get x.copy q)) (map.get x.first q)) parent_x
 
-  pub before_kept : (row : Row) → map.get r.rows q ≡ Some row → option_map content_of row.read ≡ read_after x q
+  before_kept : (row : Row) → map.get r.rows q ≡ Some row → option_map content_of row.read ≡ read_after x q
   before_kept row e = sym (open_first ∙ ap (λ b. cond (not b && (map.contains_key x.closed q.object || x.strict)) (Some (map.get x.copy q)) (map.get x.first q)) (row_some r x kept_x q row up e) ∙ kept_x.first q ∙ ap (option_and_then read_of) e)
 
   bare_first : map.get r.rows q ≡ None → (b : Bool) → map.contains_key r.closed q.object ≡ b → read_after x q ≡ cond (b || r.strict) (Some (map.get x.copy q)) None
@@ -222,3 +219,17 @@ module _ (layers : List Layer) (h : IsSparse layers) (at : Spot) (here : IsAt la
 
   pub before_nowhere : Looked r q Nowhere → None ≡ read_after x q
   before_nowhere e = absurd (false≢true (sym (ap is_some e.1) ∙ up))
+
+-- ---- a write over a row
+
+module _ (layers : List Layer) (h : IsSparse layers) (at : Spot) (here : IsAt layers at) (r : Layer) (s : slice_get layers at.place ≡ Some r) (q : Slot) (content : Content) where
+  pub over_row : is_some r.above ≡ true → is_some (map.get r.rows q) ≡ true → StandFor (set layers at.place (record r { rows = rewritten r.rows q content })) (after_write (full_of layers) at.world q (content_of content))
+  over_row up there = with_some (map.get r.rows q) there (λ row e.
+      subst (λ rows. StandFor (set layers at.place (record r { rows = rows })) (after_write (full_of layers) at.world q (content_of content)))
+      (sym (ap (λ o. option_map_or (λ (w : Row). map.insert r.rows q (row_written w.read content)) o r.rows) e))
+      (write_by layers h at here r s q (content_of content) (Some (row_written row.read content))
+      (λ x f. puts_marked r x q row.read content (h.kept.at at.world at.place x r here f s) up (before_kept layers h at here r s q up x f row e))))
+
+  -- without a row all stays
+  pub over_none : map.get r.rows q ≡ None → set layers at.place (record r { rows = rewritten r.rows q content }) ≡ layers
+  over_none e = ap (λ rows. set layers at.place (record r { rows = rows })) (sym (none_over r.rows q content e)) ∙ set_same layers at.place r s

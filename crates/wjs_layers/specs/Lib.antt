@@ -1,6 +1,8 @@
 pub mod Shape
 pub mod Kinds
+pub mod Codes
 pub mod Shorts
+pub mod Keyed
 pub mod Tables
 pub mod Sparse
 pub mod Look

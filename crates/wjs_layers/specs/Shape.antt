@@ -4,14 +4,13 @@ use Rattle.std.specs.Coded.{Coded, code_by, coded×, coded_ℕ, coded_bool, code
 use Rattle.std.specs.FinMap as map
 use Rattle.std.specs.FinMap.{FinMap}
 use base.Stored.{coded_unit}
-use Rattle.wjs_base.specs.contracts.values.Content as content
-use Rattle.wjs_base.specs.declared.values.Content.{Content}
 use Rattle.wjs_base.specs.declared.ids.WorldId.{WorldId}
 use Rattle.wjs_base.specs.Order.{slot_cmp, obj_cmp}
 use Rattle.wjs_store.specs.State.{KeySet}
 use Rattle.wjs_layers.specs.declared.maps.Row.{Row}
 use Rattle.wjs_layers.specs.declared.layer.Spot.{Spot}
 use Rattle.wjs_base.specs.Codes.{coded_slot, coded_object, coded_world}
+use Rattle.wjs_layers.specs.Codes.{coded_row}
 
 pub record Shape : Type 0 where
   pub id : WorldId
@@ -19,12 +18,6 @@ pub record Shape : Type 0 where
   pub strict : Bool
   pub rows : FinMap slot_cmp Row
   pub closed : KeySet obj_cmp
-
-abbrev pub coded_content : Coded Content
-coded_content = (content.the_row).coded
-
-abbrev pub coded_row : Coded Row
-coded_row = code_by (Option Content × (Content × Bool)) (coded× (coded_option coded_content) (coded× coded_content coded_bool)) (λ w. (w.read, (w.now, w.written))) (λ p. record { read = p.0; now = p.1.0; written = p.1.1 }) (λ _. refl)
 
 abbrev pub coded_spot : Coded Spot
 coded_spot = code_by (WorldId × ℕ) (coded× coded_world coded_ℕ) (λ a. (a.world, a.place)) (λ p. record { world = p.0; place = p.1 }) (λ _. refl)

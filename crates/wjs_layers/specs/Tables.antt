@@ -1,8 +1,6 @@
 -- What the tables of a layer stand for.
-use Rattle.std.specs.Prelude.{false, Option, None, Some, map as each}
-use Rattle.std.specs.FinMap as map
+use Rattle.std.specs.Prelude.{false, Option, None, Some}
 use Rattle.std.specs.FinMap.{FinMap}
-use Rattle.wjs_base.specs.declared.values.Slot.{Slot}
 use Rattle.wjs_base.specs.declared.values.Value.{Value}
 use Rattle.wjs_base.specs.declared.values.Content.TheVariants.{Present}
 use Rattle.wjs_base.specs.Order.{slot_cmp}
@@ -11,19 +9,13 @@ use Rattle.wjs_layers.specs.declared.layer.Spot.{Spot}
 use Rattle.wjs_layers.specs.declared.layer.Kept.{Kept}
 use Rattle.wjs_layers.specs.declared.layer.Kept.TheVariants.{First, Under}
 use Rattle.wjs_layers.specs.declared.layer.Layer.TheInside.{Inside}
+use Rattle.wjs_layers.specs.Keyed.{rows_by}
 use Rattle.wjs_layers.specs.Shape.{Shape}
-use Rattle.wjs_layers.specs.Shorts.{row_first, row_in}
+use Rattle.wjs_layers.specs.Shorts.{at_first}
 
 -- the row of a slot that is present in the first world
 abbrev pub row_with : Value → Row
 row_with v = record { read = None; now = Present v; written = false }
-
-abbrev pub entry_by : {V : Type 0} → (V → Row) → Slot × V → Slot × Row
-entry_by f e = (e.0, f e.1)
-
--- what is kept at each slot, as a row
-unfoldable pub rows_by : {V : Type 0} → (V → Row) → FinMap slot_cmp V → FinMap slot_cmp Row
-rows_by f m = map.from_sorted (each (entry_by f) (map.entries m))
 
 -- the first world has no parent
 abbrev pub above_in : Kept → Option Spot
@@ -31,8 +23,8 @@ above_in (First values) = None
 above_in (Under above rows) = Some above
 
 abbrev pub rows_in : Kept → FinMap slot_cmp Row
-rows_in (First values) = rows_by row_first values
-rows_in (Under above rows) = rows_by row_in rows
+rows_in (First values) = rows_by at_first values
+rows_in (Under above rows) = rows
 
 abbrev pub shown : Inside → Shape
 shown a = record { id = a.id; above = above_in a.kept; strict = a.strict; rows = rows_in a.kept; closed = a.closed }

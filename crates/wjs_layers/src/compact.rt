@@ -1,4 +1,4 @@
-//! What a slot holds, and the rows of child worlds, in few bytes.
+//! What a slot holds, and a mark of what was done with it, in few bytes.
 ghost use Rattle.wjs_base.specs.Range.{IsInRange, in_range_prop};
 ghost use Rattle.wjs_layers.specs.Kinds.{number_in};
 
@@ -17,7 +17,20 @@ pub enum Kind {
     Object,
 }
 
-/// A content in 16 bytes, with room for a mark.
+/// What was done with a slot in a child world.
+#[derive(Clone, Copy)]
+pub enum Mark {
+    /// It was read and not written: it holds what was read.
+    Read,
+    /// It was written, and not read before.
+    Written,
+    /// It was written, and read before as absent.
+    Filled,
+    /// It was written, and read before as present. What was read is kept apart.
+    Changed,
+}
+
+/// A content in 16 bytes, with a mark. In the first world no mark says anything.
 ///
 /// The wide fields come first, since fields lie in their order.
 #[derive(Clone, Copy)]
@@ -27,19 +40,8 @@ pub struct ShortContent {
     /// Who made an object.
     pub owner: u32,
     pub kind: Kind,
-    pub mark: bool,
+    pub mark: Mark,
     pub ghost in_range: { IsInRange (number_in kind number) } by { in_range_prop (number_in kind number) },
 }
 
 const _: () = prove!(size_of::<ShortContent>() == 16);
-
-/// The row of a slot in a child world, in 32 bytes.
-#[derive(Clone, Copy)]
-pub struct ShortRow {
-    /// What the slot holds, with a mark where it was written.
-    pub held: ShortContent,
-    /// The recorded read, with a mark where there is one.
-    pub read: ShortContent,
-}
-
-const _: () = prove!(size_of::<ShortRow>() == 32);

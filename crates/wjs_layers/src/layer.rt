@@ -14,17 +14,16 @@ ghost use Rattle.wjs_layers.specs.Moves.{handed, handed_rows, ReadsAgree, closed
 ghost use Rattle.std.specs.Prelude.{true};
 ghost use Rattle.wjs_base.specs.declared.values.Slot.{Slot};
 
-use crate::compact::{ShortContent, ShortRow};
+use crate::compact::ShortContent;
 use crate::maps::{ObjectSet, Row};
-use crate::values::{
-    content_with, full_entry, full_row, held, present, set_row, set_value, with_entry, with_row,
-};
+use crate::touched::Touched;
+use crate::values::{content_with, held, set_value, with_entry, with_row};
 use std::alloc::Global;
 use std::marker::Model;
 use std::sync::ledger::Ledger;
 use wjs_base::{Content, Name, ObjId, OutOfMemory, Slot, WorldId};
 use wjs_rows::Steps;
-use wjs_slots::{Table, Walked, least_slot};
+use wjs_slots::{Table, least_slot};
 
 /// A world by its number, and its place among the worlds.
 #[derive(Clone, Copy)]
@@ -35,13 +34,13 @@ pub struct Spot {
 
 /// What a world keeps of slots.
 ///
-/// Nearly all reads and writes are in the first world, and there a row says no more than its value. Both are kept in few bytes.
+/// Nearly all reads and writes are in the first world, and there a row says no more than its value.
 #[derive(Drop)]
 enum Kept {
     /// The first world's present slots.
     First(Table<ShortContent>),
     /// What was touched in a world with this parent.
-    Under(Spot, Walked<ShortRow>),
+    Under(Spot, Touched),
 }
 
 impl Kept {
@@ -56,7 +55,7 @@ impl Kept {
     {
         match self {
             Kept::First(values) => *values = Table::new(alloc),
-            Kept::Under(_, rows) => *rows = Walked::new(alloc),
+            Kept::Under(_, rows) => *rows = Touched::new(alloc),
         }
     }
 }
@@ -96,7 +95,9 @@ impl Layer {
     ghost use Rattle.wjs_store.specs.Shown.{content_of};
     ghost use Rattle.wjs_layers.specs.Sparse.{now_of};
     ghost use Rattle.wjs_layers.specs.declared.maps.Row.{Row};
+    ghost use Rattle.wjs_layers.specs.Keyed.{rewritten};
     ghost use Rattle.wjs_layers.specs.Look.{first_row_of};
+    ghost use Rattle.wjs_layers.specs.Shorts.{row_read, row_written};
     ghost use Rattle.wjs_layers.specs.Moves.{cleared};
     ghost use Rattle.wjs_layers.specs.Marks.{reads_in, writes_in, has_written};
     ghost use Rattle.std.specs.Option.{is_none};
@@ -120,7 +121,7 @@ impl Layer {
         Layer {
             id,
             strict,
-            kept: Kept::Under(above, Walked::new(alloc)),
+            kept: Kept::Under(above, Touched::new(alloc)),
             closed: ObjectSet::new(alloc),
         }
     }
@@ -176,8 +177,8 @@ impl Layer {
         ensures step { steps.new ≡ steps.old + 1 }
     {
         match &self.kept {
-            Kept::First(values) => present(values.get(slot, steps)),
-            Kept::Under(_, rows) => held(rows.get(slot, steps)),
+            Kept::First(values) => held(values.get(slot, steps)),
+            Kept::Under(_, rows) => rows.now(slot, steps),
         }
     }
 
@@ -201,7 +202,7 @@ impl Layer {
     {
         match &self.kept {
             Kept::First(values) => with_row(values.get(slot, steps)),
-            Kept::Under(_, rows) => full_row(rows.get(slot, steps)),
+            Kept::Under(_, rows) => rows.get(slot, steps),
         }
     }
 
@@ -223,7 +224,7 @@ impl Layer {
     {
         match &self.kept {
             Kept::First(_) => unreachable!(),
-            Kept::Under(_, rows) => full_entry(rows.next_from(slot, steps)),
+            Kept::Under(_, rows) => rows.next_from(slot, steps),
         }
     }
 
@@ -235,7 +236,7 @@ impl Layer {
     {
         match &self.kept {
             Kept::First(_) => unreachable!(),
-            Kept::Under(_, rows) => full_entry(rows.next_after(slot, steps)),
+            Kept::Under(_, rows) => rows.next_after(slot, steps),
         }
     }
 
@@ -252,7 +253,7 @@ impl Layer {
     {
         match &self.kept {
             Kept::First(values) => with_entry(values.next_on(object, passed, steps)),
-            Kept::Under(_, rows) => full_entry(rows.next_on(object, passed, steps)),
+            Kept::Under(_, rows) => rows.next_on(object, passed, steps),
         }
     }
 
@@ -293,20 +294,58 @@ impl Layer {
         }
     }
 
-    /// Puts a row into a world with a parent.
-    pub fn set<L: Ledger>(
+    /// Records what a slot was read as, in a world with a parent.
+    pub fn set_read<L: Ledger>(
         &mut self,
         slot: Slot,
-        row: Row,
+        read: Content,
         steps: &mut Steps<L>,
     ) -> Result<(), OutOfMemory>
         requires { is_some self.old.above ≡ true }
-        ensures ok { OnOk result (self.new ≡ record self.old { rows = map.insert self.old.rows slot row }) }
+        ensures ok { OnOk result (self.new ≡ record self.old { rows = map.insert self.old.rows slot (row_read read) }) }
         ensures step { steps.new ≡ steps.old + 1 }
     {
         match &mut self.kept {
             Kept::First(_) => unreachable!(),
-            Kept::Under(_, rows) => set_row(rows, slot, row, steps),
+            Kept::Under(_, rows) => rows.set_read(slot, read, steps),
+        }
+    }
+
+    /// Writes a slot of a world with a parent, with the read that is recorded, if one is.
+    pub fn set_written<L: Ledger>(
+        &mut self,
+        slot: Slot,
+        read: Option<Content>,
+        content: Content,
+        steps: &mut Steps<L>,
+    ) -> Result<(), OutOfMemory>
+        requires { is_some self.old.above ≡ true }
+        ensures ok { OnOk result (self.new ≡ record self.old { rows = map.insert self.old.rows slot (row_written read content) }) }
+        ensures step { steps.new ≤ steps.old + 1 }
+    {
+        match &mut self.kept {
+            Kept::First(_) => unreachable!(),
+            Kept::Under(_, rows) => rows.set_written(slot, read, content, steps),
+        }
+    }
+
+    /// Writes a slot that has a row in a world with a parent, and says whether it has one. Else all stays as it is, in one
+    /// step.
+    pub fn rewrite<L: Ledger>(
+        &mut self,
+        slot: Slot,
+        content: Content,
+        steps: &mut Steps<L>,
+    ) -> Result<bool, OutOfMemory>
+        requires { is_some self.old.above ≡ true }
+        ensures found { IfOk result (λ found. found ≡ is_some (map.get self.old.rows slot)) }
+        ensures ok { OnOk result (self.new ≡ record self.old { rows = rewritten self.old.rows slot content }) }
+        ensures steps { steps.new ≤ steps.old + 2 }
+        ensures look { IfOk result (λ found. found ≡ false → steps.new ≤ steps.old + 1) }
+    {
+        match &mut self.kept {
+            Kept::First(_) => unreachable!(),
+            Kept::Under(_, rows) => rows.rewrite(slot, content, steps),
         }
     }
 
@@ -429,12 +468,7 @@ fn hand_read<L: Ledger>(
             if is_marked(layer, slot, steps) {
                 return Ok(());
             }
-            let handed = Row {
-                read: Some(read),
-                now: read,
-                written: false,
-            };
-            layer.set(slot, handed, steps)
+            layer.set_read(slot, read, steps)
         }
     }
 }

@@ -16,6 +16,8 @@ ghost use Rattle.wjs_layers.specs.declared.layer.Layer.{Layer};
 ghost use Rattle.wjs_layers.specs.Cursor.{IsNextSlot, lesser_of, with_present};
 ghost use Rattle.wjs_layers.specs.Work.{row_slots};
 ghost use Rattle.wjs_layers.specs.Look.{IsUntouched, Looked, read_after, first_row_of};
+ghost use Rattle.wjs_layers.specs.Keyed.{rewritten};
+ghost use Rattle.wjs_layers.specs.Shorts.{row_read, row_written};
 ghost use Rattle.wjs_layers.specs.Sparse.{IsSparse, IsAt, StandFor, full_of, depth_of};
 
 use crate::layer::{Layer, Look, Spot, close_all, close_layer, hand_reads, look_past, next_row};
@@ -51,21 +53,62 @@ pub fn content<L: Ledger>(
     }
 }
 
-/// Puts a row into a world with a parent.
-fn put_row<L: Ledger>(
+/// Records what a slot was read as, in a world with a parent.
+fn put_read<L: Ledger>(
     layers: &mut [Layer],
     world: Spot,
     slot: Slot,
-    row: Row,
+    read: Content,
     steps: &mut Steps<L>,
 ) -> Result<(), OutOfMemory>
     requires there { world.place < length layers.old }
     requires parent { IfSome (slice_get layers.old world.place) (λ (r : Layer). is_some r.above ≡ true) }
-    ensures ok { OnOk result (IfSome (slice_get layers.old world.place) (λ (r : Layer). layers.new ≡ slice_set layers.old world.place (record r { rows = map.insert r.rows slot row }))) }
+    ensures ok { OnOk result (IfSome (slice_get layers.old world.place)
+        (λ (r : Layer). layers.new ≡ slice_set layers.old world.place (record r { rows = map.insert r.rows slot (row_read read) }))) }
     ensures step { steps.new ≡ steps.old + 1 }
 {
     let layer = &mut layers[world.place];
-    layer.set(slot, row, steps)
+    layer.set_read(slot, read, steps)
+}
+
+/// Writes a slot of a world with a parent, with the read that is recorded, if one is.
+fn put_written<L: Ledger>(
+    layers: &mut [Layer],
+    world: Spot,
+    slot: Slot,
+    read: Option<Content>,
+    content: Content,
+    steps: &mut Steps<L>,
+) -> Result<(), OutOfMemory>
+    requires there { world.place < length layers.old }
+    requires parent { IfSome (slice_get layers.old world.place) (λ (r : Layer). is_some r.above ≡ true) }
+    ensures ok { OnOk result (IfSome (slice_get layers.old world.place)
+        (λ (r : Layer). layers.new ≡ slice_set layers.old world.place (record r { rows = map.insert r.rows slot (row_written read content) }))) }
+    ensures step { steps.new ≤ steps.old + 1 }
+{
+    let layer = &mut layers[world.place];
+    layer.set_written(slot, read, content, steps)
+}
+
+/// Writes a slot of a world with a parent that has a row there, and says whether it has one. Else all stays as it is, in one
+/// step.
+fn rewrite<L: Ledger>(
+    layers: &mut [Layer],
+    world: Spot,
+    slot: Slot,
+    content: Content,
+    steps: &mut Steps<L>,
+) -> Result<bool, OutOfMemory>
+    requires there { world.place < length layers.old }
+    requires parent { IfSome (slice_get layers.old world.place) (λ (r : Layer). is_some r.above ≡ true) }
+    ensures found { IfOk result (λ found. IfSome (slice_get layers.old world.place) (λ (r : Layer). found ≡ is_some (map.get r.rows slot))) }
+    ensures ok { OnOk result (IfSome (slice_get layers.old world.place)
+        (λ (r : Layer). layers.new ≡ slice_set layers.old world.place (record r { rows = rewritten r.rows slot content }))) }
+    ensures steps { steps.new ≤ steps.old + 2 }
+    ensures look { IfOk result (λ found. found ≡ false → steps.new ≤ steps.old + 1) }
+{
+    let layer = &mut layers[world.place];
+    layer.rewrite(slot, content, steps)
 }
 
 /// What a slot holds in a world, which is recorded there where the slot was untouched.
@@ -109,12 +152,7 @@ fn read_above<L: Ledger>(
     ensures steps { steps.new ≤ steps.old + (2 * depth_of (full_of layers.old) world.world + 1) }
 {
     let found = content(layers, above, slot, steps);
-    let row = Row {
-        read: Some(found),
-        now: found,
-        written: false,
-    };
-    put_row(layers, world, slot, row, steps)?;
+    put_read(layers, world, slot, found, steps)?;
     Ok(found)
 }
 
@@ -136,17 +174,12 @@ pub fn read_past<L: Ledger>(
     ensures after { OnOk result (StandFor layers.new (after_read (full_of layers.old) world.world slot)) }
     ensures steps { steps.new ≤ steps.old + 3 }
 {
-    let found = content(layers, first, slot, steps);
-    let recorded = Row {
-        read: Some(found),
-        now: found,
-        written: false,
-    };
-    put_row(layers, world, slot, recorded, steps)?;
-    Ok(found)
+    let held = content(layers, first, slot, steps);
+    put_read(layers, world, slot, held, steps)?;
+    Ok(held)
 }
 
-/// The recorded read that a slot has in a world with a parent once it is written there.
+/// The recorded read that a slot without a row has in a world with a parent once it is written there.
 fn read_before<L: Ledger>(
     layers: &[Layer],
     world: Spot,
@@ -156,13 +189,11 @@ fn read_before<L: Ledger>(
     requires sparse { IsSparse layers.now }
     requires there { IsAt layers.now world }
     requires parent { IfSome (slice_get layers.now world.place) (λ (r : Layer). is_some r.above ≡ true) }
+    requires unseen { IfSome (slice_get layers.now world.place) (λ (r : Layer). map.get r.rows slot ≡ None) }
     ensures read { (x : World plain) → find_world (full_of layers.now) world.world ≡ Some x → option_map content_of result ≡ read_after x slot }
-    ensures steps { steps.new ≤ steps.old + (2 * depth_of (full_of layers.now) world.world + 2) }
+    ensures steps { steps.new ≤ steps.old + (2 * depth_of (full_of layers.now) world.world + 1) }
 {
     let layer = &layers[world.place];
-    if let Some(row) = layer.get(slot, steps) {
-        return row.read;
-    }
     match look_past(layer, slot, steps) {
         Look::Closed => Some(Content::Absent),
         Look::Untouched(above) => {
@@ -228,12 +259,30 @@ fn write_marked<L: Ledger>(
     ensures after { OnOk result (StandFor layers.new (after_write (full_of layers.old) world.world slot (content_of content))) }
     ensures steps { steps.new ≤ steps.old + (2 * depth_of (full_of layers.old) world.world + 3) }
 {
-    let row = Row {
-        read: read_before(layers, world, slot, steps),
-        now: content,
-        written: true,
-    };
-    put_row(layers, world, slot, row, steps)
+    let found = rewrite(layers, world, slot, content, steps)?;
+    if found {
+        return Ok(());
+    }
+    write_unseen(layers, world, slot, content, steps)
+}
+
+/// `write_marked` of a slot without a row.
+fn write_unseen<L: Ledger>(
+    layers: &mut [Layer],
+    world: Spot,
+    slot: Slot,
+    content: Content,
+    steps: &mut Steps<L>,
+) -> Result<(), OutOfMemory>
+    requires sparse { IsSparse layers.old }
+    requires there { IsAt layers.old world }
+    requires parent { IfSome (slice_get layers.old world.place) (λ (r : Layer). is_some r.above ≡ true) }
+    requires unseen { IfSome (slice_get layers.old world.place) (λ (r : Layer). map.get r.rows slot ≡ None) }
+    ensures after { OnOk result (StandFor layers.new (after_write (full_of layers.old) world.world slot (content_of content))) }
+    ensures steps { steps.new ≤ steps.old + (2 * depth_of (full_of layers.old) world.world + 2) }
+{
+    let read = read_before(layers, world, slot, steps);
+    put_written(layers, world, slot, read, content, steps)
 }
 
 /// Puts a child of a world last. It has no rows: it holds what its parent holds.

@@ -9,6 +9,7 @@ mod layer;
 pub mod layers;
 mod maps;
 mod short;
+mod touched;
 mod values;
 
 pub use layer::{Layer, Spot};

@@ -1,8 +1,9 @@
-//! Rows, and sets of objects and of slots, seen as finite maps.
+//! Rows, sets of objects and of slots, and values by slot, seen as finite maps.
 ghost use Rattle.std.specs.Prelude.{◌≡◌, ◌+◌, ◌≤◌, length, OnOk, IfOk, is_some};
 ghost use Rattle.wjs_layers.specs.Least.{first_object};
 ghost use Rattle.std.specs.FinMap as map;
 ghost use Rattle.std.specs.Map.{lookup_key};
+ghost use Rattle.std.specs.Option.{option_copied};
 ghost use Rattle.wjs_base.specs.Order.{slot_cmp, obj_cmp};
 ghost use Rattle.wjs_rows.specs.Order.{is_from, is_after};
 
@@ -169,5 +170,46 @@ impl SlotSet {
         ensures { IfOk result (λ all. all.items ≡ map.keys self.now) }
     {
         Ok(self.tree.keys().copied().collect(alloc)?)
+    }
+}
+
+/// Values by slot. A look at them takes no step.
+#[derive(Drop)]
+pub struct SlotMap<V> {
+    tree: BTreeMap<Slot, V>,
+}
+
+impl<V> Model for SlotMap<V> {
+    ghost use Rattle.std.specs.FinMap as map;
+    ghost use Rattle.wjs_base.specs.Order.{slot_cmp};
+    ghost use Rattle.wjs_base.specs.Codes.{coded_slot};
+
+    ghost Value = { map.FinMap slot_cmp V };
+
+    ghost coded = { map.code coded_slot V.code };
+
+    ghost view = { λ m. map.from_entries m.tree.entries };
+}
+
+impl<V: Copy> SlotMap<V> {
+    pub fn new(alloc: Global) -> SlotMap<V>
+        ensures { result ≡ map.empty }
+    {
+        SlotMap {
+            tree: BTreeMap::new(alloc),
+        }
+    }
+
+    pub fn get(&self, slot: Slot) -> Option<&V>
+        ensures { option_copied result ≡ map.get self.now slot }
+    {
+        self.tree.get(&slot)
+    }
+
+    pub fn insert(&mut self, slot: Slot, value: V) -> Result<(), OutOfMemory>
+        ensures ok { OnOk result (self.new ≡ map.insert self.old slot value) }
+    {
+        self.tree.insert(slot, value)?;
+        Ok(())
     }
 }

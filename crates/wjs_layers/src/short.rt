@@ -1,14 +1,13 @@
-//! Contents and rows become short ones, and back.
+//! Contents become short ones, and back.
 ghost use Rattle.std.specs.Prelude.{◌≡◌, None, Some, pos, neg_ℤ, unsigned_abs};
 ghost use Rattle.wjs_base.specs.Range.{InRange};
 ghost use Rattle.wjs_base.specs.declared.number.Whole.{Whole};
 ghost use Rattle.wjs_base.specs.declared.values.Value.TheVariants as values;
 ghost use Rattle.wjs_base.specs.declared.values.Content.TheVariants.{Present};
 ghost use Rattle.wjs_layers.specs.Kinds.{number_in};
-ghost use Rattle.wjs_layers.specs.Shorts.{nan, content_by, content_in, read_in, row_in};
+ghost use Rattle.wjs_layers.specs.Shorts.{nan, content_by, content_in, is_write};
 
-use crate::compact::{Kind, ShortContent, ShortRow};
-use crate::maps::Row;
+use crate::compact::{Kind, Mark, ShortContent};
 use wjs_base::{Content, ObjId, TextId, Value, Whole};
 
 impl ShortContent {
@@ -33,14 +32,15 @@ impl ShortContent {
         }
     }
 
-    /// A recorded read, if there is one.
-    fn recorded(&self) -> Option<Content>
-        ensures { result ≡ read_in self.now }
+    /// Whether its mark is one of writing.
+    pub fn is_written(&self) -> bool
+        ensures { result ≡ is_write self.now.mark }
     {
-        if self.mark {
-            Some(self.content())
-        } else {
-            None
+        match self.mark {
+            Mark::Read => false,
+            Mark::Written => true,
+            Mark::Filled => true,
+            Mark::Changed => true,
         }
     }
 }
@@ -62,7 +62,7 @@ fn below(number: u64) -> Whole
 }
 
 /// A content in short.
-pub fn short(content: Content, mark: bool) -> ShortContent
+pub fn short(content: Content, mark: Mark) -> ShortContent
     ensures content { content_in result ≡ content }
     ensures mark { result.mark ≡ mark }
 {
@@ -73,7 +73,7 @@ pub fn short(content: Content, mark: bool) -> ShortContent
 }
 
 /// A value in short.
-pub fn short_value(value: Value, mark: bool) -> ShortContent
+pub fn short_value(value: Value, mark: Mark) -> ShortContent
     ensures content { content_in result ≡ Present value }
     ensures mark { result.mark ≡ mark }
 {
@@ -89,7 +89,7 @@ pub fn short_value(value: Value, mark: bool) -> ShortContent
 }
 
 /// What is no number, or NaN.
-fn bare(kind: Kind, number: u64, owner: u32, mark: bool) -> ShortContent
+fn bare(kind: Kind, number: u64, owner: u32, mark: Mark) -> ShortContent
     requires { number_in kind number ≡ None }
     ensures content { content_in result ≡ content_by kind number owner nan }
     ensures mark { result.mark ≡ mark }
@@ -103,7 +103,7 @@ fn bare(kind: Kind, number: u64, owner: u32, mark: bool) -> ShortContent
 }
 
 /// A number in short.
-fn short_number(whole: Whole, mark: bool) -> ShortContent
+fn short_number(whole: Whole, mark: Mark) -> ShortContent
     ensures content { content_in result ≡ Present (values.Number whole) }
     ensures mark { result.mark ≡ mark }
 {
@@ -114,7 +114,7 @@ fn short_number(whole: Whole, mark: bool) -> ShortContent
 }
 
 /// A number other than NaN in short.
-fn sized(n: i64, mark: bool) -> ShortContent
+fn sized(n: i64, mark: Mark) -> ShortContent
     requires { InRange n }
     ensures content { (whole : Whole) → whole.number ≡ Some n → content_in result ≡ Present (values.Number whole) }
     ensures mark { result.mark ≡ mark }
@@ -134,36 +134,4 @@ fn side(n: i64) -> Kind
     ensures content { (whole : Whole) → content_by result (unsigned_abs n) 0 whole ≡ Present (values.Number whole) }
 {
     if n < 0 { Kind::Negative } else { Kind::Number }
-}
-
-/// A recorded read in short, if there is one.
-fn short_read(read: Option<Content>) -> ShortContent
-    ensures { read_in result ≡ read }
-{
-    match read {
-        None => short(Content::Absent, false),
-        Some(content) => short(content, true),
-    }
-}
-
-impl ShortRow {
-    pub fn new(row: Row) -> ShortRow
-        ensures { row_in result ≡ row }
-    {
-        ShortRow {
-            held: short(row.now, row.written),
-            read: short_read(row.read),
-        }
-    }
-
-    /// The row.
-    pub fn row(&self) -> Row
-        ensures { result ≡ row_in self.now }
-    {
-        Row {
-            read: self.read.recorded(),
-            now: self.held.content(),
-            written: self.held.mark,
-        }
-    }
 }

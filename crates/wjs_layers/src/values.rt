@@ -1,22 +1,20 @@
-//! What the tables of a world keep, as contents and rows.
+//! What the first world keeps, as contents and rows.
 ghost use Rattle.std.specs.Prelude.{◌≡◌, ◌+◌, OnOk};
-ghost use Rattle.std.specs.FinMap as map;
 ghost use Rattle.std.specs.Option.{option_map, option_and_then, option_copied};
 ghost use Rattle.wjs_store.specs.State.{put};
 ghost use Rattle.wjs_store.specs.Shown.{content_of};
-ghost use Rattle.wjs_layers.specs.declared.maps.Row.{Row};
 ghost use Rattle.wjs_layers.specs.Look.{first_row_of};
-ghost use Rattle.wjs_layers.specs.Shorts.{row_first, row_in};
+ghost use Rattle.wjs_layers.specs.Shorts.{content_in, row_first, at_first};
 ghost use Rattle.wjs_layers.specs.Sparse.{now_of};
-ghost use Rattle.wjs_layers.specs.Tables.{entry_by, rows_by};
+ghost use Rattle.wjs_layers.specs.Keyed.{entry_by, rows_by};
 
-use crate::compact::{ShortContent, ShortRow};
+use crate::compact::{Mark, ShortContent};
 use crate::maps::Row;
 use crate::short::short_value;
 use std::sync::ledger::Ledger;
 use wjs_base::{Content, OutOfMemory, Slot};
 use wjs_rows::Steps;
-use wjs_slots::{Table, Walked};
+use wjs_slots::Table;
 
 /// The row of a slot of the first world.
 fn row_of(value: &ShortContent) -> Row
@@ -40,23 +38,13 @@ pub fn content_with(value: Option<&ShortContent>) -> Content
     }
 }
 
-/// What the row of a slot of the first world says that it holds.
-pub fn present(value: Option<&ShortContent>) -> Option<Content>
-    ensures { result ≡ option_map (λ (row : Row). row.now) (option_map row_first (option_copied value.entry)) }
+/// What a slot of which something is kept holds.
+pub fn held(value: Option<&ShortContent>) -> Option<Content>
+    ensures { result ≡ option_map content_in (option_copied value.entry) }
 {
     match value {
         None => None,
         Some(value) => Some(value.content()),
-    }
-}
-
-/// What a row says that its slot holds.
-pub fn held(row: Option<&ShortRow>) -> Option<Content>
-    ensures { result ≡ option_map (λ (row : Row). row.now) (option_map row_in (option_copied row.entry)) }
-{
-    match row {
-        None => None,
-        Some(row) => Some(row.held.content()),
     }
 }
 
@@ -70,33 +58,13 @@ pub fn with_row(value: Option<&ShortContent>) -> Option<Row>
     }
 }
 
-/// The row of a slot of a child world.
-pub fn full_row(row: Option<&ShortRow>) -> Option<Row>
-    ensures { result ≡ option_map row_in (option_copied row.entry) }
-{
-    match row {
-        None => None,
-        Some(row) => Some(row.row()),
-    }
-}
-
 /// An entry of the first world with its row.
 pub fn with_entry(entry: Option<(Slot, ShortContent)>) -> Option<(Slot, Row)>
-    ensures { result ≡ option_map (entry_by row_first) entry }
+    ensures { result ≡ option_map (entry_by at_first) entry }
 {
     match entry {
         None => None,
         Some((slot, value)) => Some((slot, row_of(&value))),
-    }
-}
-
-/// An entry of a child world with its row.
-pub fn full_entry(entry: Option<(Slot, ShortRow)>) -> Option<(Slot, Row)>
-    ensures { result ≡ option_map (entry_by row_in) entry }
-{
-    match entry {
-        None => None,
-        Some((slot, row)) => Some((slot, row.row())),
     }
 }
 
@@ -108,24 +76,11 @@ pub fn set_value<L: Ledger>(
     content: Content,
     steps: &mut Steps<L>,
 ) -> Result<(), OutOfMemory>
-    ensures ok { OnOk result (rows_by row_first values.new ≡ put (rows_by row_first values.old) slot (first_row_of content)) }
+    ensures ok { OnOk result (rows_by at_first values.new ≡ put (rows_by at_first values.old) slot (first_row_of content)) }
     ensures step { steps.new ≡ steps.old + 1 }
 {
     match content {
         Content::Absent => values.remove(slot, steps),
-        Content::Present(value) => values.set(slot, short_value(value, false), steps),
+        Content::Present(value) => values.set(slot, short_value(value, Mark::Read), steps),
     }
-}
-
-/// Puts a row into a child world.
-pub fn set_row<L: Ledger>(
-    rows: &mut Walked<ShortRow>,
-    slot: Slot,
-    row: Row,
-    steps: &mut Steps<L>,
-) -> Result<(), OutOfMemory>
-    ensures ok { OnOk result (rows_by row_in rows.new ≡ map.insert (rows_by row_in rows.old) slot row) }
-    ensures step { steps.new ≡ steps.old + 1 }
-{
-    rows.set(slot, ShortRow::new(row), steps)
 }

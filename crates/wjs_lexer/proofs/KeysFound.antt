@@ -1,74 +1,9 @@
 -- The reserved word that a text spells.
-use Rattle.std.proofs.Common.{◌≡◌, ℕ, Bool, true, false, ◌&&◌, ◌==◌, List, [], ◌∷◌, Option, Some, refl, sym, ap, ◌∙◌, get_or}
-use Rattle.std.specs.Prelude.{slice_get}
+use Rattle.std.proofs.Common.{◌≡◌, ℕ, Bool, true, false, ◌&&◌, ◌==◌, List, [], ◌∷◌, Option, Some, refl, sym, ap, ◌∙◌}
 use Rattle.std.specs.List.{find}
 use Rattle.wjs_tree.specs.declared.keys.Key.{Key}
 use Rattle.wjs_tree.specs.declared.keys.Key.TheVariants as keys
 use Rattle.wjs_tree.specs.Keys.{spelling}
-use Rattle.wjs_lexer.specs.KeySteps.{keys_from}
-
--- each key stands among the keys that begin as it does
-pub among : (k : Key) → (j : ℕ) × (slice_get (keys_from (get_or (spelling k) 0 0)) j ≡ Some k)
-among keys.Break = (1, refl)
-among keys.Case = (0, refl)
-among keys.Catch = (1, refl)
-among keys.Continue = (5, refl)
-among keys.Default = (1, refl)
-among keys.Delete = (2, refl)
-among keys.Do = (3, refl)
-among keys.Else = (0, refl)
-among keys.Finally = (2, refl)
-among keys.For = (4, refl)
-among keys.Function = (5, refl)
-among keys.If = (0, refl)
-among keys.In = (3, refl)
-among keys.Instanceof = (4, refl)
-among keys.New = (1, refl)
-among keys.Return = (0, refl)
-among keys.Switch = (3, refl)
-among keys.This = (0, refl)
-among keys.Throw = (2, refl)
-among keys.Try = (6, refl)
-among keys.Typeof = (7, refl)
-among keys.Var = (0, refl)
-among keys.Void = (1, refl)
-among keys.While = (0, refl)
-among keys.With = (1, refl)
-among keys.Abstract = (0, refl)
-among keys.Boolean = (0, refl)
-among keys.Byte = (2, refl)
-among keys.Char = (2, refl)
-among keys.Class = (3, refl)
-among keys.Const = (4, refl)
-among keys.Debugger = (0, refl)
-among keys.Double = (4, refl)
-among keys.Enum = (1, refl)
-among keys.Export = (2, refl)
-among keys.Extends = (3, refl)
-among keys.Final = (1, refl)
-among keys.Float = (3, refl)
-among keys.Goto = (0, refl)
-among keys.Implements = (1, refl)
-among keys.Import = (2, refl)
-among keys.Int = (5, refl)
-among keys.Interface = (6, refl)
-among keys.Long = (0, refl)
-among keys.Native = (0, refl)
-among keys.Package = (0, refl)
-among keys.Private = (1, refl)
-among keys.Protected = (2, refl)
-among keys.Public = (3, refl)
-among keys.Short = (0, refl)
-among keys.Static = (1, refl)
-among keys.Super = (2, refl)
-among keys.Synchronized = (4, refl)
-among keys.Throws = (3, refl)
-among keys.Transient = (4, refl)
-among keys.Volatile = (2, refl)
-among keys.Null = (2, refl)
-among keys.True = (5, refl)
-among keys.False = (0, refl)
-among keys.ThisWorld = (1, refl)
 
 abbrev all_keys : List Key
 all_keys = keys.Break ∷ keys.Case ∷ keys.Catch ∷ keys.Continue ∷ keys.Default ∷ keys.Delete ∷ keys.Do ∷ keys.Else ∷ keys.Finally ∷ keys.For ∷ keys.Function ∷ keys.If ∷ keys.In ∷ keys.Instanceof ∷ keys.New ∷ keys.Return ∷ keys.Switch ∷ keys.This ∷ keys.Throw ∷ keys.Try ∷ keys.Typeof ∷ keys.Var ∷ keys.Void ∷ keys.While ∷ keys.With ∷ keys.Abstract ∷ keys.Boolean ∷ keys.Byte ∷ keys.Char ∷ keys.Class ∷ keys.Const ∷ keys.Debugger ∷ keys.Double ∷ keys.Enum ∷ keys.Export ∷ keys.Extends ∷ keys.Final ∷ keys.Float ∷ keys.Goto ∷ keys.Implements ∷ keys.Import ∷ keys.Int ∷ keys.Interface ∷ keys.Long ∷ keys.Native ∷ keys.Package ∷ keys.Private ∷ keys.Protected ∷ keys.Public ∷ keys.Short ∷ keys.Static ∷ keys.Super ∷ keys.Synchronized ∷ keys.Throws ∷ keys.Transient ∷ keys.Volatile ∷ keys.Null ∷ keys.True ∷ keys.False ∷ keys.ThisWorld ∷ []
@@ -150,10 +85,3 @@ unwrapped a b e = cc
 -- keys of one spelling are one
 pub spelled_once : (a b : Key) → spelling a ≡ spelling b → a ≡ b
 spelled_once a b e = unwrapped a b (sym (reads_key a) ∙ ap key_by e ∙ reads_key b)
-
-first_same : (k : Key) (w : List ℕ) → w ≡ spelling k → keys_from (get_or (spelling k) 0 0) ≡ keys_from (get_or w 0 0)
-first_same k w e = ap (λ (t : List ℕ). keys_from (get_or t 0 0)) (sym e)
-
--- a key that the word spells stands among those that begin as the word does
-pub among_first : (k : Key) (w : List ℕ) → w ≡ spelling k → (j : ℕ) × (slice_get (keys_from (get_or w 0 0)) j ≡ Some k)
-among_first k w e = let a = among k in (a.0, ap (λ (ks : List Key). slice_get ks a.0) (sym (first_same k w e)) ∙ a.1)

@@ -93,15 +93,15 @@ implied true true e h = refl
 implied true false e h = cc
 implied false c e h = cc
 
-pub blank_apart : (c : ℕ) → is_blank c ≡ true → (is_line_end c ≡ false) × ((starts_name c ≡ false) × (is_decimal c ≡ false))
+blank_apart : (c : ℕ) → is_blank c ≡ true → (is_line_end c ≡ false) × ((starts_name c ≡ false) × (is_decimal c ≡ false))
 unfolding blank_test letter starts_name
 blank_apart c h = alone_3 _ _ _ _ h (tests c (blank_small c h)).0
 
-pub line_apart : (c : ℕ) → is_line_end c ≡ true → (starts_name c ≡ false) × (is_decimal c ≡ false)
+line_apart : (c : ℕ) → is_line_end c ≡ true → (starts_name c ≡ false) × (is_decimal c ≡ false)
 unfolding line_test letter starts_name
 line_apart c h = alone_2 _ _ _ h (tests c (line_small c h)).1.0
 
-pub digit_apart : (c : ℕ) → is_decimal c ≡ true → starts_name c ≡ false
+digit_apart : (c : ℕ) → is_decimal c ≡ true → starts_name c ≡ false
 unfolding digit_test letter starts_name
 digit_apart c h = alone_1 _ _ h (tests c (digit_small c h)).1.1.0
 

@@ -11,7 +11,7 @@ both_ways n m p q (inl a) (inl b) = absurd (omega arith)
 both_ways n m p q (inl a) (inr b) = let e = b.0 in absurd (omega (arith, e))
 both_ways n m p q (inr a) b = a
 
-pub one_piece : (cs : List ℕ) (i n m : ℕ) (p q : Piece) → PieceAt cs i n p → PieceAt cs i m q → (m ≡ n) × (q ≡ p)
+one_piece : (cs : List ℕ) (i n m : ℕ) (p q : Piece) → PieceAt cs i n p → PieceAt cs i m q → (m ≡ n) × (q ≡ p)
 one_piece cs i n m p q h k = both_ways n m p q (h.longest m q k.stands) (k.longest n p h.stands)
 
 none_at : (cs : List ℕ) (i n stop : ℕ) (p : Piece) → i ≡ stop → NoPieceAt cs stop → PieceAt cs i n p → ⊥

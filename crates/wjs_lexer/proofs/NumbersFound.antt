@@ -18,7 +18,7 @@ use Rattle.wjs_lexer.specs.Places.{AllPass, passes}
 use Rattle.wjs_lexer.specs.Numbers.{radix, digits_from, is_x, Opens, IsNumeral, IsZero, is_bound_to_number, IsNumber}
 use Rattle.wjs_lexer.specs.Pieces.{Piece, number, StandsAt, PieceAt, NoPieceAt}
 use Rattle.wjs_lexer.specs.Cursors.{digit_here, DigitsEnd, TooBig}
-use Rattle.wjs_lexer.proofs.Ranges.{range_none, range_more, pass_more, clash, same_char}
+use Rattle.wjs_lexer.proofs.Ranges.{range_more, pass_more, clash, same_char}
 use Rattle.wjs_lexer.proofs.KindLemmas.{fits, fits_kind, digit_kind, hex_bound, other_digit}
 
 -- a digit that stands at a place
@@ -29,17 +29,6 @@ chosen false x d h = cc
 pub digit_char : (r : ℕ) (o : Option ℕ) (d : ℕ) → Some d ≡ digit_here r o → (c : ℕ) × ((o ≡ Some c) × ((is_digit c r ≡ true) × (d ≡ digit_value c)))
 digit_char r None d h = cc
 digit_char r (Some c) d h = (c, (refl, chosen (is_digit c r) (digit_value c) d h))
-
-left : (b : Bool) (x : ℕ) → None ≡ (if b then Some x else None) → b ≡ false
-left true x h = cc
-left false x h = refl
-
-pub no_digit : (r : ℕ) (o : Option ℕ) → None ≡ digit_here r o → passes (λ c. is_digit c r) o ≡ false
-no_digit r None h = refl
-no_digit r (Some c) h = left (is_digit c r) (digit_value c) h
-
-pub value_none : (r : ℕ) (cs : List ℕ) (i : ℕ) → 0 ≡ digits_value r (slice_range cs i i)
-value_none r cs i = rw (range_none cs i) refl
 
 pub value_more : (r : ℕ) (cs : List ℕ) (i n c v w : ℕ) → i ≤ n → slice_get cs n ≡ Some c → v ≡ digits_value r (slice_range cs i n) → w ≡ v * r + digit_value c → w ≡ digits_value r (slice_range cs i (n + 1))
 value_more r cs i n c v w le h e f = f ∙ ap (λ (x : ℕ). x * r + digit_value c) e ∙ sym (digits_value_push r (slice_range cs i n) c) ∙ ap (λ (ds : List ℕ). digits_value r ds) (sym (range_more cs i n c le h))
@@ -57,7 +46,7 @@ number_piece : (q : Piece) (cs : List ℕ) (i m : ℕ) → fits q kinds.Digit �
 number_piece (number w) cs i m f h = (w, (refl, h))
 number_piece q cs i m f h = cc
 
-pub digit_piece : (q : Piece) (cs : List ℕ) (i m c : ℕ) → slice_get cs i ≡ Some c → is_decimal c ≡ true → StandsAt cs i m q → (w : ℕ) × ((q ≡ number w) × IsNumber cs i m w)
+digit_piece : (q : Piece) (cs : List ℕ) (i m c : ℕ) → slice_get cs i ≡ Some c → is_decimal c ≡ true → StandsAt cs i m q → (w : ℕ) × ((q ≡ number w) × IsNumber cs i m w)
 digit_piece q cs i m c e d h = number_piece q cs i m (fits_kind q cs i m c kinds.Digit e (digit_kind c d) h) h
 
 ten_decimal : (c : ℕ) → is_digit c 10 ≡ true → is_decimal c ≡ true
@@ -237,9 +226,3 @@ zero_bound cs i n e x at nx = record {
       let k = zero_only cs i m p.0 e x p.1.1.numeral in
       clash is_bound_to_number (slice_get cs n) nx (subst (λ (j : ℕ). passes is_bound_to_number (slice_get cs j) ≡ false) (k.1.0 ∙ sym at) p.1.1.next);
 }
-
-nonzero : (c : ℕ) → is_decimal c ≡ true → (c ≡ 48 → ⊥) → is_in_range 49 57 c ≡ true
-nonzero c d z = grind (arith, nat_tests)
-
-pub opens_decimal : (cs : List ℕ) (i c : ℕ) → slice_get cs i ≡ Some c → is_decimal c ≡ true → (c ≡ 48 → ⊥) → Opens bases.Decimal cs i
-opens_decimal cs i c e d z = rw e (nonzero c d z)

@@ -38,7 +38,7 @@ pub record Onward (cs : List ℕ) (from i : ℕ) (after : Bool) (texts : Table) 
 pub begins : (cs : List ℕ) (from : ℕ) (texts : Table) → Onward cs from from false texts []
 begins cs from texts = record { out = []; same = tt; all = λ stop rest r. r }
 
-pub kept : (old new : Table) (id : TextId) (us : List ℕ) → Grows old new → Denotes old id us → Denotes new id us
+kept : (old new : Table) (id : TextId) (us : List ℕ) → Grows old new → Denotes old id us → Denotes new id us
 kept old new id us g h =
     let w = slice_get_within old id.0 us h in
     let a = get_or_from_slice_get old id.0 us us h in
@@ -147,10 +147,10 @@ start_of (Some c) h = rw (not_mark c (λ e. h (ap (λ (x : ℕ). Some x) e))) re
 pub starts_none : (cs : List ℕ) → (slice_get cs 0 ≡ Some 0xFEFF → ⊥) → 0 ≡ start cs
 starts_none cs h = start_of (slice_get cs 0) h
 
-pub piece_of_text : (cs ds : List ℕ) (i n : ℕ) (p : Piece) → ds ≡ cs → PieceAt ds i n p → PieceAt cs i n p
+piece_of_text : (cs ds : List ℕ) (i n : ℕ) (p : Piece) → ds ≡ cs → PieceAt ds i n p → PieceAt cs i n p
 piece_of_text cs ds i n p e h = subst (λ (xs : List ℕ). PieceAt xs i n p) e h
 
-pub none_of_text : (cs ds : List ℕ) (i : ℕ) → ds ≡ cs → NoPieceAt ds i → NoPieceAt cs i
+none_of_text : (cs ds : List ℕ) (i : ℕ) → ds ≡ cs → NoPieceAt ds i → NoPieceAt cs i
 none_of_text cs ds i e h = subst (λ (xs : List ℕ). NoPieceAt xs i) e h
 
 tok_is : (cs : List ℕ) (i b l : ℕ) (after : Bool) (t : Token) → b ≡ byte_at cs i → l ≡ line_at cs i

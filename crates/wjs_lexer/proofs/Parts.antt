@@ -46,7 +46,7 @@ pub utf16_le : (c : ℕ) → length (encode_utf16 c) ≤ len_utf8 c
 utf16_le c = decided c (le_of (nat_lt c 0x80) (nat_lt c 0x800) (nat_lt c 0x1_0000) _ _ _)
 
 -- a character takes a byte at least
-pub one_byte : (cs : List ℕ) (i c : ℕ) → slice_get cs i ≡ Some c → byte_at cs (i + 1) ≡ byte_at cs i + len_utf8 c
+one_byte : (cs : List ℕ) (i c : ℕ) → slice_get cs i ≡ Some c → byte_at cs (i + 1) ≡ byte_at cs i + len_utf8 c
 one_byte cs i c e = byte_more cs i ∙ ap (λ (o : Option ℕ). byte_at cs i + bytes_of o) e
 
 pub byte_up : (cs : List ℕ) (i k : ℕ) → i + k ≤ length cs → byte_at cs i + k ≤ byte_at cs (i + k)

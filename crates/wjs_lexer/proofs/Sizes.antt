@@ -22,7 +22,7 @@ one_char : (c : ℕ) → length (encodes (c ∷ [])) ≡ len_utf8 c
 one_char c = length-append (encode c) [] ∙ add_nothing _ _ (length-encode c)
 
 -- the bytes before a place are those of the characters before it
-pub bytes_before : (cs : List ℕ) (i : ℕ) → i ≤ length cs → byte_at cs i ≡ length (encodes (take i cs))
+bytes_before : (cs : List ℕ) (i : ℕ) → i ≤ length cs → byte_at cs i ≡ length (encodes (take i cs))
 unfolding byte_at
 bytes_before cs zero h = refl
 bytes_before cs (suc i) h =

@@ -3,10 +3,9 @@ use Rattle.std.proofs.Common.{◌≡◌, ℕ, ◌+◌, ◌<◌, ◌≤◌, ◌�
 use Rattle.std.specs.Prelude.{slice_get, slice_range}
 use Rattle.std.specs.List.{list_any}
 use Rattle.std.proofs.lemmas.Bool.{cases_order}
-use Rattle.std.proofs.lemmas.Bool.Decides.{nat_tests}
 use Rattle.std.proofs.lemmas.List.Folds.{list_any-append}
 use Rattle.std.proofs.Math.Bool.{or-false}
-use Rattle.wjs_base.proofs.Numbers.{test_from_equal}
+use Rattle.wjs_base.proofs.Numbers.{test_from_equal, equals_itself}
 use Rattle.wjs_tree.specs.declared.signs.Sign.{Sign}
 use Rattle.wjs_tree.specs.declared.signs.Sign.TheVariants as signs
 use Rattle.wjs_tree.specs.Signs.{spelling}
@@ -23,12 +22,9 @@ use Rattle.wjs_lexer.proofs.Ranges.{clash, same_char, range_none, range_more}
 use Rattle.wjs_lexer.proofs.KindLemmas.{fits, fits_kind, slash_kind, sign_first}
 use Rattle.wjs_lexer.proofs.SignsAhead.{Longest, read, bind, reads_spelling, grown, positive}
 
-same : (b : ℕ) → (b == b) ≡ true
-same b = grind (arith, nat_tests)
-
 -- the characters of two places that differ
-pub differ : (a b : ℕ) → (a == b) ≡ false → a ≡ b → ⊥
-differ a b t e = let f : (a == b) ≡ true = rw e (same b) in cc
+differ : (a b : ℕ) → (a == b) ≡ false → a ≡ b → ⊥
+differ a b t e = let f : (a == b) ≡ true = rw e (equals_itself b) in cc
 
 pub record AsLine (cs : List ℕ) (i m : ℕ) (q : Piece) : Type 0 where
   pub is : q ≡ line_comment
@@ -160,7 +156,7 @@ sign_or : (cs : List ℕ) (i m c : ℕ) (first : Sign) (q : Piece) → BeginsSig
 sign_or cs i m c first q b h (inl k) = mark_piece q cs i m (fits_kind q cs i m c kinds.Mark b.here k h) h
 sign_or cs i m c first q b h (inr k) = alone cs i m q k.1.0 k.1.1 (slash_piece q cs i m (fits_kind q cs i m c kinds.Slash b.here k.0 h) h)
 
-pub shorter_or : (n m : ℕ) (s r : Sign) (q : Piece) → q ≡ sign r → (m < n) ⊎ ((m ≡ n) × (r ≡ s)) → (m < n) ⊎ ((m ≡ n) × (q ≡ sign s))
+shorter_or : (n m : ℕ) (s r : Sign) (q : Piece) → q ≡ sign r → (m < n) ⊎ ((m ≡ n) × (r ≡ s)) → (m < n) ⊎ ((m ≡ n) × (q ≡ sign s))
 shorter_or n m s r q e (inl k) = inl k
 shorter_or n m s r q e (inr k) = inr (k.0, e ∙ ap (λ (x : Sign). sign x) k.1)
 

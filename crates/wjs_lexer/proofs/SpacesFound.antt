@@ -54,7 +54,7 @@ no_number : (cs : List ℕ) (i n v : ℕ) → IsZero cs i n v ⊎ ((base : Base)
 no_number cs i n v (inl z) e = some_none (slice_get cs i) 48 e z.0
 no_number cs i n v (inr (base, h)) e = no_numeral base cs i n v h e
 
-pub stands_within : (q : Piece) (cs : List ℕ) (i n : ℕ) → StandsAt cs i n q → slice_get cs i ≡ None → ⊥
+stands_within : (q : Piece) (cs : List ℕ) (i n : ℕ) → StandsAt cs i n q → slice_get cs i ≡ None → ⊥
 stands_within space cs i n h e = none_passes is_blank (slice_get cs i) e h.0
 stands_within line_end cs i n h e = none_passes is_line_end (slice_get cs i) e h.0
 stands_within line_comment cs i n h e = some_none (slice_get cs i) 47 e h.first

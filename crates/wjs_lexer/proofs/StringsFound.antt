@@ -3,6 +3,7 @@ use Rattle.std.proofs.Common.{◌≡◌, ℕ, ◌+◌, inr, Bool, true, false, �
 use Rattle.std.specs.Prelude.{slice_get, if◌then◌else◌}
 use Rattle.std.proofs.lemmas.List.{append-nil}
 use Rattle.std.proofs.lemmas.Bool.Decides.{nat_tests}
+use Rattle.wjs_base.proofs.Numbers.{equals_itself}
 use Rattle.wjs_lexer.specs.declared.strings.Part.{Part}
 use Rattle.wjs_lexer.specs.declared.characters.Kind.TheVariants as kinds
 use Rattle.wjs_lexer.specs.Characters.{is_line_end}
@@ -24,9 +25,6 @@ quote_part quote o e p true c d x y h = cc
 quote_part quote o e p false true d x y h = cc
 quote_part quote o e p false false d x y h = cc
 
-itself : (c : ℕ) → (c == c) ≡ true
-itself c = grind (arith, nat_tests)
-
 quote_no_backslash : (c : ℕ) → is_quote c ≡ true → (c == 92) ≡ false
 quote_no_backslash c h = grind (arith, nat_tests)
 
@@ -35,16 +33,13 @@ no_part_at_quote : (cs : List ℕ) (quote i : ℕ) (p : Part) → is_quote quote
 unfolding part_at
 no_part_at_quote cs quote i p q e h =
     let k = subst (λ (o : Option ℕ). part_of cs quote i o ≡ Some p) e h in
-    quote_part quote _ _ p (quote == 92) (quote == quote) (is_line_end quote) (quote_no_backslash quote q) (itself quote) k
+    quote_part quote _ _ p (quote == 92) (quote == quote) (is_line_end quote) (quote_no_backslash quote q) (equals_itself quote) k
 
 step_on : (cs : List ℕ) (quote i n : ℕ) (p : Part) (us : List ℕ) → is_quote quote ≡ true → part_at cs quote i ≡ Some p → Body cs quote n i us → (vs : List ℕ) × (Body cs quote n (i + p.size) vs × (us ≡ units_of p.stands ++ vs))
 step_on cs quote i n p us q h (close e f) = absurd (no_part_at_quote cs quote i p q f h)
 step_on cs quote i n p us q h (more {us = vs} r k b e) =
     let o = same_part p r (part_at cs quote i) h k in
     (vs, (subst (λ (x : Part). Body cs quote n (i + x.size) vs) o b, e ∙ ap (λ (x : Part). units_of x.stands ++ vs) o))
-
-pub open_begin : (cs : List ℕ) (quote start : ℕ) → Open cs quote start [] start
-open_begin cs quote start = record { whole = λ n us b. b; only = λ n us b. (us, (b, refl)) }
 
 -- a part was read
 pub open_more : (cs : List ℕ) (quote start i j : ℕ) (p : Part) (out new : List ℕ) → is_quote quote ≡ true → part_at cs quote i ≡ Some p → j ≡ i + p.size → new ≡ out ++ units_of p.stands → Open cs quote start out i → Open cs quote start new j

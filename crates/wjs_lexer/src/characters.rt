@@ -20,7 +20,8 @@ pub(crate) enum Kind {
     Mark,
 }
 
-pub(crate) fn is_line_end(ch: char) -> bool
+/// Whether a character ends a line (ECMA-262, 3rd edition, section 7.3).
+pub fn is_line_end(ch: char) -> bool
     ensures { result ≡ is_line_end ch }
 {
     matches!(ch, '\n' | '\r' | '\u{2028}' | '\u{2029}')

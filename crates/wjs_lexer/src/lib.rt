@@ -12,5 +12,6 @@ mod signs;
 mod strings;
 mod words;
 
+pub use characters::is_line_end;
 pub use laws::one_reading;
 pub use lexing::{LexFault, lex};

@@ -4,7 +4,7 @@ use Rattle.std.specs.Prelude.{map as each, All, slice_get}
 use Rattle.std.proofs.lemmas.List.Elements.{All-head, All-tail}
 use Rattle.wjs_base.specs.declared.ids.ObjId.{ObjId}
 use Rattle.wjs_base.specs.Text.{Table}
-use Rattle.wjs_tree.specs.declared.node.NodeId.{NodeId}
+use Rattle.wjs_base.specs.declared.ids.NodeId.{NodeId}
 use Rattle.wjs_tree.specs.declared.node.Property.{Property}
 use Rattle.wjs_tree.specs.declared.node.Node.{Node}
 use Rattle.wjs_tree.specs.declared.node.Node.TheVariants as nodes
@@ -13,7 +13,7 @@ use Rattle.wjs_by_content.specs.Names.{slot, index_name}
 use Rattle.wjs_meaning.specs.Reading.{node_in, number, key_in}
 use Rattle.wjs_meaning.specs.Deeds.{Env, Ret, Normal, Eval, Do, Write, AtExpr, give, then_value}
 use Rattle.wjs_meaning.specs.Expressions.{array_from, key_name, object_from}
-use Rattle.wjs_model.specs.declared.unit.Unit.{Unit as Program}
+use Rattle.wjs_model.specs.declared.loaded.LoadedProgram.{LoadedProgram as Program}
 use Rattle.wjs_model.specs.Contents.{Holding}
 use Rattle.wjs_model.specs.Lists.{items_of, pairs_of}
 use Rattle.wjs_model.specs.Texts.{KnowsKey, KnowsNode, KnowsUnit}

@@ -7,7 +7,7 @@ use Rattle.wjs_store.specs.Meaning.{Meaning}
 use Rattle.wjs_meaning.specs.Deeds.{Env, Act}
 use Rattle.wjs_model.specs.declared.config.Config.{Config}
 use Rattle.wjs_model.specs.declared.frame.Activation.{Activation as Frame}
-use Rattle.wjs_model.specs.declared.unit.Unit.{Unit as Program}
+use Rattle.wjs_model.specs.declared.loaded.LoadedProgram.{LoadedProgram as Program}
 use Rattle.wjs_frames.specs.Doing.{Does}
 use Rattle.wjs_frames.specs.Following.{Follows, Later}
 use Rattle.wjs_frames.specs.Parts.{env_in}
@@ -17,7 +17,7 @@ units_later : {S : Type 0} (meaning : S → Meaning) (old mid : Config S) → La
 units_later meaning old mid l = λ i. (l.units i).items
 
 -- where the units and the place of the frame are those of before
-pub line_later : {S : Type 0} (meaning : S → Meaning) (t : Table) (f : Frame) (line : List Program → Env → Act) (old mid new : Config S) (r : Result (Unit {0}) OutOfMemory) → Later meaning old mid
+line_later : {S : Type 0} (meaning : S → Meaning) (t : Table) (f : Frame) (line : List Program → Env → Act) (old mid new : Config S) (r : Result (Unit {0}) OutOfMemory) → Later meaning old mid
     → OnOk r (Follows meaning (line mid.units.items (env_in meaning mid t f)) mid new) → OnOk r (Follows meaning (line old.units.items (env_in meaning old t f)) mid new)
 line_later meaning t f line old mid new r l h =
     subst (λ e. OnOk r (Follows meaning (line old.units.items e) mid new)) (env_later meaning old mid t f l)

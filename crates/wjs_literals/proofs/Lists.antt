@@ -2,7 +2,7 @@
 use Rattle.std.proofs.Common.{◌≡◌, ℕ, suc, [], ◌∷◌, None, Some, refl, sym, ap, ◌∙◌, drop}
 use Rattle.std.specs.Prelude.{map as each, slice_get}
 use Rattle.wjs_base.specs.Text.{Table}
-use Rattle.wjs_tree.specs.declared.node.NodeId.{NodeId}
+use Rattle.wjs_base.specs.declared.ids.NodeId.{NodeId}
 use Rattle.wjs_tree.specs.declared.node.Property.{Property}
 use Rattle.wjs_tree.specs.declared.node.Node.{Node}
 use Rattle.wjs_tree.specs.declared.node.Node.TheVariants as nodes
@@ -17,11 +17,11 @@ module _ (t : Table) where
   items_same (nodes.ArrayLit items comma) = refl
   items_same _ = refl
 
-  pub pairs_same : (n : Node) → pairs_of (node_in t n) ≡ each (pair_in t) (properties_in n)
+  pairs_same : (n : Node) → pairs_of (node_in t n) ≡ each (pair_in t) (properties_in n)
   pairs_same (nodes.ObjectLit properties comma) = refl
   pairs_same _ = refl
 
-  pub arguments_same : (n : Node) → arguments_of (node_in t n) ≡ numbers (arguments_in n)
+  arguments_same : (n : Node) → arguments_of (node_in t n) ≡ numbers (arguments_in n)
   arguments_same (nodes.Call f args) = refl
   arguments_same (nodes.NewWith f args) = refl
   arguments_same _ = refl

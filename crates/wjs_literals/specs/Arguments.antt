@@ -1,6 +1,6 @@
 -- The arguments of calls and `new` (ECMA-262, 3rd edition, sections 11.2.2 to 11.2.4).
 use Rattle.std.specs.Prelude.{List, []}
-use Rattle.wjs_tree.specs.declared.node.NodeId.{NodeId}
+use Rattle.wjs_base.specs.declared.ids.NodeId.{NodeId}
 use Rattle.wjs_tree.specs.declared.node.Node.{Node}
 use Rattle.wjs_tree.specs.declared.node.Node.TheVariants as nodes
 

@@ -1,7 +1,7 @@
 -- The parts of literals of arrays and objects (ECMA-262, 3rd edition, sections 11.1.4 and 11.1.5).
 use Rattle.std.specs.Prelude.{◌≡◌, ℕ, List, [], Option, map as each, drop, slice_get, Some}
 use Rattle.wjs_base.specs.declared.ids.ObjId.{ObjId}
-use Rattle.wjs_tree.specs.declared.node.NodeId.{NodeId}
+use Rattle.wjs_base.specs.declared.ids.NodeId.{NodeId}
 use Rattle.wjs_tree.specs.declared.node.Property.{Property}
 use Rattle.wjs_tree.specs.declared.node.Node.{Node}
 use Rattle.wjs_tree.specs.declared.node.Node.TheVariants as nodes

@@ -50,7 +50,7 @@ alike t u a b p h k = record {
   line = h.line ∙ sym k.line;
 }
 
-pub are_alike : (t u : Table) (ts us : List Tok) (ps : List Placed) → AreToks t ts ps → AreToks u us ps → AreAlike ts us
+are_alike : (t u : Table) (ts us : List Tok) (ps : List Placed) → AreToks t ts ps → AreToks u us ps → AreAlike ts us
 are_alike t u [] [] ps h k = tt
 are_alike t u [] (b ∷ us) [] h k = absurd k
 are_alike t u [] (b ∷ us) (p ∷ ps) h k = absurd h

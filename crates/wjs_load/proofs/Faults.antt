@@ -5,7 +5,7 @@ use Rattle.wjs_base.specs.Text.{Table, IsTable}
 use Rattle.wjs_tree.specs.declared.tokens.Tok.{Tok}
 use Rattle.wjs_tree.specs.Trees.{NoElement}
 use Rattle.wjs_lexer.specs.Lexing.{HasTokens}
-use Rattle.wjs_model.specs.declared.unit.Unit.{Unit as Program}
+use Rattle.wjs_model.specs.declared.loaded.LoadedProgram.{LoadedProgram as Program}
 use Rattle.wjs_forms.specs.Spells.{Spells}
 use Rattle.wjs_offend.specs.declared.answer.Offence.{Offence}
 use Rattle.wjs_offend.specs.declared.answer.Offence.TheVariants as offences

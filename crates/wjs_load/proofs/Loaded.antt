@@ -3,7 +3,7 @@ use Rattle.std.specs.Prelude.{ℕ, List, Result, Ok, Err, IfOk}
 use Rattle.wjs_base.specs.Text.{Table, IsTable}
 use Rattle.wjs_tree.specs.declared.tokens.Tok.{Tok}
 use Rattle.wjs_lexer.specs.Lexing.{HasTokens}
-use Rattle.wjs_model.specs.declared.unit.Unit.{Unit as Program}
+use Rattle.wjs_model.specs.declared.loaded.LoadedProgram.{LoadedProgram as Program}
 use Rattle.wjs_model.specs.Texts.{KnowsUnit, PlacesUnit}
 use Rattle.wjs_model.specs.Units.{unit_in}
 use Rattle.wjs_programs.specs.Programs.{IsProgram}

@@ -9,7 +9,7 @@ use Rattle.wjs_tree.specs.Trees.{Elements}
 use Rattle.wjs_parse.specs.Answers.{FindsProgram}
 use Rattle.wjs_parse.specs.Readings.{ProgramReading}
 use Rattle.wjs_order.specs.Order.{IsNumbered}
-use Rattle.wjs_model.specs.declared.unit.Unit.{Unit as Program}
+use Rattle.wjs_model.specs.declared.loaded.LoadedProgram.{LoadedProgram as Program}
 use Rattle.wjs_model.specs.Texts.{PlacesUnit}
 use Rattle.wjs_offend.specs.declared.answer.Offence.TheVariants as offences
 use Rattle.wjs_offend.specs.Offences.{IsOffence}

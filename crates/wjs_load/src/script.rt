@@ -11,7 +11,7 @@ use crate::stopping::fault_of;
 use crate::tokens::LoadFault;
 use std::alloc::Global;
 use wjs_base::{OutOfMemory, Texts};
-use wjs_model::Unit;
+use wjs_model::LoadedProgram;
 use wjs_order::ordered;
 use wjs_parse::program;
 use wjs_parse_expr::ParseFault;
@@ -21,7 +21,7 @@ use wjs_tree::{Program, Tok};
 /// The loaded program that the tokens spell, whose names are those of the table of texts. They are refused exactly where no
 /// well-formed program spells them (ECMA-262, 3rd edition, section 14): as unexpected on a line where they can't go on, and as no
 /// script where no token is at fault.
-pub(crate) fn read(alloc: Global, texts: &Texts, toks: Vec<Tok>) -> Result<Unit, LoadFault>
+pub(crate) fn read(alloc: Global, texts: &Texts, toks: Vec<Tok>) -> Result<LoadedProgram, LoadFault>
     ensures { ReadAnswers texts.now toks.items result }
 {
     let program = parsed(alloc, toks)?;
@@ -45,7 +45,7 @@ fn parsed(alloc: Global, toks: Vec<Tok>) -> Result<Program, LoadFault>
 }
 
 /// The program with its nodes in the order of its tree, the places of its names, and what its bodies declare.
-fn unit_of(alloc: Global, texts: &Texts, program: Program) -> Result<Unit, OutOfMemory>
+fn unit_of(alloc: Global, texts: &Texts, program: Program) -> Result<LoadedProgram, OutOfMemory>
     requires { IsScript program.nodes program.body }
     ensures numbered { IfOk result (λ unit. (tree : Elements) → IsBody program.nodes tree program.body → IsNumbered unit.program.nodes tree unit.program.body) }
     ensures placed { IfOk result (PlacesUnit texts.now) }
@@ -53,7 +53,7 @@ fn unit_of(alloc: Global, texts: &Texts, program: Program) -> Result<Unit, OutOf
     let program = ordered(alloc, program)?;
     let places = places(alloc, texts, &program)?;
     let bodies = declared_bodies(alloc, &program)?;
-    Ok(Unit {
+    Ok(LoadedProgram {
         program,
         places,
         bodies,

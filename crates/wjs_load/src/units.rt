@@ -11,12 +11,12 @@ use crate::script::read;
 use crate::tokens::{LoadFault, tokens};
 use std::alloc::Global;
 use wjs_base::{OutOfMemory, Texts};
-use wjs_model::{LIBRARY, Unit};
+use wjs_model::{LIBRARY, LoadedProgram};
 
 /// The loaded program that at most 16,777,216 bytes spell; its texts are put into the table, in which what was there keeps its
 /// number, also after a fault. Each refusal comes exactly where it holds of the bytes (ECMA-262, 3rd edition, sections 6, 7
 /// and 14).
-pub fn load(alloc: Global, bytes: &[u8], texts: &mut Texts) -> Result<Unit, LoadFault>
+pub fn load(alloc: Global, bytes: &[u8], texts: &mut Texts) -> Result<LoadedProgram, LoadFault>
     requires { length bytes.now ≤ 2 ^ 24 }
     ensures ok { IfOk result (λ unit. IsProgram bytes.now (unit_in texts.new unit)) }
     ensures known { IfOk result (KnowsUnit texts.new) }
@@ -30,7 +30,7 @@ pub fn load(alloc: Global, bytes: &[u8], texts: &mut Texts) -> Result<Unit, Load
 }
 
 /// The loaded program of the library's text, which runs before a script. None exactly where the text is no script.
-pub fn library(alloc: Global, texts: &mut Texts) -> Result<Option<Unit>, OutOfMemory>
+pub fn library(alloc: Global, texts: &mut Texts) -> Result<Option<LoadedProgram>, OutOfMemory>
     ensures ok { IfOk result (λ library. IsProgramOrNot LIBRARY.now (option_map (unit_in texts.new) library)) }
     ensures known { IfOk result (λ library. IfSome library (KnowsUnit texts.new)) }
     ensures places { IfOk result (λ library. IfSome library (PlacesUnit texts.new)) }

@@ -7,8 +7,8 @@ use Rattle.wjs_base.specs.declared.ids.TextId.{TextId}
 use Rattle.wjs_base.specs.declared.values.Slot.{Slot as NumberedSlot}
 use Rattle.wjs_base.specs.declared.values.Value.{Value as NumberedValue}
 use Rattle.wjs_base.specs.Text.{Table}
+use Rattle.wjs_base.specs.declared.ids.NodeId.{NodeId}
 use Rattle.wjs_store.specs.Meaning.{Meaning}
-use Rattle.wjs_tree.specs.declared.node.NodeId.{NodeId}
 use Rattle.wjs_tree.specs.declared.node.Node.{Node as NumberedNode}
 use Rattle.wjs_tree.specs.declared.node.Node.TheVariants as nodes
 use Rattle.wjs_by_content.specs.Values.{Text}
@@ -49,11 +49,11 @@ taken_by_none t _ go q = refl
 
 module _ (t : Table) (here : ℕ) (held : Holding) (env : Env) (node : NumberedNode) (taker : Taker) (s : NodeId) (is : taker_of node ≡ Some taker) where
   -- for the body of a visit
-  pub body_waits : after (points.Stmt (stmts.VisitBody s)) here (node_in t node) held env ≡ after_body here env (visits_from here (taker_in t taker) s.0 held.visits env)
+  body_waits : after (points.Stmt (stmts.VisitBody s)) here (node_in t node) held env ≡ after_body here env (visits_from here (taker_in t taker) s.0 held.visits env)
   body_waits = λ i c. taken_by t node taker (λ k. after_body here env (visits_from here k s.0 held.visits env) c) is i
 
   -- for the target of a visit
-  pub target_waits : after (points.Stmt (stmts.VisitTarget s)) here (node_in t node) held env ≡ then_reference (visit_taken here (taker_in t taker) s.0 held.visits env)
+  target_waits : after (points.Stmt (stmts.VisitTarget s)) here (node_in t node) held env ≡ then_reference (visit_taken here (taker_in t taker) s.0 held.visits env)
   target_waits = λ i. then_reference (λ r. taken_by t node taker (λ k. visit_taken here k s.0 held.visits env r) is i)
 
 module _ {S : Type 0} (meaning : S → Meaning) where
@@ -84,7 +84,7 @@ module _ {S : Type 0} (meaning : S → Meaning) where
   entered_same t c f taker s is = ap (λ (go : Completion → Act). Eval (AtStmt s.0) (env_in meaning c t f) go) (body_waits t f.node.0 (holding_in t f.held) (env_in meaning c t f) (node_now meaning c f) taker s is)
 
   -- the frame's node stays
-  pub node_later : (old new : Config S) (f : Frame) → Later meaning old new → node_now meaning new f ≡ node_now meaning old f
+  node_later : (old new : Config S) (f : Frame) → Later meaning old new → node_now meaning new f ≡ node_now meaning old f
   node_later old new f l = λ i. node_among (l.units i).items f.tree f.node
 
   -- after deeds
@@ -96,7 +96,7 @@ module _ {S : Type 0} (meaning : S → Meaning) where
 
   -- ---- the frame that holds other visits
 
-  pub env_moved : (old new : Config S) (t : Table) (f g : Frame) → Later meaning old new → g ≡ record f { held = g.held } → env_in meaning new t g ≡ env_in meaning old t f
+  env_moved : (old new : Config S) (t : Table) (f g : Frame) → Later meaning old new → g ≡ record f { held = g.held } → env_in meaning new t g ≡ env_in meaning old t f
   env_moved old new t f g l eg = ap (λ (x : Frame). env_in meaning new t x) eg ∙ env_later meaning old new t f l
 
   module _ (old mid later : Config S) (r : Result (Unit {0}) OutOfMemory) (f g : Frame) (taker : Taker) (s : NodeId) (l : Later meaning old mid) (eg : g ≡ record f { held = g.held }) where

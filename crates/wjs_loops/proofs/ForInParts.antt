@@ -1,7 +1,7 @@
 -- The parts of a `for`-`in` stand where its frame is run, whatever the frame holds.
 use Rattle.std.proofs.Common.{◌≡◌, Some, inl, refl, sym, subst}
+use Rattle.wjs_base.specs.declared.ids.NodeId.{NodeId}
 use Rattle.wjs_store.specs.Meaning.{Meaning}
-use Rattle.wjs_tree.specs.declared.node.NodeId.{NodeId}
 use Rattle.wjs_tree.specs.declared.node.Node.{Node}
 use Rattle.wjs_tree.specs.declared.node.Node.TheVariants as nodes
 use Rattle.wjs_scope.specs.Nesting.{Around, parts, IsAmong}

@@ -17,7 +17,7 @@ use Rattle.wjs_meaning.specs.References.{reference_at, store}
 use Rattle.wjs_meaning.specs.Statements.{vars_from}
 use Rattle.wjs_model.specs.declared.config.Config.{Config}
 use Rattle.wjs_model.specs.declared.frame.Activation.{Activation as Frame}
-use Rattle.wjs_model.specs.declared.unit.Unit.{Unit as Program}
+use Rattle.wjs_model.specs.declared.loaded.LoadedProgram.{LoadedProgram as Program}
 use Rattle.wjs_model.specs.Units.{place_in}
 use Rattle.wjs_model.specs.Lists.{variables_of}
 use Rattle.wjs_model.specs.Waiting.{store_variable}

@@ -41,17 +41,17 @@ found_same : (here : ℕ) (taker : Taker) (s : ℕ) (x : Slot) (xs : List Slot) 
 found_same here taker s x xs env None = refl
 found_same here taker s x xs env (Some v) = refl
 
-pub visit_read : (here : ℕ) (taker : Taker) (s : ℕ) (x : Slot) (xs : List Slot) (env : Env) → Do (Read env.world x) (λ found. visit_or here taker s x xs env (is_some found)) ≡ visits_from here taker s (x ∷ xs) env
+visit_read : (here : ℕ) (taker : Taker) (s : ℕ) (x : Slot) (xs : List Slot) (env : Env) → Do (Read env.world x) (λ found. visit_or here taker s x xs env (is_some found)) ≡ visits_from here taker s (x ∷ xs) env
 visit_read here taker s x xs env = ap (λ (go : Option Value → Act). Do (Read env.world x) go) (λ i found. found_same here taker s x xs env found i)
 
 -- the visits that are held
-pub visits_seen : (t : Table) (vs : List Visit) → each (slot_in t) (visits_held (visits_as_items vs ++ [])) ≡ visits_in t vs
+visits_seen : (t : Table) (vs : List Visit) → each (slot_in t) (visits_held (visits_as_items vs ++ [])) ≡ visits_in t vs
 visits_seen t [] = refl
 visits_seen t (v ∷ vs) = ap (λ l. slot_in t (record { object = v.object; name = v.name }) ∷ l) (visits_seen t vs)
 
 module _ {S : Type 0} (meaning : S → Meaning) where
   -- what is followed of the visit, or of those behind it, is followed of the read
-  pub visit_follows : (answer : Bool) (x : Table → Slot) (world : WorldId) (old mid later : Config S) (r : Result (Unit {0}) OutOfMemory) (here : ℕ) (taker : Taker) (s : ℕ) (xs : List Slot) (env : Env) → Does meaning (λ t go. Do (Read world (x t)) (λ found. go (is_some found))) (λ t. answer) old mid → env.world ≡ world → OnOk r (Follows meaning (visit_or here taker s (x later.heap.texts) xs env answer) mid later) → OnOk r (Follows meaning (visits_from here taker s (x later.heap.texts ∷ xs) env) old later)
+  visit_follows : (answer : Bool) (x : Table → Slot) (world : WorldId) (old mid later : Config S) (r : Result (Unit {0}) OutOfMemory) (here : ℕ) (taker : Taker) (s : ℕ) (xs : List Slot) (env : Env) → Does meaning (λ t go. Do (Read world (x t)) (λ found. go (is_some found))) (λ t. answer) old mid → env.world ≡ world → OnOk r (Follows meaning (visit_or here taker s (x later.heap.texts) xs env answer) mid later) → OnOk r (Follows meaning (visits_from here taker s (x later.heap.texts ∷ xs) env) old later)
   visit_follows answer x world old mid later r here taker s xs env d ew h =
       let y = x later.heap.texts in
       let P : Act → Type 0 = λ act. OnOk r (Follows meaning act old later) in

@@ -11,7 +11,7 @@ use Rattle.wjs_by_content.specs.Values.{Text, same_text}
 use Rattle.wjs_by_content.specs.Tables.{text_in}
 use Rattle.wjs_meaning.specs.Reading.{node_in}
 use Rattle.wjs_meaning.specs.Trees.{Node, first_labels, labels, has_text}
-use Rattle.wjs_model.specs.declared.unit.Unit.{Unit as Program}
+use Rattle.wjs_model.specs.declared.loaded.LoadedProgram.{LoadedProgram as Program}
 use Rattle.wjs_model.specs.Texts.{KnowsNode, KnowsUnit}
 use Rattle.wjs_model.specs.Units.{node_of, unit_in}
 use Rattle.wjs_loops.specs.Labels.{label_of}

@@ -13,7 +13,7 @@ ghost use Rattle.wjs_frames.specs.Parts.{env_in};
 ghost use Rattle.wjs_loops.specs.Labels.{label_of};
 
 use wjs_base::{TextId, Texts, Value, same_value};
-use wjs_model::{Config, Frame, Unit};
+use wjs_model::{Config, Frame, LoadedProgram};
 use wjs_store::WorldStore;
 use wjs_tree::{Node, NodeId};
 
@@ -41,7 +41,7 @@ pub(crate) fn has_label<S: WorldStore>(config: &Config<S>, frame: &Frame, label:
 }
 
 /// Whether a label is one of a statement's: those of the Labels that stand right behind it.
-fn is_label(texts: &Texts, unit: &Unit, node: NodeId, label: TextId) -> bool
+fn is_label(texts: &Texts, unit: &LoadedProgram, node: NodeId, label: TextId) -> bool
     requires table { IsTable texts.now }
     requires label { Has texts.now label }
     requires unit { KnowsUnit texts.now unit.now }
@@ -59,7 +59,7 @@ fn is_label(texts: &Texts, unit: &Unit, node: NodeId, label: TextId) -> bool
 }
 
 /// The label of a node, where it is a Label.
-fn label_at(unit: &Unit, at: u64) -> Option<TextId>
+fn label_at(unit: &LoadedProgram, at: u64) -> Option<TextId>
     ensures { result ≡ label_of (node_of unit.now (record { 0 = at })) }
 {
     match unit.node(NodeId(at)) {

@@ -79,7 +79,7 @@ module _ {S : Type 0} (meaning : S → Meaning) (works : (s : S) → IsTrue (not
   reached old new sound turns = turn_reaches meaning old new sound (own_admitted new turns.sound) turns.turned
 
   -- and so leaves what was left to do
-  pub turn_run : (old new : Config S) → Sound meaning old → Turns meaning old new → run_of meaning old ≡ run_of meaning new
+  turn_run : (old new : Config S) → Sound meaning old → Turns meaning old new → run_of meaning old ≡ run_of meaning new
   turn_run old new sound turns =
       let r = (reached old new sound turns).0 in
       sym (later_run meaning old new.heap.texts (meaning new.heap.store).own old.left sound r.stays.texts r.stays.own) ∙ r.kept

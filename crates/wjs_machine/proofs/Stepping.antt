@@ -54,7 +54,7 @@ module _ {S : Type 0} (meaning : S → Meaning) where
     pub left : Left first c
 
   -- at first nothing has gone out
-  pub reach_none : (one : Option (List ℕ)) (faults : ℕ) (c : Config S) → Sound meaning c → Reaches meaning (stream one one faults faults) c c
+  reach_none : (one : Option (List ℕ)) (faults : ℕ) (c : Config S) → Sound meaning c → Reaches meaning (stream one one faults faults) c c
   reach_none one faults c sound = record { gone = []; got = Appends-nil one; run = refl; stays = stays_out meaning c c refl; sound = sound }
 
   pub under_none : (one : Option (List ℕ)) (faults : ℕ) (c : Config S) → Sound meaning c → Under (stream one one faults faults) c c

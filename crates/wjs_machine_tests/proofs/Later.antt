@@ -1,11 +1,12 @@
 -- What a turn leaves under later texts.
-use Rattle.std.proofs.Common.{◌≡◌, Option, None, Some, Result, Ok, Err, OnOk, sym, ap, ◌∙◌, subst, IsTrue}
+use Rattle.std.proofs.Common.{◌≡◌, Some, Result, Ok, Err, OnOk, sym, ap, ◌∙◌, subst, IsTrue}
 use Rattle.std.specs.FinMap as map
 use Rattle.wjs_base.specs.declared.ids.ObjId.{ObjId}
 use Rattle.wjs_base.specs.declared.ids.OutOfMemory.{OutOfMemory}
 use Rattle.wjs_base.specs.Order.{obj_cmp}
 use Rattle.wjs_base.specs.Text.{Table, Grows}
 use Rattle.wjs_base.proofs.TextLaws.{Grows-refl, Grows-trans}
+use Rattle.wjs_base.proofs.Options.{none_there}
 use Rattle.wjs_store.specs.Meaning.{Meaning, View}
 use Rattle.wjs_by_content.specs.Objects.{Entry}
 use Rattle.wjs_model.specs.declared.config.Config.{Config}
@@ -18,11 +19,8 @@ use Rattle.wjs_frames.specs.Taking.{Turns}
 use Rattle.wjs_frames.proofs.Taking.{seen_spent}
 use Rattle.wjs_machine_tests.specs.Later.{Meets, Leaves}
 
-no_entry : (r : Option Entry) (e : Entry) → r ≡ None → r ≡ Some e → ⊥
-no_entry r e n h = cc
-
 none : (o : ObjId) (e : Entry) → map.get (map.empty {X = Entry} {R = obj_cmp}) o ≡ Some e → ⊥
-none o e h = no_entry (map.get (map.empty {X = Entry} {R = obj_cmp}) o) e (map.get-empty obj_cmp o) h
+none o e h = none_there (map.get (map.empty {X = Entry} {R = obj_cmp}) o) e (map.get-empty obj_cmp o) h
 
 module _ {S : Type 0} (meaning : S → Meaning) where
   -- an admitted view with a later table stands outside

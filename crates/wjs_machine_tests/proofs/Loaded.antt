@@ -3,7 +3,7 @@ use Rattle.std.proofs.Common.{◌≡◌, ℕ, ◌<◌, List, [], ◌∷◌, ◌+
 use Rattle.std.specs.Prelude.{All}
 use Rattle.std.specs.Option.{option_map_or}
 use Rattle.std.proofs.lemmas.List.Elements.{All-nil, All-cons, All-same}
-use Rattle.wjs_model.specs.declared.unit.Unit.{Unit as Program}
+use Rattle.wjs_model.specs.declared.loaded.LoadedProgram.{LoadedProgram as Program}
 use Rattle.wjs_parts.specs.Opening.{units_of}
 
 -- one program in a list

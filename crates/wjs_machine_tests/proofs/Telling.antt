@@ -1,18 +1,17 @@
 -- What is told of a run that has ended.
-use Rattle.std.proofs.Common.{◌≡◌, ℕ, List, Option, None, Some, refl, sym, ap, ◌∙◌, arith, IfSome}
+use Rattle.std.proofs.Common.{◌≡◌, ℕ, List, Option, None, Some, refl, sym, ap, ◌∙◌, IfSome}
 use Rattle.std.specs.Prelude.{is_some}
 use Rattle.std.specs.Option.{option_map}
 use Rattle.wjs_base.specs.Text.{Table, Grows}
 use Rattle.wjs_base.proofs.TextLaws.{Grows-refl}
 use Rattle.wjs_store.specs.Meaning.{Meaning, PlainAct, PlainReply}
-use Rattle.wjs_io.specs.Faults.{Rises}
 use Rattle.wjs_io.specs.Streams.{Stream, Failed}
 use Rattle.wjs_meaning.specs.Trees.{Tree}
 use Rattle.wjs_meaning.specs.Deeds.{St}
 use Rattle.wjs_meaning.specs.Programs.{Ending, machine}
 use Rattle.wjs_meaning.specs.Start.{properties}
 use Rattle.wjs_model.specs.declared.config.Config.{Config}
-use Rattle.wjs_model.specs.declared.unit.Unit.{Unit as Program}
+use Rattle.wjs_model.specs.declared.loaded.LoadedProgram.{LoadedProgram as Program}
 use Rattle.wjs_model.specs.Configurations.{seen, after_done}
 use Rattle.wjs_model.specs.Texts.{KnowsUnit}
 use Rattle.wjs_model.specs.Units.{unit_in}
@@ -24,10 +23,6 @@ use Rattle.wjs_machine.specs.declared.halt.Ending.{Ending as Outcome}
 use Rattle.wjs_machine.specs.declared.halt.Ending.TheVariants as outcomes
 use Rattle.wjs_machine.specs.Runs.{run_of, RunsTo}
 use Rattle.wjs_machine_tests.specs.Telling.{told_by_store, HasTold, told_of_run}
-
--- a count that stands at 0 did not rise
-pub never_rises : Rises 0 0 → ⊥
-never_rises h = absurd (omega (arith, h))
 
 library_same : (texts t : Table) (library : Option Program) → Grows texts t → IfSome library (KnowsUnit texts) → option_map (unit_in t) library ≡ option_map (unit_in texts) library
 library_same texts t None g known = refl

@@ -8,7 +8,7 @@ use Rattle.wjs_store.specs.Meaning.{Meaning}
 use Rattle.wjs_model.specs.declared.config.Config.{Config}
 use Rattle.wjs_model.specs.declared.config.State.TheVariants as states
 use Rattle.wjs_model.specs.declared.frame.Activation.{Activation as Frame}
-use Rattle.wjs_model.specs.declared.unit.Unit.{Unit as Program}
+use Rattle.wjs_model.specs.declared.loaded.LoadedProgram.{LoadedProgram as Program}
 use Rattle.wjs_model.specs.Soundness.{HasWorld, IsStacked, Base, Sound}
 use Rattle.wjs_frames.proofs.Keeping.{none_taken}
 use Rattle.wjs_parts.specs.Entering.{Enters}

@@ -13,7 +13,7 @@ use std::alloc::Global;
 use wjs_base::{OutOfMemory, Texts};
 use wjs_io::Unheard;
 use wjs_machine::{Ending, run};
-use wjs_model::{Config, Unit};
+use wjs_model::{Config, LoadedProgram};
 use wjs_start::start;
 use wjs_store::WorldStore;
 
@@ -33,8 +33,8 @@ pub fn run_program<S: WorldStore + Drop>(
     alloc: Global,
     texts: Texts,
     store: S,
-    library: Option<Unit>,
-    script: Unit,
+    library: Option<LoadedProgram>,
+    script: LoadedProgram,
     budget: u64,
 ) -> Result<Config<S>, OutOfMemory>
     requires table { IsTable texts }

@@ -9,7 +9,7 @@ ghost use Rattle.wjs_start.specs.First.{IsNew};
 use std::alloc::Global;
 use wjs_base::{OutOfMemory, Texts};
 use wjs_heap_steps::sprout;
-use wjs_model::{Config, Frames, State, Unit};
+use wjs_model::{Config, Frames, LoadedProgram, State};
 use wjs_parts::{enter, start_parts, walk};
 use wjs_store::WorldStore;
 
@@ -52,8 +52,8 @@ pub fn run_part<S: WorldStore + Drop>(
     alloc: Global,
     texts: Texts,
     store: S,
-    library: Option<Unit>,
-    part: Unit,
+    library: Option<LoadedProgram>,
+    part: LoadedProgram,
     budget: u64,
 ) -> Result<Config<S>, OutOfMemory>
     requires table { IsTable texts }
@@ -75,7 +75,7 @@ pub fn run_part<S: WorldStore + Drop>(
 }
 
 /// The number of the first program behind a library.
-fn number_behind(library: &Option<Unit>) -> u32
+fn number_behind(library: &Option<LoadedProgram>) -> u32
     ensures { result ≡ option_map_or (λ _. 1) library.now 0 }
 {
     match library {

@@ -3,7 +3,7 @@ use Rattle.std.specs.Prelude.{ℕ, List, map as each, Option}
 use Rattle.std.specs.Option.{option_map}
 use Rattle.wjs_base.specs.declared.ids.TextId.{TextId}
 use Rattle.wjs_base.specs.Text.{Table}
-use Rattle.wjs_tree.specs.declared.node.NodeId.{NodeId}
+use Rattle.wjs_base.specs.declared.ids.NodeId.{NodeId}
 use Rattle.wjs_tree.specs.declared.node.Spelt.{Spelt}
 use Rattle.wjs_tree.specs.declared.node.Spelt.TheVariants as spelt
 use Rattle.wjs_tree.specs.declared.node.PropertyKey.{PropertyKey}

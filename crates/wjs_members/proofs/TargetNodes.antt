@@ -1,7 +1,7 @@
 -- Which nodes of the tree at hand are targets (ECMA-262, 3rd edition, section 8.7).
 use Rattle.std.proofs.Common.{◌≡◌, ℕ, suc, Bool, true, false, refl, sym, ap, ◌∙◌}
 use Rattle.wjs_base.specs.Text.{Table}
-use Rattle.wjs_tree.specs.declared.node.NodeId.{NodeId}
+use Rattle.wjs_base.specs.declared.ids.NodeId.{NodeId}
 use Rattle.wjs_tree.specs.declared.node.Node.{Node}
 use Rattle.wjs_tree.specs.declared.node.Node.TheVariants as nodes
 use Rattle.wjs_store.specs.Meaning.{Meaning}
@@ -31,7 +31,7 @@ form_is t _ inner = refl
 
 module _ {S : Type 0} (meaning : S → Meaning) (c : Config S) (f : Frame) where
   -- with one Paren more
-  pub target_is : (t : Table) (depth : ℕ) (id : NodeId) → is_target_to (suc depth) (tree_here (env_in meaning c t f)) id.0 ≡ by_form (target_form (node_among c.units.items f.tree id)) (λ e. is_target_to depth (tree_here (env_in meaning c t f)) e)
+  target_is : (t : Table) (depth : ℕ) (id : NodeId) → is_target_to (suc depth) (tree_here (env_in meaning c t f)) id.0 ≡ by_form (target_form (node_among c.units.items f.tree id)) (λ e. is_target_to depth (tree_here (env_in meaning c t f)) e)
   target_is t depth id = ap (λ n. is_target_form n (λ e. is_target_to depth (tree_here (env_in meaning c t f)) e)) (node_same t c.units.items f.tree id) ∙ form_is t (node_among c.units.items f.tree id) (λ e. is_target_to depth (tree_here (env_in meaning c t f)) e)
 
   pub target_by : (t : Table) (depth : ℕ) (id : NodeId) (kind : TargetForm) → kind ≡ target_form (node_among c.units.items f.tree id) → is_target_to (suc depth) (tree_here (env_in meaning c t f)) id.0 ≡ by_form kind (λ e. is_target_to depth (tree_here (env_in meaning c t f)) e)

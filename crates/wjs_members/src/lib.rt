@@ -12,5 +12,5 @@ mod targets;
 
 pub use keys::name_of_key;
 pub use members::{at_base, at_converted, at_index, at_start, dot_base, dot_start};
-pub use names::{name_target, name_value};
+pub use names::name_value;
 pub use targets::{is_target, target};

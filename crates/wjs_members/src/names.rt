@@ -44,7 +44,7 @@ pub fn name_value<S: WorldStore>(
 }
 
 /// A name as a target.
-pub fn name_target<S: WorldStore>(
+pub(crate) fn name_target<S: WorldStore>(
     config: &mut Config<S>,
     frame: Frame,
     id: TextId,

@@ -2,13 +2,13 @@
 use Rattle.std.proofs.Common.{◌≡◌, ℕ, zero, suc, ◌+◌, ◌==◌, Bool, true, false, cond, List, [], ◌∷◌, ◌++◌, Option, None, Some, refl, sym, ap, ◌∙◌, Ordering, IsTrue}
 use Rattle.std.specs.Prelude.{is_some, unwrap_or, max}
 use Rattle.std.specs.Option.{option_or, option_map, option_map_or, option_and_then}
-use Rattle.std.specs.Cmp.{unsigned_Decides}
 use Rattle.std.specs.Ordering.{eq_by_cmp}
 use Rattle.std.specs.FinMap as map
 use Rattle.wjs_base.specs.declared.ids.ObjId.{ObjId}
 use Rattle.wjs_base.specs.declared.ids.WorldId.{WorldId}
 use Rattle.wjs_base.specs.Order.{obj_cmp, obj_total, obj_exact}
 use Rattle.wjs_base.specs.Text.{Table}
+use Rattle.wjs_base.proofs.Numbers.{equal_from_test}
 use Rattle.wjs_arena.specs.declared.class.Class.TheVariants as class
 use Rattle.wjs_arena.specs.Entries as numbered
 use Rattle.wjs_arena.specs.Entries.{Entry as Placed, Objects, IsArena}
@@ -48,13 +48,13 @@ or_there : {A : Type 0} (r s : Option A) → IsTrue (is_some r) → option_or r 
 or_there None s h = absurd (cc)
 or_there (Some x) s h = refl
 
-pub found_beside : (a more : Arena) (o : ObjId) → IsTrue (has_object a o) → map.get (beside a more) o ≡ map.get a o
+found_beside : (a more : Arena) (o : ObjId) → IsTrue (has_object a o) → map.get (beside a more) o ≡ map.get a o
 found_beside a more o h = get_beside a more o ∙ or_there (map.get a o) (map.get more o) h
 
 pub object_beside : (a more : Arena) (o : ObjId) → IsTrue (has_object a o) → object_at (beside a more) o ≡ object_at a o
 object_beside a more o h = ap (λ (r : Option Entry). option_map_or (λ (e : Entry). e.object) r (object_of class.Plain None)) (found_beside a more o h)
 
-pub depth_beside : (a more : Arena) (o : ObjId) → IsTrue (has_object a o) → depth_at (beside a more) o ≡ depth_at a o
+depth_beside : (a more : Arena) (o : ObjId) → IsTrue (has_object a o) → depth_at (beside a more) o ≡ depth_at a o
 depth_beside a more o h = ap (λ (r : Option Entry). option_map_or (λ (e : Entry). e.depth) r 0) (found_beside a more o h)
 
 -- an object that is named, if one is, is there
@@ -62,7 +62,7 @@ abbrev pub IsIn : Arena → Option ObjId → Type 0
 IsIn a None = Unit {0}
 IsIn a (Some o) = IsTrue (has_object a o)
 
-pub depth_of_beside : (a more : Arena) (o : Option ObjId) → IsIn a o → depth_of (beside a more) o ≡ depth_of a o
+depth_of_beside : (a more : Arena) (o : Option ObjId) → IsIn a o → depth_of (beside a more) o ≡ depth_of a o
 depth_of_beside a more None h = refl
 depth_of_beside a more (Some o) h = depth_beside a more o h
 
@@ -71,7 +71,7 @@ pub record IsClosed (a : Arena) : Type 0 where
   pub prototypes : (o : ObjId) → IsTrue (has_object a o) → IsIn a (object_at a o).prototype
   pub scopes : (o : ObjId) → IsTrue (has_object a o) → IsIn a (object_at a o).scope
 
-pub chain_of_beside : (a more : Arena) → IsClosed a → (n : ℕ) (o : Option ObjId) → IsIn a o → chain_of n (beside a more) o ≡ chain_of n a o
+chain_of_beside : (a more : Arena) → IsClosed a → (n : ℕ) (o : Option ObjId) → IsIn a o → chain_of n (beside a more) o ≡ chain_of n a o
 chain_of_beside a more c zero o h = refl
 chain_of_beside a more c (suc n) None h = refl
 chain_of_beside a more c (suc n) (Some o) h = ap (λ (os : List ObjId). o ∷ os) (
@@ -100,7 +100,7 @@ up_there : (a : Arena) (scope : ObjId) (r : Option ObjId) → IsTrue (has_object
 up_there a scope None h k = h
 up_there a scope (Some o) h k = k
 
-pub scope_up_beside : (a more : Arena) → IsClosed a → (hops : ℕ) (scope : ObjId) → IsTrue (has_object a scope) → scope_up (beside a more) hops scope ≡ scope_up a hops scope
+scope_up_beside : (a more : Arena) → IsClosed a → (hops : ℕ) (scope : ObjId) → IsTrue (has_object a scope) → scope_up (beside a more) hops scope ≡ scope_up a hops scope
 scope_up_beside a more c zero scope h = refl
 scope_up_beside a more c (suc hops) scope h =
     ap (λ (x : Internals). scope_up (beside a more) hops (unwrap_or x.scope scope)) (object_beside a more scope h)
@@ -108,16 +108,13 @@ scope_up_beside a more c (suc hops) scope h =
 
 -- ---- a new object
 
-same_owner : (a b : ℕ) → (a == b) ≡ true → a ≡ b
-same_owner a b h = (unsigned_Decides a b).0 h
-
 module _ (a more : Arena) (owner : ℕ) (others : (o : ObjId) (e : Entry) → map.get more o ≡ Some e → ¬ (o.owner ≡ owner)) where
   none_more : (o : ObjId) (r : Option Entry) → map.get more o ≡ r → o.owner ≡ owner → r ≡ None
   none_more o None q e = refl
   none_more o (Some x) q e = absurd (others o x q e)
 
   kept_alike : (o : ObjId) (b : Bool) → (o.owner == owner) ≡ b → cond b (option_or (map.get a o) (map.get more o)) None ≡ cond b (map.get a o) None
-  kept_alike o true h = or_none (map.get a o) (map.get more o) (none_more o (map.get more o) refl (same_owner o.owner owner h))
+  kept_alike o true h = or_none (map.get a o) (map.get more o) (none_more o (map.get more o) refl (equal_from_test o.owner owner h))
   kept_alike o false h = refl
 
   pub number_beside : next_number (beside a more) owner ≡ next_number a owner
@@ -193,7 +190,7 @@ module _ (t : Table) (objects : Objects) where
       by None e = let gone : has_object (arena_in t objects) o ≡ false = ap is_some e in absurd (cc)
       by (Some x) e = refl
 
-  pub is_in : (o : Option ObjId) → ((p : ObjId) → o ≡ Some p → IsTrue (numbered.has objects p)) → IsIn (arena_in t objects) o
+  is_in : (o : Option ObjId) → ((p : ObjId) → o ≡ Some p → IsTrue (numbered.has objects p)) → IsIn (arena_in t objects) o
   is_in None f = tt
   is_in (Some p) f = there_in p (f p refl)
 

@@ -13,7 +13,7 @@ use Rattle.wjs_model.specs.Contents.{value_held, values_held, reference_held, ca
 use Rattle.wjs_model.proofs.Latest.{latest-snoc}
 
 -- the latest of the first so many
-pub back_take : (xs : List Held) (i : ℕ) (d : Held) → 0 < i → i ≤ length xs → latest_first (take i xs) ≡ slice_index_or xs (i - 1) d ∷ latest_first (take (i - 1) xs)
+back_take : (xs : List Held) (i : ℕ) (d : Held) → 0 < i → i ≤ length xs → latest_first (take i xs) ≡ slice_index_or xs (i - 1) d ∷ latest_first (take (i - 1) xs)
 back_take xs zero d h k = absurd (omega arith)
 back_take xs (suc j) d h k =
     let e : suc j - 1 ≡ j = omega arith in

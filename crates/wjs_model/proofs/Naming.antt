@@ -6,7 +6,7 @@ use Rattle.std.proofs.lemmas.Option.{slice_get-map}
 use Rattle.std.proofs.lemmas.List.Elements.{All-nil, All-head, All-tail}
 use Rattle.wjs_base.specs.declared.ids.TextId.{TextId}
 use Rattle.wjs_base.specs.Text.{Table, IsTable, Has}
-use Rattle.wjs_tree.specs.declared.node.NodeId.{NodeId}
+use Rattle.wjs_base.specs.declared.ids.NodeId.{NodeId}
 use Rattle.wjs_tree.specs.declared.node.Node.{Node}
 use Rattle.wjs_tree.specs.declared.node.Node.TheVariants as form
 use Rattle.wjs_by_content.specs.Tables.{text_in}
@@ -17,7 +17,7 @@ use Rattle.wjs_meaning.specs.Reading.{node_in, numbers}
 use Rattle.wjs_scope.specs.declared.declarations.Declarations.{Declarations}
 use Rattle.wjs_scope.specs.Declarations.{formals_of, elements_of, is_declaration, functions_among}
 use Rattle.wjs_scope.specs.Bodies.{node_at, elements_at}
-use Rattle.wjs_model.specs.declared.unit.Unit.{Unit as Program}
+use Rattle.wjs_model.specs.declared.loaded.LoadedProgram.{LoadedProgram as Program}
 use Rattle.wjs_model.specs.Bodies.{IsMeant}
 use Rattle.wjs_model.specs.Texts.{KnowsNode, KnowsUnit}
 use Rattle.wjs_model.specs.Units.{unit_in}
@@ -44,7 +44,7 @@ node_known t (n ∷ more) (suc k) h = node_known t more k (All-tail (KnowsNode t
 
 -- ---- formals, elements and functions
 
-pub formals_named : (t : Table) (n : Node) → content.formals_of (node_in t n) ≡ each (text_in t) (formals_of n)
+formals_named : (t : Table) (n : Node) → content.formals_of (node_in t n) ≡ each (text_in t) (formals_of n)
 formals_named t (form.Function name formals elements) = refl
 formals_named t (form.FunctionDecl name formals elements) = refl
 formals_named t n = refl

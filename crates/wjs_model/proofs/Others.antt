@@ -1,5 +1,5 @@
 -- What is near is no listed owner's, and the other way round.
-use Rattle.std.proofs.Common.{◌≡◌, ℕ, Bool, true, false, not, List, [], ◌∷◌, Option, None, Some, refl, sym, ap, ◌∙◌, subst, IsTrue}
+use Rattle.std.proofs.Common.{◌≡◌, ℕ, not, List, [], ◌∷◌, Option, None, Some, refl, sym, ap, ◌∙◌, subst, IsTrue}
 use Rattle.std.specs.Prelude.{All}
 use Rattle.std.specs.FinMap as map
 use Rattle.std.proofs.lemmas.List.Elements.{All-nil, All-cons, All-head, All-tail, All-weaker}
@@ -7,6 +7,7 @@ use Rattle.wjs_base.specs.declared.ids.ObjId.{ObjId}
 use Rattle.wjs_base.specs.declared.values.Name.{Name}
 use Rattle.wjs_base.specs.declared.values.Value.{Value}
 use Rattle.wjs_base.specs.declared.values.Value.TheVariants as values
+use Rattle.wjs_base.proofs.Booleans.{by_bool}
 use Rattle.wjs_store.specs.Meaning.{Meaning}
 use Rattle.wjs_by_content.specs.Renamed.{Holds}
 use Rattle.wjs_arena.specs.declared.object.Object.{Object}
@@ -33,10 +34,6 @@ use Rattle.wjs_model.specs.Apart.{is_apart, IsNear, NearValue, NearIf, NamesNear
 use Rattle.wjs_model.specs.Soundness.{HasObject, HasValue, HasReference, HasCompletion, HasItem, HasItems, HasOperand, HasStart, HasPhase, HasThrown, IsStacked, Base, Sound}
 use Rattle.wjs_model.proofs.Apart.{not_both, no_worlds}
 use Rattle.wjs_model.specs.Others.{Other, OtherIf, OtherValue, OtherReference, OtherCompletion, OtherItem, OtherItems, OtherOperand, OtherStart, OtherPhase, OtherState, OtherFrame, OtherNamed, KeptApart}
-
-by_bool : {P : Type 0} (b : Bool) → (b ≡ true → P) → (b ≡ false → P) → P
-by_bool true f g = f refl
-by_bool false f g = g refl
 
 -- ---- what a sound configuration names is none of a listed owner
 

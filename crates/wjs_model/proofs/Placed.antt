@@ -12,7 +12,7 @@ use Rattle.wjs_tree.specs.declared.node.Node.{Node}
 use Rattle.wjs_tree.specs.declared.node.Node.TheVariants as form
 use Rattle.wjs_scope.specs.Places.{KnowsPlaced, declarator_names, init_declares, placed_names}
 use Rattle.wjs_scope.proofs.Arguments.{places_stay}
-use Rattle.wjs_model.specs.declared.unit.Unit.{Unit as Program}
+use Rattle.wjs_model.specs.declared.loaded.LoadedProgram.{LoadedProgram as Program}
 use Rattle.wjs_model.specs.Texts.{KnowsInit, KnowsNode, KnowsUnit, PlacesUnit}
 
 module _ (t : Table) where

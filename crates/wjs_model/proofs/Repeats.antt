@@ -8,18 +8,12 @@ use Rattle.std.proofs.lemmas.List.Elements.{All-head, All-tail}
 use Rattle.wjs_base.specs.declared.ids.TextId.{TextId}
 use Rattle.wjs_base.specs.Text.{Table, IsTable, Has, Denotes}
 use Rattle.wjs_base.proofs.TextLaws.{Has-Denotes}
+use Rattle.wjs_base.proofs.Booleans.{same_answer}
 use Rattle.wjs_by_content.specs.Values.{Text, same_text, text_Decides}
 use Rattle.wjs_by_content.specs.Tables.{text_in}
 use Rattle.wjs_meaning.specs.Trees.{has_text}
 use Rattle.wjs_meaning.specs.Declarations.{without_repeats}
 use Rattle.wjs_scope.specs.Declarations.{with_names}
-
--- two tests that hold together
-both : (b c : Bool) → (b ≡ true → c ≡ true) → (c ≡ true → b ≡ true) → b ≡ c
-both true true f g = refl
-both false false f g = refl
-both true false f g = absurd (let h : false ≡ true = f refl in cc)
-both false true f g = absurd (let h : false ≡ true = g refl in cc)
 
 or_elim : (b c : Bool) → (elim b [ true ↦ true | false ↦ c ]) ≡ (b || c)
 or_elim true c = refl
@@ -37,7 +31,7 @@ any_snoc p (x ∷ xs) y = ap (λ b. p x || b) (any_snoc p xs y) ∙ or_last (p x
 
 module _ (t : Table) (table : IsTable t) where
   same_number : (x y : TextId) → Has t x → Has t y → same_text (text_in t y) (text_in t x) ≡ (x.0 == y.0)
-  same_number x y hx hy = both _ _ there back
+  same_number x y hx hy = same_answer _ _ there back
     where
       there : same_text (text_in t y) (text_in t x) ≡ true → (x.0 == y.0) ≡ true
       there e =

@@ -6,7 +6,7 @@ use Rattle.std.specs.FinMap as map
 use Rattle.wjs_base.specs.declared.ids.ObjId.{ObjId}
 use Rattle.wjs_base.specs.declared.ids.WorldId.{WorldId}
 use Rattle.wjs_base.specs.declared.ids.TextId.{TextId}
-use Rattle.wjs_tree.specs.declared.node.NodeId.{NodeId}
+use Rattle.wjs_base.specs.declared.ids.NodeId.{NodeId}
 use Rattle.wjs_tree.specs.declared.node.Node.{Node}
 use Rattle.wjs_tree.specs.declared.node.Node.TheVariants as nodes
 use Rattle.wjs_tree.specs.Shows.{Has}
@@ -18,7 +18,7 @@ use Rattle.wjs_scope.specs.Declarations.{is_body, elements_of}
 use Rattle.wjs_scope.specs.Nesting.{Side, Around, Caught, Inside, on_side, parts, IsAmong, Enters, Leads, LeadsTo}
 use Rattle.wjs_scope.specs.Places.{IsScript}
 use Rattle.wjs_scope.proofs.Bodies.{bodies_are_there}
-use Rattle.wjs_model.specs.declared.unit.Unit.{Unit as Program}
+use Rattle.wjs_model.specs.declared.loaded.LoadedProgram.{LoadedProgram as Program}
 use Rattle.wjs_model.specs.declared.point.ExprPoint.{ExprPoint}
 use Rattle.wjs_model.specs.declared.point.ExprPoint.TheVariants as expr
 use Rattle.wjs_model.specs.declared.point.StmtPoint.{StmtPoint}
@@ -52,7 +52,7 @@ module _ (old new : Objects) (k : Keeps old new) where
   outwards_kept zero o h = tt
   outwards_kept (suc n) o h = (h.0, scope_kept o h.0 h.1, outwards_kept n h.0 h.2)
 
-  pub shown_kept : (w : WorldId) → IsShown old w → IsShown new w
+  shown_kept : (w : WorldId) → IsShown old w → IsShown new w
   shown_kept w h = (h.0, kept (λ x. x.object.world) h.0 w (map.get old h.0) refl h.1)
 
   module _ (units : List Program) where

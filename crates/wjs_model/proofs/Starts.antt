@@ -12,7 +12,7 @@ use Rattle.wjs_model.specs.Rest.{Go, act_at, resumed, act_after, under, rest_ove
 use Rattle.wjs_model.specs.Laws.{script_names, StartIsTheRun, EndsGoDown}
 
 -- what follows nothing changes nothing
-then_ends : (o : Outcome) → then_do o Ends ≡ o
+pub then_ends : (o : Outcome) → then_do o Ends ≡ o
 then_ends (Ends c st n) = refl
 then_ends (Spent st) = refl
 

@@ -1,11 +1,11 @@
 -- Frames that begin, and what they go on with.
 use Rattle.std.specs.Prelude.{[], Bool, true, false, Option, Some}
+use Rattle.wjs_base.specs.declared.ids.NodeId.{NodeId}
 use Rattle.wjs_model.specs.declared.point.Start.{Start}
 use Rattle.wjs_model.specs.declared.frame.Activation.{Activation as Frame}
 use Rattle.wjs_model.specs.declared.frame.Completion.{Completion}
 use Rattle.wjs_model.specs.declared.frame.Phase.{Phase}
 use Rattle.wjs_model.specs.declared.frame.Phase.TheVariants as phases
-use Rattle.wjs_tree.specs.declared.node.NodeId.{NodeId}
 
 -- the frame that begins at a node around the same as another, with a step due
 abbrev pub begun_at : Frame → Start → NodeId → Frame

@@ -5,9 +5,9 @@ use Rattle.std.proofs.Props.{props}
 use Rattle.wjs_base.specs.contracts.ids.TextId as name
 use Rattle.wjs_base.specs.declared.ids.TextId.{TextId}
 use Rattle.wjs_base.specs.Text.{Table, IsTable, Has}
-use Rattle.wjs_tree.specs.contracts.node.NodeId as node
+use Rattle.wjs_base.specs.contracts.ids.NodeId as node
+use Rattle.wjs_base.specs.declared.ids.NodeId.{NodeId}
 use Rattle.wjs_tree.specs.declared.node.Node.{Node}
-use Rattle.wjs_tree.specs.declared.node.NodeId.{NodeId}
 use Rattle.wjs_by_content.specs.Tables.{text_in}
 use Rattle.wjs_scope.specs.declared.declarations.Declarations.{Declarations}
 use Rattle.wjs_scope.specs.Declarations.{formals_of, functions_among}

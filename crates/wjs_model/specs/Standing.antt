@@ -3,7 +3,7 @@ use Rattle.std.specs.Prelude.{◌≡◌, ℕ, zero, suc, ◌+◌, Bool, true, fa
 use Rattle.wjs_base.specs.declared.ids.ObjId.{ObjId}
 use Rattle.wjs_base.specs.declared.ids.TextId.{TextId}
 use Rattle.wjs_base.specs.declared.ids.WorldId.{WorldId}
-use Rattle.wjs_tree.specs.declared.node.NodeId.{NodeId}
+use Rattle.wjs_base.specs.declared.ids.NodeId.{NodeId}
 use Rattle.wjs_tree.specs.declared.node.Node.{Node}
 use Rattle.wjs_tree.specs.declared.node.Node.TheVariants as nodes
 use Rattle.wjs_tree.specs.Shows.{Has}
@@ -12,7 +12,7 @@ use Rattle.wjs_arena.specs.declared.object.Code.TheVariants as code
 use Rattle.wjs_arena.specs.Entries.{Objects, scope_of, world_of}
 use Rattle.wjs_scope.specs.Scopes.{Scope, own_name}
 use Rattle.wjs_scope.specs.Nesting.{StandsAmong}
-use Rattle.wjs_model.specs.declared.unit.Unit.{Unit as Program}
+use Rattle.wjs_model.specs.declared.loaded.LoadedProgram.{LoadedProgram as Program}
 use Rattle.wjs_model.specs.declared.point.ExprPoint.{ExprPoint}
 use Rattle.wjs_model.specs.declared.point.ExprPoint.TheVariants as expr
 use Rattle.wjs_model.specs.declared.point.StmtPoint.{StmtPoint}
@@ -107,7 +107,7 @@ module _ (units : List Program) (arena : Objects) (tree : ℕ) (node : NodeId) (
 module _ (units : List Program) (arena : Objects) where
   -- a script's function has the node of one, and a scope
   abbrev pub FunctionStands : Code → Option ObjId → Type 0
-  FunctionStands (code.Script tree node) (Some scope) = IsFunction units arena tree (record { 0 = node.0 }) scope 0
+  FunctionStands (code.Script tree node) (Some scope) = IsFunction units arena tree node scope 0
   FunctionStands (code.Script tree node) None = ⊥
   FunctionStands _ scope = Unit {0}
 

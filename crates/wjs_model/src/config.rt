@@ -1,7 +1,7 @@
 //! Configurations.
 
 use crate::frame::Frames;
-use crate::unit::Unit;
+use crate::loaded::LoadedProgram;
 use wjs_base::{ObjId, Value, WorldId};
 use wjs_heap::Heap;
 use wjs_store::WorldStore;
@@ -19,7 +19,7 @@ pub enum State {
 #[derive(Drop)]
 pub struct Config<S: WorldStore> {
     pub heap: Heap<S>,
-    pub units: Vec<Unit>,
+    pub units: Vec<LoadedProgram>,
     pub frames: Frames,
     pub global: ObjId,
     /// The first world of the run.

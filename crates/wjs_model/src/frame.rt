@@ -100,10 +100,8 @@ impl Items {
         ensures ok { OnOk result (self.new ≡ item ∷ self.old) }
         ensures err { OnErr result (self.new ≡ self.old) }
     {
-        match push_last(&mut self.list, item) {
-            Ok(()) => Ok(()),
-            Err(_) => Err(OutOfMemory),
-        }
+        push_last(&mut self.list, item)?;
+        Ok(())
     }
 
     /// The latest, which is taken off; None exactly where nothing is held.

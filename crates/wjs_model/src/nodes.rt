@@ -11,12 +11,12 @@ ghost use Rattle.wjs_meaning.specs.Trees.{name_place};
 ghost use Rattle.wjs_model.specs.Texts.{KnowsUnit};
 ghost use Rattle.wjs_model.specs.Units.{node_of, place_in, place_or_global, unit_in};
 
-use crate::unit::Unit;
+use crate::loaded::LoadedProgram;
 use wjs_base::OutOfMemory;
 use wjs_scope::{Declared, Place};
 use wjs_tree::{Node, NodeId};
 
-impl Unit {
+impl LoadedProgram {
     /// The node of a number; none where there is none, which the meaning takes for an empty statement.
     pub fn node(&self, id: NodeId) -> Option<&Node>
         ensures { MatchOption result (node_of self.now id ≡ Node.Empty) (λ node. node_of self.now id ≡ node.now) }

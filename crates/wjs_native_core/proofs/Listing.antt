@@ -12,10 +12,6 @@ use Rattle.wjs_meaning.specs.Deeds.{Env}
 use Rattle.wjs_meaning.specs.NewObjects.{make_array}
 use Rattle.wjs_meaning.specs.NativesOfObjects as line
 
-pub none_of : {A : Type 0} (xs : List A) → length xs ≡ 0 → xs ≡ []
-none_of [] e = refl
-none_of (x ∷ xs) e = absurd (cc)
-
 module _ (t : Table) (env : Env) where
   pub of_number : (vs : List NumberedValue) (x : NumberedWhole) → length vs ≡ 1 → slice_index_or vs 0 values.Undefined ≡ values.Number x → line.array_of_length (length_of_value (Number x.number)) env ≡ line.new_array (map (value_in t) vs) env
   of_number [] x one e = absurd (cc)

@@ -1,7 +1,6 @@
 -- What is done with what was looked up.
 use Rattle.std.proofs.Common.{◌≡◌, Bool, true, false, not, Option, None, Some, refl, ap}
 use Rattle.std.specs.Prelude.{◌&&◌, is_some}
-use Rattle.std.specs.Option.{option_map}
 use Rattle.wjs_base.specs.declared.ids.ObjId.{ObjId}
 use Rattle.wjs_arena.specs.declared.class.Class.{Class}
 use Rattle.wjs_arena.specs.declared.class.Class.TheVariants as class
@@ -20,10 +19,6 @@ owned enumerable o name env fixed hidden = elim fixed as (λ b. Act) [
   | true ↦ give_truth (not enumerable)
   | false ↦ Do (Read env.world (slot o name)) (λ found. give_truth (is_some found && not (enumerable && hidden)))
 ]
-
-pub is_some_map : {A B : Type 0} (f : A → B) (x : Option A) → is_some (option_map f x) ≡ is_some x
-is_some_map f None = refl
-is_some_map f (Some a) = refl
 
 -- an object that is no error
 pub other_text : (c : Class) (o : ObjId) (env : Env) (go : Text → Act) → (c ≡ class.Fault → ⊥) → go (shown_class c) ≡ line.object_text c o env go

@@ -5,7 +5,6 @@
 mod applies;
 mod arrays;
 mod classes;
-mod ends;
 mod errors;
 mod functions;
 mod items;

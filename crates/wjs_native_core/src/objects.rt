@@ -12,7 +12,6 @@ ghost use Rattle.wjs_native_core.specs.Owning.{class_shown, own_property};
 ghost use Rattle.wjs_frames.specs.Handling.{Runs, IsRunning, GoesOn};
 
 use crate::classes::class_name;
-use crate::ends::give_short;
 use wjs_base::{Content, Name, ObjId, OutOfMemory, Value};
 use wjs_frames::finish;
 use wjs_heap_steps::{
@@ -20,7 +19,7 @@ use wjs_heap_steps::{
 };
 use wjs_model::{Completion, Config, Frame};
 use wjs_natives::value_at;
-use wjs_step_common::{give, to_object};
+use wjs_step_common::{give, give_short, to_object};
 use wjs_store::WorldStore;
 use wjs_strings::object_text;
 

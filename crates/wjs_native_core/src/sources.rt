@@ -1,5 +1,5 @@
 //! The texts of functions (ECMA-262, 3rd edition, section 15.3.4.2).
-ghost use Rattle.std.specs.Prelude.{◌≡◌, ◌++◌, ◌∷◌, [], IfOk, OnOk, MatchOption, codes};
+ghost use Rattle.std.specs.Prelude.{◌≡◌, ◌++◌, IfOk, MatchOption, codes};
 ghost use Rattle.std.specs.Option.{option_map};
 ghost use Rattle.wjs_base.specs.Text.{Table, Grows};
 ghost use Rattle.wjs_by_content.specs.Tables.{text_in};
@@ -11,9 +11,8 @@ ghost use Rattle.wjs_model.specs.Soundness.{Base};
 ghost use Rattle.wjs_model.specs.Texts as known;
 ghost use Rattle.wjs_frames.specs.Parts.{env_in, node_among};
 
-use std::alloc::Global;
 use wjs_arena::{Code, Native};
-use wjs_base::{OutOfMemory, TextId};
+use wjs_base::{OutOfMemory, TextId, units_of_ascii};
 use wjs_heap_steps::units_of;
 use wjs_meaning::row_of;
 use wjs_model::{Config, Frame};
@@ -57,14 +56,14 @@ fn script_name<'a, S: WorldStore>(
     config: &'a Config<S>,
     frame: &Frame,
     tree: u32,
-    node: wjs_base::NodeId,
+    node: NodeId,
 ) -> &'a [u16]
     requires { Base S.meaning config.now }
     ensures { (t : Table) → Grows config.now.heap.texts t →
         line.code_name (Code.Script tree node) (λ k. (row_of k).name) (env_in S.meaning config.now t frame.now) ≡ result.now }
 {
     let _frame = frame;
-    match name_at(config, tree, NodeId(node.0)) {
+    match name_at(config, tree, node) {
         Some(id) => units_of(config, id),
         None => &ANONYMOUS,
     }
@@ -100,23 +99,4 @@ fn name_in_node(node: &Node) -> Option<TextId>
         Node::FunctionDecl(name, _, _) => Some(*name),
         _ => None,
     }
-}
-
-/// The code units of ASCII.
-fn units_of_ascii(alloc: Global, bytes: &[u8]) -> Result<Vec<u16>, OutOfMemory>
-    ensures { IfOk result (λ units. units.items ≡ bytes.now) }
-{
-    let mut units = Vec::new(alloc);
-    for byte in bytes {
-        push_ascii(&mut units, *byte)?;
-    }
-    Ok(units)
-}
-
-/// Puts the code unit of an ASCII character last.
-fn push_ascii(units: &mut Vec<u16>, byte: u8) -> Result<(), OutOfMemory>
-    ensures { OnOk result (units.new.items ≡ units.old.items ++ byte ∷ []) }
-{
-    units.push(byte as u16)?;
-    Ok(())
 }

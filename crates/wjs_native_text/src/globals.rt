@@ -19,7 +19,7 @@ use wjs_store::WorldStore;
 use wjs_strings::line_of;
 
 /// Writes a text and the end of its line.
-pub fn print<S: WorldStore>(
+pub(crate) fn print<S: WorldStore>(
     config: &mut Config<S>,
     frame: Frame,
     this: Value,
@@ -37,7 +37,7 @@ pub fn print<S: WorldStore>(
 }
 
 /// The integer at the front of a text (section 15.1.2.2).
-pub fn parse_int<S: WorldStore>(
+pub(crate) fn parse_int<S: WorldStore>(
     config: &mut Config<S>,
     frame: Frame,
     this: Value,
@@ -60,7 +60,7 @@ fn integer_of(text: &[u16], radix: Whole) -> Result<Whole, NumFault>
 }
 
 /// Whether a number is NaN (section 15.1.2.4).
-pub fn is_nan<S: WorldStore>(
+pub(crate) fn is_nan<S: WorldStore>(
     config: &mut Config<S>,
     frame: Frame,
     this: Value,

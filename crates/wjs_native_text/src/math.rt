@@ -15,7 +15,7 @@ use wjs_store::WorldStore;
 use wjs_strings::{absolute, greatest, least};
 
 /// The number without its sign (section 15.8.2.1).
-pub fn abs<S: WorldStore>(
+pub(crate) fn abs<S: WorldStore>(
     config: &mut Config<S>,
     frame: Frame,
     args: &[Value],
@@ -28,7 +28,7 @@ pub fn abs<S: WorldStore>(
 }
 
 /// The number, which is whole: also what `floor`, `ceil` and `round` give (sections 15.8.2.6, 15.8.2.9 and 15.8.2.15).
-pub fn whole<S: WorldStore>(
+pub(crate) fn whole<S: WorldStore>(
     config: &mut Config<S>,
     frame: Frame,
     args: &[Value],
@@ -41,7 +41,7 @@ pub fn whole<S: WorldStore>(
 }
 
 /// The greatest of the numbers (section 15.8.2.11).
-pub fn max<S: WorldStore>(
+pub(crate) fn max<S: WorldStore>(
     config: &mut Config<S>,
     frame: Frame,
     args: &[Value],
@@ -57,7 +57,7 @@ pub fn max<S: WorldStore>(
 }
 
 /// The least of the numbers (section 15.8.2.12).
-pub fn min<S: WorldStore>(
+pub(crate) fn min<S: WorldStore>(
     config: &mut Config<S>,
     frame: Frame,
     args: &[Value],
@@ -73,7 +73,7 @@ pub fn min<S: WorldStore>(
 }
 
 /// A power (section 15.8.2.13).
-pub fn power<S: WorldStore>(
+pub(crate) fn power<S: WorldStore>(
     config: &mut Config<S>,
     frame: Frame,
     args: &[Value],

@@ -17,7 +17,7 @@ use wjs_step_common::{give_text, throw, to_boolean};
 use wjs_store::WorldStore;
 
 /// The number that is given, or 0; a wrapper of it where `new` calls (sections 15.7.1 and 15.7.2).
-pub fn new_number<S: WorldStore>(
+pub(crate) fn new_number<S: WorldStore>(
     config: &mut Config<S>,
     frame: Frame,
     by_new: bool,
@@ -35,7 +35,7 @@ pub fn new_number<S: WorldStore>(
 }
 
 /// What is given as a truth value; a wrapper of it where `new` calls (sections 15.6.1 and 15.6.2).
-pub fn new_boolean<S: WorldStore>(
+pub(crate) fn new_boolean<S: WorldStore>(
     config: &mut Config<S>,
     frame: Frame,
     by_new: bool,
@@ -51,7 +51,7 @@ pub fn new_boolean<S: WorldStore>(
 }
 
 /// The number of a receiver as a text (section 15.7.4.2).
-pub fn number_text<S: WorldStore>(
+pub(crate) fn number_text<S: WorldStore>(
     config: &mut Config<S>,
     frame: Frame,
     this: Value,

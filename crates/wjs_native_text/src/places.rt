@@ -9,19 +9,19 @@ ghost use Rattle.wjs_meaning.specs.Deeds.{give};
 ghost use Rattle.wjs_model.specs.Soundness.{HasValue};
 ghost use Rattle.wjs_frames.specs.Handling.{IsRunning, GoesOn};
 
-use crate::ends::{copied, give_short};
+use crate::units::copied;
 use wjs_arena::{Native, StringNative};
 use wjs_base::{OutOfMemory, Value, Whole};
 use wjs_model::{Config, Frame};
 use wjs_natives::{text_at, text_of, value_at, whole_at};
-use wjs_step_common::give;
+use wjs_step_common::{give, give_short};
 use wjs_store::WorldStore;
 use wjs_strings::{
     first_from, kept_within, last_place, limit_of, or_zero, slice, substring, unit_at,
 };
 
 /// The code unit at a place, as a text (section 15.5.4.4).
-pub fn char_at<S: WorldStore>(
+pub(crate) fn char_at<S: WorldStore>(
     config: &mut Config<S>,
     frame: Frame,
     this: Value,
@@ -52,7 +52,7 @@ fn give_unit<S: WorldStore>(
 }
 
 /// The code unit at a place, as a number (section 15.5.4.5).
-pub fn char_code_at<S: WorldStore>(
+pub(crate) fn char_code_at<S: WorldStore>(
     config: &mut Config<S>,
     frame: Frame,
     this: Value,
@@ -78,7 +78,7 @@ fn code_of(unit: Option<u16>) -> Whole
 }
 
 /// The first place at or after another where a text stands (section 15.5.4.7).
-pub fn index_of<S: WorldStore>(
+pub(crate) fn index_of<S: WorldStore>(
     config: &mut Config<S>,
     frame: Frame,
     this: Value,
@@ -99,7 +99,7 @@ pub fn index_of<S: WorldStore>(
 }
 
 /// The last place at or before another where a text stands (section 15.5.4.8).
-pub fn last_index_of<S: WorldStore>(
+pub(crate) fn last_index_of<S: WorldStore>(
     config: &mut Config<S>,
     frame: Frame,
     this: Value,
@@ -143,7 +143,7 @@ fn place_value(place: Option<usize>) -> Result<Whole, OutOfMemory>
 }
 
 /// The part between two places (section 15.5.4.15).
-pub fn give_substring<S: WorldStore>(
+pub(crate) fn give_substring<S: WorldStore>(
     config: &mut Config<S>,
     frame: Frame,
     this: Value,
@@ -161,7 +161,7 @@ pub fn give_substring<S: WorldStore>(
 }
 
 /// The part from a place to before another, where places below 0 count from the end (section 15.5.4.13).
-pub fn give_slice<S: WorldStore>(
+pub(crate) fn give_slice<S: WorldStore>(
     config: &mut Config<S>,
     frame: Frame,
     this: Value,

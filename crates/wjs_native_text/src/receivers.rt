@@ -14,13 +14,12 @@ ghost use Rattle.wjs_model.specs.Soundness.{Base, HasObject, HasValue};
 ghost use Rattle.wjs_frames.specs.Following.{Later};
 ghost use Rattle.wjs_frames.specs.Handling.{IsRunning, GoesOn};
 
-use crate::ends::give_short;
 use wjs_arena::{BooleanNative, Class, Native, NumberNative, StringNative};
 use wjs_base::{ObjId, OutOfMemory, Value};
 use wjs_heap_steps::{builtin, create, create_wrapper, object_of, primitive_of};
 use wjs_meaning::Builtin;
 use wjs_model::{Config, Frame, Trouble};
-use wjs_step_common::{give, throw};
+use wjs_step_common::{give, give_short, throw};
 use wjs_store::WorldStore;
 
 /// `true` and `false`.
@@ -93,7 +92,7 @@ pub(crate) fn primitive_value<S: WorldStore>(config: &Config<S>, value: Value) -
 }
 
 /// The text of a receiver: `toString` and `valueOf` (sections 15.5.4.2 and 15.5.4.3).
-pub fn own_text<S: WorldStore>(
+pub(crate) fn own_text<S: WorldStore>(
     config: &mut Config<S>,
     frame: Frame,
     this: Value,
@@ -109,7 +108,7 @@ pub fn own_text<S: WorldStore>(
 }
 
 /// The number of a receiver: `valueOf` (section 15.7.4.4).
-pub fn own_number<S: WorldStore>(
+pub(crate) fn own_number<S: WorldStore>(
     config: &mut Config<S>,
     frame: Frame,
     this: Value,
@@ -125,7 +124,7 @@ pub fn own_number<S: WorldStore>(
 }
 
 /// The truth value of a receiver: `valueOf` (section 15.6.4.3).
-pub fn own_truth<S: WorldStore>(
+pub(crate) fn own_truth<S: WorldStore>(
     config: &mut Config<S>,
     frame: Frame,
     this: Value,
@@ -141,7 +140,7 @@ pub fn own_truth<S: WorldStore>(
 }
 
 /// The truth value of a receiver as a text (section 15.6.4.2).
-pub fn truth_text<S: WorldStore>(
+pub(crate) fn truth_text<S: WorldStore>(
     config: &mut Config<S>,
     frame: Frame,
     this: Value,

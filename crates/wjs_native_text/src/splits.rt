@@ -14,7 +14,7 @@ ghost use Rattle.wjs_strings.specs.Pieces.{texts_of, up_to, has_room};
 ghost use Rattle.wjs_native_text.specs.Limits.{limit_in};
 ghost use Rattle.wjs_frames.specs.Handling.{Runs, GoesOn};
 
-use crate::ends::copied;
+use crate::units::copied;
 use std::alloc::Global;
 use wjs_arena::{Native, StringNative};
 use wjs_base::{OutOfMemory, TextId, Value};
@@ -28,7 +28,7 @@ use wjs_store::WorldStore;
 use wjs_strings::{Piece, part_of, split};
 
 /// The parts of a text between separators, as an Array.
-pub fn give_parts<S: WorldStore>(
+pub(crate) fn give_parts<S: WorldStore>(
     config: &mut Config<S>,
     frame: Frame,
     this: Value,

@@ -12,8 +12,8 @@ ghost use Rattle.wjs_meaning.specs.NativesOfTexts as line;
 ghost use Rattle.wjs_model.specs.Soundness.{HasValue};
 ghost use Rattle.wjs_frames.specs.Handling.{IsRunning, GoesOn};
 
-use crate::ends::copied;
 use crate::receivers::wrapped;
+use crate::units::copied;
 use std::alloc::Global;
 use wjs_arena::{Native, StringNative};
 use wjs_base::{LONGEST_TEXT, OutOfMemory, Value};
@@ -25,7 +25,7 @@ use wjs_store::WorldStore;
 use wjs_strings::code_unit;
 
 /// The text that is given, or the empty one; a wrapper of it where `new` calls (sections 15.5.1 and 15.5.2).
-pub fn new_string<S: WorldStore>(
+pub(crate) fn new_string<S: WorldStore>(
     config: &mut Config<S>,
     frame: Frame,
     by_new: bool,
@@ -56,7 +56,7 @@ fn new_empty<S: WorldStore>(
 }
 
 /// The code units of numbers (section 15.5.3.2).
-pub fn from_char_code<S: WorldStore>(
+pub(crate) fn from_char_code<S: WorldStore>(
     config: &mut Config<S>,
     frame: Frame,
     args: &[Value],
@@ -81,7 +81,7 @@ fn units_of_numbers(alloc: Global, numbers: &[Value]) -> Result<Vec<u16>, OutOfM
 }
 
 /// All texts joined (section 15.5.4.6).
-pub fn concat<S: WorldStore>(
+pub(crate) fn concat<S: WorldStore>(
     config: &mut Config<S>,
     frame: Frame,
     this: Value,
@@ -99,7 +99,7 @@ pub fn concat<S: WorldStore>(
 }
 
 /// Ends with the texts of values, one behind the other.
-pub fn give_joined<S: WorldStore>(
+pub(crate) fn give_joined<S: WorldStore>(
     config: &mut Config<S>,
     frame: Frame,
     values: &[Value],

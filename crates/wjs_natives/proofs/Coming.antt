@@ -69,7 +69,7 @@ module _ {S : Type 0} (meaning : S → Meaning) (native : Native) (by_new : Bool
   follows_converted long short old mid later (Ok x) s d h = follows_shorter meaning long short old later (Ok x) (s h.keeps.stays.texts) (d.by (λ x. short) later (Ok x) h)
   follows_converted long short old mid later (Err x) s d h = tt
 
-  pub enough_next : (vs : List NumberedValue) (at : ℕ) (w : NumberedValue) → (at < length vs → length vs ≡ given + 1) → at + 1 < length (placed vs at w) → length (placed vs at w) ≡ given + 1
+  enough_next : (vs : List NumberedValue) (at : ℕ) (w : NumberedValue) → (at < length vs → length vs ≡ given + 1) → at + 1 < length (placed vs at w) → length (placed vs at w) ≡ given + 1
   enough_next vs at w enough h = elim (cases_lt at (length vs)) [
     | inl below ↦ placed_length vs at w below ∙ enough below
     | inr past ↦ absurd (omega (arith, placed_longer vs at w past))

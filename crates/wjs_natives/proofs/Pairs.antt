@@ -24,7 +24,7 @@ drop_get [] n = refl
 drop_get (v ∷ vs) n = refl
 
 -- the pair at a place, and those past it
-pub pairs_next : (ks : List Kind) (vs : List Value) (at : ℕ) (k : Kind) → slice_get ks at ≡ Some k → drop at (with_kinds ks vs) ≡ (k, get_or vs at Undefined) ∷ drop (suc at) (with_kinds ks vs)
+pairs_next : (ks : List Kind) (vs : List Value) (at : ℕ) (k : Kind) → slice_get ks at ≡ Some k → drop at (with_kinds ks vs) ≡ (k, get_or vs at Undefined) ∷ drop (suc at) (with_kinds ks vs)
 pairs_next [] vs at k h = absurd (cc)
 pairs_next (x ∷ ks) vs zero k h =
     let e : x ≡ k = cc in
@@ -36,14 +36,14 @@ pairs_next (x ∷ ks) vs (suc n) k h =
     ∙ ap (λ l. (k, get_or vs (suc n) Undefined) ∷ drop (suc (suc n)) l) (sym (pairs_head x ks vs))
 
 -- no pair is past the last
-pub pairs_end : (ks : List Kind) (vs : List Value) (at : ℕ) → slice_get ks at ≡ None → drop at (with_kinds ks vs) ≡ []
+pairs_end : (ks : List Kind) (vs : List Value) (at : ℕ) → slice_get ks at ≡ None → drop at (with_kinds ks vs) ≡ []
 pairs_end [] vs zero h = refl
 pairs_end [] vs (suc n) h = refl
 pairs_end (x ∷ ks) vs zero h = absurd (cc)
 pairs_end (x ∷ ks) vs (suc n) h = ap (drop (suc n)) (pairs_head x ks vs) ∙ pairs_end ks (drop 1 vs) n h
 
 -- the same values from a place on
-pub pairs_same : (ks : List Kind) (vs ws : List Value) (at : ℕ) → ((p : ℕ) → at ≤ p → get_or vs p Undefined ≡ get_or ws p Undefined) → drop at (with_kinds ks vs) ≡ drop at (with_kinds ks ws)
+pairs_same : (ks : List Kind) (vs ws : List Value) (at : ℕ) → ((p : ℕ) → at ≤ p → get_or vs p Undefined ≡ get_or ws p Undefined) → drop at (with_kinds ks vs) ≡ drop at (with_kinds ks ws)
 pairs_same [] vs ws zero h = refl
 pairs_same [] vs ws (suc n) h = refl
 pairs_same (x ∷ ks) vs ws zero h =
@@ -65,14 +65,14 @@ pub placed_past : {A : Type 0} (xs : List A) (at : ℕ) (x : A) → length xs �
 placed_past xs at x h = let over : ltb at (length xs) ≡ false = elim (leb_tells (suc at) (length xs)) [ inl w ↦ absurd (omega (arith, w.1)) | inr w ↦ w.0 ] in ap (λ b. cond b (set xs at x) (xs ++ x ∷ [])) over
 
 -- what stands past the place stays
-pub placed_keeps : (vs : List Value) (at : ℕ) (v : Value) (p : ℕ) → at < p → get_or vs p Undefined ≡ get_or (placed vs at v) p Undefined
+placed_keeps : (vs : List Value) (at : ℕ) (v : Value) (p : ℕ) → at < p → get_or vs p Undefined ≡ get_or (placed vs at v) p Undefined
 placed_keeps vs at v p h = elim (cases_lt at (length vs)) [
   | inl below ↦ sym (ap (λ l. get_or l p Undefined) (placed_within vs at v below) ∙ get_or-set_other vs at p v Undefined (λ e. omega arith))
   | inr past ↦ get_or_past vs p Undefined (omega arith) ∙ sym (ap (λ l. get_or l p Undefined) (placed_past vs at v past) ∙ get_or_past (vs ++ v ∷ []) p Undefined (omega (arith, length_push vs v)))
 ]
 
 -- the values up to it
-pub placed_front : {A : Type 0} (vs : List A) (at : ℕ) (v : A) → take (at + 1) (placed vs at v) ≡ take at vs ++ v ∷ []
+placed_front : {A : Type 0} (vs : List A) (at : ℕ) (v : A) → take (at + 1) (placed vs at v) ≡ take at vs ++ v ∷ []
 placed_front vs at v = elim (cases_lt at (length vs)) [
   | inl below ↦ ap (take (at + 1)) (placed_within vs at v below) ∙ take_more_set vs at v below
   | inr past ↦ ap (take (at + 1)) (placed_past vs at v past) ∙ take_all (at + 1) (vs ++ v ∷ []) (omega (arith, length_push vs v)) ∙ ap (λ l. l ++ v ∷ []) (sym (take_all at vs past))

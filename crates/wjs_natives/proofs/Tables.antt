@@ -2,6 +2,7 @@
 use Rattle.std.proofs.Common.{◌≡◌, ℕ, zero, suc, ◌+◌, ◌-◌, ◌<◌, ◌≤◌, Some, List, [], ◌∷◌, length, ap, sym, arith}
 use Rattle.std.specs.Prelude.{slice_get}
 use Rattle.std.proofs.lemmas.List.{length-replicate}
+use Rattle.std.proofs.lemmas.Option.{slice_get_within}
 use Rattle.wjs_arena.specs.declared.native.Native.{Native}
 use Rattle.wjs_meaning.specs.declared.kinds.Kind.{Kind}
 use Rattle.wjs_meaning.specs.declared.kinds.Kinds.{Kinds}
@@ -25,13 +26,8 @@ few_kinds (list.Each a) given = omega (arith, length-replicate given a)
 few_kinds (list.IfGiven a) zero = omega arith
 few_kinds (list.IfGiven a) (suc given) = omega arith
 
-get_within : {A : Type 0} (xs : List A) (at : ℕ) (x : A) → slice_get xs at ≡ Some x → at < length xs
-get_within [] at x h = absurd (cc)
-get_within (y ∷ ys) zero x h = omega arith
-get_within (y ∷ ys) (suc n) x h = let below : n < length ys = get_within ys n x h in omega arith
-
 pub place_within : (native : Native) (given at : ℕ) (k : Kind) → Some k ≡ slice_get (conversions native given) at → at < length (conversions native given)
-place_within native given at k h = get_within (conversions native given) at k (sym h)
+place_within native given at k h = slice_get_within (conversions native given) at k (sym h)
 
 pub place_below : (native : Native) (given at : ℕ) (k : Kind) → Some k ≡ slice_get (conversions native given) at → at < given + 4
 place_below native given at k h =

@@ -40,7 +40,7 @@ abs_by : (b : Bool) (n : ℕ) → unsigned_abs (cond b (pos n) (neg_ℤ (pos n))
 abs_by true n = refl
 abs_by false n = unsigned_abs-neg n
 
-pub unsigned_abs-int_pow : (x : ℤ) (e : ℕ) → unsigned_abs (int_pow x e) ≡ unsigned_abs x ^ e
+unsigned_abs-int_pow : (x : ℤ) (e : ℕ) → unsigned_abs (int_pow x e) ≡ unsigned_abs x ^ e
 unsigned_abs-int_pow (pos n) e = refl
 unsigned_abs-int_pow (negsuc n) e = abs_by (eqb (e % 2) 0) (suc n ^ e)
 

@@ -15,7 +15,7 @@ in_range number x r e = let P : Option ℤ → Type 0 = λ n. IsInRange n in sub
 pub fits : (x : ℤ) → InRange x → FitsSigned w64 x
 fits x r = omega (arith, ints, r.0, r.1)
 
-pub fits_neg : (n : ℕ) → n < 2 ^ 63 → FitsSigned w64 (neg_ℤ (pos n))
+fits_neg : (n : ℕ) → n < 2 ^ 63 → FitsSigned w64 (neg_ℤ (pos n))
 fits_neg n h = omega (arith, ints)
 
 pub quotient_fits : (x y : ℤ) → InRange x → FitsSigned w64 (int_div x y)

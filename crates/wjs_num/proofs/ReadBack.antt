@@ -176,9 +176,6 @@ radix_reads_back radix (negsuc n) r s h =
 
 -- ---- decimal
 
-whole_trimmed : (u : ℕ) (us : List ℕ) → number_of_trimmed (u ∷ us) ≡ number_of_numeral (after_hex_prefix (u ∷ us)) (u ∷ us)
-whole_trimmed u us = refl
-
 no_prefix_minus : (t : List ℕ) → after_hex_prefix (45 ∷ t) ≡ None
 no_prefix_minus [] = refl
 no_prefix_minus (u ∷ us) = refl

@@ -7,7 +7,6 @@ use Rattle.std.proofs.lemmas.Bool.{cases_lt}
 use Rattle.std.proofs.lemmas.Bool.Decides.{nat_tests}
 use Rattle.std.proofs.lemmas.Grind.{common_steps}
 use Rattle.std.proofs.lemmas.Int.Digits.{digits_value_more}
-use Rattle.std.proofs.lemmas.Nat.{mul-le}
 use Rattle.std.proofs.lemmas.List.Folds.{length-prefix_len}
 use Rattle.std.proofs.Math.Nat.{le-mul_of_pos_right}
 use Rattle.std.specs.Prelude.{unsigned_abs}
@@ -32,9 +31,6 @@ pub value_more : (units : List ℕ) (radix i v : ℕ) → 2 ≤ radix → i < le
 value_more units radix i v r h e =
     capped v (digits_value radix (take i units)) radix (digit_value (get_or units i 0)) e r (cases_lt _ _)
     ∙ ap (λ n. min n (2 ^ 53)) (sym (digits_value_more radix units i h))
-
-pub product_small : (v radix : ℕ) → v ≤ 2 ^ 53 → radix ≤ 36 → v * radix ≤ 2 ^ 53 * 36
-product_small v radix h k = mul-le v radix (2 ^ 53) 36 h k
 
 pub no_digit : (u radix : ℕ) → (digit_value u < radix → ⊥) → is_digit u radix ≡ false
 no_digit u radix h = grind (arith, nat_tests)

@@ -10,7 +10,7 @@ use Rattle.std.proofs.Math.ListN.{set}
 use Rattle.std.proofs.Math.Nat.{pow-suc, mul-le-mul_left}
 
 -- the digits of a number, and what stands after them
-pub digits_more : (radix n : ℕ) (after : List ℕ) → 2 ≤ radix → 0 < n
+digits_more : (radix n : ℕ) (after : List ℕ) → 2 ≤ radix → 0 < n
     → map digit_char (digits_of radix (n / radix)) ++ (digit_char (n % radix) ∷ after) ≡ map digit_char (digits_of radix n) ++ after
 digits_more radix n after r h =
     sym (ap (λ ds. map digit_char ds ++ after) (digits_of_step radix n r h)

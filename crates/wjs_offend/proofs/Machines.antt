@@ -1,5 +1,5 @@
 -- The steps of the machine's loop.
-use Rattle.std.proofs.Common.{◌≡◌, ◌<◌, Bool, List, [], ◌∷◌, length, Option, None, Result, Ok, Err, IfOk, refl, sym, ap, ◌∙◌, subst, arith}
+use Rattle.std.proofs.Common.{◌≡◌, ◌<◌, Bool, List, [], ◌∷◌, length, Option, None, refl, sym, ap, ◌∙◌, subst, arith}
 use Rattle.wjs_forms.specs.declared.class.Class.{Class}
 use Rattle.wjs_forms.specs.declared.forms.Form.{Form}
 use Rattle.wjs_forms.specs.declared.forms.Control.{Control}
@@ -35,7 +35,3 @@ ends k joined m s r taken new other h a = subst (λ (z : Option State). Answers 
 
 pub shorter : (s rest : List Form) (f : Form) → s ≡ f ∷ rest → length rest < length s
 shorter s rest f e = let q = ap length e in omega arith
-
-pub if_ok : {A E : Type 0} (r : Result A E) (P Q : A → Type 0) → ((a : A) → P a → Q a) → IfOk r P → IfOk r Q
-if_ok (Ok a) P Q f h = f a h
-if_ok (Err e) P Q f h = h

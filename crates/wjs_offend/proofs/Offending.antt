@@ -2,6 +2,7 @@
 use Rattle.std.proofs.Common.{◌≡◌, ℕ, zero, suc, ◌+◌, ◌<◌, ◌≤◌, inl, inr, Bool, true, not, List, [], ◌∷◌, ◌++◌, length, take, Option, Some, None, slice_get, refl, sym, ap, ◌∙◌, subst, arith}
 use Rattle.std.proofs.lemmas.List.{take_more, take_all}
 use Rattle.std.proofs.lemmas.Option.{slice_get_within, slice_get_cases, get_or_from_slice_get}
+use Rattle.wjs_base.proofs.Options.{same_there, none_there}
 use Rattle.wjs_tree.specs.declared.tokens.Tok.{Tok}
 use Rattle.wjs_forms.specs.declared.class.Class.{Class}
 use Rattle.wjs_forms.specs.declared.class.Class.TheVariants as classes
@@ -17,17 +18,11 @@ then_append : (o : Option State) (f g h : State → Option State) → ((r : Stat
 then_append None f g h e = refl
 then_append (Some r) f g h e = e r
 
-pub reach_append : (xs ys : List Tok) (s : State) → reach (xs ++ ys) s ≡ and_then (reach xs s) (λ r. reach ys r)
+reach_append : (xs ys : List Tok) (s : State) → reach (xs ++ ys) s ≡ and_then (reach xs s) (λ r. reach ys r)
 reach_append [] ys s = refl
 reach_append (t ∷ xs) ys s = then_append (step_tok t s) (λ r. reach (xs ++ ys) r) (λ r. reach xs r) (λ r. reach ys r) (λ r. reach_append xs ys r)
 
-no_some : (o : Option State) (r : State) → o ≡ None → o ≡ Some r → ⊥
-no_some o r p q = cc
-
-same_state : (o : Option State) (a b : State) → o ≡ Some a → o ≡ Some b → a ≡ b
-same_state o a b p q = cc
-
-pub one_more : (toks : List Tok) (k : ℕ) (t : Tok) → slice_get toks k ≡ Some t → take (k + 1) toks ≡ take k toks ++ t ∷ []
+one_more : (toks : List Tok) (k : ℕ) (t : Tok) → slice_get toks k ≡ Some t → take (k + 1) toks ≡ take k toks ++ t ∷ []
 one_more toks k t h = take_more toks k t (slice_get_within toks k t h) ∙ ap (λ (z : Tok). take k toks ++ z ∷ []) (get_or_from_slice_get toks k t t h)
 
 -- the state behind one more token
@@ -56,7 +51,7 @@ module _ (taken : SpelledIsTaken) (spelled : TakenIsSpelled) (on : GoesOn) where
   not_begun : (toks : List Tok) (k : ℕ) → reach (take k toks) start ≡ None → Begins toks k → ⊥
   not_begun toks k e b =
       let w = taken (take k toks ++ b.more) b.spelled in
-      no_some _ w.0 (reach_append (take k toks) b.more start ∙ ap (λ (z : Option State). and_then z (λ r. reach b.more r)) e) w.1
+      none_there _ w.0 (reach_append (take k toks) b.more start ∙ ap (λ (z : Option State). and_then z (λ r. reach b.more r)) e) w.1
 
   pub at_token : (toks : List Tok) (k : ℕ) (t : Tok) (s : State) → slice_get toks k ≡ Some t → reach (take k toks) start ≡ Some s → step_tok t s ≡ None → (k < length toks) × Begins toks k × (Begins toks (k + 1) → ⊥)
   at_token toks k t s h e f = (slice_get_within toks k t h, begun toks k s e, not_begun toks (k + 1) (reach_more toks k t s None h e f))
@@ -69,8 +64,8 @@ module _ (taken : SpelledIsTaken) (spelled : TakenIsSpelled) (on : GoesOn) where
     where
       ended : Spells toks → ⊥
       ended w = let a = taken toks w in
-          let m = subst MayEnd (same_state (reach toks start) a.0 s a.1 (all toks s e)) a.2 in
-          no_some _ m.0 f m.1
+          let m = subst MayEnd (same_there (reach toks start) a.0 s a.1 (all toks s e)) a.2 in
+          none_there _ m.0 f m.1
 
   pub no_token : (toks : List Tok) (s r : State) → reach (take (length toks) toks) start ≡ Some s → step classes.End true s.forms s.control ≡ Some r → Spells toks
   no_token toks s r e f = spelled toks (s, all toks s e, (r, f))

@@ -9,7 +9,7 @@ ghost use Rattle.wjs_forms.specs.declared.forms.Place.TheVariants as places;
 
 use wjs_forms::{Class, Control, Form, Move, Place};
 
-fn unless(barred: bool, then: Move) -> Move
+fn unless_barred(barred: bool, then: Move) -> Move
     ensures { result ≡ unless barred then }
 {
     if barred { Move::Refuse } else { then }
@@ -88,7 +88,7 @@ pub(crate) fn on_word(class: Class, then: Move) -> Move
 }
 
 /// Whether `++` or `--` stands just before.
-fn after_update(place: Place) -> bool
+fn is_after_update(place: Place) -> bool
     ensures { result ≡ after_update place }
 {
     match place {
@@ -103,12 +103,12 @@ fn bars_operator(place: Place, top: Option<Form>) -> bool
 {
     match top {
         Some(Form::New) => true,
-        _ => after_update(place),
+        _ => is_after_update(place),
     }
 }
 
 /// The first token of an operand at the place.
-pub(crate) fn operand(class: Class, place: Place, top: Option<Form>) -> Move
+pub(crate) fn operand_start(class: Class, place: Place, top: Option<Form>) -> Move
     ensures { result ≡ operand class place top }
 {
     match class {
@@ -119,20 +119,24 @@ pub(crate) fn operand(class: Class, place: Place, top: Option<Form>) -> Move
         Class::OpenBrace => Move::Push(Form::Object(place), Control::KeyOrEnd),
         Class::Function => Move::Push(Form::Function(place), Control::NameOrFormals),
         Class::New => Move::Push(Form::New, Control::Want(place)),
-        Class::Update => operator(place, top, Place::Update),
-        Class::Sum | Class::SignBefore | Class::KeyBefore => operator(place, top, Place::Later),
+        Class::Update => prefix_operator(place, top, Place::Update),
+        Class::Sum | Class::SignBefore | Class::KeyBefore => prefix_operator(
+            place,
+            top,
+            Place::Later,
+        ),
         _ => Move::Refuse,
     }
 }
 
-fn operator(place: Place, top: Option<Form>, next: Place) -> Move
+fn prefix_operator(place: Place, top: Option<Form>, next: Place) -> Move
     ensures { result ≡ unless (bars_operator place top) (moves.Stay (controls.Want next)) }
 {
-    unless(bars_operator(place, top), Move::Stay(Control::Want(next)))
+    unless_barred(bars_operator(place, top), Move::Stay(Control::Want(next)))
 }
 
 /// The token that ends what the form on top holds.
-pub(crate) fn ends(top: Option<Form>, class: Class) -> Move
+pub(crate) fn form_end(top: Option<Form>, class: Class) -> Move
     ensures { result ≡ ends top class }
 {
     let Some(form) = top else {
@@ -172,7 +176,7 @@ fn bars_in(top: Option<Form>) -> bool
     }
 }
 
-fn comma(top: Option<Form>) -> Move
+fn comma_after_operand(top: Option<Form>) -> Move
     ensures { result ≡ comma top }
 {
     match top {
@@ -185,31 +189,31 @@ fn comma(top: Option<Form>) -> Move
 }
 
 /// Behind an operand that gets no suffix and isn't behind `new`.
-fn behind_top(class: Class, top: Option<Form>) -> Move
+fn after_operand_without_new(class: Class, top: Option<Form>) -> Move
     ensures { result ≡ behind_top class top }
 {
     match class {
-        Class::In => unless(bars_in(top), Move::Stay(Control::Want(Place::Later))),
+        Class::In => unless_barred(bars_in(top), Move::Stay(Control::Want(Place::Later))),
         Class::Operator | Class::Instanceof | Class::Sum => Move::Stay(Control::Want(Place::Later)),
         Class::Question => Move::Push(Form::Cond, Control::Want(Place::First)),
         Class::Assign | Class::AssignWith => Move::Refuse,
-        Class::Comma => comma(top),
-        _ => ends(top, class),
+        Class::Comma => comma_after_operand(top),
+        _ => form_end(top, class),
     }
 }
 
 /// Behind an operand that gets no suffix.
-pub(crate) fn behind(top: Option<Form>, class: Class) -> Move
+pub(crate) fn after_operand(top: Option<Form>, class: Class) -> Move
     ensures { result ≡ behind top class }
 {
     match top {
         Some(Form::New) => Move::Again(Control::Behind),
-        _ => behind_top(class, top),
+        _ => after_operand_without_new(class, top),
     }
 }
 
 /// `(` behind a primary expression with suffixes.
-fn call(place: Place, top: Option<Form>) -> Move
+fn arguments_start(place: Place, top: Option<Form>) -> Move
     ensures { result ≡ call place top }
 {
     match top {
@@ -219,18 +223,18 @@ fn call(place: Place, top: Option<Form>) -> Move
 }
 
 /// `++` or `--` behind a target.
-fn postfix(joined: bool, place: Place, top: Option<Form>) -> Move
+fn postfix_update(joined: bool, place: Place, top: Option<Form>) -> Move
     ensures { result ≡ postfix joined place top }
 {
     if joined {
-        unless(after_update(place), Move::Stay(Control::Behind))
+        unless_barred(is_after_update(place), Move::Stay(Control::Behind))
     } else {
-        behind(top, Class::Update)
+        after_operand(top, Class::Update)
     }
 }
 
 /// An assignment sign behind a target.
-fn assigns(place: Place) -> Move
+fn assignment_sign(place: Place) -> Move
     ensures { result ≡ assigns place }
 {
     match place {
@@ -240,83 +244,95 @@ fn assigns(place: Place) -> Move
 }
 
 /// `in` behind a target.
-fn target_in(place: Place, top: Option<Form>) -> Move
+fn in_after_target(place: Place, top: Option<Form>) -> Move
     ensures { result ≡ target_in place top }
 {
     match place {
         Place::Whole => match top {
             Some(Form::ForInit) => Move::Swap(Form::Each, Control::Want(Place::Whole)),
-            _ => behind(top, Class::In),
+            _ => after_operand(top, Class::In),
         },
-        _ => behind(top, Class::In),
+        _ => after_operand(top, Class::In),
     }
 }
 
 /// `)` behind a target that is all of what the form holds: a parenthesis around a target is one.
-fn form_closed(form: Form) -> Move
+fn close_paren_of_form(form: Form) -> Move
     ensures { result ≡ target_closed places.Whole (Some form) }
 {
     match form {
         Form::Paren(outer) => Move::Pop(Control::Have(outer, true)),
-        _ => behind(Some(form), Class::CloseParen),
+        _ => after_operand(Some(form), Class::CloseParen),
     }
 }
 
-fn whole_closed(top: Option<Form>) -> Move
+fn close_paren_of_whole(top: Option<Form>) -> Move
     ensures { result ≡ target_closed places.Whole top }
 {
     match top {
-        Some(form) => form_closed(form),
+        Some(form) => close_paren_of_form(form),
         None => Move::Refuse,
     }
 }
 
 /// `)` behind a target.
-fn target_closed(place: Place, top: Option<Form>) -> Move
+fn close_paren_after_target(place: Place, top: Option<Form>) -> Move
     ensures { result ≡ target_closed place top }
 {
     match place {
-        Place::Whole => whole_closed(top),
-        _ => behind(top, Class::CloseParen),
+        Place::Whole => close_paren_of_whole(top),
+        _ => after_operand(top, Class::CloseParen),
     }
 }
 
 /// Behind a target.
-fn target(class: Class, joined: bool, place: Place, top: Option<Form>) -> Move
+fn after_target(class: Class, joined: bool, place: Place, top: Option<Form>) -> Move
     ensures { result ≡ target class joined place top }
 {
     match class {
-        Class::Update => postfix(joined, place, top),
-        Class::Assign | Class::AssignWith => assigns(place),
-        Class::In => target_in(place, top),
-        Class::CloseParen => target_closed(place, top),
-        _ => behind(top, class),
+        Class::Update => postfix_update(joined, place, top),
+        Class::Assign | Class::AssignWith => assignment_sign(place),
+        Class::In => in_after_target(place, top),
+        Class::CloseParen => close_paren_after_target(place, top),
+        _ => after_operand(top, class),
     }
 }
 
 /// Behind a primary expression with suffixes, where the token is none and no `new` waits.
-fn bare_top(is_target: bool, class: Class, joined: bool, place: Place, top: Option<Form>) -> Move
+fn after_chain_end_without_new(
+    is_target: bool,
+    class: Class,
+    joined: bool,
+    place: Place,
+    top: Option<Form>,
+) -> Move
     ensures { result ≡ bare_top is_target class joined place top }
 {
     if is_target {
-        target(class, joined, place, top)
+        after_target(class, joined, place, top)
     } else {
-        unless(after_update(place), behind(top, class))
+        unless_barred(is_after_update(place), after_operand(top, class))
     }
 }
 
 /// Behind a primary expression with suffixes, where the token is none.
-fn bare(top: Option<Form>, class: Class, joined: bool, place: Place, is_target: bool) -> Move
+fn after_chain_end(
+    top: Option<Form>,
+    class: Class,
+    joined: bool,
+    place: Place,
+    is_target: bool,
+) -> Move
     ensures { result ≡ bare top class joined place is_target }
 {
     match top {
-        Some(Form::New) => unless(after_update(place), Move::Again(Control::Behind)),
-        _ => bare_top(is_target, class, joined, place, top),
+        Some(Form::New) => unless_barred(is_after_update(place), Move::Again(Control::Behind)),
+        _ => after_chain_end_without_new(is_target, class, joined, place, top),
     }
 }
 
 /// Behind a primary expression with suffixes.
-pub(crate) fn have(
+pub(crate) fn after_chain(
     class: Class,
     joined: bool,
     place: Place,
@@ -328,7 +344,7 @@ pub(crate) fn have(
     match class {
         Class::Dot => Move::Stay(Control::Dot(place)),
         Class::OpenBracket => Move::Push(Form::Index(place), Control::Want(Place::Whole)),
-        Class::OpenParen => call(place, top),
-        _ => bare(top, class, joined, place, is_target),
+        Class::OpenParen => arguments_start(place, top),
+        _ => after_chain_end(top, class, joined, place, is_target),
     }
 }

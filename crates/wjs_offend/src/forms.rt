@@ -1,7 +1,7 @@
 //! The forms that are open.
 ghost use Rattle.std.specs.Prelude.{◌≡◌, ◌∷◌, [], OnOk};
+ghost use Rattle.wjs_base.specs.Stacks.{Takes};
 ghost use Rattle.wjs_forms.specs.States.{top};
-ghost use Rattle.wjs_offend.specs.Taking.{Takes};
 
 use std::alloc::Global;
 use std::marker::Model;

@@ -5,12 +5,12 @@ ghost use Rattle.wjs_forms.specs.Moves.{ends_operand, argument_or_end, item, nam
 ghost use Rattle.wjs_forms.specs.Moves.{formal_behind, named, init, for_named, test, update};
 
 use crate::class::is_name;
-use crate::expressions::{ends, operand};
-use crate::statements::value;
+use crate::expressions::{form_end, operand_start};
+use crate::statements::expression_start;
 use wjs_forms::{Class, Control, Form, Move, Place};
 
 /// The sign that ends the literal or the arguments on top.
-fn ends_operand(top: Option<Form>) -> Move
+fn literal_or_arguments_end(top: Option<Form>) -> Move
     ensures { result ≡ ends_operand top }
 {
     match top {
@@ -25,22 +25,22 @@ pub(crate) fn argument_or_end(class: Class, top: Option<Form>) -> Move
     ensures { result ≡ argument_or_end class top }
 {
     match class {
-        Class::CloseParen => ends_operand(top),
-        _ => operand(class, Place::First, top),
+        Class::CloseParen => literal_or_arguments_end(top),
+        _ => operand_start(class, Place::First, top),
     }
 }
 
-pub(crate) fn item(class: Class, top: Option<Form>) -> Move
+pub(crate) fn array_element_or_end(class: Class, top: Option<Form>) -> Move
     ensures { result ≡ item class top }
 {
     match class {
-        Class::CloseBracket => ends_operand(top),
+        Class::CloseBracket => literal_or_arguments_end(top),
         Class::Comma => Move::Stay(Control::Item),
-        _ => operand(class, Place::First, top),
+        _ => operand_start(class, Place::First, top),
     }
 }
 
-fn named_key(is_name: bool) -> Move
+fn property_name(is_name: bool) -> Move
     ensures { result ≡ named_key is_name }
 {
     if is_name {
@@ -50,18 +50,18 @@ fn named_key(is_name: bool) -> Move
     }
 }
 
-pub(crate) fn key_or_end(class: Class, top: Option<Form>) -> Move
+pub(crate) fn property_or_end(class: Class, top: Option<Form>) -> Move
     ensures { result ≡ key_or_end class top }
 {
     match class {
-        Class::CloseBrace => ends_operand(top),
+        Class::CloseBrace => literal_or_arguments_end(top),
         Class::Literal => Move::Stay(Control::KeyColon),
-        _ => named_key(is_name(class)),
+        _ => property_name(is_name(class)),
     }
 }
 
 /// The name behind a dot.
-pub(crate) fn dotted(is_name: bool, place: Place) -> Move
+pub(crate) fn dot_access_name(is_name: bool, place: Place) -> Move
     ensures { result ≡ dotted is_name place }
 {
     if is_name {
@@ -71,7 +71,7 @@ pub(crate) fn dotted(is_name: bool, place: Place) -> Move
     }
 }
 
-pub(crate) fn name_or_formals(class: Class) -> Move
+pub(crate) fn function_name_or_formals(class: Class) -> Move
     ensures { result ≡ name_or_formals class }
 {
     match class {
@@ -91,7 +91,7 @@ pub(crate) fn formal_or_end(class: Class) -> Move
     }
 }
 
-pub(crate) fn formal_behind(class: Class) -> Move
+pub(crate) fn after_formal(class: Class) -> Move
     ensures { result ≡ formal_behind class }
 {
     match class {
@@ -102,51 +102,51 @@ pub(crate) fn formal_behind(class: Class) -> Move
 }
 
 /// Behind the name of a variable.
-pub(crate) fn named(class: Class, top: Option<Form>) -> Move
+pub(crate) fn after_variable_name(class: Class, top: Option<Form>) -> Move
     ensures { result ≡ named class top }
 {
     match class {
         Class::Assign => Move::Stay(Control::Want(Place::First)),
         Class::Comma => Move::Stay(Control::Name),
-        _ => ends(top, class),
+        _ => form_end(top, class),
     }
 }
 
 /// First in the header of a `for`.
-pub(crate) fn init(class: Class) -> Move
+pub(crate) fn for_init(class: Class) -> Move
     ensures { result ≡ init class }
 {
     match class {
         Class::Semicolon => Move::Push(Form::ForTest, Control::Test),
         Class::Var => Move::Push(Form::ForVar, Control::ForName),
-        _ => value(Form::ForInit, class),
+        _ => expression_start(Form::ForInit, class),
     }
 }
 
 /// Behind the first name that a header declares.
-pub(crate) fn for_named(class: Class, top: Option<Form>) -> Move
+pub(crate) fn after_for_variable_name(class: Class, top: Option<Form>) -> Move
     ensures { result ≡ for_named class top }
 {
     match class {
         Class::In => Move::Swap(Form::Each, Control::Want(Place::Whole)),
-        _ => named(class, top),
+        _ => after_variable_name(class, top),
     }
 }
 
-pub(crate) fn test(class: Class, top: Option<Form>) -> Move
+pub(crate) fn for_test(class: Class, top: Option<Form>) -> Move
     ensures { result ≡ test class top }
 {
     match class {
         Class::Semicolon => Move::Swap(Form::ForUpdate, Control::Update),
-        _ => operand(class, Place::Whole, top),
+        _ => operand_start(class, Place::Whole, top),
     }
 }
 
-pub(crate) fn update(class: Class, top: Option<Form>) -> Move
+pub(crate) fn for_update(class: Class, top: Option<Form>) -> Move
     ensures { result ≡ update class top }
 {
     match class {
         Class::CloseParen => Move::Pop(Control::Body),
-        _ => operand(class, Place::Whole, top),
+        _ => operand_start(class, Place::Whole, top),
     }
 }

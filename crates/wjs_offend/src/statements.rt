@@ -4,11 +4,11 @@ ghost use Rattle.wjs_forms.specs.Moves.{opened, value, statement, at_end, closes
 ghost use Rattle.wjs_forms.specs.Moves.{inserted, complete, label, label_or_end, joined_value, joined_value_or_end, value_or_end, catch_or_finally};
 ghost use Rattle.wjs_forms.specs.Moves.{finally_or_done, clause_or_end, name_or_label};
 
-use crate::expressions::{have, operand};
+use crate::expressions::{after_chain, operand_start};
 use wjs_forms::{Class, Control, Form, Move, Place};
 
 /// The token that begins what a form holds also opens the form.
-fn opened(form: Form, then: Move) -> Move
+fn opens_form(form: Form, then: Move) -> Move
     ensures { result ≡ opened form then }
 {
     match then {
@@ -19,14 +19,14 @@ fn opened(form: Form, then: Move) -> Move
 }
 
 /// The first token of an expression that the form holds.
-pub(crate) fn value(form: Form, class: Class) -> Move
+pub(crate) fn expression_start(form: Form, class: Class) -> Move
     ensures { result ≡ value form class }
 {
-    opened(form, operand(class, Place::Whole, Some(form)))
+    opens_form(form, operand_start(class, Place::Whole, Some(form)))
 }
 
 /// The first token of a statement.
-pub(crate) fn statement(class: Class) -> Move
+pub(crate) fn statement_start(class: Class) -> Move
     ensures { result ≡ statement class }
 {
     match class {
@@ -45,12 +45,12 @@ pub(crate) fn statement(class: Class) -> Move
         Class::Try => Move::Push(Form::TryBlock, Control::Brace),
         Class::In => Move::Push(Form::Within, Control::Want(Place::Whole)),
         Class::Function => Move::Refuse,
-        _ => value(Form::Value, class),
+        _ => expression_start(Form::Value, class),
     }
 }
 
 /// The end of the tokens, in a list.
-fn at_end(top: Option<Form>) -> Move
+fn end_in_list(top: Option<Form>) -> Move
     ensures { result ≡ at_end top }
 {
     match top {
@@ -60,7 +60,7 @@ fn at_end(top: Option<Form>) -> Move
 }
 
 /// `}` in a list.
-fn closes(top: Option<Form>) -> Move
+fn close_brace_in_list(top: Option<Form>) -> Move
     ensures { result ≡ closes top }
 {
     match top {
@@ -74,7 +74,7 @@ fn closes(top: Option<Form>) -> Move
 }
 
 /// `function` in a list.
-fn declares(top: Option<Form>) -> Move
+fn function_in_list(top: Option<Form>) -> Move
     ensures { result ≡ declares top }
 {
     match top {
@@ -86,7 +86,7 @@ fn declares(top: Option<Form>) -> Move
 }
 
 /// The move, among the clauses of a `switch`.
-fn in_clauses(top: Option<Form>, then: Move) -> Move
+fn among_clauses(top: Option<Form>, then: Move) -> Move
     ensures { result ≡ in_clauses top then }
 {
     match top {
@@ -96,21 +96,21 @@ fn in_clauses(top: Option<Form>, then: Move) -> Move
 }
 
 /// In a list of statements or elements.
-pub(crate) fn listed(class: Class, top: Option<Form>) -> Move
+pub(crate) fn statement_or_list_end(class: Class, top: Option<Form>) -> Move
     ensures { result ≡ listed class top }
 {
     match class {
-        Class::End => at_end(top),
-        Class::CloseBrace => closes(top),
-        Class::Case => in_clauses(top, Move::Push(Form::CaseHead, Control::Want(Place::Whole))),
-        Class::Default => in_clauses(top, Move::Stay(Control::DefaultColon)),
-        Class::Function => declares(top),
-        _ => statement(class),
+        Class::End => end_in_list(top),
+        Class::CloseBrace => close_brace_in_list(top),
+        Class::Case => among_clauses(top, Move::Push(Form::CaseHead, Control::Want(Place::Whole))),
+        Class::Default => among_clauses(top, Move::Stay(Control::DefaultColon)),
+        Class::Function => function_in_list(top),
+        _ => statement_start(class),
     }
 }
 
 /// Behind the statement of an `if`.
-fn else_or_done(class: Class) -> Move
+fn after_then_statement(class: Class) -> Move
     ensures { result ≡ else_or_done class }
 {
     match class {
@@ -120,7 +120,7 @@ fn else_or_done(class: Class) -> Move
 }
 
 /// Behind the statement of a `do`.
-fn on_while(class: Class) -> Move
+fn after_do_statement(class: Class) -> Move
     ensures { result ≡ on_while class }
 {
     match class {
@@ -130,103 +130,103 @@ fn on_while(class: Class) -> Move
 }
 
 /// Behind a statement.
-pub(crate) fn done(top: Option<Form>, class: Class) -> Move
+pub(crate) fn after_statement(top: Option<Form>, class: Class) -> Move
     ensures { result ≡ done top class }
 {
     match top {
-        Some(Form::Then) => else_or_done(class),
-        Some(Form::Do) => on_while(class),
-        _ => listed(class, top),
+        Some(Form::Then) => after_then_statement(class),
+        Some(Form::Do) => after_do_statement(class),
+        _ => statement_or_list_end(class, top),
     }
 }
 
 /// The end of a statement, where a token that continues it was taken before.
-fn inserted(joined: bool, top: Option<Form>, class: Class) -> Move
+fn inserted_end(joined: bool, top: Option<Form>, class: Class) -> Move
     ensures { result ≡ inserted joined top class }
 {
     if joined {
         Move::Refuse
     } else {
-        done(top, class)
+        after_statement(top, class)
     }
 }
 
 /// The end of a statement (section 7.9).
-pub(crate) fn complete(class: Class, joined: bool, top: Option<Form>) -> Move
+pub(crate) fn statement_end(class: Class, joined: bool, top: Option<Form>) -> Move
     ensures { result ≡ complete class joined top }
 {
     match class {
         Class::Semicolon => Move::Stay(Control::Done),
-        Class::CloseBrace | Class::End => done(top, class),
-        _ => inserted(joined, top, class),
+        Class::CloseBrace | Class::End => after_statement(top, class),
+        _ => inserted_end(joined, top, class),
     }
 }
 
 /// Behind a name that begins a statement.
-pub(crate) fn name_or_label(class: Class, joined: bool, top: Option<Form>) -> Move
+pub(crate) fn after_first_name(class: Class, joined: bool, top: Option<Form>) -> Move
     ensures { result ≡ name_or_label class joined top }
 {
     match class {
         Class::Colon => Move::Pop(Control::Body),
-        _ => have(class, joined, Place::Whole, true, top),
+        _ => after_chain(class, joined, Place::Whole, true, top),
     }
 }
 
 /// A name behind `break` or `continue`.
-fn label(joined: bool, top: Option<Form>) -> Move
+fn jump_label(joined: bool, top: Option<Form>) -> Move
     ensures { result ≡ label joined top }
 {
     if joined {
         Move::Stay(Control::Complete)
     } else {
-        done(top, Class::Word)
+        after_statement(top, Class::Word)
     }
 }
 
 /// Behind `break` or `continue`.
-pub(crate) fn label_or_end(class: Class, joined: bool, top: Option<Form>) -> Move
+pub(crate) fn after_jump(class: Class, joined: bool, top: Option<Form>) -> Move
     ensures { result ≡ label_or_end class joined top }
 {
     match class {
-        Class::Word => label(joined, top),
-        _ => complete(class, joined, top),
+        Class::Word => jump_label(joined, top),
+        _ => statement_end(class, joined, top),
     }
 }
 
 /// Behind `throw`.
-pub(crate) fn joined_value(joined: bool, class: Class) -> Move
+pub(crate) fn after_throw(joined: bool, class: Class) -> Move
     ensures { result ≡ joined_value joined class }
 {
     if joined {
-        value(Form::Value, class)
+        expression_start(Form::Value, class)
     } else {
         Move::Refuse
     }
 }
 
-fn joined_value_or_end(joined: bool, top: Option<Form>, class: Class) -> Move
+fn return_value_or_inserted_end(joined: bool, top: Option<Form>, class: Class) -> Move
     ensures { result ≡ joined_value_or_end joined top class }
 {
     if joined {
-        value(Form::Value, class)
+        expression_start(Form::Value, class)
     } else {
-        done(top, class)
+        after_statement(top, class)
     }
 }
 
 /// Behind `return`.
-pub(crate) fn value_or_end(class: Class, joined: bool, top: Option<Form>) -> Move
+pub(crate) fn after_return(class: Class, joined: bool, top: Option<Form>) -> Move
     ensures { result ≡ value_or_end class joined top }
 {
     match class {
         Class::Semicolon => Move::Stay(Control::Done),
-        Class::CloseBrace | Class::End => done(top, class),
-        _ => joined_value_or_end(joined, top, class),
+        Class::CloseBrace | Class::End => after_statement(top, class),
+        _ => return_value_or_inserted_end(joined, top, class),
     }
 }
 
 /// Behind the block of a `try`.
-pub(crate) fn catch_or_finally(class: Class) -> Move
+pub(crate) fn after_try_block(class: Class) -> Move
     ensures { result ≡ catch_or_finally class }
 {
     match class {
@@ -237,17 +237,17 @@ pub(crate) fn catch_or_finally(class: Class) -> Move
 }
 
 /// Behind the block of a `catch`.
-pub(crate) fn finally_or_done(class: Class, top: Option<Form>) -> Move
+pub(crate) fn after_catch_block(class: Class, top: Option<Form>) -> Move
     ensures { result ≡ finally_or_done class top }
 {
     match class {
         Class::Finally => Move::Push(Form::Block, Control::Brace),
-        _ => done(top, class),
+        _ => after_statement(top, class),
     }
 }
 
 /// Behind the brace that opens the clauses of a `switch`.
-pub(crate) fn clause_or_end(class: Class) -> Move
+pub(crate) fn first_clause_or_end(class: Class) -> Move
     ensures { result ≡ clause_or_end class }
 {
     match class {

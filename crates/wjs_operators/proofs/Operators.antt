@@ -1,36 +1,19 @@
--- The lines of operators with two primitives (ECMA-262, 3rd edition, sections 11.5 to 11.10).
-use Rattle.std.proofs.Common.{◌≡◌, ℕ, Bool, true, false, Result, Ok, refl, sym, ap, subst}
+-- The lines of operators by what they do with two values (ECMA-262, 3rd edition, sections 11.5 to 11.10).
+use Rattle.std.proofs.Common.{◌≡◌, Bool, true, false, refl, sym, ap}
 use Rattle.wjs_base.specs.declared.number.Whole.{Whole as NumberedWhole}
 use Rattle.wjs_base.specs.declared.values.Value.{Value as NumberedValue}
 use Rattle.wjs_base.specs.declared.values.Value.TheVariants as values
 use Rattle.wjs_base.specs.Text.{Table}
 use Rattle.wjs_by_content.specs.Tables.{value_in}
-use Rattle.wjs_num.specs.declared.arithmetic.NumFault.{NumFault}
-use Rattle.wjs_num.specs.Exact.{sum}
-use Rattle.wjs_meaning.specs.Errors.{give_result}
 use Rattle.wjs_tree.specs.declared.operators.BinaryOperator.{BinaryOperator}
 use Rattle.wjs_tree.specs.declared.operators.BinaryOperator.TheVariants as binary
 use Rattle.wjs_by_content.specs.Values.{Value, Whole, Undefined, Null, Boolean, Number, String, Object}
-use Rattle.wjs_by_content.specs.Conversions.{is_object, primitive_number, strictly_equal, loosely_equal}
-use Rattle.wjs_meaning.specs.Deeds.{Env, Act, Ret, Eval, AtExpr, Completion, Gives, give, then_value, then_number}
-use Rattle.wjs_meaning.specs.Conversions.{HintNumber}
+use Rattle.wjs_by_content.specs.Conversions.{is_object}
+use Rattle.wjs_meaning.specs.Deeds.{Env, Act, Ret, Completion, Gives, then_value, then_number}
 use Rattle.wjs_meaning.specs.NativesOfObjects.{whole_of}
-use Rattle.wjs_meaning.specs.Expressions.{binary_left, binary_right}
-use Rattle.wjs_meaning.specs.Operators.{arithmetic, operate, arithmetic_values, arithmetic_first, arithmetic_second, add_values, add_first, add_second, compare_values, compare_first, compare_second, equal_primitive, equal_values}
+use Rattle.wjs_meaning.specs.Operators.{operate, arithmetic_values, arithmetic_first, arithmetic_second, compare_first, compare_second, equal_primitive, equal_values}
 use Rattle.wjs_model.specs.Waiting.{operand_first, operand_second}
-use Rattle.wjs_frames.specs.Shortening.{Shortens}
-use Rattle.wjs_frames.proofs.Shorter.{shorten_trans}
-use Rattle.wjs_operators.specs.Operating.{is_comparison, is_arithmetic, is_calculation, equality, tells, equal_with}
-use Rattle.wjs_step_common.proofs.Converting.{primitive_shortens, number_shortens}
-
-pub arithmetic_shortens : (op : BinaryOperator) (a b : Value) (env : Env) → is_object a ≡ false → is_object b ≡ false → Shortens (arithmetic_values op a b env) (arithmetic_second op (primitive_number a) env (primitive_number b))
-arithmetic_shortens op a b env p q = shorten_trans _ _ _ (number_shortens a env (arithmetic_first op b env) p) (number_shortens b env (arithmetic_second op (primitive_number a) env) q)
-
-pub add_shortens : (a b : Value) (env : Env) → is_object a ≡ false → is_object b ≡ false → Shortens (add_values a b env) (add_second a env b)
-add_shortens a b env p q = shorten_trans _ _ _ (primitive_shortens HintNumber a env (add_first b env) p) (primitive_shortens HintNumber b env (add_second a env) q)
-
-pub compare_shortens : (op : BinaryOperator) (a b : Value) (env : Env) → is_object a ≡ false → is_object b ≡ false → Shortens (compare_values op a b env) (compare_second op a b)
-compare_shortens op a b env p q = shorten_trans _ _ _ (primitive_shortens HintNumber a env (compare_first op b env) p) (primitive_shortens HintNumber b env (compare_second op a) q)
+use Rattle.wjs_operators.specs.Operating.{is_comparison, is_arithmetic, equality, tells, equal_with}
 
 -- none of the operators whose operands are converted in another way
 pub record IsNumeric (op : BinaryOperator) : Type 0 where
@@ -104,11 +87,7 @@ module _ (v : Value) (env : Env) (e : Completion) where
   pub second_calculates : (op : BinaryOperator) → IsNumeric op → then_number (arithmetic_second op (whole_of v) env) e ≡ operand_second op v env e
   second_calculates op n = ap (λ (go : Completion → Act). go e) (sym (second_arithmetic op v env (numeric_is op n)))
 
--- an object against an object, and against another value
-pub equal_both : (a b : Value) (env : Env) (go : Bool → Act) → is_object a ≡ true → is_object b ≡ true → equal_values a b env go ≡ go (strictly_equal a b)
-equal_both (Object o) (Object p) env go h k = refl
-equal_both a b env go h k = absurd cc
-
+-- an object against another value
 pub equal_left : (a b : Value) (env : Env) (go : Bool → Act) → is_object a ≡ true → is_object b ≡ false → equal_values a b env go ≡ equal_with a b env go
 equal_left (Object o) Undefined env go h k = refl
 equal_left (Object o) Null env go h k = refl
@@ -125,12 +104,6 @@ equal_right (Number x) (Object o) env go h k = refl
 equal_right (String t) (Object o) env go h k = refl
 equal_right a b env go h k = absurd cc
 
--- two primitives
-pub equal_neither : (a b : Value) (env : Env) (go : Bool → Act) → is_object a ≡ false → is_object b ≡ false → equal_values a b env go ≡ go (loosely_equal a b)
-equal_neither (Object o) b env go h k = absurd cc
-equal_neither a (Object o) env go h k = absurd cc
-equal_neither a b env go h k = refl
-
 -- ---- what waits for a number
 
 -- a value that is none passes
@@ -143,11 +116,6 @@ number_passes go t (values.Text id) n = refl
 number_passes go t (values.Object o) n = refl
 
 -- ---- which line an operator has
-
-pub left_is_held : (op : BinaryOperator) (r : ℕ) (env : Env) (a : Value) → (op ≡ binary.And → ⊥) → (op ≡ binary.Or → ⊥) → Eval (AtExpr r) env (then_value (binary_right op a env)) ≡ binary_left op r env a
-left_is_held binary.And r env a n m = absurd (n refl)
-left_is_held binary.Or r env a n m = absurd (m refl)
-left_is_held op r env a n m = refl
 
 -- no operator that has a line of its own
 pub record Calculates (op : BinaryOperator) : Type 0 where
@@ -176,25 +144,3 @@ calculates_is binary.NotEqual a b env n = absurd (n.not_equal refl)
 calculates_is binary.StrictEqual a b env n = absurd (n.strict_equal refl)
 calculates_is binary.StrictNotEqual a b env n = absurd (n.strict_not_equal refl)
 calculates_is op a b env n = refl
-
--- ---- two numbers
-
-pub calculation_is : (op : BinaryOperator) (a b : Value) (env : Env) → is_calculation op ≡ true → operate op a b env ≡ arithmetic_values op a b env
-calculation_is binary.Multiply a b env k = refl
-calculation_is binary.Divide a b env k = refl
-calculation_is binary.Remainder a b env k = refl
-calculation_is binary.Subtract a b env k = refl
-calculation_is binary.ShiftLeft a b env k = refl
-calculation_is binary.ShiftRight a b env k = refl
-calculation_is binary.ShiftRightUnsigned a b env k = refl
-calculation_is binary.BitAnd a b env k = refl
-calculation_is binary.BitXor a b env k = refl
-calculation_is binary.BitOr a b env k = refl
-calculation_is _ a b env k = absurd cc
-
--- a result that is a number is given at once
-pub calculation_gives : (op : BinaryOperator) (x y z : Whole) (env : Env) → is_calculation op ≡ true → arithmetic op x y ≡ Ok z → Shortens (operate op (Number x) (Number y) env) (give (Number z))
-calculation_gives op x y z env k e = rw (calculation_is op (Number x) (Number y) env k) (let P : Result Whole NumFault → Type 0 = λ r. Shortens (arithmetic_values op (Number x) (Number y) env) (give_result r env) in subst P e (arithmetic_shortens op (Number x) (Number y) env refl refl))
-
-pub sum_gives : (x y z : Whole) (env : Env) → sum x y ≡ Ok z → Shortens (operate binary.Add (Number x) (Number y) env) (give (Number z))
-sum_gives x y z env e = let P : Result Whole NumFault → Type 0 = λ r. Shortens (add_values (Number x) (Number y) env) (give_result r env) in subst P e (add_shortens (Number x) (Number y) env refl refl)

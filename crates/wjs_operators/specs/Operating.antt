@@ -16,20 +16,6 @@ is_comparison binary.LessEqual = true
 is_comparison binary.GreaterEqual = true
 is_comparison _ = false
 
--- an operator on two numbers (sections 11.5, 11.6.3, 11.7 and 11.10)
-abbrev pub is_calculation : BinaryOperator → Bool
-is_calculation binary.Multiply = true
-is_calculation binary.Divide = true
-is_calculation binary.Remainder = true
-is_calculation binary.Subtract = true
-is_calculation binary.ShiftLeft = true
-is_calculation binary.ShiftRight = true
-is_calculation binary.ShiftRightUnsigned = true
-is_calculation binary.BitAnd = true
-is_calculation binary.BitXor = true
-is_calculation binary.BitOr = true
-is_calculation _ = false
-
 -- an operator whose operands are converted as those of one on two numbers (sections 11.5, 11.6.3, 11.7 and 11.10)
 abbrev pub is_arithmetic : BinaryOperator → Bool
 is_arithmetic binary.Multiply = true

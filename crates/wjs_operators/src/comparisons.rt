@@ -1,17 +1,17 @@
 //! Comparisons by order (ECMA-262, 3rd edition, sections 11.8.1 to 11.8.5).
-ghost use Rattle.std.specs.Prelude.{◌≡◌, true, false, not, option_map, unwrap_or};
-ghost use Rattle.wjs_base.specs.Text.{Table, Grows};
+ghost use Rattle.std.specs.Prelude.{◌≡◌, true};
 ghost use Rattle.wjs_by_content.specs.Tables.{value_in};
 ghost use Rattle.wjs_meaning.specs.Operators as line;
 ghost use Rattle.wjs_model.specs.Contents.{value_held};
-ghost use Rattle.wjs_model.specs.Soundness.{Base, HasValue};
+ghost use Rattle.wjs_model.specs.Soundness.{HasValue};
 ghost use Rattle.wjs_operators.specs.Operating.{is_comparison};
 ghost use Rattle.wjs_frames.specs.Handling.{Runs, GoesOn};
 
 use wjs_base::{OutOfMemory, Value};
 use wjs_frames::{convert, finish, hold};
 use wjs_model::{Completion, Config, Conversion, ExprPoint, Frame, Held, Point};
-use wjs_step_common::{are_primitives, held_value, less_than};
+use wjs_quick::is_so;
+use wjs_step_common::{are_primitives, held_value};
 use wjs_store::WorldStore;
 use wjs_tree::BinaryOperator;
 
@@ -109,40 +109,4 @@ fn compared<S: WorldStore>(
 {
     let truth = is_so(config, operator, left, right);
     finish(config, frame, Completion::Gives(Value::Bool(truth)))
-}
-
-/// Whether the comparison holds.
-#[inline(always)]
-fn is_so<S: WorldStore>(
-    config: &Config<S>,
-    operator: BinaryOperator,
-    left: Value,
-    right: Value,
-) -> bool
-    requires base { Base S.meaning config.now }
-    requires left { HasValue config.now left }
-    requires right { HasValue config.now right }
-    ensures { (t : Table) → Grows config.now.heap.texts t → line.compared operator (value_in t left) (value_in t right) ≡ result }
-{
-    match operator {
-        BinaryOperator::Less => is_true(less_than(config, left, right)),
-        BinaryOperator::Greater => is_true(less_than(config, right, left)),
-        BinaryOperator::LessEqual => is_false(less_than(config, right, left)),
-        BinaryOperator::GreaterEqual => is_false(less_than(config, left, right)),
-        _ => false,
-    }
-}
-
-#[inline(always)]
-fn is_true(truth: Option<bool>) -> bool
-    ensures { result ≡ unwrap_or truth false }
-{
-    matches!(truth, Some(true))
-}
-
-#[inline(always)]
-fn is_false(truth: Option<bool>) -> bool
-    ensures { result ≡ unwrap_or (option_map not truth) false }
-{
-    matches!(truth, Some(false))
 }

@@ -8,8 +8,6 @@ mod equality;
 mod operands;
 mod operations;
 mod relations;
-mod shortcuts;
 
 pub use binary::{binary_left, binary_right, binary_start};
 pub use operations::{operand_first, operand_second, operate};
-pub use shortcuts::quick;

@@ -1,7 +1,6 @@
 //! Operators on two numbers (ECMA-262, 3rd edition, sections 11.5, 11.6.3, 11.7 and 11.10): primitives are converted at once,
 //! objects while the frame waits.
 ghost use Rattle.std.specs.Prelude.{◌≡◌, true};
-ghost use Rattle.wjs_num.specs.Exact.{answer};
 ghost use Rattle.wjs_base.specs.Text.{Table};
 ghost use Rattle.wjs_by_content.specs.Tables.{value_in};
 ghost use Rattle.wjs_meaning.specs.Deeds.{Gives, then_number};
@@ -15,30 +14,10 @@ ghost use Rattle.wjs_frames.specs.Handling.{Runs, IsRunning, GoesOn};
 use wjs_base::{OutOfMemory, Value, Whole};
 use wjs_frames::{convert, finish, hold};
 use wjs_model::{Completion, Config, Conversion, ExprPoint, Frame, Held, Point};
-use wjs_num::{NumFault, bit_and, bit_or, bit_xor, div, mul, rem, shl, shr, sub, ushr};
+use wjs_quick::arithmetic;
 use wjs_step_common::{are_primitives, give_result, held_value, to_number};
 use wjs_store::WorldStore;
 use wjs_tree::BinaryOperator;
-
-/// The arithmetic of an operator.
-#[inline(always)]
-pub(crate) fn arithmetic(operator: BinaryOperator, x: Whole, y: Whole) -> Result<Whole, NumFault>
-    ensures { answer result ≡ line.arithmetic operator x.number y.number }
-{
-    match operator {
-        BinaryOperator::Multiply => mul(x, y),
-        BinaryOperator::Divide => div(x, y),
-        BinaryOperator::Remainder => rem(x, y),
-        BinaryOperator::Subtract => sub(x, y),
-        BinaryOperator::ShiftLeft => Ok(shl(x, y)),
-        BinaryOperator::ShiftRight => Ok(shr(x, y)),
-        BinaryOperator::ShiftRightUnsigned => Ok(ushr(x, y)),
-        BinaryOperator::BitAnd => Ok(bit_and(x, y)),
-        BinaryOperator::BitXor => Ok(bit_xor(x, y)),
-        BinaryOperator::BitOr => Ok(bit_or(x, y)),
-        _ => Ok(Whole::NAN),
-    }
-}
 
 /// An operator on two numbers.
 #[inline(always)]

@@ -56,7 +56,7 @@ option_word_same (Some r) (Some s) l id word h =
 option_word_same None (Some s) l id word h = absurd l
 option_word_same (Some r) None l id word h = absurd l
 
-pub fold_same : {A B : Type 0} (f g : B → A → B) → ((b : B) (a : A) → f b a ≡ g b a) → (xs : List A) (b : B) → fold f b xs ≡ fold g b xs
+fold_same : {A B : Type 0} (f g : B → A → B) → ((b : B) (a : A) → f b a ≡ g b a) → (xs : List A) (b : B) → fold f b xs ≡ fold g b xs
 fold_same f g same [] b = refl
 fold_same f g same (x ∷ xs) b = ap (λ w. fold f w xs) (same b x) ∙ fold_same f g same xs (g b x)
 

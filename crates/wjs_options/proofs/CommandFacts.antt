@@ -71,7 +71,7 @@ is_rule names c is k d e lt =
     sym (get_or-map rule_of (args_of c) k d e inside) ∙ ap (λ (l : List Rule). slice_index_or l k e) list
 
 -- what a parse of the command read of the option at k
-pub option_reads : (names : Names) (c : Command) (m : ArgMatches) → app_of c ≡ command_with names → IsParsedFrom c m
+option_reads : (names : Names) (c : Command) (m : ArgMatches) → app_of c ≡ command_with names → IsParsedFrom c m
     → (k : ℕ) (d : Arg) → k < 4 → (id otherwise : Text) (q : ValueParser)
     → rule_of (slice_index_or (args_of c) k d) ≡ option_rule id q otherwise
     → (id ≡ [] → ⊥) → bytes_eq id (codes "help") ≡ false → bytes_eq id (codes "version") ≡ false

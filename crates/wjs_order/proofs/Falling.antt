@@ -25,7 +25,7 @@ numbered_low g (m ∷ us) e k (inr h) = let rest : map g us ≡ falling (length 
 pub behind : (us : List ℕ) (left k : ℕ) → left < length us → k ≡ get_or us left 0 → drop left us ≡ k ∷ drop (left + 1) us
 behind us left k lt e = subst (λ z. drop left us ≡ z ∷ drop (left + 1) us) (sym e) (rw add-one (drop-cons us left 0 lt))
 
-pub once_drop : (n : ℕ) (us : List ℕ) → IsOnce us → IsOnce (drop n us)
+once_drop : (n : ℕ) (us : List ℕ) → IsOnce us → IsOnce (drop n us)
 once_drop zero us h = h
 once_drop (suc n) [] h = tt
 once_drop (suc n) (m ∷ us) h = once_drop n us h.1

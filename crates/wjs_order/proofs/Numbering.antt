@@ -2,8 +2,8 @@
 use Rattle.std.specs.Prelude.{◌≡◌, ℕ, suc, List, [], ◌∷◌, ◌++◌, map, length, Some, slice_get}
 use Rattle.std.proofs.Common.{sym, ap, subst, ◌∙◌, arith, length-append}
 use Rattle.wjs_base.proofs.Lists.{get_last}
+use Rattle.wjs_base.specs.declared.ids.NodeId.{NodeId}
 use Rattle.wjs_tree.specs.declared.node.Node.{Node}
-use Rattle.wjs_tree.specs.declared.node.NodeId.{NodeId}
 use Rattle.wjs_tree.specs.declared.node.Node.TheVariants as nodes
 use Rattle.wjs_tree.specs.Trees.{Elements}
 use Rattle.wjs_tree.specs.Shows.{Has, Keeps, IsBody}
@@ -38,7 +38,7 @@ numbered old ms ns g body last node made tree is has same moves falls long added
       order = subst (λ z. last.0 ∷ map g is.used ≡ falling z) (sym count) (cc);
     }
 
-pub numbered_once : (ns : List Node) (tree : Elements) (body : NodeId) (n : IsNumbered ns tree body) → IsOnce (body.0 ∷ n.is.used)
+numbered_once : (ns : List Node) (tree : Elements) (body : NodeId) (n : IsNumbered ns tree body) → IsOnce (body.0 ∷ n.is.used)
 numbered_once ns tree body n = subst IsOnce (sym n.order) (falling_once (length ns))
 
 pub numbered_script : (old ns : List Node) (body last : NodeId) (s : IsScript old body) → IsNumbered ns s.tree last → IsScript ns last

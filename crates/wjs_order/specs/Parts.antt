@@ -1,7 +1,7 @@
 -- The parts of a node.
 use Rattle.std.specs.Prelude.{List, ◌∷◌, ◌++◌}
+use Rattle.wjs_base.specs.declared.ids.NodeId.{NodeId}
 use Rattle.wjs_tree.specs.declared.node.Node.{Node}
-use Rattle.wjs_tree.specs.declared.node.NodeId.{NodeId}
 use Rattle.wjs_tree.specs.declared.node.Node.TheVariants as nodes
 use Rattle.wjs_scope.specs.Nesting.{option_part, plain_parts}
 use Rattle.wjs_scope.specs.Marks.{handler_blocks}

@@ -1,6 +1,6 @@
 //! Nodes that are still to take.
 ghost use Rattle.std.specs.Prelude.{◌≡◌, ◌∷◌, [], OnOk};
-ghost use Rattle.wjs_order.specs.Stacks.{Takes};
+ghost use Rattle.wjs_base.specs.Stacks.{Takes};
 
 use std::alloc::Global;
 use std::marker::Model;
@@ -15,7 +15,7 @@ pub struct Stack {
 
 impl Model for Stack {
     ghost use Rattle.std.specs.Prelude.{List, reverse};
-    ghost use Rattle.wjs_tree.specs.declared.node.NodeId.{NodeId};
+    ghost use Rattle.wjs_base.specs.declared.ids.NodeId.{NodeId};
 
     ghost Value = { List NodeId };
 

@@ -5,13 +5,15 @@ use Rattle.std.specs.declared.cmp.Ordering.TheVariants.{Less, Equal, Greater}
 use Rattle.std.specs.Ordering.{is_lt, ordering_then, ordering_reverse}
 use Rattle.std.specs.Option.{option_map_or, option_and_then}
 use Rattle.std.specs.FinMap as map
-use Rattle.std.proofs.lemmas.Bool.{true≢false, false≢true, and_parts}
+use Rattle.std.proofs.lemmas.Bool.{true≢false, and_parts, and_from}
+use Rattle.std.proofs.lemmas.Option.{same_Some}
 use Rattle.wjs_base.specs.declared.ids.ObjId.{ObjId}
 use Rattle.wjs_base.specs.declared.ids.WorldId.{WorldId}
 use Rattle.wjs_base.specs.declared.values.Slot.{Slot}
 use Rattle.wjs_base.specs.Order.{slot_cmp, slot_total, slot_exact, obj_cmp, obj_total, obj_exact, name_cmp}
 use Rattle.wjs_base.specs.Same.{same_value, object_Decides}
-use Rattle.wjs_base.proofs.Booleans.{by_bool}
+use Rattle.wjs_base.proofs.Booleans.{by_bool, and_false}
+use Rattle.wjs_base.proofs.Options.{by_option, no_none}
 use Rattle.wjs_rows.specs.Order.{is_after}
 use Rattle.wjs_store.specs.Naming.{plain}
 use Rattle.wjs_store.specs.State.{World, find_world, content_at, same_content, same_object, has_row}
@@ -21,18 +23,9 @@ use Rattle.wjs_layers.specs.declared.layer.Layer.{Layer}
 use Rattle.wjs_layers.specs.Sparse.{read_of, full_of, Keeps, IsSparse, IsAt}
 use Rattle.wjs_overlay.specs.Check.{IsLeast, differs, is_unseen, object_before}
 use Rattle.wjs_layers.specs.Cursor.{is_before, to_come, IsNextSlot}
-use Rattle.wjs_layers.proofs.Places.{some_is, no_none}
-use Rattle.wjs_layers.proofs.Full.{by_option, row_none, row_some}
+use Rattle.wjs_layers.proofs.Full.{row_none, row_some}
 use Rattle.wjs_layers.proofs.HandLaws.{above_some}
 use Rattle.wjs_overlay.proofs.Keyed.{Found, key_of, by_order}
-
-and_no : (b : Bool) → (b && false) ≡ false
-and_no true = refl
-and_no false = refl
-
-and_both : (a b : Bool) → a ≡ true → b ≡ true → (a && b) ≡ true
-and_both true b h k = k
-and_both false b h k = absurd (false≢true h)
 
 module _ (layers : List Layer) (h : IsSparse layers) (at : Spot) (here : IsAt layers at) (r : Layer) (s : slice_get layers at.place ≡ Some r) (above : WorldId) (x y : World plain) (fx : find_world (full_of layers) at.world ≡ Some x) (fy : find_world (full_of layers) above ≡ Some y) where
   kx : Keeps r x
@@ -43,19 +36,19 @@ module _ (layers : List Layer) (h : IsSparse layers) (at : Spot) (here : IsAt la
 
   -- ---- reads
 
-  pub differs_row : (t : Slot) (row : Row) → map.get r.rows t ≡ Some row → differs x y t ≡ option_map_or (λ c. not (same_content same_value c (content_at (full_of layers) above t))) (read_of row) false
+  differs_row : (t : Slot) (row : Row) → map.get r.rows t ≡ Some row → differs x y t ≡ option_map_or (λ c. not (same_content same_value c (content_at (full_of layers) above t))) (read_of row) false
   differs_row t row e =
       ap (λ o. option_map_or (λ c. not (same_content same_value c (map.get y.copy t))) o false) (kx.first t ∙ ap (option_and_then read_of) e)
       ∙ ap (λ v. option_map_or (λ c. not (same_content same_value c v)) (read_of row) false) (sym (holds_y t))
 
-  pub differs_none : (t : Slot) → map.get r.rows t ≡ None → differs x y t ≡ false
+  differs_none : (t : Slot) → map.get r.rows t ≡ None → differs x y t ≡ false
   differs_none t e = ap (λ o. option_map_or (λ c. not (same_content same_value c (map.get y.copy t))) o false) (kx.first t ∙ ap (option_and_then read_of) e)
 
   pub reads_first : (p : Slot → Bool) (d : Option (Slot × Row)) → Found r.rows p d → ((t : Slot) → p t ≡ true) → (t : Slot) → is_before t (key_of d) ≡ true → differs x y t ≡ false
   reads_first p d f all t b = differs_none t (f.gone t (all t) b)
 
   pub reads_found : (slot : Slot) (row : Row) → map.get r.rows slot ≡ Some row → option_map_or (λ c. not (same_content same_value c (content_at (full_of layers) above slot))) (read_of row) false ≡ true → ((t : Slot) → is_before t (Some slot) ≡ true → differs x y t ≡ false) → IsLeast (differs x y) (Some slot)
-  reads_found slot row e d before = record { passes = λ q z. ap (differs x y) (sym (some_is slot q z)) ∙ differs_row slot row e ∙ d; before = before }
+  reads_found slot row e d before = record { passes = λ q z. ap (differs x y) (sym (same_Some slot q z)) ∙ differs_row slot row e ∙ d; before = before }
 
   pub reads_next : (slot : Slot) (row : Row) (d : Option (Slot × Row)) → map.get r.rows slot ≡ Some row → option_map_or (λ c. not (same_content same_value c (content_at (full_of layers) above slot))) (read_of row) false ≡ false → ((t : Slot) → is_before t (Some slot) ≡ true → differs x y t ≡ false) → Found r.rows (is_after slot_cmp slot) d → (t : Slot) → is_before t (key_of d) ≡ true → differs x y t ≡ false
   reads_next slot row d e n before f t b = by_order slot_total slot_exact t slot
@@ -84,9 +77,9 @@ module _ (layers : List Layer) (h : IsSparse layers) (at : Spot) (here : IsAt la
 
       pub object_found : (is_some (content_at (full_of layers) above slot) && not (is_some (map.get r.rows slot))) ≡ true → IsLeast (λ (t : Slot). same_object t.object o && is_unseen x y t) (Some slot)
       object_found u = record {
-        passes = λ q z. ap (λ (v : Slot). same_object v.object o && is_unseen x y v) (sym (some_is slot q z)) ∙ and_both (same_object slot.object o) (is_unseen x y slot) ((object_Decides slot.object o).1 (n.on slot refl)) (unseen_is slot ∙ u);
+        passes = λ q z. ap (λ (v : Slot). same_object v.object o && is_unseen x y v) (sym (same_Some slot q z)) ∙ and_from (same_object slot.object o) (is_unseen x y slot) ((object_Decides slot.object o).1 (n.on slot refl)) (unseen_is slot ∙ u);
         before = λ t l. by_bool (same_object t.object o)
-            (λ e. ap (λ b. same_object t.object o && b) (earlier t ((object_Decides t.object o).0 e) l) ∙ and_no (same_object t.object o))
+            (λ e. ap (λ b. same_object t.object o && b) (earlier t ((object_Decides t.object o).0 e) l) ∙ and_false (same_object t.object o))
             (λ e. ap (λ b. b && is_unseen x y t) e);
       }
 
@@ -103,7 +96,7 @@ module _ (layers : List Layer) (h : IsSparse layers) (at : Spot) (here : IsAt la
       before = λ t l. by_bool (same_object t.object o)
           (λ e.
           let on = (object_Decides t.object o).0 e in
-          ap (λ b. same_object t.object o && b) (by_bool (to_come passed t) (λ c. unseen_absent t (n.least t on c refl)) (λ c. before t on c)) ∙ and_no (same_object t.object o))
+          ap (λ b. same_object t.object o && b) (by_bool (to_come passed t) (λ c. unseen_absent t (n.least t on c refl)) (λ c. before t on c)) ∙ and_false (same_object t.object o))
           (λ e. ap (λ b. b && is_unseen x y t) e);
     }
 
@@ -126,14 +119,14 @@ module _ (layers : List Layer) (h : IsSparse layers) (at : Spot) (here : IsAt la
   module _ (o : ObjId) (there : map.contains_key r.closed o ≡ true) (before : (t : Slot) → object_before t.object (Some o) ≡ true → (map.contains_key x.closed t.object && is_unseen x y t) ≡ false) where
     -- the slots of the object itself
     on_it : (t : Slot) → t.object ≡ o → (same_object t.object o && is_unseen x y t) ≡ false → (map.contains_key x.closed t.object && is_unseen x y t) ≡ false
-    on_it t e n = ap (λ b. map.contains_key x.closed t.object && b) (ap (λ b. b && is_unseen x y t) (sym ((object_Decides t.object o).1 e)) ∙ n) ∙ and_no (map.contains_key x.closed t.object)
+    on_it t e n = ap (λ b. map.contains_key x.closed t.object && b) (ap (λ b. b && is_unseen x y t) (sym ((object_Decides t.object o).1 e)) ∙ n) ∙ and_false (map.contains_key x.closed t.object)
 
     pub closed_found : (slot : Slot) → IsLeast (λ (t : Slot). same_object t.object o && is_unseen x y t) (Some slot) → IsLeast (λ (t : Slot). map.contains_key x.closed t.object && is_unseen x y t) (Some slot)
     closed_found slot m =
         let parts = and_parts (same_object slot.object o) (is_unseen x y slot) (m.passes slot refl) in
         let on : slot.object ≡ o = (object_Decides slot.object o).0 parts.0 in
         record {
-          passes = λ q z. ap (λ (v : Slot). map.contains_key x.closed v.object && is_unseen x y v) (sym (some_is slot q z)) ∙ and_both (map.contains_key x.closed slot.object) (is_unseen x y slot) (closed_is slot.object ∙ ap (map.contains_key r.closed) on ∙ there) parts.1;
+          passes = λ q z. ap (λ (v : Slot). map.contains_key x.closed v.object && is_unseen x y v) (sym (same_Some slot q z)) ∙ and_from (map.contains_key x.closed slot.object) (is_unseen x y slot) (closed_is slot.object ∙ ap (map.contains_key r.closed) on ∙ there) parts.1;
           before = λ t l. by_order obj_total obj_exact t.object o
               (λ k. before t k)
               (λ e. on_it t e (m.before t l))

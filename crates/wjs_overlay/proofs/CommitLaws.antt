@@ -6,8 +6,8 @@ use Rattle.wjs_base.specs.declared.ids.ObjId.{ObjId}
 use Rattle.wjs_base.specs.declared.ids.WorldId.{WorldId}
 use Rattle.wjs_store.specs.Shown.{slots_of}
 use Rattle.wjs_store.proofs.Named.{named}
-use Rattle.wjs_layers.proofs.Full.{by_option}
 use Rattle.wjs_base.specs.declared.values.Slot.{Slot}
+use Rattle.wjs_base.proofs.Options.{by_option}
 use Rattle.wjs_store.specs.Naming.{plain}
 use Rattle.wjs_store.specs.State.{World, State, find_world, with_parent, fault_in, verdict_at, after_commit, no_parent, moved, differs, slots_at, slots_in}
 use Rattle.wjs_store.proofs.Parents.{pair_root, pair_found, commit_alone, commit_fault, commit_moves}

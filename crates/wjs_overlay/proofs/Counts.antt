@@ -9,7 +9,7 @@ use Rattle.wjs_base.proofs.Booleans.{by_bool}
 use Rattle.wjs_store.proofs.Marks.{key_is}
 use Rattle.wjs_layers.specs.Cursor.{count_passing}
 
-pub count_le : {K : Type 0} (p q : K → Bool) (ss : List K) → ((s : K) → q s ≡ true → p s ≡ true) → count_passing q ss ≤ count_passing p ss
+count_le : {K : Type 0} (p q : K → Bool) (ss : List K) → ((s : K) → q s ≡ true → p s ≡ true) → count_passing q ss ≤ count_passing p ss
 count_le p q [] f = omega arith
 count_le p q (s ∷ ss) f =
     let rest : count_passing q ss ≤ count_passing p ss = count_le p q ss f in

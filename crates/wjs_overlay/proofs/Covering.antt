@@ -1,38 +1,25 @@
 -- What bounds cover.
 use Rattle.std.proofs.Common.{◌≡◌, ℕ, ◌+◌, ◌-◌, ◌<◌, ◌≤◌, true, false, ◌&&◌, ◌||◌, nat_le, List, [], ◌∷◌, ◌++◌, length, take, get_or, Some, None, slice_get, suc, zero, refl, ap, sym, ◌∙◌, arith}
 use Rattle.std.proofs.lemmas.Bool.{and_parts, false≢true, or_right}
-use Rattle.std.proofs.lemmas.Bool.Decides.{nat_tests}
 use Rattle.std.specs.List.Sorted.{IsNonDecreasingBy}
+use Rattle.std.proofs.lemmas.Option.{same_Some, slice_get_within}
 use Rattle.wjs_base.proofs.Booleans.{by_bool}
+use Rattle.wjs_base.proofs.Options.{no_none}
+use Rattle.wjs_base.proofs.Numbers.{of_le, le_of, not_le}
 use Rattle.wjs_store.proofs.Marks.{or_case}
 use Rattle.wjs_store.proofs.Parents.{slice_get_at}
 use Rattle.wjs_overlay.specs.declared.bounds.Bound.{Bound}
 use Rattle.wjs_overlay.specs.Covers.{covers, IsRising, IsCount, Grows}
-use Rattle.wjs_layers.proofs.Places.{some_is, no_none}
 
 -- ---- tests
 
-pub le_true : (a b : ℕ) → a ≤ b → nat_le a b ≡ true
-le_true a b h = grind (arith, nat_tests)
-
-pub true_le : (a b : ℕ) → nat_le a b ≡ true → a ≤ b
-true_le a b h = grind (arith, nat_tests)
-
-pub false_lt : (a b : ℕ) → nat_le a b ≡ false → b < a
-false_lt a b h = grind (arith, nat_tests)
-
 pub by_le : {P : Type 0} (a b : ℕ) → (a ≤ b → P) → (b < a → P) → P
-by_le a b f g = by_bool (nat_le a b) (λ t. f (true_le a b t)) (λ t. g (false_lt a b t))
+by_le a b f g = by_bool (nat_le a b) (λ t. f (le_of a b t)) (λ t. g (not_le a b t))
 
 -- ---- entries
 
-pub slice_below : {A : Type 0} (xs : List A) (i : ℕ) (a : A) → slice_get xs i ≡ Some a → i < length xs
-slice_below [] i a h = no_none a h
-slice_below (x ∷ xs) zero a h = omega arith
-slice_below (x ∷ xs) (suc i) a h = let l : i < length xs = slice_below xs i a h in omega arith
-
 pub got : {A : Type 0} (xs : List A) (i : ℕ) (a : A) → slice_get xs i ≡ Some a → get_or xs i a ≡ a
-got xs i a h = some_is (get_or xs i a) a (sym (slice_get_at xs i a (slice_below xs i a h)) ∙ h)
+got xs i a h = same_Some (get_or xs i a) a (sym (slice_get_at xs i a (slice_get_within xs i a h)) ∙ h)
 
 -- none in a list whose last there is not, and none past the last
 pub slice_none : {A P : Type 0} (xs : List A) (i : ℕ) (a : A) → slice_get xs (length xs - 1) ≡ None → slice_get xs i ≡ Some a → P
@@ -41,11 +28,11 @@ slice_none (x ∷ xs) i a n h = no_none (get_or (x ∷ xs) (length (x ∷ xs) - 
 
 pub below_last : (bs : List Bound) → IsRising bs → (last : Bound) → slice_get bs (length bs - 1) ≡ Some last → (k : ℕ) (b : Bound) → slice_get bs k ≡ Some b → b.serial ≤ last.serial
 below_last bs rising last e k b s =
-    let l : k < length bs = slice_below bs k b s in
+    let l : k < length bs = slice_get_within bs k b s in
     by_le (length bs - 1) k
     (λ m.
     let same : length bs - 1 ≡ k = omega arith in
-    let f : last.serial ≡ b.serial = ap (λ (d : Bound). d.serial) (some_is last b (sym e ∙ ap (slice_get bs) same ∙ s)) in
+    let f : last.serial ≡ b.serial = ap (λ (d : Bound). d.serial) (same_Some last b (sym e ∙ ap (slice_get bs) same ∙ s)) in
     omega arith)
     (λ m. (rising k (length bs - 1) b last m s e).1)
 
@@ -57,22 +44,22 @@ rising_places bs h = λ i j d le lt. by_le j i
 -- ---- what is covered
 
 -- by an entry
-pub covers_at : (bs : List Bound) (k place serial : ℕ) (b : Bound) → slice_get bs k ≡ Some b → b.place ≤ place → serial ≤ b.serial → covers bs place serial ≡ true
+covers_at : (bs : List Bound) (k place serial : ℕ) (b : Bound) → slice_get bs k ≡ Some b → b.place ≤ place → serial ≤ b.serial → covers bs place serial ≡ true
 covers_at [] k place serial b h p s = no_none b h
 covers_at (c ∷ bs) zero place serial b h p s =
-    ap (λ (d : Bound). (nat_le d.place place && nat_le serial d.serial) || covers bs place serial) (some_is c b h)
-    ∙ ap (λ t. (t && nat_le serial b.serial) || covers bs place serial) (le_true b.place place p)
-    ∙ ap (λ t. t || covers bs place serial) (le_true serial b.serial s)
+    ap (λ (d : Bound). (nat_le d.place place && nat_le serial d.serial) || covers bs place serial) (same_Some c b h)
+    ∙ ap (λ t. (t && nat_le serial b.serial) || covers bs place serial) (of_le b.place place p)
+    ∙ ap (λ t. t || covers bs place serial) (of_le serial b.serial s)
 covers_at (c ∷ bs) (suc k) place serial b h p s = or_right (nat_le c.place place && nat_le serial c.serial) (covers bs place serial) (covers_at bs k place serial b h p s)
 
 -- and by nothing else
-pub covers_by : {P : Type 0} (bs : List Bound) (place serial : ℕ) → covers bs place serial ≡ true → ((k : ℕ) (b : Bound) → slice_get bs k ≡ Some b → b.place ≤ place → serial ≤ b.serial → P) → P
+covers_by : {P : Type 0} (bs : List Bound) (place serial : ℕ) → covers bs place serial ≡ true → ((k : ℕ) (b : Bound) → slice_get bs k ≡ Some b → b.place ≤ place → serial ≤ b.serial → P) → P
 covers_by [] place serial h f = absurd (false≢true h)
 covers_by (c ∷ bs) place serial h f = or_case (nat_le c.place place && nat_le serial c.serial) (covers bs place serial) h
-    (λ e. let a = and_parts (nat_le c.place place) (nat_le serial c.serial) e in f zero c refl (true_le c.place place a.0) (true_le serial c.serial a.1))
+    (λ e. let a = and_parts (nat_le c.place place) (nat_le serial c.serial) e in f zero c refl (le_of c.place place a.0) (le_of serial c.serial a.1))
     (λ e. covers_by bs place serial e (λ k b s p q. f (suc k) b s p q))
 
-pub covers_none : (bs : List Bound) (place serial : ℕ) → ((k : ℕ) (b : Bound) → slice_get bs k ≡ Some b → b.place ≤ place → b.serial < serial) → covers bs place serial ≡ false
+covers_none : (bs : List Bound) (place serial : ℕ) → ((k : ℕ) (b : Bound) → slice_get bs k ≡ Some b → b.place ≤ place → b.serial < serial) → covers bs place serial ≡ false
 covers_none bs place serial h = by_bool (covers bs place serial)
     (λ e. covers_by bs place serial e (λ k b s p q. let l : b.serial < serial = h k b s p in absurd (omega arith)))
     (λ e. e)
@@ -87,15 +74,15 @@ covers_lesser bs i serial less l h = covers_by bs i serial h (λ k b s p q. cove
 -- the last entry of a place up to this one says all
 pub covers_last : (bs : List Bound) (place n : ℕ) (b : Bound) → IsRising bs → IsCount bs place n → 0 < n → slice_get bs (n - 1) ≡ Some b → (serial : ℕ) → covers bs place serial ≡ nat_le serial b.serial
 covers_last bs place n b rising count more is serial = by_bool (nat_le serial b.serial)
-    (λ e. covers_at bs (n - 1) place serial b is (count.before (n - 1) b (omega arith) is) (true_le serial b.serial e) ∙ sym e)
+    (λ e. covers_at bs (n - 1) place serial b is (count.before (n - 1) b (omega arith) is) (le_of serial b.serial e) ∙ sym e)
     (λ e.
-    let less : b.serial < serial = false_lt serial b.serial e in
+    let less : b.serial < serial = not_le serial b.serial e in
     covers_none bs place serial (λ k c s p. by_le n k
     (λ l. let later : place < c.place = count.after k c l s in absurd (omega arith))
     (λ l. by_le (n - 1) k
     (λ m.
     let same : n - 1 ≡ k = omega arith in
-    let f : b.serial ≡ c.serial = ap (λ (d : Bound). d.serial) (some_is b c (sym is ∙ ap (slice_get bs) same ∙ s)) in
+    let f : b.serial ≡ c.serial = ap (λ (d : Bound). d.serial) (same_Some b c (sym is ∙ ap (slice_get bs) same ∙ s)) in
     omega arith)
     (λ m. let q : c.serial ≤ b.serial = (rising k (n - 1) c b m s is).1 in omega arith)))
     ∙ sym e)
@@ -134,7 +121,7 @@ module _ (bs : List Bound) (place n : ℕ) (b : Bound) (rising : IsRising bs) (c
       by_le n j
       (λ m.
       let same : n ≡ j = omega arith in
-      let e : b ≡ c = some_is b c (sym (cut_new bs b n count.within) ∙ ap (slice_get (take n bs ++ b ∷ [])) same ∙ t) in
+      let e : b ≡ c = same_Some b c (sym (cut_new bs b n count.within) ∙ ap (slice_get (take n bs ++ b ∷ [])) same ∙ t) in
       let p : a.place ≤ place - 1 = count.before i a (omega arith) first in
       let q : a.serial ≤ b.serial = others i a first in
       let f : b.place ≡ c.place = ap (λ (d : Bound). d.place) e in

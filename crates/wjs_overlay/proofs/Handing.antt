@@ -3,9 +3,11 @@ use Rattle.std.proofs.Common.{◌≡◌, ℕ, ◌<◌, Bool, true, false, cond, 
 use Rattle.std.specs.Option.{option_map, option_map_or, option_and_then}
 use Rattle.std.specs.FinMap as map
 use Rattle.std.proofs.lemmas.Bool.{true≢false, or_parts}
+use Rattle.std.proofs.lemmas.Option.{same_Some}
 use Rattle.wjs_base.specs.declared.ids.WorldId.{WorldId}
 use Rattle.wjs_base.specs.declared.values.Slot.{Slot}
 use Rattle.wjs_base.proofs.Booleans.{by_bool}
+use Rattle.wjs_base.proofs.Options.{by_option}
 use Rattle.wjs_store.specs.Marked.{recorded_at, is_written, is_listed, is_strict}
 use Rattle.wjs_store.specs.MarksMoved.{MarksMoved, hands_read}
 use Rattle.wjs_store.specs.Meaning.{unseen}
@@ -20,9 +22,7 @@ use Rattle.wjs_overlay.specs.declared.bounds.Bound.{Bound}
 use Rattle.wjs_overlay.specs.Covers.{covers, Grows}
 use Rattle.wjs_layers.specs.Sparse.{place_of}
 use Rattle.wjs_overlay.specs.Touched.{Covered}
-use Rattle.wjs_layers.proofs.Full.{by_option}
 use Rattle.wjs_layers.proofs.Looks.{found_at}
-use Rattle.wjs_layers.proofs.Places.{some_is}
 use Rattle.wjs_overlay.proofs.StoreLaws.{place_ids, ids_commit}
 use Rattle.wjs_overlay.proofs.Touching.{covered_more}
 
@@ -96,7 +96,7 @@ module _ (old new : List Bound) (grows : Grows old new) (F : State plain) (w : W
       (λ e. by_bool (same_world v p)
       (λ g.
       let is : v ≡ p = world_is v p g in
-      let same : n ≡ j = some_is n j (sym place ∙ ap (place_of F) is ∙ (above p up).0) in
+      let same : n ≡ j = same_Some n j (sym place ∙ ap (place_of F) is ∙ (above p up).0) in
       by_bool (touched_at F p s)
       (λ a. grows n s.object.serial (h v n x.0 s place x.1 l (sym (touched_found F v x.0 s x.1) ∙ ap (λ k. touched_at F k s) is ∙ a)))
       (λ a. by_bool (touched_at F w s)
@@ -104,7 +104,7 @@ module _ (old new : List Bound) (grows : Grows old new) (F : State plain) (w : W
       (λ b. absurd (true≢false (sym now ∙ ap (λ k. touched_at (after_commit F w) k s) is ∙ handed_none F w p (after_commit F w) m s a b)))))
       (λ g.
       let kept : Some (unseen y) ≡ Some (unseen x.0) = sym (ap (option_map unseen) f) ∙ m.others v e g ∙ ap (option_map unseen) x.1 in
-      let same : is_touched y s ≡ is_touched x.0 s = ap (λ (z : World plain). is_touched z s) (some_is (unseen y) (unseen x.0) kept) in
+      let same : is_touched y s ≡ is_touched x.0 s = ap (λ (z : World plain). is_touched z s) (same_Some (unseen y) (unseen x.0) kept) in
       grows n s.object.serial (h v n x.0 s place x.1 l (sym same ∙ t))))
 
   pub covered_commit : Covered new (after_commit F w)

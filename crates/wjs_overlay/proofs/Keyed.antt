@@ -9,13 +9,14 @@ use Rattle.std.specs.FinMap as map
 use Rattle.std.specs.FinMap.{FinMap, IsAntisymmetric}
 use Rattle.std.specs.Map.{lookup_entry}
 use Rattle.std.proofs.lemmas.Bool.{true≢false, false≢true}
+use Rattle.std.proofs.lemmas.Option.{same_Some}
 use Rattle.wjs_base.proofs.Booleans.{by_bool}
+use Rattle.wjs_base.proofs.Options.{by_option, no_none}
+use Rattle.wjs_base.proofs.Orders.{not_self, lt_trans}
 use Rattle.wjs_rows.specs.Order.{is_after}
 use Rattle.wjs_layers.specs.Cursor.{is_prior, count_passing}
-use Rattle.wjs_layers.proofs.Places.{some_is, no_none}
-use Rattle.wjs_layers.proofs.Full.{by_option}
 use Rattle.wjs_overlay.proofs.Counts.{count_lt}
-use Rattle.wjs_layers.proofs.Cursors.{first_is, not_self, lt_trans}
+use Rattle.wjs_layers.proofs.Cursors.{first_is}
 
 -- the key of an entry
 abbrev pub key_of : {K V : Type 0} → Option (K × V) → Option K
@@ -31,8 +32,8 @@ module _ {K V : Type 0} {R : K → K → Ordering} (total : IsTotalOrder R) (exa
   found_of : (p : K → Bool) (d : Option (K × V)) → MatchOption d ((q : K) → p q ≡ true → map.get m q ≡ None) (λ e. (p e.0 ≡ true) × (map.get m e.0 ≡ Some e.1) × ((q : K) → p q ≡ true → is_some (map.get m q) ≡ true → is_lt (R q e.0) ≡ false)) → Found m p d
   found_of p None g = record { there = λ e h. no_none e h; passes = λ e h. no_none e h; gone = λ t h b. g t h }
   found_of p (Some d) g = record {
-    there = λ e h. let is = some_is d e h in subst (λ (z : K × V). map.get m z.0 ≡ Some z.1) is g.1;
-    passes = λ e h. let is = some_is d e h in subst (λ (z : K × V). p z.0 ≡ true) is g.0;
+    there = λ e h. let is = same_Some d e h in subst (λ (z : K × V). map.get m z.0 ≡ Some z.1) is g.1;
+    passes = λ e h. let is = same_Some d e h in subst (λ (z : K × V). p z.0 ≡ true) is g.0;
     gone = λ t h b. by_option (map.get m t) (λ z. z) (λ v z. absurd (true≢false (sym b ∙ g.2 t h (ap is_some z))));
   }
 
@@ -58,7 +59,7 @@ module _ {K V : Type 0} {R : K → K → Ordering} (total : IsTotalOrder R) (exa
 
 pub key_there : {K V : Type 0} {R : K → K → Ordering} (m : FinMap R V) (p : K → Bool) (d : Option (K × V)) → Found m p d → (k : K) → key_of d ≡ Some k → map.contains_key m k ≡ true
 key_there m p None f k h = no_none k h
-key_there m p (Some e) f k h = ap (map.contains_key m) (sym (some_is e.0 k h)) ∙ ap is_some (f.there e refl)
+key_there m p (Some e) f k h = ap (map.contains_key m) (sym (same_Some e.0 k h)) ∙ ap is_some (f.there e refl)
 
 -- one is before another, is it, or comes after
 pub by_order : {P : Type 0} {K : Type 0} {R : K → K → Ordering} → IsTotalOrder R → IsAntisymmetric R → (t k : K) → (is_lt (R t k) ≡ true → P) → (t ≡ k → P) → (is_lt (R k t) ≡ true → P) → P

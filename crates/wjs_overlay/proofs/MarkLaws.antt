@@ -1,11 +1,12 @@
 -- The sizes of marks, from the rows.
-use Rattle.std.proofs.Common.{◌≡◌, ℕ, ◌+◌, ◌≤◌, Bool, true, false, cond, List, [], ◌∷◌, ◌++◌, length, Option, None, Some, is_some, filter, map as each, slice_get, refl, ap, sym, ◌∙◌, arith, suc, zero}
+use Rattle.std.proofs.Common.{◌≡◌, ℕ, ◌+◌, Bool, true, false, cond, List, [], ◌∷◌, ◌++◌, length, Option, None, Some, is_some, filter, map as each, slice_get, refl, ap, sym, ◌∙◌, arith, suc, zero}
 use Rattle.std.specs.Option.{option_map, option_and_then, is_none}
 use Rattle.std.proofs.lemmas.Bool.{true≢false}
 use Rattle.std.specs.FinMap as map
 use Rattle.std.specs.FinMap.{FinMap}
 use Rattle.wjs_base.specs.declared.values.Slot.{Slot}
 use Rattle.wjs_base.specs.Order.{slot_cmp}
+use Rattle.wjs_base.proofs.Options.{some_map}
 use Rattle.wjs_store.specs.Naming.{plain}
 use Rattle.wjs_store.specs.State.{World}
 use Rattle.wjs_store.specs.Shown.{content_of, counts_of, Counts}
@@ -17,6 +18,8 @@ use Rattle.wjs_layers.specs.Marks.{reads_in, writes_in}
 use Rattle.wjs_layers.specs.Sparse.{read_of, mark_of, full_of, Keeps, IsSparse, IsAt}
 use Rattle.wjs_layers.proofs.Looks.{world_at, keeps_at}
 use Rattle.wjs_layers.proofs.SettleLaws.{entry_is, mark_keys, row_there}
+use Rattle.wjs_layers.proofs.Full.{some_mark}
+use Rattle.wjs_layers.proofs.Works.{length_if, length_each}
 
 pub not_none : {A : Type 0} (o : Option A) → is_none o ≡ false → is_some o ≡ true
 not_none None e = absurd (true≢false e)
@@ -30,26 +33,6 @@ pub writes_push : (xs : List (Slot × Row)) (e : Slot × Row) → writes_in (xs 
 writes_push [] e = omega arith
 writes_push (x ∷ xs) e = let h : writes_in (xs ++ e ∷ []) ≡ writes_in xs + cond e.1.written 1 0 = writes_push xs e in omega arith
 
-pub one_most : (b : Bool) → cond {A = ℕ} b 1 0 ≤ 1
-one_most true = omega arith
-one_most false = omega arith
-
-some_map : {A B : Type 0} (f : A → B) (o : Option A) → is_some (option_map f o) ≡ is_some o
-some_map f None = refl
-some_map f (Some a) = refl
-
-mark_by : Bool → Option (Unit {0})
-mark_by b = cond b (Some tt) None
-
-some_mark : (b : Bool) → is_some (mark_by b) ≡ b
-unfolding mark_by
-some_mark true = refl
-some_mark false = refl
-
-length_if : (b : Bool) (s : Slot) (ss : List Slot) → length (cond b (s ∷ ss) ss) ≡ cond b 1 0 + length ss
-length_if true s ss = omega arith
-length_if false s ss = omega arith
-
 reads_length : (p : Slot → Bool) (es : List (Slot × Row)) → ((i : ℕ) (e : Slot × Row) → slice_get es i ≡ Some e → p e.0 ≡ is_some e.1.read) → length (filter p (each (λ (e : Slot × Row). e.0) es)) ≡ reads_in es
 reads_length p [] f = refl
 reads_length p (e ∷ es) f = length_if (p e.0) e.0 (filter p (each (λ (e : Slot × Row). e.0) es)) ∙ ap (λ b. cond b 1 0 + length (filter p (each (λ (e : Slot × Row). e.0) es))) (f zero e refl) ∙ ap (λ m. cond (is_some e.1.read) 1 0 + m) (reads_length p es (λ i d s. f (suc i) d s))
@@ -57,10 +40,6 @@ reads_length p (e ∷ es) f = length_if (p e.0) e.0 (filter p (each (λ (e : Slo
 writes_length : (p : Slot → Bool) (es : List (Slot × Row)) → ((i : ℕ) (e : Slot × Row) → slice_get es i ≡ Some e → p e.0 ≡ e.1.written) → length (filter p (each (λ (e : Slot × Row). e.0) es)) ≡ writes_in es
 writes_length p [] f = refl
 writes_length p (e ∷ es) f = length_if (p e.0) e.0 (filter p (each (λ (e : Slot × Row). e.0) es)) ∙ ap (λ b. cond b 1 0 + length (filter p (each (λ (e : Slot × Row). e.0) es))) (f zero e refl) ∙ ap (λ m. cond e.1.written 1 0 + m) (writes_length p es (λ i d s. f (suc i) d s))
-
-length_each : {A B : Type 0} (f : A → B) (xs : List A) → length (each f xs) ≡ length xs
-length_each f [] = refl
-length_each f (x ∷ xs) = ap suc (length_each f xs)
 
 len_keys : {V : Type 0} (m : FinMap slot_cmp V) → map.len m ≡ length (map.keys m)
 len_keys m = map.len-entries m ∙ sym (length_each (λ e. e.0) (map.entries m))
@@ -71,7 +50,6 @@ module _ (r : Layer) (x : World plain) (k : Keeps r x) where
       ∙ reads_length (λ s. is_some (map.get x.first s)) (map.entries r.rows) (λ i e s. ap is_some (k.first e.0 ∙ ap (option_and_then read_of) (entry_is r.rows i e s)) ∙ some_map content_of e.1.read)
 
   len_writes : map.len x.written ≡ writes_in (map.entries r.rows)
-  unfolding mark_by
   len_writes = len_keys x.written ∙ ap length (mark_keys x.written r.rows (λ t h. row_there r x k mark_of t (sym (ap is_some (k.written t)) ∙ h)))
       ∙ writes_length (λ s. is_some (map.get x.written s)) (map.entries r.rows) (λ i e s. ap is_some (k.written e.0 ∙ ap (option_and_then mark_of) (entry_is r.rows i e s)) ∙ some_mark e.1.written)
 

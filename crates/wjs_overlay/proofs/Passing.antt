@@ -3,10 +3,11 @@ use Rattle.std.proofs.Common.{◌≡◌, ℕ, ◌<◌, true, false, List, [], �
 use Rattle.std.specs.Option.{option_map}
 use Rattle.std.specs.FinMap as map
 use Rattle.std.proofs.lemmas.Bool.{true≢false, or_parts}
+use Rattle.std.proofs.lemmas.Option.{same_Some}
 use Rattle.wjs_base.specs.declared.values.Slot.{Slot}
 use Rattle.wjs_base.specs.declared.ids.WorldId.{WorldId}
 use Rattle.wjs_base.proofs.Booleans.{by_bool}
-use Rattle.wjs_base.proofs.Options.{with_some}
+use Rattle.wjs_base.proofs.Options.{with_some, by_option, no_none}
 use Rattle.wjs_store.specs.Naming.{plain}
 use Rattle.wjs_store.specs.Reached.{IsReached}
 use Rattle.wjs_store.specs.State.{World, State, find_world, same_world, is_touched}
@@ -18,9 +19,9 @@ use Rattle.wjs_overlay.specs.Covers.{covers}
 use Rattle.wjs_layers.specs.Look.{IsUntouched}
 use Rattle.wjs_layers.specs.Sparse.{full_of, place_of, IsSparse, IsAt}
 use Rattle.wjs_overlay.specs.Touched.{Covered, IsCovered}
-use Rattle.wjs_layers.proofs.Full.{by_option, closed_same, row_some}
+use Rattle.wjs_layers.proofs.Full.{closed_same, row_some}
 use Rattle.wjs_layers.proofs.Looks.{above_at, world_at, keeps_at}
-use Rattle.wjs_layers.proofs.Places.{some_is, no_none, place_none, place_head, place_tail, place_below, find_top, find_rest}
+use Rattle.wjs_layers.proofs.Places.{place_none, place_head, place_tail, place_below, find_top, find_rest}
 use Rattle.wjs_overlay.proofs.StoreLaws.{first_layer, first_stand}
 
 -- a world at a later place than the first has a parent
@@ -28,9 +29,9 @@ has_parent : (F : State plain) (w : WorldId) (i : ℕ) (x : World plain) → IsR
 has_parent [] w i x h p f l u = no_none i (sym (place_none w) ∙ p)
 has_parent (y ∷ older) w i x h p f l u = by_bool (same_world y.id w)
     (λ e.
-    let up : y.parent ≡ None = ap (λ (z : World plain). z.parent) (some_is y x (sym (find_top y older w e) ∙ f)) ∙ u in
+    let up : y.parent ≡ None = ap (λ (z : World plain). z.parent) (same_Some y x (sym (find_top y older w e) ∙ f)) ∙ u in
     let none : length older ≡ 0 = h.0.alone up in
-    let place : length older ≡ i = some_is (length older) i (sym (place_head y older w e) ∙ p) in
+    let place : length older ≡ i = same_Some (length older) i (sym (place_head y older w e) ∙ p) in
     omega arith)
     (λ e. has_parent older w i x h.1 (sym (place_tail y older w e) ∙ p) (sym (find_rest y older w e) ∙ f) l u)
 

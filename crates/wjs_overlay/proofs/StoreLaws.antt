@@ -6,6 +6,7 @@ use Rattle.std.specs.Cmp.{tied_itself, nat_cmp_total}
 use Rattle.std.specs.FinMap as map
 use Rattle.std.specs.FinMap.{FinMap, nat_cmp-IsAntisymmetric}
 use Rattle.std.proofs.lemmas.Bool.{true≢false, false≢true, eqb-true, eq-eqb}
+use Rattle.std.proofs.lemmas.Bool.Decides.{nat_tests}
 use Rattle.wjs_base.specs.declared.ids.WorldId.{WorldId}
 use Rattle.wjs_base.specs.declared.ids.ObjId.{ObjId}
 use Rattle.wjs_base.specs.declared.values.Slot.{Slot}
@@ -21,8 +22,10 @@ use Rattle.wjs_layers.specs.Sparse.{place_of, full_of, AreKept, StandFor}
 use Rattle.wjs_overlay.specs.Store.{IsStore}
 use Rattle.std.specs.Option.{IsSome}
 use Rattle.std.proofs.Common.{IsTrue, slice_get, ◌&&◌}
+use Rattle.std.proofs.lemmas.Option.{slice_get_within}
 use Rattle.wjs_base.specs.Order.{slot_cmp, obj_cmp}
 use Rattle.wjs_base.proofs.Booleans.{by_bool}
+use Rattle.wjs_base.proofs.Options.{no_none}
 use Rattle.wjs_store.specs.State.{parent_of, child_of, next_id, after_sprout, answer_to, after}
 use Rattle.wjs_store.specs.Meaning.{PlainAct, PlainReply, Does}
 use Rattle.wjs_store.specs.Fixed.{fixed, begun, fresh}
@@ -33,7 +36,7 @@ use Rattle.wjs_store.proofs.Writes.{found_id}
 use Rattle.wjs_layers.specs.declared.layer.Spot.{Spot}
 use Rattle.wjs_layers.specs.Sparse.{Keeps, IsAt, read_of, mark_of}
 use Rattle.wjs_overlay.specs.Store.{worlds_of, first_id}
-use Rattle.wjs_layers.proofs.Places.{some_is, no_none, place_none, place_head, place_older}
+use Rattle.wjs_layers.proofs.Places.{place_none, place_head, place_older}
 use Rattle.wjs_layers.proofs.Changes.{kept_push}
 use Rattle.wjs_layers.proofs.Looks.{found_at}
 use Rattle.wjs_layers.proofs.Puts.{stand_by}
@@ -61,7 +64,7 @@ place_ids (x ∷ F) (y ∷ G) w e =
     ∙ ap (λ m. cond (same_world y.id w) (Some m) (place_of F w)) (sym (length_ids F) ∙ ap length t ∙ length_ids G)
     ∙ ap (cond (same_world y.id w) (Some (length G))) (place_ids F G w t)
 
-pub count_ids : (F G : State plain) (o : ℕ) → ids_of F ≡ ids_of G → count_of o F ≡ count_of o G
+count_ids : (F G : State plain) (o : ℕ) → ids_of F ≡ ids_of G → count_of o F ≡ count_of o G
 count_ids [] [] o e = refl
 count_ids [] (y ∷ G) o e = cc
 count_ids (x ∷ F) [] o e = cc
@@ -131,7 +134,7 @@ same_owner o p = by_bool (p == o)
     (λ e. ap (λ j. is_eq (nat_cmp o j)) (eqb-true p o e) ∙ ap is_eq (tied_itself nat_cmp_total o) ∙ sym e)
     (λ e. by_bool (eq_by_cmp nat_cmp o p) (λ f. absurd (true≢false (sym (eq-eqb p o (sym (key_is nat_cmp-IsAntisymmetric o p f))) ∙ e))) (λ f. f ∙ sym e))
 
-pub placed_more : (places : FinMap world_cmp ℕ) (F : State plain) (x : World plain) → ((w : WorldId) → map.get places w ≡ place_of F w) → (w : WorldId) → map.get (map.insert places x.id (length F)) w ≡ place_of (x ∷ F) w
+placed_more : (places : FinMap world_cmp ℕ) (F : State plain) (x : World plain) → ((w : WorldId) → map.get places w ≡ place_of F w) → (w : WorldId) → map.get (map.insert places x.id (length F)) w ≡ place_of (x ∷ F) w
 unfolding place_of
 placed_more places F x h w = map.get-insert world_total places x.id (length F) w ∙ ap (λ b. cond b (Some (length F)) (map.get places w)) (same_key w x.id) ∙ ap (cond (same_world x.id w) (Some (length F))) (h w)
 
@@ -143,7 +146,7 @@ count_cond : (b : Bool) (m n : ℕ) → (b ≡ true → n ≡ m) → cond b (m +
 count_cond true m n f = let e = f refl in omega arith
 count_cond false m n f = omega arith
 
-pub owned_more : (owners : FinMap nat_cmp ℕ) (F : State plain) (x : World plain) → ((o : ℕ) → unwrap_or (map.get owners o) 0 ≡ count_of o F) → (o : ℕ) → unwrap_or (map.get (map.insert owners x.id.owner (count_of x.id.owner F + 1)) o) 0 ≡ count_of o (x ∷ F)
+owned_more : (owners : FinMap nat_cmp ℕ) (F : State plain) (x : World plain) → ((o : ℕ) → unwrap_or (map.get owners o) 0 ≡ count_of o F) → (o : ℕ) → unwrap_or (map.get (map.insert owners x.id.owner (count_of x.id.owner F + 1)) o) 0 ≡ count_of o (x ∷ F)
 owned_more owners F x h o =
     ap (λ d. unwrap_or d 0) (map.get-insert nat_cmp_total owners x.id.owner (count_of x.id.owner F + 1) o ∙ ap (λ b. cond b (Some (count_of x.id.owner F + 1)) (map.get owners o)) (same_owner o x.id.owner))
     ∙ unwrap_cond (x.id.owner == o) (count_of x.id.owner F + 1) (map.get owners o)
@@ -218,12 +221,28 @@ first_at layers places owners r k s =
     let kr = k.sparse.kept.at f.0 0 x.0 r f.2 x.1 s in
     f.1 ∙ ap (λ i. Some i) (sym (found_id (full_of layers) f.0 x.0 x.1) ∙ kr.id)
 
+-- each place is a world's
+place_any : (F : State plain) (i : ℕ) → IsReached F → i < length F → (w : WorldId) × (place_of F w ≡ Some i)
+place_any [] i h l = absurd (omega arith)
+place_any (x ∷ F) i h l = by_bool (i == length F)
+    (λ e. (x.id, place_head x F x.id (same_self x.id) ∙ ap (λ n. Some n) (sym (eqb-true i (length F) e))))
+    (λ e.
+    let below : i < length F = grind (arith, nat_tests) in
+    let w = place_any F i h.1 below in
+    (w.0, place_older x F w.0 i h w.1))
+
+-- each layer's world stands at its place
+pub layer_placed : (layers : List Layer) (places : FinMap world_cmp ℕ) (owners : FinMap nat_cmp ℕ) (i : ℕ) (r : Layer) → IsStore layers places owners → slice_get layers i ≡ Some r → place_of (full_of layers) r.id ≡ Some i
+layer_placed layers places owners i r k s =
+    let l : i < length (full_of layers) = omega (arith, slice_get_within layers i r s, k.sparse.kept.many) in
+    let w = place_any (full_of layers) i k.sparse.reached l in
+    let x = found_at (full_of layers) w.0 i w.1 in
+    let kr = k.sparse.kept.at w.0 i x.0 r w.1 x.1 s in
+    subst (λ v. place_of (full_of layers) v ≡ Some i) (sym (found_id (full_of layers) w.0 x.0 x.1) ∙ kr.id) w.1
+
 -- the first world stands at 0
 pub first_placed : (layers : List Layer) (places : FinMap world_cmp ℕ) (owners : FinMap nat_cmp ℕ) (r : Layer) → IsStore layers places owners → slice_get layers 0 ≡ Some r → place_of (full_of layers) r.id ≡ Some 0
-first_placed layers places owners r k s =
-    let l : 0 < length (full_of layers) = omega (arith, k.some, k.sparse.kept.many) in
-    let f = first_any (full_of layers) k.sparse.reached l in
-    subst (λ i. place_of (full_of layers) i ≡ Some 0) (some_is f.0 r.id (sym f.1 ∙ first_at layers places owners r k s)) f.2
+first_placed layers places owners r k s = layer_placed layers places owners 0 r k s
 
 -- ---- a spent store
 

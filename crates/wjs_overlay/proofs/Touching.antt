@@ -1,11 +1,12 @@
 -- What worlds touch, and that bounds go on covering it.
-use Rattle.std.proofs.Common.{◌≡◌, ℕ, ◌<◌, ◌≤◌, ◌+◌, Bool, true, false, cond, not, ◌&&◌, ◌||◌, List, [], ◌∷◌, length, filter, map as each, Option, None, Some, is_some, refl, ap, sym, ◌∙◌, subst, arith}
+use Rattle.std.proofs.Common.{◌≡◌, ℕ, ◌<◌, ◌≤◌, ◌+◌, Bool, true, false, cond, not, ◌&&◌, ◌||◌, List, [], ◌∷◌, length, map as each, Option, None, Some, is_some, refl, ap, sym, ◌∙◌, subst, arith}
 use Rattle.std.specs.Option.{option_map_or, option_and_then}
 use Rattle.std.specs.Ordering.{eq_by_cmp}
 use Rattle.std.specs.List.{list_any}
 use Rattle.std.specs.FinMap as map
 use Rattle.std.specs.FinMap.{FinMap}
 use Rattle.std.proofs.lemmas.Bool.{true≢false, false≢true, or_left, or_right}
+use Rattle.std.proofs.lemmas.Option.{same_Some}
 use Rattle.wjs_base.specs.declared.ids.ObjId.{ObjId}
 use Rattle.wjs_base.specs.declared.ids.WorldId.{WorldId}
 use Rattle.wjs_base.specs.declared.values.Slot.{Slot}
@@ -13,12 +14,12 @@ use Rattle.wjs_base.specs.declared.values.Value.{Value}
 use Rattle.wjs_base.specs.Order.{obj_cmp, obj_total, obj_exact, slot_cmp, slot_total, slot_exact}
 use Rattle.wjs_base.specs.Same.{object_Decides}
 use Rattle.wjs_base.proofs.Booleans.{by_bool}
-use Rattle.wjs_base.proofs.Options.{with_some}
+use Rattle.wjs_base.proofs.Options.{with_some, no_none}
 use Rattle.wjs_store.specs.Naming.{plain}
 use Rattle.wjs_store.specs.State.{World, State, find_world, same_world, same_object, content_at, has_row, is_touched, is_below, put, read_in, read_all, write_in, write_at, list_in, slots_in, child_of, next_id, after_read, after_write, after_list, after_sprout}
 use Rattle.wjs_store.specs.Reached.{IsReached}
 use Rattle.wjs_store.proofs.Commits.{find_nil}
-use Rattle.wjs_store.proofs.Marks.{contains_insert, key_is, or_case, marks_read, marks_list, marks_at}
+use Rattle.wjs_store.proofs.Marks.{contains_insert, key_is, marks_read, marks_list, marks_at}
 use Rattle.wjs_store.proofs.States.{find_each}
 use Rattle.wjs_store.proofs.Writes.{by_one, found_id, world_is, write_id}
 use Rattle.wjs_overlay.specs.declared.bounds.Bound.{Bound}
@@ -28,8 +29,9 @@ use Rattle.wjs_overlay.specs.Touched.{Covered}
 use Rattle.wjs_layers.proofs.Changes.{mapped}
 use Rattle.wjs_overlay.proofs.Covering.{covers_later, by_le}
 use Rattle.wjs_layers.proofs.Looks.{depth_top, depth_rest, found_at}
-use Rattle.wjs_layers.proofs.Places.{some_is, no_none, place_none, place_head, place_tail, place_older, place_below, place_one, place_each, place_find, find_top, find_rest, find_older}
+use Rattle.wjs_layers.proofs.Places.{place_none, place_head, place_tail, place_older, place_below, place_one, place_each, place_find, find_top, find_rest, find_older}
 use Rattle.wjs_layers.proofs.SproutLaws.{sprout_is}
+use Rattle.wjs_overlay.proofs.Checks.{any_pass}
 
 -- ---- marks at other slots and of other objects
 
@@ -63,14 +65,6 @@ reads_other (s ∷ ss) x o t n on =
     (λ e. absurd (true≢false (sym (on t (or_left (eq_by_cmp slot_cmp t s) (list_any (eq_by_cmp slot_cmp t) ss) e)) ∙ n)))
     (λ e. e))
 
-filtered : (p : Slot → Bool) (xs : List Slot) (k : Slot) → list_any (eq_by_cmp slot_cmp k) (filter p xs) ≡ true → p k ≡ true
-filtered p [] k h = absurd (false≢true h)
-filtered p (x ∷ xs) k h = by_bool (p x)
-    (λ e. or_case (eq_by_cmp slot_cmp k x) (list_any (eq_by_cmp slot_cmp k) (filter p xs)) (sym (ap (λ b. list_any (eq_by_cmp slot_cmp k) (cond b (x ∷ filter p xs) (filter p xs))) e) ∙ h)
-    (λ f. ap p (key_is slot_exact k x f) ∙ e)
-    (λ f. filtered p xs k f))
-    (λ e. filtered p xs k (sym (ap (λ b. list_any (eq_by_cmp slot_cmp k) (cond b (x ∷ filter p xs) (filter p xs))) e) ∙ h))
-
 -- ---- what is touched newly
 
 touched_read : (s t : Slot) (x : World plain) → is_touched (read_in s x) t ≡ true → is_touched x t ≡ false → t ≡ s
@@ -88,7 +82,7 @@ touched_list o t x h k = by_bool (same_object t.object o)
     (λ e. (object_Decides t.object o).0 e)
     (λ n. absurd (true≢false (sym h
     ∙ close_other (is_some (read_all (slots_in o x) x).parent) (read_all (slots_in o x) x) o t n
-    ∙ reads_other (slots_in o x) x o t n (λ q g. filtered (λ (s : Slot). same_object s.object o) (map.keys x.copy) q g)
+    ∙ reads_other (slots_in o x) x o t n (λ q g. any_pass (λ (s : Slot). same_object s.object o) (map.keys x.copy) q g)
     ∙ k)))
 
 -- ---- bounds that cover a state
@@ -110,7 +104,7 @@ module _ (old new : List Bound) (grows : Grows old new) (F : State plain) where
   module _ (w : WorldId) (n : ℕ) (here : place_of F w ≡ Some n) where
     -- the world at the place
     at_here : (v : WorldId) (i : ℕ) (x : World plain) → place_of F v ≡ Some i → find_world F v ≡ Some x → same_world x.id w ≡ true → n ≡ i
-    at_here v i x p f e = some_is n i (sym here ∙ ap (place_of F) (sym (world_is x.id w e)) ∙ ap (place_of F) (found_id F v x f) ∙ p)
+    at_here v i x p f e = same_Some n i (sym here ∙ ap (place_of F) (sym (world_is x.id w e)) ∙ ap (place_of F) (found_id F v x f) ∙ p)
 
     one_world : (f : World plain → World plain) → (serial : ℕ) → (0 < n → covers new n serial ≡ true) → ((x : World plain) (s : Slot) → is_touched (f x) s ≡ true → is_touched x s ≡ false → s.object.serial ≡ serial)
         → (v : WorldId) (i : ℕ) (x : World plain) (s : Slot) → place_of F v ≡ Some i → find_world F v ≡ Some x → 0 < i → is_touched (cond (same_world x.id w) (f x) x) s ≡ true → is_touched x s ≡ false → covers new i s.object.serial ≡ true
@@ -149,7 +143,7 @@ module _ (old new : List Bound) (grows : Grows old new) (F : State plain) where
         let child = child_of x.0 (next_id F owner) strict in
         subst (Covered new) (sym (sprout_is F w owner strict x.0 x.1)) (λ v i y s p f l t. by_bool (same_world child.id v)
         (λ e.
-        let is : child ≡ y = some_is child y (sym (find_top child F v e) ∙ f) in
+        let is : child ≡ y = same_Some child y (sym (find_top child F v e) ∙ f) in
         absurd (true≢false (sym t ∙ ap (λ (z : World plain). is_touched z s) (sym is) ∙ bare (next_id F owner) x.0 strict s)))
         (λ e. grows i s.object.serial (h v i y s (sym (place_tail child F v e) ∙ p) (sym (find_rest child F v e) ∙ f) l t)))
       where
@@ -167,7 +161,7 @@ older_covered bs y older h k = λ w i x s p f l t. k w i x s (place_older y olde
 
 first_older : (y : World plain) (older : State plain) (v : WorldId) → 0 < length older → place_of (y ∷ older) v ≡ Some 0 → same_world y.id v ≡ false
 first_older y older v l p = by_bool (same_world y.id v)
-    (λ e. let z : length older ≡ 0 = some_is (length older) 0 (sym (place_head y older v e) ∙ p) in absurd (omega arith))
+    (λ e. let z : length older ≡ 0 = same_Some (length older) 0 (sym (place_head y older v e) ∙ p) in absurd (omega arith))
     (λ e. e)
 
 -- the newest world, where the older ones hold what the first of them does
@@ -186,8 +180,8 @@ pub past_content : (bs : List Bound) (F : State plain) → IsReached F → Cover
 past_content bs [] h k w v i x q p f past pv = no_none i (sym (place_none w) ∙ p)
 past_content bs (y ∷ older) h k w v i x q p f past pv = by_bool (same_world y.id w)
     (λ e.
-    let is : y ≡ x = some_is y x (sym (find_top y older w e) ∙ f) in
-    let place : length older ≡ i = some_is (length older) i (sym (place_head y older w e) ∙ p) in
+    let is : y ≡ x = same_Some y x (sym (find_top y older w e) ∙ f) in
+    let place : length older ≡ i = same_Some (length older) i (sym (place_head y older w e) ∙ p) in
     by_le (length older) 0
     (λ l.
     let zero_is : i ≡ 0 = omega arith in
@@ -217,5 +211,5 @@ alone_depth y (z ∷ older) (Some a) h u l = absurd (omega arith)
 pub depth_first : (F : State plain) (v : WorldId) → IsReached F → place_of F v ≡ Some 0 → depth_of F v ≡ 0
 depth_first [] v h p = no_none 0 (sym (place_none v) ∙ p)
 depth_first (y ∷ older) v h p = by_bool (same_world y.id v)
-    (λ e. depth_top y older v e ∙ alone_depth y older y.parent h refl (some_is (length older) 0 (sym (place_head y older v e) ∙ p)))
+    (λ e. depth_top y older v e ∙ alone_depth y older y.parent h refl (same_Some (length older) 0 (sym (place_head y older v e) ∙ p)))
     (λ e. depth_rest y older v e ∙ depth_first older v h.1 (sym (place_tail y older v e) ∙ p))

@@ -1,12 +1,15 @@
 -- The written slots of a world, one after another.
-use Rattle.std.proofs.Common.{◌≡◌, ◌+◌, ◌≤◌, Bool, true, false, cond, ◌&&◌, List, Option, None, Some, is_some, slice_get, refl, ap, sym, ◌∙◌}
+use Rattle.std.proofs.Common.{◌≡◌, ◌+◌, ◌≤◌, Bool, true, false, ◌&&◌, List, Option, None, Some, is_some, slice_get, refl, ap, sym, ◌∙◌}
 use Rattle.std.specs.Option.{option_map_or, option_and_then}
 use Rattle.std.specs.FinMap as map
 use Rattle.std.specs.FinMap.{FinMap}
-use Rattle.std.proofs.lemmas.Bool.{true≢false, false≢true}
+use Rattle.std.proofs.lemmas.Bool.{true≢false, and_from}
+use Rattle.std.proofs.lemmas.Option.{same_Some}
 use Rattle.wjs_base.specs.declared.values.Slot.{Slot}
 use Rattle.wjs_base.specs.Order.{slot_cmp, slot_total, slot_exact}
-use Rattle.wjs_base.proofs.Booleans.{by_bool}
+use Rattle.wjs_base.proofs.Booleans.{by_bool, and_false}
+use Rattle.wjs_base.proofs.Options.{no_none}
+use Rattle.wjs_base.proofs.Orders.{not_self}
 use Rattle.wjs_store.specs.Naming.{plain}
 use Rattle.wjs_store.specs.State.{World}
 use Rattle.wjs_layers.specs.declared.maps.Row.{Row}
@@ -16,20 +19,11 @@ use Rattle.wjs_overlay.specs.Check.{IsLeast}
 use Rattle.wjs_layers.specs.Cursor.{is_before, to_come, count_passing}
 use Rattle.wjs_layers.specs.Marks.{is_written, has_written}
 use Rattle.wjs_layers.specs.Sparse.{mark_of, full_of, IsSparse, IsAt}
-use Rattle.wjs_layers.proofs.Places.{some_is, no_none}
 use Rattle.wjs_overlay.proofs.Counts.{count_lt}
-use Rattle.wjs_layers.proofs.Cursors.{not_self}
 use Rattle.wjs_overlay.proofs.Keyed.{Found, key_of, by_order}
 use Rattle.wjs_layers.proofs.Looks.{world_at, keeps_at}
 use Rattle.wjs_layers.proofs.Scans.{to_come_on}
-
-and_no : (b : Bool) → (b && false) ≡ false
-and_no true = refl
-and_no false = refl
-
-and_both : (a b : Bool) → a ≡ true → b ≡ true → (a && b) ≡ true
-and_both true b h k = k
-and_both false b h k = absurd (false≢true h)
+use Rattle.wjs_layers.proofs.Full.{mark_by}
 
 module _ (rows : FinMap slot_cmp Row) (after : Option Slot) where
   -- of the slots after the one given, those that were passed aren't written
@@ -53,12 +47,12 @@ module _ (rows : FinMap slot_cmp Row) (after : Option Slot) where
     fails_before : (t : Slot) → is_before t (key_of d) ≡ true → (has_written rows t && to_come after t) ≡ false
     fails_before t b = by_bool (to_come after t)
         (λ a. ap (λ c. c && to_come after t) (none_before t a b))
-        (λ a. ap (λ c. has_written rows t && c) a ∙ and_no (has_written rows t))
+        (λ a. ap (λ c. has_written rows t && c) a ∙ and_false (has_written rows t))
 
   pub written_found : (passed : Option Slot) (k : Passed passed) (slot : Slot) (row : Row) → Found rows (to_come passed) (Some (slot, row)) → row.written ≡ true → IsLeast (λ (s : Slot). has_written rows s && to_come after s) (Some slot)
   written_found passed k slot row f w = record {
-    passes = λ s h. ap (λ (v : Slot). has_written rows v && to_come after v) (sym (some_is slot s h))
-        ∙ and_both (has_written rows slot) (to_come after slot)
+    passes = λ s h. ap (λ (v : Slot). has_written rows v && to_come after v) (sym (same_Some slot s h))
+        ∙ and_from (has_written rows slot) (to_come after slot)
         (ap (λ o. option_map_or (λ (row : Row). row.written) o false) (f.there (slot, row) refl) ∙ w)
         (k.later slot (f.passes (slot, row) refl));
     before = fails_before passed k (Some (slot, row)) f;
@@ -84,9 +78,6 @@ fewer_rows rows passed slot row f = count_lt slot_exact (to_come passed) (to_com
     (not_self slot_total slot)
 
 -- ---- the rows' marks are the world's
-
-abbrev mark_by : Bool → Option (Unit {0})
-mark_by b = cond b (Some tt) None
 
 some_mark : (b : Bool) → b ≡ is_some (mark_by b)
 some_mark true = refl

@@ -1,5 +1,6 @@
 //! The store of sparse worlds.
-ghost use Rattle.std.specs.Prelude.{◌≡◌, false, IfOk, IsTrue};
+ghost use Rattle.std.specs.Prelude.{◌≡◌, false, IfOk, IsTrue, Some, slice_get};
+ghost use Rattle.wjs_layers.specs.declared.layer.Layer.{Layer};
 ghost use Rattle.wjs_overlay.specs.Store.{IsStore, store_prop, first_id};
 ghost use Rattle.wjs_overlay.specs.Touched.{IsCovered, covered_prop};
 
@@ -39,6 +40,31 @@ fn first_world() -> WorldId
     WorldId {
         owner: 0,
         serial: 0,
+    }
+}
+
+/// Where a world stands if its owner made all worlds, or if each owner made one behind the first world.
+fn likely_place(world: WorldId) -> usize {
+    if world.serial == 0 {
+        world.owner as usize
+    } else {
+        world.serial as usize
+    }
+}
+
+/// Whether a world is the one at a place.
+fn stands_at(layers: &[Layer], world: WorldId, place: usize) -> bool
+    ensures { IsTrue result → (r : Layer) × (slice_get layers.now place ≡ Some r) × (r.id ≡ world) }
+{
+    match layers.get(place) {
+        None => false,
+        Some(layer) => {
+            let found = layer.id();
+            if world.owner == found.owner && world.serial == found.serial {
+                return true;
+            }
+            false
+        }
     }
 }
 
@@ -109,13 +135,17 @@ impl Overlay {
         }
     }
 
-    /// The place of a world.
+    /// The place of a world: mostly the likely one.
     #[inline(never)]
     fn search(&self, world: WorldId) -> usize
         requires live { self.now.spent ≡ false }
         requires there { IsTrue (has_world (full_of self.now.layers.items) world) }
         ensures { place_of (full_of self.now.layers.items) world ≡ Some result }
     {
+        let place = likely_place(world);
+        if stands_at(self.layers.as_slice(), world, place) {
+            return place;
+        }
         self.places.get(world).unwrap()
     }
 

@@ -144,7 +144,7 @@ no_choice_no_assignment toks no_in room y p y' p' a b (inr (isTarget, s)) = b is
 
 module _ (o : Origin) (toks : List Tok) (no_in : Bool) (room i : ℕ) (old new : List Node) (left : Part) where
   -- neither stands there
-  pub is_operand : (f : Finds o toks 3 no_in room i old left) → Keeps old new
+  is_operand : (f : Finds o toks 3 no_in room i old left) → Keeps old new
       → ((y' : Expr) (f' : ℕ) → CondStep toks no_in room f.tree left.next y' f' → ⊥)
       → (is_target f.tree ≡ true → (y' : Expr) (f' : ℕ) → AssignStep toks no_in room f.tree left.next y' f' → ⊥)
       → Finds o toks 1 no_in room i new left

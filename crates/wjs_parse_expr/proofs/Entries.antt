@@ -1,12 +1,12 @@
 -- Functions that are read already.
 use Rattle.std.proofs.Common.{◌≡◌, ℕ, ◌+◌, ◌<◌, ◌≤◌, inl, length, Bool, true, false, List, [], ◌∷◌, ◌++◌, Option, Some, None, refl, ap, subst, arith}
 use Rattle.std.specs.Prelude.{IsSome}
+use Rattle.wjs_base.specs.declared.ids.NodeId.{NodeId}
 use Rattle.wjs_tree.specs.declared.tokens.Token.TheVariants as tokens
 use Rattle.wjs_tree.specs.declared.signs.Sign.TheVariants as signs
 use Rattle.wjs_tree.specs.declared.keys.Key.TheVariants as keys
 use Rattle.wjs_tree.specs.declared.tokens.Tok.{Tok}
 use Rattle.wjs_tree.specs.declared.node.Node.{Node}
-use Rattle.wjs_tree.specs.declared.node.NodeId.{NodeId}
 use Rattle.wjs_tree.specs.Trees.{Expr, Function}
 use Rattle.wjs_tree.specs.Levels.{is_target}
 use Rattle.wjs_tree.specs.Height.{height}
@@ -33,7 +33,7 @@ use Rattle.wjs_parse_expr.specs.Answers.{from, Nothing, Finds, Adds, PartEnds}
 use Rattle.wjs_parse_expr.proofs.Readings.{token_within, shows_within}
 use Rattle.wjs_parse_expr.proofs.Primaries.{closed}
 
-pub entry_kept : (toks : List Tok) (a b : List Node) (p : ℕ) (node : NodeId) (next : ℕ) → Keeps a b → IsEntry toks a p node next → IsEntry toks b p node next
+entry_kept : (toks : List Tok) (a b : List Node) (p : ℕ) (node : NodeId) (next : ℕ) → Keeps a b → IsEntry toks a p node next → IsEntry toks b p node next
 entry_kept toks a b p node next k e = record { tree = e.tree; used = e.used; shows = kept a b k e.tree node e.used e.shows; once = e.once; reading = e.reading; only = e.only }
 
 -- what an entry is made of is what it was made of before

@@ -1,12 +1,12 @@
 -- Chains of names, indices and calls, and what `new` makes.
 use Rattle.std.proofs.Common.{◌≡◌, ℕ, ◌+◌, ◌-◌, ◌<◌, ◌≤◌, ◌⊎◌, inl, inr, min, length, Bool, true, false, List, ◌∷◌, ◌++◌, Some, refl, sym, ap, ◌∙◌, subst, arith}
+use Rattle.wjs_base.specs.declared.ids.NodeId.{NodeId}
 use Rattle.wjs_tree.specs.declared.tokens.Token.{Token}
 use Rattle.wjs_tree.specs.declared.tokens.Token.TheVariants as tokens
 use Rattle.wjs_tree.specs.declared.signs.Sign.TheVariants as signs
 use Rattle.wjs_tree.specs.declared.tokens.Tok.{Tok}
 use Rattle.wjs_tree.specs.declared.node.Node.{Node}
 use Rattle.wjs_tree.specs.declared.node.Node.TheVariants as nodes
-use Rattle.wjs_tree.specs.declared.node.NodeId.{NodeId}
 use Rattle.wjs_parse_expr.specs.declared.parts.Part.{Part}
 use Rattle.wjs_parse_expr.specs.declared.parts.Listed.{Listed}
 use Rattle.wjs_tree.specs.Trees.{Expr, Arguments, Name, Number, Text, This, ThisWorld, Null, Boolean, Paren, ArrayLit, ObjectLit, Function, Dot, At, Call, NewWith, NewBare, Binary}
@@ -29,6 +29,7 @@ use Rattle.wjs_parse_expr.proofs.Readings.{edge_high, same_token, lower, token_w
 use Rattle.wjs_tree.proofs.Forward.{forward, arguments_forward}
 use Rattle.wjs_tree.specs.declared.keys.Key.{Key}
 use Rattle.wjs_tree.specs.declared.keys.Key.TheVariants as keys
+use Rattle.wjs_tree.proofs.Levels.{bare_level, new_level}
 use Rattle.wjs_parse_expr.specs.declared.parts.Head.{Head}
 use Rattle.wjs_parse_expr.proofs.Chain.{Chain, Ahead, Apart, begin, go_on, finish, one_more}
 use Rattle.wjs_parse_expr.proofs.Chain.Chain.{done}
@@ -44,10 +45,6 @@ calls_meant false h = absurd (omega arith)
 not_bare : (t : Expr) → 16 ≤ level t → is_bare t ≡ false
 not_bare (NewBare f) h = absurd (omega arith)
 not_bare _ h = refl
-
-pub bare_level : (t : Expr) → is_bare t ≡ true → level t ≡ 15
-bare_level (NewBare f) h = refl
-bare_level _ h = cc
 
 in_level : (calls : Bool) (t : Expr) → InChain calls t → is_bare t ≡ false → chain_level calls ≤ level t
 in_level calls t (inl h) e = h
@@ -215,7 +212,7 @@ bare_edge : (t : Expr) → is_bare t ≡ true → edge t ≡ 18
 bare_edge (NewBare f) h = refl
 bare_edge _ h = cc
 
-pub bare_continues : (toks : List Tok) (calls no_in : Bool) (y : Expr) (p : ℕ) → ContinuesHead toks no_in y p → ContinuesChain toks calls no_in y p
+bare_continues : (toks : List Tok) (calls no_in : Bool) (y : Expr) (p : ℕ) → ContinuesHead toks no_in y p → ContinuesChain toks calls no_in y p
 bare_continues toks calls no_in y p d =
     (let b = bare_level y d.0 in let c = chain_low calls in let h = d.1 in omega arith, (let e = bare_edge y d.0 in let z = reach_max no_in (token_at toks p) in omega arith), λ q. absurd (let h = d.1 in omega arith))
 
@@ -376,10 +373,6 @@ record WithForm (toks : List Tok) (no_in : Bool) (room i : ℕ) (u : Expr) (m : 
   listing : Listing toks room (bracket + 1) arguments close
   ends : m ≡ close + 1
 
-bare_15 : (t : Expr) → (17 ≤ level t) ⊎ (is_bare t ≡ true) → 15 ≤ level t
-bare_15 t (inl h) = omega arith
-bare_15 t (inr h) = let b = bare_level t h in omega arith
-
 abbrev is_key_new : Key → Bool
 is_key_new keys.New = true
 is_key_new _ = false
@@ -393,7 +386,7 @@ forms toks no_in room i (NewBare f) m key r h = inl (record {
   made = f;
   is = refl;
   below = (let k = r.height in omega arith);
-  reading = record { level = bare_15 f r.formed.0; formed = r.formed.1; height = (let k = r.height in omega arith); stands = r.stands.1 };
+  reading = record { level = new_level f r.formed.0; formed = r.formed.1; height = (let k = r.height in omega arith); stands = r.stands.1 };
   chain = r.formed.0;
 })
 forms toks no_in room i (NewWith f xs) m key r h = inr (record {

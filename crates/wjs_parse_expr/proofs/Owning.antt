@@ -1,8 +1,8 @@
 -- Nodes of a tree that are its own.
 use Rattle.std.proofs.Common.{◌≡◌, ℕ, ◌<◌, ◌≤◌, ◌⊎◌, inl, inr, ⊎_elim, List, [], ◌∷◌, ◌++◌, length, Some, refl, sym, subst, arith}
+use Rattle.wjs_base.specs.declared.ids.NodeId.{NodeId}
 use Rattle.wjs_tree.specs.declared.tokens.Tok.{Tok}
 use Rattle.wjs_tree.specs.declared.node.Node.{Node}
-use Rattle.wjs_tree.specs.declared.node.NodeId.{NodeId}
 use Rattle.wjs_tree.specs.Trees.{Expr}
 use Rattle.wjs_tree.specs.Shows.{Shows, Keeps}
 use Rattle.wjs_tree.specs.Used.{IsUsed, IsOnce}
@@ -14,7 +14,7 @@ use Rattle.wjs_parse_expr.specs.declared.functions.Functions.{Functions}
 use Rattle.wjs_parse_expr.specs.Table.{entry_at, Holds, IsOfEntry, Owns}
 use Rattle.wjs_parse_expr.specs.Answers.{Origin, Begun, from}
 
-pub entry_moved : (functions : Functions) (a b : List Node) (i j i' j' n : ℕ) → Keeps a b → i' ≤ i → j ≤ j' → IsOfEntry functions a i j n → IsOfEntry functions b i' j' n
+entry_moved : (functions : Functions) (a b : List Node) (i j i' j' n : ℕ) → Keeps a b → i' ≤ i → j ≤ j' → IsOfEntry functions a i j n → IsOfEntry functions b i' j' n
 entry_moved functions a b i j i' j' n k le le' e = record {
   place = e.place;
   node = e.node;

@@ -5,6 +5,7 @@ use Rattle.std.specs.declared.result.Result.TheVariants.{Ok, Err}
 use Rattle.wjs_base.specs.declared.ids.TextId.{TextId}
 use Rattle.wjs_base.specs.declared.ids.OutOfMemory.{OutOfMemory}
 use Rattle.wjs_base.specs.declared.number.Whole.{Whole}
+use Rattle.wjs_base.specs.declared.ids.NodeId.{NodeId}
 use Rattle.wjs_tree.specs.declared.tokens.Token.{Token}
 use Rattle.wjs_tree.specs.declared.tokens.Token.TheVariants as tokens
 use Rattle.wjs_tree.specs.declared.signs.Sign.{Sign}
@@ -14,7 +15,6 @@ use Rattle.wjs_tree.specs.declared.keys.Key.TheVariants as keys
 use Rattle.wjs_tree.specs.declared.tokens.Tok.{Tok}
 use Rattle.wjs_tree.specs.declared.node.Node.{Node}
 use Rattle.wjs_tree.specs.declared.node.Node.TheVariants as nodes
-use Rattle.wjs_tree.specs.declared.node.NodeId.{NodeId}
 use Rattle.wjs_tree.specs.Trees.{Expr, Items, Properties, Name, Number, Text, This, ThisWorld, Null, Boolean, Paren, ArrayLit, ObjectLit, Function, Binary}
 use Rattle.wjs_tree.specs.Levels.{is_target}
 use Rattle.wjs_tree.specs.Ends.{token_at, HasSign, HasKey}
@@ -81,7 +81,7 @@ module _ (toks : List Tok) (no_in : Bool) (room i : ℕ) (x : Token) (e : token_
 pub no_room : (toks : List Tok) (no_in : Bool) (room i : ℕ) → room ≡ 0 → Nothing toks 18 no_in room i
 no_room toks no_in room i z = record { none = λ u m r. (let h = height_positive u in let k = r.height in omega arith) }
 
-pub leaf_found : (functions : Functions) (old : List Node) (toks : List Tok) (no_in : Bool) (room i : ℕ) (ns : List Node) (t : Expr) (node : Node) (target : Bool)
+leaf_found : (functions : Functions) (old : List Node) (toks : List Tok) (no_in : Bool) (room i : ℕ) (ns : List Node) (t : Expr) (node : Node) (target : Bool)
     → Reading toks 18 no_in room i t (i + 1) → ((p : NodeId) → Has ns p node → Shows ns t p (p.0 ∷ [])) → target ≡ is_target t
     → ((u : Expr) (m : ℕ) → Reading toks 18 no_in room i u m → (u ≡ t) × (m ≡ i + 1))
     → (r : Result (Option Part) OutOfMemory) → Adds old ns node (i + 1) target r → Answers (from toks functions old i) toks 18 no_in room i ns r

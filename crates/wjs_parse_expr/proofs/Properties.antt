@@ -41,13 +41,13 @@ property_same (property_keys.Text x) = refl
 property_same (property_keys.Number n) = refl
 
 -- a token spells one name
-pub same_property : (o : Option Token) (a b : PropertyKey) → o ≡ Some (property_token a) → o ≡ Some (property_token b) → a ≡ b
+same_property : (o : Option Token) (a b : PropertyKey) → o ≡ Some (property_token a) → o ≡ Some (property_token b) → a ≡ b
 same_property o a b p q =
     let t : property_token a ≡ property_token b = cc in
     let x = property_same a in let y = property_same b in let z : property_back (property_token a) ≡ property_back (property_token b) = ap property_back t in cc
 
 -- no name is a sign
-pub no_sign_key : (o : Option Token) (s : Sign) (key : PropertyKey) → o ≡ Some (tokens.Sign s) → o ≡ Some (property_token key) → ⊥
+no_sign_key : (o : Option Token) (s : Sign) (key : PropertyKey) → o ≡ Some (tokens.Sign s) → o ≡ Some (property_token key) → ⊥
 no_sign_key o s key p q =
     let t : tokens.Sign s ≡ property_token key = cc in
     let x = property_same key in let z : property_back (tokens.Sign s) ≡ property_back (property_token key) = ap property_back t in cc

@@ -1,5 +1,6 @@
 -- What is found behind the base of a name, an index or a call.
 use Rattle.std.proofs.Common.{◌≡◌, ℕ, ◌+◌, ◌-◌, ◌<◌, ◌⊎◌, inl, inr, Bool, true, false, List, ◌∷◌, ◌++◌, Option, Some, None, refl, ap, ◌∙◌, arith, length}
+use Rattle.wjs_base.specs.declared.ids.NodeId.{NodeId}
 use Rattle.wjs_tree.specs.declared.tokens.Token.{Token}
 use Rattle.wjs_tree.specs.declared.tokens.Token.TheVariants as tokens
 use Rattle.wjs_tree.specs.declared.node.Spelt.{Spelt}
@@ -12,7 +13,6 @@ use Rattle.wjs_tree.specs.declared.signs.Sign.TheVariants as signs
 use Rattle.wjs_tree.specs.declared.tokens.Tok.{Tok}
 use Rattle.wjs_tree.specs.declared.node.Node.{Node}
 use Rattle.wjs_tree.specs.declared.node.Node.TheVariants as nodes
-use Rattle.wjs_tree.specs.declared.node.NodeId.{NodeId}
 use Rattle.wjs_parse_expr.specs.declared.parts.Part.{Part}
 use Rattle.wjs_parse_expr.specs.declared.parts.Listed.{Listed}
 use Rattle.wjs_tree.specs.Trees.{Expr, Dot, At, Call}
@@ -44,7 +44,7 @@ spelt_same (spelts.Word x) = refl
 spelt_same (spelts.Key k) = refl
 
 -- a token spells one name
-pub same_spelt : (o : Option Token) (a b : Spelt) → o ≡ Some (spelt_token a) → o ≡ Some (spelt_token b) → a ≡ b
+same_spelt : (o : Option Token) (a b : Spelt) → o ≡ Some (spelt_token a) → o ≡ Some (spelt_token b) → a ≡ b
 same_spelt o a b p q =
     let t : spelt_token a ≡ spelt_token b = cc in
     let x = spelt_same a in let y = spelt_same b in let z : spelt_back (spelt_token a) ≡ spelt_back (spelt_token b) = ap spelt_back t in cc

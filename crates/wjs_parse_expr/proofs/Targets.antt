@@ -15,10 +15,11 @@ use Rattle.wjs_parse_expr.proofs.Readings.{part_kept}
 use Rattle.wjs_parse_expr.specs.Answers.{Origin, EndsAt}
 use Rattle.std.specs.Prelude.{if◌then◌else◌}
 use Rattle.std.specs.declared.result.Result.TheVariants.{Ok}
+use Rattle.wjs_tree.proofs.Levels.{bare_level}
 use Rattle.wjs_parse_expr.specs.declared.parts.Head.{Head}
 use Rattle.wjs_parse_expr.proofs.Chain.{Chain}
 use Rattle.wjs_parse_expr.proofs.Chain.Chain.{done, step}
-use Rattle.wjs_parse_expr.proofs.Heads.{Chaining, ChainStep, ContinuesHead, chain_begin, chain_step, in_chain, suffix_reach, suffix_forward, chain_parts, bare_level}
+use Rattle.wjs_parse_expr.proofs.Heads.{Chaining, ChainStep, ContinuesHead, chain_begin, chain_step, in_chain, suffix_reach, suffix_forward, chain_parts}
 
 -- at least one step
 pub record Beyond (toks : List Tok) (room : ℕ) (t : Expr) (n : ℕ) (y : Expr) (f : ℕ) : Type 0 where
@@ -72,7 +73,7 @@ module _ (q : Origin) (toks : List Tok) (no_in : Bool) (room i : ℕ) where
   must_beyond y f u m n t (step y' f' s c) = record { next = y'; place = f'; first = s; rest = c }
 
   -- the left part is a is_target
-  pub is_last : (ns : List Node) (left : Part) (g : Chaining q toks true no_in room i ns left) → left.is_target ≡ true
+  is_last : (ns : List Node) (left : Part) (g : Chaining q toks true no_in room i ns left) → left.is_target ≡ true
       → ((u : Expr) (m : ℕ) → Reading toks 15 no_in room i u m → is_target u ≡ true → (((u ≡ g.tree) × (m ≡ left.next)) ⊎ ((m < left.next) × (15 < reach no_in (token_at toks m)))) ⊎ Beyond toks room u m g.tree left.next)
       → WithLast q toks no_in room i ns left g.tree left.next
   is_last ns left g is all = record { tree = g.tree; part = g.part; target = sym g.part.is_target ∙ is; reading = g.reading; place = inl refl; all = all }

@@ -1,11 +1,11 @@
 -- Functions that are read already.
 use Rattle.std.specs.Prelude.{◌≡◌, ℕ, ◌+◌, ◌<◌, ◌≤◌, ◌⊎◌, nat_eq, List, length, Option, Some, IsSome}
 use Rattle.std.specs.HashMap.{get}
+use Rattle.wjs_base.specs.declared.ids.NodeId.{NodeId}
 use Rattle.wjs_tree.specs.declared.tokens.Tok.{Tok}
 use Rattle.wjs_tree.specs.declared.signs.Sign.TheVariants as signs
 use Rattle.wjs_tree.specs.declared.keys.Key.TheVariants as keys
 use Rattle.wjs_tree.specs.declared.node.Node.{Node}
-use Rattle.wjs_tree.specs.declared.node.NodeId.{NodeId}
 use Rattle.wjs_tree.specs.Trees.{Expr}
 use Rattle.wjs_tree.specs.Ends.{HasSign, HasKey}
 use Rattle.wjs_tree.specs.Shows.{Shows}

@@ -1,6 +1,7 @@
 -- Variables, which a loop reads one by one.
 use Rattle.std.proofs.Common.{◌≡◌, ℕ, ◌+◌, ◌≤◌, Bool, List, [], ◌∷◌, ◌++◌, Option, Some, None, refl, sym, ap, ◌∙◌, subst, arith, append_assoc}
 use Rattle.wjs_base.specs.declared.ids.TextId.{TextId}
+use Rattle.wjs_base.specs.declared.ids.NodeId.{NodeId}
 use Rattle.wjs_tree.specs.declared.tokens.Token.TheVariants as tokens
 use Rattle.wjs_tree.specs.declared.signs.Sign.TheVariants as signs
 use Rattle.wjs_tree.specs.declared.tokens.Tok.{Tok}
@@ -11,7 +12,6 @@ use Rattle.wjs_tree.specs.Height.{variables_height}
 use Rattle.wjs_tree.specs.Formed.{AreSome, VariablesFormed}
 use Rattle.wjs_tree.specs.Children.{OptionBelow, DeclaratorsBelow}
 use Rattle.wjs_tree.specs.Ends.{token_at, HasToken, HasSign, InExpr}
-use Rattle.wjs_tree.specs.declared.node.NodeId.{NodeId}
 use Rattle.wjs_tree.specs.Spelling.{Stands, InitialiserStands, VariablesStand, MoreVariablesStand, last_ending}
 use Rattle.wjs_tree.specs.Shows.{VariablesShow, Keeps}
 use Rattle.wjs_tree.proofs.Kept.{optional_kept, keeps_self, keeps_both}

@@ -16,14 +16,14 @@ use Rattle.wjs_tree.specs.declared.operators.UpdateOperator.{UpdateOperator}
 use Rattle.wjs_tree.specs.declared.operators.UpdateOperator.TheVariants as updates
 use Rattle.wjs_tree.specs.Operators.{update_token}
 use Rattle.wjs_tree.specs.Trees.{Expr, Name, Number, Text, This, ThisWorld, Null, Boolean, Paren, ArrayLit, ObjectLit, Function, Dot, At, Call, NewWith, NewBare, Postfix, Prefix, Binary, Cond, Assign, Comma}
-use Rattle.wjs_tree.specs.Levels.{level, is_bare, ends_in_update}
+use Rattle.wjs_tree.specs.Levels.{level, ends_in_update}
 use Rattle.wjs_tree.specs.Formed.{WellFormed}
 use Rattle.wjs_tree.specs.Spelling.{Stands, spelt_token}
 use Rattle.wjs_tree.specs.Ends.{token_at, HasSign, is_joined, is_operator, is_suffix, continues, Ending, InExpr, CanInsert, Offends, Ends}
+use Rattle.wjs_tree.proofs.Levels.{new_level}
 use Rattle.wjs_parse_expr.specs.Reach.{reach, token_reach, sign_reach, key_reach}
 use Rattle.wjs_parse_expr.specs.Readings.{Continues, edge}
 use Rattle.wjs_parse_expr.proofs.Readings.{edge_high}
-use Rattle.wjs_parse_expr.proofs.Heads.{bare_level}
 use Rattle.wjs_parse_simple.specs.Readings.{is_update_token, update_before}
 
 -- what continues a statement, by reaches
@@ -90,7 +90,7 @@ high_edge : (e : Expr) → ends_in_update e ≡ true → edge e ≡ 14
 high_edge e h = ap (λ (b : Bool). cond b 14 18) h
 
 -- before an offending token no longer expression stands
-pub no_longer : (toks : List Tok) (least : ℕ) (e : Expr) (m : ℕ) → Continues toks least false e m → Offends toks (InExpr (ends_in_update e)) m → ⊥
+no_longer : (toks : List Tok) (least : ℕ) (e : Expr) (m : ℕ) → Continues toks least false e m → Offends toks (InExpr (ends_in_update e)) m → ⊥
 no_longer toks least e m c o =
     let r : reach false (token_at toks m) ≡ token_reach false o.token = ap (reach false) o.stands in
     let st = stopped (token_reach false o.token) (ends_in_update e) (by_reach o.token (ends_in_update e) o.stops) in
@@ -157,10 +157,6 @@ spelt_no_update : (x : Spelt) → is_update_token (Some (spelt_token x)) ≡ fal
 spelt_no_update (spelts.Word x) = refl
 spelt_no_update (spelts.Key k) = refl
 
-bare_15 : (t : Expr) → (17 ≤ level t) ⊎ (is_bare t ≡ true) → 15 ≤ level t
-bare_15 t (inl h) = omega arith
-bare_15 t (inr h) = let b = bare_level t h in omega arith
-
 not_update : (no_in : Bool) (t : Expr) → 15 ≤ level t → WellFormed no_in t → ends_in_update t ≡ false
 not_update no_in t h w = by_edge (ends_in_update t) (edge_high no_in t h w)
   where
@@ -185,7 +181,7 @@ last_update toks no_in (Dot e x) i n w s = last_is toks (s.0 + 1) n (spelt_token
 last_update toks no_in (At e j) i n w s = last_is toks s.1 n (tokens.Sign signs.CloseBracket) s.6 s.5
 last_update toks no_in (Call f xs) i n w s = last_is toks s.1 n (tokens.Sign signs.CloseParen) s.6 s.5
 last_update toks no_in (NewWith f xs) i n w s = last_is toks s.1 n (tokens.Sign signs.CloseParen) s.7 s.6
-last_update toks no_in (NewBare f) i n w s = last_update toks no_in f (i + 1) n w.1 s.1 ∙ not_update no_in f (bare_15 f w.0) w.1
+last_update toks no_in (NewBare f) i n w s = last_update toks no_in f (i + 1) n w.1 s.1 ∙ not_update no_in f (new_level f w.0) w.1
 last_update toks no_in (Postfix t x) i n w s = last_is toks s.0 n (update_token x) s.4 s.2 ∙ update_is x
 last_update toks no_in (Prefix x e) i n w s = last_update toks no_in e (i + 1) n w.2 s.1
 last_update toks no_in (Binary a op b) i n w s = last_update toks no_in b (s.0 + 1) n w.4 s.3

@@ -45,7 +45,7 @@ at_sign : (toks : List Tok) (i : ℕ) (s : Sign) → HasSign toks i s → kind_o
 at_sign toks i s h = ap (λ z. kind_of z (token_at toks (i + 1))) h
 
 -- the kind by the tokens is the kind by the form, where no longer statement stands
-pub same_kind : (toks : List Tok) (u : Stmt) (i n : ℕ) → StmtFormed u → StmtStands toks u i n → (HasSign toks n signs.Colon → ⊥) → kind_of (token_at toks i) (token_at toks (i + 1)) ≡ kind_of_stmt u
+same_kind : (toks : List Tok) (u : Stmt) (i n : ℕ) → StmtFormed u → StmtStands toks u i n → (HasSign toks n signs.Colon → ⊥) → kind_of (token_at toks i) (token_at toks (i + 1)) ≡ kind_of_stmt u
 same_kind toks (Block body) i n f s nay = at_sign toks i _ s.1
 same_kind toks (Var vs end) i n f s nay = at_key toks i _ s.1
 same_kind toks Empty i n f s nay = at_sign toks i _ s.0

@@ -1,9 +1,9 @@
 -- Nodes of parts that stand one behind another, and nodes on top of them.
 use Rattle.std.proofs.Common.{◌≡◌, ℕ, ◌<◌, ◌≤◌, List, [], ◌∷◌, ◌++◌, length, arith}
 use Rattle.std.proofs.lemmas.Option.{slice_get_within}
+use Rattle.wjs_base.specs.declared.ids.NodeId.{NodeId}
 use Rattle.wjs_tree.specs.declared.tokens.Tok.{Tok}
 use Rattle.wjs_tree.specs.declared.node.Node.{Node}
-use Rattle.wjs_tree.specs.declared.node.NodeId.{NodeId}
 use Rattle.wjs_tree.specs.Shows.{Has, Keeps}
 use Rattle.wjs_tree.proofs.Kept.{keeps_both, keeps_self}
 use Rattle.wjs_parse_expr.specs.declared.functions.Functions.{Functions}
@@ -18,7 +18,7 @@ pub record Added (old new : List Node) (node : NodeId) (made : Node) : Type 0 wh
   pub is : node.0 ≡ length old
   pub keeps : Keeps old new
 
-pub added_there : (old new : List Node) (node : NodeId) (made : Node) → Added old new node made → node.0 < length new
+added_there : (old new : List Node) (node : NodeId) (made : Node) → Added old new node made → node.0 < length new
 added_there old new node made d = slice_get_within new node.0 made d.has
 
 pub span_none : (functions : Functions) (ns : List Node) (i : ℕ) → Span functions ns ns i i []

@@ -4,8 +4,8 @@ use Rattle.std.specs.Prelude.{ℕ, ◌≤◌, List, Option, Some}
 use Rattle.std.specs.declared.result.Result.{Result}
 use Rattle.std.specs.declared.result.Result.TheVariants.{Ok}
 use Rattle.wjs_base.specs.declared.ids.OutOfMemory.{OutOfMemory}
+use Rattle.wjs_base.specs.declared.ids.NodeId.{NodeId}
 use Rattle.wjs_tree.specs.declared.node.Node.{Node}
-use Rattle.wjs_tree.specs.declared.node.NodeId.{NodeId}
 use Rattle.wjs_tree.specs.declared.node.Declarator.{Declarator}
 use Rattle.wjs_tree.specs.Trees.{Expr, Optional, Variables, Stmt}
 use Rattle.wjs_tree.specs.Shows.{Shows, OptionalShows, VariablesShow, StmtShows, Keeps}

@@ -1,12 +1,12 @@
 -- Clauses of a `switch`.
 use Rattle.std.proofs.Common.{◌≡◌, ℕ, ◌+◌, ◌-◌, ◌<◌, ◌≤◌, true, false, List, [], ◌∷◌, ◌++◌, Option, Some, None, refl, sym, ap, ◌∙◌, subst, arith, append_assoc}
+use Rattle.wjs_base.specs.declared.ids.NodeId.{NodeId}
 use Rattle.wjs_tree.specs.declared.tokens.Token.{Token}
 use Rattle.wjs_tree.specs.declared.signs.Sign.TheVariants as signs
 use Rattle.wjs_tree.specs.declared.keys.Key.TheVariants as keys
 use Rattle.wjs_tree.specs.declared.tokens.Tok.{Tok}
 use Rattle.wjs_tree.specs.declared.node.Node.{Node}
 use Rattle.wjs_tree.specs.declared.node.Node.TheVariants as nodes
-use Rattle.wjs_tree.specs.declared.node.NodeId.{NodeId}
 use Rattle.wjs_tree.specs.declared.node.Clause.{Clause}
 use Rattle.wjs_tree.specs.Trees.{Expr, Optional, Absent, Present, Stmt, Switch, Stmts, Clauses, NoClause, Case, Default}
 use Rattle.wjs_tree.specs.Height.{stmts_height, clauses_height}
@@ -176,7 +176,7 @@ module _ (toks : List Tok) (room at : ℕ) where
         (a.1 ∙ ap l.wrap c.0, c.1 ∙ sym next));
   }
 
-  pub some_arm : (place : ℕ) → (HasSign toks place signs.CloseBrace → ⊥) → (us : Clauses) (k : ℕ) → ClausesForm toks room place us k → FirstArm toks room place us k
+  some_arm : (place : ℕ) → (HasSign toks place signs.CloseBrace → ⊥) → (us : Clauses) (k : ℕ) → ClausesForm toks room place us k → FirstArm toks room place us k
   some_arm place go NoClause k g = absurd (go (subst (λ (z : ℕ). HasSign toks z signs.CloseBrace) g.stands g.closes))
   some_arm place go (Case e body rest) k g = record {
     test = Present e;

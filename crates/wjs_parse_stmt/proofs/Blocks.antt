@@ -1,10 +1,10 @@
 -- Statements one behind another, and blocks.
 use Rattle.std.proofs.Common.{◌≡◌, ℕ, ◌+◌, ◌-◌, ◌<◌, ◌≤◌, true, false, List, [], ◌∷◌, ◌++◌, refl, sym, ap, ◌∙◌, subst, arith, append_assoc}
+use Rattle.wjs_base.specs.declared.ids.NodeId.{NodeId}
 use Rattle.wjs_tree.specs.declared.signs.Sign.TheVariants as signs
 use Rattle.wjs_tree.specs.declared.tokens.Tok.{Tok}
 use Rattle.wjs_tree.specs.declared.node.Node.{Node}
 use Rattle.wjs_tree.specs.declared.node.Node.TheVariants as nodes
-use Rattle.wjs_tree.specs.declared.node.NodeId.{NodeId}
 use Rattle.wjs_tree.specs.Trees.{Stmt, Stmts, NoStmt, MoreStmts, Block}
 use Rattle.wjs_tree.specs.Height.{stmts_height}
 use Rattle.wjs_tree.specs.Formed.{StmtsFormed}
@@ -76,7 +76,7 @@ module _ (toks : List Tok) (room at : ℕ) where
   stopped s (MoreStmts t rest) m k st close = start_stops toks m s (starting toks t m st.0 st.1)
 
   -- a list that isn't closed has a statement
-  pub some_stmt : (place : ℕ) → is_closer (token_at toks place) ≡ false → (rest : Stmts) (k : ℕ) → StmtsForm toks room place rest k
+  some_stmt : (place : ℕ) → is_closer (token_at toks place) ≡ false → (rest : Stmts) (k : ℕ) → StmtsForm toks room place rest k
       → (s : Stmt) × (more : Stmts) × (m : ℕ) × (rest ≡ MoreStmts s more) × StmtReading toks room place s m × Stops toks m s × StmtsForm toks room m more k
   some_stmt place go NoStmt k g = absurd (let q : is_closer (token_at toks k) ≡ is_closer (token_at toks place) = ap (λ (z : ℕ). is_closer (token_at toks z)) g.stands in let c = g.closes in cc)
   some_stmt place go (MoreStmts s more) k g = (

@@ -1,12 +1,12 @@
 -- `if`, with all that stands behind its `else`s.
 use Rattle.std.proofs.Common.{◌≡◌, ℕ, ◌+◌, ◌-◌, ◌<◌, ◌⊎◌, inl, inr, true, false, List, [], ◌∷◌, ◌++◌, None, refl, sym, ap, ◌∙◌, subst, arith}
+use Rattle.wjs_base.specs.declared.ids.NodeId.{NodeId}
 use Rattle.wjs_tree.specs.declared.tokens.Token.TheVariants as tokens
 use Rattle.wjs_tree.specs.declared.signs.Sign.TheVariants as signs
 use Rattle.wjs_tree.specs.declared.keys.Key.TheVariants as keys
 use Rattle.wjs_tree.specs.declared.tokens.Tok.{Tok}
 use Rattle.wjs_tree.specs.declared.node.Node.{Node}
 use Rattle.wjs_tree.specs.declared.node.Node.TheVariants as nodes
-use Rattle.wjs_tree.specs.declared.node.NodeId.{NodeId}
 use Rattle.wjs_tree.specs.Trees.{Expr, Stmt, If, IfElse}
 use Rattle.wjs_tree.specs.Formed.{is_open_if}
 use Rattle.wjs_tree.specs.Ends.{token_at, HasKey}
@@ -170,7 +170,7 @@ module _ (toks : List Tok) (room place : ℕ) (key : HasKey toks place keys.If) 
     if_open h opened u m r s = let b = behind_else h u m s (shape toks room place key u m r s) in let c = b.0 in let d = f.is_open in cc
 
     -- the reading of the whole
-    pub joined : HasKey toks p.next keys.Else → p.is_open ≡ false → (v : Stmt) (n : ℕ) → StmtReading toks room (p.next + 1) v n → 0 < room → StmtReading toks room place (IfElse f.test f.body v) n
+    joined : HasKey toks p.next keys.Else → p.is_open ≡ false → (v : Stmt) (n : ℕ) → StmtReading toks room (p.next + 1) v n → 0 < room → StmtReading toks room place (IfElse f.test f.body v) n
     joined h closed v n r below =
         let q : f.form.place ≡ f.form.test.close + 1 = f.form.test.ends in
         record {

@@ -1,8 +1,8 @@
 -- `if`s behind each other's `else`s, which a loop makes from the last to the first.
 use Rattle.std.proofs.Common.{◌≡◌, ℕ, ◌-◌, take, ◌<◌, ◌≤◌, List, [], ◌∷◌, ◌++◌, Some, refl, sym, ap, ◌∙◌, subst, arith}
+use Rattle.wjs_base.specs.declared.ids.NodeId.{NodeId}
 use Rattle.wjs_tree.specs.declared.node.Node.{Node}
 use Rattle.wjs_tree.specs.declared.node.Node.TheVariants as nodes
-use Rattle.wjs_tree.specs.declared.node.NodeId.{NodeId}
 use Rattle.wjs_tree.specs.Trees.{Stmt, IfElse}
 use Rattle.wjs_tree.specs.Shows.{Has, Shows, StmtShows, Keeps}
 use Rattle.wjs_tree.proofs.Kept.{kept, stmt_kept}

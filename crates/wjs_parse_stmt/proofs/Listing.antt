@@ -1,8 +1,8 @@
 -- Lists of statements, variables and clauses made of nodes of their own, which loops make longer.
 use Rattle.std.proofs.Common.{◌≡◌, ℕ, List, [], ◌∷◌, ◌++◌, Option, refl, sym, ap, ◌∙◌, subst, arith, append_assoc}
+use Rattle.wjs_base.specs.declared.ids.NodeId.{NodeId}
 use Rattle.wjs_tree.specs.declared.tokens.Tok.{Tok}
 use Rattle.wjs_tree.specs.declared.node.Node.{Node}
-use Rattle.wjs_tree.specs.declared.node.NodeId.{NodeId}
 use Rattle.wjs_tree.specs.declared.node.Clause.{Clause}
 use Rattle.wjs_tree.specs.Trees.{Optional, Absent, Present, Stmt, Stmts, NoStmt, MoreStmts, Clauses, NoClause, Case, Default}
 use Rattle.wjs_tree.specs.Shows.{OptionalShows, StmtShows, StmtsShow, ClausesShow}

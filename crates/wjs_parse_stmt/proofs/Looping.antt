@@ -1,6 +1,7 @@
 -- `for`.
 use Rattle.std.proofs.Common.{◌≡◌, ℕ, ◌+◌, ◌-◌, ◌<◌, ◌≤◌, ◌⊎◌, inl, inr, Bool, true, false, List, [], ◌∷◌, ◌++◌, Option, Some, None, refl, sym, ap, ◌∙◌, subst, arith}
 use Rattle.wjs_base.specs.declared.ids.TextId.{TextId}
+use Rattle.wjs_base.specs.declared.ids.NodeId.{NodeId}
 use Rattle.wjs_tree.specs.declared.tokens.Token.{Token}
 use Rattle.wjs_tree.specs.declared.tokens.Token.TheVariants as tokens
 use Rattle.wjs_tree.specs.declared.signs.Sign.TheVariants as signs
@@ -8,7 +9,6 @@ use Rattle.wjs_tree.specs.declared.keys.Key.TheVariants as keys
 use Rattle.wjs_tree.specs.declared.tokens.Tok.{Tok}
 use Rattle.wjs_tree.specs.declared.node.Node.{Node}
 use Rattle.wjs_tree.specs.declared.node.Node.TheVariants as nodes
-use Rattle.wjs_tree.specs.declared.node.NodeId.{NodeId}
 use Rattle.wjs_tree.specs.declared.node.ForInit.TheVariants as inits
 use Rattle.wjs_tree.specs.Trees.{Expr, Optional, Absent, Present, Variables, Init, NoInit, InitExpr, InitVar, Stmt, For, ForIn, ForVarIn}
 use Rattle.wjs_tree.specs.Levels.{level, is_target}
@@ -37,12 +37,11 @@ use Rattle.wjs_tree.specs.Height.{init_height}
 use Rattle.wjs_tree.specs.Spelling.{InitStands, MoreVariablesStand}
 use Rattle.wjs_tree.specs.Trees.{NoVariable, Variable, Dot, At, Call, NewWith, NewBare, Postfix, Prefix, Binary, Cond, Assign, Comma}
 use Rattle.wjs_tree.specs.Children.{OptionBelow}
-use Rattle.wjs_tree.specs.Levels.{is_bare}
+use Rattle.wjs_tree.proofs.Levels.{new_level}
 use Rattle.wjs_parse_expr.specs.declared.parts.Part.{Part}
 use Rattle.wjs_parse_expr.specs.Reach.{reach}
 use Rattle.wjs_parse_expr.specs.Answers.{Origin, Finds, Nothing}
 use Rattle.wjs_parse_expr.proofs.Reach.{binary_bounds}
-use Rattle.wjs_parse_expr.proofs.Heads.{bare_level}
 use Rattle.wjs_parse_expr.proofs.Assignments.{target_level}
 use Rattle.wjs_parse_expr.proofs.Unaries.{never_begins}
 use Rattle.wjs_parse_simple.specs.Readings.{last_value, Shut}
@@ -196,17 +195,13 @@ only_for toks room i (ForVarIn x e b) m k r s = inr (inr (record {
 }))
 only_for toks room i _ m k r s = absurd cc
 
-bare_15 : (t : Expr) → (17 ≤ level t) ⊎ (is_bare t ≡ true) → 15 ≤ level t
-bare_15 t (inl h) = omega arith
-bare_15 t (inr h) = let b = bare_level t h in omega arith
-
 -- where `in` may stand makes no difference to what binds tightly
 free_in : (b c : Bool) (t : Expr) → 15 ≤ level t → WellFormed b t → WellFormed c t
 free_in b c (Dot e x) h w = (w.0, free_in b c e (let z = w.0 in omega arith) w.1)
 free_in b c (At e j) h w = (w.0, free_in b c e (let z = w.0 in omega arith) w.1, w.2)
 free_in b c (Call f xs) h w = (w.0, free_in b c f (let z = w.0 in omega arith) w.1, w.2)
 free_in b c (NewWith f xs) h w = (w.0, free_in b c f (let z = w.0 in omega arith) w.1, w.2)
-free_in b c (NewBare f) h w = (w.0, free_in b c f (bare_15 f w.0) w.1)
+free_in b c (NewBare f) h w = (w.0, free_in b c f (new_level f w.0) w.1)
 free_in b c (Postfix t s) h w = absurd (omega arith)
 free_in b c (Prefix s e) h w = absurd (omega arith)
 free_in b c (Binary x op y) h w = absurd (let l = binary_bounds op in omega arith)

@@ -1,6 +1,7 @@
 -- `try`.
 use Rattle.std.proofs.Common.{◌≡◌, ℕ, ◌+◌, ◌-◌, ◌<◌, ◌≤◌, ◌⊎◌, inl, inr, false, List, ◌∷◌, ◌++◌, Some, None, refl, sym, subst, arith}
 use Rattle.wjs_base.specs.declared.ids.TextId.{TextId}
+use Rattle.wjs_base.specs.declared.ids.NodeId.{NodeId}
 use Rattle.wjs_tree.specs.declared.tokens.Token.{Token}
 use Rattle.wjs_tree.specs.declared.tokens.Token.TheVariants as tokens
 use Rattle.wjs_tree.specs.declared.signs.Sign.TheVariants as signs
@@ -8,7 +9,6 @@ use Rattle.wjs_tree.specs.declared.keys.Key.TheVariants as keys
 use Rattle.wjs_tree.specs.declared.tokens.Tok.{Tok}
 use Rattle.wjs_tree.specs.declared.node.Node.{Node}
 use Rattle.wjs_tree.specs.declared.node.Node.TheVariants as nodes
-use Rattle.wjs_tree.specs.declared.node.NodeId.{NodeId}
 use Rattle.wjs_tree.specs.Trees.{Stmts, Stmt, TryCatch, TryFinally, TryBoth}
 use Rattle.wjs_tree.specs.Height.{stmts_height}
 use Rattle.wjs_tree.specs.Formed.{StmtsFormed}

@@ -1,9 +1,9 @@
 -- Chains of `if`s made of nodes of their own, which a loop makes from the last to the first.
 use Rattle.std.proofs.Common.{◌≡◌, ℕ, ◌≤◌, ◌⊎◌, inl, inr, List, [], ◌∷◌, ◌++◌, Some, refl, sym, ap, ◌∙◌, subst, arith, append_assoc}
+use Rattle.wjs_base.specs.declared.ids.NodeId.{NodeId}
 use Rattle.wjs_tree.specs.declared.tokens.Tok.{Tok}
 use Rattle.wjs_tree.specs.declared.node.Node.{Node}
 use Rattle.wjs_tree.specs.declared.node.Node.TheVariants as nodes
-use Rattle.wjs_tree.specs.declared.node.NodeId.{NodeId}
 use Rattle.wjs_tree.specs.Trees.{IfElse}
 use Rattle.wjs_tree.specs.Shows.{Shows, StmtShows, Keeps}
 use Rattle.wjs_tree.specs.Used.{IsUsed, IsOnce, AreApart}

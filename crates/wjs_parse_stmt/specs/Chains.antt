@@ -1,7 +1,7 @@
 -- `if`s behind each other's `else`s.
 use Rattle.std.specs.Prelude.{◌≡◌, ℕ, ◌<◌, List, [], ◌∷◌}
+use Rattle.wjs_base.specs.declared.ids.NodeId.{NodeId}
 use Rattle.wjs_tree.specs.declared.node.Node.{Node}
-use Rattle.wjs_tree.specs.declared.node.NodeId.{NodeId}
 use Rattle.wjs_tree.specs.Trees.{Expr, Stmt, IfElse}
 use Rattle.wjs_tree.specs.Shows.{Shows, StmtShows}
 use Rattle.wjs_parse_stmt.specs.declared.parts.Branch.{Branch}

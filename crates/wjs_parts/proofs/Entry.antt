@@ -9,8 +9,8 @@ use Rattle.wjs_base.specs.declared.ids.ObjId.{ObjId}
 use Rattle.wjs_base.specs.declared.ids.WorldId.{WorldId}
 use Rattle.wjs_base.specs.Order.{obj_total}
 use Rattle.wjs_base.specs.Text.{Table}
+use Rattle.wjs_base.specs.declared.ids.NodeId.{NodeId}
 use Rattle.wjs_store.specs.Meaning.{Meaning}
-use Rattle.wjs_tree.specs.declared.node.NodeId.{NodeId}
 use Rattle.wjs_arena.specs.declared.object.Object.{Object}
 use Rattle.wjs_arena.specs.declared.class.Class.TheVariants as class
 use Rattle.wjs_arena.specs.Entries.{Entry, Objects, next_number, entry_over, created, world_of, IsThere as IsThereIn}
@@ -23,7 +23,7 @@ use Rattle.wjs_heap.specs.Means.{parts}
 use Rattle.wjs_meaning.specs.Builtins.{world_prototype}
 use Rattle.wjs_meaning.specs.WorldValues.{world_object_of}
 use Rattle.wjs_meaning.specs.Trees.{Tree}
-use Rattle.wjs_meaning.specs.Deeds.{St, AtProgram, Tick, Outcome, Ends, Spent, interp, then_do}
+use Rattle.wjs_meaning.specs.Deeds.{St, AtProgram, Tick, Ends, interp, then_do}
 use Rattle.wjs_meaning.specs.Functions.{program_of}
 use Rattle.wjs_meaning.specs.Programs.{eval, Ending, Done, env_of_program, run_next}
 use Rattle.wjs_meaning.proofs.Steps.{entries_lem}
@@ -31,7 +31,7 @@ use Rattle.wjs_model.specs.declared.config.Config.{Config}
 use Rattle.wjs_model.specs.declared.config.State.{State}
 use Rattle.wjs_model.specs.declared.config.State.TheVariants as states
 use Rattle.wjs_model.specs.declared.frame.Activation.{Activation as Frame}
-use Rattle.wjs_model.specs.declared.unit.Unit.{Unit as Program}
+use Rattle.wjs_model.specs.declared.loaded.LoadedProgram.{LoadedProgram as Program}
 use Rattle.wjs_model.specs.Configurations.{rest, rest_by, seen, tells, run_in, frames_in, state_in, Stays}
 use Rattle.wjs_model.specs.Contents.{frame_in}
 use Rattle.wjs_model.specs.Outside.{Outside}
@@ -43,12 +43,8 @@ use Rattle.wjs_heap_steps.proofs.Later.{later_create}
 use Rattle.wjs_heap_steps.proofs.Making.{bare as bare_object, world_object_is, near_world, no_code}
 use Rattle.wjs_heap_steps.proofs.Steps.{ran_create}
 use Rattle.wjs_alone.specs.Alone.{part_run}
+use Rattle.wjs_model.proofs.Starts.{then_ends}
 use Rattle.wjs_parts.specs.Entering.{ShowsWorld, Enters, body_frame}
-
--- what follows nothing changes nothing
-then_ends : (o : Outcome) → then_do o Ends ≡ o
-then_ends (Ends c st n) = refl
-then_ends (Spent st) = refl
 
 -- the body of a program that is due, with nothing below it
 pub body_runs : (trees : List Tree) (tree : ℕ) (world : WorldId) (global : ObjId) (owner : ℕ) (st : St) (n : ℕ)
@@ -67,7 +63,7 @@ one_world a b e = cc
 
 module _ {S : Type 0} (meaning : S → Meaning) where
   -- the one object more stands for the world
-  pub created_world : (x : Object) (id : ObjId) (old : Config S) (heap : Heap S) (w : WorldId) → Creates old.owner x id (parts meaning old.heap) (parts meaning heap) → x.world ≡ Some w → IsShown heap.arena w
+  created_world : (x : Object) (id : ObjId) (old : Config S) (heap : Heap S) (w : WorldId) → Creates old.owner x id (parts meaning old.heap) (parts meaning heap) → x.world ≡ Some w → IsShown heap.arena w
   created_world x id old heap w c e = (
     id,
     ap (λ (m : Objects). world_of m id) c.arena ∙ ap (world_of (created old.heap.arena old.owner x)) c.number

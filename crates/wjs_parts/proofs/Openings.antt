@@ -10,6 +10,7 @@ use Rattle.wjs_base.specs.declared.ids.TextId.{TextId}
 use Rattle.wjs_base.specs.declared.ids.WorldId.{WorldId}
 use Rattle.wjs_base.specs.Text.{Table, Has, IsTable, Grows}
 use Rattle.wjs_base.proofs.TextLaws.{Grows-refl}
+use Rattle.wjs_base.proofs.Options.{some_map}
 use Rattle.wjs_store.specs.Meaning.{Meaning, View, PlainAct, PlainReply, worlds}
 use Rattle.wjs_arena.specs.Entries.{Entry, world_of}
 use Rattle.wjs_by_content.specs.Carried.{tell}
@@ -30,7 +31,7 @@ use Rattle.wjs_model.specs.declared.config.Config.{Config}
 use Rattle.wjs_model.specs.declared.config.State.{State}
 use Rattle.wjs_model.specs.declared.config.State.TheVariants as states
 use Rattle.wjs_model.specs.declared.frame.Activation.{Activation as Frame}
-use Rattle.wjs_model.specs.declared.unit.Unit.{Unit as Program}
+use Rattle.wjs_model.specs.declared.loaded.LoadedProgram.{LoadedProgram as Program}
 use Rattle.wjs_model.specs.Outside.{alone}
 use Rattle.wjs_model.proofs.Beside.{beside_nothing}
 use Rattle.wjs_model.specs.Configurations.{run_in, frames_in, state_in, rest_by, rest, seen, after_done}
@@ -41,7 +42,7 @@ use Rattle.wjs_model.specs.Units.{unit_in}
 use Rattle.wjs_model.proofs.Placed.{placed_stay}
 use Rattle.wjs_heap_steps.proofs.Staying.{units_stay}
 use Rattle.wjs_start.proofs.NoneApart.{all_near, objects_near, slots_near}
-use Rattle.wjs_start.proofs.Readiness.{code_stands, some_map, silent_told, told_behind}
+use Rattle.wjs_start.proofs.Readiness.{code_stands, silent_told, told_behind}
 use Rattle.wjs_start.specs.Declaring.{declared_by_tree}
 use Rattle.wjs_start.specs.First.{IsNew, IsFirst, writes_told}
 use Rattle.wjs_start.specs.Starting.{body_of, begins, frame_at}

@@ -2,7 +2,7 @@
 ghost use Rattle.std.specs.Prelude.{◌≡◌, ◌<◌, [], Some, length, slice_get, IfOk, OnOk};
 ghost use Rattle.wjs_base.specs.declared.ids.ObjId.{ObjId};
 ghost use Rattle.wjs_arena.specs.Entries.{world_of};
-ghost use Rattle.wjs_model.specs.declared.unit.Unit.{Unit as Program};
+ghost use Rattle.wjs_model.specs.declared.loaded.LoadedProgram.{LoadedProgram as Program};
 ghost use Rattle.wjs_model.specs.Soundness.{Base};
 ghost use Rattle.wjs_parts.specs.Entering.{Enters, ShowsWorld, body_frame};
 

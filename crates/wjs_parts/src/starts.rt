@@ -12,7 +12,7 @@ ghost use Rattle.wjs_parts.specs.Opening.{StartsParts, frames_of, state_of, unit
 
 use std::alloc::Global;
 use wjs_base::{OutOfMemory, TextId, Texts};
-use wjs_model::{Config, Frames, Phase, Start, State, Unit};
+use wjs_model::{Config, Frames, LoadedProgram, Phase, Start, State};
 use wjs_start::{FIRST_WORLD, GLOBAL_OBJECT, first_heap, program_frame, script_names};
 use wjs_store::WorldStore;
 
@@ -23,8 +23,8 @@ pub fn start_parts<S: WorldStore + Drop>(
     alloc: Global,
     texts: Texts,
     store: S,
-    library: Option<Unit>,
-    parts: Vec<Unit>,
+    library: Option<LoadedProgram>,
+    parts: Vec<LoadedProgram>,
     budget: u64,
 ) -> Result<Config<S>, OutOfMemory>
     requires table { IsTable texts }
@@ -56,7 +56,7 @@ pub fn start_parts<S: WorldStore + Drop>(
 }
 
 /// The names that parts declare, one part after another.
-fn names_of_parts(alloc: Global, parts: &[Unit]) -> Result<Vec<TextId>, OutOfMemory>
+fn names_of_parts(alloc: Global, parts: &[LoadedProgram]) -> Result<Vec<TextId>, OutOfMemory>
     ensures are { IfOk result
         (λ names. (t : Table) → IsTable t → All (KnowsUnit t) parts.now → map (text_in t) names.items ≡ part_names (map (unit_in t) parts.now)) }
     ensures found { IfOk result (λ names. (t : Table) → All (KnowsUnit t) parts.now → All (Has t) names.items) }
@@ -69,7 +69,11 @@ fn names_of_parts(alloc: Global, parts: &[Unit]) -> Result<Vec<TextId>, OutOfMem
 }
 
 /// Puts the names that a part declares last.
-fn add_names(alloc: Global, names: &mut Vec<TextId>, part: &Unit) -> Result<(), OutOfMemory>
+fn add_names(
+    alloc: Global,
+    names: &mut Vec<TextId>,
+    part: &LoadedProgram,
+) -> Result<(), OutOfMemory>
     ensures are { OnOk result
         ((t : Table) → IsTable t → KnowsUnit t part.now →
         map (text_in t) names.new.items ≡ map (text_in t) names.old.items ++ declared_names (unit_in t part.now ∷ []) 0) }
@@ -81,7 +85,7 @@ fn add_names(alloc: Global, names: &mut Vec<TextId>, part: &Unit) -> Result<(), 
 }
 
 /// The library's body, with its step due.
-fn library_frame(alloc: Global, library: &Option<Unit>) -> Result<Frames, OutOfMemory>
+fn library_frame(alloc: Global, library: &Option<LoadedProgram>) -> Result<Frames, OutOfMemory>
     ensures { IfOk result (λ frames. frames ≡ frames_of library.now) }
 {
     let mut frames = Frames::new(alloc);
@@ -92,7 +96,7 @@ fn library_frame(alloc: Global, library: &Option<Unit>) -> Result<Frames, OutOfM
 }
 
 /// A play without a library has nothing to do before its first part.
-fn first_state(library: &Option<Unit>) -> State
+fn first_state(library: &Option<LoadedProgram>) -> State
     ensures { result ≡ state_of library.now }
 {
     match library {
@@ -102,7 +106,10 @@ fn first_state(library: &Option<Unit>) -> State
 }
 
 /// The programs of the play, the library's first.
-fn units_of(library: Option<Unit>, mut parts: Vec<Unit>) -> Result<Vec<Unit>, OutOfMemory>
+fn units_of(
+    library: Option<LoadedProgram>,
+    mut parts: Vec<LoadedProgram>,
+) -> Result<Vec<LoadedProgram>, OutOfMemory>
     ensures { IfOk result (λ units. units.items ≡ units_of library parts.items) }
 {
     match library {

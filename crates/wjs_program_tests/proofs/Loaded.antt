@@ -3,7 +3,7 @@ use Rattle.std.proofs.Common.{[], ◌∷◌}
 use Rattle.std.specs.Prelude.{All}
 use Rattle.std.proofs.lemmas.List.Elements.{All-nil, All-cons, All-head}
 use Rattle.wjs_base.specs.Text.{Table, Grows}
-use Rattle.wjs_model.specs.declared.unit.Unit.{Unit as Program}
+use Rattle.wjs_model.specs.declared.loaded.LoadedProgram.{LoadedProgram as Program}
 use Rattle.wjs_model.specs.Texts.{KnowsUnit, PlacesUnit}
 use Rattle.wjs_model.proofs.Placed.{placed_stay}
 use Rattle.wjs_heap_steps.proofs.Staying.{units_stay}

@@ -1,10 +1,8 @@
 -- The tokens of the same pieces by two tables.
 use Rattle.std.specs.Prelude.{◌≡◌, List, [], ◌∷◌}
 use Rattle.std.proofs.Common.{refl, sym, ◌∙◌}
-use mathlib.Core.HLevel.{is_prop→PathP}
+use Rattle.wjs_base.specs.Same.{whole_same}
 use Rattle.wjs_base.specs.declared.ids.TextId.{TextId}
-use Rattle.wjs_base.specs.declared.number.Whole.{Whole}
-use Rattle.wjs_base.specs.Range.{IsInRange, in_range_prop}
 use Rattle.wjs_base.specs.Text.{Units, Table, Denotes}
 use Rattle.wjs_tree.specs.declared.tokens.Tok.{Tok}
 use Rattle.wjs_tree.specs.declared.tokens.Token.{Token}
@@ -13,9 +11,6 @@ use Rattle.wjs_lexer.specs.Pieces.{Piece, word, key, sign, number, text}
 use Rattle.wjs_lexer.specs.Readings.{Placed}
 use Rattle.wjs_lexer.specs.Lexing.{Means, IsTok, AreToks}
 use Rattle.wjs_programs.proofs.Renaming.{token_renamed, tok_renamed, toks_renamed}
-
-same_whole : (a b : Whole) → a.number ≡ b.number → a ≡ b
-same_whole a b e = λ z. record { number = e z; in_range = is_prop→PathP (λ y. IsInRange (e y)) (λ y. in_range_prop (e y)) a.in_range b.in_range z }
 
 -- the number that each text has by the second table is the one that r makes of its number by the first
 module _ (t u : Table) (r : TextId → TextId) (same : (x y : TextId) (units : Units) → Denotes t x units → Denotes u y units → r x ≡ y) where
@@ -29,7 +24,7 @@ module _ (t u : Table) (r : TextId → TextId) (same : (x y : TextId) (units : U
   same_token (tokens.Sign x) (tokens.Sign y) (sign s) h k = λ z. tokens.Sign ((k ∙ sym h) z)
   same_token (tokens.Sign x) b (sign s) h k = absurd k
   same_token (tokens.Sign x) b p h k = absurd h
-  same_token (tokens.Number x) (tokens.Number y) (number v) h k = λ z. tokens.Number (same_whole y x (k ∙ sym h) z)
+  same_token (tokens.Number x) (tokens.Number y) (number v) h k = λ z. tokens.Number (whole_same y x (k ∙ sym h) z)
   same_token (tokens.Number x) b (number v) h k = absurd k
   same_token (tokens.Number x) b p h k = absurd h
   same_token (tokens.Text x) (tokens.Text y) (text units) h k = λ z. tokens.Text (sym (same x y units h k) z)

@@ -13,7 +13,7 @@ pub all_more : {X : Type 0} (P Q : X → Type 0) (xs : List X) → ((x : X) → 
 all_more P Q [] f a = tt
 all_more P Q (x ∷ xs) f a = (f x a.0, all_more P Q xs f a.1)
 
-pub all_both : {X : Type 0} (P : X → Type 0) (xs ys : List X) → AllByRecursion P xs → AllByRecursion P ys → AllByRecursion P (xs ++ ys)
+all_both : {X : Type 0} (P : X → Type 0) (xs ys : List X) → AllByRecursion P xs → AllByRecursion P ys → AllByRecursion P (xs ++ ys)
 all_both P [] ys a b = b
 all_both P (x ∷ xs) ys a b = (a.0, all_both P xs ys a.1 b)
 

@@ -4,8 +4,8 @@ use Rattle.std.proofs.Common.{refl, sym, subst, inl, inr, arith}
 use Rattle.std.proofs.lemmas.Bool.{cases_eq}
 use Rattle.std.proofs.lemmas.Option.{slice_get_within}
 use Rattle.wjs_base.specs.declared.ids.TextId.{TextId}
+use Rattle.wjs_base.specs.declared.ids.NodeId.{NodeId}
 use Rattle.wjs_tree.specs.declared.node.Node.{Node}
-use Rattle.wjs_tree.specs.declared.node.NodeId.{NodeId}
 use Rattle.wjs_tree.specs.declared.node.Node.TheVariants as nodes
 use Rattle.wjs_tree.specs.Trees.{Elements}
 use Rattle.wjs_tree.specs.Shows.{Has, ElementsShow}

@@ -36,7 +36,7 @@ module _ (r : TextId → TextId) where
   same_start (Comma a b) = same_start a
   same_start _ = refl
 
-  pub same_end : (e : Expr) → ends_in_update (renamed r e) ≡ ends_in_update e
+  same_end : (e : Expr) → ends_in_update (renamed r e) ≡ ends_in_update e
   same_end (Prefix s e) = same_end e
   same_end (Binary a op b) = same_end b
   same_end (Cond c a b) = same_end b

@@ -5,8 +5,8 @@ use Rattle.std.proofs.Common.{refl, ap, ◌∙◌, arith}
 use Rattle.std.proofs.lemmas.Option.{none-some, same_Some, slice_get-map}
 use Rattle.wjs_base.specs.declared.ids.TextId.{TextId}
 use Rattle.wjs_base.specs.Text.{Table, IsTable, Finds}
+use Rattle.wjs_base.specs.declared.ids.NodeId.{NodeId}
 use Rattle.wjs_tree.specs.declared.node.Node.{Node}
-use Rattle.wjs_tree.specs.declared.node.NodeId.{NodeId}
 use Rattle.wjs_tree.specs.Shows.{Has}
 use Rattle.wjs_scope.specs.declared.place.Place.{Place as Found}
 use Rattle.wjs_scope.specs.Places.{ArePlaces, arguments_text, placed_names}
@@ -17,7 +17,7 @@ use Rattle.wjs_meaning.specs.Trees.{Place}
 use Rattle.wjs_meaning.specs.Reading.{node_in}
 use Rattle.wjs_model.specs.Texts.{KnowsUnit}
 use Rattle.wjs_model.specs.Units.{place_in, place_or_global, var_place_of, places_from, rows_from}
-use Rattle.wjs_model.specs.declared.unit.Unit.{Unit as Program}
+use Rattle.wjs_model.specs.declared.loaded.LoadedProgram.{LoadedProgram as Program}
 use Rattle.wjs_model.proofs.Placed.{placed_known}
 use Rattle.wjs_programs.specs.Numbered.{Scopes, Entry, places_of}
 use Rattle.wjs_programs.proofs.Scopes.{same_place}

@@ -8,6 +8,7 @@ use Rattle.std.proofs.lemmas.List.Folds.{list_any-append}
 use Rattle.std.proofs.lemmas.Option.{slice_get-get_or, slice_get_within}
 use Rattle.wjs_base.specs.declared.ids.TextId.{TextId}
 use Rattle.wjs_base.specs.Text.{Units, Table, Has, IsTable, Denotes, Finds}
+use Rattle.wjs_base.proofs.Booleans.{or_false}
 use Rattle.wjs_tree.specs.Trees.{Elements}
 use Rattle.wjs_scope.specs.declared.place.Place.TheVariants.{Local, Global}
 use Rattle.wjs_scope.specs.Declarations.{elements_declared, with_name, with_names, variables}
@@ -68,10 +69,6 @@ refuted : (b : Bool) → (b ≡ true → ⊥) → false ≡ b
 refuted true h = absurd (h refl)
 refuted false h = refl
 
-or_false : (b : Bool) → (b || false) ≡ b
-or_false true = refl
-or_false false = refl
-
 module _ (texts : Table) where
   -- a name of the table is in the one scope where its text is in the other
   abbrev pub AreAlike : Scope → List Units → Type 0
@@ -90,7 +87,7 @@ module _ (texts : Table) where
       ap (λ b. if b then Local hops else place_past (suc hops) scopes x) (h.0 x has) ∙ ap (λ p. if list_any (same_text (text_in texts x)) us then Local hops else p) (same_place (suc hops) scopes around x has h.1)
 
 module _ (texts : Table) (table : IsTable texts) where
-  pub names_alike : (names : Scope) → All (Has texts) names → AreAlike texts names (each (text_in texts) names)
+  names_alike : (names : Scope) → All (Has texts) names → AreAlike texts names (each (text_in texts) names)
   names_alike names all x has =
       told (is_in names x) (list_any (same_text (text_in texts x)) (each (text_in texts) names))
       (by_text texts same_text table text_Decides 0 (names ∷ []) x (All-cons (λ (z : Scope). All (Has texts) z) names [] all (All-nil (λ (z : Scope). All (Has texts) z))) has)

@@ -7,8 +7,8 @@ use Rattle.std.proofs.lemmas.Option.{slice_get_within, get_or_from_slice_get, sl
 use mathlib.Core.List.{reverse-cons}
 use Rattle.wjs_base.specs.declared.ids.TextId.{TextId}
 use Rattle.wjs_base.specs.Text.{Table, IsTable, Finds}
+use Rattle.wjs_base.specs.declared.ids.NodeId.{NodeId}
 use Rattle.wjs_tree.specs.declared.node.Node.{Node}
-use Rattle.wjs_tree.specs.declared.node.NodeId.{NodeId}
 use Rattle.wjs_tree.specs.Trees.{Elements}
 use Rattle.wjs_scope.specs.Nesting.{Around}
 use Rattle.wjs_scope.specs.Places.{ArePlaces, arguments_text}
@@ -17,7 +17,7 @@ use Rattle.wjs_meaning.specs.Trees as node
 use Rattle.wjs_meaning.specs.Reading.{numbers, node_in}
 use Rattle.wjs_model.specs.Texts.{KnowsUnit}
 use Rattle.wjs_model.specs.Units.{rows_from, unit_in}
-use Rattle.wjs_model.specs.declared.unit.Unit.{Unit as Program}
+use Rattle.wjs_model.specs.declared.loaded.LoadedProgram.{LoadedProgram as Program}
 use Rattle.wjs_programs.specs.Numbered.{Scopes, Entry, plain, within, elements, count, tree_of}
 use Rattle.wjs_programs.specs.Laws.{UnitsAreTrees}
 use Rattle.wjs_programs.proofs.Parts.{IsRun, AreEntries, Part, falls, length-falling}
@@ -82,7 +82,7 @@ module _ (texts : Table) (u : Program) (tree : Elements) (arguments : Option Tex
   steps : Steps texts u.program.nodes (HasEntry texts u) Among
   steps = unit_steps texts table u knows arguments finds right
 
-  pub is_tree : unit_in texts u ≡ tree_of texts tree
+  is_tree : unit_in texts u ≡ tree_of texts tree
   is_tree =
       let nodes = of_each texts u.program.nodes u.program.body tree (HasEntry texts u) Among steps top numbered (λ (e : Entry). e.node) (each (node_in texts) u.program.nodes) (length-map u.program.nodes (node_in texts)) (λ k e h. h.0) in
       let places = of_each texts u.program.nodes u.program.body tree (HasEntry texts u) Among steps top numbered (λ (e : Entry). e.places) (rows_from u 0 u.program.nodes) (rows_long u 0 u.program.nodes) (λ k e h. h.1) in

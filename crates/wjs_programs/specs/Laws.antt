@@ -2,11 +2,11 @@
 use Rattle.std.specs.Prelude.{◌≡◌, ℕ, List, length, All, Option}
 use Rattle.wjs_base.specs.declared.ids.TextId.{TextId}
 use Rattle.wjs_base.specs.Text.{Table, IsTable, Finds}
+use Rattle.wjs_base.specs.declared.ids.NodeId.{NodeId}
 use Rattle.wjs_tree.specs.declared.tokens.Tok.{Tok}
 use Rattle.wjs_tree.specs.Trees.{Elements}
 use Rattle.wjs_tree.specs.Spelling.{ElementsStand}
 use Rattle.wjs_tree.specs.declared.node.Node.{Node}
-use Rattle.wjs_tree.specs.declared.node.NodeId.{NodeId}
 use Rattle.wjs_lexer.specs.Lexing.{HasTokens}
 use Rattle.wjs_scope.specs.declared.declarations.Declarations.{Declarations}
 use Rattle.wjs_scope.specs.Bodies.{BodiesStand, AreDeclared}
@@ -16,7 +16,7 @@ use Rattle.wjs_meaning.specs.Trees.{Tree}
 use Rattle.wjs_model.specs.Bodies.{AreMeant}
 use Rattle.wjs_model.specs.Texts.{KnowsNode, KnowsUnit}
 use Rattle.wjs_model.specs.Units.{unit_in}
-use Rattle.wjs_model.specs.declared.unit.Unit.{Unit as Program}
+use Rattle.wjs_model.specs.declared.loaded.LoadedProgram.{LoadedProgram as Program}
 use Rattle.wjs_programs.specs.Numbered.{tree_of}
 use Rattle.wjs_programs.specs.Programs.{IsProgram, IsNoProgram}
 

@@ -2,11 +2,11 @@
 use Rattle.std.specs.Prelude.{◌≡◌, ℕ, suc, ◌+◌, List, [], ◌∷◌}
 use Rattle.wjs_base.specs.declared.ids.TextId.{TextId}
 use Rattle.wjs_base.specs.Text.{Table}
+use Rattle.wjs_base.specs.declared.ids.NodeId.{NodeId}
 use Rattle.wjs_tree.specs.Trees.{Elements}
 use Rattle.wjs_tree.specs.Shows.{Has}
 use Rattle.wjs_tree.specs.declared.node.Node.{Node}
 use Rattle.wjs_tree.specs.declared.node.Node.TheVariants as form
-use Rattle.wjs_tree.specs.declared.node.NodeId.{NodeId}
 use Rattle.wjs_order.specs.Order.{IsNumbered}
 use Rattle.wjs_by_content.specs.Values.{Text}
 use Rattle.wjs_meaning.specs.Trees.{Label, Tree, node_at, is_target, is_target_to, labels}

@@ -54,7 +54,7 @@ value_knows texts arena (value.Number x) table has = refl
 value_knows texts arena (value.Text id) table has = text_known texts table id has
 value_knows texts arena (value.Object o) table has = refl
 
-pub content_knows : (texts t : Table) (arena : Objects) (c : Option Value) → IsTable texts → Grows texts t → HasContent texts arena c → KnowsContent (names_of t) c
+content_knows : (texts t : Table) (arena : Objects) (c : Option Value) → IsTable texts → Grows texts t → HasContent texts arena c → KnowsContent (names_of t) c
 content_knows texts t arena None table g has = tt
 content_knows texts t arena (Some v) table g has = (value_grows texts t g v (value_knows texts arena v table has)).0
 

@@ -52,7 +52,7 @@ module _ (h : Parts) (heap : IsHeap h) (t : Table) (g : Grows h.texts t) where
   object_known : (x : Object) → HasNamed h.texts h.arena x → KnowsObject t x
   object_known x has = record { primitive = known_value x.primitive has.primitive; fixed = fixed_known x.fixed has.fixed; flags = flags_known x.flags has.flags }
 
-  pub arena_known : KnowsArena t h.arena
+  arena_known : KnowsArena t h.arena
   arena_known = λ o e q. object_known e.object (heap.objects o e q)
 
   -- a fixed property

@@ -49,7 +49,7 @@ after_found_then n o rest None = refl
 after_found_then n o rest (Some v) = refl
 
 -- the first element, and then the others
-pub each_next : (k n : ℕ) (o : ObjId) → plan.cut_each (suc k) n o ≡ then_plan (plan.cut_each 1 n o) (λ u. plan.cut_each k (n + 1) o)
+each_next : (k n : ℕ) (o : ObjId) → plan.cut_each (suc k) n o ≡ then_plan (plan.cut_each 1 n o) (λ u. plan.cut_each k (n + 1) o)
 unfolding after_found
 each_next k n o = λ i. Reads (slot o (index_name n)) (λ found. after_found_then n o (plan.cut_each k (n + 1) o) found i)
 
@@ -118,7 +118,7 @@ module _ (n m : ℕ) (o : ObjId) where
   within x = is_index_within n m (index_of x)
 
   -- the first name, and then the others
-  pub listed_next : (x : Text) (xs : List Text) → plan.cut_listed (x ∷ xs) n m o ≡ then_plan (plan.cut_listed (x ∷ []) n m o) (λ u. plan.cut_listed xs n m o)
+  listed_next : (x : Text) (xs : List Text) → plan.cut_listed (x ∷ xs) n m o ≡ then_plan (plan.cut_listed (x ∷ []) n m o) (λ u. plan.cut_listed xs n m o)
   unfolding listed_if
   listed_next x xs = listed_if_then x o (plan.cut_listed xs n m o) (is_index_within n m (index_of x))
 
@@ -154,7 +154,7 @@ module _ (n m : ℕ) (o : ObjId) where
   names_again t (x ∷ ns) = ap (λ xs. name_in t x ∷ xs) (names_again t ns)
 
   -- in the order of the store the same elements go in the same order
-  pub listing_cuts : (t : Table) (ns : List Name) → Holds (λ x. knows_name t x ≡ true) ns → Ascends numbered.slot_cmp (slots_of o ns) → plan.cut_listed (listing t o ns) n m o ≡ plan.cut_listed (each (name_in t) ns) n m o
+  listing_cuts : (t : Table) (ns : List Name) → Holds (λ x. knows_name t x ≡ true) ns → Ascends numbered.slot_cmp (slots_of o ns) → plan.cut_listed (listing t o ns) n m o ≡ plan.cut_listed (each (name_in t) ns) n m o
   listing_cuts t ns k h =
       listed_within (listing t o ns)
       ∙ ap all_absent (filter_names (in_order (each (slot_in t) (slots_of o ns))) ∙ ap (each (λ s. s.name)) (passing_same t o (is_index_within n m) refl ns k h) ∙ sym (filter_names (each (slot_in t) (slots_of o ns))) ∙ ap (filter within) (names_again t ns))
@@ -181,7 +181,7 @@ listed_cut w o n m ns old mid new lists names rises cuts =
 
 module _ (n m : ℕ) (texts t : Table) (table : IsTable texts) (g : Grows texts t) where
   -- a text is no element
-  pub text_not_within : (id : TextId) → IsName texts (name.Text id) → is_index_within n m (index_of (text_in t id)) ≡ false
+  text_not_within : (id : TextId) → IsName texts (name.Text id) → is_index_within n m (index_of (text_in t id)) ≡ false
   text_not_within id is = none_not_within (index_of (text_in t id)) (and_parts (knows_text t id) (is_none (index_of (text_in t id))) (name_grows texts t g (name.Text id) (name_known texts table (name.Text id) is)).0).1
     where
       none_not_within : (x : Option ℕ) → is_none x ≡ true → is_index_within n m x ≡ false
@@ -205,7 +205,7 @@ module _ (w : WorldId) (o : ObjId) (x : Name) (n m : ℕ) (old : Parts) where
   name_stays_put heap out = performs_same w (λ t. Gives nothing) _ (λ t. nothing) (λ t. nothing) old old
       (λ t g. sym (ap (listed_if (name_in t x) o (Gives tt)) (out t g))) (λ t g. refl) (performs_nothing w (λ t. nothing) old heap)
 
-  pub name_goes : (new : Parts) → ((t : Table) → is_index_within n m (index_of (name_in t x)) ≡ true) → Performs w (λ t. Writes (slot_in t (record { object = o; name = x })) None (Gives nothing)) (λ t. nothing) old new
+  name_goes : (new : Parts) → ((t : Table) → is_index_within n m (index_of (name_in t x)) ≡ true) → Performs w (λ t. Writes (slot_in t (record { object = o; name = x })) None (Gives nothing)) (λ t. nothing) old new
       → Performs w (λ t. plan.cut_listed (name_in t x ∷ []) n m o) (λ t. nothing) old new
   unfolding listed_if
   name_goes new inside wrote = performs_same w _ _ (λ t. nothing) (λ t. nothing) old new
@@ -218,7 +218,7 @@ module _ (w : WorldId) (o : ObjId) (x : Name) (n m : ℕ) (old : Parts) where
 
 -- ---- name by name
 
-pub holds_at : {A : Type 0} (Q : A → Type 0) (xs : List A) (k : ℕ) (x : A) → Holds Q xs → slice_get xs k ≡ Some x → Q x
+holds_at : {A : Type 0} (Q : A → Type 0) (xs : List A) (k : ℕ) (x : A) → Holds Q xs → slice_get xs k ≡ Some x → Q x
 holds_at Q [] k x h e = cc
 holds_at Q (y ∷ xs) zero x h e = let q : y ≡ x = cc in subst Q q h.0
 holds_at Q (y ∷ xs) (suc k) x h e = holds_at Q xs k x h.1 e

@@ -59,7 +59,7 @@ begins w n o h heap world there name = record {
 fixed_by : (h : Parts) (m : Objects) → IsHeap h → h.arena ≡ m → (t : Table) → Grows h.texts t → (o : ObjId) (n : Name) → IsName h.texts n → fixed (arena_in t m) o (name_in t n) ≡ option_map (value_in t) (numbered.fixed m o n)
 fixed_by h m heap e t g o n is = subst (λ (z : Objects). fixed (arena_in t z) o (name_in t n) ≡ option_map (value_in t) (numbered.fixed z o n)) e (fixed_in h heap t g o n is)
 
-pub name_stays : (old new : Table) → IsTable old → Grows old new → (n : Name) → IsName old n → IsName new n
+name_stays : (old new : Table) → IsTable old → Grows old new → (n : Name) → IsName old n → IsName new n
 name_stays old new table g n is = name_known_is_name new n (name_grows old new g n (name_known old table n is)).0
 
 grows_more : (a b c d : Table) → Grows a b → Grows b c → Grows c d → Grows a d

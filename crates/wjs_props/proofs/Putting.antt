@@ -45,7 +45,7 @@ use Rattle.wjs_props.proofs.ByContent.{puttable_in}
 use Rattle.wjs_props.proofs.Cutting.{index_small}
 
 -- a name spells the same in a table that has grown
-pub spells_still : (texts t : Table) → IsTable texts → Grows texts t → (n : Name) → IsName texts n → (x : Text) → name_in texts n ≡ x → name_in t n ≡ x
+spells_still : (texts t : Table) → IsTable texts → Grows texts t → (n : Name) → IsName texts n → (x : Text) → name_in texts n ≡ x → name_in t n ≡ x
 spells_still texts t table g n is x e = (name_grows texts t g n (name_known texts table n is)).1 ∙ e
 
 -- a plan that gives what is known
@@ -143,7 +143,7 @@ pub spells_length : (texts : Table) (id : TextId) → same_text (text_in texts i
 spells_length texts id test = (text_Decides (text_in texts id) length_name).0 test
 
 module _ (w : WorldId) (o : ObjId) (v : NumberedValue) (old new : Parts) (a : PutAnswer) (heap : IsHeap old) where
-  pub array_index : (i : ℕ) → i ≤ greatest_index → Performs w (λ t. plan.put_index o i (value_in t v)) (λ t. a) old new → Performs w (λ t. plan.put_in_array o (index_name i) (value_in t v)) (λ t. a) old new
+  array_index : (i : ℕ) → i ≤ greatest_index → Performs w (λ t. plan.put_index o i (value_in t v)) (λ t. a) old new → Performs w (λ t. plan.put_in_array o (index_name i) (value_in t v)) (λ t. a) old new
   unfolding in_array
   array_index i small f = performs_same w _ _ (λ t. a) (λ t. a) old new (λ t g. sym (ap (in_array o (index_name i) (value_in t v)) (index_again i small))) (λ t g. refl) f
 
@@ -157,12 +157,12 @@ module _ (w : WorldId) (o : ObjId) (v : NumberedValue) (old new : Parts) (a : Pu
       sym (ap (in_array o (text_in t id) (value_in t v)) (no_index old.texts t heap.table g' id is) ∙ ap (text_of_array o (text_in t id) (value_in t v)) (ap (λ (x : Text). same_text x length_name) same ∙ test)))
       (λ t g. refl) f
 
-  pub array_other : (id : TextId) → IsName old.texts (name.Text id) → same_text (text_in old.texts id) length_name ≡ false
+  array_other : (id : TextId) → IsName old.texts (name.Text id) → same_text (text_in old.texts id) length_name ≡ false
       → Performs w (λ t. plan.put_slot o (text_in t id) (value_in t v)) (λ t. a) old new → Performs w (λ t. plan.put_in_array o (text_in t id) (value_in t v)) (λ t. a) old new
   unfolding text_of_array
   array_other id is test f = array_text id is false test f
 
-  pub array_length : (id : TextId) → IsName old.texts (name.Text id) → same_text (text_in old.texts id) length_name ≡ true → (n : Option ℕ) → ((t : Table) → plan.length_of_value (value_in t v) ≡ n)
+  array_length : (id : TextId) → IsName old.texts (name.Text id) → same_text (text_in old.texts id) length_name ≡ true → (n : Option ℕ) → ((t : Table) → plan.length_of_value (value_in t v) ≡ n)
       → Performs w (λ t. plan.put_length o n) (λ t. a) old new → Performs w (λ t. plan.put_in_array o (text_in t id) (value_in t v)) (λ t. a) old new
   unfolding text_of_array
   array_length id is test n length f = array_text id is true test (performs_same w _ _ (λ t. a) (λ t. a) old new (λ t g. ap (plan.put_length o) (sym (length t))) (λ t g. refl) f)

@@ -16,7 +16,7 @@ use Rattle.wjs_by_content.specs.Renamed.{Holds}
 -- ---- of what each element becomes
 
 module _ {X : Type 0} (P : X → Type 0) where
-  pub holds_or : (xs : List X) (k : ℕ) (d : X) → Holds P xs → k < length xs → P (get_or xs k d)
+  holds_or : (xs : List X) (k : ℕ) (d : X) → Holds P xs → k < length xs → P (get_or xs k d)
   holds_or [] k d h l = absurd (omega arith)
   holds_or (x ∷ xs) zero d h l = h.0
   holds_or (x ∷ xs) (suc k) d h l = let m : k < length xs = omega arith in holds_or xs k d h.1 m

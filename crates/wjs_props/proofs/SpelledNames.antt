@@ -1,6 +1,6 @@
 -- Names that were sorted with their units.
-use Rattle.std.proofs.Common.{◌≡◌, ℕ, ◌+◌, ◌++◌, List, [], ◌∷◌, Result, Ok, Err, false, refl, sym, ap, ◌∙◌, map as each, append_assoc, drop, subst, IsPermutation}
-use Rattle.std.specs.Prelude.{is_ok, is_err, IfOk, All, Some, slice_get, if◌then◌else◌}
+use Rattle.std.proofs.Common.{◌≡◌, ℕ, ◌+◌, ◌++◌, List, [], ◌∷◌, Result, Ok, Err, refl, sym, ap, ◌∙◌, map as each, append_assoc, drop, subst, IsPermutation}
+use Rattle.std.specs.Prelude.{IfOk, All, Some, slice_get}
 use Rattle.std.specs.Cmp.Lexicographic.{slice_cmp}
 use Rattle.std.specs.List.Sorted.{IsSorted, IsSortedBy}
 use Rattle.std.specs.Ordering.{is_lt, nat_cmp, ordering_then}
@@ -59,11 +59,11 @@ named_as (Ok y) f a b e h = h ∙ ap f e
 named_as (Err z) f a b e h = tt
 
 -- what holds of each holds still in another order
-pub holds_all : {A : Type 0} (P : A → Type 0) (xs : List A) → Holds P xs → All P xs
+holds_all : {A : Type 0} (P : A → Type 0) (xs : List A) → Holds P xs → All P xs
 holds_all P [] h = All-nil P
 holds_all P (x ∷ xs) h = All-cons P x xs h.0 (holds_all P xs h.1)
 
-pub all_hold : {A : Type 0} (P : A → Type 0) (xs : List A) → All P xs → Holds P xs
+all_hold : {A : Type 0} (P : A → Type 0) (xs : List A) → All P xs → Holds P xs
 all_hold P [] h = tt
 all_hold P (x ∷ xs) h = (All-head P x xs h, all_hold P xs (All-tail P x xs h))
 

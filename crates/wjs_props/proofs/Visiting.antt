@@ -86,7 +86,7 @@ names_first t [] = refl
 names_first t (x ∷ xs) = ap (λ ns. name_in t x.0 ∷ ns) (names_first t xs)
 
 module _ (h : Parts) (heap : IsHeap h) (o : ObjId) (x : Object) (there : IsTrue (entries.has h.arena o)) (is : IfSome (map.get h.arena o) (λ (e : NumberedEntry). x ≡ e.object)) where
-  pub flags_of : (n : Name) → numbered.flags h.arena o n ≡ flags_in x n
+  flags_of : (n : Name) → numbered.flags h.arena o n ≡ flags_in x n
   flags_of n = at (map.get h.arena o) there is
     where
       at : (r : Option NumberedEntry) → is_some r ≡ true → IfSome r (λ (e : NumberedEntry). x ≡ e.object) → option_map_or (λ (e : NumberedEntry). flags_in e.object n) r (record { hidden = false; kept = false }) ≡ flags_in x n

@@ -214,13 +214,13 @@ module _ (w : WorldId) (o : ObjId) (old now mid : Parts) (at : ObjId) (seen : BT
       (performs_then w (λ t. Lists at Gives) (λ t. goes os t) (λ t. listing t at listed.names) (λ t. visits_in t visited ++ b t) now mid new listed.did (later os b new f))))
 
   -- there is no prototype: it ends
-  pub ends : prototype_of now.arena at ≡ None → Performs w (λ t. plan.visits (arena_in t old.arena) o) (λ t. visits_in t (visits ++ visited)) old mid
+  ends : prototype_of now.arena at ≡ None → Performs w (λ t. plan.visits (arena_in t old.arena) o) (λ t. visits_in t (visits ++ visited)) old mid
   unfolding chain_from
   ends last = performs_same w _ _ (λ t. visits_in t (visits ++ visited) ++ []) (λ t. visits_in t (visits ++ visited)) old mid (λ t g. refl) (λ t g. append-nil (visits_in t (visits ++ visited)))
       (on None last (λ t. []) mid (performs_nothing w (λ t. []) mid listed.did.heap))
 
   -- it goes on at the prototype
-  pub goes_on : (p : ObjId) (seen' : BTreeSet Name) → prototype_of now.arena at ≡ Some p → ((n : Name) → is_in seen' n ≡ (is_among (names_under x.fixed) n || (is_among order n || is_in seen n))) → IsListing w o old mid p seen' (visits ++ visited)
+  goes_on : (p : ObjId) (seen' : BTreeSet Name) → prototype_of now.arena at ≡ Some p → ((n : Name) → is_in seen' n ≡ (is_among (names_under x.fixed) n || (is_among order n || is_in seen n))) → IsListing w o old mid p seen' (visits ++ visited)
   unfolding passed'
   goes_on p seen' next more = record {
     heap = listed.did.heap;
@@ -235,7 +235,7 @@ module _ (w : WorldId) (o : ObjId) (old now mid : Parts) (at : ObjId) (seen : BT
   }
 
   -- what it visits is there
-  pub ends_there : Holds (HasVisit mid.texts mid.arena) (visits ++ visited)
+  ends_there : Holds (HasVisit mid.texts mid.arena) (visits ++ visited)
   ends_there = shown_there
 
 -- ---- as the code has them

@@ -34,10 +34,8 @@ pub fn length_name(texts: &mut Texts) -> Result<Name, OutOfMemory>
     if let Some(id) = texts.find(&LENGTH) {
         return Ok(Name::Text(id));
     }
-    match texts.intern(&LENGTH) {
-        Ok(id) => Ok(Name::Text(id)),
-        Err(_) => Err(OutOfMemory),
-    }
+    let id = texts.intern(&LENGTH)?;
+    Ok(Name::Text(id))
 }
 
 /// The length that a value is; None where it is no Number from 0 to 4,294,967,295.

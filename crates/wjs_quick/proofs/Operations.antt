@@ -18,10 +18,10 @@ use Rattle.wjs_frames.proofs.Shorter.{shorten_trans}
 use Rattle.wjs_step_common.proofs.Converting.{primitive_shortens, number_shortens}
 use Rattle.wjs_quick.specs.Operating.{is_calculation, is_of_value, after_prefix}
 
-arithmetic_shortens : (op : BinaryOperator) (a b : Value) (env : Env) → is_object a ≡ false → is_object b ≡ false → Shortens (arithmetic_values op a b env) (arithmetic_second op (primitive_number a) env (primitive_number b))
+pub arithmetic_shortens : (op : BinaryOperator) (a b : Value) (env : Env) → is_object a ≡ false → is_object b ≡ false → Shortens (arithmetic_values op a b env) (arithmetic_second op (primitive_number a) env (primitive_number b))
 arithmetic_shortens op a b env p q = shorten_trans _ _ _ (number_shortens a env (arithmetic_first op b env) p) (number_shortens b env (arithmetic_second op (primitive_number a) env) q)
 
-add_shortens : (a b : Value) (env : Env) → is_object a ≡ false → is_object b ≡ false → Shortens (add_values a b env) (add_second a env b)
+pub add_shortens : (a b : Value) (env : Env) → is_object a ≡ false → is_object b ≡ false → Shortens (add_values a b env) (add_second a env b)
 add_shortens a b env p q = shorten_trans _ _ _ (primitive_shortens HintNumber a env (add_first b env) p) (primitive_shortens HintNumber b env (add_second a env) q)
 
 pub compare_shortens : (op : BinaryOperator) (a b : Value) (env : Env) → is_object a ≡ false → is_object b ≡ false → Shortens (compare_values op a b env) (compare_second op a b)

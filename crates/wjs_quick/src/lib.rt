@@ -12,4 +12,6 @@ mod operators;
 mod parts;
 
 pub use enters::{enter_last_quickly, enter_quickly};
+pub use numbers::{arithmetic, calculated};
+pub use operators::is_so;
 pub use parts::{quick, quick_entered};

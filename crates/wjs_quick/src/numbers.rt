@@ -16,7 +16,7 @@ use wjs_tree::BinaryOperator;
 /// The number that the operator makes of two numbers, with which the operation ends at once. None where a value is no number,
 /// or the operation makes none or throws.
 #[inline(always)]
-pub(crate) fn calculated(operator: BinaryOperator, left: Value, right: Value) -> Option<Whole>
+pub fn calculated(operator: BinaryOperator, left: Value, right: Value) -> Option<Whole>
     ensures { IfSome result (λ number. (t : Table) (env : Env) →
         Shortens (line.operate operator (value_in t left) (value_in t right) env) (give (Number number.number))) }
 {
@@ -66,7 +66,7 @@ fn calculation(operator: BinaryOperator, x: Whole, y: Whole) -> Option<Whole>
 
 /// The arithmetic of an operator.
 #[inline(always)]
-fn arithmetic(operator: BinaryOperator, x: Whole, y: Whole) -> Result<Whole, NumFault>
+pub fn arithmetic(operator: BinaryOperator, x: Whole, y: Whole) -> Result<Whole, NumFault>
     ensures { answer result ≡ line.arithmetic operator x.number y.number }
 {
     match operator {

@@ -75,7 +75,7 @@ fn compared<S: WorldStore>(
 
 /// Whether the comparison holds.
 #[inline(always)]
-fn is_so<S: WorldStore>(
+pub fn is_so<S: WorldStore>(
     config: &Config<S>,
     operator: BinaryOperator,
     left: Value,

@@ -58,7 +58,7 @@ module _ (world : WorldId) (global : ObjId) (owner : ℕ) where
   by_class class.Global o st = refl
   by_class class.Scope o st = refl
 
-  pub shown_is : (v : Value) (st : St) → shown_in world global owner v st ≡ shown_value v st.arena st.full world
+  shown_is : (v : Value) (st : St) → shown_in world global owner v st ≡ shown_value v st.arena st.full world
   shown_is (Object o) st = by_class (object_at st.arena o).class o st
   shown_is Undefined st = refl
   shown_is Null st = refl

@@ -85,9 +85,7 @@ fn property<S: WorldStore>(
     ensures leaves { OnOk result (Leaves S.meaning config.old config.new) }
     ensures found { IfOk result (λ found. HasContent config.new.heap.texts config.new.heap.arena (content_of found)) }
 {
-    let Ok(id) = config.heap.texts.intern(units) else {
-        return Err(OutOfMemory);
-    };
+    let id = config.heap.texts.intern(units)?;
     let name = config.heap.texts.name_of(id);
     let found = wjs_props::get(&mut config.heap, config.world, object, name)?;
     Ok(found)

@@ -1,8 +1,8 @@
 -- No node stands in two parts of a node.
 use Rattle.std.specs.Prelude.{◌≡◌, ℕ, ◌≤◌, List, [], ◌∷◌, ◌++◌}
 use Rattle.std.proofs.Common.{sym, ap, subst, inl, inr, arith}
+use Rattle.wjs_base.specs.declared.ids.NodeId.{NodeId}
 use Rattle.wjs_tree.specs.declared.node.Node.{Node}
-use Rattle.wjs_tree.specs.declared.node.NodeId.{NodeId}
 use Rattle.wjs_tree.specs.Shows.{Has}
 use Rattle.wjs_tree.specs.Used.{IsUsed, IsOnce, AreApart}
 use Rattle.wjs_scope.specs.Nesting.{Side, Around, Caught, Inside, parts, IsAmong, LeadsTo, StandsIn}

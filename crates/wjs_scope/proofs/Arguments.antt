@@ -10,8 +10,8 @@ use Rattle.std.proofs.lemmas.Slice.Eq.{bytes_eq-Decides}
 use Rattle.wjs_base.specs.declared.ids.TextId.{TextId}
 use Rattle.wjs_base.specs.Text.{Units, Table, Denotes, Finds, Grows}
 use Rattle.wjs_base.proofs.TextLaws.{Grows-Denotes, Grows-Denotes-back}
+use Rattle.wjs_base.specs.declared.ids.NodeId.{NodeId}
 use Rattle.wjs_tree.specs.declared.node.Node.{Node}
-use Rattle.wjs_tree.specs.declared.node.NodeId.{NodeId}
 use Rattle.wjs_scope.specs.declared.place.Place.TheVariants.{Local}
 use Rattle.wjs_scope.specs.Declarations.{name_of, with_name, with_names, variables, formals_of, elements_of}
 use Rattle.wjs_scope.specs.Scopes.{Scope, is_in, place_past, function_names, own_name, with_own_name, in_function}

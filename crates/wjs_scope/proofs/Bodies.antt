@@ -1,8 +1,8 @@
 -- Each body in the tree of a script has elements.
 use Rattle.std.specs.Prelude.{◌≡◌, ℕ, true, ◌≤◌, List, [], ◌∷◌}
 use Rattle.std.proofs.Common.{refl, sym, subst, arith}
+use Rattle.wjs_base.specs.declared.ids.NodeId.{NodeId}
 use Rattle.wjs_tree.specs.declared.node.Node.{Node}
-use Rattle.wjs_tree.specs.declared.node.NodeId.{NodeId}
 use Rattle.wjs_tree.specs.declared.node.Node.TheVariants as nodes
 use Rattle.wjs_tree.specs.There.{ElementsThere}
 use Rattle.wjs_scope.specs.Declarations.{is_body, elements_of}

@@ -1,11 +1,10 @@
 -- The functions among the elements of a body.
-use Rattle.std.specs.Prelude.{◌≡◌, ℕ, ◌+◌, ◌<◌, ◌≤◌, Bool, true, false, List, [], ◌∷◌, ◌++◌, length, drop, slice_get, Result, Ok, Err, IfOk}
-use Rattle.std.proofs.Common.{sym, ap, subst, ◌∙◌, inl, inr, get_or, append_assoc, append-nil}
-use Rattle.std.proofs.lemmas.List.{drop_all}
+use Rattle.std.specs.Prelude.{◌≡◌, ℕ, ◌+◌, ◌<◌, Bool, true, false, List, [], ◌∷◌, ◌++◌, length, drop, slice_get, Result, Ok, Err, IfOk}
+use Rattle.std.proofs.Common.{sym, ap, subst, ◌∙◌, inl, inr, get_or, append_assoc}
 use Rattle.std.proofs.lemmas.Option.{slice_get_within}
 use Rattle.wjs_base.specs.declared.ids.TextId.{TextId}
+use Rattle.wjs_base.specs.declared.ids.NodeId.{NodeId}
 use Rattle.wjs_tree.specs.declared.node.Node.{Node}
-use Rattle.wjs_tree.specs.declared.node.NodeId.{NodeId}
 use Rattle.wjs_tree.specs.Trees.{Elements}
 use Rattle.wjs_scope.specs.Declarations.{elements_declared, with_names}
 use Rattle.wjs_tree.specs.Forms.{AreElements}
@@ -48,9 +47,6 @@ without ns list k found next d b lt e t n w =
       there = (elements_first ns 200 (get_or list k d) (drop (k + 1) list) (subst (ElementsThere ns 200) same w.there)).1;
       same = ap (λ z. z ++ functions_among ns (drop (k + 1) list)) n ∙ sym f ∙ w.same;
     }
-
-pub all_found : (ns : List Node) (list : List NodeId) (k : ℕ) (found : List NodeId) → length list ≤ k → FunctionsWalk ns list k found → found ≡ functions_among ns list
-all_found ns list k found le w = let none = ap (functions_among ns) (drop_all k list le) in sym (append-nil found) ∙ ap (λ z. found ++ z) (sym none) ∙ w.same
 
 -- the variables of a body are the names that its elements add to none
 pub variables_found : {E : Type 0} (ns : List Node) (list : List NodeId) (v w : List TextId) (r : Result (List TextId) E) → v ≡ [] → ElementsAdd ns list v w → IfOk r (λ (z : List TextId). z ≡ w)

@@ -5,8 +5,8 @@ use Rattle.std.proofs.lemmas.Bool.{cases_eq}
 use Rattle.std.proofs.lemmas.Option.{same_Some, slice_get-map}
 use Rattle.wjs_base.specs.declared.ids.TextId.{TextId}
 use Rattle.wjs_base.proofs.Lists.{get_front}
+use Rattle.wjs_base.specs.declared.ids.NodeId.{NodeId}
 use Rattle.wjs_tree.specs.declared.node.Node.{Node}
-use Rattle.wjs_tree.specs.declared.node.NodeId.{NodeId}
 use Rattle.wjs_tree.specs.Shows.{Has}
 use Rattle.wjs_scope.specs.declared.place.Place.{Place}
 use Rattle.wjs_scope.specs.declared.levels.Level.{Level}

@@ -1,11 +1,11 @@
 -- Names that are added along lists of statements, clauses and elements.
 use Rattle.std.specs.Prelude.{◌≡◌, ℕ, ◌+◌, ◌<◌, ◌≤◌, List, ◌++◌, length}
-use Rattle.std.proofs.Common.{refl, sym, ap, ◌∙◌, get_or}
+use Rattle.std.proofs.Common.{sym, ap, ◌∙◌, get_or}
 use Rattle.wjs_base.specs.declared.ids.TextId.{TextId}
+use Rattle.wjs_base.specs.declared.ids.NodeId.{NodeId}
 use Rattle.wjs_tree.specs.declared.node.Node.{Node}
-use Rattle.wjs_tree.specs.declared.node.NodeId.{NodeId}
 use Rattle.wjs_tree.specs.declared.node.Clause.{Clause}
-use Rattle.wjs_tree.specs.There.{StmtThere, StmtsThere, ClausesThere, ElementsThere, ElementThere}
+use Rattle.wjs_tree.specs.There.{StmtThere, StmtsThere, ElementThere}
 use Rattle.wjs_tree.proofs.Lists as along
 use Rattle.wjs_scope.specs.Declarations.{names_declared, all_declared, clauses_declared, elements_declared, with_names}
 use Rattle.wjs_scope.specs.Answers.{StmtAdds, StmtsAdds, ClausesAdd, ElementsAdd, ElementAdds}
@@ -14,9 +14,6 @@ use Rattle.wjs_scope.proofs.Walks.{AddAlike, with_both}
 -- of a list of statements, those from k on are left to add to w
 abbrev pub StmtsWalk : List Node → ℕ → List NodeId → List TextId → ℕ → List TextId → Type 0
 StmtsWalk ns room list v k w = along.StmtsWalk ns room list k (AddAlike all_declared v w)
-
-pub stmts_begin : (ns : List Node) (room : ℕ) (list : List NodeId) (v : List TextId) → StmtsThere ns room list → StmtsWalk ns room list v 0 v
-stmts_begin ns room list v h = along.stmts_begin ns room list (AddAlike all_declared v v) (λ t. refl) h
 
 pub stmts_here : (ns : List Node) (room : ℕ) (list : List NodeId) (v : List TextId) (k : ℕ) (w : List TextId) (d : NodeId) → k < length list → StmtsWalk ns room list v k w → StmtThere ns room (get_or list k d)
 stmts_here ns room list v k w d lt walk = along.stmts_here ns room list k (AddAlike all_declared v w) d lt walk
@@ -33,9 +30,6 @@ stmts_done ns room list v k w le walk t h = sym (along.stmts_done ns room list k
 abbrev pub ClausesWalk : List Node → ℕ → List Clause → List TextId → ℕ → List TextId → Type 0
 ClausesWalk ns room list v k w = along.ClausesWalk ns room list k (AddAlike clauses_declared v w)
 
-pub clauses_begin : (ns : List Node) (room : ℕ) (list : List Clause) (v : List TextId) → ClausesThere ns room list → ClausesWalk ns room list v 0 v
-clauses_begin ns room list v h = along.clauses_begin ns room list (AddAlike clauses_declared v v) (λ t. refl) h
-
 pub clauses_here : (ns : List Node) (room : ℕ) (list : List Clause) (v : List TextId) (k : ℕ) (w : List TextId) (d : Clause) → k < length list → ClausesWalk ns room list v k w → StmtsThere ns room (get_or list k d).body
 clauses_here ns room list v k w d lt walk = along.clauses_here ns room list k (AddAlike clauses_declared v w) d lt walk
 
@@ -50,9 +44,6 @@ clauses_done ns room list v k w le walk t h = sym (along.clauses_done ns room li
 -- of the elements of a body
 abbrev pub ElementsWalk : List Node → ℕ → List NodeId → List TextId → ℕ → List TextId → Type 0
 ElementsWalk ns room list v k w = along.ElementsWalk ns room list k (AddAlike elements_declared v w)
-
-pub elements_begin : (ns : List Node) (room : ℕ) (list : List NodeId) (v : List TextId) → ElementsThere ns room list → ElementsWalk ns room list v 0 v
-elements_begin ns room list v h = along.elements_begin ns room list (AddAlike elements_declared v v) (λ t. refl) h
 
 pub elements_here : (ns : List Node) (room : ℕ) (list : List NodeId) (v : List TextId) (k : ℕ) (w : List TextId) (d : NodeId) → k < length list → ElementsWalk ns room list v k w → ElementThere ns room (get_or list k d)
 elements_here ns room list v k w d lt walk = along.elements_here ns room list k (AddAlike elements_declared v w) d lt walk

@@ -4,7 +4,7 @@ use Rattle.std.proofs.Common.{refl, sym, ap, subst, ◌∙◌, inl, inr, arith, 
 use Rattle.std.proofs.lemmas.Bool.{cases_eq}
 use Rattle.std.proofs.lemmas.List.{get_or-set_same, get_or-set_other}
 use Rattle.std.proofs.lemmas.Option.{none-some, same_Some}
-use Rattle.wjs_tree.specs.declared.node.NodeId.{NodeId}
+use Rattle.wjs_base.specs.declared.ids.NodeId.{NodeId}
 use Rattle.wjs_tree.specs.declared.node.Clause.{Clause}
 use Rattle.wjs_tree.specs.Children.{ClausesBelow}
 use Rattle.wjs_scope.specs.Nesting.{Side, IsAmong, clause_part, clause_parts}
@@ -17,7 +17,7 @@ marked_both table at [] ys = refl
 marked_both table at (i ∷ xs) ys = marked_both (set table i.0 (Some at)) at xs ys
 
 -- the table keeps its length
-pub marked_length : (table : List (Option ℕ)) (at : ℕ) (xs : List NodeId) → length (marked table at xs) ≡ length table
+marked_length : (table : List (Option ℕ)) (at : ℕ) (xs : List NodeId) → length (marked table at xs) ≡ length table
 marked_length table at [] = refl
 marked_length table at (i ∷ xs) = marked_length (set table i.0 (Some at)) at xs ∙ length-set table i.0 (Some at)
 
@@ -27,37 +27,10 @@ past [] j b h = absurd (none-some b h)
 past (o ∷ more) zero b h = omega arith
 past (o ∷ more) (suc j) b h = let lt = past more j b h in omega arith
 
-set_kept : (table : List (Option ℕ)) (i j at : ℕ) → get_or table j None ≡ Some at → get_or (set table i (Some at)) j None ≡ Some at
-set_kept table i j at h = elim (cases_eq j i) [
-  | inl e ↦ subst (λ z. get_or (set table z (Some at)) j None ≡ Some at) e (get_or-set_same table j (Some at) None (past table j at h))
-  | inr n ↦ get_or-set_other table i j (Some at) None n ∙ h
-]
-
 pub set_only : (table : List (Option ℕ)) (i j at b : ℕ) → get_or (set table i (Some at)) j None ≡ Some b → (get_or table j None ≡ Some b) ⊎ ((j ≡ i) × (b ≡ at))
 set_only table i j at b h = elim (cases_eq j i) [
   | inl e ↦ inr (e, (let lt : i < length table = subst (λ z. z < length table) e (subst (λ z. j < z) (length-set table i (Some at)) (past (set table i (Some at)) j b h)) in let same : get_or (set table i (Some at)) j None ≡ Some at = subst (λ z. get_or (set table i (Some at)) z None ≡ Some at) (sym e) (get_or-set_same table i (Some at) None lt) in same_Some b at (sym h ∙ same)))
   | inr n ↦ inl (sym (get_or-set_other table i j (Some at) None n) ∙ h)
-]
-
--- a mark stays, whatever is marked alike
-pub marked_rest : (table : List (Option ℕ)) (at : ℕ) (xs : List NodeId) (j : ℕ) → get_or table j None ≡ Some at → get_or (marked table at xs) j None ≡ Some at
-marked_rest table at [] j h = h
-marked_rest table at (i ∷ xs) j h = marked_rest (set table i.0 (Some at)) at xs j (set_kept table i.0 j at h)
-
--- a marked node has the mark
-pub marked_in : (table : List (Option ℕ)) (at : ℕ) (xs : List NodeId) (x : NodeId) → IsAmong xs x → x.0 < length table → get_or (marked table at xs) x.0 None ≡ Some at
-marked_in table at [] x a lt = absurd a
-marked_in table at (i ∷ xs) x a lt = elim a [
-  | inl e ↦ marked_rest (set table i.0 (Some at)) at xs x.0 (subst (λ (z : NodeId). get_or (set table z.0 (Some at)) x.0 None ≡ Some at) e (get_or-set_same table x.0 (Some at) None lt))
-  | inr m ↦ marked_in (set table i.0 (Some at)) at xs x m (subst (λ z. x.0 < z) (sym (length-set table i.0 (Some at))) lt)
-]
-
--- what has a mark has it from before, or is among the nodes
-pub marked_only : (table : List (Option ℕ)) (at : ℕ) (xs : List NodeId) (j b : ℕ) → get_or (marked table at xs) j None ≡ Some b → (get_or table j None ≡ Some b) ⊎ ((x : NodeId) × IsAmong xs x × (x.0 ≡ j) × (b ≡ at))
-marked_only table at [] j b h = inl h
-marked_only table at (i ∷ xs) j b h = elim (marked_only (set table i.0 (Some at)) at xs j b h) [
-  | inl e ↦ elim (set_only table i.0 j at b e) [ inl f ↦ inl f | inr f ↦ inr (i, inl refl, sym f.0, f.1) ]
-  | inr f ↦ inr (f.0, inr f.1, f.2, f.3)
 ]
 
 -- one clause more is marked

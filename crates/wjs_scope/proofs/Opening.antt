@@ -22,11 +22,11 @@ one_nest levels at (x ∷ xs) (y ∷ ys) a b =
     cc
 
 -- the number is in the table
-pub nest_within : (levels : List Level) (at : ℕ) (xs : List Scope) → Nests levels at xs → at ≤ length levels
+nest_within : (levels : List Level) (at : ℕ) (xs : List Scope) → Nests levels at xs → at ≤ length levels
 nest_within levels at [] a = let e : at ≡ 0 = a in omega arith
 nest_within levels at (x ∷ xs) a = let lt = slice_get_within levels a.0 a.1 a.3 in let e = a.2 in omega arith
 
-pub stays_behind : (levels more : List Level) → StaysNested levels (levels ++ more)
+stays_behind : (levels more : List Level) → StaysNested levels (levels ++ more)
 stays_behind levels more at [] a = a
 stays_behind levels more at (x ∷ xs) a = (a.0, a.1, a.2, get_front levels more a.0 a.1 a.3, a.4, a.5, stays_behind levels more a.1.outer xs a.6)
 
@@ -66,7 +66,7 @@ pub record Peeled (levels : List Level) (i : ℕ) (level : Level) (rest : List S
   pub nests : Nests levels level.outer outer
   pub lower : level.outer ≤ i
 
-pub peel : (levels : List Level) (at i : ℕ) (level : Level) (rest : List Scope) → at ≡ suc i → slice_get levels i ≡ Some level → Nests levels at rest → Peeled levels i level rest
+peel : (levels : List Level) (at i : ℕ) (level : Level) (rest : List Scope) → at ≡ suc i → slice_get levels i ≡ Some level → Nests levels at rest → Peeled levels i level rest
 peel levels at i level [] e g h = absurd (let f : at ≡ 0 = h in omega arith)
 peel levels at i level (names ∷ outer) e g h =
     let same : h.0 ≡ i = (let f = h.2 in omega arith) in
@@ -97,14 +97,6 @@ outwards_on levels from name at hops i level e g t w =
       within = nest_within levels level.outer p.outer p.nests;
       same = λ s h. w.same s h ∙ ap (λ (z : List Scope). place_past hops z name) p.is ∙ ap (λ b. if b then Local hops else place_past (suc hops) p.outer name) t ∙ ap (λ k. place_past k p.outer name) next;
     }
-
--- fewer than 400 are passed
-pub outwards_small : (levels : List Level) (from : ℕ) (name : TextId) (at hops i : ℕ) (level : Level) → at ≡ suc i → slice_get levels i ≡ Some level → Outwards levels from name at hops → hops < 400
-outwards_small levels from name at hops i level e g w =
-    let p = peel levels at i level w.rest e g w.nests in
-    let long : length w.rest ≡ suc (length p.outer) = ap length p.is in
-    let room = w.room in
-    omega arith
 
 ended : (levels : List Level) (at hops : ℕ) (name : TextId) (rest : List Scope) → at ≡ 0 → Nests levels at rest → place_past hops rest name ≡ Global
 ended levels at hops name [] e h = refl

@@ -1,21 +1,19 @@
 -- The names that a form declares are those of the statements in it.
 use Rattle.std.specs.Prelude.{◌≡◌, ℕ, suc, List, ◌∷◌, ◌++◌, map, option_map, Option, Some, None, Result, Ok, Err, OnOk}
-use Rattle.std.proofs.Common.{refl, sym, ap, subst, ◌∙◌}
+use Rattle.std.proofs.Common.{sym, ap, subst, ◌∙◌}
 use Rattle.wjs_base.specs.declared.ids.TextId.{TextId}
+use Rattle.wjs_base.specs.declared.ids.NodeId.{NodeId}
 use Rattle.wjs_tree.specs.declared.node.Node.{Node}
-use Rattle.wjs_tree.specs.declared.node.NodeId.{NodeId}
 use Rattle.wjs_tree.specs.declared.node.Node.TheVariants as nodes
-use Rattle.wjs_tree.specs.declared.node.Clause.{Clause}
 use Rattle.wjs_tree.specs.declared.node.Handler.{Handler}
 use Rattle.wjs_tree.specs.declared.node.Declarator.{Declarator}
 use Rattle.wjs_tree.specs.declared.node.End.{End}
 use Rattle.wjs_tree.specs.declared.node.ForInit.{ForInit}
-use Rattle.wjs_tree.specs.Trees.{Variables, Init, Stmt, NoVariable, Variable, NoInit, InitExpr, InitVar, Block, Var, If, DoWhile, While, For, ForIn, ForVarIn, Label, Switch, TryCatch, TryFinally, TryBoth, Within}
+use Rattle.wjs_tree.specs.Trees.{Variables, Init, Stmt, NoVariable, Variable, NoInit, InitExpr, InitVar, Block, Var, If, For, TryCatch, TryFinally, TryBoth, Within}
 use Rattle.wjs_tree.specs.Shows.{Has}
-use Rattle.wjs_scope.specs.Declarations.{names_declared, all_declared, variable_names, init_names, with_name, with_names}
+use Rattle.wjs_scope.specs.Declarations.{names_declared, all_declared, variable_names, init_names, with_names}
 use Rattle.wjs_tree.specs.Forms.{AreVariables, IsInit, HasForm}
-use Rattle.wjs_tree.specs.There.{StmtThere}
-use Rattle.wjs_scope.specs.Answers.{StmtAdds, OptionAdds, StmtsAdds, ClausesAdd, FormAdds, VariablesAdd, InitAdds}
+use Rattle.wjs_scope.specs.Answers.{StmtAdds, OptionAdds, FormAdds, VariablesAdd, InitAdds}
 use Rattle.wjs_tree.proofs.Forms.{form_of}
 use Rattle.wjs_tree.proofs.Steps as steps
 use Rattle.wjs_scope.proofs.Walks.{AddAlike, with_both}
@@ -40,34 +38,13 @@ init_adds ns NoInit init v w h a = subst (λ (z : ForInit). InitAdds z v w) h.1.
 init_adds ns (InitExpr e) init v w h a = subst (λ (z : ForInit). InitAdds z v w) h.1.1 a
 init_adds ns (InitVar vs) init v w h a = let q : VariablesAdd h.1.0 v w = subst (λ (z : ForInit). InitAdds z v w) h.1.1 a in q ∙ ap (with_names v) (names_of ns vs h.1.0 (h.0, h.1.2))
 
-pub block_adds : (ns : List Node) (list : List NodeId) (v w : List TextId) → StmtsAdds ns list v w → FormAdds ns (nodes.Block list) v w
-block_adds ns list v w a t f = moved v w t (Block f.0) f.1 (a f.0 f.2)
-
 pub var_adds : (ns : List Node) (list : List Declarator) (end : End) (v w : List TextId) → VariablesAdd list v w → FormAdds ns (nodes.Var list end) v w
 var_adds ns list end v w a t f = moved v w t (Var f.0 end) f.1 (a ∙ ap (with_names v) (names_of ns f.0 list f.2))
-
-pub do_adds : (ns : List Node) (x y : NodeId) (end : End) (v w : List TextId) → StmtAdds ns x v w → FormAdds ns (nodes.DoWhile x y end) v w
-do_adds ns x y end v w a t f = moved v w t (DoWhile f.0 f.1 end) f.2 (a f.0 f.3)
-
-pub while_adds : (ns : List Node) (x y : NodeId) (v w : List TextId) → StmtAdds ns y v w → FormAdds ns (nodes.While x y) v w
-while_adds ns x y v w a t f = moved v w t (While f.0 f.1) f.2 (a f.1 f.3)
 
 pub for_adds : (ns : List Node) (init : ForInit) (o p : Option NodeId) (x : NodeId) (v w z : List TextId) → InitAdds init v w → StmtAdds ns x w z → FormAdds ns (nodes.For init o p x) v z
 for_adds ns init o p x v w z b a t f =
     moved v z t (For f.0 f.1 f.2 f.3) f.4
     (a f.3 f.6 ∙ ap (λ q. with_names q (names_declared f.3)) (init_adds ns f.0 init v w f.5 b) ∙ sym (with_both v (init_names f.0) (names_declared f.3)))
-
-pub for_in_adds : (ns : List Node) (x y z : NodeId) (v w : List TextId) → StmtAdds ns z v w → FormAdds ns (nodes.ForIn x y z) v w
-for_in_adds ns x y z v w a t f = moved v w t (ForIn f.0 f.1 f.2) f.3 (a f.2 f.4)
-
-pub for_var_adds : (ns : List Node) (x : TextId) (y z : NodeId) (v u w : List TextId) → u ≡ with_name v x → StmtAdds ns z u w → FormAdds ns (nodes.ForVarIn x y z) v w
-for_var_adds ns x y z v u w e a t f = moved v w t (ForVarIn x f.0 f.1) f.2 (a f.1 f.3 ∙ ap (λ q. with_names q (names_declared f.1)) e)
-
-pub label_adds : (ns : List Node) (x : TextId) (y : NodeId) (v w : List TextId) → StmtAdds ns y v w → FormAdds ns (nodes.Label x y) v w
-label_adds ns x y v w a t f = moved v w t (Label x f.0) f.1 (a f.0 f.2)
-
-pub switch_adds : (ns : List Node) (x : NodeId) (list : List Clause) (v w : List TextId) → ClausesAdd ns list v w → FormAdds ns (nodes.Switch x list) v w
-switch_adds ns x list v w a t f = moved v w t (Switch f.0 f.1) f.2 (a f.1 f.3)
 
 pub world_adds : (ns : List Node) (x y : NodeId) (v w : List TextId) → StmtAdds ns y v w → FormAdds ns (nodes.Within x y) v w
 world_adds ns x y v w a t f = moved v w t (Within f.0 f.1) f.2 (a (Block f.1) f.3)
@@ -86,9 +63,6 @@ try_adds ns p (Some h) (Some o) v u w z a b c t f =
 -- a walk along a chain of `else`
 abbrev pub StmtWalk : List Node → ℕ → NodeId → List TextId → NodeId → List TextId → Type 0
 StmtWalk ns room i v j w = steps.StmtWalk ns room i j (AddAlike names_declared v w)
-
-pub walk_begin : (ns : List Node) (room : ℕ) (i : NodeId) (v : List TextId) → StmtThere ns room i → StmtWalk ns room i v i v
-walk_begin ns room i v h = steps.walk_begin ns room i (AddAlike names_declared v v) (λ t. refl) h
 
 pub walk_end : (ns : List Node) (room : ℕ) (i j : NodeId) (v w z : List TextId) → StmtWalk ns room i v j w → StmtAdds ns j w z → StmtAdds ns i v z
 walk_end ns room i j v w z walk a t h = let u = walk.same.each t h in a u.0 u.1 ∙ sym u.2

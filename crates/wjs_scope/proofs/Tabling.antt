@@ -3,8 +3,8 @@ use Rattle.std.specs.Prelude.{◌≡◌, ℕ, zero, suc, ◌+◌, Bool, true, fa
 use Rattle.std.proofs.Common.{refl, sym, ap, subst, ◌∙◌, inl, inr, arith, length-append}
 use Rattle.std.proofs.lemmas.Option.{none-some}
 use Rattle.wjs_base.proofs.Lists.{get_pushed}
+use Rattle.wjs_base.specs.declared.ids.NodeId.{NodeId}
 use Rattle.wjs_tree.specs.declared.node.Node.{Node}
-use Rattle.wjs_tree.specs.declared.node.NodeId.{NodeId}
 use Rattle.wjs_tree.specs.declared.node.Node.TheVariants as nodes
 use Rattle.wjs_tree.specs.Trees.{Elements, NoElement, Statement, FunctionDecl}
 use Rattle.wjs_tree.specs.Shows.{Has}
@@ -28,7 +28,7 @@ no_variables ns (Statement s rest) a = absurd (let h = a.1.4 in cc)
 no_variables ns (FunctionDecl x formals body rest) a = absurd (let h = a.1.5 in cc)
 
 -- that of a node that is no body's
-pub of_none : (ns : List Node) (node : Node) → is_body node ≡ false → Declares ns node nothing
+of_none : (ns : List Node) (node : Node) → is_body node ≡ false → Declares ns node nothing
 of_none ns (nodes.Program list) e = absurd (cc)
 of_none ns (nodes.Function name formals list) e = absurd (cc)
 of_none ns (nodes.FunctionDecl x formals list) e = absurd (cc)

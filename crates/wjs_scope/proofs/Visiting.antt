@@ -3,8 +3,8 @@ use Rattle.std.specs.Prelude.{◌≡◌, ℕ, ◌+◌, ◌<◌, ◌≤◌, ◌�
 use Rattle.std.proofs.Common.{refl, sym, ap, subst, ◌∙◌, inl, inr, get_or}
 use Rattle.std.proofs.lemmas.List.{drop_all}
 use Rattle.wjs_base.specs.declared.ids.TextId.{TextId}
+use Rattle.wjs_base.specs.declared.ids.NodeId.{NodeId}
 use Rattle.wjs_tree.specs.declared.node.Node.{Node}
-use Rattle.wjs_tree.specs.declared.node.NodeId.{NodeId}
 use Rattle.wjs_tree.specs.declared.node.Handler.{Handler}
 use Rattle.wjs_tree.specs.declared.node.Node.TheVariants as nodes
 use Rattle.wjs_tree.specs.Trees.{Elements}
@@ -13,7 +13,7 @@ use Rattle.wjs_scope.specs.Declarations.{with_names, elements_of, variables}
 use Rattle.wjs_tree.specs.Forms.{AreElements}
 use Rattle.wjs_scope.specs.Scopes.{Scope, declared_name, function_names, function_scope, in_function, with_own_name}
 use Rattle.wjs_scope.specs.Nesting.{Side, Around, Caught, Inside, option_part, plain_parts, on_side, parts, IsAmong, Enters}
-use Rattle.wjs_scope.specs.Levels.{Nests, StaysNested, Opens, OpensOwn, OpensCaught}
+use Rattle.wjs_scope.specs.Levels.{Nests, StaysNested, Opens, OpensOwn}
 use Rattle.wjs_scope.specs.Marks.{number_on, marked, marked_parts}
 use Rattle.wjs_scope.specs.Visits.{Begins}
 use Rattle.wjs_tree.specs.There.{ElementsThere}
@@ -92,19 +92,6 @@ try_sides a handler o p (inl e) = inl (ap (λ (z : NodeId × Side). z.1) e)
 try_sides a None o p (inr h) = inl (among_side Around (option_part o) p h)
 try_sides a (Some b) o p (inr (inl e)) = inr (b, refl, ap (λ (z : NodeId × Side). z.1) e)
 try_sides a (Some b) o p (inr (inr h)) = inl (among_side Around (option_part o) p h)
-
-pub try_begins : (ns : List Node) (arguments : Option TextId) (a : NodeId) (handler : Option Handler) (o : Option NodeId) (at inner : ℕ) (before after : List Level) → OpensCaught before after at inner handler → Begins ns arguments (nodes.Try a handler o) at inner before after
-try_begins ns arguments a handler o at inner before after c = record {
-  stays = c.stays;
-  opens = λ p scopes found among n h. go p.1 scopes found n h (try_sides a handler o p among);
-}
-  where
-    go : (side : Side) (scopes found : List Scope) → Nests before at scopes → Enters ns arguments (nodes.Try a handler o) side scopes found → (side ≡ Around) ⊎ ((h : Handler) × (handler ≡ Some h) × (side ≡ Caught h.name)) → Nests after (number_on side at inner) found
-    go Around scopes found n h e = subst (Nests after at) (sym h) (c.stays at scopes n)
-    go (Caught x) scopes found n h (inl e) = absurd (cc)
-    go (Caught x) scopes found n h (inr e) = let same : x ≡ e.0.name = (let q = e.2 in cc) in subst (Nests after inner) (sym (h ∙ ap (λ (z : TextId). (z ∷ []) ∷ scopes) same)) (c.opens e.0 scopes e.1 n)
-    go Inside scopes found n h (inl e) = absurd (cc)
-    go Inside scopes found n h (inr e) = absurd (let q = e.2 in cc)
 
 -- functions whose names are added on the way
 pub record FunctionsAdded (ns : List Node) (list : List NodeId) (v : List TextId) (k : ℕ) (w : List TextId) : Type 0 where

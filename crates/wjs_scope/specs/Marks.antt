@@ -1,6 +1,6 @@
 -- Nodes that are marked with the number of the scope that they stand in.
 use Rattle.std.specs.Prelude.{ℕ, List, [], ◌∷◌, set, Option, Some, None}
-use Rattle.wjs_tree.specs.declared.node.NodeId.{NodeId}
+use Rattle.wjs_base.specs.declared.ids.NodeId.{NodeId}
 use Rattle.wjs_tree.specs.declared.node.Handler.{Handler}
 use Rattle.wjs_scope.specs.Nesting.{Side, Around}
 

@@ -2,8 +2,8 @@
 use Rattle.std.specs.Prelude.{◌≡◌, ℕ, true, ◌+◌, ◌≤◌, ◌<◌, List, [], ◌∷◌, ◌++◌, length, map, codes, Option, None, Some, IsSome, slice_get}
 use Rattle.wjs_base.specs.declared.ids.TextId.{TextId}
 use Rattle.wjs_base.specs.Text.{Units, Table, Has as HasText, Finds, Grows}
+use Rattle.wjs_base.specs.declared.ids.NodeId.{NodeId}
 use Rattle.wjs_tree.specs.declared.node.Node.{Node}
-use Rattle.wjs_tree.specs.declared.node.NodeId.{NodeId}
 use Rattle.wjs_tree.specs.declared.node.Node.TheVariants as nodes
 use Rattle.wjs_tree.specs.declared.node.Declarator.{Declarator}
 use Rattle.wjs_tree.specs.declared.node.ForInit.{ForInit}
@@ -76,7 +76,7 @@ pub record ArePlaces (ns : List Node) (arguments : Option TextId) (body : NodeId
   pub right : (i : NodeId) (scopes : List Scope) (node : Node) (k : ℕ) (x : TextId) → StandsAmong ns arguments body i scopes → Has ns i node → slice_get (placed_names node) k ≡ Some x → place_at rows i k ≡ Some (resolve scopes x)
   pub each : (i : NodeId) (node : Node) (k : ℕ) → StandsIn ns body i → Has ns i node → k < length (placed_names node) → IsSome (place_at rows i k)
 
--- each body in the tree of a script is one that `declared` takes
+-- each body in the tree of a script is there, with all that stands in it
 abbrev pub BodiesAreThere : Type 0
 BodiesAreThere = (ns : List Node) (body i : NodeId) (node : Node) → IsScript ns body → StandsIn ns body i → Has ns i node → is_body node ≡ true → BodyThere ns i
 

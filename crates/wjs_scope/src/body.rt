@@ -10,7 +10,7 @@ ghost use Rattle.wjs_tree.specs.There.{ElementsThere, ElementThere};
 ghost use Rattle.wjs_scope.specs.Answers.{BodyThere, ElementAdds};
 
 use crate::declarations::Declarations;
-use crate::names::Names;
+use crate::names::NameSet;
 use crate::walk::statement;
 use std::alloc::Global;
 use wjs_base::{OutOfMemory, TextId};
@@ -102,14 +102,14 @@ fn variables_of(
     requires { ElementsThere nodes.now 200 elements.now }
     ensures { IfOk result (λ list. (t : Elements) → AreElements nodes.now t elements.now → list ≡ variables t) }
 {
-    let mut vars = Names::new(alloc);
+    let mut vars = NameSet::new(alloc);
     for element in elements {
         element_names(nodes, *element, &mut vars)?;
     }
     vars.to_sequence(alloc)
 }
 
-fn element_names(nodes: &Nodes, id: NodeId, vars: &mut Names) -> Result<(), OutOfMemory>
+fn element_names(nodes: &Nodes, id: NodeId, vars: &mut NameSet) -> Result<(), OutOfMemory>
     requires { ElementThere nodes.now 200 id }
     ensures { OnOk result (ElementAdds nodes.now id vars.old vars.new) }
 {
@@ -126,13 +126,13 @@ pub fn body_names(
     formals: &[TextId],
     nodes: &Nodes,
     elements: &[NodeId],
-) -> Result<Names, OutOfMemory>
+) -> Result<NameSet, OutOfMemory>
     requires { ElementsThere nodes.now 200 elements.now }
     ensures { IfOk result (λ names. (t : Elements) → AreElements nodes.now t elements.now
         → names ≡ function_scope arguments formals.now (function_names nodes.now elements.now) (variables t)) }
 {
     let vars = variables_of(alloc, nodes, elements)?;
-    let mut names = Names::new(alloc);
+    let mut names = NameSet::new(alloc);
     names.add_option(arguments)?;
     names.add_all(formals)?;
     add_functions(nodes, elements, &mut names)?;
@@ -140,7 +140,7 @@ pub fn body_names(
     Ok(names)
 }
 
-fn add_functions(nodes: &Nodes, elements: &[NodeId], names: &mut Names) -> Result<(), OutOfMemory>
+fn add_functions(nodes: &Nodes, elements: &[NodeId], names: &mut NameSet) -> Result<(), OutOfMemory>
     requires { ElementsThere nodes.now 200 elements.now }
     ensures { OnOk result (names.new ≡ with_names names.old (function_names nodes.now elements.now)) }
 {
@@ -150,7 +150,7 @@ fn add_functions(nodes: &Nodes, elements: &[NodeId], names: &mut Names) -> Resul
     Ok(())
 }
 
-fn add_function(nodes: &Nodes, id: NodeId, names: &mut Names) -> Result<(), OutOfMemory>
+fn add_function(nodes: &Nodes, id: NodeId, names: &mut NameSet) -> Result<(), OutOfMemory>
     requires { id.0 < length nodes.now }
     ensures { OnOk result (names.new ≡ with_names names.old (declared_name (slice_get nodes.now id.0))) }
 {

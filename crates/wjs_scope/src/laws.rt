@@ -8,7 +8,7 @@ pub fn places_are_of_texts()
     ensures { PlacesAreOfTexts }
 {}
 
-/// The body of a script, and of each function in its tree, is one that `declared` takes.
+/// The body of a script, and of each function in its tree, is there, with all that stands in it.
 pub fn bodies_are_there()
     ensures { BodiesAreThere }
 {}

@@ -3,7 +3,7 @@ ghost use Rattle.std.specs.Prelude.{List, ◌≡◌, [], ◌∷◌, IfOk};
 ghost use Rattle.wjs_scope.specs.Scopes.{Scope, resolve};
 ghost use Rattle.wjs_scope.specs.Levels.{Nests, IsNest, Opens, OpensOwn, OpensCaught};
 
-use crate::names::Names;
+use crate::names::NameSet;
 use crate::place::Place;
 use std::alloc::Global;
 use wjs_base::{OutOfMemory, TextId};
@@ -12,7 +12,7 @@ use wjs_tree::Handler;
 /// A scope, and the number of the one around it. Scopes are counted from 1; 0 stands for none.
 #[derive(Drop)]
 pub struct Level {
-    pub names: Names,
+    pub names: NameSet,
     pub outer: u64,
 }
 
@@ -35,7 +35,7 @@ pub fn resolve(levels: &[Level], from: u64, name: TextId) -> Place
 }
 
 /// Opens a scope within those of a number, and gives its own number.
-pub fn open(levels: &mut Vec<Level>, names: Names, at: u64) -> Result<u64, OutOfMemory>
+pub fn open(levels: &mut Vec<Level>, names: NameSet, at: u64) -> Result<u64, OutOfMemory>
     requires { IsNest levels.old.items at }
     ensures { IfOk result (λ inner. Opens levels.old.items levels.new.items at inner names) }
 {
@@ -53,7 +53,7 @@ pub fn open_one(
     requires { IsNest levels.old.items at }
     ensures { IfOk result (λ inner. Opens levels.old.items levels.new.items at inner (name ∷ [])) }
 {
-    let mut names = Names::new(alloc);
+    let mut names = NameSet::new(alloc);
     names.add(name)?;
     open(levels, names, at)
 }

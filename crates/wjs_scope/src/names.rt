@@ -9,13 +9,13 @@ use std::marker::Model;
 use wjs_base::{OutOfMemory, TextId};
 use wjs_tree::Sequence;
 
-/// A list of different names, in which a name is found by one look. Contracts see the list.
+/// Different names in the order in which they came, among which one is found by one look. Contracts see the list.
 #[derive(Drop)]
-pub struct Names {
+pub struct NameSet {
     numbers: IndexSet<u64>,
 }
 
-impl Model for Names {
+impl Model for NameSet {
     ghost use Rattle.std.specs.Prelude.{List, map};
     ghost use Rattle.wjs_scope.specs.Declarations.{name_of};
     ghost use Rattle.wjs_base.specs.declared.ids.TextId.{TextId};
@@ -25,12 +25,12 @@ impl Model for Names {
     ghost view = { λ n. map name_of n.numbers.keys };
 }
 
-impl Names {
+impl NameSet {
     /// No names.
-    pub fn new(alloc: Global) -> Names
+    pub fn new(alloc: Global) -> NameSet
         ensures { result ≡ [] }
     {
-        Names {
+        NameSet {
             numbers: IndexSet::new(alloc),
         }
     }

@@ -1,6 +1,6 @@
 //! The places of the names of each node.
 ghost use Rattle.std.specs.Prelude.{◌≡◌, ℕ, ◌≤◌, [], ◌∷◌, length, Some, IfOk, OnOk};
-ghost use Rattle.wjs_tree.specs.declared.node.NodeId.{NodeId};
+ghost use Rattle.wjs_base.specs.declared.ids.NodeId.{NodeId};
 ghost use Rattle.wjs_scope.specs.Levels.{IsNest};
 ghost use Rattle.wjs_scope.specs.Visits.{mark_of};
 ghost use Rattle.wjs_scope.specs.Places.{placed_names, declarator_names, init_declares, AddsPlaces, KeepsPlaces};

@@ -27,10 +27,8 @@ impl Declared {
     pub(crate) fn new(alloc: Global, declarations: Declarations) -> Result<Declared, OutOfMemory>
         ensures { IfOk result (λ d. d ≡ declarations) }
     {
-        match Rc::new(alloc, declarations) {
-            Ok(shared) => Ok(Declared { shared }),
-            Err(_) => Err(OutOfMemory),
-        }
+        let shared = Rc::new(alloc, declarations)?;
+        Ok(Declared { shared })
     }
 
     /// Nothing declared.

@@ -4,7 +4,7 @@ ghost use Rattle.wjs_tree.specs.declared.node.Node.TheVariants as forms;
 ghost use Rattle.wjs_tree.specs.There.{StmtThere, OptionThere, StmtsThere, ClausesThere, FormThere, IsNoIf};
 ghost use Rattle.wjs_scope.specs.Answers.{StmtAdds, OptionAdds, StmtsAdds, ClausesAdd, FormAdds, VariablesAdd, InitAdds};
 
-use crate::names::Names;
+use crate::names::NameSet;
 use wjs_base::OutOfMemory;
 use wjs_tree::{Clause, Declarator, ForInit, Handler, Node, NodeId, Nodes};
 
@@ -13,7 +13,7 @@ fn statements(
     nodes: &Nodes,
     list: &[NodeId],
     room: u32,
-    vars: &mut Names,
+    vars: &mut NameSet,
 ) -> Result<(), OutOfMemory>
     requires { StmtsThere nodes.now room list.now }
     ensures { OnOk result (StmtsAdds nodes.now list.now vars.old vars.new) }
@@ -26,7 +26,12 @@ fn statements(
 
 /// Adds the names that a statement of at most this height declares.
 #[cycle(walk)]
-pub fn statement(nodes: &Nodes, id: NodeId, room: u32, vars: &mut Names) -> Result<(), OutOfMemory>
+pub fn statement(
+    nodes: &Nodes,
+    id: NodeId,
+    room: u32,
+    vars: &mut NameSet,
+) -> Result<(), OutOfMemory>
     requires { StmtThere nodes.now room id }
     ensures { OnOk result (StmtAdds nodes.now id vars.old vars.new) }
 {
@@ -48,7 +53,7 @@ pub fn statement(nodes: &Nodes, id: NodeId, room: u32, vars: &mut Names) -> Resu
 
 /// The same of a statement that is no `if`, the statements in it no higher than `room`.
 #[cycle(walk)]
-fn form(nodes: &Nodes, id: NodeId, room: u32, vars: &mut Names) -> Result<(), OutOfMemory>
+fn form(nodes: &Nodes, id: NodeId, room: u32, vars: &mut NameSet) -> Result<(), OutOfMemory>
     requires there { StmtThere nodes.now (suc room) id }
     requires no_if { IsNoIf nodes.now id }
     ensures { OnOk result (StmtAdds nodes.now id vars.old vars.new) }
@@ -75,7 +80,7 @@ fn form(nodes: &Nodes, id: NodeId, room: u32, vars: &mut Names) -> Result<(), Ou
     }
 }
 
-fn initial(init: &ForInit, vars: &mut Names) -> Result<(), OutOfMemory>
+fn initial(init: &ForInit, vars: &mut NameSet) -> Result<(), OutOfMemory>
     ensures { OnOk result (InitAdds init.now vars.old vars.new) }
 {
     match init {
@@ -84,7 +89,7 @@ fn initial(init: &ForInit, vars: &mut Names) -> Result<(), OutOfMemory>
     }
 }
 
-fn declarators(list: &[Declarator], vars: &mut Names) -> Result<(), OutOfMemory>
+fn declarators(list: &[Declarator], vars: &mut NameSet) -> Result<(), OutOfMemory>
     ensures { OnOk result (VariablesAdd list.now vars.old vars.new) }
 {
     for declarator in list {
@@ -94,7 +99,7 @@ fn declarators(list: &[Declarator], vars: &mut Names) -> Result<(), OutOfMemory>
 }
 
 #[cycle(walk)]
-fn clauses(nodes: &Nodes, list: &[Clause], room: u32, vars: &mut Names) -> Result<(), OutOfMemory>
+fn clauses(nodes: &Nodes, list: &[Clause], room: u32, vars: &mut NameSet) -> Result<(), OutOfMemory>
     requires { ClausesThere nodes.now room list.now }
     ensures { OnOk result (ClausesAdd nodes.now list.now vars.old vars.new) }
 {
@@ -111,7 +116,7 @@ fn tried(
     handler: Option<Handler>,
     last: Option<NodeId>,
     room: u32,
-    vars: &mut Names,
+    vars: &mut NameSet,
 ) -> Result<(), OutOfMemory>
     requires { FormThere nodes.now room (forms.Try body handler last) }
     ensures { OnOk result (FormAdds nodes.now (forms.Try body handler last) vars.old vars.new) }
@@ -135,7 +140,7 @@ fn optional(
     nodes: &Nodes,
     id: Option<NodeId>,
     room: u32,
-    vars: &mut Names,
+    vars: &mut NameSet,
 ) -> Result<(), OutOfMemory>
     requires { OptionThere nodes.now room id }
     ensures { OnOk result (OptionAdds nodes.now id vars.old vars.new) }

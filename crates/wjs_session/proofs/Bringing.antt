@@ -29,7 +29,7 @@ use Rattle.wjs_session.proofs.Writing.{brought_write, settled_write}
 use Rattle.wjs_session.specs.Maps.{same_content_self}
 use Rattle.wjs_session.specs.Fills.{fill, has_fill}
 
-pub brought_nothing : (F : Worlds) (i : WorldId) (G : Worlds) → IsSession F i G → Brought F i G F G
+brought_nothing : (F : Worlds) (i : WorldId) (G : Worlds) → IsSession F i G → Brought F i G F G
 brought_nothing F i G k = record { kept = k; grows = grows_same F i k.shared k.child; same = λ v p. refl; holds = refl; there = λ d h. h; settles = λ s h. h }
 
 pub brought_then : (F : Worlds) (i : WorldId) (G F1 G1 F2 G2 : Worlds) → Brought F i G F1 G1 → Brought F1 i G1 F2 G2 → Brought F i G F2 G2
@@ -84,7 +84,7 @@ module _ (F : Worlds) (i : WorldId) (G : Worlds) (k : IsSession F i G) (s : Slot
   inside_is : content_at G i s ≡ map.get (first_copy G) s
   inside_is = sym (first_content G i s k.first)
 
-  pub settled_by : settled (world_at (after_read F i s) i) G s ≡ same_content same_value (content_at G i s) (content_at F i s)
+  settled_by : settled (world_at (after_read F i s) i) G s ≡ same_content same_value (content_at G i s) (content_at F i s)
   settled_by = λ j. read_touched j && same_content same_value (sym inside_is j) (sym held_is j)
 
   -- it was there
@@ -104,7 +104,7 @@ module _ (F : Worlds) (i : WorldId) (G : Worlds) (k : IsSession F i G) (s : Slot
 
 -- ---- the slots of an object
 
-pub all_push : {A : Type 0} (P : A → Type 0) (xs : List A) (y : A) → AllByRecursion P xs → P y → AllByRecursion P (xs ++ y ∷ [])
+all_push : {A : Type 0} (P : A → Type 0) (xs : List A) (y : A) → AllByRecursion P xs → P y → AllByRecursion P (xs ++ y ∷ [])
 all_push P [] y p q = (q, tt)
 all_push P (x ∷ xs) y p q = (p.0, all_push P xs y p.1 q)
 
@@ -112,10 +112,10 @@ slots_push : (q : ObjId) (names : List Name) (name : Name) → slots_of q (names
 slots_push q [] name = refl
 slots_push q (n ∷ names) name = ap (λ ss. record { object = q; name = n } ∷ ss) (slots_push q names name)
 
-pub slots_more : (P : Slot → Type 0) (q : ObjId) (names : List Name) (j : ℕ) (name : Name) → j < length names → get_or names j name ≡ name → AllByRecursion P (slots_of q (take j names)) → P (record { object = q; name = name }) → AllByRecursion P (slots_of q (take (j + 1) names))
+slots_more : (P : Slot → Type 0) (q : ObjId) (names : List Name) (j : ℕ) (name : Name) → j < length names → get_or names j name ≡ name → AllByRecursion P (slots_of q (take j names)) → P (record { object = q; name = name }) → AllByRecursion P (slots_of q (take (j + 1) names))
 slots_more P q names j name l e p here = subst (λ ns. AllByRecursion P (slots_of q ns)) (sym (take_more names j name l ∙ ap (λ n. take j names ++ n ∷ []) e)) (subst (AllByRecursion P) (sym (slots_push q (take j names) name)) (all_push P (slots_of q (take j names)) (record { object = q; name = name }) p here))
 
-pub all_in : (P : Slot → Type 0) (ss : List Slot) (t : Slot) → AllByRecursion P ss → list_any (eq_by_cmp slot_cmp t) ss ≡ true → P t
+all_in : (P : Slot → Type 0) (ss : List Slot) (t : Slot) → AllByRecursion P ss → list_any (eq_by_cmp slot_cmp t) ss ≡ true → P t
 all_in P [] t p h = absurd (false≢true h)
 all_in P (s ∷ ss) t p h = or_case (eq_by_cmp slot_cmp t s) (list_any (eq_by_cmp slot_cmp t) ss) h
     (λ e. subst P (sym (key_is slot_exact t s e)) p.0)

@@ -11,6 +11,7 @@ use Rattle.wjs_base.specs.declared.values.Slot.{Slot}
 use Rattle.wjs_base.specs.declared.values.Value.{Value}
 use Rattle.wjs_base.specs.Order.{slot_cmp, slot_total, slot_exact}
 use Rattle.wjs_base.proofs.Booleans.{by_bool}
+use Rattle.wjs_base.proofs.Orders.{not_back, not_self}
 use Rattle.wjs_store.specs.Naming.{plain}
 use Rattle.wjs_store.specs.Marked.{is_written}
 use Rattle.wjs_store.specs.Reached.{IsReached}
@@ -22,7 +23,6 @@ use Rattle.wjs_store.proofs.Commits.{at_head, find_tail}
 use Rattle.wjs_overlay.specs.Check.{IsLeast}
 use Rattle.wjs_layers.specs.Cursor.{to_come, is_before, count_passing}
 use Rattle.wjs_overlay.proofs.Counts.{count_lt}
-use Rattle.wjs_layers.proofs.Cursors.{not_back, not_self}
 use Rattle.wjs_overlay.proofs.Keyed.{by_order}
 use Rattle.wjs_layers.proofs.Scans.{to_come_on}
 use Rattle.wjs_session.specs.Session.{world_at}

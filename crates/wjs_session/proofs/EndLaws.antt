@@ -61,7 +61,7 @@ module _ (F : Worlds) (i : WorldId) (r : IsReached F) (c : IsChild F i) where
       ap (option_and_then (λ (e : World plain × World plain). fault_in e.0 e.1)) both
       ∙ sym (ap (λ o. fault_in (world_at F i) (holding (world_at F i).id (option_map_or (λ j. (world_at F j).copy) o map.empty))) a.first)
 
-  pub check_passes : is_none (check_of F i) ≡ passes (world_at F i) (first_copy F)
+  check_passes : is_none (check_of F i) ≡ passes (world_at F i) (first_copy F)
   unfolding passes
   check_passes = ap is_none check_is
 

@@ -36,7 +36,7 @@ module _ (w : Slot → Bool) (o : View) where
 
   -- ---- read
 
-  pub fill_read : (s : Slot) → w s ≡ true → (y : World plain) → read_in s (fill w o y) ≡ fill w o (read_in s y)
+  fill_read : (s : Slot) → w s ≡ true → (y : World plain) → read_in s (fill w o y) ≡ fill w o (read_in s y)
   fill_read s h y = fill_cond w o (is_some y.parent && not (is_touched y s)) (record (fill w o y) { first = map.insert y.first s (map.get (fill w o y).copy s) }) (record y { first = map.insert y.first s (map.get y.copy s) }) y
       (ap (λ c. record (fill w o y) { first = map.insert y.first s c }) (get_fill w o y s h))
 
@@ -66,10 +66,10 @@ module _ (w : Slot → Bool) (o : View) where
       ∙ sym (get_filled w (put m s c) o t))
 
   -- the content is put in the copy alone
-  pub fill_put : (s : Slot) (c : Option Value) → w s ≡ true → (y : World plain) → record (fill w o y) { copy = put (fill w o y).copy s c } ≡ fill w o (record y { copy = put y.copy s c })
+  fill_put : (s : Slot) (c : Option Value) → w s ≡ true → (y : World plain) → record (fill w o y) { copy = put (fill w o y).copy s c } ≡ fill w o (record y { copy = put y.copy s c })
   fill_put s c h y = ap (λ m. record (fill w o y) { copy = m }) (put_filled y.copy s c h)
 
-  pub fill_write : (s : Slot) (c : Option Value) → w s ≡ true → (y : World plain) → write_in s c (fill w o y) ≡ fill w o (write_in s c y)
+  fill_write : (s : Slot) (c : Option Value) → w s ≡ true → (y : World plain) → write_in s c (fill w o y) ≡ fill w o (write_in s c y)
   fill_write s c h y = λ k. record (write_in s c y) {
     copy = put_filled y.copy s c h k;
     first = cond (is_some y.parent && (not (has_row y s) && (map.contains_key y.closed s.object || y.strict))) (map.insert y.first s (get_fill w o y s h k)) y.first;
@@ -117,7 +117,7 @@ module _ (w : Slot → Bool) (o : View) where
         by true e r = (on k ((object_Decides k.object q).0 e), r)
         by false e r = r
 
-    pub fill_list : (y : World plain) → list_in q (fill w o y) ≡ fill w o (list_in q y)
+    fill_list : (y : World plain) → list_in q (fill w o y) ≡ fill w o (list_in q y)
     fill_list y =
         ap (λ ss. close_in q (read_all ss (fill w o y))) (slots_fill y)
         ∙ ap (close_in q) (read_all_fill (slots_in q y) (on_object (map.keys y.copy)) y)

@@ -66,21 +66,21 @@ module _ (i : WorldId) (f : World plain → World plain) (parts : (y : World pla
     found_one : find_world (at_world i f F) i ≡ Some (f x)
     found_one = find_at_here i f ids F x (found_at F i c.there)
 
-    pub world_one : world_at (at_world i f F) i ≡ f x
+    world_one : world_at (at_world i f F) i ≡ f x
     world_one = at_found (at_world i f F) i (f x) found_one
 
     -- the first world stays
-    pub first_one : first_of (at_world i f F) ≡ first_of F
+    first_one : first_of (at_world i f F) ≡ first_of F
     first_one = first_each at_one (λ y. ap (λ k. k.0) (parts_one y)) F
 
-    pub base_one : first_copy (at_world i f F) ≡ first_copy F
+    base_one : first_copy (at_world i f F) ≡ first_copy F
     base_one =
         let a = above F i r c in
         ap (λ o. option_map_or (λ j. (world_at (at_world i f F) j).copy) o map.empty) (first_one ∙ a.first)
         ∙ ap (λ (o : Option (World plain)). (unwrap_or o (holding a.id map.empty)).copy) (past_at i f ids F a.id a.other)
         ∙ sym (ap (λ o. option_map_or (λ j. (world_at F j).copy) o map.empty) a.first)
 
-    pub child_at : IsChild (at_world i f F) i
+    child_at : IsChild (at_world i f F) i
     child_at = record {
       there = has_at i f ids F i ∙ c.there;
       up = ap (option_and_then (λ (y : World plain). y.parent)) found_one ∙ ap (λ k. k.1) (parts x) ∙ sym (ap (option_and_then (λ (y : World plain). y.parent)) (found_at F i c.there)) ∙ c.up ∙ sym first_one;
@@ -88,7 +88,7 @@ module _ (i : WorldId) (f : World plain → World plain) (parts : (y : World pla
       leaf = child_one F ∙ c.leaf;
     }
 
-    pub grows_at : IsReached (at_world i f F) → Marked (first_copy F) x (f x) → Grows F i (at_world i f F)
+    grows_at : IsReached (at_world i f F) → Marked (first_copy F) x (f x) → Grows F i (at_world i f F)
     grows_at q m = record {
       reached = q;
       child = child_at;

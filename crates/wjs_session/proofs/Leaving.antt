@@ -62,7 +62,7 @@ returns_compose = (returns_same, returns_then)
 
 -- ---- whose world it is
 
-first_serial : (G : Worlds) (i : WorldId) → IsReached G → first_of G ≡ Some i → i.serial ≡ 0
+pub first_serial : (G : Worlds) (i : WorldId) → IsReached G → first_of G ≡ Some i → i.serial ≡ 0
 first_serial [] i r h = absurd (false≢true (ap is_some h))
 first_serial (x ∷ []) i r h = let is : x.id ≡ i = cc in sym (ap (λ (j : WorldId). j.serial) is) ∙ r.0.serial
 first_serial (x ∷ y ∷ G) i r h = first_serial (y ∷ G) i r.1 h

@@ -32,7 +32,7 @@ module _ (F : Worlds) (i : WorldId) (G : Worlds) (k : IsSession F i G) where
   inner_there = first_there G i k.inner k.first
 
   -- what isn't settled the inner first world doesn't hold
-  pub unsettled_first : (s : Slot) → settled (world_at F i) G s ≡ false → map.get (first_copy G) s ≡ None
+  unsettled_first : (s : Slot) → settled (world_at F i) G s ≡ false → map.get (first_copy G) s ≡ None
   unsettled_first s e =
       first_content G i s k.first ∙ content_is G i s
       ∙ (all_find (IsShut (settled (world_at F i) G)) G i (world_at G i) k.shut (found_at G i inner_there)).absent s e
@@ -80,7 +80,7 @@ module _ (F : Worlds) (i : WorldId) (G : Worlds) (k : IsSession F i G) (F' : Wor
       no_write : (s : Slot) → is_touched (world_at F i) s ≡ false → map.contains_key (world_at F i).written s ≡ false
       no_write s u = (or_parts (map.contains_key (world_at F i).first s) (map.contains_key (world_at F i).written s) (fresh_at (world_at F i) s u).row).1
 
-  pub outer_same : (v : View) → passes (world_at F' i) v ≡ true → (s : Slot) → map.get (outer (world_at F' i) v) s ≡ map.get (outer (world_at F i) v) s
+  outer_same : (v : View) → passes (world_at F' i) v ≡ true → (s : Slot) → map.get (outer (world_at F' i) v) s ≡ map.get (outer (world_at F i) v) s
   outer_same v p s =
       let x = world_at F i in
       let y = world_at F' i in
@@ -114,7 +114,7 @@ module _ (F : Worlds) (i : WorldId) (G : Worlds) (k : IsSession F i G) (F' : Wor
       (λ f. ap (λ q. cond q a b) f ∙ sym (ap (λ q. cond q a b) e)))
       ∙ sym (get_filled (settled (world_at F i) G) z.copy (outer (world_at F i) v) s)
 
-  pub same_looked : (v : View) → passes (world_at F' i) v ≡ true → full_of (world_at F' i) G v ≡ full_of (world_at F i) G v
+  same_looked : (v : View) → passes (world_at F' i) v ≡ true → full_of (world_at F' i) G v ≡ full_of (world_at F i) G v
   same_looked v p =
       let x = world_at F i in
       let y = world_at F' i in
@@ -129,7 +129,7 @@ module _ (F : Worlds) (i : WorldId) (G : Worlds) (k : IsSession F i G) (F' : Wor
     shut = all_weaker (IsShut (settled (world_at F i) G)) (IsShut (settled (world_at F' i) G)) (λ z h. record { absent = λ s e. h.absent s (back s e); untouched = λ s e. h.untouched s (back s e) }) G k.shut;
   }
 
-  pub brought_looked : Brought F i G F' G
+  brought_looked : Brought F i G F' G
   brought_looked = record { kept = kept_looked; grows = g; same = same_looked; holds = copies; there = λ d h. h; settles = still_settled }
 
 -- ---- the two calls

@@ -37,10 +37,10 @@ pub record Marked (base : View) (x y : World plain) : Type 0 where
   pub narrows : (v : View) → passes y v ≡ true → passes x v ≡ true
   pub own : owned y base ≡ owned x base
 
-pub marked_same : (base : View) (x : World plain) → Marked base x x
+marked_same : (base : View) (x : World plain) → Marked base x x
 marked_same base x = record { touches = λ s h. h; narrows = λ v h. h; own = refl }
 
-pub marked_then : (base : View) (x y z : World plain) → Marked base x y → Marked base y z → Marked base x z
+marked_then : (base : View) (x y z : World plain) → Marked base x y → Marked base y z → Marked base x z
 marked_then base x y z a b = record {
   touches = λ s h. b.touches s (a.touches s h);
   narrows = λ v h. a.narrows v (b.narrows v h);
@@ -134,7 +134,7 @@ strict_read s x = by (is_some x.parent && not (is_touched x s))
     by true = refl
     by false = refl
 
-pub stands_read : (base : View) (x : World plain) (s : Slot) → Stands base x → Stands base (read_in s x)
+stands_read : (base : View) (x : World plain) (s : Slot) → Stands base x → Stands base (read_in s x)
 stands_read base x s st =
     let m = marks_read s x in
     record {
@@ -146,7 +146,7 @@ stands_read base x s st =
 
 -- ---- a listing
 
-pub marked_read_all : (base : View) (ss : List Slot) (x : World plain) → Stands base x → Marked base x (read_all ss x) × Stands base (read_all ss x)
+marked_read_all : (base : View) (ss : List Slot) (x : World plain) → Stands base x → Marked base x (read_all ss x) × Stands base (read_all ss x)
 marked_read_all base [] x st = (marked_same base x, st)
 marked_read_all base (s ∷ ss) x st =
     let r = marked_read_all base ss (read_in s x) (stands_read base x s st) in
@@ -182,7 +182,7 @@ module _ (base : View) (x : World plain) (st : Stands base x) (o : ObjId) (none 
           let u : is_touched x t ≡ false = ap (λ b. b || map.contains_key x.closed t.object) r ∙ c in
           sym (none t (key_is obj_exact t.object o q) r) ∙ st.inherits t u ∙ sym (own_fresh base x t u))
 
-  pub marked_close : Marked base x closed_of
+  marked_close : Marked base x closed_of
   marked_close = record {
     touches = λ t h. or_case (has_row x t) (map.contains_key x.closed t.object) h
         (λ e. or_left (has_row x t) (map.contains_key (map.insert x.closed o tt) t.object) e)

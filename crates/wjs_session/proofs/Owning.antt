@@ -54,7 +54,7 @@ idle i f e H p = same_each (λ (y : World plain). same_world y.id i ≡ true →
 pub slots_found : (F : Worlds) (i : WorldId) (q : ObjId) → has_world F i ≡ true → slots_at F i q ≡ slots_in q (world_at F i)
 slots_found F i q h = ap (λ o. option_map_or (slots_in q) o []) (found_at F i h)
 
-pub slots_agree : (F H : Worlds) (i : WorldId) (q : ObjId) → has_world F i ≡ true → has_world H i ≡ true → ((t : Slot) → t.object ≡ q → content_at F i t ≡ content_at H i t) → slots_at F i q ≡ slots_at H i q
+slots_agree : (F H : Worlds) (i : WorldId) (q : ObjId) → has_world F i ≡ true → has_world H i ≡ true → ((t : Slot) → t.object ≡ q → content_at F i t ≡ content_at H i t) → slots_at F i q ≡ slots_at H i q
 slots_agree F H i q f h e =
     slots_found F i q f
     ∙ same_listed slot_total slot_exact (λ (s : Slot). same_object s.object q) (world_at F i).copy (world_at H i).copy (λ t p. ap is_some (sym (content_is F i t) ∙ e t ((object_Decides t.object q).0 p) ∙ content_is H i t))

@@ -43,14 +43,14 @@ module _ (F F' : Worlds) (i : WorldId) (b : Returns F F' i) where
       ∙ sym (ap (λ c. cond c (map.get (world_at F i).copy s) (map.get v s)) t))
       ∙ sym (get_outer (world_at F i) v s)
 
-  pub full_same : (G : Worlds) → full_of (world_at F' i) G ≡ full_of (world_at F i) G
+  full_same : (G : Worlds) → full_of (world_at F' i) G ≡ full_of (world_at F i) G
   full_same G = λ k v. each (λ (y : World plain). fill_alike (settled (world_at F i) G) (settled (world_at F' i) G) (outer (world_at F i) v) (outer (world_at F' i) v) (settled_same G) (λ t e. outer_same v t) y k) G
 
-  pub passes_same : passes (world_at F' i) ≡ passes (world_at F i)
+  passes_same : passes (world_at F' i) ≡ passes (world_at F i)
   unfolding passes
   passes_same = λ k v. is_none (fault_in (b.marks k) (holding (b.marks k).id v))
 
-  pub kept_same : (G : Worlds) → IsSession F i G → IsSession F' i G
+  kept_same : (G : Worlds) → IsSession F i G → IsSession F' i G
   kept_same G h = record {
     shared = b.reached;
     child = b.child;

@@ -45,7 +45,7 @@ module _ (w : Slot → Bool) (o : View) where
         (λ e. ap (λ c. option_map_or (λ d. not (same_content same_value d c)) (map.get x.first s) false || (map.contains_key x.closed s.object && (is_some c && not (has_row x s)))) (get_fill w o y s e))
         (λ e. passed (fill w o y) s e ∙ sym (passed y s e))
 
-    pub fault_fill : fault_in (fill w o x) (fill w o y) ≡ fault_in x y
+    fault_fill : fault_in (fill w o x) (fill w o y) ≡ fault_in x y
     fault_fill =
         (λ k. least slot_cmp (filter (λ s. fails_fill s k) (map.keys x.first ++ map.keys (fill w o y).copy)))
         ∙ ap (least slot_cmp) (filter-append (fails x y) (map.keys x.first) (map.keys (fill w o y).copy)

@@ -44,7 +44,7 @@ module _ (w : Slot → Bool) where
   shut_writes p v (s ∷ ks) a G h = shut_writes p v ks a.1 (after_write G p s (v s)) (shut_after_write w G p s (v s) a.0 h)
 
   -- what a shut world has read, written and listed
-  pub reads_pass : (x : World plain) → IsShut w x → AllByRecursion (λ (s : Slot). w s ≡ true) (map.keys x.first)
+  reads_pass : (x : World plain) → IsShut w x → AllByRecursion (λ (s : Slot). w s ≡ true) (map.keys x.first)
   reads_pass x shut = all_keys slot_total (λ (s : Slot). w s ≡ true) x.first (λ s e. touched_passes w x s shut (or_left (has_row x s) (map.contains_key x.closed s.object) (or_left (map.contains_key x.first s) (map.contains_key x.written s) e)))
 
   pub written_pass : (x : World plain) → IsShut w x → AllByRecursion (λ (s : Slot). w s ≡ true) (map.keys x.written)

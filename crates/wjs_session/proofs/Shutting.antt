@@ -37,10 +37,10 @@ all_keys {R = R} total P m h = over_keys R total P (map.keys m) (λ k e. h k (ma
 
 module _ (w : Slot → Bool) where
   -- a slot that doesn't pass is none that does
-  pub other_slot : (s t : Slot) → w s ≡ true → w t ≡ false → eq_by_cmp slot_cmp t s ≡ false
+  other_slot : (s t : Slot) → w s ≡ true → w t ≡ false → eq_by_cmp slot_cmp t s ≡ false
   other_slot s t h e = by_bool (eq_by_cmp slot_cmp t s) (λ q. absurd (true≢false (sym h ∙ ap w (sym (key_is slot_exact t s q)) ∙ e))) (λ q. q)
 
-  pub held_passes : (y : World plain) (s : Slot) → IsShut w y → map.contains_key y.copy s ≡ true → w s ≡ true
+  held_passes : (y : World plain) (s : Slot) → IsShut w y → map.contains_key y.copy s ≡ true → w s ≡ true
   held_passes y s h t = true_from_ne_false (w s) (λ e. true≢false (sym t ∙ ap is_some (h.absent s e)))
 
   pub shut_cond : (b : Bool) (y z : World plain) → IsShut w y → IsShut w z → IsShut w (cond b z y)
@@ -57,7 +57,7 @@ module _ (w : Slot → Bool) where
         ∙ p.untouched t e;
   }
 
-  pub shut_read : (s : Slot) → w s ≡ true → (y : World plain) → IsShut w y → IsShut w (read_in s y)
+  shut_read : (s : Slot) → w s ≡ true → (y : World plain) → IsShut w y → IsShut w (read_in s y)
   shut_read s h y p = shut_cond (is_some y.parent && not (is_touched y s)) y (record y { first = map.insert y.first s (map.get y.copy s) }) p (shut_first y s (map.get y.copy s) h p)
 
   pub shut_at : (d : WorldId) (f : World plain → World plain) → ((y : World plain) → IsShut w y → IsShut w (f y)) → (G : Worlds) → AllByRecursion (IsShut w) G → AllByRecursion (IsShut w) (at_world d f G)
@@ -72,7 +72,7 @@ module _ (w : Slot → Bool) where
   absent_put : (y : World plain) (s : Slot) (c : Option Value) → w s ≡ true → IsShut w y → (t : Slot) → w t ≡ false → map.get (put y.copy s c) t ≡ None
   absent_put y s c h p t e = get_put slot_total y.copy s c t ∙ ap (λ b. cond b c (map.get y.copy t)) (other_slot s t h e) ∙ p.absent t e
 
-  pub shut_put : (s : Slot) (c : Option Value) → w s ≡ true → (y : World plain) → IsShut w y → IsShut w (record y { copy = put y.copy s c })
+  shut_put : (s : Slot) (c : Option Value) → w s ≡ true → (y : World plain) → IsShut w y → IsShut w (record y { copy = put y.copy s c })
   shut_put s c h y p = record { absent = absent_put y s c h p; untouched = p.untouched }
 
   shut_write : (s : Slot) (c : Option Value) → w s ≡ true → (y : World plain) → IsShut w y → IsShut w (write_in s c y)
@@ -118,7 +118,7 @@ module _ (w : Slot → Bool) where
       by true r = (a.0, r)
       by false r = r
 
-  pub shut_list : (q : ObjId) → ((s : Slot) → s.object ≡ q → w s ≡ true) → (y : World plain) → IsShut w y → IsShut w (list_in q y)
+  shut_list : (q : ObjId) → ((s : Slot) → s.object ≡ q → w s ≡ true) → (y : World plain) → IsShut w y → IsShut w (list_in q y)
   shut_list q on y p =
       let z = read_all (slots_in q y) y in
       let held : AllByRecursion (λ (s : Slot). w s ≡ true) (map.keys y.copy) = all_keys slot_total (λ (s : Slot). w s ≡ true) y.copy (λ k e. held_passes y k p e) in

@@ -12,6 +12,7 @@ use Rattle.wjs_base.specs.declared.values.Slot.{Slot}
 use Rattle.wjs_base.specs.declared.values.Value.{Value}
 use Rattle.wjs_base.specs.Order.{slot_cmp, slot_total, slot_exact}
 use Rattle.wjs_base.proofs.Booleans.{both_true}
+use Rattle.wjs_base.proofs.Orders.{not_back}
 use Rattle.wjs_store.specs.Naming.{plain}
 use Rattle.wjs_store.specs.Ascends.{tagged}
 use Rattle.wjs_store.specs.Marked.{is_written}
@@ -20,7 +21,6 @@ use Rattle.wjs_store.specs.State.{World, has_world, content_at, moves, write_all
 use Rattle.wjs_store.proofs.Ascending.{untagged, find_tag, ascends_filter, any_passing, firsts}
 use Rattle.wjs_overlay.specs.Check.{IsLeast}
 use Rattle.wjs_layers.specs.Cursor.{to_come}
-use Rattle.wjs_layers.proofs.Cursors.{not_back}
 use Rattle.wjs_overlay.proofs.Keyed.{by_order}
 use Rattle.wjs_layers.proofs.Scans.{to_come_on}
 use Rattle.wjs_session.specs.Session.{world_at}

@@ -42,11 +42,11 @@ tied s = ap is_eq (tied_itself slot_total s)
 -- ---- a write in the inner first world
 
 module _ (G : Worlds) (i : WorldId) (there : has_world G i ≡ true) (first : first_of G ≡ Some i) (s : Slot) (c : Option Value) where
-  pub first_after : first_of (after_write G i s c) ≡ Some i
+  first_after : first_of (after_write G i s c) ≡ Some i
   unfolding after_write
   first_after = first_each (write_at G i s c) (write_id G i s c) G ∙ first
 
-  pub first_written : (t : Slot) → map.get (first_copy (after_write G i s c)) t ≡ cond (eq_by_cmp slot_cmp t s) c (map.get (first_copy G) t)
+  first_written : (t : Slot) → map.get (first_copy (after_write G i s c)) t ≡ cond (eq_by_cmp slot_cmp t s) c (map.get (first_copy G) t)
   first_written t =
       first_content (after_write G i s c) i t first_after
       ∙ content_after_write G i s c i t there

@@ -13,10 +13,10 @@ use Rattle.wjs_base.specs.Order.{name_cmp, obj_cmp, slot_cmp, obj_total, slot_to
 use Rattle.wjs_base.proofs.Options.{by_option}
 use Rattle.wjs_rows.specs.Order.{is_from}
 use Rattle.wjs_slots.specs.Least.{IsLeast}
-use Rattle.wjs_slots.specs.Lists.{IsInOrder}
-use Rattle.wjs_slots.proofs.Basics.{by_cmp}
-use Rattle.wjs_slots.proofs.Least.{first_on}
-use Rattle.wjs_slots.proofs.Walks.{first_name}
+use Rattle.wjs_names.specs.Lists.{IsInOrder}
+use Rattle.wjs_names.proofs.Basics.{by_cmp}
+use Rattle.wjs_names.proofs.Least.{first_on}
+use Rattle.wjs_names.proofs.Walks.{first_name}
 
 -- where there are no rows
 pub find_nothing : {V : Type 0} (q : Slot) (far : List (Slot × V)) → length far ≡ 0 → find slot_cmp q far ≡ None
@@ -26,7 +26,7 @@ find_nothing q (x ∷ far) e = cc
 abbrev start_of : ObjId → Slot
 start_of object = record { object = object; name = Index 0 }
 
-pub le_then : (a b : Ordering) → is_le a ≡ true → is_le b ≡ true → is_le (ordering_then a b) ≡ true
+le_then : (a b : Ordering) → is_le a ≡ true → is_le b ≡ true → is_le (ordering_then a b) ≡ true
 le_then Less b h k = refl
 le_then Equal b h k = k
 le_then Greater b h k = absurd (false≢true h)

@@ -15,7 +15,7 @@ use Rattle.wjs_base.proofs.Options.{no_none}
 use Rattle.wjs_base.proofs.Numbers.{not_le, le_of}
 use Rattle.wjs_base.proofs.Lists.{get_set_same, get_set_other}
 use Rattle.wjs_slots.specs.Near.{place_in, value_in, held_at, near_value, IsApart}
-use Rattle.wjs_slots.proofs.Basics.{equal_is, key_is, or_none}
+use Rattle.wjs_names.proofs.Basics.{equal_is, key_is, or_first, or_second}
 use Rattle.wjs_slots.proofs.Values.{not_then, same_object, placed_is, held_is, held_before, near_present, near_other, near_absent, table, get_table, IsPlaced}
 
 -- what is there is put back
@@ -23,14 +23,6 @@ pub set_back : {X : Type 0} (xs : List X) (i : ℕ) (x d : X) → x ≡ get_or x
 set_back [] i x d e = refl
 set_back (y ∷ xs) zero x d e = ap (λ z. z ∷ xs) e
 set_back (y ∷ xs) (suc i) x d e = ap (λ rest. y ∷ rest) (set_back xs i x d e)
-
-pub or_first : {A : Type 0} (b : Bool) (w o p : Option A) → (b ≡ true → p ≡ None) → option_or (cond b w o) p ≡ cond b w (option_or o p)
-or_first true w o p h = ap (option_or w) (h refl) ∙ or_none w
-or_first false w o p h = refl
-
-pub or_second : {A : Type 0} (b : Bool) (w o p : Option A) → (b ≡ true → o ≡ None) → option_or o (cond b w p) ≡ cond b w (option_or o p)
-or_second true w o p h = ap (λ z. option_or z w) (h refl)
-or_second false w o p h = refl
 
 module _ {V : Type 0} where
   -- a row of a near object changes

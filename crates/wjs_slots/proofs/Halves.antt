@@ -11,7 +11,7 @@ use Rattle.wjs_base.specs.declared.values.Slot.{Slot}
 use Rattle.wjs_base.specs.Order.{name_cmp, obj_cmp, slot_cmp, slot_total, slot_exact, name_total}
 use Rattle.wjs_base.proofs.Booleans.{by_bool}
 use Rattle.wjs_base.proofs.Numbers.{not_le, le_of}
-use Rattle.wjs_slots.proofs.Firsts.{from_true}
+use Rattle.wjs_names.proofs.Firsts.{from_true}
 use Rattle.wjs_slots.specs.Near.{IsSplit}
 use Rattle.wjs_slots.proofs.Values.{placed_is, placed_at, table}
 

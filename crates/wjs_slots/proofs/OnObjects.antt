@@ -19,15 +19,11 @@ use Rattle.wjs_base.proofs.Booleans.{by_bool}
 use Rattle.wjs_base.proofs.Options.{by_option}
 use Rattle.wjs_rows.specs.Order.{is_from, is_after}
 use Rattle.wjs_slots.specs.Least.{IsLeast, is_object, comes_past, is_next_on, row_on, entry_on}
-use Rattle.wjs_slots.specs.Lists.{IsInOrder}
+use Rattle.wjs_names.specs.Lists.{IsInOrder}
 use Rattle.wjs_slots.specs.Near.{place_in, IsSplit}
-use Rattle.wjs_slots.proofs.Least.{first_on, first_is, least_is, least_one}
+use Rattle.wjs_names.proofs.Least.{first_on, first_is, least_is, least_one}
 use Rattle.wjs_slots.proofs.Values.{table, get_near, get_far}
-use Rattle.wjs_slots.proofs.Walks.{first_name}
-
--- each name comes at or after the least
-pub all_come : is_from name_cmp (Index 0) ≡ comes_past None
-all_come = λ i name. first_name name i
+use Rattle.wjs_names.proofs.Walks.{first_name}
 
 -- ---- slots of one object
 

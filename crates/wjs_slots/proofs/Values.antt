@@ -1,5 +1,5 @@
 -- What the two parts of a table have at a slot.
-use Rattle.std.proofs.Common.{◌≡◌, ℕ, zero, suc, ◌+◌, ◌-◌, ◌<◌, ◌≤◌, nat_le, true, false, cond, ◌&&◌, ◌==◌, ltb, List, [], ◌∷◌, ◌++◌, length, get_or, None, Some, is_some, slice_get, refl, ap, sym, subst, ◌∙◌, arith, eqb-true, eq-eqb, ltb-true, ltb-false, lt-ltb}
+use Rattle.std.proofs.Common.{◌≡◌, ℕ, zero, suc, ◌+◌, ◌-◌, ◌<◌, ◌≤◌, nat_le, false, cond, ◌&&◌, ◌==◌, ltb, List, [], ◌∷◌, ◌++◌, length, get_or, None, Some, slice_get, refl, ap, sym, subst, ◌∙◌, arith, eqb-true, eq-eqb, ltb-true, ltb-false, lt-ltb}
 use Rattle.std.specs.declared.cmp.Ordering.{Ordering}
 use Rattle.std.specs.declared.cmp.Ordering.TheVariants.{Less, Equal, Greater}
 use Rattle.std.specs.Ordering.{is_eq, ordering_then, nat_cmp}
@@ -14,18 +14,18 @@ use Rattle.wjs_base.specs.declared.values.Name.{Name}
 use Rattle.wjs_base.specs.declared.values.Slot.{Slot}
 use Rattle.wjs_base.specs.Order.{name_cmp, obj_cmp, slot_cmp, obj_exact, slot_total}
 use Rattle.wjs_base.proofs.Booleans.{by_bool}
-use Rattle.wjs_base.proofs.Options.{by_option, no_none}
+use Rattle.wjs_base.proofs.Options.{no_none}
 use Rattle.wjs_base.proofs.Numbers.{not_le, of_le, le_of, lt_not}
 use Rattle.wjs_slots.specs.Near.{place_in, value_in, held_at, near_value, rows_at, near_rows, IsApart}
-use Rattle.wjs_slots.proofs.Basics.{equal_is, or_none}
-use Rattle.wjs_slots.proofs.Lists.{find_append}
+use Rattle.wjs_names.proofs.Basics.{equal_is, or_none}
+use Rattle.wjs_names.proofs.Lists.{find_append}
 
 -- ---- objects
 
 pub same_object : (a b : ObjId) → a.owner ≡ b.owner → a.serial ≡ b.serial → obj_cmp a b ≡ Equal
 same_object a b h k = ap (λ n. ordering_then (nat_cmp n b.owner) (nat_cmp a.serial b.serial)) h ∙ ap (λ n. ordering_then (nat_cmp b.owner b.owner) (nat_cmp n b.serial)) k ∙ ap (λ c. ordering_then c (nat_cmp b.serial b.serial)) (tied_itself nat_cmp_total b.owner) ∙ tied_itself nat_cmp_total b.serial
 
-pub apart_object : (a b : ObjId) → (a ≡ b → ⊥) → is_eq (obj_cmp a b) ≡ false
+apart_object : (a b : ObjId) → (a ≡ b → ⊥) → is_eq (obj_cmp a b) ≡ false
 apart_object a b ne = by_bool (is_eq (obj_cmp a b)) (λ t. absurd (ne (obj_exact a b (equal_is (obj_cmp a b) t)))) (λ f. f)
 
 pub not_then : (a b : Ordering) → is_eq a ≡ false → is_eq (ordering_then a b) ≡ false
@@ -93,11 +93,6 @@ module _ {V : Type 0} where
       (λ n. held_before first ms q.object.serial (not_le first q.object.serial n)) in
       near_present owner first ms q o ∙ ap (λ m. value_in m q.name) none)
       (λ f. near_other owner first ms q f)
-
-  pub near_there : (owner first : ℕ) (ms : List (FinMap name_cmp V)) (q : Slot) → is_some (near_value owner first ms q) ≡ true → place_in owner first (length ms) q.object ≡ Some (q.object.serial - first)
-  near_there owner first ms q h = by_option (place_in owner first (length ms) q.object)
-      (λ n. absurd (false≢true (sym (ap is_some (near_absent owner first ms q n)) ∙ h)))
-      (λ i e. e ∙ ap Some (placed_is owner first (length ms) q.object i e).serial_is)
 
   rows_same : (q : Slot) (o : ObjId) (es : List (Name × V)) → obj_cmp q.object o ≡ Equal → find slot_cmp q (rows_at o es) ≡ find name_cmp q.name es
   rows_same q o [] t = refl

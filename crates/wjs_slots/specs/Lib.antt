@@ -1,9 +1,2 @@
-pub mod Codes
-pub mod Lists
-pub mod Dense
-pub mod Kept
 pub mod Near
 pub mod Least
-pub mod Rowed
-pub mod Starts
-pub mod ShortNames

@@ -1,12 +1,14 @@
 -- The rows of objects of one owner that follow each other, and those of all others.
-use Rattle.std.specs.Prelude.{◌≡◌, ℕ, ◌+◌, ◌-◌, ◌≤◌, ◌^◌, cond, ◌&&◌, ◌==◌, nat_le, nat_lt, List, [], ◌∷◌, ◌++◌, map as each, Option, None, Some, slice_get}
+use Rattle.std.specs.Prelude.{◌≡◌, ℕ, ◌+◌, ◌-◌, ◌≤◌, ◌^◌, cond, ◌&&◌, ◌==◌, nat_le, nat_lt, ◌<◌, List, [], ◌∷◌, ◌++◌, length, map as each, Option, None, Some, MatchOption, slice_get}
 use Rattle.std.specs.FinMap as map
 use Rattle.std.specs.FinMap.{FinMap, find}
+use Rattle.std.specs.Map.{lookup_entry}
 use Rattle.wjs_base.specs.declared.ids.ObjId.{ObjId}
 use Rattle.wjs_base.specs.declared.values.Name.{Name}
 use Rattle.wjs_base.specs.declared.values.Slot.{Slot}
 use Rattle.wjs_base.specs.Order.{name_cmp, slot_cmp}
-use Rattle.wjs_slots.specs.Lists.{IsInOrder}
+use Rattle.wjs_slots.specs.Least.{comes_past}
+use Rattle.wjs_names.specs.Lists.{IsInOrder}
 
 -- the place of an object among n of an owner's, from a serial number on
 abbrev pub place_in : ℕ → ℕ → ℕ → ObjId → Option ℕ
@@ -43,3 +45,14 @@ pub record IsSplit {V : Type 0} (owner first n : ℕ) (far : List (Slot × V)) :
   pub apart : IsApart owner first n far
   pub ordered : IsInOrder slot_cmp far
   pub short : first + n ≤ 2 ^ 64
+
+-- the objects at the places from i on, up to k, have no rows
+abbrev pub AreBare : {V : Type 0} → List (FinMap name_cmp V) → ℕ → ℕ → Type 0
+AreBare {V} objects i k = (j : ℕ) (names : FinMap name_cmp V) (name : Name) → i ≤ j → j < k → slice_get objects j ≡ Some names → map.get names name ≡ None
+
+-- the first place from i on whose object has rows, with the first of these
+abbrev pub IsFirstRow : {V : Type 0} → List (FinMap name_cmp V) → ℕ → Option (ℕ × (Name × V)) → Type 0
+IsFirstRow {V} objects i first =
+    MatchOption first
+    (AreBare objects i (length objects))
+    (λ e. (i ≤ e.0) × AreBare objects i e.0 × ((names : FinMap name_cmp V) × (slice_get objects e.0 ≡ Some names) × (Some e.1 ≡ lookup_entry (comes_past None) (map.entries names))))

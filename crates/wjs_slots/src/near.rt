@@ -1,11 +1,14 @@
 //! The rows of objects of one owner that follow each other.
-ghost use Rattle.std.specs.Prelude.{◌≡◌, ◌+◌, ◌-◌, ◌<◌, ◌≤◌, ◌^◌, [], ◌++◌, length, replicate, IsTrue};
+ghost use Rattle.std.specs.Prelude.{ℕ, ◌≡◌, ◌+◌, ◌-◌, ◌<◌, ◌≤◌, ◌^◌, nat_le, [], ◌++◌, length, replicate, IsTrue};
+ghost use Rattle.std.specs.Ordering.{is_lt};
 ghost use Rattle.std.specs.FinMap as map;
-ghost use Rattle.wjs_slots.specs.Near.{place_in};
+ghost use Rattle.wjs_base.specs.Order.{obj_cmp, slot_cmp};
+ghost use Rattle.wjs_slots.specs.Least.{IsLeast, is_past};
+ghost use Rattle.wjs_slots.specs.Near.{place_in, near_value, IsFirstRow};
 
-use crate::names::Names;
 use std::alloc::Global;
 use wjs_base::{Name, ObjId, OutOfMemory, Slot};
+use wjs_names::RowsByName;
 
 /// How far behind the last of these objects one may stand to be added.
 const LONGEST_GAP: u64 = 64;
@@ -15,7 +18,7 @@ const LONGEST_GAP: u64 = 64;
 pub(crate) struct Near<V> {
     pub(crate) owner: u32,
     pub(crate) first: u64,
-    pub(crate) objects: Vec<Names<V>>,
+    pub(crate) objects: Vec<RowsByName<V>>,
 }
 
 impl<V: Copy> Near<V> {
@@ -84,6 +87,57 @@ impl<V: Copy> Near<V> {
         place >= count && place - count < LONGEST_GAP
     }
 
+    /// The place of the first of these that is past an object; how many there are, if none is.
+    fn place_past(&self, object: ObjId) -> usize
+        ensures { (i : ℕ) → i < length self.now.objects.items
+            → is_lt (obj_cmp object (record { owner = self.now.owner; serial = self.now.first + i })) ≡ nat_le result i }
+    {
+        match self.place(object) {
+            Some(place) => place + 1,
+            None => {
+                let first = ObjId {
+                    owner: self.owner,
+                    serial: self.first,
+                };
+                if object.cmp(&first).is_lt() {
+                    return 0;
+                }
+                self.objects.len()
+            }
+        }
+    }
+
+    /// The first place from this one on whose object has rows, with the first of these.
+    fn first_from(&self, start: usize) -> Option<(usize, (Name, V))>
+        ensures { IsFirstRow self.now.objects.items start result }
+    {
+        let mut place = start;
+        'places: while place < self.objects.len() {
+            match self.objects[place].next_past(None) {
+                Some(row) => return Some((place, row)),
+                None => place += 1,
+            }
+        }
+        None
+    }
+
+    /// The least row of these that is of an object past this one.
+    pub(crate) fn next_past(&self, object: ObjId) -> Option<(Slot, V)>
+        requires { self.now.first + length self.now.objects.items ≤ 2 ^ 64 }
+        ensures { IsLeast slot_cmp (near_value self.now.owner self.now.first self.now.objects.items) (is_past object) result }
+    {
+        match self.first_from(self.place_past(object)) {
+            None => None,
+            Some((place, row)) => {
+                let next = ObjId {
+                    owner: self.owner,
+                    serial: self.first + place as u64,
+                };
+                Some(row_at(next, row))
+            }
+        }
+    }
+
     /// Whether there are none.
     pub(crate) fn is_empty(&self) -> bool {
         self.objects.is_empty()
@@ -125,7 +179,7 @@ impl<V: Copy> Near<V> {
         ensures more { length self.old.objects.items ≤ length self.new.objects.items }
     {
         'more: while self.objects.len() as u64 <= last {
-            self.objects.push(Names::new())?;
+            self.objects.push(RowsByName::new())?;
         }
         Ok(())
     }

@@ -1,5 +1,5 @@
 //! Rows by slot, in two parts: those of objects of one owner that follow each other, and all others.
-ghost use Rattle.std.specs.Prelude.{◌≡◌, true, false, not, OnOk, OnErr, IfOk, None};
+ghost use Rattle.std.specs.Prelude.{◌≡◌, true, false, not, OnOk, OnErr, IfOk, None, Some};
 ghost use Rattle.std.specs.Option.{option_copied, option_map};
 ghost use Rattle.std.specs.Ordering.{is_le};
 ghost use Rattle.std.specs.FinMap as map;
@@ -7,15 +7,17 @@ ghost use Rattle.std.specs.FinMap.{find};
 ghost use Rattle.std.specs.Map.{lookup_entry};
 ghost use Rattle.wjs_base.specs.Order.{obj_cmp, slot_cmp};
 ghost use Rattle.wjs_base.specs.declared.values.Slot.{Slot};
+ghost use Rattle.wjs_rows.specs.Order.{is_after};
 ghost use Rattle.wjs_slots.specs.Least.{is_next_on, row_on, entry_on};
-ghost use Rattle.wjs_slots.specs.Lists.{IsInOrder};
+ghost use Rattle.wjs_names.specs.Least.{lesser_entry};
+ghost use Rattle.wjs_names.specs.Lists.{IsInOrder};
 
 use crate::near::{Near, row_at};
-use crate::tree;
 use std::alloc::Global;
 use std::collections::BTreeMap;
 use std::marker::Model;
 use wjs_base::{Name, ObjId, OutOfMemory, Slot};
+use wjs_names::tree;
 
 /// Where the near objects begin, as long as there are none.
 #[derive(Clone, Copy)]
@@ -129,6 +131,15 @@ impl<V: Copy> Parts<V> {
         }
     }
 
+    /// The least row after a slot behind which its object has none.
+    pub(crate) fn next_past(&self, slot: Slot) -> Option<(Slot, V)>
+        requires { None ≡ lookup_entry (is_next_on slot.object (Some slot.name)) (map.entries self.now) }
+        ensures { result ≡ lookup_entry (is_after slot_cmp slot) (map.entries self.now) }
+    {
+        let near = self.near.next_past(slot.object);
+        lesser_row(near, tree::next_after(&self.far, &slot))
+    }
+
     /// Makes an object near where it can be.
     #[inline(always)]
     fn reach(&mut self, object: ObjId, start: Start) -> Result<(), OutOfMemory>
@@ -204,6 +215,17 @@ fn has_between<V: Copy>(far: &BTreeMap<Slot, V>, first: ObjId, last: ObjId) -> b
     match tree::next_from(far, &start) {
         None => false,
         Some((slot, _)) => slot.object.cmp(&last).is_le(),
+    }
+}
+
+/// The lesser of two rows.
+fn lesser_row<V: Copy>(one: Option<(Slot, V)>, other: Option<(Slot, V)>) -> Option<(Slot, V)>
+    ensures { result ≡ lesser_entry slot_cmp one other }
+{
+    match (one, other) {
+        (None, _) => other,
+        (Some(_), None) => one,
+        (Some(first), Some(second)) => { if second.0 < first.0 { other } else { one } }
     }
 }
 

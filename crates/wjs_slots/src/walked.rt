@@ -1,17 +1,14 @@
 //! Rows by slot that are gone through one after another, whose calls count their steps.
-ghost use Rattle.std.specs.Prelude.{◌≡◌, ◌+◌, length, not, None, OnOk, OnErr, IfOk};
+ghost use Rattle.std.specs.Prelude.{◌≡◌, ◌+◌, length, OnOk, OnErr};
 ghost use Rattle.std.specs.Option.{option_copied};
 ghost use Rattle.std.specs.FinMap as map;
 ghost use Rattle.std.specs.Map.{lookup_entry};
 ghost use Rattle.wjs_base.specs.Order.{slot_cmp};
 ghost use Rattle.wjs_rows.specs.Order.{is_from, is_after};
-ghost use Rattle.wjs_slots.specs.Least.{IsLeast, first_slot, is_next_on, is_past};
-ghost use Rattle.wjs_slots.specs.Rowed.{IsRowed};
+ghost use Rattle.wjs_slots.specs.Least.{first_slot, is_next_on};
 
 use crate::parts::{Parts, Start};
-use crate::tree;
 use std::alloc::Global;
-use std::collections::BTreeMap;
 use std::marker::Model;
 use std::sync::ledger::Ledger;
 use wjs_base::{Name, ObjId, OutOfMemory, Slot};
@@ -22,12 +19,12 @@ const EARLY_ROWS: usize = 64;
 
 /// The rows of a child world by slot, seen as a finite map. None is ever taken out.
 ///
-/// Where they stand is as in a `Table`, but that the objects found by number begin with one made later. The objects that have
-/// rows are known apart, so the next row is found without a look at any object that has none.
+/// Where they stand is as in a `Table`, but that the objects found by number begin with one made later. A row is found behind
+/// another one with a look at fewer than 64 objects that have none: no two that are found by number and have rows are further
+/// apart.
 #[derive(Drop)]
 pub struct Walked<V> {
     parts: Parts<V>,
-    objects: BTreeMap<ObjId, ()>,
     len: usize,
 }
 
@@ -36,7 +33,6 @@ impl<V> Model for Walked<V> {
     ghost use Rattle.std.specs.FinMap as map;
     ghost use Rattle.wjs_base.specs.Order.{slot_cmp};
     ghost use Rattle.wjs_base.specs.Codes.{coded_slot};
-    ghost use Rattle.wjs_slots.specs.Rowed.{IsRowed};
 
     ghost Value = { map.FinMap slot_cmp V };
 
@@ -44,7 +40,7 @@ impl<V> Model for Walked<V> {
 
     ghost view = { λ w. w.parts };
 
-    ghost invariant = { λ w. (w.len ≡ map.len w.parts) × IsRowed w.parts w.objects.entries };
+    ghost invariant = { λ w. w.len ≡ map.len w.parts };
 }
 
 impl<V: Copy> Walked<V> {
@@ -54,7 +50,6 @@ impl<V: Copy> Walked<V> {
     {
         Walked {
             parts: Parts::later(alloc),
-            objects: BTreeMap::new(alloc),
             len: 0,
         }
     }
@@ -92,7 +87,7 @@ impl<V: Copy> Walked<V> {
             return Err(OutOfMemory);
         }
         let start = start_of(self.len);
-        let added = put(&mut self.parts, &mut self.objects, slot, value, start)?;
+        let added = self.parts.set(slot, value, start)?;
         if added {
             self.len += 1;
         }
@@ -148,62 +143,7 @@ impl<V: Copy> Walked<V> {
     {
         match self.parts.next_on(slot.object, Some(slot.name)) {
             Some(row) => Some(row),
-            None => self.row_past(slot.object),
-        }
-    }
-
-    /// The least row of the objects after an object: the first row of the next one that has rows.
-    fn row_past(&self, object: ObjId) -> Option<(Slot, V)>
-        ensures { IsLeast slot_cmp (map.get self.now) (is_past object) result }
-    {
-        match tree::next_after(&self.objects, &object) {
-            None => None,
-            Some((next, _)) => self.parts.next_on(next, None),
-        }
-    }
-}
-
-/// Puts a value at a slot, and says whether the slot is new. After a refusal all is as it was.
-fn put<V: Copy>(
-    parts: &mut Parts<V>,
-    objects: &mut BTreeMap<ObjId, ()>,
-    slot: Slot,
-    value: V,
-    start: Start,
-) -> Result<bool, OutOfMemory>
-    requires { IsRowed parts.old objects.old.entries }
-    ensures ok { OnOk result (parts.new ≡ map.insert parts.old slot value) }
-    ensures added { IfOk result (λ added. added ≡ not (map.contains_key parts.old slot)) }
-    ensures err { OnErr result (parts.new ≡ parts.old) }
-    ensures rowed { IsRowed parts.new objects.new.entries }
-{
-    match parts.next_on(slot.object, None) {
-        Some(_) => parts.set(slot, value, start),
-        None => put_first(parts, objects, slot, value, start),
-    }
-}
-
-/// `put` of an object's first row: the object becomes one of those that have rows.
-fn put_first<V: Copy>(
-    parts: &mut Parts<V>,
-    objects: &mut BTreeMap<ObjId, ()>,
-    slot: Slot,
-    value: V,
-    start: Start,
-) -> Result<bool, OutOfMemory>
-    requires rowed { IsRowed parts.old objects.old.entries }
-    requires first { None ≡ lookup_entry (is_next_on slot.object None) (map.entries parts.old) }
-    ensures ok { OnOk result (parts.new ≡ map.insert parts.old slot value) }
-    ensures added { IfOk result (λ added. added ≡ not (map.contains_key parts.old slot)) }
-    ensures err { OnErr result (parts.new ≡ parts.old) }
-    ensures rowed { IsRowed parts.new objects.new.entries }
-{
-    let _ = tree::set(objects, slot.object, ())?;
-    match parts.set(slot, value, start) {
-        Ok(added) => Ok(added),
-        Err(_) => {
-            let _ = tree::remove(objects, &slot.object);
-            Err(OutOfMemory)
+            None => self.parts.next_past(slot),
         }
     }
 }

@@ -92,7 +92,7 @@ told_after (p ∷ ps) =
     actions_then (λ done. Writes p.at (Some p.value) (Gives nothing)) first_world (writes_of ps) (one finite.empty)
     ∙ ap (λ (l : List Told). l ++ (write first_world p.at (Some p.value), Wrote) ∷ []) (told_after ps)
 
-empty_in : {X Y : Type 0} (t : Table) (f : X → Y) → renamed {S = slot_cmp} (names_of t).slot f (finite.empty {X = X} {R = plain.cmp}) ≡ finite.empty
+pub empty_in : {X Y : Type 0} (t : Table) (f : X → Y) → renamed {S = slot_cmp} (names_of t).slot f (finite.empty {X = X} {R = plain.cmp}) ≡ finite.empty
 empty_in {X} {Y} t f = ap (λ es. finite.from_entries {R = slot_cmp} (map (λ e. ((names_of t).slot e.0, f e.1)) es)) (empty_entries plain.cmp)
 
 fresh_in : (t : Table) → worlds_in t fresh ≡ one finite.empty
@@ -106,13 +106,13 @@ fresh_in t = λ i. record {
   closed = finite.empty;
 } ∷ []
 
-none_there : {X : Type 0} (s : NumberedSlot) (x : X) → finite.get (finite.empty {X = X} {R = plain.cmp}) s ≡ Some x → ⊥
+pub none_there : {X : Type 0} (s : NumberedSlot) (x : X) → finite.get (finite.empty {X = X} {R = plain.cmp}) s ≡ Some x → ⊥
 none_there s x e = let h : None ≡ Some x = sym (finite.get-empty plain.cmp s) ∙ e in cc
 
-pub fresh_known : (t : Table) → KnowsWorlds t fresh
+fresh_known : (t : Table) → KnowsWorlds t fresh
 fresh_known t = (record { copy = λ s v e. absurd (none_there s v e); first = λ s c e. absurd (none_there s c e); written = λ s u e. absurd (none_there s u e) }, tt)
 
-pub fresh_first : IsTrue (has_world fresh first_world)
+fresh_first : IsTrue (has_world fresh first_world)
 unfolding find_world
 fresh_first = refl
 

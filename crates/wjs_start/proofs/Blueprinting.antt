@@ -17,7 +17,7 @@ built-snoc declared n (x ∷ bs) b =
     let e : n + 1 + length bs ≡ n + suc (length bs) = omega arith in
     ap (λ l. built declared (first_object n) x ∷ l) (built-snoc declared (n + 1) bs b ∙ ap (λ m. built_from declared (n + 1) bs ++ built declared (first_object m) b ∷ []) e)
 
-pub buildable_snoc : (n : ℕ) (bs : List Blueprint) (b : Blueprint) → are_buildable n bs ≡ true → is_buildable (n + length bs) b ≡ true → are_buildable n (bs ++ b ∷ []) ≡ true
+buildable_snoc : (n : ℕ) (bs : List Blueprint) (b : Blueprint) → are_buildable n bs ≡ true → is_buildable (n + length bs) b ≡ true → are_buildable n (bs ++ b ∷ []) ≡ true
 buildable_snoc n [] b h k = let e : n + 0 ≡ n = omega arith in and_from (is_buildable n b) true (ap (λ m. is_buildable m b) (sym e) ∙ k) refl
 buildable_snoc n (x ∷ bs) b h k =
     let p = and_parts (is_buildable n x) (are_buildable (n + 1) bs) h in
@@ -31,7 +31,7 @@ natives-snoc n (x ∷ ks) k =
     ap (λ l. native_object x (first_object n) ∷ l) (natives-snoc (n + 1) ks k ∙ ap (λ m. native_objects (n + 1) ks ++ native_object k (first_object m) ∷ []) e)
 
 -- one native more
-pub natives_on : (n : ℕ) (ks : List Native) (i : ℕ) (d : Native) → i < length ks → native_objects n (take (i + 1) ks) ≡ native_objects n (take i ks) ++ native_object (get_or ks i d) (first_object (n + i)) ∷ []
+natives_on : (n : ℕ) (ks : List Native) (i : ℕ) (d : Native) → i < length ks → native_objects n (take (i + 1) ks) ≡ native_objects n (take i ks) ++ native_object (get_or ks i d) (first_object (n + i)) ∷ []
 natives_on n ks i d lt =
     ap (native_objects n) (take_more ks i d lt)
     ∙ natives-snoc n (take i ks) (get_or ks i d)

@@ -7,6 +7,7 @@ use Rattle.std.specs.Ordering.{eq_by_cmp}
 use Rattle.std.proofs.lemmas.Bool.{and_parts, ltb-true, cases_order}
 use Rattle.std.proofs.lemmas.List.{take_more, length-take-le}
 use Rattle.std.proofs.lemmas.List.Sums.{fold-append}
+use Rattle.std.proofs.lemmas.Option.{same_Some}
 use borrow.Author.Tests.{eqb-true}
 use Rattle.wjs_base.specs.declared.ids.ObjId.{ObjId}
 use Rattle.wjs_base.specs.declared.ids.WorldId.{WorldId}
@@ -33,9 +34,6 @@ use Rattle.wjs_start.specs.First.{is_script}
 use Rattle.wjs_start.specs.Known.{Knows, declared_in}
 use Rattle.wjs_start.specs.Flags.{IsBuilt}
 use Rattle.wjs_start.proofs.Blueprinting.{built-snoc}
-
-some_same : {A : Type 0} (a b : A) → Some a ≡ Some b → a ≡ b
-some_same a b e = cc
 
 -- an object of owner 0 by its number
 numbered : (o : ObjId) (n : ℕ) → o.owner ≡ 0 → o.serial ≡ n → o ≡ first_object n
@@ -88,7 +86,7 @@ module _ (h : Parts) (n : ℕ) (b : Building h n) where
         let p = and_parts (n == 13) ((w.owner == 0) && (w.serial == 0)) e in
         let s = eqb-true n 13 p.0 in
         let r = and_parts (w.owner == 0) (w.serial == 0) p.1 in
-        let same : w ≡ v = some_same w v q in
+        let same : w ≡ v = same_Some w v q in
         (omega (arith, s), sym same ∙ (λ i. record { owner = eqb-true w.owner 0 r.0 i; serial = eqb-true w.serial 0 r.1 i }))
 
     right_shown : (w : Option WorldId) → 13 ≡ n → has_right_world n w ≡ true → w ≡ Some first_world
@@ -113,7 +111,7 @@ module _ (h : Parts) (n : ℕ) (b : Building h n) where
           (λ e. let old = b.worlds o w (sym (ap (option_and_then (λ (y : Entry). (y.object).world)) e) ∙ q) in (omega (arith, old.0), old.1));
       shown = λ lt. new_shown right lt;
       codes = λ o y q. by_key o
-          (λ e at. subst (λ (z : Entry). IsTrue (not (is_script (z.object).code))) (some_same (entry_over h.arena x) y (sym at ∙ q)) code)
+          (λ e at. subst (λ (z : Entry). IsTrue (not (is_script (z.object).code))) (same_Some (entry_over h.arena x) y (sym at ∙ q)) code)
           (λ e. b.codes o y (sym e ∙ q));
     }
 
@@ -143,7 +141,7 @@ pub makes_all : (k : Known) (bs : List Blueprint) (i : ℕ) (old new : Parts) �
 makes_all k bs i old new e all m = subst (λ (n : ℕ). Makes k (λ declared. built_from declared 0 bs) n old new) e (subst (λ (l : List Blueprint). Makes k (λ declared. built_from declared 0 l) i old new) all m)
 
 -- each of a list can be built at its place
-pub buildable_at : (n : ℕ) (bs : List Blueprint) (i : ℕ) (d : Blueprint) → i < length bs → are_buildable n bs ≡ true → is_buildable (n + i) (get_or bs i d) ≡ true
+buildable_at : (n : ℕ) (bs : List Blueprint) (i : ℕ) (d : Blueprint) → i < length bs → are_buildable n bs ≡ true → is_buildable (n + i) (get_or bs i d) ≡ true
 buildable_at n [] i d lt h = absurd (omega (arith, lt))
 buildable_at n (b ∷ bs) zero d lt h = let e : n + 0 ≡ n = omega arith in ap (λ m. is_buildable m b) e ∙ (and_parts (is_buildable n b) (are_buildable (n + 1) bs) h).0
 buildable_at n (b ∷ bs) (suc i) d lt h =
@@ -167,10 +165,10 @@ module _ (n : ℕ) (b : Blueprint) (e : is_buildable n b ≡ true) where
   but_constructs : (has_right_world n b.world && not (is_script b.code)) ≡ true
   but_constructs = (and_parts (is_before n b.constructs) (has_right_world n b.world && not (is_script b.code)) but_prototype).1
 
-  pub world_right : has_right_world n b.world ≡ true
+  world_right : has_right_world n b.world ≡ true
   world_right = (and_parts (has_right_world n b.world) (not (is_script b.code)) but_constructs).0
 
-  pub no_script : IsTrue (not (is_script b.code))
+  no_script : IsTrue (not (is_script b.code))
   no_script = (and_parts (has_right_world n b.world) (not (is_script b.code)) but_constructs).1
 
 -- one object was made

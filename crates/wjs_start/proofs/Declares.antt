@@ -6,14 +6,14 @@ use Rattle.std.proofs.lemmas.List.{append-nil, map-append, map_more}
 use Rattle.std.proofs.lemmas.List.Elements.{filter_map-append}
 use Rattle.wjs_base.specs.declared.ids.TextId.{TextId}
 use Rattle.wjs_base.specs.Text.{Table, IsTable}
+use Rattle.wjs_base.specs.declared.ids.NodeId.{NodeId}
 use Rattle.wjs_tree.specs.declared.node.Node.{Node}
-use Rattle.wjs_tree.specs.declared.node.NodeId.{NodeId}
 use Rattle.wjs_by_content.specs.Values.{Text}
 use Rattle.wjs_by_content.specs.Tables.{text_in}
 use Rattle.wjs_meaning.specs.Declarations.{declared_by}
 use Rattle.wjs_meaning.specs.Reading.{node_in, numbers}
 use Rattle.wjs_meaning.specs.Trees.{name_of, node_at}
-use Rattle.wjs_model.specs.declared.unit.Unit.{Unit as Program}
+use Rattle.wjs_model.specs.declared.loaded.LoadedProgram.{LoadedProgram as Program}
 use Rattle.wjs_model.specs.Texts.{KnowsUnit, KnowsNode}
 use Rattle.wjs_model.specs.Units.{unit_in, node_of}
 use Rattle.wjs_start.specs.Declaring.{declared_by_tree}

@@ -18,7 +18,7 @@ pub no_names : (t : Table) → AreNamesOf t [] []
 no_names t = record { there = tt; spell = refl }
 
 -- one name more
-pub names_more : (t : Table) (names : List Name) (texts : List Text) (name : Name) (text : Text) → AreNamesOf t names texts → IsNameOf t name text → AreNamesOf t (names ++ name ∷ []) (texts ++ text ∷ [])
+names_more : (t : Table) (names : List Name) (texts : List Text) (name : Name) (text : Text) → AreNamesOf t names texts → IsNameOf t name text → AreNamesOf t (names ++ name ∷ []) (texts ++ text ∷ [])
 names_more t names texts name text a b = record {
   there = holds_more (IsName t) names name a.there b.there;
   spell = map-append (name_in t) names (name ∷ []) ∙ ap (λ l. l ++ name_in t name ∷ []) a.spell ∙ ap (λ x. texts ++ x ∷ []) b.spells;

@@ -10,8 +10,9 @@ use Rattle.wjs_base.specs.declared.ids.TextId.{TextId}
 use Rattle.wjs_base.specs.declared.ids.WorldId.{WorldId}
 use Rattle.wjs_base.specs.Text.{Table, IsTable, Grows}
 use Rattle.wjs_base.proofs.TextLaws.{Grows-refl}
+use Rattle.wjs_base.proofs.Options.{some_map}
+use Rattle.wjs_base.specs.declared.ids.NodeId.{NodeId}
 use Rattle.wjs_store.specs.Meaning.{Meaning, View, PlainAct, PlainReply, worlds}
-use Rattle.wjs_tree.specs.declared.node.NodeId.{NodeId}
 use Rattle.wjs_arena.specs.declared.object.Code.{Code}
 use Rattle.wjs_arena.specs.declared.object.Code.TheVariants as code
 use Rattle.wjs_arena.specs.Entries.{Entry, Objects, world_of}
@@ -33,7 +34,7 @@ use Rattle.wjs_model.specs.declared.config.Config.{Config}
 use Rattle.wjs_model.specs.declared.config.State.TheVariants as states
 use Rattle.wjs_model.specs.declared.frame.Activation.{Activation as Frame}
 use Rattle.wjs_model.specs.declared.frame.Phase.{Phase}
-use Rattle.wjs_model.specs.declared.unit.Unit.{Unit as Program}
+use Rattle.wjs_model.specs.declared.loaded.LoadedProgram.{LoadedProgram as Program}
 use Rattle.wjs_model.specs.Outside.{alone}
 use Rattle.wjs_model.proofs.Beside.{beside_nothing}
 use Rattle.wjs_model.specs.Configurations.{run_in, frames_in, state_in, rest, seen, after_done}
@@ -87,10 +88,6 @@ code_stands units arena (code.Native n) scope h = tt
 some_frame : (library : Option NodeId) (script : NodeId) → frames_of library script ≡ [] → ⊥
 some_frame None script e = cc
 some_frame (Some library) script e = cc
-
-pub some_map : {A B : Type 0} (f : A → B) (o : Option A) → is_some (option_map f o) ≡ is_some o
-some_map f None = refl
-some_map f (Some a) = refl
 
 -- ---- the actions
 

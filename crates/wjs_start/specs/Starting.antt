@@ -3,8 +3,8 @@ use Rattle.std.specs.Prelude.{◌≡◌, ℕ, List, [], ◌∷◌, Option, None,
 use Rattle.std.specs.Option.{option_map}
 use Rattle.wjs_base.specs.declared.values.Value.TheVariants as values
 use Rattle.wjs_base.specs.Text.{Table, Grows}
+use Rattle.wjs_base.specs.declared.ids.NodeId.{NodeId}
 use Rattle.wjs_store.specs.Meaning.{Meaning, View}
-use Rattle.wjs_tree.specs.declared.node.NodeId.{NodeId}
 use Rattle.wjs_by_content.specs.Carried.{tell}
 use Rattle.wjs_by_content.specs.Worlds.{told_by}
 use Rattle.wjs_store.specs.State.{first_world}
@@ -19,7 +19,7 @@ use Rattle.wjs_model.specs.declared.point.Point.TheVariants as points
 use Rattle.wjs_model.specs.declared.frame.Activation.{Activation as Frame}
 use Rattle.wjs_model.specs.declared.frame.Phase.{Phase}
 use Rattle.wjs_model.specs.declared.frame.Phase.TheVariants as phases
-use Rattle.wjs_model.specs.declared.unit.Unit.{Unit as Program}
+use Rattle.wjs_model.specs.declared.loaded.LoadedProgram.{LoadedProgram as Program}
 use Rattle.wjs_model.specs.Outside.{alone}
 use Rattle.wjs_model.specs.Configurations.{run_in, frames_in, state_in, rest, seen, after_done}
 use Rattle.wjs_model.specs.Laws.{run_of, trees_of, script_names, first_frames}

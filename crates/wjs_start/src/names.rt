@@ -1,12 +1,12 @@
 //! Texts and names of the machine's own, put into the table.
-ghost use Rattle.std.specs.Prelude.{◌≡◌, All, IfOk, map};
+ghost use Rattle.std.specs.Prelude.{All, IfOk, map};
 ghost use Rattle.wjs_base.specs.Text.{Table, Grows, Has, IsTable};
 ghost use Rattle.wjs_by_content.specs.Tables.{text_in};
 ghost use Rattle.wjs_meaning.specs.Start.{library_names};
 ghost use Rattle.wjs_start.specs.Names.{IsTextOf, IsNameOf, AreNamesOf, words_in};
 
-use std::alloc::{AllocError, Global};
-use wjs_base::{Name, OutOfMemory, TextId, Texts};
+use std::alloc::Global;
+use wjs_base::{Name, OutOfMemory, TextId, Texts, units_of_ascii};
 
 /// A name in ASCII.
 #[derive(Clone, Copy)]
@@ -27,17 +27,6 @@ const LIBRARY: [Word; 10] = [
     Word { ascii: b"splice" },
     Word { ascii: b"unshift" },
 ];
-
-/// The code units of ASCII text.
-fn units_of_ascii(alloc: Global, ascii: &[u8]) -> Result<Vec<u16>, AllocError>
-    ensures { IfOk result (λ units. units.items ≡ ascii.now) }
-{
-    let mut units = Vec::with_capacity(alloc, ascii.len())?;
-    for byte in ascii {
-        units.push(u16::from(*byte))?;
-    }
-    Ok(units)
-}
 
 /// The number of a text, which is put last where it is new.
 pub(crate) fn text_number(

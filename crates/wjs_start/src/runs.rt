@@ -14,7 +14,7 @@ use crate::script::script_names;
 use std::alloc::Global;
 use wjs_base::{OutOfMemory, Texts, Value};
 use wjs_model::{
-    Activation, CallPoint, Config, Frame, Frames, Items, Phase, Point, Start, State, Unit,
+    Activation, CallPoint, Config, Frame, Frames, Items, LoadedProgram, Phase, Point, Start, State,
 };
 use wjs_store::WorldStore;
 use wjs_tree::NodeId;
@@ -26,8 +26,8 @@ pub fn start<S: WorldStore + Drop>(
     alloc: Global,
     texts: Texts,
     store: S,
-    library: Option<Unit>,
-    script: Unit,
+    library: Option<LoadedProgram>,
+    script: LoadedProgram,
     budget: u64,
 ) -> Result<Config<S>, OutOfMemory>
     requires table { IsTable texts }
@@ -58,7 +58,11 @@ pub fn start<S: WorldStore + Drop>(
 }
 
 /// The library's body above the script's, which waits for it; without a library the script's body alone.
-fn first_frames(alloc: Global, library: &Option<Unit>, script: &Unit) -> Result<Frames, OutOfMemory>
+fn first_frames(
+    alloc: Global,
+    library: &Option<LoadedProgram>,
+    script: &LoadedProgram,
+) -> Result<Frames, OutOfMemory>
     ensures { IfOk result (λ frames. frames ≡ frames_of (option_map body_of library.now) (body_of script.now)) }
 {
     let begins = Phase::Due(Start::Program);
@@ -98,7 +102,11 @@ pub fn program_frame(
 }
 
 /// The programs of the run, the library's first.
-fn units_of(alloc: Global, library: Option<Unit>, script: Unit) -> Result<Vec<Unit>, OutOfMemory>
+fn units_of(
+    alloc: Global,
+    library: Option<LoadedProgram>,
+    script: LoadedProgram,
+) -> Result<Vec<LoadedProgram>, OutOfMemory>
     ensures { IfOk result (λ units. units.items ≡ units_of library script) }
 {
     let mut units = Vec::new(alloc);

@@ -11,11 +11,11 @@ ghost use Rattle.wjs_start.specs.Declaring.{declared_by_tree};
 
 use std::alloc::Global;
 use wjs_base::{OutOfMemory, TextId};
-use wjs_model::Unit;
+use wjs_model::LoadedProgram;
 use wjs_tree::{Node, NodeId};
 
 /// The names of the functions that a script declares, and then those of its variables.
-pub fn script_names(alloc: Global, script: &Unit) -> Result<Vec<TextId>, OutOfMemory>
+pub fn script_names(alloc: Global, script: &LoadedProgram) -> Result<Vec<TextId>, OutOfMemory>
     ensures are { IfOk result
         (λ names. (t : Table) → IsTable t → KnowsUnit t script.now → map (text_in t) names.items ≡ declared_by_tree (unit_in t script.now)) }
     ensures found { IfOk result (λ names. (t : Table) → KnowsUnit t script.now → All (Has t) names.items) }
@@ -29,7 +29,7 @@ pub fn script_names(alloc: Global, script: &Unit) -> Result<Vec<TextId>, OutOfMe
 /// The names of the functions at these nodes.
 fn functions_named(
     alloc: Global,
-    script: &Unit,
+    script: &LoadedProgram,
     functions: &[NodeId],
 ) -> Result<Vec<TextId>, OutOfMemory>
     ensures are { IfOk result
@@ -44,7 +44,7 @@ fn functions_named(
 }
 
 /// Puts the name of a function last, if it has one.
-fn add_name(names: &mut Vec<TextId>, script: &Unit, id: NodeId) -> Result<(), OutOfMemory>
+fn add_name(names: &mut Vec<TextId>, script: &LoadedProgram, id: NodeId) -> Result<(), OutOfMemory>
     ensures are { OnOk result
         ((t : Table) →
         map (text_in t) names.new.items ≡ map (text_in t) names.old.items ++ filter_map (λ k. name_of (node_at (unit_in t script.now) k)) (id.0 ∷ [])) }
@@ -57,7 +57,7 @@ fn add_name(names: &mut Vec<TextId>, script: &Unit, id: NodeId) -> Result<(), Ou
     Ok(())
 }
 
-fn name_at(script: &Unit, id: NodeId) -> Option<TextId>
+fn name_at(script: &LoadedProgram, id: NodeId) -> Option<TextId>
     ensures is { (t : Table) → name_of (node_at (unit_in t script.now) id.0) ≡ option_map (text_in t) result }
     ensures found { (t : Table) → KnowsUnit t script.now → HasText t result }
 {

@@ -8,7 +8,7 @@ use Rattle.wjs_frames.specs.Shortening.{Shortens}
 use Rattle.wjs_frames.proofs.Shorter.{shorten_ret, shorten_ended}
 
 -- a primitive is its own
-pub primitive_is : (hint : Hint) (v : Value) (env : Env) → is_object v ≡ false → to_primitive hint v env ≡ give v
+primitive_is : (hint : Hint) (v : Value) (env : Env) → is_object v ≡ false → to_primitive hint v env ≡ give v
 primitive_is hint Undefined env p = refl
 primitive_is hint Null env p = refl
 primitive_is hint (Boolean b) env p = refl

@@ -2,16 +2,16 @@
 ghost use Rattle.std.specs.Prelude.{◌+◌, ◌≤◌, ◌++◌, length};
 ghost use Rattle.wjs_base.specs.Text.{Has, longest};
 ghost use Rattle.wjs_num.specs.Exact.{answer};
-ghost use Rattle.wjs_by_content.specs.Tables.{name_in, text_in, value_in};
+ghost use Rattle.wjs_by_content.specs.Tables.{text_in, value_in};
 ghost use Rattle.wjs_by_content.specs.Values.{String};
 ghost use Rattle.wjs_meaning.specs.Deeds as line;
 ghost use Rattle.wjs_meaning.specs.Errors as errors;
-ghost use Rattle.wjs_model.specs.Soundness.{HasName, HasValue};
+ghost use Rattle.wjs_model.specs.Soundness.{HasValue};
 ghost use Rattle.wjs_frames.specs.Handling.{IsRunning, GoesOn};
 
-use wjs_base::{LONGEST_TEXT, Name, OutOfMemory, TextId, Value, Whole};
+use wjs_base::{LONGEST_TEXT, OutOfMemory, TextId, Value, Whole};
 use wjs_frames::finish;
-use wjs_heap_steps::{create_error, create_undefined, extend, intern, units_of};
+use wjs_heap_steps::{create_error, extend, intern, units_of};
 use wjs_model::{Completion, Config, Frame, Trouble};
 use wjs_num::NumFault;
 use wjs_store::WorldStore;
@@ -43,20 +43,6 @@ pub fn throw<S: WorldStore>(
     finish(config, frame, Completion::Throws(Value::Object(error)))
 }
 
-/// Throws the error about a name that is not defined.
-pub fn throw_undefined<S: WorldStore>(
-    config: &mut Config<S>,
-    frame: Frame,
-    name: Name,
-) -> Result<(), OutOfMemory>
-    requires running { IsRunning S.meaning config.old }
-    requires name { HasName config.old name }
-    ensures { GoesOn S.meaning frame config.old config.new result (λ t env. errors.throw_named Trouble.NotDefined (name_in t name) env) }
-{
-    let error = create_undefined(config, name)?;
-    finish(config, frame, Completion::Throws(Value::Object(error)))
-}
-
 /// Ends with a text of these code units; one that is too long is thrown as an error.
 pub fn give_text<S: WorldStore>(
     config: &mut Config<S>,
@@ -73,7 +59,8 @@ pub fn give_text<S: WorldStore>(
     }
 }
 
-fn give_short<S: WorldStore>(
+/// Ends with a text of these code units, which is not too long.
+pub fn give_short<S: WorldStore>(
     config: &mut Config<S>,
     frame: Frame,
     units: &[u16],

@@ -9,7 +9,7 @@ mod references;
 mod texts;
 mod values;
 
-pub use ends::{give, give_result, give_text, throw, throw_undefined};
+pub use ends::{give, give_result, give_short, give_text, throw};
 pub use held::{held_callee, held_elements, held_reference, held_value};
 pub use numbers::{number_after, number_of};
 pub use objects::{this_or_global, to_object};

@@ -97,7 +97,7 @@ module _ {K V A : Type 0} (n : Naming K V) (shown : Reply K V → A) where
     abbrev pub settled : World n
     settled = hand_objects (map.keys x.closed) (writes_on (moves x) (hand_entries (reads_of x) y))
 
-    pub settled_parent : settled.parent ≡ y.parent
+    settled_parent : settled.parent ≡ y.parent
     settled_parent = objects_parents (map.keys x.closed) wrote_on ∙ parent_on (moves x) handed ∙ entries_parents (reads_of x) y
 
     settled_copy : (t : K) → map.get settled.copy t ≡ cond (map.contains_key x.written t) (map.get x.copy t) (map.get y.copy t)
@@ -117,7 +117,7 @@ module _ {K V A : Type 0} (n : Naming K V) (shown : Reply K V → A) where
       meets_handed : Meets n shown handed m
       meets_handed = meets_writes (moves x) handed m (ap is_some (entries_parents (reads_of x) y) ∙ p) ((marks1 F x y h fx up fy ok).local (local_find F y.id y h fy)) (meets_objects (map.keys x.closed) wrote_on m meets)
 
-      pub meets_parent : Meets n shown y m
+      meets_parent : Meets n shown y m
       meets_parent = meets_entries (reads_of x) y m meets_handed
 
       -- what the child read is in the map, or in the parent's own writes

@@ -219,16 +219,13 @@ contains_stays total false m k v q h = h
 abbrev pub pairs : {K V : Type 0} → (K → Option V) → List K → List (K × Option V)
 pairs v ks = each (λ s. (s, v s)) ks
 
-or_left_of : (a b c : Bool) → (a ≡ true → c ≡ true) → a ≡ true → (c || b) ≡ true
-or_left_of a b c f h = or_left c b (f h)
-
 module _ {K V : Type 0} {n : Naming K V} where
   -- ---- writes
 
   abbrev pub writes_on : List (K × Option V) → World n → World n
   writes_on es y = fold (λ z e. write_in e.0 e.1 z) y es
 
-  pub copy_on : (v : K → Option V) (ks : List K) (y : World n) (t : K) → map.get (writes_on (pairs v ks) y).copy t ≡ cond (list_any (eq_by_cmp n.cmp t) ks) (v t) (map.get y.copy t)
+  copy_on : (v : K → Option V) (ks : List K) (y : World n) (t : K) → map.get (writes_on (pairs v ks) y).copy t ≡ cond (list_any (eq_by_cmp n.cmp t) ks) (v t) (map.get y.copy t)
   copy_on v [] y t = refl
   copy_on v (s ∷ ks) y t =
       copy_on v ks (write_in s (v s) y) t
@@ -248,7 +245,7 @@ module _ {K V : Type 0} {n : Naming K V} where
   row_new s c y t p e = or_right (map.contains_key (write_in s c y).first t) (map.contains_key (write_in s c y).written t)
       (ap (λ b. map.contains_key (cond b (map.insert y.written s tt) y.written) t) p ∙ contains_insert n.total y.written s tt t ∙ ap (λ b. b || map.contains_key y.written t) e)
 
-  pub row_on : (es : List (K × Option V)) (y : World n) (t : K) → has_row y t ≡ true → has_row (writes_on es y) t ≡ true
+  row_on : (es : List (K × Option V)) (y : World n) (t : K) → has_row y t ≡ true → has_row (writes_on es y) t ≡ true
   row_on [] y t h = h
   row_on (e ∷ es) y t h = row_on es (write_in e.0 e.1 y) t (row_stays e.0 e.1 y t h)
 
@@ -331,7 +328,7 @@ module _ {K V : Type 0} {n : Naming K V} where
       kept_one true y s c = (refl, refl)
       kept_one false y s c = (refl, refl)
 
-  pub kept_close : (os : List ObjId) (y : World n) → ((close_on os y).parent ≡ y.parent) × ((close_on os y).copy ≡ y.copy)
+  kept_close : (os : List ObjId) (y : World n) → ((close_on os y).parent ≡ y.parent) × ((close_on os y).copy ≡ y.copy)
   kept_close [] y = (refl, refl)
   kept_close (o ∷ os) y = kept_close os (record y { closed = map.insert y.closed o tt })
 
@@ -403,11 +400,11 @@ module _ {K V : Type 0} {n : Naming K V} where
       (find_write_other G p s (v s) w x e h (f s (or_left (eq_by_cmp n.cmp s s) (list_any (eq_by_cmp n.cmp s) ks) (ap is_eq (tied_itself n.total s)))))
       (λ t q. f t (or_right (eq_by_cmp n.cmp t s) (list_any (eq_by_cmp n.cmp t) ks) q))
 
-  pub reached_all : (p : WorldId) (es : List (K × Option V)) (G : State n) → IsReached G → IsReached (write_all p es G)
+  reached_all : (p : WorldId) (es : List (K × Option V)) (G : State n) → IsReached G → IsReached (write_all p es G)
   reached_all p [] G h = h
   reached_all p (e ∷ es) G h = reached_all p es (after_write G p e.0 e.1) (reached_write G p e.0 e.1 h)
 
-pub unwrap_is : {A : Type 0} (o : Option (Option A)) (z : Option A) → is_some o ≡ true → ((c : Option A) → o ≡ Some c → z ≡ c) → unwrap_or o None ≡ z
+unwrap_is : {A : Type 0} (o : Option (Option A)) (z : Option A) → is_some o ≡ true → ((c : Option A) → o ≡ Some c → z ≡ c) → unwrap_or o None ≡ z
 unwrap_is None z h f = absurd (false≢true h)
 unwrap_is (Some c) z h f = sym (f c refl)
 
@@ -439,10 +436,10 @@ module _ {K V : Type 0} {n : Naming K V} (F : State n) (x y : World n) (h : IsRe
       (λ z q t e pe u. inherits_find F y.id q z t h e pe (subst (λ v. is_touched (hand_entries (reads_of x) v) t ≡ false → is_touched v t ≡ false) (same_Some y z (sym fy ∙ e)) (marks1.touched t) u))
       h
 
-  pub fy1 : find_world (at_world y.id (hand_entries (reads_of x)) F) y.id ≡ Some (hand_entries (reads_of x) y)
+  fy1 : find_world (at_world y.id (hand_entries (reads_of x)) F) y.id ≡ Some (hand_entries (reads_of x) y)
   fy1 = find_at_here y.id (hand_entries (reads_of x)) (entries_ids (reads_of x)) F y fy
 
-  pub fx1 : find_world (at_world y.id (hand_entries (reads_of x)) F) x.id ≡ Some x
+  fx1 : find_world (at_world y.id (hand_entries (reads_of x)) F) x.id ≡ Some x
   fx1 = find_at_other y.id (hand_entries (reads_of x)) (entries_ids (reads_of x)) F x.id x apart fx
 
   -- ---- the writes

@@ -39,7 +39,7 @@ module _ {K V : Type 0} {n : Naming K V} where
       and_false false = refl
 
   -- a world that another's change passed by
-  pub back_at : (w : WorldId) (f : World n → World n) (ids : (x : World n) → (f x).id ≡ x.id) (F : State n) (i : WorldId) (y : World n) → same_world i w ≡ false → find_world (at_world w f F) i ≡ Some y → find_world F i ≡ Some y
+  back_at : (w : WorldId) (f : World n → World n) (ids : (x : World n) → (f x).id ≡ x.id) (F : State n) (i : WorldId) (y : World n) → same_world i w ≡ false → find_world (at_world w f F) i ≡ Some y → find_world F i ≡ Some y
   back_at w f ids F i y e h = with_some (find_world F i) (sym (has_at w f ids F i) ∙ ap is_some h) (λ z q. q ∙ sym (find_at_other w f ids F i z e q) ∙ h)
 
 module _ {K V A : Type 0} (n : Naming K V) (shown : Reply K V → A) where

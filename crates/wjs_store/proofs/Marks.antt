@@ -27,15 +27,15 @@ key_is {R = R} exact q k e = exact q k ((Equal-is (R q k)).0 e)
 
 -- ---- tests
 
-pub forget_or : (e a b : Bool) → ((e || a) || b) ≡ false → (a || b) ≡ false
+forget_or : (e a b : Bool) → ((e || a) || b) ≡ false → (a || b) ≡ false
 forget_or true a b h = cc
 forget_or false a b h = h
 
-pub forget_first : (e a b c : Bool) → (((e || a) || b) || c) ≡ false → ((a || b) || c) ≡ false
+forget_first : (e a b c : Bool) → (((e || a) || b) || c) ≡ false → ((a || b) || c) ≡ false
 forget_first true a b c h = cc
 forget_first false a b c h = h
 
-pub forget_last : (r e c : Bool) → (r || (e || c)) ≡ false → (r || c) ≡ false
+forget_last : (r e c : Bool) → (r || (e || c)) ≡ false → (r || c) ≡ false
 forget_last true e c h = h
 forget_last false true c h = cc
 forget_last false false c h = h
@@ -199,7 +199,7 @@ module _ {K V : Type 0} {n : Naming K V} where
     };
   }
 
-  pub marks_close : (o : ObjId) (x : World n) → (Local x → is_some x.parent ≡ true → (t : K) → n.object t ≡ o → has_row x t ≡ false → map.get x.copy t ≡ None) → MarksOf x (close_in o x)
+  marks_close : (o : ObjId) (x : World n) → (Local x → is_some x.parent ≡ true → (t : K) → n.object t ≡ o → has_row x t ≡ false → map.get x.copy t ≡ None) → MarksOf x (close_in o x)
   marks_close o x all = marks_cond (is_some x.parent) x (record x { closed = map.insert x.closed o tt }) (λ p. marks_closed o x p (λ l. all l p))
 
   pub marks_list : (o : ObjId) (x : World n) → MarksOf x (list_in o x)

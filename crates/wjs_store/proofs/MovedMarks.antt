@@ -150,7 +150,7 @@ module _ {K V : Type 0} {n : Naming K V} where
       by None = refl
       by (Some x) = ap (λ k. Some k) (same x)
 
-  pub parts_at : (j : WorldId) (f : World n → World n) → ((x : World n) → kept_parts (f x) ≡ kept_parts x) → (F : State n) (i : WorldId) → option_map kept_parts (find_world (at_world j f F) i) ≡ option_map kept_parts (find_world F i)
+  parts_at : (j : WorldId) (f : World n → World n) → ((x : World n) → kept_parts (f x) ≡ kept_parts x) → (F : State n) (i : WorldId) → option_map kept_parts (find_world (at_world j f F) i) ≡ option_map kept_parts (find_world F i)
   parts_at j f same F i =
       parts_each (λ x. cond (same_world x.id j) (f x) x)
       (λ x. by_one (same_world x.id j) (λ (v : World n). v.id ≡ x.id) (ap (λ k. k.0) (same x)) refl)
@@ -161,11 +161,11 @@ module _ {K V : Type 0} {n : Naming K V} where
   unfolding after_write
   parts_write p s c F i = parts_each (write_at F p s c) (write_id F p s c) (λ x. by_two (same_world x.id p) (is_below p s F x.id) (λ (v : World n). kept_parts v ≡ kept_parts x) refl refl refl) F i
 
-  pub parts_writes : (p : WorldId) (es : List (K × Option V)) (F : State n) (i : WorldId) → option_map kept_parts (find_world (write_all p es F) i) ≡ option_map kept_parts (find_world F i)
+  parts_writes : (p : WorldId) (es : List (K × Option V)) (F : State n) (i : WorldId) → option_map kept_parts (find_world (write_all p es F) i) ≡ option_map kept_parts (find_world F i)
   parts_writes p [] F i = refl
   parts_writes p (e ∷ es) F i = parts_writes p es (after_write F p e.0 e.1) i ∙ parts_write p e.0 e.1 F i
 
-  pub parts_entries : (es : List (K × Option V)) (z : World n) → kept_parts (hand_entries es z) ≡ kept_parts z
+  parts_entries : (es : List (K × Option V)) (z : World n) → kept_parts (hand_entries es z) ≡ kept_parts z
   parts_entries es z =
       let strict : (hand_entries es z).strict ≡ z.strict = by_one (is_some z.parent) (λ (v : World n). v.strict ≡ z.strict) (hand_closed es z).1 refl in
       λ k. (entries_ids es z k, entries_parents es z k, strict k)
@@ -174,7 +174,7 @@ module _ {K V : Type 0} {n : Naming K V} where
   close_strict [] z = refl
   close_strict (o ∷ os) z = close_strict os (record z { closed = map.insert z.closed o tt })
 
-  pub parts_objects : (os : List ObjId) (z : World n) → kept_parts (hand_objects os z) ≡ kept_parts z
+  parts_objects : (os : List ObjId) (z : World n) → kept_parts (hand_objects os z) ≡ kept_parts z
   parts_objects os z =
       let strict : (hand_objects os z).strict ≡ z.strict = by_one (is_some z.parent) (λ (v : World n). v.strict ≡ z.strict) (close_strict os z) refl in
       λ k. (objects_ids os z k, objects_parents os z k, strict k)

@@ -22,7 +22,7 @@ below_empty w s F d e = ap (λ G. is_below w s G d) e
 
 module _ {K V : Type 0} {n : Naming K V} (w : WorldId) (s : K) where
   -- the test at a world that is there
-  pub below_found : (F : State n) (d : WorldId) (x : World n) → IsReached F → find_world F d ≡ Some x → is_below w s F d ≡ (not (is_touched x s) && option_map_or (λ p. same_world p w || is_below w s F p) x.parent false)
+  below_found : (F : State n) (d : WorldId) (x : World n) → IsReached F → find_world F d ≡ Some x → is_below w s F d ≡ (not (is_touched x s) && option_map_or (λ p. same_world p w || is_below w s F p) x.parent false)
   below_found [] d x h e = absurd (none_some (find_world {n = n} [] d) (ap is_some e) (find_nil d))
   below_found (y ∷ older) d x h e = by_bool (same_world y.id d)
       (λ b.

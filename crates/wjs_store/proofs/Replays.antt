@@ -87,7 +87,7 @@ module _ {K V A : Type 0} (n : Naming K V) (shown : Reply K V → A) where
   meets_read_by true false x s m u h = meets_first x s (map.get x.copy s) m u h
   meets_read_by false b x s m u h = h
 
-  pub meets_read : (x : World n) (s : K) (m : FinMap n.cmp V) → Meets (read_in s x) m → Meets x m
+  meets_read : (x : World n) (s : K) (m : FinMap n.cmp V) → Meets (read_in s x) m → Meets x m
   meets_read x s m h = meets_read_by (is_some x.parent) (is_touched x s) x s m refl h
 
   meets_read_all : (ss : List K) (x : World n) (m : FinMap n.cmp V) → Meets (read_all ss x) m → Meets x m
@@ -180,7 +180,7 @@ module _ {K V A : Type 0} (n : Naming K V) (shown : Reply K V → A) where
   }
 
   -- more marks and the same contents
-  pub further_marks : (x y : World n) → MarksOf x y → y.written ≡ x.written → ((m : FinMap n.cmp V) → Meets y m → Meets x m) → Further x y
+  further_marks : (x y : World n) → MarksOf x y → y.written ≡ x.written → ((m : FinMap n.cmp V) → Meets y m → Meets x m) → Further x y
   further_marks x y m w asks = record { parent = m.parent; written = w; asks = asks; own = λ t e. ap (λ c. map.get c t) m.copy; root = λ e. m.copy }
 
   read_written : (s : K) (x : World n) → (read_in s x).written ≡ x.written
@@ -190,10 +190,10 @@ module _ {K V A : Type 0} (n : Naming K V) (shown : Reply K V → A) where
   read_all_written [] x = refl
   read_all_written (s ∷ ss) x = read_all_written ss (read_in s x) ∙ read_written s x
 
-  pub further_read : (s : K) (x : World n) → Further x (read_in s x)
+  further_read : (s : K) (x : World n) → Further x (read_in s x)
   further_read s x = further_marks x (read_in s x) (marks_read s x) (read_written s x) (λ m h. meets_read x s m h)
 
-  pub further_list : (o : ObjId) (x : World n) → Further x (list_in o x)
+  further_list : (o : ObjId) (x : World n) → Further x (list_in o x)
   further_list o x =
       let y = read_all (slots_in o x) x in
       further_marks x (list_in o x) (marks_list o x) (by_one (is_some y.parent) (λ (v : World n). v.written ≡ y.written) refl refl ∙ read_all_written (slots_in o x) x) (λ m h. meets_read_all (slots_in o x) x m (meets_close y o m h))

@@ -104,25 +104,11 @@ done_more (x ∷ xs) a F =
     ap (λ ds. cond (is_done F x) ((act_of x, answer_to F (act_of x)) ∷ []) [] ++ ds) (done_more xs a (after_in F x))
     ∙ sym (append_assoc (cond (is_done F x) ((act_of x, answer_to F (act_of x)) ∷ []) []) (done_in (after_in F x) xs) (done_in (after_all (after_in F x) xs) (a ∷ [])))
 
-pub run_nothing : (m : Meaning) → IsTrue (not m.spent) → (IsTrue (not m.spent) → IsSound m) → Runs m [] [] m
-run_nothing m n s = record {
-  narrows = λ v h. h;
-  answers = λ v h. refl;
-  worlds = λ v h. refl;
-  told = λ v h. option_same (λ (done : List (PlainAct × PlainReply)). done ++ []) (λ done. append-nil done) m.told;
-  shown = refl;
-  admits_own = (s n).admits_own;
-  own = refl;
-  around = refl;
-  spent = refl;
-  works = n;
-}
-
 map_twice : {A : Type 0} (o : Option (List A)) (xs ys : List A) → option_map (λ done. done ++ ys) (option_map (λ done. done ++ xs) o) ≡ option_map (λ done. done ++ (xs ++ ys)) o
 map_twice None xs ys = refl
 map_twice (Some done) xs ys = ap (λ all. Some all) (append_assoc done xs ys)
 
-pub run_then : (old mid new : Meaning) (xs : List Action) (rs : List Answer) (a : Action) (r : Answer) → Runs old xs rs mid → Runs mid (a ∷ []) (r ∷ []) new → Runs old (xs ++ a ∷ []) (rs ++ r ∷ []) new
+run_then : (old mid new : Meaning) (xs : List Action) (rs : List Answer) (a : Action) (r : Answer) → Runs old xs rs mid → Runs mid (a ∷ []) (r ∷ []) new → Runs old (xs ++ a ∷ []) (rs ++ r ∷ []) new
 run_then old mid new xs rs a r f g =
     let answered = λ (v : View) (h : IsTrue (new.admits v)).
     ap (λ (qs : List Answer). qs ++ r ∷ []) (f.answers v (g.narrows v h))

@@ -335,7 +335,7 @@ module _ {K V : Type 0} {n : Naming K V} where
   unfolding after_write
   has_after_write F w s c i = has_each (write_at F w s c) (write_id F w s c) F i
 
-  pub has_write_all : (p : WorldId) (es : List (K × Option V)) (F : State n) (i : WorldId) → has_world (write_all p es F) i ≡ has_world F i
+  has_write_all : (p : WorldId) (es : List (K × Option V)) (F : State n) (i : WorldId) → has_world (write_all p es F) i ≡ has_world F i
   has_write_all p [] F i = refl
   has_write_all p (e ∷ es) F i = has_write_all p es (after_write F p e.0 e.1) i ∙ has_after_write F p e.0 e.1 i
 

@@ -6,7 +6,7 @@ use Rattle.wjs_meaning.specs.NativesOfTexts.{either}
 use Rattle.wjs_meaning.specs.NativesOfObjects.{whole_of}
 
 -- a value counts as its number
-pub either_number : (f : ℤ → ℤ → ℤ) (x : Whole) (v : Value) → either f x v ≡ either f x (Number (whole_of v))
+either_number : (f : ℤ → ℤ → ℤ) (x : Whole) (v : Value) → either f x v ≡ either f x (Number (whole_of v))
 either_number f None Undefined = refl
 either_number f None Null = refl
 either_number f None (Boolean b) = refl

@@ -26,7 +26,7 @@ scans_longer s t from start matched scan fits more here = record {
 }
 
 -- where units stand, the pattern doesn't stand again before it is moved by a period of theirs
-pub not_between : (s t : Text) (start matched d e : ℕ) → StandsSoFar s t start matched → matched ≤ length s → IsLeastPeriod s matched d → 0 < e → e < d → begins_with s (drop (start + e) t) ≡ false
+not_between : (s t : Text) (start matched d e : ℕ) → StandsSoFar s t start matched → matched ≤ length s → IsLeastPeriod s matched d → 0 < e → e < d → begins_with s (drop (start + e) t) ≡ false
 not_between s t start matched d e stands part period above below =
     false_from_ne_true (begins_with s (drop (start + e) t))
     (λ b.
@@ -35,11 +35,11 @@ not_between s t start matched d e stands part period above below =
     (λ k inside. sym (again.units k (omega arith)) ∙ ap (λ x. get_or t x 0) (omega arith) ∙ stands (k + e) (omega arith)))
 
 -- the next unit doesn't stand
-pub not_here : (s t : Text) (start matched : ℕ) → matched < length s → (get_or t (start + matched) 0 ≡ get_or s matched 0 → ⊥) → begins_with s (drop start t) ≡ false
+not_here : (s t : Text) (start matched : ℕ) → matched < length s → (get_or t (start + matched) 0 ≡ get_or s matched 0 → ⊥) → begins_with s (drop start t) ≡ false
 not_here s t start matched more other = false_from_ne_true (begins_with s (drop start t)) (λ b. other ((stands_at s t start b).units matched more))
 
 -- what stands after a move by a period
-pub moved_stands : (s t : Text) (start matched d : ℕ) → StandsSoFar s t start matched → IsPeriod s matched d → StandsSoFar s t (start + d) (matched - d)
+moved_stands : (s t : Text) (start matched d : ℕ) → StandsSoFar s t start matched → IsPeriod s matched d → StandsSoFar s t (start + d) (matched - d)
 moved_stands s t start matched d stands period k below = ap (λ x. get_or t x 0) (omega arith) ∙ stands (k + d) (omega arith) ∙ sym (period k (omega arith))
 
 -- a unit that doesn't stand moves the pattern
@@ -70,7 +70,7 @@ pub seeks_missing : (s t : Text) (limit : ℕ) (best : Option ℕ) (start matche
 seeks_missing s t limit best start matched seek h = seek.same ∙ last_none s limit best start (drop start t) (missing s start (drop start t) (sym h))
 
 -- the next place at which it stands
-pub seeks_to : (s t : Text) (limit : ℕ) (best : Option ℕ) (start matched p : ℕ) → Seeks s t limit best start matched → Some p ≡ first_place s start (drop start t) → last_place s limit None 0 t ≡ last_place s limit best p (drop p t)
+seeks_to : (s t : Text) (limit : ℕ) (best : Option ℕ) (start matched p : ℕ) → Seeks s t limit best start matched → Some p ≡ first_place s start (drop start t) → last_place s limit None 0 t ≡ last_place s limit best p (drop p t)
 seeks_to s t limit best start matched p seek h =
     let f = found s start (drop start t) p (sym h) in
     seek.same ∙ last_skips s limit best start (drop start t) f.on f.at.inside f.at.none

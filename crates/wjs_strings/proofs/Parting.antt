@@ -39,7 +39,7 @@ parts_end s part = refl
 -- ---- by places
 
 -- the next separator ends a part
-pub parts_to : (s t : Text) (start p : ℕ) → 0 < length s → start ≤ length t → Some p ≡ first_place s start (drop start t) → parts_from s 0 [] (drop start t) ≡ String (part_of t start p) ∷ parts_from s 0 [] (drop (p + length s) t)
+parts_to : (s t : Text) (start p : ℕ) → 0 < length s → start ≤ length t → Some p ≡ first_place s start (drop start t) → parts_from s 0 [] (drop start t) ≡ String (part_of t start p) ∷ parts_from s 0 [] (drop (p + length s) t)
 parts_to s t start p full inside h =
     let f = found s start (drop start t) p (sym h) in
     let there = stands_there s t start p inside h in
@@ -56,7 +56,7 @@ parts_to s t start p full inside h =
     ∙ ap (λ x. String (take x (drop start t)) ∷ parts_from s 0 [] (drop (p + length s) t)) (let q : f.on ≡ p - start = omega (arith, f.is) in q)
 
 -- no further separator
-pub parts_last : (s t : Text) (start : ℕ) → start ≤ length t → None ≡ first_place s start (drop start t) → parts_from s 0 [] (drop start t) ≡ String (part_of t start (length t)) ∷ []
+parts_last : (s t : Text) (start : ℕ) → start ≤ length t → None ≡ first_place s start (drop start t) → parts_from s 0 [] (drop start t) ≡ String (part_of t start (length t)) ∷ []
 parts_last s t start inside h =
     let us = drop start t in
     let n = length-drop start t in

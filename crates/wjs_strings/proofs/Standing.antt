@@ -3,8 +3,8 @@ use Rattle.std.proofs.Common.{◌≡◌, ℕ, suc, zero, ◌+◌, ◌<◌, ◌�
 use Rattle.std.proofs.lemmas.List.{drop_more, get_or-drop, get_or-take, length-drop, length-take, same_lists, get_or_default, nil_from_length}
 use Rattle.std.proofs.lemmas.Slice.Eq.{bytes_eq-Decides}
 use Rattle.std.proofs.lemmas.Bool.{cases_Bool, cases_lt, false_from_ne_true, le-leb}
-use Rattle.std.proofs.lemmas.Bool.Decides.{leb_tells}
 use Rattle.std.proofs.Math.Bool.{and-false}
+use Rattle.wjs_base.proofs.Numbers.{lt_not}
 use Rattle.wjs_by_content.specs.Values.{Text}
 use Rattle.wjs_meaning.specs.NativesOfTexts.{begins_with, first_place, last_place, better}
 
@@ -33,7 +33,7 @@ stands_if s t x units within =
     get_or_default s k d 0 below ∙ sym (units k below) ∙ sym (get_or-drop x t k 0) ∙ sym (get_or-take (length s) (drop x t) k 0 below) ∙ get_or_default (take (length s) (drop x t)) k 0 d inside))
 
 -- a longer one doesn't
-pub begins_short : (s us : Text) → length us < length s → begins_with s us ≡ false
+begins_short : (s us : Text) → length us < length s → begins_with s us ≡ false
 begins_short s us h =
     false_from_ne_true (begins_with s us)
     (λ b.
@@ -155,16 +155,13 @@ last_stands s limit best k u us b h =
     let under : nat_le k limit ≡ true = le-leb k limit h in
     ap (λ x. last_place s limit (better (nat_le k limit && x) k best) (k + 1) us) b ∙ ap (λ x. last_place s limit (better (x && true) k best) (k + 1) us) under
 
-over_limit : (k limit : ℕ) → limit < k → nat_le k limit ≡ false
-over_limit k limit h = elim (leb_tells k limit) [ inl w ↦ absurd (omega (arith, w.1)) | inr w ↦ w.0 ]
-
 -- past the limit
 pub last_past : (s : Text) (limit : ℕ) (best : Option ℕ) (k : ℕ) (us : Text) → limit < k → last_place s limit best k us ≡ best
 last_past s limit best k [] h =
-    let over = over_limit k limit h in
+    let over = lt_not k limit h in
     ap (λ x. better (x && begins_with s []) k best) over
 last_past s limit best k (u ∷ us) h =
-    let over = over_limit k limit h in
+    let over = lt_not k limit h in
     ap (λ x. last_place s limit (better (x && begins_with s (u ∷ us)) k best) (k + 1) us) over ∙ last_past s limit best (k + 1) us (omega arith)
 
 -- ---- of the empty text

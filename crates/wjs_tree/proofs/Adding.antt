@@ -5,14 +5,14 @@ use Rattle.std.proofs.lemmas.List.{take-append-le}
 use Rattle.std.proofs.Math.Seq.{take-append_seam}
 use Rattle.std.proofs.lemmas.Option.{slice_get_within, slice_get_read}
 use Rattle.wjs_base.proofs.Lists.{get_last, get_pushed}
+use Rattle.wjs_base.specs.declared.ids.NodeId.{NodeId}
 use Rattle.wjs_tree.specs.declared.node.Node.{Node}
-use Rattle.wjs_tree.specs.declared.node.NodeId.{NodeId}
 use Rattle.wjs_tree.specs.declared.facts.Facts.{Facts}
 use Rattle.wjs_tree.specs.Children.{ChildrenBelow}
 use Rattle.wjs_tree.specs.Facts.{fact_at, height_at, AreFacts, IsKept, AreKept, IsLow}
 use Rattle.wjs_tree.specs.Shows.{Keeps}
 
-pub get-front : {T : Type 0} (xs : List T) (y : T) (i : ℕ) (x : T) → slice_get xs i ≡ Some x → slice_get (xs ++ y ∷ []) i ≡ Some x
+get-front : {T : Type 0} (xs : List T) (y : T) (i : ℕ) (x : T) → slice_get xs i ≡ Some x → slice_get (xs ++ y ∷ []) i ≡ Some x
 get-front [] y i x h = absurd (cc)
 get-front (z ∷ xs) y zero x h = h
 get-front (z ∷ xs) y (suc i) x h = get-front xs y i x h
@@ -20,9 +20,6 @@ get-front (z ∷ xs) y (suc i) x h = get-front xs y i x h
 -- the nodes that were there stay
 pub keeps_added : (ns : List Node) (node : Node) → Keeps ns (ns ++ node ∷ [])
 keeps_added ns node = record { same = λ i x h. get-front ns node i x h; longer = simp length-append (omega arith) }
-
-pub none_kept : AreKept [] []
-none_kept = record { same_length = refl; each = λ i node h. absurd (cc) }
 
 none_within : {T : Type 0} (xs : List T) (i : ℕ) → i < length xs → slice_get xs i ≡ None → ⊥
 none_within [] i lt h = absurd (omega arith)

@@ -3,8 +3,8 @@ pub mod Kept
 pub mod Within
 pub mod Uses
 pub mod OneUse
-pub mod Highest
 pub mod Heights
+pub mod Levels
 pub mod Tests
 pub mod Adding
 pub mod Forward

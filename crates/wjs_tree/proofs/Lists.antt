@@ -3,8 +3,8 @@ use Rattle.std.specs.Prelude.{◌≡◌, ℕ, ◌+◌, ◌<◌, ◌≤◌, ◌�
 use Rattle.std.proofs.Common.{refl, sym, ap, subst, inl, inr, arith, get_or, add-one, drop-cons}
 use Rattle.std.proofs.lemmas.List.{drop_all}
 use Rattle.wjs_base.specs.declared.ids.TextId.{TextId}
+use Rattle.wjs_base.specs.declared.ids.NodeId.{NodeId}
 use Rattle.wjs_tree.specs.declared.node.Node.{Node}
-use Rattle.wjs_tree.specs.declared.node.NodeId.{NodeId}
 use Rattle.wjs_tree.specs.declared.node.Node.TheVariants as nodes
 use Rattle.wjs_tree.specs.declared.node.Clause.{Clause}
 use Rattle.wjs_tree.specs.Trees.{Expr, Stmt, Stmts, Clauses, Elements, NoStmt, MoreStmts, NoClause, Case, Default, NoElement, Statement, FunctionDecl}
@@ -12,7 +12,7 @@ use Rattle.wjs_tree.specs.Height.{stmts_height, clauses_height, elements_height}
 use Rattle.wjs_tree.specs.Shows.{Has}
 use Rattle.wjs_tree.specs.Forms.{IsPart, AreParts, AreClauses, AreElements}
 use Rattle.wjs_tree.specs.There.{StmtThere, StmtsThere, ClausesThere, ElementsThere, ElementThere}
-use Rattle.wjs_tree.proofs.Walks.{ComesTo, begin, go_on}
+use Rattle.wjs_tree.proofs.Walks.{ComesTo, go_on}
 
 -- an element and what stands behind it
 pub behind : {T : Type 0} (xs : List T) (k : ℕ) (d : T) → k < length xs → drop k xs ≡ get_or xs k d ∷ drop (k + 1) xs
@@ -26,7 +26,7 @@ pub record Split (ns : List Node) (t : Stmts) (i : NodeId) (more : List NodeId) 
   pub part : IsPart ns first i
   pub parts : AreParts ns rest more
 
-pub split : (ns : List Node) (t : Stmts) (i : NodeId) (more : List NodeId) → AreParts ns t (i ∷ more) → Split ns t i more
+split : (ns : List Node) (t : Stmts) (i : NodeId) (more : List NodeId) → AreParts ns t (i ∷ more) → Split ns t i more
 split ns NoStmt i more h = absurd (let e = h.1.0 in cc)
 split ns (MoreStmts s rest) i more h =
     let e = h.1.4 in
@@ -44,7 +44,7 @@ pub nothing : (ns : List Node) (t : Stmts) → AreParts ns t [] → t ≡ NoStmt
 nothing ns NoStmt h = refl
 nothing ns (MoreStmts s rest) h = absurd (let e = h.1.4 in cc)
 
-pub stmts_first : (ns : List Node) (room : ℕ) (i : NodeId) (more : List NodeId) → StmtsThere ns room (i ∷ more) → StmtThere ns room i × StmtsThere ns room more
+stmts_first : (ns : List Node) (room : ℕ) (i : NodeId) (more : List NodeId) → StmtsThere ns room (i ∷ more) → StmtThere ns room i × StmtsThere ns room more
 stmts_first ns room i more h =
     let s = split ns h.0 i more h.1 in
     let high : stmts_height (MoreStmts s.first s.rest) ≤ room = subst (λ (z : Stmts). stmts_height z ≤ room) s.is h.2 in
@@ -54,9 +54,6 @@ stmts_first ns room i more h =
 pub record StmtsWalk (ns : List Node) (room : ℕ) (list : List NodeId) (k : ℕ) (R : Stmts → Stmts → Type 0) : Type 0 where
   pub there : StmtsThere ns room (drop k list)
   pub same : ComesTo (AreParts ns) R list (drop k list)
-
-pub stmts_begin : (ns : List Node) (room : ℕ) (list : List NodeId) (R : Stmts → Stmts → Type 0) → ((t : Stmts) → R t t) → StmtsThere ns room list → StmtsWalk ns room list 0 R
-stmts_begin ns room list R r h = record { there = h; same = begin (AreParts ns) R list r }
 
 pub stmts_here : (ns : List Node) (room : ℕ) (list : List NodeId) (k : ℕ) (R : Stmts → Stmts → Type 0) (d : NodeId) → k < length list → StmtsWalk ns room list k R → StmtThere ns room (get_or list k d)
 stmts_here ns room list k R d lt walk = (stmts_first ns room (get_or list k d) (drop (k + 1) list) (subst (StmtsThere ns room) (behind list k d lt) walk.there)).0
@@ -88,7 +85,7 @@ pub record ClauseSplit (ns : List Node) (t : Clauses) (c : Clause) (more : List 
   pub is : ((e : Expr) × (t ≡ Case e first rest)) ⊎ (t ≡ Default first rest)
   pub low : max (stmts_height first) (clauses_height rest) ≤ clauses_height t
 
-pub split_clause : (ns : List Node) (t : Clauses) (c : Clause) (more : List Clause) → AreClauses ns t (c ∷ more) → ClauseSplit ns t c more
+split_clause : (ns : List Node) (t : Clauses) (c : Clause) (more : List Clause) → AreClauses ns t (c ∷ more) → ClauseSplit ns t c more
 split_clause ns NoClause c more h = absurd (let e = h.1.0 in cc)
 split_clause ns (Case e body rest) c more h =
     let same = h.1.6 in
@@ -115,12 +112,12 @@ split_clause ns (Default body rest) c more h =
       low = omega arith;
     }
 
-pub no_clause : (ns : List Node) (t : Clauses) → AreClauses ns t [] → t ≡ NoClause
+no_clause : (ns : List Node) (t : Clauses) → AreClauses ns t [] → t ≡ NoClause
 no_clause ns NoClause h = refl
 no_clause ns (Case e body rest) h = absurd (let same = h.1.6 in cc)
 no_clause ns (Default body rest) h = absurd (let same = h.1.4 in cc)
 
-pub clauses_first : (ns : List Node) (room : ℕ) (c : Clause) (more : List Clause) → ClausesThere ns room (c ∷ more) → StmtsThere ns room c.body × ClausesThere ns room more
+clauses_first : (ns : List Node) (room : ℕ) (c : Clause) (more : List Clause) → ClausesThere ns room (c ∷ more) → StmtsThere ns room c.body × ClausesThere ns room more
 clauses_first ns room c more h =
     let s = split_clause ns h.0 c more h.1 in
     let low = s.low in
@@ -131,9 +128,6 @@ clauses_first ns room c more h =
 pub record ClausesWalk (ns : List Node) (room : ℕ) (list : List Clause) (k : ℕ) (R : Clauses → Clauses → Type 0) : Type 0 where
   pub there : ClausesThere ns room (drop k list)
   pub same : ComesTo (AreClauses ns) R list (drop k list)
-
-pub clauses_begin : (ns : List Node) (room : ℕ) (list : List Clause) (R : Clauses → Clauses → Type 0) → ((t : Clauses) → R t t) → ClausesThere ns room list → ClausesWalk ns room list 0 R
-clauses_begin ns room list R r h = record { there = h; same = begin (AreClauses ns) R list r }
 
 pub clauses_here : (ns : List Node) (room : ℕ) (list : List Clause) (k : ℕ) (R : Clauses → Clauses → Type 0) (d : Clause) → k < length list → ClausesWalk ns room list k R → StmtsThere ns room (get_or list k d).body
 clauses_here ns room list k R d lt walk = (clauses_first ns room (get_or list k d) (drop (k + 1) list) (subst (ClausesThere ns room) (behind list k d lt) walk.there)).0
@@ -165,7 +159,7 @@ pub record ElementSplit (ns : List Node) (t : Elements) (i : NodeId) (more : Lis
   pub low : elements_height rest ≤ elements_height t
   pub cases : ((s : Stmt) × IsPart ns s i × (t ≡ Statement s rest)) ⊎ ((x : TextId) × (formals : List TextId) × (body : Elements) × (list : List NodeId) × Has ns i (nodes.FunctionDecl x formals list) × (t ≡ FunctionDecl x formals body rest))
 
-pub split_element : (ns : List Node) (t : Elements) (i : NodeId) (more : List NodeId) → AreElements ns t (i ∷ more) → ElementSplit ns t i more
+split_element : (ns : List Node) (t : Elements) (i : NodeId) (more : List NodeId) → AreElements ns t (i ∷ more) → ElementSplit ns t i more
 split_element ns NoElement i more h = absurd (let e = h.1.0 in cc)
 split_element ns (Statement s rest) i more h =
     let e = h.1.4 in
@@ -188,7 +182,7 @@ split_element ns (FunctionDecl x formals body rest) i more h =
       cases = inr (x, formals, body, h.1.1, subst (λ (z : NodeId). Has ns z (nodes.FunctionDecl x formals h.1.1)) one h.1.7, refl);
     }
 
-pub no_element : (ns : List Node) (t : Elements) → AreElements ns t [] → t ≡ NoElement
+no_element : (ns : List Node) (t : Elements) → AreElements ns t [] → t ≡ NoElement
 no_element ns NoElement h = refl
 no_element ns (Statement s rest) h = absurd (let same = h.1.4 in cc)
 no_element ns (FunctionDecl x formals body rest) h = absurd (let same = h.1.5 in cc)
@@ -208,9 +202,6 @@ elements_first ns room i more h =
 pub record ElementsWalk (ns : List Node) (room : ℕ) (list : List NodeId) (k : ℕ) (R : Elements → Elements → Type 0) : Type 0 where
   pub there : ElementsThere ns room (drop k list)
   pub same : ComesTo (AreElements ns) R list (drop k list)
-
-pub elements_begin : (ns : List Node) (room : ℕ) (list : List NodeId) (R : Elements → Elements → Type 0) → ((t : Elements) → R t t) → ElementsThere ns room list → ElementsWalk ns room list 0 R
-elements_begin ns room list R r h = record { there = h; same = begin (AreElements ns) R list r }
 
 pub elements_here : (ns : List Node) (room : ℕ) (list : List NodeId) (k : ℕ) (R : Elements → Elements → Type 0) (d : NodeId) → k < length list → ElementsWalk ns room list k R → ElementThere ns room (get_or list k d)
 elements_here ns room list k R d lt walk = (elements_first ns room (get_or list k d) (drop (k + 1) list) (subst (ElementsThere ns room) (behind list k d lt) walk.there)).0

@@ -2,8 +2,8 @@
 use Rattle.std.specs.Prelude.{◌≡◌, ℕ, List, [], ◌++◌, Option, Some, None}
 use Rattle.std.proofs.Common.{sym, subst, ◌∙◌}
 use Rattle.std.proofs.lemmas.List.{append-nil}
+use Rattle.wjs_base.specs.declared.ids.NodeId.{NodeId}
 use Rattle.wjs_tree.specs.declared.node.Node.{Node}
-use Rattle.wjs_tree.specs.declared.node.NodeId.{NodeId}
 use Rattle.wjs_tree.specs.declared.node.Property.{Property as Pair}
 use Rattle.wjs_tree.specs.declared.node.Declarator.{Declarator}
 use Rattle.wjs_tree.specs.declared.node.ForInit.{ForInit}
@@ -155,6 +155,3 @@ mutual
 -- the nodes of two trees for which one node stands are the same
 pub same_use : (ns : List Node) (t u : Expr) (i : NodeId) (us vs : List ℕ) → Shows ns t i us → Shows ns u i vs → us ≡ vs
 same_use ns t u i us vs h g = one_use ns t i us h vs (parts ns u i vs g)
-
-pub same_stmt_use : (ns : List Node) (t u : Stmt) (i : NodeId) (us vs : List ℕ) → StmtShows ns t i us → StmtShows ns u i vs → us ≡ vs
-same_stmt_use ns t u i us vs h g = stmt_one_use ns t i us h vs (stmt_parts ns u i vs g)

@@ -3,8 +3,8 @@ use Rattle.std.specs.Prelude.{◌≡◌, ℕ, suc, ◌<◌, ◌≤◌, List, len
 use Rattle.std.proofs.Common.{sym, subst, arith}
 use Rattle.std.proofs.lemmas.Option.{slice_get_within}
 use Rattle.wjs_base.specs.declared.ids.TextId.{TextId}
+use Rattle.wjs_base.specs.declared.ids.NodeId.{NodeId}
 use Rattle.wjs_tree.specs.declared.node.Node.{Node}
-use Rattle.wjs_tree.specs.declared.node.NodeId.{NodeId}
 use Rattle.wjs_tree.specs.declared.node.Node.TheVariants as nodes
 use Rattle.wjs_tree.specs.declared.node.Clause.{Clause}
 use Rattle.wjs_tree.specs.declared.node.Handler.{Handler}
@@ -16,7 +16,7 @@ use Rattle.wjs_tree.specs.Shows.{Has}
 use Rattle.wjs_tree.specs.Forms.{IsPart, HasForm}
 use Rattle.wjs_tree.specs.There.{StmtThere, OptionThere, StmtsThere, ClausesThere, FormThere}
 use Rattle.wjs_tree.proofs.Forms.{form_of}
-use Rattle.wjs_tree.proofs.Walks.{ComesTo, begin, go_on}
+use Rattle.wjs_tree.proofs.Walks.{ComesTo, go_on}
 
 -- a node that stands for a statement is there
 pub within : (ns : List Node) (i : NodeId) (t : Stmt) → IsPart ns t i → i.0 < length ns
@@ -73,7 +73,7 @@ pub formed : (ns : List Node) (room : ℕ) (i : NodeId) (m n : Node) → Has ns 
 formed ns room i m n h e there = (there.0, subst (λ (z : Node). HasForm ns z there.0) e (form_of ns i m h there.0 there.1.0 there.1.1), there.2)
 
 -- a statement as high as another
-pub lower : (u v : Stmt) (room : ℕ) → u ≡ v → stmt_height u ≤ room → stmt_height v ≤ room
+lower : (u v : Stmt) (room : ℕ) → u ≡ v → stmt_height u ≤ room → stmt_height v ≤ room
 lower u v room e h = subst (λ (z : Stmt). stmt_height z ≤ room) e h
 
 pub block_low : (ns : List Node) (room : ℕ) (list : List NodeId) → FormThere ns room (nodes.Block list) → StmtsThere ns room list
@@ -129,9 +129,6 @@ try_low ns room p (Some h) (Some o) f =
 pub record StmtWalk (ns : List Node) (room : ℕ) (i j : NodeId) (R : Stmt → Stmt → Type 0) : Type 0 where
   pub there : StmtThere ns room j
   pub same : ComesTo (IsPart ns) R i j
-
-pub walk_begin : (ns : List Node) (room : ℕ) (i : NodeId) (R : Stmt → Stmt → Type 0) → ((t : Stmt) → R t t) → StmtThere ns room i → StmtWalk ns room i i R
-walk_begin ns room i R r h = record { there = h; same = begin (IsPart ns) R i r }
 
 pub walk_on : (ns : List Node) (room : ℕ) (i j x y z : NodeId) (m : Node) (Q R S : Stmt → Stmt → Type 0) → ((t u v : Stmt) → Q t u → R u v → S t v) → Has ns j m → m ≡ nodes.If x y (Some z)
     → ((e : Expr) (s u : Stmt) → IsPart ns s y → R (IfElse e s u) u) → StmtWalk ns (suc room) i j Q → StmtWalk ns (suc room) i z S

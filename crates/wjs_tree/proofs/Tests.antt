@@ -1,8 +1,8 @@
 -- The other facts that are kept beside nodes of expressions are those of the trees that they stand for.
 use Rattle.std.specs.Prelude.{◌≡◌, ℕ, min, List}
 use Rattle.std.proofs.Common.{ap, ◌∙◌}
+use Rattle.wjs_base.specs.declared.ids.NodeId.{NodeId}
 use Rattle.wjs_tree.specs.declared.node.Node.{Node}
-use Rattle.wjs_tree.specs.declared.node.NodeId.{NodeId}
 use Rattle.wjs_tree.specs.declared.facts.Facts.{Facts}
 use Rattle.wjs_tree.specs.Trees.{Expr, Name, Number, Text, This, ThisWorld, Null, Boolean, Paren, ArrayLit, ObjectLit, Function, Dot, At, Call, NewWith, NewBare, Postfix, Prefix, Binary, Cond, Assign, Comma}
 use Rattle.wjs_tree.specs.Levels.{level, is_target, starts_with_brace}

@@ -2,8 +2,8 @@
 use Rattle.std.specs.Prelude.{◌≡◌, ℕ, List, [], ◌∷◌, ◌++◌, Option, Some, None}
 use Rattle.std.proofs.Common.{sym, subst, refl}
 use Rattle.std.proofs.lemmas.List.{append-nil}
+use Rattle.wjs_base.specs.declared.ids.NodeId.{NodeId}
 use Rattle.wjs_tree.specs.declared.node.Node.{Node}
-use Rattle.wjs_tree.specs.declared.node.NodeId.{NodeId}
 use Rattle.wjs_tree.specs.declared.node.Node.TheVariants as nodes
 use Rattle.wjs_tree.specs.declared.node.Property.{Property as Pair}
 use Rattle.wjs_tree.specs.declared.node.Declarator.{Declarator}
@@ -100,7 +100,7 @@ abbrev pub ElementsUse : List Node → List NodeId → List ℕ → Type 0
 ElementsUse ns [] used = used ≡ []
 ElementsUse ns (a ∷ more) used = (rest : Elements) × (us vs : List ℕ) × (used ≡ us ++ vs) × ((node : Node) → Has ns a node → Uses ns node a us) × ElementsShow ns rest more vs
 
-pub same_node : (ns : List Node) (i : NodeId) (a b : Node) → Has ns i a → Has ns i b → a ≡ b
+same_node : (ns : List Node) (i : NodeId) (a b : Node) → Has ns i a → Has ns i b → a ≡ b
 same_node ns i a b p q = cc
 
 pub same_block : (ns : List Node) (i : NodeId) (a b : List NodeId) → Has ns i (nodes.Block a) → Has ns i (nodes.Block b) → a ≡ b

@@ -4,9 +4,6 @@
 pub record ComesTo {X T : Type 0} (P : T → X → Type 0) (R : T → T → Type 0) (x y : X) : Type 0 where
   pub each : (t : T) → P t x → (u : T) × P u y × R t u
 
-pub begin : {X T : Type 0} (P : T → X → Type 0) (R : T → T → Type 0) (x : X) → ((t : T) → R t t) → ComesTo P R x x
-begin P R x r = record { each = λ t h. (t, h, r t) }
-
 pub go_on : {X T : Type 0} (P : T → X → Type 0) (Q R S : T → T → Type 0) (x y z : X) → ((t u v : T) → Q t u → R u v → S t v) → ComesTo P Q x y → ComesTo P R y z → ComesTo P S x z
 go_on P Q R S x y z join a b = record {
   each = λ t h.

@@ -1,8 +1,8 @@
 -- Nodes that stand for trees of at most some height.
 use Rattle.std.specs.Prelude.{ℕ, suc, ◌≤◌, ◌⊎◌, List, Option, Some, None}
 use Rattle.wjs_base.specs.declared.ids.TextId.{TextId}
+use Rattle.wjs_base.specs.declared.ids.NodeId.{NodeId}
 use Rattle.wjs_tree.specs.declared.node.Node.{Node}
-use Rattle.wjs_tree.specs.declared.node.NodeId.{NodeId}
 use Rattle.wjs_tree.specs.declared.node.Clause.{Clause}
 use Rattle.wjs_tree.specs.declared.node.Node.TheVariants as nodes
 use Rattle.wjs_tree.specs.Trees.{Stmt, Stmts, Clauses, Elements}

@@ -5,7 +5,8 @@ ghost use Rattle.wjs_tree.specs.Children.{InitBelow, HandlerBelow};
 ghost use Rattle.wjs_tree.specs.Facts.{AreFacts, fact_at, highest, height_at, option_height, list_height, declarators_height, init_height};
 ghost use Rattle.wjs_tree.specs.Facts.{clause_height, handler_height, node_height, node_level, node_is_target, node_starts_with_brace, IsLow};
 
-use crate::node::{Clause, Declarator, ForInit, Handler, Node, NodeId, Property};
+use crate::node::{Clause, Declarator, ForInit, Handler, Node, Property};
+use wjs_base::NodeId;
 
 /// The level, the height and two tests of a node.
 #[derive(Clone, Copy)]

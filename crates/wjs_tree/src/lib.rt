@@ -13,11 +13,10 @@ mod tokens;
 
 pub use keys::Key;
 pub use laws::forms_are_known;
-pub use node::{
-    Clause, Declarator, End, ForInit, Handler, Node, NodeId, Property, PropertyKey, Spelt,
-};
+pub use node::{Clause, Declarator, End, ForInit, Handler, Node, Property, PropertyKey, Spelt};
 pub use nodes::{Nodes, Program};
 pub use operators::{AssignOperator, BinaryOperator, PrefixOperator, UpdateOperator};
 pub use sequence::Sequence;
 pub use signs::Sign;
 pub use tokens::{Tok, Token};
+pub use wjs_base::NodeId;

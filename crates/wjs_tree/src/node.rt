@@ -3,11 +3,7 @@
 use crate::keys::Key;
 use crate::operators::{AssignOperator, BinaryOperator, PrefixOperator, UpdateOperator};
 use crate::sequence::Sequence;
-use wjs_base::{TextId, Whole};
-
-/// The number of a node, counted from 0.
-#[derive(Clone, Copy, PartialEq, Eq)]
-pub struct NodeId(pub u64);
+use wjs_base::{NodeId, TextId, Whole};
 
 /// How a statement ends: by `;`, or by one that was inserted (section 7.9).
 #[derive(Clone, Copy)]

@@ -9,10 +9,10 @@ ghost use Rattle.wjs_tree.specs.Height.{height, stmt_height, program_height};
 ghost use Rattle.wjs_tree.specs.Shows.{Has, Shows, StmtShows, IsBody, Keeps};
 
 use crate::facts::{Facts, facts_of};
-use crate::node::{Node, NodeId};
+use crate::node::Node;
 use std::alloc::Global;
 use std::marker::Model;
-use wjs_base::OutOfMemory;
+use wjs_base::{NodeId, OutOfMemory};
 
 /// The nodes of trees, each child with a smaller number than its parent. Contracts see their list.
 #[derive(Drop)]

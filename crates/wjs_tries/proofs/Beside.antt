@@ -16,6 +16,7 @@ use Rattle.wjs_by_content.proofs.ArenaMaps.{object_found}
 use Rattle.wjs_model.specs.Outside.{beside}
 use Rattle.wjs_model.proofs.Beside.{get_beside, IsIn, created_beside}
 use Rattle.wjs_alone.specs.Alone.{without}
+use Rattle.wjs_tries.proofs.Owning.{same_other}
 
 -- ---- objects of no owner but others
 
@@ -77,19 +78,8 @@ module _ (a more : Arena) (q : ℕ) (x : Internals) (none : Others q a) (others 
 -- where objects were added that are an owner's, the others' are the same
 module _ (t : Table) (old new : Objects) (q : ℕ) (keeps : Keeps old new)
     (made : (o : ObjId) (e : Placed) → map.get old o ≡ None → map.get new o ≡ Some e → o.owner ≡ q) where
-  pub same_found : (o : ObjId) → ¬ (o.owner ≡ q) → map.get old o ≡ map.get new o
-  same_found o apart = by (map.get old o) refl
-    where
-      fresh : (r : Option Placed) → map.get old o ≡ None → map.get new o ≡ r → None ≡ r
-      fresh None e f = refl
-      fresh (Some x) e f = absurd (apart (made o x e f))
-
-      by : (r : Option Placed) → map.get old o ≡ r → r ≡ map.get new o
-      by None e = fresh (map.get new o) e refl
-      by (Some x) e = sym (keeps o x e)
-
   pub same_in : (o : ObjId) → ¬ (o.owner ≡ q) → map.get (arena_in t old) o ≡ map.get (arena_in t new) o
-  same_in o apart = object_found t old o ∙ ap (option_map (entry_in t)) (same_found o apart) ∙ sym (object_found t new o)
+  same_in o apart = object_found t old o ∙ ap (option_map (entry_in t)) (sym (same_other old new q keeps made o apart)) ∙ sym (object_found t new o)
 
   pub same_beside : (more : Arena) (o : ObjId) → ¬ (o.owner ≡ q) → map.get (beside (arena_in t old) more) o ≡ map.get (beside (arena_in t new) more) o
   same_beside more o apart = get_beside (arena_in t old) more o ∙ ap (λ (r : Option Entry). option_or r (map.get more o)) (same_in o apart)

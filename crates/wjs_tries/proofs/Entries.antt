@@ -12,7 +12,7 @@ use Rattle.wjs_meaning.specs.Builtins.{global_object, world_prototype}
 use Rattle.wjs_meaning.specs.Trees.{Tree}
 use Rattle.wjs_meaning.specs.WorldValues.{world_object_of}
 use Rattle.wjs_model.specs.declared.config.Config.{Config}
-use Rattle.wjs_model.specs.declared.unit.Unit.{Unit as Program}
+use Rattle.wjs_model.specs.declared.loaded.LoadedProgram.{LoadedProgram as Program}
 use Rattle.wjs_model.specs.Outside.{Outside, Admits, Knows, beside}
 use Rattle.wjs_model.specs.Configurations.{rest, seen, tells, state_in}
 use Rattle.wjs_model.specs.Units.{unit_in}

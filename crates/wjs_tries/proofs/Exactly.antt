@@ -6,12 +6,12 @@ use Rattle.wjs_base.specs.declared.ids.WorldId.{WorldId}
 use Rattle.wjs_base.specs.Text.{Table, Grows}
 use Rattle.wjs_store.specs.Meaning.{View, Worlds, unseen}
 use Rattle.wjs_store.specs.State.{World}
+use Rattle.wjs_arena.specs.Entries.{Objects, others_of}
 use Rattle.wjs_by_content.specs.Names.{content}
 use Rattle.wjs_by_content.specs.Renamed.{Knows}
-use Rattle.wjs_by_content.specs.Tables.{arena_in, KnowsArena}
+use Rattle.wjs_by_content.specs.Tables.{KnowsArena}
 use Rattle.wjs_by_content.specs.Telling.{names_of}
 use Rattle.wjs_by_content.proofs.ArenaGrowth.{arena_grows}
-use Rattle.wjs_heap.specs.Means.{parts}
 use Rattle.wjs_meaning.specs.Trees.{Tree}
 use Rattle.wjs_meaning.specs.Deeds.{St}
 use Rattle.wjs_meaning.specs.Programs.{Ending}
@@ -31,19 +31,22 @@ use Rattle.wjs_alone.specs.Marks.{marked, agrees}
 use Rattle.wjs_alone.specs.Named.{world_in}
 use Rattle.wjs_alone.proofs.NamedMarks.{marks_lem}
 use Rattle.wjs_alone.proofs.NamedChecks.{checks_lem}
+use Rattle.wjs_start.proofs.Beginning.{none_there}
 use Rattle.wjs_tries.specs.declared.common.Common.{Common}
 use Rattle.wjs_tries.specs.declared.common.Rested.{Rested}
 use Rattle.wjs_tries.specs.declared.turns.Came.{Came}
 use Rattle.wjs_tries.specs.declared.turns.Came.TheVariants as came
 use Rattle.wjs_tries.specs.Meant.{session_meaning}
 use Rattle.wjs_tries.specs.Views.{held_in, KnowsView}
-use Rattle.wjs_tries.specs.Turning.{IsLive, Shares, IsEnd, IsAtEnd, AgreesNow}
-use Rattle.wjs_tries.specs.Exact.{goes_on_after, run_of, marks_of, base_of, HasMarks, KnowsRest, CameAs, CameByCheck, EndsBy, IsExact}
-use Rattle.wjs_tries.proofs.OneWorld.{none_there}
+use Rattle.wjs_tries.specs.declared.outcome.Outcome.TheVariants as told
+use Rattle.wjs_tries.specs.Turning.{IsLive, Shares, IsEnd, IsAtEnd, AgreesNow, objects_left}
+use Rattle.wjs_tries.specs.Exact.{goes_on_after, run_of, marks_of, base_of, HasMarks, KnowsRest, KeepsObjects, CameAs, CameByCheck, EndsBy, IsExact}
 use Rattle.wjs_tries.proofs.Outers.{under_known, marked_is, checked_is}
+use Rattle.wjs_tries.proofs.Opens.{heap_common}
 use Rattle.wjs_tries.proofs.Overs.{held_grows}
+use Rattle.wjs_tries.proofs.Owning.{others_stay}
 use Rattle.wjs_tries.proofs.Rests.{common_walked}
-use Rattle.wjs_tries.proofs.Runs.{own_known, own_admitted, within, run_is, rests_is, over_is, objects_are}
+use Rattle.wjs_tries.proofs.Runs.{own_known, own_admitted, within, run_is, rests_is, over_is}
 use Rattle.wjs_tries.proofs.Soundly.{view_known}
 use Rattle.wjs_tries.proofs.Turned.{live, kept_now, number_is, first_stays}
 
@@ -128,10 +131,7 @@ module _ (trees : List Tree) (tree budget drawn steps took : ℕ) (old new : Con
       let b : n ≡ l.taken + took = h.1 in
       let M = marks_of session_meaning trees tree t old n in
       record {
-        objects =
-            (λ j. ((run_of session_meaning trees tree (s.texts j) old n).1).arena)
-            ∙ objects_are trees tree budget drawn steps took old new l w known
-            ∙ (λ j. arena_in (sym s.texts j) (sym s.arena_is j));
+        objects = s.arena_is ∙ others_stay session_meaning old new w.stays;
         came = (
           ap (λ (u : Table). goes_on_after budget n (run_of session_meaning trees tree u old n).0) s.texts ∙ h.0,
           omega (arith, a, b, left),
@@ -145,17 +145,21 @@ module _ (trees : List Tree) (tree budget drawn steps took : ℕ) (old new : Con
 
   -- ---- the try has ended; behind it texts may have been made
 
-  module _ (common : Common) (grows : Grows new.heap.texts common.texts) (arena : common.arena ≡ new.heap.arena) where
+  module _ (common : Common) (grows : Grows new.heap.texts common.texts) where
     own_later : held_in common.texts (session_meaning old.heap.store).own ≡ held_in new.heap.texts (session_meaning old.heap.store).own
     own_later = subst (λ (v : View). held_in common.texts v ≡ held_in new.heap.texts v) w.stays.own
         (held_grows t common.texts own grows (own_known trees tree budget drawn steps took old new l w known))
 
-    arena_before : KnowsArena new.heap.texts old.heap.arena
-    arena_before = (arena_grows old.heap.texts t w.stays.texts old.heap.arena (arena_known (parts session_meaning old.heap) l.sound.base.heap)).0
+    abbrev others : Objects
+    others = others_of old.heap.arena old.owner
+
+    arena_before : KnowsArena new.heap.texts (others_of old.heap.arena old.owner)
+    arena_before = (arena_grows old.heap.texts t w.stays.texts others
+        (arena_known _ (heap_common old.heap.texts others old.units.items (worlds_in old.heap.store.shared) drawn l.shared))).0
 
     run_later : run_of session_meaning trees tree common.texts old (min budget (l.taken + steps))
         ≡ run_of session_meaning trees tree new.heap.texts old (min budget (l.taken + steps))
-    run_later = λ i. alone trees tree old.owner (own_later i) ((arena_grows t common.texts grows old.heap.arena arena_before).1 i) n
+    run_later = λ i. alone trees tree old.owner (own_later i) ((arena_grows t common.texts grows others arena_before).1 i) n
 
     marks_later : marks_of session_meaning trees tree common.texts old (min budget (l.taken + steps))
         ≡ marks_of session_meaning trees tree new.heap.texts old (min budget (l.taken + steps))
@@ -180,13 +184,6 @@ module _ (trees : List Tree) (tree budget drawn steps took : ℕ) (old new : Con
         t own (own_admitted trees tree budget drawn steps took old new l w known)
         (own_known trees tree budget drawn steps took old new l w known) w.sound.base.told (first_copy F) first_known
 
-    objects_later : ((run_of session_meaning trees tree common.texts old (min budget (l.taken + steps))).1).arena ≡ arena_in common.texts common.arena
-    objects_later =
-        ap (λ (r : Ending × St). (r.1).arena) run_later
-        ∙ objects_are trees tree budget drawn steps took old new l w known
-        ∙ sym (arena_grows t common.texts grows new.heap.arena (arena_known (parts session_meaning new.heap) w.sound.base.heap)).1
-        ∙ ap (arena_in common.texts) (sym arena)
-
     ended_before : ¬ (new.state ≡ states.Running) → goes_on_after budget (min budget (l.taken + steps))
         (run_of session_meaning trees tree common.texts old (min budget (l.taken + steps))).0 ≡ false
     ended_before over = ap (λ (r : Ending × St). goes_on_after budget n r.0) run_later ∙ over_is trees tree budget drawn steps took old new l w known over
@@ -195,8 +192,17 @@ module _ (trees : List Tree) (tree budget drawn steps took : ℕ) (old new : Con
         → (session_meaning old.heap.store).own ≡ first_copy (worlds_in old.heap.store.shared)
     own_first h = sym w.stays.own ∙ owned_same (world_at F new.heap.store.world) (first_copy F) h ∙ first_stays old new l.sound.base w.sound.base w.stays
 
-    pub exact_over : ¬ (new.state ≡ states.Running) → (c : Came) → CameByCheck new c → IsExact session_meaning trees tree budget l.taken steps old common c
-    exact_over over c h = record { objects = objects_later; came = by c h }
+    -- what it leaves but where it is committed the others had
+    kept_objects : (c : Came) → common.arena ≡ objects_left new c → KeepsObjects old common c
+    kept_objects (came.Ends told.Committed output) is = tt
+    kept_objects (came.Ends (told.Threw shown) output) is = is ∙ others_stay session_meaning old new w.stays
+    kept_objects (came.Ends told.Spent output) is = is ∙ others_stay session_meaning old new w.stays
+    kept_objects (came.Rests rest) is = is ∙ others_stay session_meaning old new w.stays
+    kept_objects came.Drops is = is ∙ others_stay session_meaning old new w.stays
+
+    pub exact_over : ¬ (new.state ≡ states.Running) → (c : Came) → common.arena ≡ objects_left new c → CameByCheck new c
+        → IsExact session_meaning trees tree budget l.taken steps old common c
+    exact_over over c is h = record { objects = kept_objects c is; came = by c h }
       where
         by : (c : Came) → CameByCheck new c → CameAs session_meaning trees tree budget old (min budget (l.taken + steps)) common c
         by (came.Rests rest) h = absurd h

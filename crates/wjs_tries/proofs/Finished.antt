@@ -8,6 +8,7 @@ use Rattle.wjs_base.specs.Text.{Grows}
 use Rattle.wjs_base.proofs.TextLaws.{Grows-refl}
 use Rattle.wjs_store.specs.State.{same_world}
 use Rattle.wjs_store.specs.declared.store.Verdict.{Verdict}
+use Rattle.wjs_arena.specs.Entries.{others_of}
 use Rattle.wjs_meaning.specs.Trees.{Tree}
 use Rattle.wjs_model.specs.declared.config.Config.{Config}
 use Rattle.wjs_model.specs.declared.config.State.{State}
@@ -36,16 +37,17 @@ use Rattle.wjs_tries.specs.Turning.{common_of, IsLive, IsOver, IsTurned, EndsAlo
 use Rattle.wjs_tries.proofs.Hidings.{hidden_same, left_apart, committed_apart}
 use Rattle.wjs_tries.proofs.Overs.{over_walked, committed_alone, spent_alone, threw_alone}
 use Rattle.wjs_tries.proofs.GivenUp.{not_both, first_given, texts_given, passes_given, common_given}
-use Rattle.wjs_tries.proofs.Turned.{live, kept_now, number_is, common_after, first_stays, common_turned, passes_turned, passes_then}
+use Rattle.wjs_tries.proofs.Owning.{others_keep, others_made}
+use Rattle.wjs_tries.proofs.Turned.{live, kept_now, number_is, common_after, first_stays, shared_turned, passes_turned, passes_then}
 
 -- what a configuration shares is shared as it is
-pub shares_itself : (c : Config Session) → Base session_meaning c → Shares c (common_of c)
+shares_itself : (c : Config Session) → Base session_meaning c → Shares c (common_of c)
 shares_itself c base = record { texts = refl; arena_is = refl; units = refl; worlds = refl; works = (c.heap.store.works (live c base)).0 }
 
 module _ (c : Config Session) (sound : Sound session_meaning c) where
   -- a dropped try
   pub dropped : (common : Common) → GivesUp c common → (trees : List Tree) (tree budget drawn : ℕ) → c.owner ≤ drawn
-      → IsCommon c.heap.texts c.heap.arena c.units.items (worlds_in c.heap.store.shared) drawn
+      → IsCommon c.heap.texts (others_of c.heap.arena c.owner) c.units.items (worlds_in c.heap.store.shared) drawn
       → IsTurned session_meaning trees tree budget drawn c common came.Drops
   dropped common s trees tree budget drawn within h = record {
     leaves = passes_given c sound.base common s;
@@ -65,7 +67,7 @@ module _ (c : Config Session) (sound : Sound session_meaning c) where
     turned = λ trees tree budget drawn over agrees. record {
       leaves = passes_given c sound.base common s;
       works = s.works;
-      is_common = common_given c sound.base common s drawn over.owner over.common;
+      is_common = common_given c sound.base common s drawn over.owner over.shared;
       came = subst (λ l. EndsAlone session_meaning trees tree budget drawn c.owner
           (held_in common.texts (first_copy (worlds_in c.heap.store.shared))) common told.Spent l) (sym none)
           (spent_alone trees tree budget drawn c over agrees common (texts_given c sound.base common s) s.arena_is
@@ -80,14 +82,15 @@ module _ (c : Config Session) (sound : Sound session_meaning c) where
   threw value bytes next common output is shows left s list none =
       let first : first_copy (worlds_in common.shared) ≡ first_copy (worlds_in c.heap.store.shared) =
       first_given next left.base common s ∙ first_stays c next sound.base left.base left.stays in
+      let others : common.arena ≡ others_of c.heap.arena c.owner = s.arena_is ∙ (λ i. others_of (left.objects i) (left.stays.owner i)) in
       record {
         ends = tt;
         texts = subst (λ t. Grows c.heap.texts t) (sym s.texts) left.stays.texts;
-        arena_is = s.arena_is ∙ left.objects;
+        arena_is = others;
         apart = λ agrees. record {
           list = list ∙ left.stays.apart;
-          hidden = λ u a h. hidden_same c.heap.arena common.arena (first_copy (worlds_in c.heap.store.shared)) (first_copy (worlds_in common.shared)) u
-              (s.arena_is ∙ left.objects) first h;
+          hidden = λ u a h. hidden_same (others_of c.heap.arena c.owner) common.arena (first_copy (worlds_in c.heap.store.shared))
+              (first_copy (worlds_in common.shared)) u others first h;
         };
         turned = λ trees tree budget drawn over agrees. record {
           leaves = passes_then c.owner (common_of c) (common_of next) common
@@ -95,11 +98,11 @@ module _ (c : Config Session) (sound : Sound session_meaning c) where
               (subst (λ q. Passes q (common_of next) common) left.stays.owner (passes_given next left.base common s));
           works = s.works;
           is_common = common_given next left.base common s drawn (subst (λ k. k ≤ drawn) (sym left.stays.owner) over.owner)
-              (common_turned c next sound.base left.base left.stays drawn over.owner over.common);
+              (shared_turned c next sound.base left.base left.stays drawn over.owner over.shared);
           came = subst (λ l. EndsAlone session_meaning trees tree budget drawn c.owner (held_in common.texts (first_copy (worlds_in c.heap.store.shared)))
               common (told.Threw bytes) l) (sym none)
               (threw_alone trees tree budget drawn c over agrees common (subst (λ t. Grows c.heap.texts t) (sym s.texts) left.stays.texts)
-              (s.arena_is ∙ left.objects) first value bytes is shows);
+              others first value bytes is shows);
         };
       }
 
@@ -123,8 +126,8 @@ module _ (c : Config Session) (sound : Sound session_meaning c) where
             record {
               leaves = record {
                 texts = Grows-refl c.heap.texts;
-                objects = λ o e at. at;
-                made = λ o e none at. not_both c.heap.arena o e (o.owner ≡ c.owner) none at;
+                objects = others_keep c.heap.arena c.owner;
+                made = others_made c.heap.arena c.owner;
                 units = refl;
                 first = left.first;
                 returns = λ i e child. left.returns i (ap (same_world i) (number_is c sound.base) ∙ e) child;

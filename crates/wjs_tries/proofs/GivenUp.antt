@@ -7,7 +7,7 @@ use Rattle.wjs_base.specs.Text.{Grows}
 use Rattle.wjs_base.proofs.TextLaws.{Grows-refl}
 use Rattle.wjs_store.specs.State.{same_world}
 use Rattle.wjs_store.specs.Meaning.{Worlds}
-use Rattle.wjs_arena.specs.Entries.{Objects, Entry, Keeps}
+use Rattle.wjs_arena.specs.Entries.{Objects, Entry, Keeps, others_of}
 use Rattle.wjs_model.specs.declared.config.Config.{Config}
 use Rattle.wjs_model.specs.Soundness.{Base}
 use Rattle.wjs_session.specs.declared.session.Session.{Session}
@@ -21,7 +21,7 @@ use Rattle.wjs_tries.specs.Common.{IsCommon}
 use Rattle.wjs_tries.specs.Meant.{session_meaning}
 use Rattle.wjs_tries.specs.Passing.{Passes}
 use Rattle.wjs_tries.specs.Turning.{common_of, GivesUp}
-use Rattle.wjs_tries.proofs.Turned.{kept_now, number_is, common_after}
+use Rattle.wjs_tries.proofs.Turned.{kept_now, number_is, common_moved}
 
 pub not_both : (m : Objects) (o : ObjId) (e : Entry) (P : Type 0) → map.get m o ≡ None → map.get m o ≡ Some e → P
 not_both m o e P none at = let h : None ≡ Some e = sym none ∙ at in absurd (cc)
@@ -48,20 +48,19 @@ module _ (c : Config Session) (base : Base session_meaning c) (common : Common) 
   pub passes_given : Passes c.owner (common_of c) common
   passes_given = record {
     texts = texts_given;
-    objects = subst (λ m. Keeps c.heap.arena m) (sym s.arena_is) (λ o e at. at);
-    made = λ o e none at. not_both c.heap.arena o e (o.owner ≡ c.owner) none (ap (λ (m : Objects). map.get m o) (sym s.arena_is) ∙ at);
+    objects = subst (λ m. Keeps (others_of c.heap.arena c.owner) m) (sym s.arena_is) (λ o e at. at);
+    made = λ o e none at. not_both (others_of c.heap.arena c.owner) o e (o.owner ≡ c.owner) none (ap (λ (m : Objects). map.get m o) (sym s.arena_is) ∙ at);
     units = s.units;
     first = (left.0).first;
     returns = λ i e child. (left.0).returns i (ap (same_world i) (number_is c base) ∙ e) child;
   }
 
-  pub common_given : (drawn : ℕ) → c.owner ≤ drawn → IsCommon c.heap.texts c.heap.arena c.units.items (worlds_in c.heap.store.shared) drawn
-      → IsCommon common.texts common.arena common.units.items (worlds_in common.shared) drawn
+  pub common_given : (drawn : ℕ) → c.owner ≤ drawn → IsCommon c.heap.texts (others_of c.heap.arena c.owner) c.units.items
+      (worlds_in c.heap.store.shared) drawn → IsCommon common.texts common.arena common.units.items (worlds_in common.shared) drawn
   common_given drawn within h =
-      let now = common_after session_meaning c base c.heap.texts c.heap.arena c.units.items F F' c.heap.store.world c.owner drawn h within
-      (λ o e none at. not_both c.heap.arena o e (o.owner ≡ c.owner) none at) (overlay_reached common.shared s.works) (left.0).first (left.0).there
-      (ap (λ (z : WorldId). z.owner) (number_is c base))
-      (λ k v at. h.slots k v (ap (λ m. map.get m k) (sym first_given) ∙ at)) in
+      let now = common_moved c.heap.texts (others_of c.heap.arena c.owner) c.units.items F F' c.heap.store.world drawn h
+      (subst (λ k. k ≤ drawn) (sym (ap (λ (z : WorldId). z.owner) (number_is c base))) within)
+      (overlay_reached common.shared s.works) (left.0).first (left.0).there first_given in
       subst (λ us. IsCommon common.texts common.arena us.items F' drawn) (sym s.units) (
       subst (λ m. IsCommon common.texts m c.units.items F' drawn) (sym s.arena_is) (
-      subst (λ t. IsCommon t c.heap.arena c.units.items F' drawn) (sym s.texts) now))
+      subst (λ t. IsCommon t (others_of c.heap.arena c.owner) c.units.items F' drawn) (sym s.texts) now))

@@ -10,6 +10,7 @@ use Rattle.wjs_base.specs.declared.values.Value.{Value}
 use Rattle.wjs_base.specs.Same.{same_value}
 use Rattle.wjs_base.specs.Text.{Table}
 use Rattle.wjs_base.proofs.Booleans.{by_bool}
+use Rattle.wjs_base.proofs.Options.{none_of}
 use Rattle.wjs_store.specs.Naming.{plain}
 use Rattle.wjs_store.specs.Meaning.{View, Worlds}
 use Rattle.wjs_store.specs.State.{World, find_world, has_world, content_at, has_row, is_touched, same_content}
@@ -30,12 +31,8 @@ filled_at w o G d s = ap (option_and_then (λ (y : World plain). map.get y.copy 
     by None = refl
     by (Some y) = get_filled w y.copy o s
 
-none_of : {A : Type 0} (o : Option A) → is_some o ≡ false → o ≡ None
-none_of None e = refl
-none_of (Some a) e = absurd (cc)
-
 -- where a session has touched nothing it takes the first world to hold what that holds
-pub own_untouched : (x : World plain) (base : View) (s : Slot) → is_touched x s ≡ false → map.get (owned x base) s ≡ map.get base s
+own_untouched : (x : World plain) (base : View) (s : Slot) → is_touched x s ≡ false → map.get (owned x base) s ≡ map.get base s
 own_untouched x base s t =
     let parts = or_parts (has_row x s) (map.contains_key x.closed s.object) t in
     let rows = or_parts (map.contains_key x.first s) (map.contains_key x.written s) parts.0 in

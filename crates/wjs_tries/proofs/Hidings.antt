@@ -1,12 +1,13 @@
 -- What is listed as kept apart and named by none stays so over a turn.
-use Rattle.std.proofs.Common.{◌≡◌, ℕ, List, [], refl, sym, ap, ◌∙◌, subst, set, IsTrue}
+use Rattle.std.proofs.Common.{◌≡◌, ℕ, Bool, true, false, not, List, [], refl, sym, ap, ◌∙◌, subst, set, IsTrue}
 use Rattle.std.specs.Prelude.{All, Result, Ok, Err, IfOk}
 use Rattle.std.specs.FinMap as map
 use Rattle.wjs_base.specs.declared.ids.OutOfMemory.{OutOfMemory}
 use Rattle.wjs_base.specs.declared.values.Slot.{Slot}
 use Rattle.wjs_store.specs.State.{content_at}
 use Rattle.wjs_store.specs.Meaning.{Meaning, View, worlds}
-use Rattle.wjs_arena.specs.Entries.{Objects}
+use Rattle.wjs_arena.specs.Entries.{Objects, others_of}
+use Rattle.wjs_arena.proofs.TakenOut.{others_found, others_there}
 use Rattle.wjs_meaning.specs.Trees.{Tree}
 use Rattle.wjs_model.specs.declared.config.Config.{Config}
 use Rattle.wjs_model.specs.Apart.{is_apart}
@@ -31,7 +32,7 @@ use Rattle.wjs_tries.proofs.Turned.{first_stays}
 
 -- ---- lists
 
-pub none_listed : (us : List ℕ) → us ≡ [] → (u : ℕ) → ¬ (IsTrue (is_apart us u))
+none_listed : (us : List ℕ) → us ≡ [] → (u : ℕ) → ¬ (IsTrue (is_apart us u))
 none_listed us none u h = let k : IsTrue (is_apart [] u) = subst (λ l. IsTrue (is_apart l u)) none h in absurd (cc)
 
 -- with none kept apart it is as sound
@@ -56,29 +57,35 @@ trying_with trees tree budget taken c us t = record {
 pub hidden_same : (arena arena' : Objects) (held held' : View) (u : ℕ) → arena' ≡ arena → held' ≡ held → Hidden arena held u → Hidden arena' held' u
 hidden_same arena arena' held held' u a e h = subst (λ (m : Objects). Hidden m held' u) (sym a) (subst (λ (m : View). Hidden arena m u) (sym e) h)
 
-pub hidden_shares : (c : Config Session) (common : Common) → Shares c common → (u : ℕ) → HiddenIn c u → IsHidden common u
-hidden_shares c common s u h = hidden_same c.heap.arena common.arena (first_copy (worlds_in c.heap.store.shared))
+hidden_shares : (c : Config Session) (common : Common) → Shares c common → (u : ℕ) → HiddenIn c u → IsHidden common u
+hidden_shares c common s u h = hidden_same (others_of c.heap.arena c.owner) common.arena (first_copy (worlds_in c.heap.store.shared))
     (first_copy (worlds_in common.shared)) u s.arena_is (ap first_copy s.worlds) h
 
 -- of a sound configuration, whose first world and objects name none of it, it is kept apart
-pub kept_listed : (c : Config Session) (u : ℕ) → Sound session_meaning c → IsTrue (is_apart c.apart.items u) → HiddenIn c u → KeptApart session_meaning c u
-kept_listed c u sound a h = keeps_apart c u a session_meaning sound (λ o e at listed other. h.objects o e at other)
+kept_listed : (c : Config Session) (u : ℕ) → Sound session_meaning c → IsTrue (is_apart c.apart.items u) → HiddenIn c u → KeptApart session_meaning c u
+kept_listed c u sound a h = keeps_apart c u a session_meaning sound (λ o e at listed other.
+    let away : ¬ (o.owner ≡ c.owner) = λ is. both (is_apart c.apart.items c.owner) (subst (λ q. IsTrue (is_apart c.apart.items q)) is listed) sound.base.own in
+    h.objects o e (others_found c.heap.arena c.owner o away ∙ at) other)
+  where
+    both : (b : Bool) → b ≡ true → not b ≡ true → ⊥
+    both true h k = cc
+    both false h k = cc
 
 -- ---- a turn
 
 module _ (old new : Config Session) (sound : Sound session_meaning old) (stays : Stays session_meaning old new) (sound' : Sound session_meaning new) (u : ℕ)
     (a : IsTrue (is_apart old.apart.items u)) (h : HiddenIn old u) where
-  pub kept_walked : KeptApart session_meaning new u
+  kept_walked : KeptApart session_meaning new u
   kept_walked = stays_apart session_meaning old new u sound stays (kept_listed old u sound a h) sound' a
 
-  pub hidden_walked : HiddenIn new u
+  hidden_walked : HiddenIn new u
   hidden_walked = record {
     slots = λ s v at. h.slots s v (ap (λ (m : View). map.get m s) (sym (first_stays old new sound.base sound'.base stays)) ∙ at);
-    objects = kept_walked.objects;
+    objects = λ o e at other. kept_walked.objects o e (others_there new.heap.arena new.owner o e at).1 other;
   }
 
 -- a try that rests is unaware of what is kept apart from it
-pub unaware_rests : (new : Config Session) (common : Common) (rest : Rested) (u : ℕ)
+unaware_rests : (new : Config Session) (common : Common) (rest : Rested) (u : ℕ)
     → ((us : Listed) → resting us common rest ≡ record (meant session_meaning new) { apart = us }) → KeptApart session_meaning new u → Unaware common rest u
 unaware_rests new common rest u same k = record {
   slots = λ i s v at. k.slots i s v (ap (λ (d : Config Meaning). content_at (worlds d.heap.store) i s) (sym (same new.apart)) ∙ at);
@@ -121,8 +128,8 @@ module _ (place : ℕ) (old new : Config Session) (sound : Sound session_meaning
 pub left_apart : (c : Config Session) (common : Common) → Base session_meaning c → GivesUp c common → common.apart ≡ c.apart → EndsApart c common
 left_apart c common base s list = record {
   list = list;
-  hidden = λ u a h. hidden_same c.heap.arena common.arena (first_copy (worlds_in c.heap.store.shared)) (first_copy (worlds_in common.shared)) u
-      s.arena_is (first_given c base common s) h;
+  hidden = λ u a h. hidden_same (others_of c.heap.arena c.owner) common.arena (first_copy (worlds_in c.heap.store.shared))
+      (first_copy (worlds_in common.shared)) u s.arena_is (first_given c base common s) h;
 }
 
 -- what the world of a session held the first world holds now
@@ -133,7 +140,7 @@ committed_apart c shared sound holds = record {
   list = refl;
   hidden = λ u a h.
       let k = kept_listed c u sound a h in
-      record { slots = λ s v at. k.slots c.heap.store.world s v (sym (holds s) ∙ at); objects = h.objects };
+      record { slots = λ s v at. k.slots c.heap.store.world s v (sym (holds s) ∙ at); objects = k.objects };
 }
 
 -- an end that was answered

@@ -2,6 +2,7 @@
 use Rattle.std.proofs.Common.{◌≡◌, ℕ, ◌+◌, ◌-◌, ◌≤◌, ◌<◌, false, ◌⊎◌, inl, inr, refl, sym, ap, ◌∙◌, arith, List}
 use Rattle.std.specs.Prelude.{nat_lt}
 use Rattle.std.proofs.lemmas.Bool.{true≢false, lt-ltb, cases_lt}
+use Rattle.wjs_arena.specs.Entries.{others_of}
 use Rattle.wjs_by_content.specs.Objects.{Arena}
 use Rattle.wjs_by_content.specs.Tables.{arena_in}
 use Rattle.wjs_meaning.specs.Trees.{Tree}
@@ -28,7 +29,7 @@ module _ (trees : List Tree) (tree owner : ℕ) (copy : Copy) (arena : Arena) (b
       let sum : budget ≡ n + (budget - n) = omega (arith, le) in
       ap (alone trees tree owner copy arena) sum ∙ with_more trees tree owner copy arena n (budget - n) h
 
-  pub whole_run : goes_on_after budget n (alone trees tree owner copy arena n).0 ≡ false
+  whole_run : goes_on_after budget n (alone trees tree owner copy arena n).0 ≡ false
       → alone trees tree owner copy arena budget ≡ alone trees tree owner copy arena n
   whole_run h = by (alone trees tree owner copy arena n).0 refl
     where
@@ -55,7 +56,8 @@ pub last_run : (trees : List Tree) (tree budget n : ℕ) (old : Config Session) 
     → goes_on_after budget n (run_of session_meaning trees tree common.texts old n).0 ≡ false
     → alone trees tree old.owner before (arena_in common.texts common.arena) budget ≡ run_of session_meaning trees tree common.texts old n
 last_run trees tree budget n old common before le passes own holds over =
-    sym (left_out_lem trees tree old.owner before (arena_in common.texts old.heap.arena) (arena_in common.texts common.arena) budget
-    (same_in common.texts old.heap.arena common.arena old.owner passes.objects passes.made))
-    ∙ (λ i. alone trees tree old.owner (sym (ap (held_in common.texts) own ∙ holds) i) (arena_in common.texts old.heap.arena) budget)
-    ∙ whole_run trees tree old.owner (held_in common.texts (session_meaning old.heap.store).own) (arena_in common.texts old.heap.arena) budget n le over
+    sym (left_out_lem trees tree old.owner before (arena_in common.texts (others_of old.heap.arena old.owner)) (arena_in common.texts common.arena) budget
+    (same_in common.texts (others_of old.heap.arena old.owner) common.arena old.owner passes.objects passes.made))
+    ∙ (λ i. alone trees tree old.owner (sym (ap (held_in common.texts) own ∙ holds) i) (arena_in common.texts (others_of old.heap.arena old.owner)) budget)
+    ∙ whole_run trees tree old.owner (held_in common.texts (session_meaning old.heap.store).own) (arena_in common.texts (others_of old.heap.arena old.owner))
+    budget n le over

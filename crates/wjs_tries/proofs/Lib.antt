@@ -11,6 +11,7 @@ pub mod Hidings
 pub mod Entries
 pub mod Walked
 pub mod Kept
+pub mod Owning
 pub mod Soundly
 pub mod Grown
 pub mod Turned
@@ -19,4 +20,5 @@ pub mod Rests
 pub mod Opens
 pub mod Overs
 pub mod Finished
+pub mod Joined
 pub mod Passed

@@ -10,15 +10,16 @@ use Rattle.wjs_base.specs.declared.ids.WorldId.{WorldId}
 use Rattle.wjs_base.specs.declared.values.Slot.{Slot}
 use Rattle.wjs_base.specs.declared.values.Value.{Value}
 use Rattle.wjs_base.specs.Text.{Table, Grows}
+use Rattle.wjs_base.proofs.Options.{none_there}
 use Rattle.wjs_base.proofs.TextLaws.{Grows-refl}
 use Rattle.wjs_store.specs.Naming.{plain}
 use Rattle.wjs_store.specs.State.{World, find_world, has_world, content_at, same_world}
 use Rattle.wjs_store.specs.Shown.{first_of}
 use Rattle.wjs_store.specs.Reached.{IsReached}
-use Rattle.wjs_store.specs.Meaning.{Meaning, View, Worlds, worlds}
+use Rattle.wjs_store.specs.Meaning.{Meaning, Worlds, worlds}
 use Rattle.wjs_store.proofs.Writes.{world_is, same_self}
 use Rattle.wjs_arena.specs.Entries as numbered
-use Rattle.wjs_arena.specs.Entries.{Objects, Entry, Keeps, has}
+use Rattle.wjs_arena.specs.Entries.{Objects, Entry, Keeps, has, others_of}
 use Rattle.wjs_by_content.specs.Worlds.{KnowsWorlds}
 use Rattle.wjs_heap.specs.Heap.{IsHeap, KnowsTold}
 use Rattle.wjs_heap.specs.Means.{parts}
@@ -26,12 +27,12 @@ use Rattle.wjs_meaning.specs.Builtins.{builtin}
 use Rattle.wjs_meaning.specs.declared.builtin.Builtin.{Builtin}
 use Rattle.wjs_meaning.specs.declared.builtin.Builtin.TheVariants as first
 use Rattle.wjs_model.specs.declared.config.Config.{Config}
-use Rattle.wjs_model.specs.declared.unit.Unit.{Unit as Program}
+use Rattle.wjs_model.specs.declared.loaded.LoadedProgram.{LoadedProgram as Program}
 use Rattle.wjs_model.specs.declared.config.State.TheVariants as states
 use Rattle.wjs_model.specs.Apart.{is_apart}
 use Rattle.wjs_model.specs.Others.{OtherFrame, OtherState, KeptApart}
 use Rattle.wjs_model.specs.Soundness.{HasObject, HasWorld, HasThrown, IsStacked, Base, Sound}
-use Rattle.wjs_model.proofs.Others.{keeps_apart, stays_apart, sound_listed}
+use Rattle.wjs_model.proofs.Others.{sound_listed}
 use Rattle.wjs_parts.specs.Entering.{Enters}
 use Rattle.wjs_session.specs.declared.session.Session.{Session}
 use Rattle.wjs_session.specs.Session.{holding, first_copy, around_of}
@@ -51,7 +52,9 @@ use Rattle.wjs_tries.specs.Turning.{HiddenIn, Begun}
 use Rattle.wjs_tries.proofs.Entries.{enter_is_alone}
 use Rattle.wjs_tries.proofs.OneWorld.{one_known}
 use Rattle.wjs_tries.proofs.Soundly.{view_known, slot_later}
-use Rattle.wjs_tries.proofs.Turned.{kept_now, number_is, common_after}
+use Rattle.wjs_tries.proofs.Hidings.{hidden_same}
+use Rattle.wjs_tries.proofs.Owning.{others_begun}
+use Rattle.wjs_tries.proofs.Turned.{kept_now, number_is, common_after, common_moved}
 
 -- ---- what a session means that begins
 
@@ -256,28 +259,33 @@ module _ (shared : Common) (q drawn part budget : ℕ) (old new : Config Session
   none : (o : ObjId) → IsTrue (has shared.arena o) → ¬ (o.owner ≡ q)
   none o h is = let le : o.owner ≤ drawn = known.object_owners o h in absurd (omega (arith, le, is, later))
 
-  sound_before : Sound session_meaning old
-  sound_before = opened_listed shared q drawn old opens known later listed may
+  -- the others' objects are those that are shared
+  others_are : others_of new.heap.arena new.owner ≡ shared.arena
+  others_are = ap (others_of new.heap.arena) owner_is ∙ others_begun shared.arena new.heap.arena q keeps made none
 
   -- nothing names an object of a listed owner still
-  still_hidden : (u : ℕ) → IsTrue (is_apart shared.apart.items u) → IsHidden shared u → HiddenIn new u
-  still_hidden u a h =
-      let was : IsTrue (is_apart old.apart.items u) = subst (λ v. IsTrue (is_apart v.items u)) (sym listed) a in
-      let kept = keeps_apart old u was session_meaning sound_before
-      (λ o x at l k. h.objects o x (ap (λ (m : Objects). map.get m o) (sym opens.arena_is) ∙ at) k) in
-      let now = stays_apart session_meaning old new u sound_before e.stays kept e.sound was in
-      record { slots = λ s v at. h.slots s v (ap (λ (m : View). map.get m s) (sym both.1) ∙ at); objects = now.objects }
+  still_hidden : (u : ℕ) → IsHidden shared u → HiddenIn new u
+  still_hidden u h = hidden_same shared.arena (others_of new.heap.arena new.owner) (first_copy F) (first_copy F') u others_are both.1 h
+
+  shared_now : IsCommon new.heap.texts (others_of new.heap.arena new.owner) new.units.items F' q
+  shared_now =
+      subst (λ us. IsCommon new.heap.texts (others_of new.heap.arena new.owner) us.items F' q) (sym (e.stays.units ∙ units)) (
+      subst (λ m. IsCommon new.heap.texts m shared.units.items F' q) (sym others_are) (
+      subst (λ t. IsCommon t shared.arena shared.units.items F' q) (sym (e.texts ∙ opens.texts))
+      (common_moved shared.texts shared.arena shared.units.items F F' (world_of q) q known_later (let le : q ≤ q = omega arith in le)
+      (kept_now new e.sound.base).shared (both.0).first (both.0).there both.1)))
 
   pub begun : Begun session_meaning q part budget shared new
   begun = record {
     leaves = record {
       texts = grows;
-      objects = keeps;
-      made = made;
+      objects = λ o x at. ap (λ (m : Objects). map.get m o) others_are ∙ at;
+      made = λ o x none at. absurd (none_there (map.get shared.arena o) x none (ap (λ (m : Objects). map.get m o) (sym others_are) ∙ at));
       units = e.stays.units ∙ units;
       first = (both.0).first;
       returns = (both.0).returns;
     };
+    others = others_are;
     owner_is = owner_is;
     left = e.left;
     holds = both.1;
@@ -296,9 +304,10 @@ module _ (shared : Common) (q drawn part budget : ℕ) (old new : Config Session
           (kept_now new e.sound.base).shared (both.0).first (both.0).there refl
           (λ s v at. slot_later shared.texts new.heap.texts grows shared.arena new.heap.arena keeps s v
           (known.slots s v (ap (λ m. map.get m s) (sym both.1) ∙ at)));
+      shared = shared_now;
     };
     apart = e.stays.apart ∙ listed;
-    hides = still_hidden;
+    hides = λ u a h. still_hidden u h;
   }
 
 -- a later owner has no world

@@ -25,7 +25,8 @@ use Rattle.wjs_alone.specs.Alone.{world_of}
 use Rattle.wjs_alone.specs.Marks.{child, marked, agrees}
 use Rattle.wjs_alone.specs.Views.{held_in, KnowsView}
 use Rattle.wjs_alone.specs.Named.{world_in, MarksByContent, ChecksByContent, AlongByContent}
-use Rattle.wjs_tries.proofs.OneWorld.{empty_in, none_there, one_in, one_known}
+use Rattle.wjs_start.proofs.Beginning.{empty_in, none_there}
+use Rattle.wjs_tries.proofs.OneWorld.{one_in, one_known}
 
 -- what is told by content, without its answers
 acts_told : (t : Table) (told : List (PlainAct × PlainReply)) → each (λ (e : Told). e.0) (each (told_in t) told) ≡ each (act_in t) (actions_of told)

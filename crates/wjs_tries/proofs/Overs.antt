@@ -13,6 +13,7 @@ use Rattle.wjs_base.proofs.TextLaws.{Grows-refl}
 use Rattle.wjs_store.specs.Naming.{plain}
 use Rattle.wjs_store.specs.State.{World, State, find_world, has_world, content_at}
 use Rattle.wjs_store.specs.Meaning.{View, Worlds, worlds}
+use Rattle.wjs_arena.specs.Entries.{others_of}
 use Rattle.wjs_by_content.specs.Names.{content}
 use Rattle.wjs_by_content.specs.Objects.{Entry}
 use Rattle.wjs_by_content.specs.Renamed.{named_world}
@@ -42,7 +43,8 @@ use Rattle.wjs_session.specs.Maps.{same_view}
 use Rattle.wjs_session.proofs.EndLaws.{owned_same}
 use Rattle.wjs_session.proofs.StoreLaws.{has_full}
 use Rattle.wjs_session.proofs.Worlds.{first_there}
-use Rattle.wjs_alone.specs.Alone.{Copy, world_of, alone, outcome_of, copy_in, copy_after, printed}
+use Rattle.wjs_alone.specs.Alone.{Copy, world_of, alone, outcome_of, copy_in, copy_after, objects_after, printed}
+use Rattle.wjs_alone.proofs.Objects.{left_out_lem}
 use Rattle.wjs_tries.specs.declared.outcome.Outcome.TheVariants as told
 use Rattle.wjs_tries.specs.declared.common.Common.{Common}
 use Rattle.wjs_tries.specs.Meant.{session_meaning}
@@ -50,7 +52,8 @@ use Rattle.wjs_tries.specs.Views.{held_in, KnowsView}
 use Rattle.wjs_tries.specs.Trying.{ending_in}
 use Rattle.wjs_tries.specs.Turning.{Tells, IsLive, IsOver, AgreesNow, EndsAlone, first_in}
 use Rattle.wjs_tries.proofs.OneWorld.{one_in, one_known}
-use Rattle.wjs_tries.proofs.Rests.{common_walked}
+use Rattle.wjs_tries.proofs.Owning.{others_in_same}
+use Rattle.wjs_tries.proofs.Rests.{common_walked, shared_walked}
 use Rattle.wjs_tries.proofs.Soundly.{view_known}
 use Rattle.wjs_tries.proofs.Turned.{live, kept_now, number_is}
 use Rattle.wjs_tries.proofs.Walked.{trees_stay, knows_still, over_alone}
@@ -73,6 +76,7 @@ over_walked trees tree budget drawn steps took old new l w over =
       some = subst (λ k. 1 ≤ k) (sym owner) l.some;
       owner = subst (λ k. k ≤ drawn) (sym owner) l.owner;
       common = common_walked trees tree budget drawn steps took old new l w;
+      shared = shared_walked trees tree budget drawn steps took old new l w;
     }
 
 -- ---- what a world holds, by content
@@ -110,7 +114,7 @@ module _ (trees : List Tree) (tree budget drawn : ℕ) (c : Config Session) (is 
   F = worlds_in c.heap.store.shared
 
   -- what the first world holds is the try's own view
-  pub own_is : owned (world_at F c.heap.store.world) (first_copy F) ≡ first_copy F
+  own_is : owned (world_at F c.heap.store.world) (first_copy F) ≡ first_copy F
   own_is = owned_same (world_at F c.heap.store.world) (first_copy F) agrees
 
   abbrev v : Outside
@@ -175,22 +179,20 @@ module _ (trees : List Tree) (tree budget drawn : ℕ) (c : Config Session) (is 
       tells = subst (λ r. Tells told.Committed (outcome_of c.owner r)) (sym done_run) tt;
       prints = ap printed (sym done_run);
       leaves = left_in_first ∙ ap (copy_after c.owner (held_in common.texts (first_copy F))) (sym done_run);
-      objects = ap (λ r. (r.1).arena) done_run ∙ objects_left ∙ (λ i. arena_in (sym texts i) (sym arena i));
+      objects = ap (objects_after (arena_in common.texts common.arena)) done_run ∙ objects_left ∙ (λ i. arena_in (sym texts i) (sym arena i));
     }
 
   -- ---- another end, of which nothing is kept
 
-  module _ (common : Common) (grows : Grows t common.texts) (arena : common.arena ≡ c.heap.arena)
+  module _ (common : Common) (grows : Grows t common.texts) (arena : common.arena ≡ others_of c.heap.arena c.owner)
       (same : first_copy (worlds_in common.shared) ≡ first_copy F) where
     other_run : alone trees tree c.owner (held_in common.texts (first_copy F)) (arena_in common.texts common.arena) budget
         ≡ (ending_in t c.state, state_in session_meaning t v c)
-    other_run = ap (λ m. alone trees tree c.owner (held_in common.texts (first_copy F)) (arena_in common.texts m) budget) arena ∙ later_run common.texts grows
-
-    objects_later : (state_in session_meaning t v c).arena ≡ arena_in common.texts common.arena
-    objects_later =
-        objects_left
-        ∙ sym (arena_grows t common.texts grows c.heap.arena (arena_known (parts session_meaning c.heap) is.sound.base.heap)).1
-        ∙ ap (arena_in common.texts) (sym arena)
+    other_run =
+        ap (λ m. alone trees tree c.owner (held_in common.texts (first_copy F)) (arena_in common.texts m) budget) arena
+        ∙ left_out_lem trees tree c.owner (held_in common.texts (first_copy F)) (arena_in common.texts (others_of c.heap.arena c.owner))
+        (arena_in common.texts c.heap.arena) budget (others_in_same c.heap.arena c.owner common.texts)
+        ∙ later_run common.texts grows
 
     pub spent_alone : c.state ≡ states.StepsSpent → EndsAlone session_meaning trees tree budget drawn c.owner
         (held_in common.texts (first_copy F)) common told.Spent []
@@ -200,7 +202,7 @@ module _ (trees : List Tree) (tree budget drawn : ℕ) (c : Config Session) (is 
           tells = subst (λ r. Tells told.Spent (outcome_of c.owner r)) (sym run) tt;
           prints = ap printed (sym run);
           leaves = ap (held_in common.texts) same ∙ ap (copy_after c.owner (held_in common.texts (first_copy F))) (sym run);
-          objects = ap (λ r. (r.1).arena) run ∙ objects_later;
+          objects = ap (objects_after (arena_in common.texts common.arena)) run;
         }
 
     -- the text is shown in the try's own first world, as its run left it
@@ -215,5 +217,5 @@ module _ (trees : List Tree) (tree budget drawn : ℕ) (c : Config Session) (is 
           tells = subst (λ r. Tells (told.Threw bytes) (outcome_of c.owner r)) (sym run) shown;
           prints = ap printed (sym run);
           leaves = ap (held_in common.texts) same ∙ ap (copy_after c.owner (held_in common.texts (first_copy F))) (sym run);
-          objects = ap (λ r. (r.1).arena) run ∙ objects_later;
+          objects = ap (objects_after (arena_in common.texts common.arena)) run;
         }

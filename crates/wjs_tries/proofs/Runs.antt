@@ -9,6 +9,7 @@ use Rattle.wjs_base.specs.Order.{obj_cmp}
 use Rattle.wjs_base.specs.Text.{Table, Grows}
 use Rattle.wjs_base.proofs.TextLaws.{Grows-refl}
 use Rattle.wjs_store.specs.Meaning.{View}
+use Rattle.wjs_arena.specs.Entries.{others_of}
 use Rattle.wjs_by_content.specs.Objects.{Entry}
 use Rattle.wjs_by_content.specs.Tables.{arena_in}
 use Rattle.wjs_by_content.proofs.Growth.{slot_grows, value_grows}
@@ -35,6 +36,7 @@ use Rattle.wjs_tries.specs.Turning.{IsLive}
 use Rattle.wjs_tries.specs.Exact.{goes_on_after, run_of}
 use Rattle.wjs_model.proofs.Beside.{beside_nothing}
 use Rattle.wjs_tries.proofs.Beside.{same_in}
+use Rattle.wjs_tries.proofs.Owning.{others_in_same}
 use Rattle.wjs_tries.proofs.Turned.{live}
 use Rattle.wjs_tries.proofs.Walked.{by_state, paused_alone, stays_going, walk_keeps_alone}
 
@@ -171,8 +173,9 @@ module _ (trees : List Tree) (tree budget drawn steps took : ℕ) (old new : Con
       ≡ (ending_now new.heap.texts new.state, state_in session_meaning new.heap.texts (outside.alone (session_meaning new.heap.store).own new.heap.texts) new)
   run_is =
       let t = new.heap.texts in
-      left_out_lem trees tree old.owner (held_in t (session_meaning old.heap.store).own) (arena_in t old.heap.arena) (arena_in t new.heap.arena)
-      (min budget (l.taken + steps)) (same_in t old.heap.arena new.heap.arena old.owner w.stays.objects w.stays.made)
+      left_out_lem trees tree old.owner (held_in t (session_meaning old.heap.store).own) (arena_in t (others_of old.heap.arena old.owner))
+      (arena_in t new.heap.arena) (min budget (l.taken + steps)) (λ o away. others_in_same old.heap.arena old.owner t o away
+      ∙ same_in t old.heap.arena new.heap.arena old.owner w.stays.objects w.stays.made o away)
       ∙ (λ i. alone trees tree (sym w.stays.owner i) (held_in t (sym w.stays.own i)) (sym (beside_nothing (arena_in t new.heap.arena)) i)
       (min budget (l.taken + steps)))
       ∙ (by_stops w.stops).run
@@ -186,6 +189,3 @@ module _ (trees : List Tree) (tree budget drawn steps took : ℕ) (old new : Con
   pub over_is : ¬ (new.state ≡ states.Running) → goes_on_after budget (min budget (l.taken + steps))
       (run_of session_meaning trees tree new.heap.texts old (min budget (l.taken + steps))).0 ≡ false
   over_is over = ap (λ (r : Ending × St). goes_on_after budget (min budget (l.taken + steps)) r.0) run_is ∙ (by_stops w.stops).over over
-
-  pub objects_are : ((run_of session_meaning trees tree new.heap.texts old (min budget (l.taken + steps))).1).arena ≡ arena_in new.heap.texts new.heap.arena
-  objects_are = ap (λ (r : Ending × St). (r.1).arena) run_is ∙ beside_nothing (arena_in new.heap.texts new.heap.arena)

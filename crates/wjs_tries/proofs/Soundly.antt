@@ -11,14 +11,16 @@ use Rattle.wjs_base.specs.Text.{Table, IsTable, Grows}
 use Rattle.wjs_base.proofs.TextLaws.{Grows-Has, Grows-IsName}
 use Rattle.wjs_store.specs.State.{has_world, content_at}
 use Rattle.wjs_store.specs.Meaning.{Meaning, View, Worlds, worlds}
+use Rattle.wjs_arena.specs.declared.object.Object.{Object}
 use Rattle.wjs_arena.specs.Entries.{Objects, Entry, Keeps}
 use Rattle.wjs_by_content.specs.Tables.{knows_value}
 use Rattle.wjs_by_content.specs.Worlds.{KnowsWorlds}
 use Rattle.wjs_by_content.proofs.Growth.{worlds_grow}
 use Rattle.wjs_by_content.proofs.Known.{text_known, name_known}
 use Rattle.wjs_heap.specs.declared.heap.Heap.{Heap}
-use Rattle.wjs_heap.specs.Heap.{HasSlot, HasValue, IsHeap, KnowsTold}
+use Rattle.wjs_heap.specs.Heap.{HasSlot, HasValue, HasNamed, IsHeap, KnowsTold}
 use Rattle.wjs_heap.specs.Means.{parts}
+use Rattle.wjs_heap.proofs.Growing.{named_stays, named_stays_there}
 use Rattle.wjs_heap.proofs.Told.{told_stays}
 use Rattle.wjs_model.specs.declared.config.Config.{Config}
 use Rattle.wjs_model.specs.declared.config.State.TheVariants as states
@@ -51,6 +53,9 @@ module _ (old new : Table) (g : Grows old new) (arena arena' : Objects) (keeps :
 
   pub slot_later : (s : Slot) (v : Value) → HasSlot old arena s × HasValue old arena v → HasSlot new arena' s × HasValue new arena' v
   slot_later s v h = (record { object = has_kept arena arena' keeps s.object (h.0).object; name = Grows-IsName old new s.name g (h.0).name }, value_later v h.1)
+
+  pub named_later : (x : Object) → HasNamed old arena x → HasNamed new arena' x
+  named_later x h = named_stays_there new arena arena' (has_kept arena arena' keeps) x (named_stays old new g arena x h)
 
 -- ---- what the first world holds is known
 
@@ -85,7 +90,7 @@ module _ (old : Config Meaning) (heap : Heap Meaning) (F F' : Worlds) (r : Resti
   pub admits_stays : heap.store.admits ≡ old.heap.store.admits
   admits_stays = ap (λ (m : Meaning). m.admits) now_is ∙ still.2 ∙ sym (ap (λ (m : Meaning). m.admits) store_is)
 
-  pub told_same : heap.store.told ≡ old.heap.store.told
+  told_same : heap.store.told ≡ old.heap.store.told
   told_same = ap (λ (m : Meaning). m.told) now_is ∙ sym (ap (λ (m : Meaning). m.told) store_is)
 
   pub worlds_same : (w : WorldId) → has_world (worlds heap.store) w ≡ has_world (worlds old.heap.store) w

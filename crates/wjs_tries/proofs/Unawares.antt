@@ -1,5 +1,7 @@
 -- A try that rests stays unaware of others over another owner's turn, and may be resumed with them kept apart.
-use Rattle.std.proofs.Common.{◌≡◌, ℕ, sym, ap, ◌∙◌}
+use Rattle.std.proofs.Common.{◌≡◌, ℕ, sym, ap, ◌∙◌, IsTrue}
+use Rattle.wjs_base.specs.declared.ids.ObjId.{ObjId}
+use Rattle.wjs_arena.specs.Entries.{has, joined}
 use Rattle.wjs_store.specs.State.{content_at}
 use Rattle.wjs_store.specs.Meaning.{Worlds, worlds}
 use Rattle.wjs_model.specs.Others.{Other, OtherValue, KeptApart}
@@ -12,10 +14,10 @@ use Rattle.wjs_session.specs.Resumed.{Rests, resumed}
 use Rattle.wjs_session.proofs.RestLaws.{stands_still}
 use Rattle.wjs_tries.specs.declared.common.Common.{Common}
 use Rattle.wjs_tries.specs.declared.common.Rested.{Rested}
-use Rattle.wjs_tries.specs.Common.{IsCommon}
 use Rattle.wjs_tries.specs.Hiding.{IsHidden, Unaware}
 use Rattle.wjs_tries.specs.Meant.{itself, Listed, resting}
 use Rattle.wjs_tries.proofs.Grown.{either_held}
+use Rattle.wjs_tries.proofs.NotYet.{named_other}
 
 -- over another's turn: what its worlds hold now they held, or the first world holds it
 module _ (old new : Common) (rest : Rested) (u : ℕ) (stands : Rests (worlds_in old.shared) rest.resting)
@@ -42,15 +44,15 @@ module _ (old new : Common) (rest : Rested) (u : ℕ) (stands : Rests (worlds_in
     frames = k.frames;
   }
 
--- it names none of an owner of which it is unaware, and that is hidden
-module _ (common : Common) (rest : Rested) (drawn u : ℕ) (known : IsCommon common.texts common.arena common.units.items (worlds_in common.shared) drawn)
-    (us : Listed) (sound : Sound itself (resting us common rest)) (some : ¬ (u ≡ 0)) (differ : ¬ (u ≡ rest.owner)) where
-  pub kept_resting : IsHidden common u → Unaware common rest u → KeptApart itself (resting us common rest) u
-  kept_resting h k = record {
-    no_worlds = λ o e w at own is there. differ (sym own ∙ sym (known.worlds_by o e w at is) ∙ sound.base.worlds_own w there);
+-- it names none of an owner of which it is unaware, and no object of which is there
+module _ (common : Common) (rest : Rested) (u : ℕ) (us : Listed) (sound : Sound itself (resting us common rest)) (some : ¬ (u ≡ 0))
+    (differ : ¬ (u ≡ rest.owner)) (none : (o : ObjId) → IsTrue (has (joined common.arena rest.objects) o) → Other u o) where
+  pub kept_resting : Unaware common rest u → KeptApart itself (resting us common rest) u
+  kept_resting k = record {
+    no_worlds = λ o e w at own is there. differ (sym own ∙ sym (sound.base.worlds_by o e w at is) ∙ sound.base.worlds_own w there);
     slots = k.slots;
     frames = k.frames;
     state = tt;
-    objects = h.objects;
+    objects = λ o e at other. named_other common.texts (joined common.arena rest.objects) u none sound.base.heap.arena o e at (sound.base.heap.objects o e at);
     global = λ e. some (sym e);
   }

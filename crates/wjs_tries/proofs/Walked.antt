@@ -53,7 +53,7 @@ module _ {S : Type 0} (meaning : S → Meaning) (trees : List Tree) (tree budget
       (arena_known (parts meaning old.heap) sound.base.heap)).1
 
   -- from before what is left to do is the part alone; so it is from here on
-  pub goes_on : RestIs meaning old new (λ n. took + n) → (v : Outside) → Admits meaning new v → KnowsView v.texts v.view → (n : ℕ)
+  goes_on : RestIs meaning old new (λ n. took + n) → (v : Outside) → Admits meaning new v → KnowsView v.texts v.view → (n : ℕ)
       → alone trees tree new.owner (held_in v.texts v.view) (beside (arena_in new.heap.texts new.heap.arena) v.more) ((taken + took) + n)
       ≡ rest meaning new.heap.texts v new n
   goes_on kept v a k n =
@@ -94,7 +94,7 @@ module _ {S : Type 0} (meaning : S → Meaning) (trees : List Tree) (tree budget
       → alone trees tree c.owner (held_in v.texts v.view) (beside (arena_in c.heap.texts c.heap.arena) v.more) budget
       ≡ (ending_in c.heap.texts c.state, state_in meaning c.heap.texts v c)
 
-  pub end_is_alone : IsTrying trees tree budget taken (meant meaning c) → tells meaning c ≡ true → ¬ (c.state ≡ states.Running)
+  end_is_alone : IsTrying trees tree budget taken (meant meaning c) → tells meaning c ≡ true → ¬ (c.state ≡ states.Running)
       → ¬ (c.state ≡ states.StepsSpent) → IsOverAlone
   end_is_alone try tells_is on alive v a k =
       let t = c.heap.texts in
@@ -104,7 +104,7 @@ module _ {S : Type 0} (meaning : S → Meaning) (trees : List Tree) (tree budget
       ∙ ap (λ b. seen b (rest_by t c.state (run_in meaning t c) (frames_in meaning t c) (state_in meaning t v c) c.left)) tells_is
       ∙ by_state t c.state (run_in meaning t c) (frames_in meaning t c) (state_in meaning t v c) c.left on alive
 
-  pub spent_is_alone : IsTrying trees tree budget taken (meant meaning (going c)) → c.state ≡ states.StepsSpent → c.left ≡ 0 → IsDue meaning (going c)
+  spent_is_alone : IsTrying trees tree budget taken (meant meaning (going c)) → c.state ≡ states.StepsSpent → c.left ≡ 0 → IsDue meaning (going c)
       → IsOverAlone
   spent_is_alone try is none due v a k =
       let t = c.heap.texts in

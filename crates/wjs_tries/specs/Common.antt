@@ -14,7 +14,7 @@ use Rattle.wjs_arena.specs.Entries.{Objects, Entry, IsArena, has}
 use Rattle.wjs_heap.specs.Heap.{HasNamed, HasSlot, HasValue}
 use Rattle.wjs_meaning.specs.Builtins.{builtin}
 use Rattle.wjs_meaning.specs.declared.builtin.Builtin.{Builtin}
-use Rattle.wjs_model.specs.declared.unit.Unit.{Unit as Program}
+use Rattle.wjs_model.specs.declared.loaded.LoadedProgram.{LoadedProgram as Program}
 use Rattle.wjs_model.specs.Texts.{KnowsUnit, PlacesUnit}
 use Rattle.wjs_model.specs.Standing.{FunctionStands}
 use Rattle.wjs_session.specs.Session.{first_copy}

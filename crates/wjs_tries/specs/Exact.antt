@@ -1,6 +1,7 @@
 -- What a turn makes of a try is what the definition of plays says of it.
 use Rattle.std.specs.Prelude.{◌≡◌, ℕ, ◌+◌, min, nat_lt, Bool, true, false, List}
 use Rattle.wjs_base.specs.Text.{Table, Grows}
+use Rattle.wjs_arena.specs.Entries.{others_of}
 use Rattle.wjs_store.specs.Naming.{plain}
 use Rattle.wjs_store.specs.Meaning.{Meaning, unseen}
 use Rattle.wjs_store.specs.State.{World}
@@ -21,8 +22,10 @@ use Rattle.wjs_alone.specs.Marks.{marked, agrees}
 use Rattle.wjs_alone.specs.Named.{world_in}
 use Rattle.wjs_tries.specs.declared.common.Common.{Common}
 use Rattle.wjs_tries.specs.declared.common.Rested.{Rested}
+use Rattle.wjs_tries.specs.declared.outcome.Outcome.TheVariants as told
 use Rattle.wjs_tries.specs.declared.turns.Came.{Came}
 use Rattle.wjs_tries.specs.declared.turns.Came.TheVariants as came
+use Rattle.wjs_tries.specs.Turning.{objects_left}
 use Rattle.wjs_tries.specs.Views.{held_in, KnowsView}
 
 -- so many steps were not enough, and the budget has more
@@ -49,20 +52,25 @@ CameByCheck c (came.Ends outcome output) = passes (world_at (worlds_in c.heap.st
     ≡ true
 CameByCheck c came.Drops = passes (world_at (worlds_in c.heap.store.shared) c.heap.store.world) (first_copy (worlds_in c.heap.store.shared)) ≡ false
 
--- behind it texts may have been made, and no object; and it came to its end by the check of its reads
+-- behind it texts may have been made, and no object; the try's own are there where it is committed; and it came to its end by the check of its reads
 pub record EndsBy (c : Config Session) (common : Common) (came : Came) : Type 0 where
   pub texts : Grows c.heap.texts common.texts
-  pub arena_is : common.arena ≡ c.heap.arena
+  pub arena_is : common.arena ≡ objects_left c came
   pub by_check : CameByCheck c came
+
+-- where it is not committed the objects are the others' still
+abbrev pub KeepsObjects : Config Session → Common → Came → Type 0
+KeepsObjects old common (came.Ends told.Committed output) = Unit {0}
+KeepsObjects old common _ = common.arena ≡ others_of old.heap.arena old.owner
 
 -- what the first world held at a turn's begin, by a table
 abbrev pub base_of : Table → Config Session → Copy
 base_of t old = held_in t (first_copy (worlds_in old.heap.store.shared))
 
 module _ (meaning : Session → Meaning) (trees : List Tree) (tree : ℕ) where
-  -- the part alone, from what a try took the first world to hold and with the objects that were there at its turn's begin, by a later table
+  -- the part alone, from what a try took the first world to hold and with the others' objects that were there at its turn's begin, by a later table
   abbrev pub run_of : Table → Config Session → ℕ → Ending × St
-  run_of t old n = alone trees tree old.owner (held_in t (meaning old.heap.store).own) (arena_in t old.heap.arena) n
+  run_of t old n = alone trees tree old.owner (held_in t (meaning old.heap.store).own) (arena_in t (others_of old.heap.arena old.owner)) n
 
   -- the marks of its world, by the run's actions
   abbrev pub marks_of : Table → Config Session → ℕ → World content
@@ -81,5 +89,5 @@ module _ (meaning : Session → Meaning) (trees : List Tree) (tree : ℕ) where
 
     -- a turn of at most so many steps, of a try that had taken some
     pub record IsExact (taken steps : ℕ) (old : Config Session) (common : Common) (c : Came) : Type 0 where
-      pub objects : ((run_of common.texts old (min budget (taken + steps))).1).arena ≡ arena_in common.texts common.arena
+      pub objects : KeepsObjects old common c
       pub came : CameAs old (min budget (taken + steps)) common c

@@ -5,12 +5,12 @@ use Rattle.std.specs.FinMap as map
 use Rattle.wjs_base.specs.Text.{Table}
 use Rattle.wjs_store.specs.Meaning.{Meaning, Worlds}
 use Rattle.wjs_store.specs.Shown.{first_of}
-use Rattle.wjs_arena.specs.Entries.{Objects}
+use Rattle.wjs_arena.specs.Entries.{Objects, joined}
 use Rattle.wjs_heap.specs.declared.heap.Heap.{Heap}
 use Rattle.wjs_meaning.specs.Builtins.{global_object}
 use Rattle.wjs_model.specs.declared.config.Config.{Config}
 use Rattle.wjs_model.specs.declared.config.State.TheVariants as states
-use Rattle.wjs_model.specs.declared.unit.Unit.{Unit as Program}
+use Rattle.wjs_model.specs.declared.loaded.LoadedProgram.{LoadedProgram as Program}
 use Rattle.wjs_session.specs.declared.session.Session.{Session}
 use Rattle.wjs_session.specs.Session.{holding, first_copy, session}
 use Rattle.wjs_session.specs.Stores.{worlds_in}
@@ -52,10 +52,10 @@ meant meaning c = record {
 abbrev pub Listed : Type 0
 Listed = Vec ℕ
 
--- the configuration that a try would be, were it resumed with these kept apart
+-- the configuration that a try would be, were it resumed with these kept apart: its own objects are beside those that are shared
 abbrev pub resting : Listed → Common → Rested → Config Meaning
 resting apart common rest = record {
-  heap = record { texts = common.texts; arena = common.arena; store = resumed (worlds_in common.shared) rest.resting };
+  heap = record { texts = common.texts; arena = joined common.arena rest.objects; store = resumed (worlds_in common.shared) rest.resting };
   units = common.units;
   frames = rest.frames;
   global = global_object;

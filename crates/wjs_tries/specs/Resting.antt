@@ -1,5 +1,7 @@
 -- A try between its turns.
-use Rattle.std.specs.Prelude.{◌≡◌, ℕ, ◌<◌, ◌≤◌, List, []}
+use Rattle.std.specs.Prelude.{◌≡◌, ℕ, ◌<◌, ◌≤◌, List, [], IsTrue}
+use Rattle.wjs_base.specs.declared.ids.ObjId.{ObjId}
+use Rattle.wjs_arena.specs.Entries.{has}
 use Rattle.wjs_meaning.specs.Trees.{Tree}
 use Rattle.wjs_model.specs.Soundness.{Sound}
 use Rattle.wjs_session.specs.Stores.{worlds_in}
@@ -10,6 +12,11 @@ use Rattle.wjs_tries.specs.declared.common.Rested.{Rested}
 use Rattle.wjs_tries.specs.Meant.{itself, Listed, resting}
 use Rattle.wjs_tries.specs.Trying.{IsTrying}
 
+-- the objects that rest with it are its owner's, of whom none is shared
+pub record Owns (common : Common) (rest : Rested) : Type 0 where
+  pub owned : (o : ObjId) → IsTrue (has rest.objects o) → o.owner ≡ rest.owner
+  pub absent : (o : ObjId) → IsTrue (has common.arena o) → ¬ (o.owner ≡ rest.owner)
+
 -- its session rests over the shared worlds as they stand, and were it resumed there with none kept apart it would be sound, and its part alone
 pub record IsResting (trees : List Tree) (tree budget drawn : ℕ) (common : Common) (rest : Rested) : Type 0 where
   pub stands : Rests (worlds_in common.shared) rest.resting
@@ -17,6 +24,7 @@ pub record IsResting (trees : List Tree) (tree budget drawn : ℕ) (common : Com
   pub some : 1 ≤ rest.owner
   pub owner : rest.owner ≤ drawn
   pub left : 0 < rest.left
+  pub owns : Owns common rest
   pub none : Listed
   pub none_is : none.items ≡ []
   pub sound : Sound itself (resting none common rest)

@@ -2,6 +2,7 @@
 use Rattle.std.specs.Prelude.{◌≡◌, ℕ, ◌<◌, ◌≤◌, true, false, List, [], set, map as each, IsTrue}
 use Rattle.wjs_base.specs.Text.{Grows}
 use Rattle.wjs_base.specs.Unicode.{utf8_of}
+use Rattle.wjs_arena.specs.Entries.{Objects, others_of}
 use Rattle.wjs_store.specs.Meaning.{Meaning}
 use Rattle.wjs_by_content.specs.Tables.{arena_in}
 use Rattle.wjs_meaning.specs.Trees.{Tree}
@@ -17,14 +18,14 @@ use Rattle.wjs_layers.specs.Reset.{after_reset}
 use Rattle.wjs_session.specs.declared.session.Session.{Session}
 use Rattle.wjs_session.specs.Stores.{worlds_in}
 use Rattle.wjs_session.specs.Session.{world_at, first_copy, passes}
-use Rattle.wjs_alone.specs.Alone.{Copy, world_of, alone, Outcome, Committed, Threw, Spent, outcome_of, copy_after, printed}
+use Rattle.wjs_alone.specs.Alone.{Copy, world_of, alone, Outcome, Committed, Threw, Spent, outcome_of, copy_after, objects_after, printed}
 use Rattle.wjs_tries.specs.declared.common.Common.{Common}
 use Rattle.wjs_tries.specs.declared.common.Rested.{Rested}
 use Rattle.wjs_tries.specs.declared.outcome.Outcome.{Outcome as Told}
 use Rattle.wjs_tries.specs.declared.outcome.Outcome.TheVariants as told
 use Rattle.wjs_tries.specs.declared.turns.Came.{Came}
 use Rattle.wjs_tries.specs.declared.turns.Came.TheVariants as came
-use Rattle.wjs_tries.specs.Hiding.{Hidden, IsHidden, Unaware}
+use Rattle.wjs_tries.specs.Hiding.{IsHidden, Unaware}
 use Rattle.wjs_tries.specs.Meant.{meant, Listed, resting}
 use Rattle.wjs_tries.specs.Views.{held_in, KnowsView}
 use Rattle.wjs_tries.specs.Trying.{KnowsAll, IsTrying, ending_in}
@@ -32,9 +33,9 @@ use Rattle.wjs_tries.specs.Common.{IsCommon}
 use Rattle.wjs_tries.specs.Passing.{Passes}
 use Rattle.wjs_tries.specs.Resting.{IsResting}
 
--- what a configuration shares with others
+-- what a configuration shares with others: of its objects those that aren't its owner's
 abbrev pub common_of : Config Session → Common
-common_of c = record { texts = c.heap.texts; arena = c.heap.arena; units = c.units; shared = c.heap.store.shared; apart = c.apart }
+common_of c = record { texts = c.heap.texts; arena = others_of c.heap.arena c.owner; units = c.units; shared = c.heap.store.shared; apart = c.apart }
 
 -- what the first world holds, by content
 abbrev pub first_in : Common → Copy
@@ -60,6 +61,8 @@ module _ (meaning : Session → Meaning) (trees : List Tree) (tree budget drawn 
     pub none : Listed
     pub none_is : none.items ≡ []
     pub common : IsCommon c.heap.texts c.heap.arena c.units.items (worlds_in c.heap.store.shared) drawn
+    -- and so it is without its own objects
+    pub shared : IsCommon c.heap.texts (others_of c.heap.arena c.owner) c.units.items (worlds_in c.heap.store.shared) drawn
 
   -- the try has ended, and its reads hold: it is its part's run alone, from what the first world held and with the objects that are there;
   -- what is printed and what the first world holds now are that run's
@@ -67,7 +70,8 @@ module _ (meaning : Session → Meaning) (trees : List Tree) (tree budget drawn 
     pub tells : Tells outcome (outcome_of owner (alone trees tree owner before (arena_in common.texts common.arena) budget))
     pub prints : output ≡ printed (alone trees tree owner before (arena_in common.texts common.arena) budget)
     pub leaves : first_in common ≡ copy_after owner before (alone trees tree owner before (arena_in common.texts common.arena) budget)
-    pub objects : ((alone trees tree owner before (arena_in common.texts common.arena) budget).1).arena ≡ arena_in common.texts common.arena
+    pub objects : objects_after (arena_in common.texts common.arena) (alone trees tree owner before (arena_in common.texts common.arena) budget)
+        ≡ arena_in common.texts common.arena
 
   -- it rests, or has ended, or its reads hold no more and nothing of it is kept
   abbrev pub CameTo : ℕ → Copy → Common → Came → Type 0
@@ -97,19 +101,20 @@ module _ (meaning : Session → Meaning) (trees : List Tree) (tree budget drawn 
     pub some : 1 ≤ c.owner
     pub owner : c.owner ≤ drawn
     pub common : IsCommon c.heap.texts c.heap.arena c.units.items (worlds_in c.heap.store.shared) drawn
+    pub shared : IsCommon c.heap.texts (others_of c.heap.arena c.owner) c.units.items (worlds_in c.heap.store.shared) drawn
 
 -- what is shared is that of the configuration
 pub record Shares (c : Config Session) (common : Common) : Type 0 where
   pub texts : common.texts ≡ c.heap.texts
-  pub arena_is : common.arena ≡ c.heap.arena
+  pub arena_is : common.arena ≡ others_of c.heap.arena c.owner
   pub units : common.units ≡ c.units
   pub worlds : worlds_in common.shared ≡ worlds_in c.heap.store.shared
   pub works : common.shared.spent ≡ false
 
--- nothing of its try is left but the texts and objects that it made: its world was given up
+-- nothing of its try is left but the texts that it made: its world was given up, and its objects are gone
 pub record GivesUp (c : Config Session) (common : Common) : Type 0 where
   pub texts : common.texts ≡ c.heap.texts
-  pub arena_is : common.arena ≡ c.heap.arena
+  pub arena_is : common.arena ≡ others_of c.heap.arena c.owner
   pub units : common.units ≡ c.units
   pub worlds : worlds_in common.shared ≡ after_reset (worlds_in c.heap.store.shared) c.heap.store.world
   pub works : common.shared.spent ≡ false
@@ -118,7 +123,7 @@ pub record GivesUp (c : Config Session) (common : Common) : Type 0 where
 
 -- nothing names an object of the owner but its own objects, where a try is taken out for its turn
 abbrev pub HiddenIn : Config Session → ℕ → Type 0
-HiddenIn c u = Hidden c.heap.arena (first_copy (worlds_in c.heap.store.shared)) u
+HiddenIn c u = IsHidden (common_of c) u
 
 -- of each listed owner of which nothing was named
 abbrev pub OfHidden : Config Session → (ℕ → Type 0) → Type 0
@@ -155,6 +160,11 @@ abbrev pub IsEnd : Came → Type 0
 IsEnd (came.Ends outcome output) = Unit {0}
 IsEnd _ = ⊥
 
+-- the objects that are there behind the end of a try: all where it is committed, and else those of others
+abbrev pub objects_left : Config Session → Came → Objects
+objects_left c (came.Ends told.Committed output) = c.heap.arena
+objects_left c _ = others_of c.heap.arena c.owner
+
 module _ (meaning : Session → Meaning) where
   -- what the first world holds is what the try's reads were
   abbrev pub AgreesNow : Config Session → Type 0
@@ -165,7 +175,7 @@ module _ (meaning : Session → Meaning) where
     pub ends : IsEnd came
     -- texts may have been made, and no object
     pub texts : Grows c.heap.texts common.texts
-    pub arena_is : common.arena ≡ c.heap.arena
+    pub arena_is : common.arena ≡ objects_left c came
     pub apart : AgreesNow c → EndsApart c common
     pub turned : (trees : List Tree) (tree budget drawn : ℕ) → IsOver meaning trees tree budget drawn c → AgreesNow c
         → IsTurned meaning trees tree budget drawn c common came
@@ -173,6 +183,7 @@ module _ (meaning : Session → Meaning) where
   -- a try of an owner has begun, with the whole budget: it is the part of a number, alone; what the first world holds stays, and the try takes it to hold that
   pub record Begun (owner part budget : ℕ) (common : Common) (c : Config Session) : Type 0 where
     pub leaves : Passes owner common (common_of c)
+    pub others : others_of c.heap.arena c.owner ≡ common.arena
     pub owner_is : c.owner ≡ owner
     pub left : c.left ≡ budget
     pub holds : first_copy (worlds_in c.heap.store.shared) ≡ first_copy (worlds_in common.shared)
@@ -187,3 +198,4 @@ module _ (meaning : Session → Meaning) where
     pub same : meant meaning c ≡ resting c.apart common rest
     pub number : c.heap.store.world ≡ rest.resting.world
     pub shared : c.heap.store.shared ≡ common.shared
+    pub others : others_of c.heap.arena c.owner ≡ common.arena

@@ -1,5 +1,6 @@
 //! The end of a try.
 ghost use Rattle.std.specs.Prelude.{◌≡◌, ℕ, List, IfOk};
+ghost use Rattle.wjs_arena.specs.Entries.{IsArena, others_of};
 ghost use Rattle.wjs_meaning.specs.Trees.{Tree};
 ghost use Rattle.wjs_model.specs.Soundness.{Sound};
 ghost use Rattle.wjs_session.specs.Session.{first_copy};
@@ -19,10 +20,11 @@ use wjs_session::Session;
 use wjs_store::WorldStore;
 
 /// Ends a try that goes on no more. Where what it has read stands there still, that is its activity's end: a normal one is
-/// committed, and of others nothing is kept. Else the try is dropped.
+/// committed, and of others nothing is kept. Else the try is dropped. What it made goes with it, but for texts.
 pub fn finish(config: Config<Session>) -> Result<(Common, Came), OutOfMemory>
     requires over { ¬ (config.state ≡ State.Running) }
     requires sound { Sound (⟦<Session as WorldStore>⟧.meaning) config }
+    requires others { IsArena (others_of config.heap.arena config.owner) }
     ensures turned { IfOk result (λ r. (trees : List Tree) (tree budget drawn : ℕ) → IsOver (⟦<Session as WorldStore>⟧.meaning) trees tree budget drawn config
         → IsTurned (⟦<Session as WorldStore>⟧.meaning) trees tree budget drawn config r.0 r.1) }
     ensures awake { IfOk result (λ r. ¬ (IsRest r.1)) }
@@ -79,6 +81,7 @@ fn commit(config: Config<Session>) -> Result<(Common, Came), OutOfMemory>
 fn tell(config: Config<Session>, value: Value) -> Result<(Common, Came), OutOfMemory>
     requires threw { config.state ≡ State.Threw value }
     requires sound { Sound (⟦<Session as WorldStore>⟧.meaning) config }
+    requires others { IsArena (others_of config.heap.arena config.owner) }
     ensures { IfOk result (λ r. IsAtEnd (⟦<Session as WorldStore>⟧.meaning) config r.0 r.1) }
 {
     let mut config = config;
@@ -92,6 +95,7 @@ fn tell(config: Config<Session>, value: Value) -> Result<(Common, Came), OutOfMe
 fn spend(config: Config<Session>) -> (Common, Came)
     requires spent { config.state ≡ State.StepsSpent }
     requires sound { Sound (⟦<Session as WorldStore>⟧.meaning) config }
+    requires others { IsArena (others_of config.heap.arena config.owner) }
     ensures { IsAtEnd (⟦<Session as WorldStore>⟧.meaning) config result.0 result.1 }
 {
     let alloc = config.heap.arena.allocator();

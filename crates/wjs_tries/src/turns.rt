@@ -1,5 +1,6 @@
 //! A turn of a try.
 ghost use Rattle.std.specs.Prelude.{◌≡◌, ◌<◌, ◌≤◌, ℕ, List, length, IfOk};
+ghost use Rattle.wjs_arena.specs.Entries.{IsArena, others_of};
 ghost use Rattle.wjs_meaning.specs.Trees.{Tree};
 ghost use Rattle.wjs_model.specs.Soundness.{Sound};
 ghost use Rattle.wjs_session.specs.Session.{first_copy};
@@ -39,6 +40,8 @@ pub fn take_turn(
     requires place { place < length config.apart.items }
     requires running { config.state ≡ State.Running }
     requires sound { Sound (⟦<Session as WorldStore>⟧.meaning) config }
+    // No object of another has one of the try's as prototype or scope.
+    requires others { IsArena (others_of config.heap.arena config.owner) }
     ensures turned { IfOk result (λ r. (trees : List Tree) (tree budget drawn : ℕ) → IsLive (⟦<Session as WorldStore>⟧.meaning) trees tree budget drawn config
         → IsTurned (⟦<Session as WorldStore>⟧.meaning) trees tree budget drawn config r.0 r.1) }
     // It is the turn that the definition of plays has.

@@ -8,5 +8,5 @@ loop-word-init c = All-same (λ (t : PlayTurn). 1 ≤ t.steps) c.new-turns.resul
 
 pub loop-word-preserved : goal.loop-word-preserved
 loop-word-preserved c =
-    All-same (λ (t : PlayTurn). 1 ≤ t.steps) c.push.new.self.items _ c.in-Ok.ensures.items
+    All-same (λ (t : PlayTurn). 1 ≤ t.steps) c.push.new.self.items _ c.in_ok-push.ensures.items
     (All-push (λ (t : PlayTurn). 1 ≤ t.steps) c.loop-word.turns.items c.in-Some-turn_of.turn c.loop-word.invariant c.in-Some-turn_of.ensures)

@@ -1,6 +1,6 @@
 use Rattle.std.proofs.Common.{refl, arith}
 use Rattle.wjs_activity.proofs.Comes.{turned_lem, few_places, part_there, few_units, rests_there, entry_there, entry_taken, begins_apart, few_noted, mid_long}
-use Rattle.wjs_activity.proofs.Comes.{left_some}
+use Rattle.wjs_activity.proofs.Comes.{left_some, owns_there, others_there}
 use Rattle.wjs_activity.proofs.rounds.turned.Goals as goal
 
 pub overflow_cast-part : goal.overflow_cast-part
@@ -25,6 +25,16 @@ go_on_or_open-requires-clause-rests c =
 
 pub go_on_or_open-requires-clause-place : goal.go_on_or_open-requires-clause-place
 go_on_or_open-requires-clause-place c = entry_there c.args.rules c.args.play c.args.place c.requires.place c.requires.going
+
+pub go_on_or_open-requires-clause-owns : goal.go_on_or_open-requires-clause-owns
+go_on_or_open-requires-clause-owns c =
+    owns_there c.args.rules c.args.play c.args.place c.requires.place c.requires.going c.take_running-running.new.activities.items
+    c.take_running-running.result c.take_running-running.ensures
+
+pub take_turn-requires-clause-others : goal.take_turn-requires-clause-others
+take_turn-requires-clause-others c =
+    let k = c.in_ok-config.ensures in
+    others_there c.args.rules c.args.play c.args.place c.requires.place c.requires.going c.take_running-running.result c.in_ok-config.config k.begun k.goes_on
 
 pub go_on_or_open-requires-clause-apart : goal.go_on_or_open-requires-clause-apart
 go_on_or_open-requires-clause-apart c = λ none few u listed. begins_apart c.args.rules c.args.play c.args.place c.requires.place c.requires.going few u listed

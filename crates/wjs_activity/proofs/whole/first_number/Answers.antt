@@ -1,6 +1,6 @@
 use Rattle.std.proofs.Common.{Option, sym, ap}
 use Rattle.std.specs.Option.{option_map}
-use Rattle.wjs_model.specs.declared.unit.Unit.{Unit as Program}
+use Rattle.wjs_model.specs.declared.loaded.LoadedProgram.{LoadedProgram as Program}
 use Rattle.wjs_model.specs.Units.{unit_in}
 use Rattle.wjs_activity.specs.Rounds.{first_number}
 use Rattle.wjs_activity.proofs.whole.first_number.Goals as goal

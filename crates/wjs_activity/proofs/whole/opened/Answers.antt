@@ -1,9 +1,10 @@
-use Rattle.wjs_activity.proofs.Opened.{overlay_meaning, new_store, opened_so}
+use Rattle.wjs_activity.proofs.Opened.{overlay_meaning, opened_so}
 use Rattle.wjs_activity.proofs.whole.opened.Goals as goal
 use Rattle.std.proofs.lemmas.Result.{IfOk-weaker}
+use Rattle.wjs_start.proofs.Beginning.{fixed_new}
 
 pub start_parts-requires-clause-new : goal.start_parts-requires-clause-new
-start_parts-requires-clause-new c = new_store (overlay_meaning c.in_ok-store.store) c.in_ok-store.ensures
+start_parts-requires-clause-new c = fixed_new (overlay_meaning c.in_ok-store.store) c.in_ok-store.ensures
 
 pub run_library-requires : goal.run_library-requires
 run_library-requires c = c.in_ok-config.ensures.sound

@@ -1,7 +1,7 @@
 use Rattle.std.proofs.Common.{◌≡◌, ◌+◌, ◌∙◌, ℕ, Some, ap, length, drop, get_or, arith}
 use Rattle.std.specs.Prelude.{List, slice_get}
 use Rattle.std.proofs.lemmas.Option.{slice_get-get_or}
-use Rattle.wjs_tree.specs.declared.node.NodeId.{NodeId}
+use Rattle.wjs_base.specs.declared.ids.NodeId.{NodeId}
 use Rattle.wjs_step_common.specs.Lists.{statements_of_clauses}
 use Rattle.wjs_blocks.proofs.Cases.{statements_passed}
 use Rattle.wjs_blocks.proofs.clauses.statements_before.Goals as goal

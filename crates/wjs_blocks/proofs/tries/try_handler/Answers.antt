@@ -1,7 +1,7 @@
 use Rattle.std.proofs.Common.{sym, subst}
+use Rattle.wjs_base.specs.declared.ids.NodeId.{NodeId}
 use Rattle.wjs_model.specs.declared.frame.Activation.{Activation as Frame}
 use Rattle.wjs_model.specs.Soundness.{StandsHere, StandsIf}
-use Rattle.wjs_tree.specs.declared.node.NodeId.{NodeId}
 use Rattle.std.specs.Prelude.{Option}
 use Rattle.wjs_blocks.proofs.Standing.{holding_earlier}
 use Rattle.wjs_frames.proofs.Handling.{runs_as}

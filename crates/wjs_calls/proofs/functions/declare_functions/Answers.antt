@@ -1,7 +1,7 @@
 use Rattle.std.proofs.Common.{ap}
 use Rattle.std.specs.Prelude.{slice_index_or}
 use Rattle.std.proofs.lemmas.List.Elements.{All-get_or}
-use Rattle.wjs_tree.specs.declared.node.NodeId.{NodeId}
+use Rattle.wjs_base.specs.declared.ids.NodeId.{NodeId}
 use Rattle.wjs_meaning.specs.Reading.{numbers}
 use Rattle.wjs_base.specs.Text.{Table}
 use Rattle.wjs_meaning.specs.Deeds.{Env}

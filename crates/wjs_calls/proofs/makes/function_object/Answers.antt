@@ -16,11 +16,11 @@ returns-clause-is g c = λ t more.
 pub returns-clause-named : goal.returns-clause-named
 returns-clause-named g c =
     let now = c.args.config.now in
-    function_named now.heap.texts now.heap.arena c.object_of-object.result c.builtin-prototype.result c.args.scope c.tree.result (record { 0 = c.args.body.0 }) _ c.in_ok-fixed.fixed c.in_ok-flags.flags c.args.names.length c.args.names.prototype c.in_ok-count.count
+    function_named now.heap.texts now.heap.arena c.object_of-object.result c.builtin-prototype.result c.args.scope c.tree.result c.args.body _ c.in_ok-fixed.fixed c.in_ok-flags.flags c.args.names.length c.args.names.prototype c.in_ok-count.count
     c.object_of-object.ensures c.in_ok-fixed.ensures c.in_ok-flags.ensures c.requires.length c.requires.prototype (c.in_ok-count.ensures now.heap.texts)
 
 pub returns-clause-near : goal.returns-clause-near
 returns-clause-near g c =
     let now = c.args.config.now in
-    function_near now.apart.items now.heap.texts c.object_of-object.result c.builtin-prototype.result c.args.scope c.tree.result (record { 0 = c.args.body.0 }) _ c.in_ok-fixed.fixed c.in_ok-flags.flags c.args.names.length c.in_ok-count.count
+    function_near now.apart.items now.heap.texts c.object_of-object.result c.builtin-prototype.result c.args.scope c.tree.result c.args.body _ c.in_ok-fixed.fixed c.in_ok-flags.flags c.args.names.length c.in_ok-count.count
     c.object_of-object.ensures c.in_ok-fixed.ensures (c.in_ok-count.ensures now.heap.texts) c.builtin-prototype.ensures.found.1 c.requires.near

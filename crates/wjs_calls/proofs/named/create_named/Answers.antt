@@ -6,6 +6,7 @@ use Rattle.wjs_arena.specs.declared.object.Object.{Object}
 use Rattle.wjs_arena.specs.Entries.{IsThere, has, next_number as number_of_next, scope_of}
 use Rattle.wjs_by_content.specs.Tables.{text_in}
 use Rattle.wjs_by_content.proofs.ArenaMaps.{number_same}
+use Rattle.wjs_heap.proofs.Growing.{named_stays_there}
 use Rattle.wjs_meaning.specs.declared.builtin.Builtin.TheVariants as builtins
 use Rattle.wjs_meaning.specs.Deeds.{Env, Do, Create, node_here}
 use Rattle.wjs_meaning.specs.Functions.{function_object, name_scope}
@@ -19,7 +20,6 @@ use Rattle.wjs_calls.specs.Making.{named_made, scope_of_name}
 use Rattle.wjs_calls.proofs.NamedFunctions.{number_behind, scope_is, scope_named, scope_near, behind}
 use Rattle.wjs_calls.proofs.Rows.{any_later}
 use Rattle.wjs_calls.proofs.StandingFunctions.{script_stands, named_later, stands_in_name}
-use Rattle.wjs_calls.proofs.TwoObjects.{named_more}
 use Rattle.wjs_calls.proofs.named.create_named.Goals as goal
 
 pub create_pair-requires-clause-named : goal.create_pair-requires-clause-named
@@ -55,7 +55,7 @@ create_pair-requires-clause-second_prototype g c =
     subst (IsThere c.function_names.new.config.heap.arena) (sym c.in_ok-object.ensures.prototype) (c.in_ok-names.ensures.later.base.builtins builtins.FunctionPrototype).0
 
 pub create_pair-requires-clause-second_named : goal.create_pair-requires-clause-second_named
-create_pair-requires-clause-second_named g c = λ new more there. let heap = c.function_names.new.config.heap in named_more heap.texts heap.arena new more c.in_ok-object.object c.in_ok-object.ensures.named
+create_pair-requires-clause-second_named g c = λ new more there. let heap = c.function_names.new.config.heap in named_stays_there heap.texts heap.arena new more c.in_ok-object.object c.in_ok-object.ensures.named
 
 pub create_pair-requires-clause-second_code : goal.create_pair-requires-clause-second_code
 create_pair-requires-clause-second_code g c = λ new keeps outer.

@@ -1,7 +1,7 @@
 use Rattle.wjs_io.specs.Streams.{over}
 use Rattle.wjs_command.specs.Table.{Told}
 use Rattle.wjs_command.specs.Runs.{line_of_end, status_of_end}
-use Rattle.wjs_command.proofs.Deliveries.{writes_stop}
+use Rattle.wjs_command.proofs.Deliveries.{writes_stop, spent_delivers}
 use Rattle.wjs_command.proofs.logging.write_and_tell.Goals as goal
 
 pub returns-in-Err : goal.returns-in-Err
@@ -9,3 +9,9 @@ returns-in-Err g c = λ r h.
     let seen = g.O.Sink.seen in
     let told : Told = record { out = c.args.bytes.now; err = line_of_end r.0 r.1; status = status_of_end r.0 } in
     writes_stop told (over seen c.args.out.now c.write_or_stop.new.out) c.in-Err.stop c.in-Err.ensures
+
+pub returns-in_err-tell : goal.returns-in_err-tell
+returns-in_err-tell g c = λ r h.
+    let seen = g.O.Sink.seen in
+    let told : Told = record { out = c.args.bytes.now; err = line_of_end r.0 r.1; status = status_of_end r.0 } in
+    spent_delivers told (over seen c.args.out.now c.write_or_stop.new.out) c.from_residual.result c.from_residual.ensures.1 c.in-Ok.ensures

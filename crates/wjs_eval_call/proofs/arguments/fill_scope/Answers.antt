@@ -1,6 +1,6 @@
 use Rattle.wjs_base.specs.declared.ids.ObjId.{ObjId}
 use Rattle.wjs_base.specs.declared.ids.TextId.{TextId}
-use Rattle.wjs_tree.specs.declared.node.NodeId.{NodeId}
+use Rattle.wjs_base.specs.declared.ids.NodeId.{NodeId}
 use Rattle.std.proofs.Common.{List, ◌∷◌, ◌++◌, sym, subst}
 use Rattle.std.specs.Prelude.{All, OnOk, map}
 use Rattle.std.proofs.lemmas.Result.{on_ok_weaker}

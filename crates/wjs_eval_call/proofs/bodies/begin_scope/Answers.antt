@@ -6,6 +6,7 @@ use Rattle.wjs_base.specs.declared.ids.TextId.{TextId}
 use Rattle.wjs_base.specs.Text.{Has}
 use Rattle.wjs_base.specs.declared.values.Value.{Value}
 use Rattle.wjs_base.proofs.TextLaws.{Grows-trans}
+use Rattle.wjs_base.specs.declared.ids.NodeId.{NodeId}
 use Rattle.wjs_by_content.specs.Names.{arguments_name}
 use Rattle.wjs_by_content.specs.Tables.{text_in, value_in}
 use Rattle.wjs_meaning.specs.Declarations.{Declared, declared_by}
@@ -14,8 +15,7 @@ use Rattle.wjs_meaning.specs.Deeds.{Env, Act, Do, Create, tree_here}
 use Rattle.wjs_meaning.specs.Functions.{arguments_object, function_names, body_declare, body_from, body_run}
 use Rattle.wjs_meaning.specs.Reading.{numbers, node_in}
 use Rattle.wjs_model.specs.declared.frame.Activation.{Activation as Frame}
-use Rattle.wjs_model.specs.declared.unit.Unit.{Unit as Program}
-use Rattle.wjs_tree.specs.declared.node.NodeId.{NodeId}
+use Rattle.wjs_model.specs.declared.loaded.LoadedProgram.{LoadedProgram as Program}
 use Rattle.wjs_model.specs.Contents.{holding_in, values_held}
 use Rattle.wjs_model.specs.Standing.{IsFunction}
 use Rattle.wjs_model.specs.Soundness.{HasValue, IsThere}

@@ -2,6 +2,7 @@ use Rattle.std.proofs.Common.{ℕ, List, sym, ap, ◌∙◌, subst}
 use Rattle.std.specs.Prelude.{All, Ok, map}
 use Rattle.std.proofs.lemmas.Result.{on_ok_weaker}
 use Rattle.wjs_base.proofs.TextLaws.{Grows-trans}
+use Rattle.wjs_base.specs.declared.ids.NodeId.{NodeId}
 use Rattle.wjs_by_content.specs.Tables.{text_in}
 use Rattle.wjs_by_content.specs.Values.{Text}
 use Rattle.wjs_meaning.specs.Declarations.{declared_by}
@@ -13,7 +14,6 @@ use Rattle.wjs_frames.specs.Following.{Follows, Later}
 use Rattle.wjs_frames.specs.Parts.{env_in}
 use Rattle.wjs_heap_steps.proofs.Composing.{env_later}
 use Rattle.wjs_calls.proofs.Rows.{ok_later}
-use Rattle.wjs_tree.specs.declared.node.NodeId.{NodeId}
 use Rattle.wjs_tree.specs.declared.node.Node.TheVariants as nodes
 use Rattle.wjs_model.specs.Standing.{IsFunction}
 use Rattle.wjs_frames.proofs.Parting.{among_around, stands_here}

@@ -6,7 +6,7 @@ use Rattle.wjs_meaning.specs.Functions.{program_declare, program_from}
 use Rattle.wjs_meaning.specs.Reading.{node_in}
 use Rattle.wjs_meaning.specs.Trees.{Node, elements_of}
 use Rattle.wjs_model.specs.declared.frame.Activation.{Activation as Frame}
-use Rattle.wjs_model.specs.declared.unit.Unit.{Unit as Program}
+use Rattle.wjs_model.specs.declared.loaded.LoadedProgram.{LoadedProgram as Program}
 use Rattle.wjs_model.specs.Soundness.{IsThere}
 use Rattle.wjs_model.specs.Lists.{program_elements}
 use Rattle.wjs_frames.specs.Doing.{DoesFirst}

@@ -1,6 +1,6 @@
 use Rattle.std.proofs.Common.{◌+◌, ◌++◌, take, List, sym, subst}
 use Rattle.wjs_base.specs.declared.ids.TextId.{TextId}
-use Rattle.wjs_tree.specs.declared.node.NodeId.{NodeId}
+use Rattle.wjs_base.specs.declared.ids.NodeId.{NodeId}
 use Rattle.wjs_meaning.specs.Functions.{function_names}
 use Rattle.wjs_meaning.specs.Reading.{numbers}
 use Rattle.std.specs.Prelude.{map}

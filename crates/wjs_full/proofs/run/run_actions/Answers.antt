@@ -1,5 +1,4 @@
-use Rattle.std.proofs.Common.{◌≡◌, ◌++◌, ◌∷◌, [], List, take, ◌+◌, cond, ap, sym, ◌∙◌, subst}
-use Rattle.wjs_base.proofs.Results.{ok_of}
+use Rattle.std.proofs.Common.{◌≡◌, ◌++◌, ◌∷◌, [], List, take, ◌+◌, sym, subst}
 use Rattle.wjs_store.specs.declared.action.Answer.{Answer}
 use Rattle.wjs_store.specs.Run.{Runs}
 use Rattle.wjs_store.proofs.RunLaws.{run_more}

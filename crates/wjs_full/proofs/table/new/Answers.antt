@@ -1,5 +1,4 @@
-use Rattle.std.proofs.Common.{◌++◌, ◌∷◌, [], cond, ap, sym, ◌∙◌}
-use Rattle.wjs_base.proofs.Results.{ok_of}
+use Rattle.std.proofs.Common.{◌++◌, ◌∷◌, [], ap, ◌∙◌}
 use Rattle.wjs_full.specs.Rows.{worlds_in}
 use Rattle.wjs_full.proofs.Tables.{worlds_one}
 use Rattle.wjs_full.proofs.table.new.Goals as goal

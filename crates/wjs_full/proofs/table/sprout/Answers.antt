@@ -1,6 +1,5 @@
-use Rattle.std.proofs.Common.{◌≡◌, ◌<◌, ℕ, ap, sym, ◌∙◌, subst, ◌++◌, ◌∷◌, [], cond, length, slice_get}
+use Rattle.std.proofs.Common.{◌≡◌, ◌<◌, ℕ, ap, sym, ◌∙◌, subst, ◌++◌, ◌∷◌, [], length, slice_get}
 use Rattle.std.specs.Option.{option_map}
-use Rattle.wjs_base.proofs.Results.{ok_of}
 use Rattle.wjs_full.specs.Rows.{world_in, worlds_in}
 use Rattle.wjs_store.specs.State.{child_of, find_world, count_of}
 use Rattle.wjs_full.proofs.Tables.{sprout_more, sprout_none}

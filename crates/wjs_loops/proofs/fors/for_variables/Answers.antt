@@ -1,5 +1,5 @@
 use Rattle.std.proofs.Common.{ap}
-use Rattle.wjs_tree.specs.declared.node.NodeId.{NodeId}
+use Rattle.wjs_base.specs.declared.ids.NodeId.{NodeId}
 use Rattle.wjs_meaning.specs.Reading.{node_in, number}
 use Rattle.wjs_meaning.specs.Deeds.{Sub, then_normal}
 use Rattle.wjs_meaning.specs.Loops.{loop_from}

@@ -1,6 +1,7 @@
 use Rattle.std.proofs.Common.{None}
 use Rattle.wjs_io.specs.Streams.{stream}
-use Rattle.wjs_machine_tests.proofs.Telling.{never_rises, has_told}
+use Rattle.wjs_io.proofs.Rising.{never_rises}
+use Rattle.wjs_machine_tests.proofs.Telling.{has_told}
 use Rattle.wjs_machine_tests.proofs.runs.run_unheard.Goals as goal
 
 pub returns : goal.returns

@@ -1,5 +1,5 @@
 use Rattle.std.proofs.Common.{◌<◌, Vec, Global, length, sym, subst}
-use Rattle.wjs_model.specs.declared.unit.Unit.{Unit as Program}
+use Rattle.wjs_model.specs.declared.loaded.LoadedProgram.{LoadedProgram as Program}
 use Rattle.wjs_machine_tests.proofs.Walked.{base_in, entered_sound, entered_units, entered_running, entered_left}
 use Rattle.wjs_machine_tests.proofs.walks.enter_below.Goals as goal
 

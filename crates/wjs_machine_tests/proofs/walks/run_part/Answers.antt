@@ -1,5 +1,5 @@
 use Rattle.std.proofs.Common.{Vec, Global, ap, ◌∙◌}
-use Rattle.wjs_model.specs.declared.unit.Unit.{Unit as Program}
+use Rattle.wjs_model.specs.declared.loaded.LoadedProgram.{LoadedProgram as Program}
 use Rattle.wjs_model.specs.Texts.{KnowsUnit, PlacesUnit}
 use Rattle.wjs_machine_tests.proofs.Loaded.{pushed, all_one, part_there}
 use Rattle.wjs_machine_tests.proofs.walks.run_part.Goals as goal

@@ -1,13 +1,13 @@
 use Rattle.std.proofs.Common.{List, All, sym, subst}
 use Rattle.std.proofs.lemmas.List.Elements.{All-head, All-tail}
 use Rattle.std.specs.Prelude.{OnOk, map}
+use Rattle.std.proofs.lemmas.List.{nil_from_length}
 use Rattle.wjs_base.specs.declared.values.Value.{Value}
 use Rattle.wjs_by_content.specs.Tables.{value_in}
 use Rattle.wjs_meaning.specs.NativesOfObjects as line
 use Rattle.wjs_model.specs.Soundness.{HasValue}
 use Rattle.wjs_frames.specs.Following.{Follows}
 use Rattle.wjs_frames.specs.Parts.{env_in}
-use Rattle.wjs_native_core.proofs.Listing.{none_of}
 use Rattle.wjs_native_core.proofs.functions.call_on.Goals as goal
 
 pub returns-in-None : goal.returns-in-None
@@ -17,7 +17,7 @@ returns-in-None g c =
     let new = c.call_with.new.config in
     let t = new.heap.texts in
     let r = c.call_with.result in
-    subst (λ (vs : List Value). OnOk r (Follows m (line.function_call (value_in t c.args.this) (map (value_in t) vs) (env_in m old t c.args.frame)) old new)) (sym (none_of c.args.args.now c.in-None.ensures.cases)) c.call_with.ensures
+    subst (λ (vs : List Value). OnOk r (Follows m (line.function_call (value_in t c.args.this) (map (value_in t) vs) (env_in m old t c.args.frame)) old new)) (sym (nil_from_length c.args.args.now c.in-None.ensures.cases)) c.call_with.ensures
 
 pub returns-in-Some : goal.returns-in-Some
 returns-in-Some g c =

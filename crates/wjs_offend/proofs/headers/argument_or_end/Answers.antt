@@ -3,4 +3,4 @@ use Rattle.wjs_offend.proofs.Defaults.{argument_other}
 use Rattle.wjs_offend.proofs.headers.argument_or_end.Goals as goal
 
 pub returns-in_default : goal.returns-in_default
-returns-in_default c = c.operand.ensures ∙ argument_other c.args.class c.args.top c.in_default.not-CloseParen
+returns-in_default c = c.operand_start.ensures ∙ argument_other c.args.class c.args.top c.in_default.not-CloseParen

@@ -1,7 +1,7 @@
 use Rattle.wjs_frames.proofs.Shorter.{follows_shorter}
 use Rattle.wjs_by_content.specs.Tables.{value_in}
 use Rattle.wjs_frames.specs.Parts.{env_in}
-use Rattle.wjs_operators.proofs.Operators.{add_shortens}
+use Rattle.wjs_quick.proofs.Operations.{add_shortens}
 use Rattle.wjs_operators.proofs.additions.add.Goals as goal
 
 pub returns-then-are_primitives : goal.returns-then-are_primitives

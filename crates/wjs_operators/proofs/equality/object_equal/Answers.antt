@@ -3,7 +3,8 @@ use Rattle.wjs_step_common.proofs.Following.{follows_as}
 use Rattle.wjs_by_content.specs.Tables.{value_in}
 use Rattle.wjs_frames.specs.Parts.{env_in}
 use Rattle.wjs_operators.specs.Operating.{tells}
-use Rattle.wjs_operators.proofs.Operators.{equal_both, equal_left}
+use Rattle.wjs_quick.proofs.Operations.{equal_both}
+use Rattle.wjs_operators.proofs.Operators.{equal_left}
 use Rattle.wjs_operators.proofs.equality.object_equal.Goals as goal
 
 pub returns-then-is_object : goal.returns-then-is_object

@@ -2,7 +2,7 @@ use Rattle.std.proofs.Common.{refl}
 use Rattle.wjs_step_common.proofs.Following.{follows_by}
 use Rattle.wjs_by_content.specs.Tables.{value_in}
 use Rattle.wjs_frames.specs.Parts.{env_in}
-use Rattle.wjs_operators.proofs.Operators.{arithmetic_shortens}
+use Rattle.wjs_quick.proofs.Operations.{arithmetic_shortens}
 use Rattle.wjs_operators.proofs.operands.calculate.Goals as goal
 
 pub returns-then-are_primitives : goal.returns-then-are_primitives

@@ -2,12 +2,15 @@ use Rattle.std.proofs.Common.{◌≡◌, ℕ, ◌<◌, ◌≤◌, length, take, 
 use Rattle.std.specs.FinMap as map
 use Rattle.std.specs.Map.{lookup_entry}
 use Rattle.std.proofs.lemmas.List.{take_all}
+use Rattle.std.proofs.lemmas.Option.{slice_get_within}
 use Rattle.wjs_base.specs.Order.{slot_cmp, slot_total}
+use Rattle.wjs_base.proofs.Lists.{get_past, take_next}
 use Rattle.wjs_rows.specs.Order.{is_from}
 use Rattle.wjs_slots.specs.Least.{first_slot}
 use Rattle.wjs_layers.specs.Marks.{reads_in, writes_in}
-use Rattle.wjs_layers.proofs.Entries.{after_is, from_is, all_slots, slice_below, slice_past, take_next}
-use Rattle.wjs_overlay.proofs.MarkLaws.{reads_push, writes_push, one_most}
+use Rattle.wjs_layers.proofs.Entries.{after_is, from_is, all_slots}
+use Rattle.wjs_layers.proofs.Works.{one_most}
+use Rattle.wjs_overlay.proofs.MarkLaws.{reads_push, writes_push}
 use Rattle.wjs_overlay.proofs.marks.count_rows.Goals as goal
 
 pub marks-init : goal.marks-init
@@ -22,7 +25,7 @@ marks-init g c = record {
 
 pub prove-unreachable-requires : goal.prove-unreachable-requires
 prove-unreachable-requires g c =
-    let l : c.marks.seen < length (map.entries c.args.layer.now.rows) = slice_below (map.entries c.args.layer.now.rows) c.marks.seen (c.in-Some.slot, c.in-Some.row) (sym c.marks.invariant.next ∙ c.in-Some.is) in
+    let l : c.marks.seen < length (map.entries c.args.layer.now.rows) = slice_get_within (map.entries c.args.layer.now.rows) c.marks.seen (c.in-Some.slot, c.in-Some.row) (sym c.marks.invariant.next ∙ c.in-Some.is) in
     let t : c.len-total.result ≡ length (map.entries c.args.layer.now.rows) = c.len-total.ensures in
     let n : c.len-total.result ≤ c.marks.seen = c.if-prove.true in
     omega arith
@@ -30,7 +33,7 @@ prove-unreachable-requires g c =
 pub marks-preserved : goal.marks-preserved
 marks-preserved g c =
     let s = sym c.marks.invariant.next ∙ c.in-Some.is in
-    let l : c.marks.seen < length (map.entries c.args.layer.now.rows) = slice_below (map.entries c.args.layer.now.rows) c.marks.seen (c.in-Some.slot, c.in-Some.row) s in
+    let l : c.marks.seen < length (map.entries c.args.layer.now.rows) = slice_get_within (map.entries c.args.layer.now.rows) c.marks.seen (c.in-Some.slot, c.in-Some.row) s in
     let more = take_next (map.entries c.args.layer.now.rows) c.marks.seen (c.in-Some.slot, c.in-Some.row) s in
     let r = ap reads_in more ∙ reads_push (take c.marks.seen (map.entries c.args.layer.now.rows)) (c.in-Some.slot, c.in-Some.row) in
     let q = ap writes_in more ∙ writes_push (take c.marks.seen (map.entries c.args.layer.now.rows)) (c.in-Some.slot, c.in-Some.row) in
@@ -49,10 +52,10 @@ marks-preserved g c =
 
 pub returns-clause-reads : goal.returns-clause-reads
 returns-clause-reads g c =
-    let l : length (map.entries c.args.layer.now.rows) ≤ c.marks.seen = slice_past (map.entries c.args.layer.now.rows) c.marks.seen (sym c.marks.invariant.next ∙ c.in_default.is) in
+    let l : length (map.entries c.args.layer.now.rows) ≤ c.marks.seen = get_past (map.entries c.args.layer.now.rows) c.marks.seen (sym c.marks.invariant.next ∙ c.in_default.is) in
     c.marks.invariant.reads ∙ ap reads_in (take_all c.marks.seen (map.entries c.args.layer.now.rows) l)
 
 pub returns-clause-writes : goal.returns-clause-writes
 returns-clause-writes g c =
-    let l : length (map.entries c.args.layer.now.rows) ≤ c.marks.seen = slice_past (map.entries c.args.layer.now.rows) c.marks.seen (sym c.marks.invariant.next ∙ c.in_default.is) in
+    let l : length (map.entries c.args.layer.now.rows) ≤ c.marks.seen = get_past (map.entries c.args.layer.now.rows) c.marks.seen (sym c.marks.invariant.next ∙ c.in_default.is) in
     c.marks.invariant.writes ∙ ap writes_in (take_all c.marks.seen (map.entries c.args.layer.now.rows) l)

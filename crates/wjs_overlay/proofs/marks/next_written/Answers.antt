@@ -1,7 +1,7 @@
 use Rattle.std.proofs.Common.{◌&&◌, ap, sym, ◌∙◌}
+use Rattle.wjs_base.proofs.Options.{no_none}
 use Rattle.wjs_layers.specs.Cursor.{to_come}
 use Rattle.wjs_overlay.proofs.MarkLaws.{not_none}
-use Rattle.wjs_layers.proofs.Places.{no_none}
 use Rattle.wjs_overlay.proofs.marks.next_written.Goals as goal
 
 pub returns-then-is_first : goal.returns-then-is_first

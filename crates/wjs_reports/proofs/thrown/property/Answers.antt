@@ -10,10 +10,10 @@ use Rattle.wjs_reports.proofs.Leaving.{get_leaves}
 use Rattle.wjs_reports.proofs.thrown.property.Goals as goal
 
 pub get-requires-clause-heap : goal.get-requires-clause-heap
-get-requires-clause-heap g c = heap_grows (parts g.S.WorldStore.meaning c.args.config.now.heap) c.intern.new.self c.in-Ok.ensures.table c.in-Ok.ensures.grows c.requires.base.heap
+get-requires-clause-heap g c = heap_grows (parts g.S.WorldStore.meaning c.args.config.now.heap) c.intern.new.self c.in_ok-id.ensures.table c.in_ok-id.ensures.grows c.requires.base.heap
 
 pub get-requires-clause-name : goal.get-requires-clause-name
-get-requires-clause-name g c = IsNameOf-IsName c.intern.new.self c.in-Ok.id c.name_of-name.result (Denotes-Has c.intern.new.self c.in-Ok.id c.args.units.now c.in-Ok.ensures.ok.denotes) c.name_of-name.ensures
+get-requires-clause-name g c = IsNameOf-IsName c.intern.new.self c.in_ok-id.id c.name_of-name.result (Denotes-Has c.intern.new.self c.in_ok-id.id c.args.units.now c.in_ok-id.ensures.ok.denotes) c.name_of-name.ensures
 
 -- what was done from the first texts on
 gets_so : goal.returns-clause-gets
@@ -32,9 +32,9 @@ gets_so g c =
     (parts m c.get.new.heap)
     (λ t more.
     let later = Grows-trans texts c.get.new.heap.texts t did.texts more in
-    ap (plan.get (arena_in t arena) o) (named_in texts t c.in-Ok.id c.name_of-name.result c.name_of-name.ensures later ∙ denotes_in texts t c.in-Ok.id c.args.units.now c.in-Ok.ensures.ok.denotes later))
+    ap (plan.get (arena_in t arena) o) (named_in texts t c.in_ok-id.id c.name_of-name.result c.name_of-name.ensures later ∙ denotes_in texts t c.in_ok-id.id c.args.units.now c.in_ok-id.ensures.ok.denotes later))
     (λ t more. refl)
-    (performs_grown (parts m c.args.config.now.heap) texts c.in-Ok.ensures.table c.in-Ok.ensures.grows c.args.config.now.world (λ t. plan.get (arena_in t arena) o (name_in t c.name_of-name.result)) (λ t. content_in t c.in_ok-found.found) (parts m c.get.new.heap) did)
+    (performs_grown (parts m c.args.config.now.heap) texts c.in_ok-id.ensures.table c.in_ok-id.ensures.grows c.args.config.now.world (λ t. plan.get (arena_in t arena) o (name_in t c.name_of-name.result)) (λ t. content_in t c.in_ok-found.found) (parts m c.get.new.heap) did)
 
 pub returns-clause-gets : goal.returns-clause-gets
 returns-clause-gets g c = gets_so g c

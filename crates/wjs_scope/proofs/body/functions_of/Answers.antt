@@ -1,5 +1,5 @@
 use Rattle.std.proofs.Common.{◌∙◌, ap, Vec, Global}
-use Rattle.wjs_tree.specs.declared.node.NodeId.{NodeId}
+use Rattle.wjs_base.specs.declared.ids.NodeId.{NodeId}
 use Rattle.wjs_scope.proofs.Functions.{here, with_one, without}
 use Rattle.wjs_scope.proofs.body.functions_of.Goals as goal
 use Rattle.wjs_scope.proofs.body.functions_of.Goals.{then-is_function+in_ok-push, else-is_function}

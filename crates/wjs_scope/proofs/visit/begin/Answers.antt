@@ -1,8 +1,8 @@
 use Rattle.std.proofs.Common.{sym, subst, List, IfOk}
 use Rattle.std.proofs.lemmas.Result.{IfOk-weaker}
 use Rattle.wjs_base.specs.declared.ids.TextId.{TextId}
+use Rattle.wjs_base.specs.declared.ids.NodeId.{NodeId}
 use Rattle.wjs_tree.specs.declared.node.Node.{Node}
-use Rattle.wjs_tree.specs.declared.node.NodeId.{NodeId}
 use Rattle.wjs_scope.specs.Nesting.{plain_parts}
 use Rattle.wjs_scope.specs.Visits.{Begins}
 use Rattle.wjs_scope.proofs.Visiting.{function_begins, declaration_begins, nothing_begins, all_around, NamesBody}

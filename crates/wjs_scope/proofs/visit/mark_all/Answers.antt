@@ -1,6 +1,6 @@
 use Rattle.std.proofs.Common.{◌∙◌, ap, sym, List}
+use Rattle.wjs_base.specs.declared.ids.NodeId.{NodeId}
 use Rattle.wjs_tree.specs.declared.node.Node.{Node}
-use Rattle.wjs_tree.specs.declared.node.NodeId.{NodeId}
 use Rattle.wjs_scope.specs.Nesting.{parts, plain_parts}
 use Rattle.wjs_scope.specs.Marks.{marked, marked_parts}
 use Rattle.wjs_scope.proofs.Visiting.{around_marked, inside_marked, all_around}

@@ -5,18 +5,25 @@ use Rattle.wjs_base.proofs.TextLaws.{Grows-refl}
 use Rattle.wjs_tries.proofs.Exactly.{ends_by, ends_by_ok}
 use Rattle.wjs_tries.proofs.Finished.{dropped, agreed, spent_left, end_turned, end_awake, end_kept, end_no_rest, end_no_drop, own_agrees}
 use Rattle.wjs_tries.proofs.Hidings.{left_apart, end_apart}
+use Rattle.wjs_tries.proofs.Owning.{worlds_are_own}
 use Rattle.wjs_tries.proofs.Turned.{live}
 use Rattle.wjs_tries.proofs.ending.finish.Goals as goal
 
 pub agrees-requires : goal.agrees-requires
 agrees-requires c = live c.args.config c.requires.sound.base
 
-pub left_behind-requires : goal.left_behind-requires
-left_behind-requires c = live c.args.config c.requires.sound.base
+pub left_behind-requires-clause-live : goal.left_behind-requires-clause-live
+left_behind-requires-clause-live c = live c.args.config c.requires.sound.base
+
+pub left_behind-requires-clause-others : goal.left_behind-requires-clause-others
+left_behind-requires-clause-others c = c.requires.others
+
+pub left_behind-requires-clause-worlds : goal.left_behind-requires-clause-worlds
+left_behind-requires-clause-worlds c = worlds_are_own c.args.config.heap.arena c.requires.sound.base.worlds_by
 
 pub returns-then-not-agrees-clause-turned : goal.returns-then-not-agrees-clause-turned
 returns-then-not-agrees-clause-turned c = λ trees tree budget drawn over. dropped c.args.config c.requires.sound c.left_behind.result
-    c.left_behind.ensures.gives_up trees tree budget drawn over.owner over.common
+    c.left_behind.ensures.gives_up trees tree budget drawn over.owner over.shared
 
 pub returns-then-not-agrees-clause-awake : goal.returns-then-not-agrees-clause-awake
 returns-then-not-agrees-clause-awake c = λ r. r

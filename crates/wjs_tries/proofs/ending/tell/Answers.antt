@@ -1,10 +1,12 @@
 use Rattle.std.proofs.Common.{List, ℕ, sym, subst}
+use Rattle.wjs_arena.specs.Entries.{Objects, IsArena, others_of}
 use Rattle.wjs_model.specs.Soundness.{HasThrown}
 use Rattle.wjs_tries.specs.declared.outcome.Outcome.TheVariants as told
 use Rattle.wjs_tries.specs.declared.turns.Came.TheVariants as came
 use Rattle.wjs_tries.specs.Meant.{session_meaning}
 use Rattle.wjs_tries.specs.Turning.{IsAtEnd}
 use Rattle.wjs_tries.proofs.Finished.{threw}
+use Rattle.wjs_tries.proofs.Owning.{worlds_are_own}
 use Rattle.wjs_tries.proofs.Turned.{live}
 use Rattle.wjs_tries.proofs.ending.tell.Goals as goal
 
@@ -14,8 +16,16 @@ show_thrown-requires-clause-base c = c.requires.sound.base
 pub show_thrown-requires-clause-value : goal.show_thrown-requires-clause-value
 show_thrown-requires-clause-value c = subst (HasThrown c.args.config) c.requires.threw c.requires.sound.thrown
 
-pub left_behind-requires : goal.left_behind-requires
-left_behind-requires c = live c.show_thrown.new.config c.in_ok-text.ensures.leaves.base
+pub left_behind-requires-clause-live : goal.left_behind-requires-clause-live
+left_behind-requires-clause-live c = live c.show_thrown.new.config c.in_ok-text.ensures.leaves.base
+
+pub left_behind-requires-clause-others : goal.left_behind-requires-clause-others
+left_behind-requires-clause-others c =
+    let leaves = c.in_ok-text.ensures.leaves in
+    subst (λ (m : Objects). IsArena m) (sym (λ i. others_of (leaves.objects i) (leaves.stays.owner i))) c.requires.others
+
+pub left_behind-requires-clause-worlds : goal.left_behind-requires-clause-worlds
+left_behind-requires-clause-worlds c = worlds_are_own c.show_thrown.new.config.heap.arena c.in_ok-text.ensures.leaves.base.worlds_by
 
 pub returns : goal.returns
 returns c =

@@ -1,8 +1,14 @@
 use Rattle.std.proofs.Common.{◌<◌, length, set, sym, ◌∙◌, subst}
 use Rattle.wjs_tries.proofs.resuming.rest.Goals as goal
 
-pub pause-common-requires : goal.pause-common-requires
-pause-common-requires c = c.requires.live
+pub pause-common-requires-clause-live : goal.pause-common-requires-clause-live
+pause-common-requires-clause-live c = c.requires.live
+
+pub pause-common-requires-clause-others : goal.pause-common-requires-clause-others
+pause-common-requires-clause-others c = c.requires.others
+
+pub pause-common-requires-clause-worlds : goal.pause-common-requires-clause-worlds
+pause-common-requires-clause-worlds c = c.requires.worlds
 
 pub set_apart-requires : goal.set_apart-requires
 set_apart-requires c = subst (λ v. c.args.place < length v.items) (sym c.pause-common.ensures.apart) c.requires.place

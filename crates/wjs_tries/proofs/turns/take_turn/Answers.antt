@@ -1,8 +1,11 @@
 use Rattle.std.proofs.Common.{◌<◌, length, sym, ap, ◌∙◌, subst}
 use Rattle.std.proofs.lemmas.Result.{IfOk-weaker}
+use Rattle.wjs_arena.specs.Entries.{Objects, IsArena}
+use Rattle.wjs_tries.specs.Meant.{session_meaning}
 use Rattle.wjs_tries.proofs.Exactly.{exact_rests, exact_over}
 use Rattle.wjs_tries.proofs.Finished.{finished_turned}
 use Rattle.wjs_tries.proofs.Hidings.{rests_apart, ends_apart_ok}
+use Rattle.wjs_tries.proofs.Owning.{others_stay, worlds_are_own}
 use Rattle.wjs_tries.proofs.Rests.{rests_turned, less_left, not_whole, less_awake}
 use Rattle.wjs_tries.proofs.Turned.{live, first_stays}
 use Rattle.wjs_tries.proofs.turns.take_turn.Goals as goal
@@ -12,6 +15,17 @@ rest-common-requires-clause-live c = live c.walk.new.config c.in_ok-_taken.ensur
 
 pub rest-common-requires-clause-place : goal.rest-common-requires-clause-place
 rest-common-requires-clause-place c = subst (λ v. c.args.place < length v.items) (sym c.in_ok-_taken.ensures.stays.apart) c.requires.place
+
+pub rest-common-requires-clause-others : goal.rest-common-requires-clause-others
+rest-common-requires-clause-others c =
+    subst (λ (m : Objects). IsArena m) (sym (others_stay session_meaning c.args.config c.walk.new.config c.in_ok-_taken.ensures.stays)) c.requires.others
+
+pub rest-common-requires-clause-worlds : goal.rest-common-requires-clause-worlds
+rest-common-requires-clause-worlds c = worlds_are_own c.walk.new.config.heap.arena c.in_ok-_taken.ensures.sound.base.worlds_by
+
+pub finish-requires-clause-others : goal.finish-requires-clause-others
+finish-requires-clause-others c =
+    subst (λ (m : Objects). IsArena m) (sym (others_stay session_meaning c.args.config c.walk.new.config c.in_ok-_taken.ensures.stays)) c.requires.others
 
 pub finish-requires-clause-over : goal.finish-requires-clause-over
 finish-requires-clause-over c = c.in_default.not-Running
@@ -30,7 +44,7 @@ returns-in-Running-clause-turned c = λ trees tree budget drawn is.
     c.rest-common.ensures.stands c.rest-common.ensures.number
     (c.rest-common.ensures.same c.in-Running.is (w.stays.global ∙ is.trying.global)
     (w.stays.world ∙ is.trying.world ∙ ap (λ q. record { owner = q; serial = 0 })
-    (sym w.stays.owner))) c.rest-common.ensures.owner c.rest-common.ensures.left
+    (sym w.stays.owner))) c.rest-common.ensures.owner c.rest-common.ensures.objects c.rest-common.ensures.left
 
 pub returns-in-Running-clause-whole : goal.returns-in-Running-clause-whole
 returns-in-Running-clause-whole c =
@@ -78,7 +92,7 @@ pub returns-in_default-clause-exact : goal.returns-in_default-clause-exact
 returns-in_default-clause-exact c =
     IfOk-weaker c.finish.result _ _
     (λ r h trees tree budget drawn is known. exact_over trees tree budget drawn c.args.steps c.in_ok-_taken._taken c.args.config c.walk.new.config is
-    c.in_ok-_taken.ensures known r.0 h.texts h.arena_is c.in_default.not-Running r.1 h.by_check)
+    c.in_ok-_taken.ensures known r.0 h.texts c.in_default.not-Running r.1 h.arena_is h.by_check)
     c.finish.ensures.checked
 
 -- and names nothing of what is kept apart

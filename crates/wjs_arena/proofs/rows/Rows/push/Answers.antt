@@ -41,7 +41,7 @@ returns-in-Some-clause-ok c =
     let after = (c.get_mut.follows.holds rows).3 (subst IsSome (sym found) refl) in
     let there = at_found (λ rows. rows.items) ((0, first) ∷ rest) c.args.owner _ (others_after (λ rows. rows.items) first rest c.args.owner c.if-owner-eq0.false ∙ found) in
     on_ok_weaker c.push_last-in-Some.result (λ h.
-    pushed (λ rows. rows.items) ((0, first) ∷ rest) ((0, first) ∷ then) c.args.owner c.args.entry rows (h ∙ ap (λ es. es ++ c.args.entry ∷ []) (sym there)) (other_written (λ rows. rows.items) first rows rest then c.args.owner c.if-owner-eq0.false (λ q. after.0 q))
+    pushed (λ rows. rows.items) ((0, first) ∷ rest) ((0, first) ∷ then) c.args.owner c.args.entry rows (h ∙ ap (λ es. es ++ c.args.entry ∷ []) (sym there)) (other_written (λ rows. rows.items) first (Some rows) rest then c.args.owner c.if-owner-eq0.false (λ q. after.0 q))
     ∙ ap (λ m. map.insert m (next_number m c.args.owner) c.args.entry) c.self.view_is) c.push_last-in-Some.ensures.ok
 
 pub returns-in-Some-clause-err : goal.returns-in-Some-clause-err
@@ -54,7 +54,7 @@ returns-in-Some-clause-err c =
     let after = (c.get_mut.follows.holds rows).3 (subst IsSome (sym found) refl) in
     let there = at_found (λ rows. rows.items) ((0, first) ∷ rest) c.args.owner _ (others_after (λ rows. rows.items) first rest c.args.owner c.if-owner-eq0.false ∙ found) in
     on_err_weaker c.push_last-in-Some.result (λ h.
-    written_back (λ rows. rows.items) ((0, first) ∷ rest) ((0, first) ∷ then) c.args.owner rows (h ∙ sym there) (other_written (λ rows. rows.items) first rows rest then c.args.owner c.if-owner-eq0.false (λ q. after.0 q))
+    written_back (λ rows. rows.items) ((0, first) ∷ rest) ((0, first) ∷ then) c.args.owner rows (h ∙ sym there) (other_written (λ rows. rows.items) first (Some rows) rest then c.args.owner c.if-owner-eq0.false (λ q. after.0 q))
     ∙ c.self.view_is) c.push_last-in-Some.ensures.err
 
 pub returns-in-None-clause-ok : goal.returns-in-None-clause-ok
@@ -64,7 +64,7 @@ returns-in-None-clause-ok c =
     let first = c.self.inside.first in
     let there = at_missing (λ rows. rows.items) ((0, first) ∷ rest) c.args.owner (others_after (λ rows. rows.items) first rest c.args.owner c.if-owner-eq0.false ∙ none) in
     on_ok_weaker c.push_first.result (λ h.
-    pushed (λ rows. rows.items) ((0, first) ∷ rest) ((0, first) ∷ c.push_first.new.owners.entries) c.args.owner c.args.entry h.0 (h.1 ∙ ap (λ es. es ++ c.args.entry ∷ []) (sym there)) (other_written (λ rows. rows.items) first h.0 rest c.push_first.new.owners.entries c.args.owner c.if-owner-eq0.false (λ q. h.2 q ∙ ap (λ m. cond (is_at (nat_cmp c.args.owner) q) (Some h.0) (get nat_cmp m q)) c.get_mut.follows.holds-at-none))
+    pushed (λ rows. rows.items) ((0, first) ∷ rest) ((0, first) ∷ c.push_first.new.owners.entries) c.args.owner c.args.entry h.0 (h.1 ∙ ap (λ es. es ++ c.args.entry ∷ []) (sym there)) (other_written (λ rows. rows.items) first (Some h.0) rest c.push_first.new.owners.entries c.args.owner c.if-owner-eq0.false (λ q. h.2 q ∙ ap (λ m. cond (is_at (nat_cmp c.args.owner) q) (Some h.0) (get nat_cmp m q)) c.get_mut.follows.holds-at-none))
     ∙ ap (λ m. map.insert m (next_number m c.args.owner) c.args.entry) c.self.view_is) c.push_first.ensures.ok
 
 pub returns-in-Some-clause-serials : goal.returns-in-Some-clause-serials

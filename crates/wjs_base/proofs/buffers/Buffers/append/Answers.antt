@@ -1,4 +1,4 @@
-use Rattle.std.proofs.Common.{refl, arith}
+use Rattle.std.proofs.Common.{refl}
 use Rattle.std.specs.Result.{is_ok}
 use Rattle.wjs_base.proofs.Standing.{grown_by, after, after_stands, after_within, after_units}
 use Rattle.wjs_base.proofs.buffers.Buffers.append.Goals as goal

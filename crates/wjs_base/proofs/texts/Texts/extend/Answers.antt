@@ -1,3 +1,4 @@
+use Rattle.std.proofs.lemmas.Result.{err_from_is_err_and}
 use Rattle.std.proofs.Common.{◌≡◌, ◌++◌, length, refl, sym, ap, subst, ◌∙◌, arith}
 use Rattle.wjs_base.specs.Hash.{hash_behind, hash_of}
 use Rattle.wjs_base.specs.Keys.{texts_in}
@@ -51,8 +52,8 @@ returns-clause-ok c = λ units at.
     let entries = c.self.inside.spans.entries in
     let same = Denotes-unique (texts_in buffers entries) c.args.front units (units_in buffers c.entry_at.result.1) (subst (λ (ts : Table). Denotes ts c.args.front units) (sym c.self.view_is) at) (text_at buffers entries c.args.front.0 c.entry_at.result c.entry_at.ensures) in
     let new = texts_in c.put.new.buffers c.put.new.spans.entries in
-    subst (λ (us : Units). Interns c.args.self.now new (us ++ c.args.back.now) c.in-Ok.id) (sym same)
-    (subst (λ (ts : Table). Interns ts new (units_in buffers c.entry_at.result.1 ++ c.args.back.now) c.in-Ok.id) c.self.view_is c.in-Ok.ensures.ok)
+    subst (λ (us : Units). Interns c.args.self.now new (us ++ c.args.back.now) c.in_ok-put.field-0) (sym same)
+    (subst (λ (ts : Table). Interns ts new (units_in buffers c.entry_at.result.1 ++ c.args.back.now) c.in_ok-put.field-0) c.self.view_is c.in_ok-put.ensures.ok)
 
 pub returns-clause-too_long : goal.returns-clause-too_long
 returns-clause-too_long c = λ units at.
@@ -62,3 +63,13 @@ returns-clause-too_long c = λ units at.
     let one = ap (λ (us : Units). length us) same in
     let two = ap (λ (us : Units). length us) c.units.ensures in
     (λ e. cc, λ e. absurd (omega (arith, one, two, e)))
+
+pub returns-in_err-put-clause-too_long : goal.returns-in_err-put-clause-too_long
+returns-in_err-put-clause-too_long c = λ units at.
+    let buffers = c.self.inside.buffers in
+    let entries = c.self.inside.spans.entries in
+    let same = Denotes-unique (texts_in buffers entries) c.args.front units (units_in buffers c.entry_at.result.1) (subst (λ (ts : Table). Denotes ts c.args.front units) (sym c.self.view_is) at) (text_at buffers entries c.args.front.0 c.entry_at.result c.entry_at.ensures) in
+    let one = ap (λ (us : Units). length us) same in
+    let two = ap (λ (us : Units). length us) c.units.ensures in
+    let p = err_from_is_err_and c.from_residual.result c.from_residual.ensures.1 in
+    rw (p.1, p.2) (λ e. cc, λ e. absurd (omega (arith, one, two, e)))

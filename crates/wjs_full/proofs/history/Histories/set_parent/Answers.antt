@@ -1,7 +1,6 @@
-use Rattle.std.proofs.Common.{sym, ap, ◌∙◌}
+use Rattle.std.proofs.Common.{ap, ◌∙◌}
 use Rattle.std.specs.FinMap as map
 use Rattle.wjs_base.specs.Order.{world_total, world_exact}
-use Rattle.wjs_base.proofs.Results.{at_ok}
 use Rattle.wjs_full.specs.History.{Histories}
 use Rattle.wjs_base.proofs.Trees.{insert_tree}
 use Rattle.wjs_full.proofs.history.Histories.set_parent.Goals as goal

@@ -1,7 +1,6 @@
-use Rattle.std.proofs.Common.{sym, ap, ◌∙◌}
+use Rattle.std.proofs.Common.{ap, ◌∙◌}
 use Rattle.std.specs.FinMap as map
 use Rattle.wjs_base.specs.Order.{obj_total, obj_exact}
-use Rattle.wjs_base.proofs.Results.{at_ok}
 use Rattle.wjs_base.proofs.Trees.{insert_tree}
 use Rattle.wjs_full.proofs.maps.ObjSet.insert.Goals as goal
 

@@ -1,11 +1,8 @@
 use Rattle.std.proofs.Common.{ap, ◌∙◌}
-use Rattle.wjs_layers.specs.Shorts.{row_first, row_in}
-use Rattle.wjs_layers.specs.Tables.{rows_by}
+use Rattle.wjs_layers.specs.Keyed.{rows_by}
+use Rattle.wjs_layers.specs.Shorts.{at_first}
 use Rattle.wjs_layers.proofs.Tables.{rows_empty}
 use Rattle.wjs_layers.proofs.layer.Kept.clear.Goals as goal
 
 pub returns-in-First-clause-rows : goal.returns-in-First-clause-rows
-returns-in-First-clause-rows c = ap (rows_by row_first) c.new.ensures ∙ rows_empty row_first
-
-pub returns-in-Under-clause-rows : goal.returns-in-Under-clause-rows
-returns-in-Under-clause-rows c = ap (rows_by row_in) c.new-in-Under.ensures ∙ rows_empty row_in
+returns-in-First-clause-rows c = ap (rows_by at_first) c.new.ensures ∙ rows_empty at_first

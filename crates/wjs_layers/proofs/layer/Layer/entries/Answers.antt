@@ -2,10 +2,12 @@ use Rattle.std.proofs.Common.{◌≡◌, ◌++◌, ◌∷◌, [], ◌+◌, ◌<�
 use Rattle.std.specs.FinMap as map
 use Rattle.std.specs.Map.{lookup_entry}
 use Rattle.std.proofs.lemmas.List.{take_all}
+use Rattle.std.proofs.lemmas.Option.{slice_get_within}
 use Rattle.wjs_base.specs.Order.{slot_cmp, slot_total}
+use Rattle.wjs_base.proofs.Lists.{get_past, take_next}
 use Rattle.wjs_rows.specs.Order.{is_from}
 use Rattle.wjs_slots.specs.Least.{first_slot}
-use Rattle.wjs_layers.proofs.Entries.{after_is, from_is, all_slots, slice_below, slice_past, take_next}
+use Rattle.wjs_layers.proofs.Entries.{after_is, from_is, all_slots}
 use Rattle.wjs_layers.proofs.layer.Layer.entries.Goals as goal
 
 pub rows-init : goal.rows-init
@@ -25,7 +27,7 @@ returns-in_err-push-clause-steps g c = omega (arith, c.rows.invariant.cost, c.ro
 pub rows-smaller : goal.rows-smaller
 rows-smaller g c =
     let s = sym c.rows.invariant.next ∙ c.in-Some.is in
-    let l : length c.rows.all.items < length (map.entries c.args.self.now.rows) = slice_below (map.entries c.args.self.now.rows) (length c.rows.all.items) c.in-Some.row s in
+    let l : length c.rows.all.items < length (map.entries c.args.self.now.rows) = slice_get_within (map.entries c.args.self.now.rows) (length c.rows.all.items) c.in-Some.row s in
     let pushed : c.push.new.self.items ≡ c.rows.all.items ++ c.in-Some.row ∷ [] = c.in_ok-push.ensures.items in
     let n : length c.push.new.self.items ≡ length c.rows.all.items + 1 = ap length pushed ∙ length-append c.rows.all.items (c.in-Some.row ∷ []) in
     omega arith
@@ -34,7 +36,7 @@ pub rows-preserved : goal.rows-preserved
 rows-preserved g c =
     let s = sym c.rows.invariant.next ∙ c.in-Some.is in
     let i = length c.rows.all.items in
-    let l : length c.rows.all.items < length (map.entries c.args.self.now.rows) = slice_below (map.entries c.args.self.now.rows) i c.in-Some.row s in
+    let l : length c.rows.all.items < length (map.entries c.args.self.now.rows) = slice_get_within (map.entries c.args.self.now.rows) i c.in-Some.row s in
     let pushed : c.push.new.self.items ≡ c.rows.all.items ++ c.in-Some.row ∷ [] = c.in_ok-push.ensures.items in
     let n : length c.push.new.self.items ≡ length c.rows.all.items + 1 = ap length pushed ∙ length-append c.rows.all.items (c.in-Some.row ∷ []) in
     record {
@@ -46,7 +48,7 @@ rows-preserved g c =
 
 pub returns-clause-all : goal.returns-clause-all
 returns-clause-all g c =
-    let l : length (map.entries c.args.self.now.rows) ≤ length c.rows.all.items = slice_past (map.entries c.args.self.now.rows) (length c.rows.all.items) (sym c.rows.invariant.next ∙ c.in_default.is) in
+    let l : length (map.entries c.args.self.now.rows) ≤ length c.rows.all.items = get_past (map.entries c.args.self.now.rows) (length c.rows.all.items) (sym c.rows.invariant.next ∙ c.in_default.is) in
     c.rows.invariant.all ∙ take_all (length c.rows.all.items) (map.entries c.args.self.now.rows) l
 
 pub returns-clause-steps : goal.returns-clause-steps

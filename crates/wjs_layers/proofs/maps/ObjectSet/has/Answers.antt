@@ -1,7 +1,7 @@
 use Rattle.std.proofs.Common.{sym, ap, ◌∙◌, is_some}
 use Rattle.std.specs.FinMap as map
 use Rattle.wjs_base.specs.Order.{obj_total}
-use Rattle.wjs_slots.proofs.Basics.{some_copied}
+use Rattle.wjs_names.proofs.Basics.{some_copied}
 use Rattle.wjs_layers.proofs.Lists.{get_list}
 use Rattle.wjs_layers.proofs.maps.ObjectSet.has.Goals as goal
 

@@ -2,10 +2,12 @@ use Rattle.std.proofs.Common.{◌≡◌, ◌++◌, ◌∷◌, [], ◌+◌, ◌<�
 use Rattle.std.specs.FinMap as map
 use Rattle.std.specs.Map.{lookup_key}
 use Rattle.std.proofs.lemmas.List.{take_all}
+use Rattle.std.proofs.lemmas.Option.{slice_get_within}
 use Rattle.wjs_base.specs.Order.{obj_cmp, obj_total}
+use Rattle.wjs_base.proofs.Lists.{get_past, take_next}
 use Rattle.wjs_rows.specs.Order.{is_from}
 use Rattle.wjs_layers.specs.Least.{first_object}
-use Rattle.wjs_layers.proofs.Entries.{after_key, from_key, all_objects, slice_below, slice_past, take_next}
+use Rattle.wjs_layers.proofs.Entries.{after_key, from_key, all_objects}
 use Rattle.wjs_layers.proofs.maps.ObjectSet.objects.Goals as goal
 
 pub objects-init : goal.objects-init
@@ -25,7 +27,7 @@ returns-in_err-push-clause-steps g c = omega (arith, c.objects.invariant.cost, c
 pub objects-smaller : goal.objects-smaller
 objects-smaller g c =
     let s = sym c.objects.invariant.next ∙ c.in-Some.is in
-    let l : length c.objects.all.items < length (map.keys c.args.self.now) = slice_below (map.keys c.args.self.now) (length c.objects.all.items) c.in-Some.object s in
+    let l : length c.objects.all.items < length (map.keys c.args.self.now) = slice_get_within (map.keys c.args.self.now) (length c.objects.all.items) c.in-Some.object s in
     let pushed : c.push.new.self.items ≡ c.objects.all.items ++ c.in-Some.object ∷ [] = c.in_ok-push.ensures.items in
     let n : length c.push.new.self.items ≡ length c.objects.all.items + 1 = ap length pushed ∙ length-append c.objects.all.items (c.in-Some.object ∷ []) in
     omega arith
@@ -34,7 +36,7 @@ pub objects-preserved : goal.objects-preserved
 objects-preserved g c =
     let s = sym c.objects.invariant.next ∙ c.in-Some.is in
     let i = length c.objects.all.items in
-    let l : length c.objects.all.items < length (map.keys c.args.self.now) = slice_below (map.keys c.args.self.now) i c.in-Some.object s in
+    let l : length c.objects.all.items < length (map.keys c.args.self.now) = slice_get_within (map.keys c.args.self.now) i c.in-Some.object s in
     let pushed : c.push.new.self.items ≡ c.objects.all.items ++ c.in-Some.object ∷ [] = c.in_ok-push.ensures.items in
     let n : length c.push.new.self.items ≡ length c.objects.all.items + 1 = ap length pushed ∙ length-append c.objects.all.items (c.in-Some.object ∷ []) in
     record {
@@ -46,7 +48,7 @@ objects-preserved g c =
 
 pub returns-clause-all : goal.returns-clause-all
 returns-clause-all g c =
-    let l : length (map.keys c.args.self.now) ≤ length c.objects.all.items = slice_past (map.keys c.args.self.now) (length c.objects.all.items) (sym c.objects.invariant.next ∙ c.in_default.is) in
+    let l : length (map.keys c.args.self.now) ≤ length c.objects.all.items = get_past (map.keys c.args.self.now) (length c.objects.all.items) (sym c.objects.invariant.next ∙ c.in_default.is) in
     c.objects.invariant.all ∙ take_all (length c.objects.all.items) (map.keys c.args.self.now) l
 
 pub returns-clause-steps : goal.returns-clause-steps

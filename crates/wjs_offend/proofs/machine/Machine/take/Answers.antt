@@ -1,7 +1,8 @@
 use Rattle.std.proofs.Common.{None}
+use Rattle.std.proofs.lemmas.Result.{IfOk-weaker}
 use Rattle.wjs_forms.specs.States.{state, act, step}
 use Rattle.wjs_offend.specs.Taking.{Answers}
-use Rattle.wjs_offend.proofs.Machines.{begins, again, none_below, ends, shorter, if_ok}
+use Rattle.wjs_offend.proofs.Machines.{begins, again, none_below, ends, shorter}
 use Rattle.wjs_offend.proofs.machine.Machine.take.Goals as goal
 
 pub again-init : goal.again-init
@@ -18,6 +19,6 @@ again-preserved c =
     again c.args.class c.args.joined c.in-Again.control c.again.self.forms c.pop.new.self c.in-Some.field-0 c.top-in-Again.result c.move_of-next-in-Again.result c.again.next _ c.in-Again.is c.in-Some.ensures c.top-in-Again.ensures c.move_of-next-in-Again.ensures c.again.invariant
 
 pub returns : goal.returns
-returns c = if_ok c.act.result (λ taken. Answers (act c.again.next c.again.self.forms (λ d. None)) taken (state c.act.new.self.control c.act.new.self.forms))
+returns c = IfOk-weaker c.act.result (λ taken. Answers (act c.again.next c.again.self.forms (λ d. None)) taken (state c.act.new.self.control c.act.new.self.forms))
     (λ taken. Answers (step c.args.class c.args.joined c.args.self.now.forms c.args.self.now.control) taken (state c.act.new.self.control c.act.new.self.forms))
     (λ taken h. ends c.args.class c.args.joined c.again.next c.again.self.forms _ taken (state c.act.new.self.control c.act.new.self.forms) c.in_default.not-Again c.again.invariant h) c.act.ensures

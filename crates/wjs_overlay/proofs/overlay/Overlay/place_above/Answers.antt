@@ -1,9 +1,11 @@
 use Rattle.std.proofs.Common.{◌≡◌, ◌<◌, ◌∙◌, Some, length, sym, ap, subst, arith}
 use Rattle.std.specs.Option.{option_map}
+use Rattle.std.proofs.lemmas.Option.{same_Some}
 use Rattle.wjs_base.specs.declared.ids.WorldId.{WorldId}
+use Rattle.wjs_base.proofs.Options.{no_none}
 use Rattle.wjs_layers.specs.declared.layer.Spot.{Spot}
 use Rattle.wjs_layers.specs.Sparse.{full_of, place_of}
-use Rattle.wjs_layers.proofs.Places.{slice_read, some_is, no_none}
+use Rattle.wjs_layers.proofs.Places.{slice_read}
 use Rattle.wjs_layers.proofs.Looks.{above_at, below_at}
 use Rattle.wjs_layers.proofs.Looks.{parent_at}
 use Rattle.wjs_overlay.proofs.overlay.Overlay.place_above.Goals as goal
@@ -26,6 +28,6 @@ returns-in-Some c = λ p e.
     let r = c.index-layer.result.now in
     let s = slice_read layers c.args.at.place r c.index-layer.ensures (below_at layers c.args.at k c.requires.there) in
     let a = c.in-Some.above in
-    let is : a.world ≡ p = some_is a.world p (ap (option_map (λ (b : Spot). b.world)) c.in-Some.ensures ∙ sym (parent_at layers k c.args.at c.requires.there r s) ∙ e) in
+    let is : a.world ≡ p = same_Some a.world p (ap (option_map (λ (b : Spot). b.world)) c.in-Some.ensures ∙ sym (parent_at layers k c.args.at c.requires.there r s) ∙ e) in
     let up = above_at layers k c.args.at c.requires.there r s a (sym c.in-Some.ensures) in
     (subst (λ (w : WorldId). place_of (full_of layers) w ≡ Some a.place) is up.0, up.1)

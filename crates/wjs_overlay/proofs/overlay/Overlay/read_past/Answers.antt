@@ -1,11 +1,11 @@
 use Rattle.std.proofs.Common.{◌≡◌, ◌∙◌, sym, ap, subst, Some, IfSome}
+use Rattle.wjs_base.proofs.Lists.{get_there}
 use Rattle.wjs_store.specs.Shown.{content_of}
 use Rattle.wjs_store.specs.State.{read, found}
 use Rattle.wjs_layers.specs.declared.layer.Layer.{Layer}
 use Rattle.wjs_layers.specs.Look.{IsUntouched}
 use Rattle.wjs_layers.specs.Sparse.{full_of, place_of}
 use Rattle.wjs_overlay.specs.Touched.{Covered}
-use Rattle.wjs_layers.proofs.Places.{slice_some}
 use Rattle.wjs_layers.proofs.Looks.{below_at, world_at, holds}
 use Rattle.wjs_overlay.proofs.Passing.{untouched_past}
 use Rattle.wjs_overlay.proofs.StoreLaws.{store_after, ids_read, answers_store}
@@ -19,7 +19,7 @@ pub read_past-requires-clause-untouched : goal.read_past-requires-clause-untouch
 read_past-requires-clause-untouched g c =
     let layers = c.args.self.now.layers.items in
     let k = (c.args.self.now.kept c.requires.live).sparse in
-    let s = slice_some layers c.args.at.place (below_at layers c.args.at k c.requires.there) in
+    let s = get_there layers c.args.at.place (below_at layers c.args.at k c.requires.there) in
     subst (λ o. IfSome o (λ (r : Layer). IsUntouched r c.args.slot)) (sym s.1)
     (untouched_past c.args.self.now.bounds.items layers k (c.args.self.now.covered c.requires.live).touched c.args.at c.requires.there c.requires.child s.0 s.1 c.args.slot c.requires.past)
 
@@ -27,7 +27,7 @@ pub read_past-requires-clause-same : goal.read_past-requires-clause-same
 read_past-requires-clause-same g c =
     let layers = c.args.self.now.layers.items in
     let k = (c.args.self.now.kept c.requires.live).sparse in
-    let s = slice_some layers c.args.at.place (below_at layers c.args.at k c.requires.there) in
+    let s = get_there layers c.args.at.place (below_at layers c.args.at k c.requires.there) in
     let x = world_at layers k c.args.at c.requires.there s.0 s.1 in
     let first : place_of (full_of layers) c.first_spot-first.result.world ≡ Some 0 = c.first_spot-first.ensures.at ∙ ap (λ i. Some i) c.first_spot-first.ensures.place in
     sym (holds layers k c.args.at c.requires.there s.0 s.1 c.args.slot

@@ -3,10 +3,10 @@ use Rattle.std.specs.FinMap as map
 use Rattle.std.specs.FinMap.{find}
 use Rattle.std.proofs.lemmas.Result.{on_ok_weaker, on_err_weaker}
 use Rattle.wjs_base.specs.Order.{slot_cmp, slot_total}
-use Rattle.wjs_slots.proofs.Basics.{if_ok}
+use Rattle.wjs_names.proofs.Basics.{if_ok}
 use Rattle.wjs_slots.proofs.Changes.{near_changed, far_changed, far_apart, set_back, removed}
 use Rattle.wjs_slots.proofs.Halves.{name_removed}
-use Rattle.wjs_slots.proofs.Sorted.{find_without, sorted_without}
+use Rattle.wjs_names.proofs.Sorted.{find_without, sorted_without}
 use Rattle.wjs_slots.proofs.Values.{get_near, get_far, table}
 use Rattle.wjs_slots.proofs.parts.Parts.remove.Goals as goal
 

@@ -5,10 +5,10 @@ use Rattle.std.specs.FinMap.Entries.{find-put}
 use Rattle.std.proofs.lemmas.Result.{on_ok_weaker, on_err_weaker}
 use Rattle.wjs_base.specs.Order.{slot_cmp, slot_total}
 use Rattle.wjs_slots.specs.Near.{IsSplit}
-use Rattle.wjs_slots.proofs.Basics.{by_result, if_ok}
+use Rattle.wjs_names.proofs.Basics.{by_result, if_ok}
 use Rattle.wjs_slots.proofs.Changes.{near_changed, far_changed, far_apart, set_back, inserted}
 use Rattle.wjs_slots.proofs.Halves.{name_set}
-use Rattle.wjs_slots.proofs.Sorted.{sorted_put}
+use Rattle.wjs_names.proofs.Sorted.{sorted_put}
 use Rattle.wjs_slots.proofs.Values.{get_near, get_far, table}
 use Rattle.wjs_slots.proofs.parts.Parts.set.Goals as goal
 

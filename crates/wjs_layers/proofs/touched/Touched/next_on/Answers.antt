@@ -1,0 +1,15 @@
+use Rattle.std.proofs.Common.{sym, ap, ◌∙◌}
+use Rattle.std.specs.Map.{lookup_entry}
+use Rattle.std.specs.Option.{option_map}
+use Rattle.std.specs.FinMap as map
+use Rattle.wjs_slots.specs.Least.{is_next_on}
+use Rattle.wjs_layers.specs.Keyed.{entry_by}
+use Rattle.wjs_layers.specs.Shorts.{row_in}
+use Rattle.wjs_layers.proofs.Tables.{rows_lookup}
+use Rattle.wjs_layers.proofs.touched.Touched.next_on.Goals as goal
+
+pub returns-clause-least : goal.returns-clause-least
+returns-clause-least g c =
+    let kept = row_in c.self.inside.before in
+    let passes = is_next_on c.args.object c.args.passed in
+    c.full_entry.ensures ∙ ap (option_map (entry_by kept)) c.next_on.ensures.least ∙ sym (rows_lookup kept passes c.self.inside.rows) ∙ ap (λ m. lookup_entry passes (map.entries m)) c.self.view_is

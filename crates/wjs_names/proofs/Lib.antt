@@ -1,0 +1,10 @@
+pub mod Basics
+pub mod Dense
+pub mod Firsts
+pub mod Least
+pub mod Lists
+pub mod Seeks
+pub mod Shorts
+pub mod Sorted
+pub mod Starting
+pub mod Walks

@@ -1,0 +1,345 @@
+//! The rows of one object, in a list or by their indices.
+ghost use Rattle.std.specs.Prelude.{◌≡◌, ◌++◌, ◌∷◌, [], not, is_some, OnOk, OnErr, IfOk, IfSome, IsTrue, None, true, cond};
+ghost use Rattle.std.specs.Option.{option_copied};
+ghost use Rattle.std.specs.FinMap as map;
+ghost use Rattle.std.specs.FinMap.Entries.{put, find};
+ghost use Rattle.std.specs.Map.{lookup_entry};
+ghost use Rattle.wjs_base.specs.Order.{name_cmp};
+ghost use Rattle.wjs_rows.specs.Order.{is_from, is_after};
+ghost use Rattle.wjs_names.specs.Kept.{rows_of, short_rows};
+ghost use Rattle.wjs_names.specs.Lists.{IsInOrder, without};
+
+use crate::few;
+use crate::many::Many;
+use crate::short::{
+    Short, put_in, put_in_three, put_in_two, value_in, value_in_three, value_in_two,
+};
+use crate::short_name::ShortName;
+use std::alloc::Global;
+use wjs_base::{Name, OutOfMemory};
+
+/// How many rows a list has at most: past that, room for one in between would take too long a move.
+const LONGEST_LIST: usize = 256;
+
+/// For how many rows a list has room first, as an object gets its fourth.
+const FIRST_ROWS: usize = 6;
+
+/// Rows in the order of their names. Up to three stand in the object's place itself, as the scope and the arguments of a short
+/// call have them. Those of an object with many stand elsewhere: each object takes the room of the largest form.
+#[derive(Drop)]
+pub(crate) enum Kept<V> {
+    Zero,
+    One((ShortName, V)),
+    Two((ShortName, V), (ShortName, V)),
+    Three((ShortName, V), (ShortName, V), (ShortName, V)),
+    Few(Vec<(ShortName, V)>),
+    Many(Box<Many<V>>),
+}
+
+const _: () = prove!(size_of::<Kept<(u64, u64)>>() == 80);
+
+impl<V: Copy> Kept<V> {
+    ghost use Rattle.wjs_names.specs.Kept.{is_elsewhere, rows_of, short_rows};
+
+    /// The value at a name.
+    #[inline(always)]
+    pub(crate) fn get(&self, name: Name) -> Option<&V>
+        requires { IsInOrder name_cmp (rows_of self.now) }
+        ensures { option_copied result ≡ find name_cmp name (rows_of self.now) }
+    {
+        match self {
+            Kept::Zero => None,
+            Kept::One(row) => value_in(row, name),
+            Kept::Two(first, second) => value_in_two(first, second, name),
+            Kept::Three(first, second, third) => value_in_three(first, second, third, name),
+            Kept::Few(few) => few::get(few, name),
+            Kept::Many(many) => many.get(name),
+        }
+    }
+
+    /// Puts a value at a name, and says whether the name is new. After a refusal all is as it was.
+    #[inline(always)]
+    pub(crate) fn set(&mut self, name: Name, value: V, alloc: Global) -> Result<bool, OutOfMemory>
+        requires { IsInOrder name_cmp (rows_of self.old) }
+        ensures ok { OnOk result (rows_of self.new ≡ put name_cmp name value (rows_of self.old)) }
+        ensures added { IfOk result (λ added. added ≡ not (is_some (find name_cmp name (rows_of self.old)))) }
+        ensures err { OnErr result (rows_of self.new ≡ rows_of self.old) }
+    {
+        if self.replace(name, value) {
+            return Ok(false);
+        }
+        self.add(name, value, alloc)
+    }
+
+    /// Puts a value at a name that is there, and says whether it did: elsewhere all stays as it is.
+    #[inline(always)]
+    fn replace(&mut self, name: Name, value: V) -> bool
+        requires { IsInOrder name_cmp (rows_of self.old) }
+        ensures found { IsTrue result → is_some (find name_cmp name (rows_of self.old)) ≡ true }
+        ensures replaced { rows_of self.new ≡ cond result (put name_cmp name value (rows_of self.old)) (rows_of self.old) }
+    {
+        match self {
+            Kept::Zero => false,
+            Kept::One(row) => put_in(row, name, value),
+            Kept::Two(first, second) => put_in_two(first, second, name, value),
+            Kept::Three(first, second, third) => put_in_three(first, second, third, name, value),
+            Kept::Few(few) => few::replace(few, name, value),
+            Kept::Many(many) => many.replace(name, value),
+        }
+    }
+
+    /// The rows in the object's place, if they stand there.
+    fn short(&self) -> Option<Short<V>>
+        ensures rows { IfSome result (λ short. short_rows short ≡ rows_of self.now) }
+        ensures elsewhere { result ≡ None → is_elsewhere self.now ≡ true }
+    {
+        match self {
+            Kept::Zero => Some(Short::Zero),
+            Kept::One(row) => Some(Short::One(*row)),
+            Kept::Two(first, second) => Some(Short::Two(*first, *second)),
+            Kept::Three(first, second, third) => Some(Short::Three(*first, *second, *third)),
+            Kept::Few(_) => None,
+            Kept::Many(_) => None,
+        }
+    }
+
+    /// `set`, with room for one more row.
+    #[inline(never)]
+    fn add(&mut self, name: Name, value: V, alloc: Global) -> Result<bool, OutOfMemory>
+        requires { IsInOrder name_cmp (rows_of self.old) }
+        ensures ok { OnOk result (rows_of self.new ≡ put name_cmp name value (rows_of self.old)) }
+        ensures added { IfOk result (λ added. added ≡ not (is_some (find name_cmp name (rows_of self.old)))) }
+        ensures err { OnErr result (rows_of self.new ≡ rows_of self.old) }
+    {
+        match self.with(name, value) {
+            Some(short) => {
+                *self = kept_of(short);
+                Ok(true)
+            }
+            None => self.add_elsewhere(name, value, alloc),
+        }
+    }
+
+    /// The rows with one more, where all of them can stand in the object's place.
+    fn with(&self, name: Name, value: V) -> Option<Short<V>>
+        requires { IsInOrder name_cmp (rows_of self.now) }
+        ensures put { IfSome result (λ short. short_rows short ≡ put name_cmp name value (rows_of self.now)) }
+        ensures none { IfSome result (λ _. find name_cmp name (rows_of self.now) ≡ None) }
+    {
+        if self.get(name).is_some() {
+            return None;
+        }
+        let row = few::row_of(name, value)?;
+        let short = self.short()?;
+        short.with(row)
+    }
+
+    /// `add`, in a list or at the indices.
+    fn add_elsewhere(&mut self, name: Name, value: V, alloc: Global) -> Result<bool, OutOfMemory>
+        requires { IsInOrder name_cmp (rows_of self.old) }
+        ensures ok { OnOk result (rows_of self.new ≡ put name_cmp name value (rows_of self.old)) }
+        ensures added { IfOk result (λ added. added ≡ not (is_some (find name_cmp name (rows_of self.old)))) }
+        ensures err { OnErr result (rows_of self.new ≡ rows_of self.old) }
+    {
+        self.make_room(name, alloc)?;
+        match self {
+            Kept::Few(few) => few::set(few, name, value),
+            Kept::Many(many) => many.set(name, value),
+            _ => Err(OutOfMemory),
+        }
+    }
+
+    /// Takes the row at a name out, and says whether there was one. After a refusal all is as it was.
+    pub(crate) fn remove(&mut self, name: Name) -> Result<bool, OutOfMemory>
+        requires { IsInOrder name_cmp (rows_of self.old) }
+        ensures removed { OnOk result (rows_of self.new ≡ without name_cmp name (rows_of self.old)) }
+        ensures found { IfOk result (λ found. found ≡ is_some (find name_cmp name (rows_of self.old))) }
+        ensures err { OnErr result (rows_of self.new ≡ rows_of self.old) }
+    {
+        match self.short() {
+            Some(short) => {
+                let found = self.get(name).is_some();
+                *self = kept_of(short.without(name));
+                Ok(found)
+            }
+            None => self.remove_elsewhere(name),
+        }
+    }
+
+    /// `remove`, in a list or at the indices.
+    fn remove_elsewhere(&mut self, name: Name) -> Result<bool, OutOfMemory>
+        requires { IsInOrder name_cmp (rows_of self.old) }
+        ensures removed { OnOk result (rows_of self.new ≡ without name_cmp name (rows_of self.old)) }
+        ensures found { IfOk result (λ found. found ≡ is_some (find name_cmp name (rows_of self.old))) }
+        ensures err { OnErr result (rows_of self.new ≡ rows_of self.old) }
+    {
+        match self {
+            Kept::Few(few) => Ok(few::remove(few, name)),
+            Kept::Many(many) => many.remove(name),
+            _ => Err(OutOfMemory),
+        }
+    }
+
+    /// The first row at or after a name.
+    pub(crate) fn next_from(&self, name: Name) -> Option<(Name, V)>
+        requires { IsInOrder name_cmp (rows_of self.now) }
+        ensures { result ≡ lookup_entry (is_from name_cmp name) (rows_of self.now) }
+    {
+        match self.short() {
+            Some(short) => short.next_from(name),
+            None => self.next_from_elsewhere(name),
+        }
+    }
+
+    /// `next_from`, in a list or by the indices.
+    fn next_from_elsewhere(&self, name: Name) -> Option<(Name, V)>
+        requires ordered { IsInOrder name_cmp (rows_of self.now) }
+        requires elsewhere { is_elsewhere self.now ≡ true }
+        ensures { result ≡ lookup_entry (is_from name_cmp name) (rows_of self.now) }
+    {
+        match self {
+            Kept::Zero => unreachable!(),
+            Kept::One(_) => unreachable!(),
+            Kept::Two(_, _) => unreachable!(),
+            Kept::Three(_, _, _) => unreachable!(),
+            Kept::Few(few) => few::next_from(few, name),
+            Kept::Many(many) => many.next_from(name),
+        }
+    }
+
+    /// The first row after a name.
+    pub(crate) fn next_after(&self, name: Name) -> Option<(Name, V)>
+        requires { IsInOrder name_cmp (rows_of self.now) }
+        ensures { result ≡ lookup_entry (is_after name_cmp name) (rows_of self.now) }
+    {
+        match self.short() {
+            Some(short) => short.next_after(name),
+            None => self.next_after_elsewhere(name),
+        }
+    }
+
+    /// `next_after`, in a list or by the indices.
+    fn next_after_elsewhere(&self, name: Name) -> Option<(Name, V)>
+        requires ordered { IsInOrder name_cmp (rows_of self.now) }
+        requires elsewhere { is_elsewhere self.now ≡ true }
+        ensures { result ≡ lookup_entry (is_after name_cmp name) (rows_of self.now) }
+    {
+        match self {
+            Kept::Zero => unreachable!(),
+            Kept::One(_) => unreachable!(),
+            Kept::Two(_, _) => unreachable!(),
+            Kept::Three(_, _, _) => unreachable!(),
+            Kept::Few(few) => few::next_after(few, name),
+            Kept::Many(many) => many.next_after(name),
+        }
+    }
+
+    /// Moves the rows to where one more of this name can be put.
+    fn make_room(&mut self, name: Name, alloc: Global) -> Result<(), OutOfMemory>
+        requires { IsInOrder name_cmp (rows_of self.old) }
+        ensures { rows_of self.new ≡ rows_of self.old }
+    {
+        match self.outgrown(name, alloc)? {
+            Some(kept) => {
+                *self = kept;
+                Ok(())
+            }
+            None => Ok(()),
+        }
+    }
+
+    /// The rows in another form, where one more of this name can't be put into this one.
+    fn outgrown(&self, name: Name, alloc: Global) -> Result<Option<Kept<V>>, OutOfMemory>
+        requires { IsInOrder name_cmp (rows_of self.now) }
+        ensures { IfOk result (λ outgrown. IfSome outgrown (λ kept. rows_of kept ≡ rows_of self.now)) }
+    {
+        match self.short() {
+            Some(short) => Ok(Some(list_of(short, name, alloc)?)),
+            None => self.outgrown_elsewhere(name, alloc),
+        }
+    }
+
+    /// `outgrown` of a list.
+    fn outgrown_elsewhere(&self, name: Name, alloc: Global) -> Result<Option<Kept<V>>, OutOfMemory>
+        requires { IsInOrder name_cmp (rows_of self.now) }
+        ensures { IfOk result (λ outgrown. IfSome outgrown (λ kept. rows_of kept ≡ rows_of self.now)) }
+    {
+        match self {
+            Kept::Few(few) => {
+                if few.len() < LONGEST_LIST && ShortName::new(name).is_some() {
+                    return Ok(None);
+                }
+                Ok(Some(many_of(few, alloc)?))
+            }
+            _ => Ok(None),
+        }
+    }
+}
+
+/// The rows in the object's place.
+#[inline(always)]
+fn kept_of<V: Copy>(short: Short<V>) -> Kept<V>
+    ensures { rows_of result ≡ short_rows short }
+{
+    match short {
+        Short::Zero => Kept::Zero,
+        Short::One(row) => Kept::One(row),
+        Short::Two(first, second) => Kept::Two(first, second),
+        Short::Three(first, second, third) => Kept::Three(first, second, third),
+    }
+}
+
+/// The rows by their indices.
+fn many_of<V: Copy>(few: &[(ShortName, V)], alloc: Global) -> Result<Kept<V>, OutOfMemory>
+    requires { IsInOrder name_cmp few.now }
+    ensures { IfOk result (λ kept. rows_of kept ≡ few.now) }
+{
+    let many = Many::of_list(few, alloc)?;
+    let many = Box::new(alloc, many)?;
+    Ok(Kept::Many(many))
+}
+
+/// The rows in a list; where a name can't be kept in short, by their indices.
+fn list_of<V: Copy>(short: Short<V>, name: Name, alloc: Global) -> Result<Kept<V>, OutOfMemory>
+    requires { IsInOrder name_cmp (short_rows short) }
+    ensures { IfOk result (λ kept. rows_of kept ≡ short_rows short) }
+{
+    let few = listed(short, alloc)?;
+    if ShortName::new(name).is_none() {
+        return many_of(few.as_slice(), alloc);
+    }
+    Ok(Kept::Few(few))
+}
+
+/// A list of rows that stood in the object's place.
+fn listed<V: Copy>(short: Short<V>, alloc: Global) -> Result<Vec<(ShortName, V)>, OutOfMemory>
+    ensures { IfOk result (λ few. few.items ≡ short_rows short) }
+{
+    let mut few = Vec::with_capacity(alloc, FIRST_ROWS)?;
+    match short {
+        Short::Zero => Ok(few),
+        Short::One(row) => {
+            put_last(&mut few, row)?;
+            Ok(few)
+        }
+        Short::Two(first, second) => {
+            put_last(&mut few, first)?;
+            put_last(&mut few, second)?;
+            Ok(few)
+        }
+        Short::Three(first, second, third) => {
+            put_last(&mut few, first)?;
+            put_last(&mut few, second)?;
+            put_last(&mut few, third)?;
+            Ok(few)
+        }
+    }
+}
+
+/// Puts a row last.
+fn put_last<V: Copy>(few: &mut Vec<(ShortName, V)>, row: (ShortName, V)) -> Result<(), OutOfMemory>
+    ensures { OnOk result (few.new.items ≡ few.old.items ++ row ∷ []) }
+{
+    few.push(row)?;
+    Ok(())
+}

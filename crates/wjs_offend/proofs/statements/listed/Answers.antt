@@ -1,6 +1,0 @@
-use Rattle.std.proofs.Common.{◌∙◌}
-use Rattle.wjs_offend.proofs.Defaults.{listed_other}
-use Rattle.wjs_offend.proofs.statements.listed.Goals as goal
-
-pub returns-in_default : goal.returns-in_default
-returns-in_default c = c.statement.ensures ∙ listed_other c.args.class c.args.top c.in_default.not-End c.in_default.not-CloseBrace c.in_default.not-Case c.in_default.not-Default c.in_default.not-Function

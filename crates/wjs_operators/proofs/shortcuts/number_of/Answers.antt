@@ -1,4 +1,0 @@
-use Rattle.wjs_operators.proofs.shortcuts.number_of.Goals as goal
-
-pub returns-in-Add : goal.returns-in-Add
-returns-in-Add c = rw c.in-Add.is c.sum.ensures

@@ -1,2 +1,0 @@
--- Lists by place.
-use Rattle.std.proofs.Common.{◌≡◌, ℕ}
