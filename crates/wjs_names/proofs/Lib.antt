@@ -7,4 +7,5 @@ pub mod Seeks
 pub mod Shorts
 pub mod Sorted
 pub mod Starting
+pub mod Tiny
 pub mod Walks

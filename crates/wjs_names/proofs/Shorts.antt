@@ -1,5 +1,5 @@
 -- Up to three rows in order, one after another.
-use Rattle.std.proofs.Common.{◌≡◌, Bool, true, false, cond, not, ◌&&◌, T, List, [], ◌∷◌, Option, None, Some, IfSome, is_some, refl, ap, sym, ◌∙◌, subst, ◌<◌, arith}
+use Rattle.std.proofs.Common.{◌≡◌, ℕ, Bool, true, false, cond, not, ◌&&◌, T, List, [], ◌∷◌, length, get_or, Option, None, Some, IfSome, is_some, refl, ap, sym, ◌∙◌, subst, ◌<◌, arith}
 use Rattle.std.specs.declared.cmp.Ordering.{Ordering}
 use Rattle.std.specs.declared.cmp.Ordering.TheVariants.{Less, Equal, Greater}
 use Rattle.std.specs.Ordering.{is_lt, is_le, is_eq, is_gt}
@@ -7,7 +7,7 @@ use Rattle.std.specs.Cmp.{IsTotalOrder}
 use Rattle.std.specs.FinMap.{IsAntisymmetric}
 use Rattle.std.specs.FinMap.Entries.{put, find, is_sorted, below_all, by_order}
 use Rattle.std.proofs.lemmas.Bool.{true≢false, false≢true}
-use Rattle.wjs_base.proofs.Booleans.{left_true, by_bool}
+use Rattle.wjs_base.proofs.Booleans.{left_true, right_true, by_bool}
 use Rattle.wjs_base.proofs.Options.{no_none}
 use Rattle.wjs_names.specs.Lists.{without}
 use Rattle.wjs_names.proofs.Basics.{by_cmp, equal_is, greater_is, less_left}
@@ -64,7 +64,7 @@ module _ {K V : Type 0} {R : K → K → Ordering} (total : IsTotalOrder R) (k :
       (λ t. no_none e.1 (sym h ∙ ap (λ b. cond b (Some e.1) (find R k es)) t))
       (λ t. t)
 
-  not_next : (e : K × V) (es : List (K × V)) → find R k (e ∷ es) ≡ None → find R k es ≡ None
+  pub not_next : (e : K × V) (es : List (K × V)) → find R k (e ∷ es) ≡ None → find R k es ≡ None
   not_next e es h = sym (ap (λ b. cond b (Some e.1) (find R k es)) (not_first e es h)) ∙ h
 
   -- a key found behind an entry comes after it
@@ -117,6 +117,37 @@ module _ {K V : Type 0} {R : K → K → Ordering} (total : IsTotalOrder R) (k :
 
   pub more_between : (v : V) (a b : K × V) → is_gt (R k a.0) ≡ true → is_gt (R k b.0) ≡ false → find R k (a ∷ b ∷ []) ≡ None → a ∷ (k, v) ∷ b ∷ [] ≡ put R k v (a ∷ b ∷ [])
   more_between v a b g f n = sym (put_greater v a (b ∷ []) (greater_is (R k a.0) g) ∙ ap (λ rest. a ∷ rest) (put_less v b [] (less_left (R k b.0) f (not_first b [] (not_next a (b ∷ []) n)))))
+
+  -- three with one more
+  module _ (v : V) (a b c : K × V) where
+    after : (n : ℕ) (d : K × V) → T (is_sorted R (a ∷ b ∷ c ∷ [])) → n < 2 → is_gt (R k (get_or (b ∷ c ∷ []) n d).0) ≡ true → a ∷ put R k v (b ∷ c ∷ []) ≡ put R k v (a ∷ b ∷ c ∷ [])
+    after n d s l g = sym (put_greater v a (b ∷ c ∷ []) (past_greater total k a (b ∷ c ∷ []) n d s l (greater_is (R k (get_or (b ∷ c ∷ []) n d).0) g)))
+
+    pub fourth_last : T (is_sorted R (a ∷ b ∷ c ∷ [])) → is_gt (R k c.0) ≡ true → a ∷ b ∷ c ∷ (k, v) ∷ [] ≡ put R k v (a ∷ b ∷ c ∷ [])
+    fourth_last s g = ap (λ rest. a ∷ rest) (more_last v b c (right_true (below_all R a.0 (b ∷ c ∷ [])) (is_sorted R (b ∷ c ∷ [])) s) g) ∙ after 1 c s (omega arith) g
+
+    pub fourth_third : T (is_sorted R (a ∷ b ∷ c ∷ [])) → is_gt (R k b.0) ≡ true → is_gt (R k c.0) ≡ false → find R k (a ∷ b ∷ c ∷ []) ≡ None → a ∷ b ∷ (k, v) ∷ c ∷ [] ≡ put R k v (a ∷ b ∷ c ∷ [])
+    fourth_third s g f n = ap (λ rest. a ∷ rest) (more_between v b c g f (not_next a (b ∷ c ∷ []) n)) ∙ after 0 b s (omega arith) g
+
+    pub fourth_second : is_gt (R k a.0) ≡ true → is_gt (R k b.0) ≡ false → find R k (a ∷ b ∷ c ∷ []) ≡ None → a ∷ (k, v) ∷ b ∷ c ∷ [] ≡ put R k v (a ∷ b ∷ c ∷ [])
+    fourth_second g f n = ap (λ rest. a ∷ rest) (more_before v b (c ∷ []) f (not_next a (b ∷ c ∷ []) n)) ∙ sym (put_greater v a (b ∷ c ∷ []) (greater_is (R k a.0) g))
+
+  -- ---- the one of this key among others
+
+  pub found_here : (e : K × V) (es : List (K × V)) → is_eq (R k e.0) ≡ true → Some e.1 ≡ find R k (e ∷ es)
+  found_here e es t = sym (ap (λ b. cond b (Some e.1) (find R k es)) t)
+
+  pub found_past : (e : K × V) (es : List (K × V)) → is_eq (R k e.0) ≡ false → find R k es ≡ find R k (e ∷ es)
+  found_past e es f = sym (ap (λ b. cond b (Some e.1) (find R k es)) f)
+
+  pub put_here : (v : V) (e : K × V) (es : List (K × V)) → is_eq (R k e.0) ≡ true → (e.0, v) ∷ es ≡ put R k v (e ∷ es)
+  put_here v e es t = sym (put_equal v e es (equal_is (R k e.0) t))
+
+  pub put_past : (v : V) (e : K × V) (es : List (K × V)) → T (is_sorted R (e ∷ es)) → is_eq (R k e.0) ≡ false → is_some (find R k es) ≡ true → e ∷ put R k v es ≡ put R k v (e ∷ es)
+  put_past v e es s f t = sym (put_greater v e es (past_found e es s f t))
+
+  pub rest_sorted : (e : K × V) (es : List (K × V)) → T (is_sorted R (e ∷ es)) → T (is_sorted R es)
+  rest_sorted e es s = right_true (below_all R e.0 es) (is_sorted R es) s
 
   -- ---- one less
 

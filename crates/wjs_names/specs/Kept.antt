@@ -4,6 +4,7 @@ use Rattle.std.specs.FinMap as map
 use Rattle.wjs_base.specs.declared.values.Name.{Name}
 use Rattle.wjs_names.specs.declared.kept.Kept.{Kept}
 use Rattle.wjs_names.specs.declared.kept.Kept.TheVariants as kept
+use Rattle.wjs_names.specs.Four.{rows_of_four}
 use Rattle.wjs_names.specs.declared.short.Short.{Short}
 use Rattle.wjs_names.specs.declared.short.Short.TheVariants as short
 
@@ -19,14 +20,16 @@ rows_of kept.Zero = []
 rows_of (kept.One a) = a ∷ []
 rows_of (kept.Two a b) = a ∷ b ∷ []
 rows_of (kept.Three a b c) = a ∷ b ∷ c ∷ []
+rows_of (kept.Four four) = rows_of_four four
 rows_of (kept.Few few) = few.items
 rows_of (kept.Many many) = map.entries many.value
 
--- they don't stand in the object's place
+-- they aren't up to three in the object's place
 abbrev pub is_elsewhere : {V : Type 0} → Kept V → Bool
 is_elsewhere kept.Zero = false
 is_elsewhere (kept.One a) = false
 is_elsewhere (kept.Two a b) = false
 is_elsewhere (kept.Three a b c) = false
+is_elsewhere (kept.Four four) = true
 is_elsewhere (kept.Few few) = true
 is_elsewhere (kept.Many many) = true

@@ -1,7 +1,9 @@
 pub mod Codes
 pub mod Dense
+pub mod Four
 pub mod Kept
 pub mod Least
 pub mod Lists
 pub mod ShortNames
 pub mod Starts
+pub mod TinyNames

@@ -6,10 +6,12 @@ ghost use Rattle.std.specs.FinMap.Entries.{put, find};
 ghost use Rattle.std.specs.Map.{lookup_entry};
 ghost use Rattle.wjs_base.specs.Order.{name_cmp};
 ghost use Rattle.wjs_rows.specs.Order.{is_from, is_after};
+ghost use Rattle.wjs_names.specs.Four.{rows_of_four};
 ghost use Rattle.wjs_names.specs.Kept.{rows_of, short_rows};
 ghost use Rattle.wjs_names.specs.Lists.{IsInOrder, without};
 
 use crate::few;
+use crate::four::Four;
 use crate::many::Many;
 use crate::short::{
     Short, put_in, put_in_three, put_in_two, value_in, value_in_three, value_in_two,
@@ -21,17 +23,19 @@ use wjs_base::{Name, OutOfMemory};
 /// How many rows a list has at most: past that, room for one in between would take too long a move.
 const LONGEST_LIST: usize = 256;
 
-/// For how many rows a list has room first, as an object gets its fourth.
+/// For how many rows a list has room first, as an object gets its fifth.
 const FIRST_ROWS: usize = 6;
 
-/// Rows in the order of their names. Up to three stand in the object's place itself, as the scope and the arguments of a short
-/// call have them. Those of an object with many stand elsewhere: each object takes the room of the largest form.
+/// Rows in the order of their names. Up to three stand in the object's place itself, and four where their names are tiny, as the
+/// scope and the arguments of a short call have them. Those of an object with more stand elsewhere: each object takes the room of
+/// the largest form.
 #[derive(Drop)]
 pub(crate) enum Kept<V> {
     Zero,
     One((ShortName, V)),
     Two((ShortName, V), (ShortName, V)),
     Three((ShortName, V), (ShortName, V), (ShortName, V)),
+    Four(Four<V>),
     Few(Vec<(ShortName, V)>),
     Many(Box<Many<V>>),
 }
@@ -52,6 +56,7 @@ impl<V: Copy> Kept<V> {
             Kept::One(row) => value_in(row, name),
             Kept::Two(first, second) => value_in_two(first, second, name),
             Kept::Three(first, second, third) => value_in_three(first, second, third, name),
+            Kept::Four(four) => four.get(name),
             Kept::Few(few) => few::get(few, name),
             Kept::Many(many) => many.get(name),
         }
@@ -83,12 +88,13 @@ impl<V: Copy> Kept<V> {
             Kept::One(row) => put_in(row, name, value),
             Kept::Two(first, second) => put_in_two(first, second, name, value),
             Kept::Three(first, second, third) => put_in_three(first, second, third, name, value),
+            Kept::Four(four) => four.replace(name, value),
             Kept::Few(few) => few::replace(few, name, value),
             Kept::Many(many) => many.replace(name, value),
         }
     }
 
-    /// The rows in the object's place, if they stand there.
+    /// Up to three rows in the object's place, if they stand there.
     fn short(&self) -> Option<Short<V>>
         ensures rows { IfSome result (λ short. short_rows short ≡ rows_of self.now) }
         ensures elsewhere { result ≡ None → is_elsewhere self.now ≡ true }
@@ -98,8 +104,19 @@ impl<V: Copy> Kept<V> {
             Kept::One(row) => Some(Short::One(*row)),
             Kept::Two(first, second) => Some(Short::Two(*first, *second)),
             Kept::Three(first, second, third) => Some(Short::Three(*first, *second, *third)),
+            Kept::Four(_) => None,
             Kept::Few(_) => None,
             Kept::Many(_) => None,
+        }
+    }
+
+    /// Four rows in the object's place, if they stand there.
+    fn four_rows(&self) -> Option<Four<V>>
+        ensures { IfSome result (λ four. rows_of_four four ≡ rows_of self.now) }
+    {
+        match self {
+            Kept::Four(four) => Some(*four),
+            _ => None,
         }
     }
 
@@ -116,22 +133,53 @@ impl<V: Copy> Kept<V> {
                 *self = kept_of(short);
                 Ok(true)
             }
-            None => self.add_elsewhere(name, value, alloc),
+            None => self.add_fourth(name, value, alloc),
         }
     }
 
-    /// The rows with one more, where all of them can stand in the object's place.
+    /// Up to three rows with one more, where these are up to three too.
     fn with(&self, name: Name, value: V) -> Option<Short<V>>
         requires { IsInOrder name_cmp (rows_of self.now) }
         ensures put { IfSome result (λ short. short_rows short ≡ put name_cmp name value (rows_of self.now)) }
         ensures none { IfSome result (λ _. find name_cmp name (rows_of self.now) ≡ None) }
     {
+        let short = self.short()?;
         if self.get(name).is_some() {
             return None;
         }
         let row = few::row_of(name, value)?;
-        let short = self.short()?;
         short.with(row)
+    }
+
+    /// `add` to three rows or more.
+    #[inline(never)]
+    fn add_fourth(&mut self, name: Name, value: V, alloc: Global) -> Result<bool, OutOfMemory>
+        requires { IsInOrder name_cmp (rows_of self.old) }
+        ensures ok { OnOk result (rows_of self.new ≡ put name_cmp name value (rows_of self.old)) }
+        ensures added { IfOk result (λ added. added ≡ not (is_some (find name_cmp name (rows_of self.old)))) }
+        ensures err { OnErr result (rows_of self.new ≡ rows_of self.old) }
+    {
+        match self.with_fourth(name, value) {
+            Some(four) => {
+                *self = Kept::Four(four);
+                Ok(true)
+            }
+            None => self.add_elsewhere(name, value, alloc),
+        }
+    }
+
+    /// Three rows with one more, where their names are tiny.
+    fn with_fourth(&self, name: Name, value: V) -> Option<Four<V>>
+        requires { IsInOrder name_cmp (rows_of self.now) }
+        ensures put { IfSome result (λ four. rows_of_four four ≡ put name_cmp name value (rows_of self.now)) }
+        ensures none { IfSome result (λ _. find name_cmp name (rows_of self.now) ≡ None) }
+    {
+        match self {
+            Kept::Three(first, second, third) => {
+                three_with_one(first, second, third, name, value)
+            }
+            _ => None,
+        }
     }
 
     /// `add`, in a list or at the indices.
@@ -166,8 +214,38 @@ impl<V: Copy> Kept<V> {
         }
     }
 
-    /// `remove`, in a list or at the indices.
+    /// `remove` of four rows, in a list or at the indices.
     fn remove_elsewhere(&mut self, name: Name) -> Result<bool, OutOfMemory>
+        requires { IsInOrder name_cmp (rows_of self.old) }
+        ensures removed { OnOk result (rows_of self.new ≡ without name_cmp name (rows_of self.old)) }
+        ensures found { IfOk result (λ found. found ≡ is_some (find name_cmp name (rows_of self.old))) }
+        ensures err { OnErr result (rows_of self.new ≡ rows_of self.old) }
+    {
+        match self.four_rows() {
+            Some(four) => self.remove_of_four(four, name),
+            None => self.remove_far(name),
+        }
+    }
+
+    /// `remove` of these rows.
+    fn remove_of_four(&mut self, four: Four<V>, name: Name) -> Result<bool, OutOfMemory>
+        requires ordered { IsInOrder name_cmp (rows_of self.old) }
+        requires four { rows_of_four four ≡ rows_of self.old }
+        ensures removed { OnOk result (rows_of self.new ≡ without name_cmp name (rows_of self.old)) }
+        ensures found { IfOk result (λ found. found ≡ is_some (find name_cmp name (rows_of self.old))) }
+        ensures err { OnErr result (rows_of self.new ≡ rows_of self.old) }
+    {
+        match four.without(name) {
+            None => Ok(false),
+            Some(short) => {
+                *self = kept_of(short);
+                Ok(true)
+            }
+        }
+    }
+
+    /// `remove`, in a list or at the indices.
+    fn remove_far(&mut self, name: Name) -> Result<bool, OutOfMemory>
         requires { IsInOrder name_cmp (rows_of self.old) }
         ensures removed { OnOk result (rows_of self.new ≡ without name_cmp name (rows_of self.old)) }
         ensures found { IfOk result (λ found. found ≡ is_some (find name_cmp name (rows_of self.old))) }
@@ -191,7 +269,7 @@ impl<V: Copy> Kept<V> {
         }
     }
 
-    /// `next_from`, in a list or by the indices.
+    /// `next_from` of four rows, in a list or by the indices.
     fn next_from_elsewhere(&self, name: Name) -> Option<(Name, V)>
         requires ordered { IsInOrder name_cmp (rows_of self.now) }
         requires elsewhere { is_elsewhere self.now ≡ true }
@@ -202,6 +280,7 @@ impl<V: Copy> Kept<V> {
             Kept::One(_) => unreachable!(),
             Kept::Two(_, _) => unreachable!(),
             Kept::Three(_, _, _) => unreachable!(),
+            Kept::Four(four) => four.next_from(name),
             Kept::Few(few) => few::next_from(few, name),
             Kept::Many(many) => many.next_from(name),
         }
@@ -218,7 +297,7 @@ impl<V: Copy> Kept<V> {
         }
     }
 
-    /// `next_after`, in a list or by the indices.
+    /// `next_after` of four rows, in a list or by the indices.
     fn next_after_elsewhere(&self, name: Name) -> Option<(Name, V)>
         requires ordered { IsInOrder name_cmp (rows_of self.now) }
         requires elsewhere { is_elsewhere self.now ≡ true }
@@ -229,6 +308,7 @@ impl<V: Copy> Kept<V> {
             Kept::One(_) => unreachable!(),
             Kept::Two(_, _) => unreachable!(),
             Kept::Three(_, _, _) => unreachable!(),
+            Kept::Four(four) => four.next_after(name),
             Kept::Few(few) => few::next_after(few, name),
             Kept::Many(many) => many.next_after(name),
         }
@@ -259,12 +339,13 @@ impl<V: Copy> Kept<V> {
         }
     }
 
-    /// `outgrown` of a list.
+    /// `outgrown` of four rows or a list.
     fn outgrown_elsewhere(&self, name: Name, alloc: Global) -> Result<Option<Kept<V>>, OutOfMemory>
         requires { IsInOrder name_cmp (rows_of self.now) }
         ensures { IfOk result (λ outgrown. IfSome outgrown (λ kept. rows_of kept ≡ rows_of self.now)) }
     {
         match self {
+            Kept::Four(four) => Ok(Some(list_of_four(four, name, alloc)?)),
             Kept::Few(few) => {
                 if few.len() < LONGEST_LIST && ShortName::new(name).is_some() {
                     return Ok(None);
@@ -287,6 +368,50 @@ fn kept_of<V: Copy>(short: Short<V>) -> Kept<V>
         Short::Two(first, second) => Kept::Two(first, second),
         Short::Three(first, second, third) => Kept::Three(first, second, third),
     }
+}
+
+/// Three rows with one more, where none has its name and all names are tiny.
+fn three_with_one<V: Copy>(
+    first: &(ShortName, V),
+    second: &(ShortName, V),
+    third: &(ShortName, V),
+    name: Name,
+    value: V,
+) -> Option<Four<V>>
+    requires { IsInOrder name_cmp (first.now ∷ second.now ∷ third.now ∷ []) }
+    ensures put { IfSome result (λ four. rows_of_four four ≡ put name_cmp name value (first.now ∷ second.now ∷ third.now ∷ [])) }
+    ensures none { IfSome result (λ _. find name_cmp name (first.now ∷ second.now ∷ third.now ∷ []) ≡ None) }
+{
+    if value_in_three(first, second, third, name).is_some() {
+        return None;
+    }
+    let row = few::row_of(name, value)?;
+    Four::new(*first, *second, *third, row)
+}
+
+/// Four rows in a list; where a name can't be kept in short, by their indices.
+fn list_of_four<V: Copy>(four: &Four<V>, name: Name, alloc: Global) -> Result<Kept<V>, OutOfMemory>
+    requires { IsInOrder name_cmp (rows_of_four four.now) }
+    ensures { IfOk result (λ kept. rows_of kept ≡ rows_of_four four.now) }
+{
+    let few = four_listed(four, alloc)?;
+    if ShortName::new(name).is_none() {
+        return many_of(few.as_slice(), alloc);
+    }
+    Ok(Kept::Few(few))
+}
+
+/// A list of four rows.
+fn four_listed<V: Copy>(four: &Four<V>, alloc: Global) -> Result<Vec<(ShortName, V)>, OutOfMemory>
+    ensures { IfOk result (λ few. few.items ≡ rows_of_four four.now) }
+{
+    let rows = four.rows();
+    let mut few = Vec::with_capacity(alloc, FIRST_ROWS)?;
+    put_last(&mut few, rows.first)?;
+    put_last(&mut few, rows.second)?;
+    put_last(&mut few, rows.third)?;
+    put_last(&mut few, rows.fourth)?;
+    Ok(few)
 }
 
 /// The rows by their indices.

@@ -3,11 +3,13 @@
 
 mod by_name;
 mod few;
+mod four;
 mod held;
 mod kept;
 mod many;
 mod short;
 mod short_name;
+mod tiny_name;
 pub mod tree;
 
 pub use by_name::RowsByName;

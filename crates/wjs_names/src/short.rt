@@ -204,7 +204,7 @@ fn or_behind<V: Copy>(
 }
 
 /// A row, where its name is this one or comes after it; else what comes behind it.
-fn row_from<V: Copy>(
+pub(crate) fn row_from<V: Copy>(
     row: (ShortName, V),
     name: Name,
     behind: Option<(Name, V)>,
@@ -216,7 +216,7 @@ fn row_from<V: Copy>(
 }
 
 /// A row, where its name comes after this one; else what comes behind it.
-fn row_after<V: Copy>(
+pub(crate) fn row_after<V: Copy>(
     row: (ShortName, V),
     name: Name,
     behind: Option<(Name, V)>,

@@ -1,7 +1,7 @@
 //! Names in few bytes.
 ghost use Rattle.std.specs.Prelude.{◌≡◌, IfSome};
 ghost use Rattle.std.specs.Ordering.{is_eq, is_gt};
-ghost use Rattle.wjs_base.specs.declared.values.Name.TheVariants.{Text};
+ghost use Rattle.wjs_base.specs.declared.values.Name.TheVariants.{Index, Text};
 ghost use Rattle.wjs_base.specs.Order.{name_cmp};
 
 use std::marker::Model;
@@ -55,6 +55,28 @@ impl ShortName {
                     is_text: true,
                 })
             }
+        }
+    }
+
+    /// The name of an index.
+    #[inline(always)]
+    pub(crate) fn of_index(index: u32) -> ShortName
+        ensures { result ≡ Index index }
+    {
+        ShortName {
+            number: index,
+            is_text: false,
+        }
+    }
+
+    /// The name of a text.
+    #[inline(always)]
+    pub(crate) fn of_text(text: u32) -> ShortName
+        ensures { result ≡ Text (record { 0 = text }) }
+    {
+        ShortName {
+            number: text,
+            is_text: true,
         }
     }
 

@@ -17,6 +17,9 @@ returns-in-Two g c = c.value_in_two.ensures ∙ ap (λ k. find name_cmp c.args.n
 pub returns-in-Three : goal.returns-in-Three
 returns-in-Three g c = c.value_in_three.ensures ∙ ap (λ k. find name_cmp c.args.name (rows_of k)) (sym c.in-Three.is)
 
+pub returns-in-Four : goal.returns-in-Four
+returns-in-Four g c = c.get.ensures ∙ ap (λ k. find name_cmp c.args.name (rows_of k)) (sym c.in-Four.is)
+
 pub returns-in-Many : goal.returns-in-Many
 returns-in-Many g c =
     c.get-in-Many.ensures

@@ -9,3 +9,9 @@ many_of-requires g c = subst (IsInOrder name_cmp) (sym c.deref.ensures.value) (s
 
 pub returns-in_ok-many_of-in-Few : goal.returns-in_ok-many_of-in-Few
 returns-in_ok-many_of-in-Few g c = c.in_ok-many_of-in-Few.ensures ∙ c.deref.ensures.value ∙ ap rows_of (sym c.in-Few.is)
+
+pub list_of_four-requires : goal.list_of_four-requires
+list_of_four-requires g c = subst (λ k. IsInOrder name_cmp (rows_of k)) c.in-Four.is c.requires
+
+pub returns-in_ok-list_of_four-in-Four : goal.returns-in_ok-list_of_four-in-Four
+returns-in_ok-list_of_four-in-Four g c = c.in_ok-list_of_four-in-Four.ensures ∙ ap rows_of (sym c.in-Four.is)

@@ -34,6 +34,15 @@ returns-in-Three-clause-found g c = λ t. ap (λ k. is_some (find name_cmp c.arg
 pub returns-in-Three-clause-replaced : goal.returns-in-Three-clause-replaced
 returns-in-Three-clause-replaced g c = c.put_in_three.ensures.put ∙ ap (λ k. cond c.put_in_three.result (put name_cmp c.args.name c.args.value (rows_of k)) (rows_of k)) (sym c.in-Three.is)
 
+pub replace-requires : goal.replace-requires
+replace-requires g c = subst (λ k. IsInOrder name_cmp (rows_of k)) c.in-Four.is c.requires
+
+pub returns-in-Four-clause-found : goal.returns-in-Four-clause-found
+returns-in-Four-clause-found g c = λ t. ap (λ k. is_some (find name_cmp c.args.name (rows_of k))) c.in-Four.is ∙ c.replace.ensures.found t
+
+pub returns-in-Four-clause-replaced : goal.returns-in-Four-clause-replaced
+returns-in-Four-clause-replaced g c = c.replace.ensures.replaced ∙ ap (λ k. cond c.replace.result (put name_cmp c.args.name c.args.value (rows_of k)) (rows_of k)) (sym c.in-Four.is)
+
 pub returns-in-Many-clause-found : goal.returns-in-Many-clause-found
 returns-in-Many-clause-found g c = λ t.
     let many = c.deref_mut-in-Many.result.now in

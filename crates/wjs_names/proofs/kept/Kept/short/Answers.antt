@@ -14,6 +14,9 @@ returns-in-Two-clause-rows g c = ap rows_of (sym c.in-Two.is)
 pub returns-in-Three-clause-rows : goal.returns-in-Three-clause-rows
 returns-in-Three-clause-rows g c = ap rows_of (sym c.in-Three.is)
 
+pub returns-in-Four-clause-elsewhere : goal.returns-in-Four-clause-elsewhere
+returns-in-Four-clause-elsewhere g c = λ _. ap is_elsewhere c.in-Four.is
+
 pub returns-in-Few-clause-elsewhere : goal.returns-in-Few-clause-elsewhere
 returns-in-Few-clause-elsewhere g c = λ _. ap is_elsewhere c.in-Few.is
 

@@ -7,7 +7,7 @@ use Rattle.wjs_names.specs.Kept.{rows_of}
 use Rattle.wjs_names.specs.Lists.{without}
 use Rattle.wjs_names.proofs.Basics.{if_ok}
 use Rattle.wjs_names.proofs.Sorted.{entries_removed}
-use Rattle.wjs_names.proofs.kept.Kept.remove_elsewhere.Goals as goal
+use Rattle.wjs_names.proofs.kept.Kept.remove_far.Goals as goal
 
 pub returns-in-Many-clause-removed : goal.returns-in-Many-clause-removed
 returns-in-Many-clause-removed g c = on_ok_weaker c.remove-in-Many.result (λ e.
