@@ -70,11 +70,11 @@ test_step _ j s r h = h
 pub test_runs : (toks : List Tok) (i : ℕ) (s : List Form) → Runs toks i (state (controls.Want places.Whole) (forms.ForTest ∷ s)) → Runs toks i (state controls.Test (forms.ForTest ∷ s))
 test_runs toks i s run = lift toks i _ _ (λ k j r h. test_step k j s r h) run
 
-update_step : (k : Class) (j : Bool) (s : List Form) (r : State) → step k j (forms.ForUpdate ∷ s) (controls.Want places.Whole) ≡ Some r → step k j (forms.ForUpdate ∷ s) controls.Update ≡ Some r
+update_step : (k : Class) (j : Bool) (s : List Form) (r : State) → step k j (forms.Header ∷ s) (controls.Want places.Whole) ≡ Some r → step k j (forms.Header ∷ s) controls.Update ≡ Some r
 update_step classes.CloseParen j s r h = cc
 update_step _ j s r h = h
 
-pub update_runs : (toks : List Tok) (i : ℕ) (s : List Form) → Runs toks i (state (controls.Want places.Whole) (forms.ForUpdate ∷ s)) → Runs toks i (state controls.Update (forms.ForUpdate ∷ s))
+pub update_runs : (toks : List Tok) (i : ℕ) (s : List Form) → Runs toks i (state (controls.Want places.Whole) (forms.Header ∷ s)) → Runs toks i (state controls.Update (forms.Header ∷ s))
 update_runs toks i s run = lift toks i _ _ (λ k j r h. update_step k j s r h) run
 
 init_step : (k : Class) (j : Bool) (s : List Form) (r : State) → step k j (forms.ForInit ∷ s) (controls.Want places.Whole) ≡ Some r → step k j s controls.Init ≡ Some r

@@ -73,11 +73,11 @@ dotted : (p : Place) (t : Bool) (s : List Form) → CanEnd (controls.Have p true
 dotted p t s w = before (tokens.Sign signs.Dot) (controls.Have p t) (controls.Dot p) s s refl (word (controls.Dot p) (controls.Have p true) s s refl w)
 
 -- the header of a `for` from its second part on
-header : (s : List Form) → CanEnd controls.Done s → CanEnd controls.Update (forms.ForUpdate ∷ s)
-header s w = close_paren controls.Update controls.Body (forms.ForUpdate ∷ s) s refl (empty s w)
+header : (s : List Form) → CanEnd controls.Done s → CanEnd controls.Update (forms.Header ∷ s)
+header s w = close_paren controls.Update controls.Body (forms.Header ∷ s) s refl (empty s w)
 
 test_header : (s : List Form) → CanEnd controls.Done s → CanEnd controls.Test (forms.ForTest ∷ s)
-test_header s w = semicolon controls.Test controls.Update (forms.ForTest ∷ s) (forms.ForUpdate ∷ s) refl (header s w)
+test_header s w = semicolon controls.Test controls.Update (forms.ForTest ∷ s) (forms.Header ∷ s) refl (header s w)
 
 -- the clauses of a `switch`
 no_clauses : (s : List Form) → CanEnd controls.Done s → CanEnd controls.SwitchBrace (forms.Clauses ∷ s)
@@ -127,16 +127,12 @@ mutual
   have_ends (forms.Var ∷ s) p t h = dotted p t (forms.Var ∷ s) (semicolon (controls.Have p true) controls.Done (forms.Var ∷ s) s refl (done_ends s h))
   have_ends (forms.ForVar ∷ s) p t h = dotted p t (forms.ForVar ∷ s) (semicolon (controls.Have p true) controls.Test (forms.ForVar ∷ s) (forms.ForTest ∷ s) refl (test_header s (done_ends s h)))
   have_ends (forms.ForInit ∷ s) p t h = dotted p t (forms.ForInit ∷ s) (semicolon (controls.Have p true) controls.Test (forms.ForInit ∷ s) (forms.ForTest ∷ s) refl (test_header s (done_ends s h)))
-  have_ends (forms.ForTest ∷ s) p t h = dotted p t (forms.ForTest ∷ s) (semicolon (controls.Have p true) controls.Update (forms.ForTest ∷ s) (forms.ForUpdate ∷ s) refl (header s (done_ends s h)))
-  have_ends (forms.ForUpdate ∷ s) p t h = dotted p t (forms.ForUpdate ∷ s)
-      (closes p forms.ForUpdate controls.Body s s (λ z. by_place z (λ y. step classes.CloseParen true (forms.ForUpdate ∷ s) (controls.Have y true) ≡ Some (state controls.Body s)) refl refl refl refl) (empty s (done_ends s h)))
-  have_ends (forms.Each ∷ s) p t h = dotted p t (forms.Each ∷ s)
-      (closes p forms.Each controls.Body s s (λ z. by_place z (λ y. step classes.CloseParen true (forms.Each ∷ s) (controls.Have y true) ≡ Some (state controls.Body s)) refl refl refl refl) (empty s (done_ends s h)))
+  have_ends (forms.ForTest ∷ s) p t h = dotted p t (forms.ForTest ∷ s) (semicolon (controls.Have p true) controls.Update (forms.ForTest ∷ s) (forms.Header ∷ s) refl (header s (done_ends s h)))
+  have_ends (forms.Header ∷ s) p t h = dotted p t (forms.Header ∷ s)
+      (closes p forms.Header controls.Body s s (λ z. by_place z (λ y. step classes.CloseParen true (forms.Header ∷ s) (controls.Have y true) ≡ Some (state controls.Body s)) refl refl refl refl) (empty s (done_ends s h)))
   have_ends (forms.If ∷ s) p t h = dotted p t (forms.If ∷ s)
       (closes p forms.If controls.Body s (forms.Then ∷ s) (λ z. by_place z (λ y. step classes.CloseParen true (forms.If ∷ s) (controls.Have y true) ≡ Some (state controls.Body (forms.Then ∷ s))) refl refl refl refl)
       (empty (forms.Then ∷ s) (with_else s (done_ends s h))))
-  have_ends (forms.While ∷ s) p t h = dotted p t (forms.While ∷ s)
-      (closes p forms.While controls.Body s s (λ z. by_place z (λ y. step classes.CloseParen true (forms.While ∷ s) (controls.Have y true) ≡ Some (state controls.Body s)) refl refl refl refl) (empty s (done_ends s h)))
   have_ends (forms.Switch ∷ s) p t h = dotted p t (forms.Switch ∷ s)
       (closes p forms.Switch controls.SwitchBrace s (forms.Clauses ∷ s) (λ z. by_place z (λ y. step classes.CloseParen true (forms.Switch ∷ s) (controls.Have y true) ≡ Some (state controls.SwitchBrace (forms.Clauses ∷ s))) refl refl refl refl)
       (no_clauses s (done_ends s h)))
@@ -199,7 +195,7 @@ declaration_body (_ ∷ s) h = absurd h
 pub condition_holds : (s : List Form) → OnCondition s → Holds s
 condition_holds [] h = absurd h
 condition_holds (forms.If ∷ s) h = h
-condition_holds (forms.While ∷ s) h = h
+condition_holds (forms.Header ∷ s) h = h
 condition_holds (forms.Switch ∷ s) h = h
 condition_holds (forms.DoWhile ∷ s) h = h
 condition_holds (_ ∷ s) h = absurd h
@@ -247,7 +243,7 @@ test_ends (_ ∷ s) h = absurd h
 
 update_ends : (s : List Form) → OnUpdate s → CanEnd controls.Update s
 update_ends [] h = absurd h
-update_ends (forms.ForUpdate ∷ s) h = header s (done_ends s h)
+update_ends (forms.Header ∷ s) h = header s (done_ends s h)
 update_ends (_ ∷ s) h = absurd h
 
 clauses_end : (s : List Form) → Clausal s → CanEnd controls.ClauseOrEnd s

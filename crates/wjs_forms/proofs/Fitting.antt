@@ -45,10 +45,8 @@ abbrev mutual
   Holds (forms.ForVar ∷ s) = Stmts s
   Holds (forms.ForInit ∷ s) = Stmts s
   Holds (forms.ForTest ∷ s) = Stmts s
-  Holds (forms.ForUpdate ∷ s) = Stmts s
-  Holds (forms.Each ∷ s) = Stmts s
+  Holds (forms.Header ∷ s) = Stmts s
   Holds (forms.If ∷ s) = Stmts s
-  Holds (forms.While ∷ s) = Stmts s
   Holds (forms.Switch ∷ s) = Stmts s
   Holds (forms.DoWhile ∷ s) = Stmts s
   Holds (forms.Within ∷ s) = Stmts s
@@ -108,7 +106,7 @@ OnValue _ = ⊥
 -- a condition in parentheses
 abbrev pub OnCondition : List Form → Type 0
 OnCondition (forms.If ∷ s) = Stmts s
-OnCondition (forms.While ∷ s) = Stmts s
+OnCondition (forms.Header ∷ s) = Stmts s
 OnCondition (forms.Switch ∷ s) = Stmts s
 OnCondition (forms.DoWhile ∷ s) = Stmts s
 OnCondition _ = ⊥
@@ -127,7 +125,7 @@ OnTest (forms.ForTest ∷ s) = Stmts s
 OnTest _ = ⊥
 
 abbrev pub OnUpdate : List Form → Type 0
-OnUpdate (forms.ForUpdate ∷ s) = Stmts s
+OnUpdate (forms.Header ∷ s) = Stmts s
 OnUpdate _ = ⊥
 
 -- what is to come next fits the forms; behind the end nothing comes

@@ -64,18 +64,18 @@ module _ (toks : List Tok) where
 
   -- a target, `in`, an expression and `)`
   pub each : (t e : Expr) (s : List Form) (i a b : ℕ) → is_target t ≡ true → Shaped false t → HasKey toks a keys.In → HasSign toks b signs.CloseParen → Taking toks places.Whole (forms.ForInit ∷ s) t i a
-      → Taking toks places.Whole (forms.Each ∷ s) e (a + 1) b → Runs toks (b + 1) (state controls.Body s) → Runs toks i (state controls.Init s)
+      → Taking toks places.Whole (forms.Header ∷ s) e (a + 1) b → Runs toks (b + 1) (state controls.Body s) → Runs toks i (state controls.Init s)
   each t e s i a b g f k c x y run = init_runs toks i s
       (x.chain (target_high false t g f) (subst (λ (z : Bool). Runs toks a (state (controls.Have places.Whole z) (forms.ForInit ∷ s))) (sym g)
-      (on_key toks a keys.In _ (state (controls.Want places.Whole) (forms.Each ∷ s)) k (λ j. refl) (closed_by toks (a + 1) b signs.CloseParen e (forms.Each ∷ s) (state controls.Body s) c tt (λ j. refl) y run))))
+      (on_key toks a keys.In _ (state (controls.Want places.Whole) (forms.Header ∷ s)) k (λ j. refl) (closed_by toks (a + 1) b signs.CloseParen e (forms.Header ∷ s) (state controls.Body s) c tt (λ j. refl) y run))))
 
   -- `var`, a name, `in`, an expression and `)`; the header begins at i
   pub each_var : (x : TextId) (e : Expr) (s : List Form) (i b : ℕ) → HasKey toks (i + 2) keys.Var → HasToken toks (i + 3) (tokens.Word x) → HasKey toks (i + 4) keys.In → HasSign toks b signs.CloseParen
-      → Taking toks places.Whole (forms.Each ∷ s) e (i + 5) b → Runs toks (b + 1) (state controls.Body s) → Runs toks (i + 2) (state controls.Init s)
+      → Taking toks places.Whole (forms.Header ∷ s) e (i + 5) b → Runs toks (b + 1) (state controls.Body s) → Runs toks (i + 2) (state controls.Init s)
   each_var x e s i b v w k c y run = on_key toks (i + 2) keys.Var _ (state controls.ForName (forms.ForVar ∷ s)) v (λ j. refl)
       (moved toks _ (i + 3) (i + 2 + 1) (omega arith) (on_word toks (i + 3) x _ (state controls.ForNamed (forms.ForVar ∷ s)) w (λ j. refl)
-      (moved toks _ (i + 4) (i + 3 + 1) (omega arith) (on_key toks (i + 4) keys.In _ (state (controls.Want places.Whole) (forms.Each ∷ s)) k (λ j. refl)
-      (moved toks _ (i + 5) (i + 4 + 1) (omega arith) (closed_by toks (i + 5) b signs.CloseParen e (forms.Each ∷ s) (state controls.Body s) c tt (λ j. refl) y run))))))
+      (moved toks _ (i + 4) (i + 3 + 1) (omega arith) (on_key toks (i + 4) keys.In _ (state (controls.Want places.Whole) (forms.Header ∷ s)) k (λ j. refl)
+      (moved toks _ (i + 5) (i + 4 + 1) (omega arith) (closed_by toks (i + 5) b signs.CloseParen e (forms.Header ∷ s) (state controls.Body s) c tt (λ j. refl) y run))))))
 
   -- `try {`
   pub try_head : (i : ℕ) (s : List Form) → HasKey toks i keys.Try → HasSign toks (i + 1) signs.OpenBrace → Runs toks (i + 2) (state controls.List (forms.TryBlock ∷ s)) → Runs toks i (state controls.Body s)

@@ -101,7 +101,7 @@ statement_fits classes.Word s g r w h = is (state controls.NameOrLabel (forms.Va
 statement_fits classes.Var s g r w h = is (state controls.Name (forms.Var ∷ s)) r h w
 statement_fits classes.If s g r w h = is (state controls.Open (forms.If ∷ s)) r h w
 statement_fits classes.Do s g r w h = is (state controls.Body (forms.Do ∷ s)) r h w
-statement_fits classes.While s g r w h = is (state controls.Open (forms.While ∷ s)) r h w
+statement_fits classes.While s g r w h = is (state controls.Open (forms.Header ∷ s)) r h w
 statement_fits classes.For s g r w h = is (state controls.ForOpen s) r h w
 statement_fits classes.Continue s g r w h = is (state controls.LabelOrEnd s) r h w
 statement_fits classes.Break s g r w h = is (state controls.LabelOrEnd s) r h w
@@ -185,14 +185,12 @@ ends_fits (forms.Arguments p) s k j r e w h = is (state (controls.Have p false) 
 ends_fits (forms.Array p) s k j r e w h = is (state (controls.Have p false) s) r (close_bracket_is k (moves.Pop (controls.Have p false)) (forms.Array p ∷ s) (λ d. below k j (forms.Array p ∷ s) d) r h) w
 ends_fits (forms.Object p) s k j r e w h = is (state (controls.Have p false) s) r (close_brace_is k (moves.Pop (controls.Have p false)) (forms.Object p ∷ s) (λ d. below k j (forms.Object p ∷ s) d) r h) w
 ends_fits forms.If s k j r e w h = is (state controls.Body (forms.Then ∷ s)) r (close_paren_is k (moves.Swap forms.Then controls.Body) (forms.If ∷ s) (λ d. below k j (forms.If ∷ s) d) r h) w
-ends_fits forms.While s k j r e w h = is (state controls.Body s) r (close_paren_is k (moves.Pop controls.Body) (forms.While ∷ s) (λ d. below k j (forms.While ∷ s) d) r h) w
-ends_fits forms.ForUpdate s k j r e w h = is (state controls.Body s) r (close_paren_is k (moves.Pop controls.Body) (forms.ForUpdate ∷ s) (λ d. below k j (forms.ForUpdate ∷ s) d) r h) w
-ends_fits forms.Each s k j r e w h = is (state controls.Body s) r (close_paren_is k (moves.Pop controls.Body) (forms.Each ∷ s) (λ d. below k j (forms.Each ∷ s) d) r h) w
+ends_fits forms.Header s k j r e w h = is (state controls.Body s) r (close_paren_is k (moves.Pop controls.Body) (forms.Header ∷ s) (λ d. below k j (forms.Header ∷ s) d) r h) w
 ends_fits forms.Switch s k j r e w h = is (state controls.SwitchBrace (forms.Clauses ∷ s)) r (close_paren_is k (moves.Swap forms.Clauses controls.SwitchBrace) (forms.Switch ∷ s) (λ d. below k j (forms.Switch ∷ s) d) r h) w
 ends_fits forms.DoWhile s k j r e w h = is (state controls.Complete s) r (close_paren_is k (moves.Pop controls.Complete) (forms.DoWhile ∷ s) (λ d. below k j (forms.DoWhile ∷ s) d) r h) w
 ends_fits forms.ForInit s k j r e w h = is (state controls.Test (forms.ForTest ∷ s)) r (semicolon_is k (moves.Swap forms.ForTest controls.Test) (forms.ForInit ∷ s) (λ d. below k j (forms.ForInit ∷ s) d) r h) w
 ends_fits forms.ForVar s k j r e w h = is (state controls.Test (forms.ForTest ∷ s)) r (semicolon_is k (moves.Swap forms.ForTest controls.Test) (forms.ForVar ∷ s) (λ d. below k j (forms.ForVar ∷ s) d) r h) w
-ends_fits forms.ForTest s k j r e w h = is (state controls.Update (forms.ForUpdate ∷ s)) r (semicolon_is k (moves.Swap forms.ForUpdate controls.Update) (forms.ForTest ∷ s) (λ d. below k j (forms.ForTest ∷ s) d) r h) w
+ends_fits forms.ForTest s k j r e w h = is (state controls.Update (forms.Header ∷ s)) r (semicolon_is k (moves.Swap forms.Header controls.Update) (forms.ForTest ∷ s) (λ d. below k j (forms.ForTest ∷ s) d) r h) w
 ends_fits forms.Within s k j r e w h = is (state controls.List (forms.Block ∷ s)) r (open_brace_is k (moves.Swap forms.Block controls.List) (forms.Within ∷ s) (λ d. below k j (forms.Within ∷ s) d) r h) w
 ends_fits forms.CaseHead s k j r e w h = is (state controls.List s) r (colon_is k (moves.Pop controls.List) (forms.CaseHead ∷ s) (λ d. below k j (forms.CaseHead ∷ s) d) r h) (clausal_lists s w)
 ends_fits _ s k j r e w h = cc
@@ -234,7 +232,7 @@ assigns_fits places.Update s g r w h = cc
 
 in_fits : (j : Bool) (p : Place) (s : List Form) (r : State) → Holds s → act (target_in p (top s)) s (λ d. below classes.In j s d) ≡ Some r → FitsIn r
 in_fits j places.Whole [] r w h = absurd w
-in_fits j places.Whole (forms.ForInit ∷ s) r w h = is (state (controls.Want places.Whole) (forms.Each ∷ s)) r h w
+in_fits j places.Whole (forms.ForInit ∷ s) r w h = is (state (controls.Want places.Whole) (forms.Header ∷ s)) r h w
 in_fits j places.Whole (f ∷ s) r w h = behind_fits (f ∷ s) classes.In j r (λ q. cc) w h
 in_fits j p s r w h = behind_fits s classes.In j r (λ q. cc) w h
 
@@ -356,7 +354,7 @@ named_fits k j s r e w h = named_ends_fits s k j r e w h
 
 for_named_fits : (s : List Form) (k : Class) (j : Bool) (r : State) → (k ≡ classes.End → ⊥) → OnForVar s → step k j s controls.ForNamed ≡ Some r → FitsIn r
 for_named_fits [] k j r e w h = absurd w
-for_named_fits (forms.ForVar ∷ s) classes.In j r e w h = is (state (controls.Want places.Whole) (forms.Each ∷ s)) r h w
+for_named_fits (forms.ForVar ∷ s) classes.In j r e w h = is (state (controls.Want places.Whole) (forms.Header ∷ s)) r h w
 for_named_fits (forms.ForVar ∷ s) k j r e w h = named_fits k j (forms.ForVar ∷ s) r e w h
 for_named_fits (_ ∷ s) k j r e w h = absurd w
 
@@ -367,14 +365,14 @@ init_fits k j s r w h = value_fits forms.ForInit k s (λ d. below k j s d) r w h
 
 test_fits : (s : List Form) (k : Class) (j : Bool) (r : State) → OnTest s → step k j s controls.Test ≡ Some r → FitsIn r
 test_fits [] k j r w h = absurd w
-test_fits (forms.ForTest ∷ s) classes.Semicolon j r w h = is (state controls.Update (forms.ForUpdate ∷ s)) r h w
+test_fits (forms.ForTest ∷ s) classes.Semicolon j r w h = is (state controls.Update (forms.Header ∷ s)) r h w
 test_fits (forms.ForTest ∷ s) k j r w h = operand_fits k places.Whole (Some forms.ForTest) (forms.ForTest ∷ s) (λ d. below k j (forms.ForTest ∷ s) d) r w h
 test_fits (_ ∷ s) k j r w h = absurd w
 
 update_fits : (s : List Form) (k : Class) (j : Bool) (r : State) → OnUpdate s → step k j s controls.Update ≡ Some r → FitsIn r
 update_fits [] k j r w h = absurd w
-update_fits (forms.ForUpdate ∷ s) classes.CloseParen j r w h = is (state controls.Body s) r h w
-update_fits (forms.ForUpdate ∷ s) k j r w h = operand_fits k places.Whole (Some forms.ForUpdate) (forms.ForUpdate ∷ s) (λ d. below k j (forms.ForUpdate ∷ s) d) r w h
+update_fits (forms.Header ∷ s) classes.CloseParen j r w h = is (state controls.Body s) r h w
+update_fits (forms.Header ∷ s) k j r w h = operand_fits k places.Whole (Some forms.Header) (forms.Header ∷ s) (λ d. below k j (forms.Header ∷ s) d) r w h
 update_fits (_ ∷ s) k j r w h = absurd w
 
 jump_fits : (k : Class) (j : Bool) (s : List Form) (r : State) → (k ≡ classes.End → ⊥) → Stmts s → step k j s controls.LabelOrEnd ≡ Some r → FitsIn r

@@ -248,10 +248,8 @@ module _ (toks : List Tok) where
   fed_by forms.ForVar r e i = MoreRest true (HeaderEnd r.done) (InExpr (ends_in_update e)) i
   fed_by forms.ForInit r e i = (HasSign toks i signs.Semicolon × TestRest r.done (i + 1)) ⊎ ((is_target e ≡ true) × HasKey toks i keys.In × EachRest r.done (i + 1))
   fed_by forms.ForTest r e i = HasSign toks i signs.Semicolon × UpdateRest r.done (i + 1)
-  fed_by forms.ForUpdate r e i = HasSign toks i signs.CloseParen × BodyRest r.done (i + 1)
-  fed_by forms.Each r e i = HasSign toks i signs.CloseParen × BodyRest r.done (i + 1)
+  fed_by forms.Header r e i = HasSign toks i signs.CloseParen × BodyRest r.done (i + 1)
   fed_by forms.If r e i = HasSign toks i signs.CloseParen × BodyRest (ThenRest r.done) (i + 1)
-  fed_by forms.While r e i = HasSign toks i signs.CloseParen × BodyRest r.done (i + 1)
   fed_by forms.Switch r e i = HasSign toks i signs.CloseParen × HasSign toks (i + 1) signs.OpenBrace × ClausesRest r.done (i + 2)
   fed_by forms.DoWhile r e i = HasSign toks i signs.CloseParen × CompleteRest r.done (i + 1)
   fed_by forms.Within r e i = HasSign toks i signs.OpenBrace × BlockRest r.done (i + 1)
@@ -368,7 +366,7 @@ module _ (toks : List Tok) where
   test_rest s i = Unit {0}
 
   abbrev pub update_rest : List Form → ℕ → Type 0
-  update_rest (forms.ForUpdate ∷ s) i = UpdateRest (rests s).done i
+  update_rest (forms.Header ∷ s) i = UpdateRest (rests s).done i
   update_rest s i = Unit {0}
 
   abbrev pub clauses_rest : List Form → ℕ → Type 0

@@ -254,12 +254,12 @@ module _ (toks : List Tok) where
   named_any (_ ∷ s) k i j r u q w h n = tt
 
   -- what a header visits
-  each_rest : (s : List Form) (r : State) (i : ℕ) → Whole toks (rests toks (forms.Each ∷ s)).core i → EachRest toks (rests toks s).done i
+  each_rest : (s : List Form) (r : State) (i : ℕ) → Whole toks (rests toks (forms.Header ∷ s)).core i → EachRest toks (rests toks s).done i
   each_rest s r i y = (y.tree, y.end, y.reading.formed, y.reading.stands, y.then.0, y.then.1)
 
   for_named_any : (s : List Form) (k : Class) (i : ℕ) (j : Bool) (r : State) → Has toks i k → step k j s controls.ForNamed ≡ Some r → Rest toks r (i + 1) → for_named_rest toks s i
   for_named_any [] k i j r w h n = tt
-  for_named_any (forms.ForVar ∷ s) classes.In i j r w h n = inl (got toks i classes.In (tokens.Key keys.In) w, each_rest s r (i + 1) (back toks (controls.Want places.Whole) (forms.Each ∷ s) r (i + 1) h n))
+  for_named_any (forms.ForVar ∷ s) classes.In i j r w h n = inl (got toks i classes.In (tokens.Key keys.In) w, each_rest s r (i + 1) (back toks (controls.Want places.Whole) (forms.Header ∷ s) r (i + 1) h n))
   for_named_any (forms.ForVar ∷ s) k i j r w h n = inr (header_named k i j s r w h n)
   for_named_any (_ ∷ s) k i j r w h n = tt
 
@@ -294,7 +294,7 @@ module _ (toks : List Tok) where
 
   test_any : (s : List Form) (k : Class) (i : ℕ) (j : Bool) (r : State) → Has toks i k → step k j s controls.Test ≡ Some r → Rest toks r (i + 1) → test_rest toks s i
   test_any [] k i j r w h n = tt
-  test_any (forms.ForTest ∷ s) classes.Semicolon i j r w h n = (Absent, i, tt, refl, got toks i classes.Semicolon (tokens.Sign signs.Semicolon) w, back toks controls.Update (forms.ForUpdate ∷ s) r (i + 1) h n)
+  test_any (forms.ForTest ∷ s) classes.Semicolon i j r w h n = (Absent, i, tt, refl, got toks i classes.Semicolon (tokens.Sign signs.Semicolon) w, back toks controls.Update (forms.Header ∷ s) r (i + 1) h n)
   test_any (forms.ForTest ∷ s) k i j r w h n =
       let y = operand_rest toks k i places.Whole (forms.ForTest ∷ s) (λ d. below k j (forms.ForTest ∷ s) d) r w h n in
       (Present y.tree, y.end, y.reading.formed, y.reading.stands, y.then.0, y.then.1)
@@ -302,9 +302,9 @@ module _ (toks : List Tok) where
 
   update_any : (s : List Form) (k : Class) (i : ℕ) (j : Bool) (r : State) → Has toks i k → step k j s controls.Update ≡ Some r → Rest toks r (i + 1) → update_rest toks s i
   update_any [] k i j r w h n = tt
-  update_any (forms.ForUpdate ∷ s) classes.CloseParen i j r w h n = (Absent, i, tt, refl, got toks i classes.CloseParen (tokens.Sign signs.CloseParen) w, back toks controls.Body s r (i + 1) h n)
-  update_any (forms.ForUpdate ∷ s) k i j r w h n =
-      let y = operand_rest toks k i places.Whole (forms.ForUpdate ∷ s) (λ d. below k j (forms.ForUpdate ∷ s) d) r w h n in
+  update_any (forms.Header ∷ s) classes.CloseParen i j r w h n = (Absent, i, tt, refl, got toks i classes.CloseParen (tokens.Sign signs.CloseParen) w, back toks controls.Body s r (i + 1) h n)
+  update_any (forms.Header ∷ s) k i j r w h n =
+      let y = operand_rest toks k i places.Whole (forms.Header ∷ s) (λ d. below k j (forms.Header ∷ s) d) r w h n in
       (Present y.tree, y.end, y.reading.formed, y.reading.stands, y.then.0, y.then.1)
   update_any (_ ∷ s) k i j r w h n = tt
 

@@ -145,15 +145,9 @@ module _ (toks : List Tok) where
   ends_rest (forms.If ∷ s) k i j r u q f w h n =
       let v = on_close_paren_is k (moves.Swap forms.Then controls.Body) (forms.If ∷ s) (λ d. below k j (forms.If ∷ s) d) r h in
       closed_over toks (rests toks (forms.If ∷ s)).core i (λ e ns sl. (got toks i classes.CloseParen (tokens.Sign signs.CloseParen) (subst (Has toks i) v.0 w), back toks controls.Body (forms.Then ∷ s) r (i + 1) v.1 n))
-  ends_rest (forms.While ∷ s) k i j r u q f w h n =
-      let v = on_close_paren_is k (moves.Pop controls.Body) (forms.While ∷ s) (λ d. below k j (forms.While ∷ s) d) r h in
-      closed_over toks (rests toks (forms.While ∷ s)).core i (λ e ns sl. (got toks i classes.CloseParen (tokens.Sign signs.CloseParen) (subst (Has toks i) v.0 w), back toks controls.Body s r (i + 1) v.1 n))
-  ends_rest (forms.ForUpdate ∷ s) k i j r u q f w h n =
-      let v = on_close_paren_is k (moves.Pop controls.Body) (forms.ForUpdate ∷ s) (λ d. below k j (forms.ForUpdate ∷ s) d) r h in
-      closed_over toks (rests toks (forms.ForUpdate ∷ s)).core i (λ e ns sl. (got toks i classes.CloseParen (tokens.Sign signs.CloseParen) (subst (Has toks i) v.0 w), back toks controls.Body s r (i + 1) v.1 n))
-  ends_rest (forms.Each ∷ s) k i j r u q f w h n =
-      let v = on_close_paren_is k (moves.Pop controls.Body) (forms.Each ∷ s) (λ d. below k j (forms.Each ∷ s) d) r h in
-      closed_over toks (rests toks (forms.Each ∷ s)).core i (λ e ns sl. (got toks i classes.CloseParen (tokens.Sign signs.CloseParen) (subst (Has toks i) v.0 w), back toks controls.Body s r (i + 1) v.1 n))
+  ends_rest (forms.Header ∷ s) k i j r u q f w h n =
+      let v = on_close_paren_is k (moves.Pop controls.Body) (forms.Header ∷ s) (λ d. below k j (forms.Header ∷ s) d) r h in
+      closed_over toks (rests toks (forms.Header ∷ s)).core i (λ e ns sl. (got toks i classes.CloseParen (tokens.Sign signs.CloseParen) (subst (Has toks i) v.0 w), back toks controls.Body s r (i + 1) v.1 n))
   ends_rest (forms.Switch ∷ s) k i j r u q f w h n =
       let v = on_close_paren_is k (moves.Swap forms.Clauses controls.SwitchBrace) (forms.Switch ∷ s) (λ d. below k j (forms.Switch ∷ s) d) r h in
       let x = back toks controls.SwitchBrace (forms.Clauses ∷ s) r (i + 1) v.1 n in
@@ -168,8 +162,8 @@ module _ (toks : List Tok) where
       let v = on_semicolon_is k (moves.Swap forms.ForTest controls.Test) (forms.ForVar ∷ s) (λ d. below k j (forms.ForVar ∷ s) d) r h in
       closed_over toks (rests toks (forms.ForVar ∷ s)).core i (λ e ns sl. (NoVariable, i, tt, refl, (got toks i classes.Semicolon (tokens.Sign signs.Semicolon) (subst (Has toks i) v.0 w), back toks controls.Test (forms.ForTest ∷ s) r (i + 1) v.1 n)))
   ends_rest (forms.ForTest ∷ s) k i j r u q f w h n =
-      let v = on_semicolon_is k (moves.Swap forms.ForUpdate controls.Update) (forms.ForTest ∷ s) (λ d. below k j (forms.ForTest ∷ s) d) r h in
-      closed_over toks (rests toks (forms.ForTest ∷ s)).core i (λ e ns sl. (got toks i classes.Semicolon (tokens.Sign signs.Semicolon) (subst (Has toks i) v.0 w), back toks controls.Update (forms.ForUpdate ∷ s) r (i + 1) v.1 n))
+      let v = on_semicolon_is k (moves.Swap forms.Header controls.Update) (forms.ForTest ∷ s) (λ d. below k j (forms.ForTest ∷ s) d) r h in
+      closed_over toks (rests toks (forms.ForTest ∷ s)).core i (λ e ns sl. (got toks i classes.Semicolon (tokens.Sign signs.Semicolon) (subst (Has toks i) v.0 w), back toks controls.Update (forms.Header ∷ s) r (i + 1) v.1 n))
   ends_rest (forms.Within ∷ s) k i j r u q f w h n =
       let v = on_open_brace_is k (moves.Swap forms.Block controls.List) (forms.Within ∷ s) (λ d. below k j (forms.Within ∷ s) d) r h in
       closed_over toks (rests toks (forms.Within ∷ s)).core i (λ e ns sl. (got toks i classes.OpenBrace (tokens.Sign signs.OpenBrace) (subst (Has toks i) v.0 w), (back toks controls.List (forms.Block ∷ s) r (i + 1) v.1 n) refl))
@@ -270,7 +264,7 @@ module _ (toks : List Tok) where
   in_rest : (s : List Form) (p : Place) (i : ℕ) (j : Bool) (r : State) → is_new s ≡ false → joined_here toks i ≡ j → class_here toks i ≡ classes.In → Has toks i classes.In → act (target_in p (top s)) s (λ d. below classes.In j s d) ≡ Some r → Rest toks r (i + 1)
       → HaveRest toks (rests toks s) p true i
   in_rest (forms.ForInit ∷ s) places.Whole i j r z u q w h n = λ e b x g.
-      let y = back toks (controls.Want places.Whole) (forms.Each ∷ s) r (i + 1) h n in
+      let y = back toks (controls.Want places.Whole) (forms.Header ∷ s) r (i + 1) h n in
       record {
         tree = e;
         end = i;

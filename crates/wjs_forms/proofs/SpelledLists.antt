@@ -104,7 +104,7 @@ module _ (toks : List Tok) where
   statement_rest classes.Do i s g r q w h n =
       do_stmt toks (rests toks s).done i (got toks i classes.Do (tokens.Key keys.Do) w) (back toks controls.Body (forms.Do ∷ s) r (i + 1) h n)
   statement_rest classes.While i s g r q w h n =
-      let x = back toks controls.Open (forms.While ∷ s) r (i + 1) h n in
+      let x = back toks controls.Open (forms.Header ∷ s) r (i + 1) h n in
       let y = x.1 in
       while_stmt toks (rests toks s).done y.tree i y.end (got toks i classes.While (tokens.Key keys.While) w) x.0 y.reading.formed (from_two i y.tree y.end y.reading.stands) y.then.0 y.then.1
   statement_rest classes.For i s g r q w h n =

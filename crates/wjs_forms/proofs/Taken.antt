@@ -252,17 +252,17 @@ module _ (toks : List Tok) where
         on_key toks i keys.Var _ (state controls.ForName (forms.ForVar ∷ s)) h.0 (λ j. refl)
         (on_word toks (i + 1) later.0 _ (state controls.ForNamed (forms.ForVar ∷ s)) later.1 (λ j. refl) (for_named_runs toks (i + 1 + 1) s later.2))
 
-    test : (t : Optional) (s : List Form) (i n : ℕ) → OptionalShaped t → OptionalStands toks t i n → HasSign toks n signs.Semicolon → Runs toks (n + 1) (state controls.Update (forms.ForUpdate ∷ s)) → Runs toks i (state controls.Test (forms.ForTest ∷ s))
-    test Absent s i n f h c run = moved toks _ n i h (on_sign toks n signs.Semicolon _ (state controls.Update (forms.ForUpdate ∷ s)) c (λ j. refl) run)
+    test : (t : Optional) (s : List Form) (i n : ℕ) → OptionalShaped t → OptionalStands toks t i n → HasSign toks n signs.Semicolon → Runs toks (n + 1) (state controls.Update (forms.Header ∷ s)) → Runs toks i (state controls.Test (forms.ForTest ∷ s))
+    test Absent s i n f h c run = moved toks _ n i h (on_sign toks n signs.Semicolon _ (state controls.Update (forms.Header ∷ s)) c (λ j. refl) run)
     test (Present e) s i n f h c run = test_runs toks i s
-        (closed_by toks i n signs.Semicolon e (forms.ForTest ∷ s) (state controls.Update (forms.ForUpdate ∷ s)) c tt (λ j. refl)
+        (closed_by toks i n signs.Semicolon e (forms.ForTest ∷ s) (state controls.Update (forms.Header ∷ s)) c tt (λ j. refl)
         (taking e places.Whole (forms.ForTest ∷ s) i n tt (new_free (forms.ForTest ∷ s) e refl) (λ l j. refl) f h) run)
 
-    update : (t : Optional) (s : List Form) (i n : ℕ) → OptionalShaped t → OptionalStands toks t i n → HasSign toks n signs.CloseParen → Runs toks (n + 1) (state controls.Body s) → Runs toks i (state controls.Update (forms.ForUpdate ∷ s))
+    update : (t : Optional) (s : List Form) (i n : ℕ) → OptionalShaped t → OptionalStands toks t i n → HasSign toks n signs.CloseParen → Runs toks (n + 1) (state controls.Body s) → Runs toks i (state controls.Update (forms.Header ∷ s))
     update Absent s i n f h c run = moved toks _ n i h (on_sign toks n signs.CloseParen _ (state controls.Body s) c (λ j. refl) run)
     update (Present e) s i n f h c run = update_runs toks i s
-        (closed_by toks i n signs.CloseParen e (forms.ForUpdate ∷ s) (state controls.Body s) c tt (λ j. refl)
-        (taking e places.Whole (forms.ForUpdate ∷ s) i n tt (new_free (forms.ForUpdate ∷ s) e refl) (λ l j. refl) f h) run)
+        (closed_by toks i n signs.CloseParen e (forms.Header ∷ s) (state controls.Body s) c tt (λ j. refl)
+        (taking e places.Whole (forms.Header ∷ s) i n tt (new_free (forms.Header ∷ s) e refl) (λ l j. refl) f h) run)
 
     -- a statement: no `else` stands behind an open `if`
     pub stmt : (t : Stmt) (s : List Form) (i n : ℕ) → StmtShaped t → StmtStands toks t i n → (is_open_if t ≡ true → class_here toks n ≡ classes.Else → ⊥) → Runs toks n (state controls.Done s) → Runs toks i (state controls.Body s)
@@ -289,18 +289,18 @@ module _ (toks : List Tok) where
         (taking e places.Whole (forms.DoWhile ∷ s) (h.0 + 2) h.1 tt (new_free (forms.DoWhile ∷ s) e refl) (λ l j. refl) f.1 h.6)
         (complete_runs toks Complete end (h.1 + 1) n s h.8 run)))
     stmt (While e t) s i n f h c run =
-        guarded toks keys.While forms.While e i h.0 s (state controls.Body s) (state controls.Body s) (λ j. refl) (λ j. refl) tt h.1 h.2 h.4
-        (taking e places.Whole (forms.While ∷ s) (i + 2) h.0 tt (new_free (forms.While ∷ s) e refl) (λ l j. refl) f.0 h.3)
+        guarded toks keys.While forms.Header e i h.0 s (state controls.Body s) (state controls.Body s) (λ j. refl) (λ j. refl) tt h.1 h.2 h.4
+        (taking e places.Whole (forms.Header ∷ s) (i + 2) h.0 tt (new_free (forms.Header ∷ s) e refl) (λ l j. refl) f.0 h.3)
         (stmt t s (h.0 + 1) n f.1 h.5 c run)
     stmt (For t e u b) s i n f h c run = for_head toks i s h.3 h.4
         (init t s (i + 2) h.0 f.0 h.5 h.6 (test e s (h.0 + 1) h.1 f.1 h.7 h.8 (update u s (h.1 + 1) h.2 f.2 h.9 h.10 (stmt b s (h.2 + 1) n f.3 h.11 c run))))
     stmt (ForIn t e b) s i n f h c run = for_head toks i s h.2 h.3
         (each toks t e s (i + 2) h.0 h.1 f.0 f.2 h.5 h.7
         (taking t places.Whole (forms.ForInit ∷ s) (i + 2) h.0 tt (new_free (forms.ForInit ∷ s) t refl) (λ l j. refl) (free_in false true t f.1 f.2) h.4)
-        (taking e places.Whole (forms.Each ∷ s) (h.0 + 1) h.1 tt (new_free (forms.Each ∷ s) e refl) (λ l j. refl) f.3 h.6)
+        (taking e places.Whole (forms.Header ∷ s) (h.0 + 1) h.1 tt (new_free (forms.Header ∷ s) e refl) (λ l j. refl) f.3 h.6)
         (stmt b s (h.1 + 1) n f.4 h.8 c run))
     stmt (ForVarIn x e b) s i n f h c run = for_head toks i s h.1 h.2
-        (each_var toks x e s i h.0 h.3 h.4 h.5 h.7 (taking e places.Whole (forms.Each ∷ s) (i + 5) h.0 tt (new_free (forms.Each ∷ s) e refl) (λ l j. refl) f.0 h.6) (stmt b s (h.0 + 1) n f.1 h.8 c run))
+        (each_var toks x e s i h.0 h.3 h.4 h.5 h.7 (taking e places.Whole (forms.Header ∷ s) (i + 5) h.0 tt (new_free (forms.Header ∷ s) e refl) (λ l j. refl) f.0 h.6) (stmt b s (h.0 + 1) n f.1 h.8 c run))
     stmt (Continue x end) s i n f h c run = jump toks keys.Continue x end i h.0 n s (λ j. refl) h.1 h.2 h.3 run
     stmt (Break x end) s i n f h c run = jump toks keys.Break x end i h.0 n s (λ j. refl) h.1 h.2 h.3 run
     stmt (Return Absent end) s i n f h c run = bare_return toks end i n s h.0 h.1 run

@@ -31,7 +31,7 @@ statement classes.Word = moves.Push forms.Value controls.NameOrLabel
 statement classes.Var = moves.Push forms.Var controls.Name
 statement classes.If = moves.Push forms.If controls.Open
 statement classes.Do = moves.Push forms.Do controls.Body
-statement classes.While = moves.Push forms.While controls.Open
+statement classes.While = moves.Push forms.Header controls.Open
 statement classes.For = moves.Stay controls.ForOpen
 statement classes.Continue = moves.Stay controls.LabelOrEnd
 statement classes.Break = moves.Stay controls.LabelOrEnd
@@ -166,11 +166,11 @@ init classes.Var = moves.Push forms.ForVar controls.ForName
 init k = value forms.ForInit k
 
 abbrev pub for_named : Class → Option Form → Move
-for_named classes.In top = moves.Swap forms.Each (controls.Want places.Whole)
+for_named classes.In top = moves.Swap forms.Header (controls.Want places.Whole)
 for_named k top = named k top
 
 abbrev pub test : Class → Option Form → Move
-test classes.Semicolon top = moves.Swap forms.ForUpdate controls.Update
+test classes.Semicolon top = moves.Swap forms.Header controls.Update
 test k top = operand k places.Whole top
 
 abbrev pub update : Class → Option Form → Move

@@ -84,14 +84,12 @@ ends (Some (forms.Arguments p)) k = on_close_paren k (moves.Pop (controls.Have p
 ends (Some (forms.Array p)) k = on_close_bracket k (moves.Pop (controls.Have p false))
 ends (Some (forms.Object p)) k = on_close_brace k (moves.Pop (controls.Have p false))
 ends (Some forms.If) k = on_close_paren k (moves.Swap forms.Then controls.Body)
-ends (Some forms.While) k = on_close_paren k (moves.Pop controls.Body)
-ends (Some forms.ForUpdate) k = on_close_paren k (moves.Pop controls.Body)
-ends (Some forms.Each) k = on_close_paren k (moves.Pop controls.Body)
+ends (Some forms.Header) k = on_close_paren k (moves.Pop controls.Body)
 ends (Some forms.Switch) k = on_close_paren k (moves.Swap forms.Clauses controls.SwitchBrace)
 ends (Some forms.DoWhile) k = on_close_paren k (moves.Pop controls.Complete)
 ends (Some forms.ForInit) k = on_semicolon k (moves.Swap forms.ForTest controls.Test)
 ends (Some forms.ForVar) k = on_semicolon k (moves.Swap forms.ForTest controls.Test)
-ends (Some forms.ForTest) k = on_semicolon k (moves.Swap forms.ForUpdate controls.Update)
+ends (Some forms.ForTest) k = on_semicolon k (moves.Swap forms.Header controls.Update)
 ends (Some forms.Within) k = on_open_brace k (moves.Swap forms.Block controls.List)
 ends (Some forms.CaseHead) k = on_colon k (moves.Pop controls.List)
 ends top k = moves.Refuse
@@ -145,7 +143,7 @@ assigns _ = moves.Refuse
 
 -- `in` behind a target: in a header it may be what visits properties
 abbrev pub target_in : Place → Option Form → Move
-target_in places.Whole (Some forms.ForInit) = moves.Swap forms.Each (controls.Want places.Whole)
+target_in places.Whole (Some forms.ForInit) = moves.Swap forms.Header (controls.Want places.Whole)
 target_in p top = behind top classes.In
 
 -- `)` behind a target: it is one in parentheses too

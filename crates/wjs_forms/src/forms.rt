@@ -37,12 +37,10 @@ pub enum Form {
     /// An expression there.
     ForInit,
     ForTest,
-    ForUpdate,
-    /// What the properties of which are visited by a `for`.
-    Each,
+    /// What stands last in the header of a loop.
+    Header,
     /// The condition of an `if`.
     If,
-    While,
     Switch,
     /// The condition behind the statement of a `do`.
     DoWhile,

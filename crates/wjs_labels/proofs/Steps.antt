@@ -7,14 +7,12 @@ use Rattle.wjs_tree.specs.declared.node.Node.{Node}
 use Rattle.wjs_tree.specs.declared.node.Node.TheVariants as nodes
 use Rattle.wjs_tree.specs.declared.node.Clause.{Clause}
 use Rattle.wjs_tree.specs.declared.node.Handler.{Handler}
-use Rattle.wjs_tree.specs.declared.node.End.{End}
-use Rattle.wjs_tree.specs.declared.node.ForInit.{ForInit}
-use Rattle.wjs_tree.specs.Trees.{Stmt, Block, If, DoWhile, While, For, ForIn, ForVarIn, Label, Within}
+use Rattle.wjs_tree.specs.Trees.{Stmt, Block, If, Label, Within}
 use Rattle.wjs_tree.specs.Shows.{Has}
 use Rattle.wjs_tree.specs.Jumps.{Around, in_loop, in_switch, JumpsRight}
-use Rattle.wjs_tree.specs.Forms.{IsPart, HasForm}
+use Rattle.wjs_tree.specs.Forms.{IsPart, HasForm, loop_body}
 use Rattle.wjs_labels.specs.Answers.{StmtAnswer, OptionAnswer, LabelAnswer, SwitchAnswer, FormAnswer}
-use Rattle.wjs_tree.proofs.Forms.{form_of}
+use Rattle.wjs_tree.proofs.Forms.{form_of, loop_of}
 use Rattle.wjs_tree.proofs.Steps as steps
 use Rattle.wjs_labels.proofs.Walks.{AskAlike, joined, settle}
 use Rattle.wjs_labels.proofs.Lists.{ClausesAnswer, defaults}
@@ -25,20 +23,11 @@ answered ns a i m n b h e w t p = w t (subst (λ (z : Node). HasForm ns z t) e (
 moved : (a : Around) (u v : Stmt) (b : Bool) → u ≡ v → (IsTrue b ↔ JumpsRight a v) → IsTrue b ↔ JumpsRight a u
 moved a u v b e w = (λ h. subst (JumpsRight a) (sym e) (w.0 h), λ j. w.1 (subst (JumpsRight a) e j))
 
-pub do_right : (ns : List Node) (a : Around) (x y : NodeId) (end : End) (b : Bool) → StmtAnswer ns (in_loop a) x b → FormAnswer ns a (nodes.DoWhile x y end) b
-do_right ns a x y end b w t f = moved a t (DoWhile f.0 f.1 end) b f.2 (w f.0 f.3)
-
-pub while_right : (ns : List Node) (a : Around) (x y : NodeId) (b : Bool) → StmtAnswer ns (in_loop a) y b → FormAnswer ns a (nodes.While x y) b
-while_right ns a x y b w t f = moved a t (While f.0 f.1) b f.2 (w f.1 f.3)
-
-pub for_right : (ns : List Node) (a : Around) (init : ForInit) (o p : Option NodeId) (x : NodeId) (b : Bool) → StmtAnswer ns (in_loop a) x b → FormAnswer ns a (nodes.For init o p x) b
-for_right ns a init o p x b w t f = moved a t (For f.0 f.1 f.2 f.3) b f.4 (w f.3 f.6)
-
-pub for_in_right : (ns : List Node) (a : Around) (x y z : NodeId) (b : Bool) → StmtAnswer ns (in_loop a) z b → FormAnswer ns a (nodes.ForIn x y z) b
-for_in_right ns a x y z b w t f = moved a t (ForIn f.0 f.1 f.2) b f.3 (w f.2 f.4)
-
-pub for_var_right : (ns : List Node) (a : Around) (x : TextId) (y z : NodeId) (b : Bool) → StmtAnswer ns (in_loop a) z b → FormAnswer ns a (nodes.ForVarIn x y z) b
-for_var_right ns a x y z b w t f = moved a t (ForVarIn x f.0 f.1) b f.2 (w f.1 f.3)
+pub loop_right : (ns : List Node) (a : Around) (i : NodeId) (n : Node) (y : NodeId) (b : Bool) → Has ns i n → loop_body n ≡ Some y → StmtAnswer ns (in_loop a) y b → StmtAnswer ns a i b
+loop_right ns a i n y b has e w t p =
+    let l = loop_of ns i n y has e t p.0 p.1 in
+    let same = w l.body l.part in
+    (λ k. l.back a (same.0 k), λ j. same.1 (l.into a j))
 
 pub label_right : (ns : List Node) (a : Around) (x : TextId) (y : NodeId) (b : Bool) → LabelAnswer ns a x y b → FormAnswer ns a (nodes.Label x y) b
 label_right ns a x y b w t f = moved a t (Label x f.0) b f.1 (w f.0 f.2)

@@ -96,11 +96,6 @@ fn form_is_right(nodes: &Nodes, around: Around, id: NodeId, room: u32) -> bool
     };
     match nodes.node(id) {
         Node::Block(body) => statements_are_right(nodes, around, body.as_slice(), room),
-        Node::DoWhile(body, _, _) => statement_is_right(nodes, in_loop, *body, room),
-        Node::While(_, body) => statement_is_right(nodes, in_loop, *body, room),
-        Node::For(_, _, _, body) => statement_is_right(nodes, in_loop, *body, room),
-        Node::ForIn(_, _, body) => statement_is_right(nodes, in_loop, *body, room),
-        Node::ForVarIn(_, _, body) => statement_is_right(nodes, in_loop, *body, room),
         Node::Continue(label, _) => can_continue(around, *label),
         Node::Break(label, _) => can_break(around, *label),
         Node::Return(_, _) => around.function,
@@ -108,7 +103,10 @@ fn form_is_right(nodes: &Nodes, around: Around, id: NodeId, room: u32) -> bool
         Node::Switch(_, clauses) => switch_is_right(nodes, around, clauses.as_slice(), room),
         Node::Try(body, handler, last) => try_is_right(nodes, around, *body, *handler, *last, room),
         Node::Within(_, body) => statement_is_right(nodes, around, *body, room),
-        _ => true,
+        form => match form.loop_body() {
+            Some(body) => statement_is_right(nodes, in_loop, body, room),
+            None => true,
+        },
     }
 }
 
@@ -139,12 +137,7 @@ fn is_loop(nodes: &Nodes, id: NodeId) -> bool
 {
     match nodes.node(id) {
         Node::Label(_, body) => is_loop(nodes, *body),
-        Node::DoWhile(_, _, _) => true,
-        Node::While(_, _) => true,
-        Node::For(_, _, _, _) => true,
-        Node::ForIn(_, _, _) => true,
-        Node::ForVarIn(_, _, _) => true,
-        _ => false,
+        form => form.loop_body().is_some(),
     }
 }
 

@@ -151,15 +151,13 @@ pub(crate) fn form_end(top: Option<Form>, class: Class) -> Move
         Form::Array(place) => on_close_bracket(class, Move::Pop(Control::Have(place, false))),
         Form::Object(place) => on_close_brace(class, Move::Pop(Control::Have(place, false))),
         Form::If => on_close_paren(class, Move::Swap(Form::Then, Control::Body)),
-        Form::While | Form::ForUpdate | Form::Each => {
-            on_close_paren(class, Move::Pop(Control::Body))
-        }
+        Form::Header => on_close_paren(class, Move::Pop(Control::Body)),
         Form::Switch => on_close_paren(class, Move::Swap(Form::Clauses, Control::SwitchBrace)),
         Form::DoWhile => on_close_paren(class, Move::Pop(Control::Complete)),
         Form::ForInit | Form::ForVar => {
             on_semicolon(class, Move::Swap(Form::ForTest, Control::Test))
         }
-        Form::ForTest => on_semicolon(class, Move::Swap(Form::ForUpdate, Control::Update)),
+        Form::ForTest => on_semicolon(class, Move::Swap(Form::Header, Control::Update)),
         Form::Within => on_open_brace(class, Move::Swap(Form::Block, Control::List)),
         Form::CaseHead => on_colon(class, Move::Pop(Control::List)),
         _ => Move::Refuse,
@@ -249,7 +247,7 @@ fn in_after_target(place: Place, top: Option<Form>) -> Move
 {
     match place {
         Place::Whole => match top {
-            Some(Form::ForInit) => Move::Swap(Form::Each, Control::Want(Place::Whole)),
+            Some(Form::ForInit) => Move::Swap(Form::Header, Control::Want(Place::Whole)),
             _ => after_operand(top, Class::In),
         },
         _ => after_operand(top, Class::In),

@@ -128,7 +128,7 @@ pub(crate) fn after_for_variable_name(class: Class, top: Option<Form>) -> Move
     ensures { result ≡ for_named class top }
 {
     match class {
-        Class::In => Move::Swap(Form::Each, Control::Want(Place::Whole)),
+        Class::In => Move::Swap(Form::Header, Control::Want(Place::Whole)),
         _ => after_variable_name(class, top),
     }
 }
@@ -137,7 +137,7 @@ pub(crate) fn for_test(class: Class, top: Option<Form>) -> Move
     ensures { result ≡ test class top }
 {
     match class {
-        Class::Semicolon => Move::Swap(Form::ForUpdate, Control::Update),
+        Class::Semicolon => Move::Swap(Form::Header, Control::Update),
         _ => operand_start(class, Place::Whole, top),
     }
 }

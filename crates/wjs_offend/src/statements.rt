@@ -36,7 +36,7 @@ pub(crate) fn statement_start(class: Class) -> Move
         Class::Var => Move::Push(Form::Var, Control::Name),
         Class::If => Move::Push(Form::If, Control::Open),
         Class::Do => Move::Push(Form::Do, Control::Body),
-        Class::While => Move::Push(Form::While, Control::Open),
+        Class::While => Move::Push(Form::Header, Control::Open),
         Class::For => Move::Stay(Control::ForOpen),
         Class::Continue | Class::Break => Move::Stay(Control::LabelOrEnd),
         Class::Return => Move::Stay(Control::ValueOrEnd),

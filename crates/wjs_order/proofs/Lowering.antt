@@ -13,7 +13,7 @@ use Rattle.wjs_tree.specs.declared.node.Handler.{Handler}
 use Rattle.wjs_tree.specs.Children.{AreBelow, OptionBelow, ItemsBelow, PropertiesBelow, DeclaratorsBelow, ClausesBelow, InitBelow, HandlerBelow, ChildrenBelow}
 use Rattle.wjs_scope.specs.Nesting.{option_part, item_parts, property_parts, initialisers, init_parts, clause_part, clause_parts, IsAmong}
 use Rattle.wjs_scope.specs.Marks.{handler_blocks}
-use Rattle.wjs_order.specs.Parts.{parts_of}
+use Rattle.wjs_tree.specs.Parts.{parts_of}
 use Rattle.wjs_order.specs.Renumbered.{new_id, new_option, new_property, new_declarator, new_init, new_clause, new_handler, renumbered}
 
 -- the new numbers of the nodes are below n

@@ -12,7 +12,7 @@ use Rattle.wjs_tree.proofs.Adding.{keeps_added}
 use Rattle.wjs_scope.specs.Nesting.{IsAmong}
 use Rattle.wjs_order.specs.Order.{falling}
 use Rattle.wjs_order.specs.Moves.{id_of, Moves, AreBehind}
-use Rattle.wjs_order.specs.Parts.{parts_of}
+use Rattle.wjs_tree.specs.Parts.{parts_of}
 use Rattle.wjs_order.specs.Renumbered.{renumbered}
 use Rattle.wjs_order.proofs.Falling.{behind, numbered_low}
 use Rattle.wjs_order.proofs.Stepping.{behind_drop}

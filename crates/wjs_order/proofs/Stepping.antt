@@ -13,7 +13,7 @@ use Rattle.wjs_scope.proofs.Standing.{Stands, AsExpr, AsStmt, AsFunction, AsScri
 use Rattle.wjs_scope.proofs.Splitting.{split, node_of}
 use Rattle.wjs_scope.proofs.Apart.{found, inside, left_small}
 use Rattle.wjs_scope.proofs.Below.{part_below}
-use Rattle.wjs_order.specs.Parts.{parts_of}
+use Rattle.wjs_tree.specs.Parts.{parts_of}
 use Rattle.wjs_order.specs.Moves.{AreBehind}
 
 -- the nodes on whatever side

@@ -15,7 +15,7 @@ use Rattle.wjs_tree.proofs.OneUse.{elements_one_use}
 use Rattle.wjs_scope.specs.Nesting.{Around, on_side, IsAmong}
 use Rattle.wjs_scope.specs.Places.{IsScript}
 use Rattle.wjs_scope.proofs.Standing.{AllStand, elements}
-use Rattle.wjs_order.specs.Parts.{parts_of}
+use Rattle.wjs_tree.specs.Parts.{parts_of}
 use Rattle.wjs_order.specs.Moves.{AreBehind}
 use Rattle.wjs_order.proofs.Counting.{AreUnder, few}
 use Rattle.wjs_order.proofs.Stepping.{step, first_node, parts_low, waits, behind}

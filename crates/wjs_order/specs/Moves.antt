@@ -5,7 +5,7 @@ use Rattle.wjs_tree.specs.declared.node.Node.{Node}
 use Rattle.wjs_tree.specs.Shows.{Has}
 use Rattle.wjs_tree.specs.Used.{IsUsed}
 use Rattle.wjs_scope.specs.Nesting.{IsAmong}
-use Rattle.wjs_order.specs.Parts.{parts_of}
+use Rattle.wjs_tree.specs.Parts.{parts_of}
 use Rattle.wjs_order.specs.Renumbered.{renumbered}
 
 abbrev pub id_of : ℕ → NodeId

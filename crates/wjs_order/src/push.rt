@@ -2,7 +2,7 @@
 ghost use Rattle.std.specs.Prelude.{◌≡◌, ◌∷◌, ◌++◌, OnOk};
 ghost use Rattle.wjs_scope.specs.Nesting.{option_part, item_parts, property_parts, initialisers, init_parts, clause_part, clause_parts};
 ghost use Rattle.wjs_scope.specs.Marks.{handler_blocks};
-ghost use Rattle.wjs_order.specs.Parts.{parts_of};
+ghost use Rattle.wjs_tree.specs.Parts.{parts_of};
 
 use crate::stack::Stack;
 use wjs_base::OutOfMemory;

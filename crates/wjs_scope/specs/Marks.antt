@@ -1,18 +1,13 @@
 -- Nodes that are marked with the number of the scope that they stand in.
 use Rattle.std.specs.Prelude.{ℕ, List, [], ◌∷◌, set, Option, Some, None}
 use Rattle.wjs_base.specs.declared.ids.NodeId.{NodeId}
-use Rattle.wjs_tree.specs.declared.node.Handler.{Handler}
+pub use Rattle.wjs_tree.specs.Parts.{handler_blocks}
 use Rattle.wjs_scope.specs.Nesting.{Side, Around}
 
 -- nodes that stand in one scope
 abbrev pub marked : List (Option ℕ) → ℕ → List NodeId → List (Option ℕ)
 marked table at [] = table
 marked table at (i ∷ more) = marked (set table i.0 (Some at)) at more
-
--- the block of a `catch`, if there is one
-abbrev pub handler_blocks : Option Handler → List NodeId
-handler_blocks None = []
-handler_blocks (Some h) = h.block ∷ []
 
 -- the number of the scope of a part: that around the node, or the inner one
 abbrev pub number_on : Side → ℕ → ℕ → ℕ

@@ -4,12 +4,8 @@ use Rattle.wjs_base.specs.declared.ids.TextId.{TextId}
 use Rattle.wjs_base.specs.declared.ids.NodeId.{NodeId}
 use Rattle.wjs_tree.specs.declared.node.Node.{Node}
 use Rattle.wjs_tree.specs.declared.node.Node.TheVariants as nodes
-use Rattle.wjs_tree.specs.declared.node.Property.{Property}
-use Rattle.wjs_tree.specs.declared.node.Declarator.{Declarator}
-use Rattle.wjs_tree.specs.declared.node.ForInit.{ForInit}
-use Rattle.wjs_tree.specs.declared.node.ForInit.TheVariants as inits
-use Rattle.wjs_tree.specs.declared.node.Clause.{Clause}
 use Rattle.wjs_tree.specs.declared.node.Handler.{Handler}
+pub use Rattle.wjs_tree.specs.Parts.{option_part, item_parts, property_parts, initialisers, init_parts, clause_part, clause_parts, parts_of}
 use Rattle.wjs_tree.specs.Trees.{Elements}
 use Rattle.wjs_tree.specs.Shows.{Has}
 use Rattle.wjs_scope.specs.Declarations.{elements_of}
@@ -22,66 +18,12 @@ pub data Side : Type 0 where
   Caught : TextId → Side
   Inside : Side
 
-abbrev pub option_part : Option NodeId → List NodeId
-option_part None = []
-option_part (Some i) = i ∷ []
-
-abbrev pub item_parts : List (Option NodeId) → List NodeId
-item_parts [] = []
-item_parts (o ∷ more) = option_part o ++ item_parts more
-
-abbrev pub property_parts : List Property → List NodeId
-property_parts [] = []
-property_parts (p ∷ more) = p.value ∷ property_parts more
-
-abbrev pub initialisers : List Declarator → List NodeId
-initialisers [] = []
-initialisers (d ∷ more) = option_part d.value ++ initialisers more
-
-abbrev pub init_parts : ForInit → List NodeId
-init_parts inits.Nothing = []
-init_parts (inits.Expr a) = a ∷ []
-init_parts (inits.Var list) = initialisers list
-
-abbrev pub clause_part : Clause → List NodeId
-clause_part c = option_part c.test ++ c.body
-
-abbrev pub clause_parts : List Clause → List NodeId
-clause_parts [] = []
-clause_parts (c ∷ more) = clause_part c ++ clause_parts more
-
 -- the parts of a node that is neither a function nor a `try`
 abbrev pub plain_parts : Node → List NodeId
-plain_parts (nodes.Paren a) = a ∷ []
-plain_parts (nodes.ArrayLit items tail) = item_parts items
-plain_parts (nodes.ObjectLit properties comma) = property_parts properties
-plain_parts (nodes.Dot a x) = a ∷ []
-plain_parts (nodes.At a b) = a ∷ b ∷ []
-plain_parts (nodes.Call a list) = a ∷ list
-plain_parts (nodes.NewWith a list) = a ∷ list
-plain_parts (nodes.NewBare a) = a ∷ []
-plain_parts (nodes.Postfix a op) = a ∷ []
-plain_parts (nodes.Prefix op a) = a ∷ []
-plain_parts (nodes.Binary a op b) = a ∷ b ∷ []
-plain_parts (nodes.Cond a b c) = a ∷ b ∷ c ∷ []
-plain_parts (nodes.Assign a op b) = a ∷ b ∷ []
-plain_parts (nodes.Comma a b) = a ∷ b ∷ []
-plain_parts (nodes.Block list) = list
-plain_parts (nodes.Var list end) = initialisers list
-plain_parts (nodes.Expr a end) = a ∷ []
-plain_parts (nodes.If a b o) = a ∷ b ∷ option_part o
-plain_parts (nodes.DoWhile a b end) = a ∷ b ∷ []
-plain_parts (nodes.While a b) = a ∷ b ∷ []
-plain_parts (nodes.For init o p a) = init_parts init ++ (option_part o ++ (option_part p ++ a ∷ []))
-plain_parts (nodes.ForIn a b c) = a ∷ b ∷ c ∷ []
-plain_parts (nodes.ForVarIn x a b) = a ∷ b ∷ []
-plain_parts (nodes.Return o end) = option_part o
-plain_parts (nodes.Throw a end) = a ∷ []
-plain_parts (nodes.Label x a) = a ∷ []
-plain_parts (nodes.Switch a list) = a ∷ clause_parts list
-plain_parts (nodes.Within a b) = a ∷ b ∷ []
-plain_parts (nodes.Program list) = list
-plain_parts _ = []
+plain_parts (nodes.Function name formals list) = []
+plain_parts (nodes.FunctionDecl x formals list) = []
+plain_parts (nodes.Try b handler last) = []
+plain_parts n = parts_of n
 
 abbrev pub on_side : Side → List NodeId → List (NodeId × Side)
 on_side side list = map (λ (i : NodeId). (i, side)) list

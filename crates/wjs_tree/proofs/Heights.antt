@@ -1,5 +1,5 @@
 -- The heights that are kept beside nodes are those of the trees that they stand for.
-use Rattle.std.specs.Prelude.{◌≡◌, ℕ, false, ◌<◌, List, take, Option, unwrap_or}
+use Rattle.std.specs.Prelude.{◌≡◌, ℕ, false, ◌<◌, ◌≤◌, List, take, Option, unwrap_or}
 use Rattle.std.proofs.Common.{ap, subst, sym, ◌∙◌, arith}
 use Rattle.std.proofs.lemmas.Option.{unwrap_or-slice_get}
 use Rattle.std.proofs.lemmas.List.{get_or-take}
@@ -130,3 +130,27 @@ module _ (ns : List Node) (facts : List Facts) (kept : AreKept ns facts) where
     elements_height_is n NoElement list used h b = ap (list_height (take n facts)) h.0
     elements_height_is n (Statement s rest) list used h b = let own0 = ap (list_height (take n facts)) h.4 in let b' = subst (AreBelow n) h.4 b in let q0 = early_height n h.0 b'.0 in let r0 = stmt_height_is s h.0 h.2 h.6 in let z0 = elements_height_is n rest h.1 h.3 h.7 b'.1 in omega arith
     elements_height_is n (FunctionDecl x formals body rest) list used h b = let own0 = ap (list_height (take n facts)) h.5 in let b' = subst (AreBelow n) h.5 b in let m0 = of_node h.0 _ h.7 in let w0 = m0.right.height in let q0 = early_height n h.0 b'.0 in let y0 = elements_height_is h.0.0 body h.1 h.3 h.8 m0.below in let z0 = elements_height_is n rest h.2 h.4 h.9 b'.1 in omega arith
+
+-- a statement has a height
+pub at_least_one : (t : Stmt) → 1 ≤ stmt_height t
+at_least_one (IfElse e s u) = omega arith
+at_least_one (Block body) = omega arith
+at_least_one (Var vs end) = omega arith
+at_least_one Empty = omega arith
+at_least_one (ExprStmt e end) = omega arith
+at_least_one (If e s) = omega arith
+at_least_one (DoWhile s e end) = omega arith
+at_least_one (While e s) = omega arith
+at_least_one (For init test update s) = omega arith
+at_least_one (ForIn r e s) = omega arith
+at_least_one (ForVarIn x e s) = omega arith
+at_least_one (Continue label end) = omega arith
+at_least_one (Break label end) = omega arith
+at_least_one (Return e end) = omega arith
+at_least_one (Throw e end) = omega arith
+at_least_one (Label x s) = omega arith
+at_least_one (Switch e clauses) = omega arith
+at_least_one (TryCatch b x c) = omega arith
+at_least_one (TryFinally b f) = omega arith
+at_least_one (TryBoth b x c f) = omega arith
+at_least_one (Within e b) = omega arith

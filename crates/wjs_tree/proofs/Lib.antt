@@ -1,7 +1,7 @@
 pub mod Using
 pub mod Kept
+pub mod Made
 pub mod Within
-pub mod Uses
 pub mod OneUse
 pub mod Heights
 pub mod Levels

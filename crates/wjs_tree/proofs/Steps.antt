@@ -8,62 +8,19 @@ use Rattle.wjs_tree.specs.declared.node.Node.{Node}
 use Rattle.wjs_tree.specs.declared.node.Node.TheVariants as nodes
 use Rattle.wjs_tree.specs.declared.node.Clause.{Clause}
 use Rattle.wjs_tree.specs.declared.node.Handler.{Handler}
-use Rattle.wjs_tree.specs.declared.node.End.{End}
-use Rattle.wjs_tree.specs.declared.node.ForInit.{ForInit}
-use Rattle.wjs_tree.specs.Trees.{Expr, Stmt, Block, Var, Empty, ExprStmt, If, IfElse, DoWhile, While, For, ForIn, ForVarIn, Continue, Break, Return, Throw, Label, Switch, TryCatch, TryFinally, TryBoth, Within}
+use Rattle.wjs_tree.specs.Trees.{Expr, Stmt, Block, If, IfElse, Label, Switch, TryCatch, TryFinally, TryBoth, Within}
 use Rattle.wjs_tree.specs.Height.{stmt_height}
 use Rattle.wjs_tree.specs.Shows.{Has}
 use Rattle.wjs_tree.specs.Forms.{IsPart, HasForm}
 use Rattle.wjs_tree.specs.There.{StmtThere, OptionThere, StmtsThere, ClausesThere, FormThere}
+use Rattle.wjs_tree.proofs.Made.{stmt_made, top_of}
+use Rattle.wjs_tree.proofs.Heights.{at_least_one}
 use Rattle.wjs_tree.proofs.Forms.{form_of}
 use Rattle.wjs_tree.proofs.Walks.{ComesTo, go_on}
 
 -- a node that stands for a statement is there
 pub within : (ns : List Node) (i : NodeId) (t : Stmt) → IsPart ns t i → i.0 < length ns
-within ns i (Block body) h = slice_get_within ns i.0 _ h.1.2
-within ns i (Var vs end) h = slice_get_within ns i.0 _ h.1.2
-within ns i Empty h = slice_get_within ns i.0 _ h.1.0
-within ns i (ExprStmt e end) h = slice_get_within ns i.0 _ h.1.2
-within ns i (If e s) h = slice_get_within ns i.0 _ h.1.4
-within ns i (IfElse e s u) h = slice_get_within ns i.0 _ h.1.6
-within ns i (DoWhile s e end) h = slice_get_within ns i.0 _ h.1.4
-within ns i (While e s) h = slice_get_within ns i.0 _ h.1.4
-within ns i (For init test update s) h = slice_get_within ns i.0 _ h.1.8
-within ns i (ForIn r e s) h = slice_get_within ns i.0 _ h.1.6
-within ns i (ForVarIn x e s) h = slice_get_within ns i.0 _ h.1.4
-within ns i (Continue label end) h = slice_get_within ns i.0 _ h.1.0
-within ns i (Break label end) h = slice_get_within ns i.0 _ h.1.0
-within ns i (Return e end) h = slice_get_within ns i.0 _ h.1.2
-within ns i (Throw e end) h = slice_get_within ns i.0 _ h.1.2
-within ns i (Label x s) h = slice_get_within ns i.0 _ h.1.2
-within ns i (Switch e clauses) h = slice_get_within ns i.0 _ h.1.4
-within ns i (TryCatch b x c) h = slice_get_within ns i.0 _ h.1.6
-within ns i (TryFinally b f) h = slice_get_within ns i.0 _ h.1.6
-within ns i (TryBoth b x c f) h = slice_get_within ns i.0 _ h.1.9
-within ns i (Within e b) h = slice_get_within ns i.0 _ h.1.5
-
-at_least_one : (t : Stmt) → 1 ≤ stmt_height t
-at_least_one (IfElse e s u) = omega arith
-at_least_one (Block body) = omega arith
-at_least_one (Var vs end) = omega arith
-at_least_one Empty = omega arith
-at_least_one (ExprStmt e end) = omega arith
-at_least_one (If e s) = omega arith
-at_least_one (DoWhile s e end) = omega arith
-at_least_one (While e s) = omega arith
-at_least_one (For init test update s) = omega arith
-at_least_one (ForIn r e s) = omega arith
-at_least_one (ForVarIn x e s) = omega arith
-at_least_one (Continue label end) = omega arith
-at_least_one (Break label end) = omega arith
-at_least_one (Return e end) = omega arith
-at_least_one (Throw e end) = omega arith
-at_least_one (Label x s) = omega arith
-at_least_one (Switch e clauses) = omega arith
-at_least_one (TryCatch b x c) = omega arith
-at_least_one (TryFinally b f) = omega arith
-at_least_one (TryBoth b x c f) = omega arith
-at_least_one (Within e b) = omega arith
+within ns i t h = let top = top_of ns i h.0 (stmt_made ns t i h.0 h.1) in slice_get_within ns i.0 top.0 top.1
 
 pub room_for : (ns : List Node) (room : ℕ) (i : NodeId) → StmtThere ns room i → 1 ≤ room
 room_for ns room i h = let low = at_least_one h.0 in let high = h.2 in omega arith
@@ -78,21 +35,6 @@ lower u v room e h = subst (λ (z : Stmt). stmt_height z ≤ room) e h
 
 pub block_low : (ns : List Node) (room : ℕ) (list : List NodeId) → FormThere ns room (nodes.Block list) → StmtsThere ns room list
 block_low ns room list f = let h = lower f.0 (Block f.1.0) (suc room) f.1.1 f.2 in (f.1.0, f.1.2, omega arith)
-
-pub do_low : (ns : List Node) (room : ℕ) (x y : NodeId) (end : End) → FormThere ns room (nodes.DoWhile x y end) → StmtThere ns room x
-do_low ns room x y end f = let h = lower f.0 (DoWhile f.1.0 f.1.1 end) (suc room) f.1.2 f.2 in (f.1.0, f.1.3, omega arith)
-
-pub while_low : (ns : List Node) (room : ℕ) (x y : NodeId) → FormThere ns room (nodes.While x y) → StmtThere ns room y
-while_low ns room x y f = let h = lower f.0 (While f.1.0 f.1.1) (suc room) f.1.2 f.2 in (f.1.1, f.1.3, omega arith)
-
-pub for_low : (ns : List Node) (room : ℕ) (init : ForInit) (o p : Option NodeId) (x : NodeId) → FormThere ns room (nodes.For init o p x) → StmtThere ns room x
-for_low ns room init o p x f = let h = lower f.0 (For f.1.0 f.1.1 f.1.2 f.1.3) (suc room) f.1.4 f.2 in (f.1.3, f.1.6, omega arith)
-
-pub for_in_low : (ns : List Node) (room : ℕ) (x y z : NodeId) → FormThere ns room (nodes.ForIn x y z) → StmtThere ns room z
-for_in_low ns room x y z f = let h = lower f.0 (ForIn f.1.0 f.1.1 f.1.2) (suc room) f.1.3 f.2 in (f.1.2, f.1.4, omega arith)
-
-pub for_var_low : (ns : List Node) (room : ℕ) (x : TextId) (y z : NodeId) → FormThere ns room (nodes.ForVarIn x y z) → StmtThere ns room z
-for_var_low ns room x y z f = let h = lower f.0 (ForVarIn x f.1.0 f.1.1) (suc room) f.1.2 f.2 in (f.1.1, f.1.3, omega arith)
 
 pub label_low : (ns : List Node) (room : ℕ) (x : TextId) (y : NodeId) → FormThere ns room (nodes.Label x y) → StmtThere ns room y
 label_low ns room x y f = let h = lower f.0 (Label x f.1.0) (suc room) f.1.1 f.2 in (f.1.0, f.1.2, omega arith)

@@ -1,5 +1,5 @@
 -- The trees that a node of each form stands for, with the statements in them.
-use Rattle.std.specs.Prelude.{◌≡◌, ℕ, List, Some, None}
+use Rattle.std.specs.Prelude.{◌≡◌, ℕ, List, Option, Some, None}
 use Rattle.wjs_base.specs.declared.ids.NodeId.{NodeId}
 use Rattle.wjs_tree.specs.declared.node.Node.{Node}
 use Rattle.wjs_tree.specs.declared.node.Node.TheVariants as nodes
@@ -32,6 +32,15 @@ AreVariables ns t list = (used : List ℕ) × VariablesShow ns t list used
 -- what stands first in the header of a `for` stands for this
 abbrev pub IsInit : List Node → Init → ForInit → Type 0
 IsInit ns t init = (used : List ℕ) × InitShows ns t init used
+
+-- the body of a loop (section 12.6)
+abbrev pub loop_body : Node → Option NodeId
+loop_body (nodes.DoWhile a b end) = Some a
+loop_body (nodes.While a b) = Some b
+loop_body (nodes.For f o p a) = Some a
+loop_body (nodes.ForIn a b d) = Some d
+loop_body (nodes.ForVarIn x a b) = Some b
+loop_body _ = None
 
 -- a node of the form stands for the statement
 abbrev pub HasForm : List Node → Node → Stmt → Type 0

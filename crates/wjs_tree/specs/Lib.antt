@@ -11,6 +11,7 @@ pub mod Formed
 pub mod Shows
 pub mod Used
 pub mod Children
+pub mod Parts
 pub mod Facts
 pub mod Forms
 pub mod There

@@ -1,4 +1,6 @@
 //! Forms of a script and their parts, children by number (ECMA-262, 3rd edition, sections 11 to 14).
+ghost use Rattle.std.specs.Prelude.{◌≡◌};
+ghost use Rattle.wjs_tree.specs.Forms.{loop_body};
 
 use crate::keys::Key;
 use crate::operators::{AssignOperator, BinaryOperator, PrefixOperator, UpdateOperator};
@@ -114,4 +116,19 @@ pub enum Node {
     FunctionDecl(TextId, Sequence<TextId>, Sequence<NodeId>),
     /// The elements of a script.
     Program(Sequence<NodeId>),
+}
+
+impl Node {
+    /// The body of a loop, and none of any other form (section 12.6).
+    pub fn loop_body(&self) -> Option<NodeId>
+        ensures { result ≡ loop_body self.now }
+    {
+        match self {
+            Node::DoWhile(body, _, _) | Node::While(_, body) | Node::For(_, _, _, body) => Some(
+                *body,
+            ),
+            Node::ForIn(_, _, body) | Node::ForVarIn(_, _, body) => Some(*body),
+            _ => None,
+        }
+    }
 }

@@ -7,42 +7,13 @@ use Rattle.wjs_labels.specs.Around.{around_of}
 use Rattle.wjs_tree.specs.There.{StmtThere, StmtsThere, ClausesThere, OptionThere}
 use Rattle.wjs_labels.specs.Answers.{StmtAnswer, OptionAnswer, StmtsAnswer}
 use Rattle.wjs_labels.proofs.Lists.{stmts_here, stmts_on, stmts_wrong, stmts_done, clauses_here, clauses_on, clauses_wrong, clauses_done}
-use Rattle.wjs_tree.proofs.Steps.{within, room_for, formed, block_low, do_low, while_low, for_low, for_in_low, for_var_low, label_low, switch_low, world_low, try_low, if_low}
-use Rattle.wjs_labels.proofs.Steps.{answered, do_right, while_right, for_right, for_in_right, for_var_right, label_right, world_right, try_body_wrong, try_handler_wrong, try_right, switch_wrong, switch_clauses, StmtWalk, walk_answer, walk_on, if_wrong, if_right}
+use Rattle.wjs_tree.proofs.Steps.{within, room_for, formed, block_low, label_low, switch_low, world_low, try_low, if_low}
+use Rattle.wjs_tree.proofs.Forms.{loop_low}
+use Rattle.wjs_labels.proofs.Steps.{answered, loop_right, label_right, world_right, try_body_wrong, try_handler_wrong, try_right, switch_wrong, switch_clauses, StmtWalk, walk_answer, walk_on, if_wrong, if_right}
 use Rattle.wjs_labels.proofs.jumps.+jumps.Goals as goal
 
 pub form_is_right-node-requires : goal.form_is_right-node-requires
 form_is_right-node-requires t c = within c.args.nodes.now c.args.id c.requires.there.0 c.requires.there.1
-
-pub form_is_right-statement_is_right-requires : goal.form_is_right-statement_is_right-requires
-form_is_right-statement_is_right-requires t c = let f = formed c.args.nodes.now c.args.room c.args.id c.node.result.now (forms.DoWhile c.in-DoWhile.body c.in-DoWhile.field-1 c.in-DoWhile.field-2) c.node.ensures.there c.in-DoWhile.is c.requires.there in (omega arith, do_low c.args.nodes.now c.args.room c.in-DoWhile.body c.in-DoWhile.field-1 c.in-DoWhile.field-2 f)
-
-pub form_is_right-returns-in-DoWhile : goal.form_is_right-returns-in-DoWhile
-form_is_right-returns-in-DoWhile t c = answered c.args.nodes.now (around_of c.args.around) c.args.id c.node.result.now (forms.DoWhile c.in-DoWhile.body c.in-DoWhile.field-1 c.in-DoWhile.field-2) c.statement_is_right.result c.node.ensures.there c.in-DoWhile.is (do_right c.args.nodes.now (around_of c.args.around) c.in-DoWhile.body c.in-DoWhile.field-1 c.in-DoWhile.field-2 c.statement_is_right.result c.statement_is_right.ensures)
-
-pub form_is_right-statement_is_right-requires-in-While : goal.form_is_right-statement_is_right-requires-in-While
-form_is_right-statement_is_right-requires-in-While t c = let f = formed c.args.nodes.now c.args.room c.args.id c.node.result.now (forms.While c.in-While.field-0 c.in-While.body) c.node.ensures.there c.in-While.is c.requires.there in (omega arith, while_low c.args.nodes.now c.args.room c.in-While.field-0 c.in-While.body f)
-
-pub form_is_right-returns-in-While : goal.form_is_right-returns-in-While
-form_is_right-returns-in-While t c = answered c.args.nodes.now (around_of c.args.around) c.args.id c.node.result.now (forms.While c.in-While.field-0 c.in-While.body) c.statement_is_right-in-While.result c.node.ensures.there c.in-While.is (while_right c.args.nodes.now (around_of c.args.around) c.in-While.field-0 c.in-While.body c.statement_is_right-in-While.result c.statement_is_right-in-While.ensures)
-
-pub form_is_right-statement_is_right-requires-in-For : goal.form_is_right-statement_is_right-requires-in-For
-form_is_right-statement_is_right-requires-in-For t c = let f = formed c.args.nodes.now c.args.room c.args.id c.node.result.now (forms.For c.in-For.field-0 c.in-For.field-1 c.in-For.field-2 c.in-For.body) c.node.ensures.there c.in-For.is c.requires.there in (omega arith, for_low c.args.nodes.now c.args.room c.in-For.field-0 c.in-For.field-1 c.in-For.field-2 c.in-For.body f)
-
-pub form_is_right-returns-in-For : goal.form_is_right-returns-in-For
-form_is_right-returns-in-For t c = answered c.args.nodes.now (around_of c.args.around) c.args.id c.node.result.now (forms.For c.in-For.field-0 c.in-For.field-1 c.in-For.field-2 c.in-For.body) c.statement_is_right-in-For.result c.node.ensures.there c.in-For.is (for_right c.args.nodes.now (around_of c.args.around) c.in-For.field-0 c.in-For.field-1 c.in-For.field-2 c.in-For.body c.statement_is_right-in-For.result c.statement_is_right-in-For.ensures)
-
-pub form_is_right-statement_is_right-requires-in-ForIn : goal.form_is_right-statement_is_right-requires-in-ForIn
-form_is_right-statement_is_right-requires-in-ForIn t c = let f = formed c.args.nodes.now c.args.room c.args.id c.node.result.now (forms.ForIn c.in-ForIn.field-0 c.in-ForIn.field-1 c.in-ForIn.body) c.node.ensures.there c.in-ForIn.is c.requires.there in (omega arith, for_in_low c.args.nodes.now c.args.room c.in-ForIn.field-0 c.in-ForIn.field-1 c.in-ForIn.body f)
-
-pub form_is_right-returns-in-ForIn : goal.form_is_right-returns-in-ForIn
-form_is_right-returns-in-ForIn t c = answered c.args.nodes.now (around_of c.args.around) c.args.id c.node.result.now (forms.ForIn c.in-ForIn.field-0 c.in-ForIn.field-1 c.in-ForIn.body) c.statement_is_right-in-ForIn.result c.node.ensures.there c.in-ForIn.is (for_in_right c.args.nodes.now (around_of c.args.around) c.in-ForIn.field-0 c.in-ForIn.field-1 c.in-ForIn.body c.statement_is_right-in-ForIn.result c.statement_is_right-in-ForIn.ensures)
-
-pub form_is_right-statement_is_right-requires-in-ForVarIn : goal.form_is_right-statement_is_right-requires-in-ForVarIn
-form_is_right-statement_is_right-requires-in-ForVarIn t c = let f = formed c.args.nodes.now c.args.room c.args.id c.node.result.now (forms.ForVarIn c.in-ForVarIn.field-0 c.in-ForVarIn.field-1 c.in-ForVarIn.body) c.node.ensures.there c.in-ForVarIn.is c.requires.there in (omega arith, for_var_low c.args.nodes.now c.args.room c.in-ForVarIn.field-0 c.in-ForVarIn.field-1 c.in-ForVarIn.body f)
-
-pub form_is_right-returns-in-ForVarIn : goal.form_is_right-returns-in-ForVarIn
-form_is_right-returns-in-ForVarIn t c = answered c.args.nodes.now (around_of c.args.around) c.args.id c.node.result.now (forms.ForVarIn c.in-ForVarIn.field-0 c.in-ForVarIn.field-1 c.in-ForVarIn.body) c.statement_is_right-in-ForVarIn.result c.node.ensures.there c.in-ForVarIn.is (for_var_right c.args.nodes.now (around_of c.args.around) c.in-ForVarIn.field-0 c.in-ForVarIn.field-1 c.in-ForVarIn.body c.statement_is_right-in-ForVarIn.result c.statement_is_right-in-ForVarIn.ensures)
 
 pub form_is_right-labelled_is_right-requires : goal.form_is_right-labelled_is_right-requires
 form_is_right-labelled_is_right-requires t c = let f = formed c.args.nodes.now c.args.room c.args.id c.node.result.now (forms.Label c.in-Label.name c.in-Label.body) c.node.ensures.there c.in-Label.is c.requires.there in (omega arith, label_low c.args.nodes.now c.args.room c.in-Label.name c.in-Label.body f)
@@ -50,11 +21,17 @@ form_is_right-labelled_is_right-requires t c = let f = formed c.args.nodes.now c
 pub form_is_right-returns-in-Label : goal.form_is_right-returns-in-Label
 form_is_right-returns-in-Label t c = answered c.args.nodes.now (around_of c.args.around) c.args.id c.node.result.now (forms.Label c.in-Label.name c.in-Label.body) c.labelled_is_right.result c.node.ensures.there c.in-Label.is (label_right c.args.nodes.now (around_of c.args.around) c.in-Label.name c.in-Label.body c.labelled_is_right.result c.labelled_is_right.ensures)
 
-pub form_is_right-statement_is_right-requires-in-Within : goal.form_is_right-statement_is_right-requires-in-Within
-form_is_right-statement_is_right-requires-in-Within t c = let f = formed c.args.nodes.now c.args.room c.args.id c.node.result.now (forms.Within c.in-Within.field-0 c.in-Within.body) c.node.ensures.there c.in-Within.is c.requires.there in (omega arith, world_low c.args.nodes.now c.args.room c.in-Within.field-0 c.in-Within.body f)
+pub form_is_right-statement_is_right-requires : goal.form_is_right-statement_is_right-requires
+form_is_right-statement_is_right-requires t c = let f = formed c.args.nodes.now c.args.room c.args.id c.node.result.now (forms.Within c.in-Within.field-0 c.in-Within.body) c.node.ensures.there c.in-Within.is c.requires.there in (omega arith, world_low c.args.nodes.now c.args.room c.in-Within.field-0 c.in-Within.body f)
 
 pub form_is_right-returns-in-Within : goal.form_is_right-returns-in-Within
-form_is_right-returns-in-Within t c = answered c.args.nodes.now (around_of c.args.around) c.args.id c.node.result.now (forms.Within c.in-Within.field-0 c.in-Within.body) c.statement_is_right-in-Within.result c.node.ensures.there c.in-Within.is (world_right c.args.nodes.now (around_of c.args.around) c.in-Within.field-0 c.in-Within.body c.statement_is_right-in-Within.result c.statement_is_right-in-Within.ensures)
+form_is_right-returns-in-Within t c = answered c.args.nodes.now (around_of c.args.around) c.args.id c.node.result.now (forms.Within c.in-Within.field-0 c.in-Within.body) c.statement_is_right.result c.node.ensures.there c.in-Within.is (world_right c.args.nodes.now (around_of c.args.around) c.in-Within.field-0 c.in-Within.body c.statement_is_right.result c.statement_is_right.ensures)
+
+pub form_is_right-statement_is_right-requires-in-Some : goal.form_is_right-statement_is_right-requires-in-Some
+form_is_right-statement_is_right-requires-in-Some t c = (omega arith, loop_low c.args.nodes.now c.args.room c.args.id c.node.result.now c.in-Some.body c.node.ensures.there (sym c.loop_body.ensures ∙ c.in-Some.is) c.requires.there)
+
+pub form_is_right-returns-in-Some : goal.form_is_right-returns-in-Some
+form_is_right-returns-in-Some t c = loop_right c.args.nodes.now (around_of c.args.around) c.args.id c.node.result.now c.in-Some.body c.statement_is_right-in-Some.result c.node.ensures.there (sym c.loop_body.ensures ∙ c.in-Some.is) c.statement_is_right-in-Some.ensures
 
 pub form_is_right-statements_are_right-requires : goal.form_is_right-statements_are_right-requires
 form_is_right-statements_are_right-requires t c = let f = formed c.args.nodes.now c.args.room c.args.id c.node.result.now (forms.Block c.in-Block.body) c.node.ensures.there c.in-Block.is c.requires.there in (omega arith, subst (StmtsThere c.args.nodes.now c.args.room) (sym c.as_slice.ensures) (block_low c.args.nodes.now c.args.room c.in-Block.body f))

@@ -1,5 +1,5 @@
 use Rattle.std.proofs.Common.{ℕ, ◌-◌, ◌<◌, List, [], ◌∷◌, ◌++◌, length, sym, ap, subst, ◌∙◌, arith, length-append}
-use Rattle.wjs_order.specs.Parts.{parts_of}
+use Rattle.wjs_tree.specs.Parts.{parts_of}
 use Rattle.wjs_order.proofs.Taking.{Taking, begins, there, goes_on, fewer, ends}
 use Rattle.wjs_order.proofs.order.order.Goals as goal
 

@@ -3,10 +3,12 @@ use Rattle.wjs_base.specs.declared.ids.NodeId.{NodeId}
 use Rattle.wjs_tree.specs.declared.node.Node.TheVariants as forms
 use Rattle.wjs_tree.specs.declared.node.Clause.{Clause}
 use Rattle.wjs_tree.specs.declared.node.Declarator.{Declarator}
+use Rattle.wjs_tree.specs.Forms.{loop_body}
 use Rattle.wjs_tree.specs.There.{StmtThere, StmtsThere, ClausesThere, OptionThere}
 use Rattle.wjs_scope.specs.Answers.{StmtAdds, OptionAdds, StmtsAdds, FormAdds, VariablesAdd}
 use Rattle.wjs_scope.proofs.Lists.{stmts_here, stmts_on, stmts_done, clauses_here, clauses_on, clauses_done}
-use Rattle.wjs_tree.proofs.Steps.{within, room_for, formed, block_low, do_low, while_low, for_low, for_in_low, for_var_low, label_low, switch_low, world_low, try_low, if_low}
+use Rattle.wjs_tree.proofs.Steps.{within, room_for, formed, block_low, label_low, switch_low, world_low, try_low, if_low}
+use Rattle.wjs_tree.proofs.Forms.{loop_low}
 use Rattle.wjs_scope.proofs.Steps.{added_by, on_ok, var_adds, for_adds, world_adds, try_adds, StmtWalk, walk_end, walk_on, if_adds}
 use Rattle.wjs_scope.proofs.walk.+walk.Goals as goal
 
@@ -14,19 +16,19 @@ pub form-node-requires : goal.form-node-requires
 form-node-requires t c = within c.args.nodes.now c.args.id c.requires.there.0 c.requires.there.1
 
 pub form-statement-requires : goal.form-statement-requires
-form-statement-requires t c = let f = formed c.args.nodes.now c.args.room c.args.id c.node.result.now (forms.DoWhile c.in-DoWhile.body c.in-DoWhile.field-1 c.in-DoWhile.field-2) c.node.ensures.there c.in-DoWhile.is c.requires.there in (omega arith, do_low c.args.nodes.now c.args.room c.in-DoWhile.body c.in-DoWhile.field-1 c.in-DoWhile.field-2 f)
+form-statement-requires t c = (omega arith, loop_low c.args.nodes.now c.args.room c.args.id c.node.result.now c.in-DoWhile.body c.node.ensures.there (ap loop_body c.in-DoWhile.is) c.requires.there)
 
 pub form-statement-requires-in-While : goal.form-statement-requires-in-While
-form-statement-requires-in-While t c = let f = formed c.args.nodes.now c.args.room c.args.id c.node.result.now (forms.While c.in-While.field-0 c.in-While.body) c.node.ensures.there c.in-While.is c.requires.there in (omega arith, while_low c.args.nodes.now c.args.room c.in-While.field-0 c.in-While.body f)
+form-statement-requires-in-While t c = (omega arith, loop_low c.args.nodes.now c.args.room c.args.id c.node.result.now c.in-While.body c.node.ensures.there (ap loop_body c.in-While.is) c.requires.there)
 
 pub form-statement-requires-in-For : goal.form-statement-requires-in-For
-form-statement-requires-in-For t c = let f = formed c.args.nodes.now c.args.room c.args.id c.node.result.now (forms.For c.in-For.init c.in-For.field-1 c.in-For.field-2 c.in-For.body) c.node.ensures.there c.in-For.is c.requires.there in (omega arith, for_low c.args.nodes.now c.args.room c.in-For.init c.in-For.field-1 c.in-For.field-2 c.in-For.body f)
+form-statement-requires-in-For t c = (omega arith, loop_low c.args.nodes.now c.args.room c.args.id c.node.result.now c.in-For.body c.node.ensures.there (ap loop_body c.in-For.is) c.requires.there)
 
 pub form-statement-requires-in-ForIn : goal.form-statement-requires-in-ForIn
-form-statement-requires-in-ForIn t c = let f = formed c.args.nodes.now c.args.room c.args.id c.node.result.now (forms.ForIn c.in-ForIn.field-0 c.in-ForIn.field-1 c.in-ForIn.body) c.node.ensures.there c.in-ForIn.is c.requires.there in (omega arith, for_in_low c.args.nodes.now c.args.room c.in-ForIn.field-0 c.in-ForIn.field-1 c.in-ForIn.body f)
+form-statement-requires-in-ForIn t c = (omega arith, loop_low c.args.nodes.now c.args.room c.args.id c.node.result.now c.in-ForIn.body c.node.ensures.there (ap loop_body c.in-ForIn.is) c.requires.there)
 
 pub form-statement-requires-in-ForVarIn : goal.form-statement-requires-in-ForVarIn
-form-statement-requires-in-ForVarIn t c = let f = formed c.args.nodes.now c.args.room c.args.id c.node.result.now (forms.ForVarIn c.in-ForVarIn.name c.in-ForVarIn.field-1 c.in-ForVarIn.body) c.node.ensures.there c.in-ForVarIn.is c.requires.there in (omega arith, for_var_low c.args.nodes.now c.args.room c.in-ForVarIn.name c.in-ForVarIn.field-1 c.in-ForVarIn.body f)
+form-statement-requires-in-ForVarIn t c = (omega arith, loop_low c.args.nodes.now c.args.room c.args.id c.node.result.now c.in-ForVarIn.body c.node.ensures.there (ap loop_body c.in-ForVarIn.is) c.requires.there)
 
 pub form-statement-requires-in-Label : goal.form-statement-requires-in-Label
 form-statement-requires-in-Label t c = let f = formed c.args.nodes.now c.args.room c.args.id c.node.result.now (forms.Label c.in-Label.field-0 c.in-Label.body) c.node.ensures.there c.in-Label.is c.requires.there in (omega arith, label_low c.args.nodes.now c.args.room c.in-Label.field-0 c.in-Label.body f)
