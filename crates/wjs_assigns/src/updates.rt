@@ -1,6 +1,5 @@
 //! `++` and `--` (ECMA-262, 3rd edition, sections 11.3, 11.4.4 and 11.4.5).
-ghost use Rattle.std.specs.Prelude.{◌≡◌, Some, pos};
-ghost use Rattle.wjs_num.specs.Exact.{answer};
+ghost use Rattle.std.specs.Prelude.{◌≡◌};
 ghost use Rattle.wjs_by_content.specs.Tables.{value_in};
 ghost use Rattle.wjs_meaning.specs.Conversions as conversions;
 ghost use Rattle.wjs_meaning.specs.Deeds.{Gives, Sub, then_number};
@@ -12,12 +11,13 @@ ghost use Rattle.wjs_model.specs.Waiting.{fix_in};
 ghost use Rattle.wjs_frames.specs.Handling.{Runs, GoesOn};
 
 use wjs_base::{OutOfMemory, Value, Whole};
+use wjs_effects::{given, updated};
 use wjs_frames::{Part, convert, enter, finish, hold};
 use wjs_heap_steps::value_of;
 use wjs_model::{
     Completion, Config, Conversion, ExprPoint, Fix, Frame, Held, Point, Reference, Trouble,
 };
-use wjs_num::{NumFault, add, sub};
+use wjs_num::NumFault;
 use wjs_step_common::{held_reference, is_object, store_and_give, throw, to_number};
 use wjs_store::WorldStore;
 use wjs_tree::{NodeId, UpdateOperator};
@@ -165,35 +165,6 @@ fn update_number<S: WorldStore>(
             )
         }
         Err(fault) => throw(config, frame, trouble_of(fault)),
-    }
-}
-
-/// The number after, or before.
-#[inline(always)]
-fn updated(operator: UpdateOperator, number: Whole) -> Result<Whole, NumFault>
-    ensures { answer result ≡ line.updated operator number.number }
-{
-    match operator {
-        UpdateOperator::Increment => add(number, one()),
-        UpdateOperator::Decrement => sub(number, one()),
-    }
-}
-
-/// 1.
-fn one() -> Whole
-    ensures { result.number ≡ Some (pos 1) }
-{
-    Whole::new(1).unwrap()
-}
-
-/// The number that is given.
-#[inline(always)]
-fn given(fix: Fix, old: Whole, new: Whole) -> Whole
-    ensures { result.number ≡ line.given (fix_in fix) old.number new.number }
-{
-    match fix {
-        Fix::Post => old,
-        Fix::Pre => new,
     }
 }
 

@@ -1,23 +1,36 @@
 -- A statement begins with what its node says.
-use Rattle.std.proofs.Common.{◌≡◌, ℕ, Option, None, Some, inl, inr, refl}
-use Rattle.wjs_base.specs.declared.ids.TextId.{TextId}
+use Rattle.std.proofs.Common.{◌≡◌, ℕ, None, Some, inl, inr, refl}
 use Rattle.wjs_base.specs.Text.{Table}
 use Rattle.wjs_tree.specs.declared.node.ForInit.TheVariants as inits
 use Rattle.wjs_tree.specs.declared.node.Node.{Node}
 use Rattle.wjs_tree.specs.declared.node.Node.TheVariants as nodes
 use Rattle.wjs_store.specs.Meaning.{Meaning}
 use Rattle.wjs_meaning.specs.Reading.{node_in}
-use Rattle.wjs_meaning.specs.Deeds.{Env}
+use Rattle.wjs_meaning.specs.Deeds.{Env, Act, Ret, then_normal}
 use Rattle.wjs_meaning.specs.Statements.{stmt_of}
 use Rattle.wjs_model.specs.declared.config.Config.{Config}
 use Rattle.wjs_model.specs.declared.frame.Activation.{Activation as Frame}
-use Rattle.wjs_model.specs.Contents.{Holding}
-use Rattle.wjs_model.specs.Soundness.{Base, HasLabel, IsThere}
-use Rattle.wjs_model.specs.Texts.{HasText, KnowsNode}
+use Rattle.wjs_model.specs.declared.frame.Completion.{Completion}
+use Rattle.wjs_model.specs.declared.frame.Completion.TheVariants as completions
+use Rattle.wjs_model.specs.Contents.{Holding, completion_in}
+use Rattle.wjs_model.specs.Soundness.{Base, IsThere}
+use Rattle.wjs_model.specs.Texts.{KnowsNode}
 use Rattle.wjs_frames.specs.Parts.{node_now}
 use Rattle.wjs_frames.proofs.Places.{node_known}
 use Rattle.wjs_blocks.specs.Beginnings.{CanBegin, beginning_of, goes}
-use Rattle.wjs_blocks.proofs.Parts.{part_stands, other_stands, last_stands, for_stands}
+use Rattle.wjs_effects.proofs.Lines.{label_there}
+use Rattle.wjs_loops.proofs.Parts.{part_stands, other_stands, last_stands}
+use Rattle.wjs_loops.proofs.Standing.{for_stands}
+
+-- an end that is not normal
+pub other_passes : (act : Act) (t : Table) (e : Completion) → (e ≡ completions.Normal → ⊥) → then_normal act (completion_in t e) ≡ Ret (completion_in t e)
+other_passes act t (completions.Gives v) h = refl
+other_passes act t (completions.Refers r) h = refl
+other_passes act t completions.Normal h = absurd (h refl)
+other_passes act t (completions.Breaks label) h = refl
+other_passes act t (completions.Continues label) h = refl
+other_passes act t (completions.Returns v) h = refl
+other_passes act t (completions.Throws v) h = refl
 
 pub begins_same : (t : Table) (here : ℕ) (n : Node) (held : Holding) (env : Env) → goes t here (node_in t n) held env (beginning_of n) ≡ stmt_of here (node_in t n) env
 begins_same t here (nodes.Block ss) held env = refl
@@ -43,10 +56,6 @@ begins_same t here (nodes.Within e s) held env = refl
 begins_same t here _ held env = refl
 
 module _ {S : Type 0} (meaning : S → Meaning) (c : Config S) (f : Frame) (base : Base meaning c) (here : IsThere meaning c f) where
-  label_there : (label : Option TextId) → HasText c.heap.texts label → HasLabel c label
-  label_there None h = tt
-  label_there (Some id) h = h
-
   can_begin : (n : Node) → node_now meaning c f ≡ n → KnowsNode c.heap.texts n → CanBegin c f (beginning_of n)
   can_begin (nodes.Block ss) e k = tt
   can_begin (nodes.Var xs end) e k = tt
@@ -55,12 +64,12 @@ module _ {S : Type 0} (meaning : S → Meaning) (c : Config S) (f : Frame) (base
   can_begin (nodes.DoWhile s a end) e k = (part_stands meaning c f here _ a e (inr (inl refl)), part_stands meaning c f here _ s e (inl refl))
   can_begin (nodes.While a s) e k = (part_stands meaning c f here _ s e (inr (inl refl)), part_stands meaning c f here _ a e (inl refl))
   can_begin (nodes.For inits.Nothing t u s) e k = for_stands meaning c f here inits.Nothing t u s e
-  can_begin (nodes.For (inits.Expr a) t u s) e k = (for_stands meaning c f here (inits.Expr a) t u s e, part_stands meaning c f here _ a e (inl refl))
-  can_begin (nodes.For (inits.Var xs) t u s) e k = for_stands meaning c f here (inits.Var xs) t u s e
+  can_begin (nodes.For (inits.Expr a) t u s) e k = (tt, part_stands meaning c f here _ a e (inl refl))
+  can_begin (nodes.For (inits.Var xs) t u s) e k = tt
   can_begin (nodes.ForIn target a s) e k = (part_stands meaning c f here _ s e (inr (inr (inl refl))), part_stands meaning c f here _ a e (inr (inl refl)))
   can_begin (nodes.ForVarIn name a s) e k = (part_stands meaning c f here _ s e (inr (inl refl)), part_stands meaning c f here _ a e (inl refl))
-  can_begin (nodes.Continue label end) e k = label_there label k
-  can_begin (nodes.Break label end) e k = label_there label k
+  can_begin (nodes.Continue label end) e k = label_there c label k
+  can_begin (nodes.Break label end) e k = label_there c label k
   can_begin (nodes.Return (Some a) end) e k = (tt, part_stands meaning c f here _ a e (inl refl))
   can_begin (nodes.Return None end) e k = tt
   can_begin (nodes.Throw a end) e k = (tt, part_stands meaning c f here _ a e (inl refl))

@@ -4,4 +4,3 @@ pub mod Inner
 pub mod Standing
 pub mod Switching
 pub mod Entries
-pub mod Parts

@@ -23,9 +23,7 @@ use Rattle.wjs_model.proofs.Standing.{stands_inner, stands_fewer}
 use Rattle.wjs_frames.specs.Parts.{node_now}
 use Rattle.wjs_frames.proofs.Parting.{among_at, among_left, among_right, among_around, stands_here}
 use Rattle.wjs_step_common.specs.Lists.{statements_in, clauses_in, statements_of_clauses}
-
-option_among : (o : Option NodeId) (e : NodeId) → o ≡ Some e → IsAmong (option_part o) e
-option_among o e q = subst (λ (x : Option NodeId). IsAmong (option_part x) e) (sym q) (inl refl)
+use Rattle.wjs_loops.proofs.Standing.{option_among}
 
 -- ---- the statements and cases of a `switch`
 

@@ -16,8 +16,8 @@ use Rattle.wjs_model.specs.declared.frame.Completion.TheVariants as completions
 use Rattle.wjs_model.specs.declared.point.Point.TheVariants as points
 use Rattle.wjs_model.specs.declared.point.StmtPoint.TheVariants as stmts
 use Rattle.wjs_model.specs.Contents.{Holding, completion_in}
-use Rattle.wjs_model.specs.Lists.{block_items, variables_of}
-use Rattle.wjs_model.specs.Soundness.{HasCompletion, HasPoint, StandsHere}
+use Rattle.wjs_model.specs.Lists.{block_items, variables_of, if_for}
+use Rattle.wjs_model.specs.Soundness.{HasCompletion, HasPoint, StandsHere, StandsIf}
 use Rattle.wjs_model.specs.Waiting.{after_stmt}
 use Rattle.wjs_frames.specs.declared.part.Part.TheVariants as part
 use Rattle.wjs_frames.specs.Parts.{goal_of, node_of}
@@ -33,8 +33,8 @@ beginning_of (nodes.If e s other) = Enters (stmts.IfTest s other) (part.Expr e)
 beginning_of (nodes.DoWhile s e end) = Enters (stmts.DoBody e) (part.Stmt s)
 beginning_of (nodes.While e s) = Enters (stmts.WhileTest s) (part.Expr e)
 beginning_of (nodes.For inits.Nothing t u s) = Loop t u s
-beginning_of (nodes.For (inits.Expr e) t u s) = Enters (stmts.ForFirst t u s) (part.Expr e)
-beginning_of (nodes.For (inits.Var xs) t u s) = Declares t u s
+beginning_of (nodes.For (inits.Expr e) t u s) = Enters stmts.ForFirst (part.Expr e)
+beginning_of (nodes.For (inits.Var xs) t u s) = Declares
 beginning_of (nodes.ForIn target e s) = Enters (stmts.VisitsObject s) (part.Expr e)
 beginning_of (nodes.ForVarIn name e s) = Enters (stmts.VisitsObject s) (part.Expr e)
 beginning_of (nodes.Continue label end) = Ends (completions.Continues label)
@@ -55,7 +55,7 @@ goes t here node held env (Ends c) = Ret (completion_in t c)
 goes t here node held env Block = block_from (block_items node) env
 goes t here node held env Variables = vars_from here 0 (variables_of node) env
 goes t here node held env (Loop test update s) = loop_from here (number test) (number update) s.0 env
-goes t here node held env (Declares test update s) = Sub (vars_from here 0 (variables_of node) env) (then_normal (loop_from here (number test) (number update) s.0 env))
+goes t here node held env Declares = Sub (vars_from here 0 (variables_of node) env) (then_normal (if_for node (λ test update s. loop_from here test update s env)))
 
 -- where the frame is run all stands that it begins with
 abbrev pub CanBegin : {S : Type 0} → Config S → Frame → Beginning → Type 0
@@ -63,5 +63,5 @@ CanBegin c f (Enters point p) = HasPoint c f (points.Stmt point) × StandsHere c
 CanBegin c f (Ends e) = HasCompletion c e
 CanBegin c f Block = Unit {0}
 CanBegin c f Variables = Unit {0}
-CanBegin c f (Loop test update s) = HasPoint c f (points.Stmt (stmts.ForFirst test update s))
-CanBegin c f (Declares test update s) = HasPoint c f (points.Stmt (stmts.ForFirst test update s))
+CanBegin c f (Loop test update s) = StandsIf c f test × (StandsIf c f update × StandsHere c f s)
+CanBegin c f Declares = Unit {0}

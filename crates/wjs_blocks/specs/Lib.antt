@@ -1,3 +1,4 @@
 pub mod Switches
 pub mod Tries
 pub mod Beginnings
+pub mod Blocks

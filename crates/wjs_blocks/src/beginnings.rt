@@ -23,7 +23,7 @@ pub(crate) enum Beginning {
     /// A `for` at its first iteration: its test, its update and its body.
     Loop(Option<NodeId>, Option<NodeId>, NodeId),
     /// The `var`s of a `for`, which come before its first iteration.
-    Declares(Option<NodeId>, Option<NodeId>, NodeId),
+    Declares,
 }
 
 /// What the statement begins with that the frame runs.
@@ -50,10 +50,10 @@ fn node_beginning(node: &Node) -> Beginning
         Node::DoWhile(s, e, _) => Beginning::Enters(StmtPoint::DoBody(*e), Part::Stmt(*s)),
         Node::While(e, s) => Beginning::Enters(StmtPoint::WhileTest(*s), Part::Expr(*e)),
         Node::For(ForInit::Nothing, t, u, s) => Beginning::Loop(*t, *u, *s),
-        Node::For(ForInit::Expr(e), t, u, s) => {
-            Beginning::Enters(StmtPoint::ForFirst(*t, *u, *s), Part::Expr(*e))
+        Node::For(ForInit::Expr(e), _, _, _) => {
+            Beginning::Enters(StmtPoint::ForFirst, Part::Expr(*e))
         }
-        Node::For(ForInit::Var(_), t, u, s) => Beginning::Declares(*t, *u, *s),
+        Node::For(ForInit::Var(_), _, _, _) => Beginning::Declares,
         Node::ForIn(_, e, s) => Beginning::Enters(StmtPoint::VisitsObject(*s), Part::Expr(*e)),
         Node::ForVarIn(_, e, s) => Beginning::Enters(StmtPoint::VisitsObject(*s), Part::Expr(*e)),
         Node::Continue(label, _) => Beginning::Ends(Completion::Continues(*label)),

@@ -30,7 +30,7 @@ pub fn statement<S: WorldStore>(config: &mut Config<S>, frame: Frame) -> Result<
         Beginning::Block => block_from(config, frame, 0),
         Beginning::Variables => variables_from(config, frame, 0),
         Beginning::Loop(t, u, s) => for_from(config, frame, t, u, s),
-        Beginning::Declares(t, u, s) => for_variables(config, frame, t, u, s),
+        Beginning::Declares => for_variables(config, frame),
     }
 }
 

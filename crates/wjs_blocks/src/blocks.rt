@@ -1,5 +1,5 @@
 //! Blocks (section 12.1).
-ghost use Rattle.std.specs.Prelude.{◌≡◌, drop, slice_get};
+ghost use Rattle.std.specs.Prelude.{drop};
 ghost use Rattle.wjs_meaning.specs.Deeds.{then_normal};
 ghost use Rattle.wjs_meaning.specs.Reading.{node_in};
 ghost use Rattle.wjs_meaning.specs.Statements.{block_from};
@@ -8,27 +8,33 @@ ghost use Rattle.wjs_model.specs.Lists.{block_items};
 ghost use Rattle.wjs_model.specs.Soundness.{HasCompletion};
 ghost use Rattle.wjs_frames.specs.Parts.{node_now};
 ghost use Rattle.wjs_frames.specs.Handling.{Runs, GoesOn};
-ghost use Rattle.wjs_step_common.specs.Lists.{statements_in};
 
+use crate::statements::{Reached, statement_at, statements_at_once};
 use wjs_base::OutOfMemory;
-use wjs_frames::{Part, enter, finish, node_of};
+use wjs_frames::{Part, enter, finish};
 use wjs_model::{Completion, Config, Frame, Point, StmtPoint};
 use wjs_step_common::number_after;
 use wjs_store::WorldStore;
-use wjs_tree::{Node, NodeId};
 
-/// The statement of this number of a block; none past its end, and where the frame runs no block.
-fn statement_at<S: WorldStore>(config: &Config<S>, frame: &Frame, at: u32) -> Option<NodeId>
-    ensures { result ≡ slice_get (statements_in (node_now S.meaning config.now frame.now)) at }
+/// The statements of a block, from the one of this number on: those that are done at once, and then the next one by a frame.
+pub fn block_from<S: WorldStore>(
+    config: &mut Config<S>,
+    frame: Frame,
+    at: u32,
+) -> Result<(), OutOfMemory>
+    requires runs { Runs S.meaning config.old frame }
+    ensures { GoesOn S.meaning frame config.old config.new result (λ t env.
+        block_from (drop at (block_items (node_in t (node_now S.meaning config.old frame)))) env) }
 {
-    match node_of(config, frame) {
-        Some(Node::Block(statements)) => statements.as_slice().get(at as usize).copied(),
-        _ => None,
+    let reached = statements_at_once(config, &frame, at)?;
+    match reached {
+        Reached::Next(number) => enter_from(config, frame, number),
+        Reached::Ended(completion) => finish(config, frame, completion),
     }
 }
 
-/// The statements of a block, from the one of this number on.
-pub fn block_from<S: WorldStore>(
+/// The statement of this number is entered; past the last the block ends.
+fn enter_from<S: WorldStore>(
     config: &mut Config<S>,
     frame: Frame,
     at: u32,

@@ -10,23 +10,16 @@ ghost use Rattle.wjs_frames.specs.Handling.{Runs, GoesOn};
 use std::alloc::Global;
 use wjs_base::{ObjId, OutOfMemory, WorldId};
 use wjs_frames::{Part, enter_last, wait};
-use wjs_model::{Activation, Config, Frame, Items, Point};
+use wjs_model::{Config, Frame, Items, Point};
 use wjs_store::WorldStore;
 
 /// The frame without what it holds, for a part that is run in another scope.
 fn like(alloc: Global, frame: &Frame, scope: ObjId, held: Items) -> Result<Frame, OutOfMemory>
     ensures { IfOk result (λ inner. inner ≡ record frame.now { scope = scope; held = held }) }
 {
-    let activation = Activation {
-        tree: frame.tree(),
-        node: frame.node(),
-        phase: frame.phase(),
-        scope,
-        this: frame.this(),
-        world: frame.world(),
-        held,
-    };
-    Frame::new(alloc, activation)
+    let mut inner = frame.like(alloc, held)?;
+    inner.set_scope(scope);
+    Ok(inner)
 }
 
 /// The frame waits at a point for a part, which is entered in a scope inside the frame's.

@@ -10,6 +10,7 @@ mod clauses;
 mod enters;
 mod resumes;
 mod simple;
+mod statements;
 mod switches;
 mod tries;
 mod within;

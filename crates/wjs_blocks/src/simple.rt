@@ -8,7 +8,8 @@ ghost use Rattle.wjs_model.specs.Soundness.{HasValue, HasCompletion, StandsHere,
 ghost use Rattle.wjs_frames.specs.Handling.{Runs, GoesOn};
 
 use wjs_base::{OutOfMemory, Value};
-use wjs_frames::{Part, enter_last, finish};
+use wjs_effects::enter_last_at_once;
+use wjs_frames::finish;
 use wjs_model::{Completion, Config, Frame};
 use wjs_step_common::to_boolean;
 use wjs_store::WorldStore;
@@ -65,7 +66,7 @@ fn if_chosen<S: WorldStore>(
     ensures { GoesOn S.meaning frame config.old config.new result (λ t env. if_test s.0 (number other) env (value_in t value)) }
 {
     if to_boolean(config, value) {
-        enter_last(config, frame, Part::Stmt(s))
+        enter_last_at_once(config, frame, s)
     } else {
         else_start(config, frame, other)
     }
@@ -82,7 +83,7 @@ fn else_start<S: WorldStore>(
     ensures { GoesOn S.meaning frame config.old config.new result (λ t env. else_of (number other) env) }
 {
     match other {
-        Some(s) => enter_last(config, frame, Part::Stmt(s)),
+        Some(s) => enter_last_at_once(config, frame, s),
         None => finish(config, frame, Completion::Normal),
     }
 }

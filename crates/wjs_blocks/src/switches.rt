@@ -14,7 +14,8 @@ ghost use Rattle.wjs_step_common.specs.Lists.{clauses_in};
 
 use crate::clauses::{case_from, default_of, statement_at, statements_before};
 use wjs_base::{OutOfMemory, Value};
-use wjs_frames::{Part, enter, finish, hold, node_of};
+use wjs_effects::enter_at_once;
+use wjs_frames::{Part, finish, hold, node_of};
 use wjs_model::{Completion, Config, Frame, Held, Point, StmtPoint};
 use wjs_quick::enter_quickly;
 use wjs_step_common::{held_value, number_after, number_of, strictly_equal};
@@ -146,7 +147,7 @@ fn statements_from<S: WorldStore>(
         Some(statement) => {
             let next = number_after(at)?;
             let point = Point::Stmt(StmtPoint::ClauseStatement(next));
-            enter(config, frame, point, Part::Stmt(statement))
+            enter_at_once(config, frame, point, statement)
         }
         None => finish(config, frame, Completion::Normal),
     }

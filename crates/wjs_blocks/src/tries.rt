@@ -14,7 +14,8 @@ ghost use Rattle.wjs_blocks.specs.Tries.{catch_in};
 
 use crate::enters::enter_in;
 use wjs_base::{OutOfMemory, Value};
-use wjs_frames::{Part, enter, finish, hold, node_of};
+use wjs_effects::enter_at_once;
+use wjs_frames::{Part, finish, hold, node_of};
 use wjs_heap_steps::{create_scope, name_of, write};
 use wjs_model::{Completion, Config, Frame, Held, Point, StmtPoint};
 use wjs_store::WorldStore;
@@ -110,12 +111,8 @@ pub fn try_handler<S: WorldStore>(
         Some(s) => {
             let mut frame = frame;
             hold(&mut frame, Held::Earlier(completion))?;
-            enter(
-                config,
-                frame,
-                Point::Stmt(StmtPoint::TryFinally),
-                Part::Stmt(s),
-            )
+            let point = Point::Stmt(StmtPoint::TryFinally);
+            enter_at_once(config, frame, point, s)
         }
         None => finish(config, frame, completion),
     }

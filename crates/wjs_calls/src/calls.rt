@@ -1,5 +1,4 @@
 //! Calls (ECMA-262, 3rd edition, sections 10.2.3, 11.2.3 and 13.2.1).
-ghost use Rattle.std.specs.Prelude.{◌≡◌, IfOk};
 ghost use Rattle.wjs_by_content.specs.Tables.{value_in};
 ghost use Rattle.wjs_meaning.specs.Calls as line;
 ghost use Rattle.wjs_meaning.specs.Deeds.{Sub};
@@ -11,12 +10,11 @@ ghost use Rattle.wjs_frames.specs.Parts.{then_at};
 ghost use Rattle.wjs_frames.specs.Handling.{Runs, GoesOn, Begins};
 
 use crate::enters::{enter_body, enter_native};
-use std::alloc::Global;
 use wjs_arena::{Code, Native};
 use wjs_base::{ObjId, OutOfMemory, Value};
 use wjs_frames::{finish, wait};
 use wjs_heap_steps::{code_of, function_of};
-use wjs_model::{Activation, Completion, Config, Frame, Items, Phase, Point, Start, Trouble};
+use wjs_model::{Completion, Config, Frame, Items, Point, Start, Trouble};
 use wjs_step_common::{held_callee, this_or_global, throw, to_object};
 use wjs_store::WorldStore;
 
@@ -125,24 +123,7 @@ pub fn call_below<S: WorldStore>(
     ensures { GoesOn S.meaning frame config.old config.new result (λ t env.
         Sub (line.call function (value_in t this) (holding_in t items).values env) (then_at S.meaning config.old frame point t env)) }
 {
-    let alloc = config.heap.arena.allocator();
-    let above = frame_above(alloc, &frame, items)?;
+    let above = frame.like(config.heap.arena.allocator(), items)?;
     wait(config, frame, point)?;
     call(config, above, function, this)
-}
-
-/// A frame of a call where another frame is run.
-fn frame_above(alloc: Global, at: &Frame, held: Items) -> Result<Frame, OutOfMemory>
-    ensures { IfOk result (λ frame. frame ≡ record at.now { phase = Phase.Ready Start.Call; held = held }) }
-{
-    let activation = Activation {
-        tree: at.tree(),
-        node: at.node(),
-        phase: Phase::Ready(Start::Call),
-        scope: at.scope(),
-        this: at.this(),
-        world: at.world(),
-        held,
-    };
-    Frame::new(alloc, activation)
 }

@@ -1,3 +1,4 @@
 pub mod Elements
+pub mod Bodies
 pub mod Filling
 pub mod Taking

@@ -1,7 +1,6 @@
 //! The bodies of functions (ECMA-262, 3rd edition, sections 10.2.3 and 13.2.1).
 ghost use Rattle.std.specs.Prelude.{◌≡◌, drop, Some};
 ghost use Rattle.std.specs.FinMap as map;
-ghost use Rattle.wjs_base.specs.Text.{Table};
 ghost use Rattle.wjs_arena.specs.Entries.{Entry};
 ghost use Rattle.wjs_by_content.specs.Objects.{object_at};
 ghost use Rattle.wjs_by_content.specs.Tables.{arena_in};
@@ -12,19 +11,19 @@ ghost use Rattle.wjs_model.specs.Contents.{holding_in};
 ghost use Rattle.wjs_model.specs.Soundness.{HasObject, HasCompletion};
 ghost use Rattle.wjs_model.specs.Standing.{IsFunction};
 ghost use Rattle.wjs_frames.specs.Parts.{node_now};
-ghost use Rattle.wjs_eval_call.specs.Elements.{NextIs};
 ghost use Rattle.wjs_frames.specs.Handling.{Runs, GoesOn, Begins, Resumes};
 
 use crate::arguments::fill_scope;
+use crate::body_elements::run_elements;
 use crate::declarations::declared_at;
-use crate::elements::element_at;
+use crate::elements::BodyKind;
 use crate::variables::other_variables;
 use wjs_arena::Code;
-use wjs_base::{NodeId, ObjId, OutOfMemory, Value};
-use wjs_frames::{Part, enter, finish};
+use wjs_base::{NodeId, ObjId, OutOfMemory};
+use wjs_frames::finish;
 use wjs_heap_steps::{code_of, create_scope, scope_of};
 use wjs_model::{CallPoint, Completion, Config, Frame, Point, Start, Trouble};
-use wjs_step_common::{number_after, throw};
+use wjs_step_common::throw;
 use wjs_store::WorldStore;
 
 /// A function's body begins, by its code and its scope; the values that the frame holds are the arguments.
@@ -96,6 +95,17 @@ fn begin_scope<S: WorldStore>(
         others.as_slice(),
         values.as_slice(),
     )?;
+    begin_body(config, frame)
+}
+
+/// The elements of a function's body. The arguments aren't held any more, so that a run which goes deep doesn't keep their lists.
+fn begin_body<S: WorldStore>(config: &mut Config<S>, mut frame: Frame) -> Result<(), OutOfMemory>
+    requires runs { Runs S.meaning config.old frame }
+    requires body { IsFunction config.old.units.items config.old.heap.arena frame.tree frame.node frame.scope 1 }
+    ensures { GoesOn S.meaning frame config.old config.new result (λ t env.
+        line.body_from (elements_of (node_in t (node_now S.meaning config.old frame))) env) }
+{
+    frame.set_held(config.frames.nothing_held());
     run_body(config, frame, 0)
 }
 
@@ -130,30 +140,5 @@ fn run_body<S: WorldStore>(
     ensures { GoesOn S.meaning frame config.old config.new result (λ t env.
         line.body_from (drop from (elements_of (node_in t (node_now S.meaning config.old frame)))) env) }
 {
-    match element_at(config, &frame, from) {
-        None => finish(config, frame, Completion::Gives(Value::Undefined)),
-        Some(element) => enter_element(config, frame, from, element),
-    }
-}
-
-/// An element of a function's body is entered, and the frame waits to go on with the next.
-fn enter_element<S: WorldStore>(
-    config: &mut Config<S>,
-    frame: Frame,
-    from: u32,
-    element: NodeId,
-) -> Result<(), OutOfMemory>
-    requires runs { Runs S.meaning config.old frame }
-    requires body { IsFunction config.old.units.items config.old.heap.arena frame.tree frame.node frame.scope 1 }
-    requires element { (t : Table) → NextIs (elements_of (node_in t (node_now S.meaning config.old frame))) from (Some element) }
-    ensures { GoesOn S.meaning frame config.old config.new result (λ t env.
-        line.body_from (drop from (elements_of (node_in t (node_now S.meaning config.old frame)))) env) }
-{
-    let next = number_after(from)?;
-    enter(
-        config,
-        frame,
-        Point::Call(CallPoint::BodyElement(next)),
-        Part::Stmt(element),
-    )
+    run_elements(config, frame, BodyKind::Function, from)
 }

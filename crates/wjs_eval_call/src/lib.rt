@@ -3,6 +3,7 @@
 
 mod arguments;
 mod bodies;
+mod body_elements;
 mod conversions;
 mod declarations;
 mod elements;

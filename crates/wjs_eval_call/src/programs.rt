@@ -1,23 +1,20 @@
 //! The bodies of programs (ECMA-262, 3rd edition, sections 10.2.1 and 14).
-ghost use Rattle.std.specs.Prelude.{drop, Some};
-ghost use Rattle.wjs_base.specs.Text.{Table};
+ghost use Rattle.std.specs.Prelude.{drop};
 ghost use Rattle.wjs_meaning.specs.Deeds.{Eval, AtProgram, Ret};
 ghost use Rattle.wjs_meaning.specs.Functions as line;
 ghost use Rattle.wjs_meaning.specs.Reading.{node_in};
 ghost use Rattle.wjs_model.specs.Lists.{program_elements};
 ghost use Rattle.wjs_model.specs.Soundness.{HasCompletion};
 ghost use Rattle.wjs_frames.specs.Parts.{node_now};
-ghost use Rattle.wjs_eval_call.specs.Elements.{NextIs};
 ghost use Rattle.wjs_frames.specs.Handling.{Runs, GoesOn, Begins, Resumes};
 
+use crate::body_elements::run_elements;
 use crate::declarations::{declare_program, program_body};
-use crate::elements::program_element_at;
+use crate::elements::BodyKind;
 use wjs_base::OutOfMemory;
-use wjs_frames::{Part, due_later, enter, finish};
+use wjs_frames::{due_later, finish};
 use wjs_model::{CallPoint, Completion, Config, Frame, Point, Start};
-use wjs_step_common::number_after;
 use wjs_store::WorldStore;
-use wjs_tree::NodeId;
 
 /// The program of the tree at hand begins: what it declares on the global object, and then its elements.
 pub fn program<S: WorldStore>(config: &mut Config<S>, frame: Frame) -> Result<(), OutOfMemory>
@@ -83,29 +80,5 @@ fn run_program<S: WorldStore>(
     ensures { GoesOn S.meaning frame config.old config.new result (λ t env.
         line.program_from (drop from (program_elements (node_in t (node_now S.meaning config.old frame)))) env) }
 {
-    match program_element_at(config, &frame, from) {
-        None => finish(config, frame, Completion::Normal),
-        Some(element) => enter_element(config, frame, from, element),
-    }
-}
-
-/// An element of a program is entered, and the frame waits to go on with the next.
-fn enter_element<S: WorldStore>(
-    config: &mut Config<S>,
-    frame: Frame,
-    from: u32,
-    element: NodeId,
-) -> Result<(), OutOfMemory>
-    requires runs { Runs S.meaning config.old frame }
-    requires element { (t : Table) → NextIs (program_elements (node_in t (node_now S.meaning config.old frame))) from (Some element) }
-    ensures { GoesOn S.meaning frame config.old config.new result (λ t env.
-        line.program_from (drop from (program_elements (node_in t (node_now S.meaning config.old frame)))) env) }
-{
-    let next = number_after(from)?;
-    enter(
-        config,
-        frame,
-        Point::Call(CallPoint::ProgramElement(next)),
-        Part::Stmt(element),
-    )
+    run_elements(config, frame, BodyKind::Program, from)
 }

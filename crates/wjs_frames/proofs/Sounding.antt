@@ -35,6 +35,10 @@ module _ {S : Type 0} (meaning : S → Meaning) where
     phase = p;
   }
 
+  -- without the phase that it had
+  pub there_off : (c : Config S) (f : Frame) (phase : Phase) → IsThere meaning c (record f { phase = phase }) → IsThere meaning c f
+  there_off c f phase h = record { scope = h.scope; this = h.this; world = h.world; held = h.held; stands = record { node = h.stands.node; shown = h.stands.shown } }
+
   pub base_framed : (old : Config S) (frames : List Frame) (left : ℕ) (state : State) → Base meaning old → All (IsStacked meaning old) frames
       → Base meaning (record old { frames = frames; left = left; state = state })
   base_framed old frames left state b h = record {

@@ -20,7 +20,7 @@ use Rattle.wjs_model.specs.declared.frame.Phase.TheVariants as phases
 use Rattle.wjs_model.specs.declared.operand.Operand.{Operand}
 use Rattle.wjs_model.specs.declared.frame.Completion.{Completion}
 use Rattle.wjs_model.specs.declared.frame.Activation.{Activation as NumberedFrame}
-use Rattle.wjs_model.specs.Begun.{is_due}
+use Rattle.wjs_model.specs.Begun.{is_due, with_phase}
 use Rattle.wjs_model.specs.Frames.{last, front, Pops}
 use Rattle.wjs_model.proofs.Tops.{last-snoc}
 use Rattle.wjs_model.specs.Contents.{Frame, Run, Moment, frame_in, moment_in, completion_in, operand_in}
@@ -34,7 +34,7 @@ use Rattle.wjs_frames.specs.Parts.{env_in, then_at, begins_at}
 use Rattle.wjs_frames.specs.Taking.{Takes, TakesOff, TakesPhase, Turns}
 use Rattle.wjs_frames.proofs.Frames.{each_snoc, rest_of_snoc, turns_of_snoc}
 use Rattle.wjs_model.specs.Soundness.{HasPhase, IsThere, IsStacked, Base}
-use Rattle.wjs_frames.proofs.Sounding.{there_framed, base_framed, there_pop}
+use Rattle.wjs_frames.proofs.Sounding.{there_framed, there_off, base_framed, there_pop}
 use Rattle.wjs_frames.proofs.Entering.{given_then, begin_then}
 use Rattle.wjs_frames.proofs.Keeping.{none_taken, stays_framed}
 
@@ -139,9 +139,9 @@ module _ {S : Type 0} (meaning : S → Meaning) where
   taken_there old fs f left b eo = there_framed meaning old fs left old.state f (there_pop meaning old fs f eo b).1.there
 
   -- so is what its phase names
-  taken_phase : (old : Config S) (fs : List NumberedFrame) (f : NumberedFrame) (left : ℕ) (p : Phase) → Base meaning old → old.frames ≡ fs ++ f ∷ []
-      → f.phase ≡ p → HasPhase (record old { frames = fs; left = left }) f p
-  taken_phase old fs f left p b eo ep = subst (HasPhase (record old { frames = fs; left = left }) f) ep (there_pop meaning old fs f eo b).1.phase
+  taken_phase : (old : Config S) (fs : List NumberedFrame) (f : NumberedFrame) (left : ℕ) (p : Phase) → Base meaning old
+      → old.frames ≡ fs ++ record f { phase = p } ∷ [] → HasPhase (record old { frames = fs; left = left }) f p
+  taken_phase old fs f left p b eo = (there_pop meaning old fs (record f { phase = p }) eo b).1.phase
 
   -- a frame goes on with no step of its own: what it does takes none, or some
   stepless_turn : (old : Config S) (fs : List NumberedFrame) (f : NumberedFrame) (act : Table → Act) (p : Phase) → old.state ≡ states.Running
@@ -196,29 +196,34 @@ module _ {S : Type 0} (meaning : S → Meaning) where
       })
 
   takes_now : (old : Config S) (fs : List NumberedFrame) (f : NumberedFrame) (line : Table → Env → Act) (p : Phase) → old.state ≡ states.Running
-      → Base meaning old → old.frames ≡ fs ++ f ∷ [] → f.phase ≡ p → is_due (Some p) ≡ false
-      → ((t : Table) → act_at (run_in meaning t old) (frame_in t f) (moment_in t p) ≡ line t (env_in meaning old t f))
-      → TakesOff meaning f line old (record old { frames = fs })
-  takes_now old fs f line p er b eo ep hp ea = record {
-    taken = ap last eo ∙ last-snoc fs f;
-    runs = record { running = record { state = er; base = taken_base old fs f old.left b eo }; there = taken_there old fs f old.left b eo };
-    by = λ later r k. on_ok_weaker r (λ h. stepless_turn old fs f (λ t. line t (env_in meaning old t f)) p er eo ep hp ea later h) k;
-  }
+      → Base meaning old → old.frames ≡ fs ++ record f { phase = p } ∷ [] → is_due (Some p) ≡ false
+      → ((t : Table) → act_at (run_in meaning t old) (frame_in t (record f { phase = p })) (moment_in t p) ≡ line t (env_in meaning old t f))
+      → TakesOff meaning f p line old (record old { frames = fs })
+  takes_now old fs f line p er b eo hp ea =
+      let top : NumberedFrame = record f { phase = p } in
+      record {
+        taken = ap last eo ∙ last-snoc fs top;
+        runs = record {
+          running = record { state = er; base = taken_base old fs top old.left b eo };
+          there = there_off meaning (record old { frames = fs }) f p (taken_there old fs top old.left b eo);
+        };
+        by = λ later r k. on_ok_weaker r (λ h. stepless_turn old fs top (λ t. line t (env_in meaning old t f)) p er eo refl hp ea later h) k;
+      }
 
   takes_ready : (old : Config S) (fs : List NumberedFrame) (f : NumberedFrame) (start : Start) → old.state ≡ states.Running → Base meaning old
-      → old.frames ≡ fs ++ f ∷ [] → f.phase ≡ phases.Ready start
-      → TakesOff meaning f (begins_at meaning (record old { frames = fs }) f start) old (record old { frames = fs })
-  takes_ready old fs f start er b eo ep = takes_now old fs f _ (phases.Ready start) er b eo ep refl (λ t. begin_then meaning t old f start)
+      → old.frames ≡ fs ++ record f { phase = phases.Ready start } ∷ []
+      → TakesOff meaning f (phases.Ready start) (begins_at meaning (record old { frames = fs }) f start) old (record old { frames = fs })
+  takes_ready old fs f start er b eo = takes_now old fs f _ (phases.Ready start) er b eo refl (λ t. begin_then meaning t old f start)
 
   takes_given : (old : Config S) (fs : List NumberedFrame) (f : NumberedFrame) (point : Point) (c : Completion) → old.state ≡ states.Running
-      → Base meaning old → old.frames ≡ fs ++ f ∷ [] → f.phase ≡ phases.Given point c
-      → TakesOff meaning f (λ t env. then_at meaning (record old { frames = fs }) f point t env (completion_in t c)) old (record old { frames = fs })
-  takes_given old fs f point c er b eo ep = takes_now old fs f _ (phases.Given point c) er b eo ep refl (λ t. ap (λ (go : Said → Act). go (completion_in t c)) (given_then meaning t old f point))
+      → Base meaning old → old.frames ≡ fs ++ record f { phase = phases.Given point c } ∷ []
+      → TakesOff meaning f (phases.Given point c) (λ t env. then_at meaning (record old { frames = fs }) f point t env (completion_in t c)) old (record old { frames = fs })
+  takes_given old fs f point c er b eo = takes_now old fs f _ (phases.Given point c) er b eo refl (λ t. ap (λ (go : Said → Act). go (completion_in t c)) (given_then meaning t old f point))
 
   takes_waiting : (old : Config S) (fs : List NumberedFrame) (f : NumberedFrame) (point : Point) → old.state ≡ states.Running → Base meaning old
-      → old.frames ≡ fs ++ f ∷ [] → f.phase ≡ phases.Waiting point
-      → TakesOff meaning f (λ t env. then_at meaning (record old { frames = fs }) f point t env Normal) old (record old { frames = fs })
-  takes_waiting old fs f point er b eo ep = takes_now old fs f _ (phases.Waiting point) er b eo ep refl (λ t. ap (λ (go : Said → Act). go Normal) (given_then meaning t old f point))
+      → old.frames ≡ fs ++ record f { phase = phases.Waiting point } ∷ []
+      → TakesOff meaning f (phases.Waiting point) (λ t env. then_at meaning (record old { frames = fs }) f point t env Normal) old (record old { frames = fs })
+  takes_waiting old fs f point er b eo = takes_now old fs f _ (phases.Waiting point) er b eo refl (λ t. ap (λ (go : Said → Act). go Normal) (given_then meaning t old f point))
 
   -- a frame goes on with its step
   step_turn : (old : Config S) (fs : List NumberedFrame) (f : NumberedFrame) (left : ℕ) (act : Table → Act) (p : Phase) → old.state ≡ states.Running
@@ -259,24 +264,29 @@ module _ {S : Type 0} (meaning : S → Meaning) where
           ∙ k.keeps.paid v a h m (under_more m k.keeps.cost l)
 
   takes_step : (old : Config S) (fs : List NumberedFrame) (f : NumberedFrame) (left : ℕ) (line : Table → Env → Act) (p : Phase) → old.state ≡ states.Running
-      → Base meaning old → old.frames ≡ fs ++ f ∷ [] → f.phase ≡ p → old.left ≡ suc left
-      → ((t : Table) → act_at (run_in meaning t old) (frame_in t f) (moment_in t p) ≡ Tick (line t (env_in meaning old t f)))
-      → TakesOff meaning f line old (record old { frames = fs; left = left })
-  takes_step old fs f left line p er b eo ep el ea = record {
-    taken = ap last eo ∙ last-snoc fs f;
-    runs = record { running = record { state = er; base = taken_base old fs f left b eo }; there = taken_there old fs f left b eo };
-    by = λ later r k. on_ok_weaker r (λ h. step_turn old fs f left (λ t. line t (env_in meaning old t f)) p er eo ep el ea later h) k;
-  }
+      → Base meaning old → old.frames ≡ fs ++ record f { phase = p } ∷ [] → old.left ≡ suc left
+      → ((t : Table) → act_at (run_in meaning t old) (frame_in t (record f { phase = p })) (moment_in t p) ≡ Tick (line t (env_in meaning old t f)))
+      → TakesOff meaning f p line old (record old { frames = fs; left = left })
+  takes_step old fs f left line p er b eo el ea =
+      let top : NumberedFrame = record f { phase = p } in
+      record {
+        taken = ap last eo ∙ last-snoc fs top;
+        runs = record {
+          running = record { state = er; base = taken_base old fs top left b eo };
+          there = there_off meaning (record old { frames = fs; left = left }) f p (taken_there old fs top left b eo);
+        };
+        by = λ later r k. on_ok_weaker r (λ h. step_turn old fs top left (λ t. line t (env_in meaning old t f)) p er eo refl el ea later h) k;
+      }
 
   takes_due : (old : Config S) (fs : List NumberedFrame) (f : NumberedFrame) (start : Start) (left : ℕ) → old.state ≡ states.Running → Base meaning old
-      → old.frames ≡ fs ++ f ∷ [] → f.phase ≡ phases.Due start → old.left ≡ suc left
-      → TakesOff meaning f (begins_at meaning (record old { frames = fs; left = left }) f start) old (record old { frames = fs; left = left })
-  takes_due old fs f start left er b eo ep el = takes_step old fs f left _ (phases.Due start) er b eo ep el (λ t. ap Tick (begin_then meaning t old f start))
+      → old.frames ≡ fs ++ record f { phase = phases.Due start } ∷ [] → old.left ≡ suc left
+      → TakesOff meaning f (phases.Due start) (begins_at meaning (record old { frames = fs; left = left }) f start) old (record old { frames = fs; left = left })
+  takes_due old fs f start left er b eo el = takes_step old fs f left _ (phases.Due start) er b eo el (λ t. ap Tick (begin_then meaning t old f start))
 
   takes_operand : (old : Config S) (fs : List NumberedFrame) (f : NumberedFrame) (point : Point) (o : Operand) (left : ℕ) → old.state ≡ states.Running
-      → Base meaning old → old.frames ≡ fs ++ f ∷ [] → f.phase ≡ phases.Entering point o → old.left ≡ suc left
-      → TakesOff meaning f (λ t env. with_operand (operand_in t o) env (then_at meaning (record old { frames = fs; left = left }) f point t env)) old (record old { frames = fs; left = left })
-  takes_operand old fs f point o left er b eo ep el = takes_step old fs f left _ (phases.Entering point o) er b eo ep el (λ t. ap (λ k. Tick (with_operand (operand_in t o) (env_in meaning old t f) k)) (given_then meaning t old f point))
+      → Base meaning old → old.frames ≡ fs ++ record f { phase = phases.Entering point o } ∷ [] → old.left ≡ suc left
+      → TakesOff meaning f (phases.Entering point o) (λ t env. with_operand (operand_in t o) env (then_at meaning (record old { frames = fs; left = left }) f point t env)) old (record old { frames = fs; left = left })
+  takes_operand old fs f point o left er b eo el = takes_step old fs f left _ (phases.Entering point o) er b eo el (λ t. ap (λ k. Tick (with_operand (operand_in t o) (env_in meaning old t f) k)) (given_then meaning t old f point))
 
   -- a step is due and none is left
   stops_turned : (old : Config S) → old.state ≡ states.Running → old.left ≡ 0 → is_due (option_map (λ (q : NumberedFrame). q.phase) (last old.frames)) ≡ true
@@ -331,34 +341,34 @@ module _ {S : Type 0} (meaning : S → Meaning) where
 
   -- the frame that was on top goes on as its phase says, without a step
   takes_quiet : (old : Config S) (fs : List NumberedFrame) (f : NumberedFrame) (p : Phase) → old.state ≡ states.Running → Base meaning old
-      → old.frames ≡ fs ++ f ∷ [] → f.phase ≡ p → is_due (Some p) ≡ false → TakesPhase meaning old f p (record old { frames = fs })
-  takes_quiet old fs f (phases.Ready start) er b eo ep d = (takes_ready old fs f start er b eo ep, taken_phase old fs f old.left (phases.Ready start) b eo ep)
-  takes_quiet old fs f (phases.Waiting point) er b eo ep d = (takes_waiting old fs f point er b eo ep, taken_phase old fs f old.left (phases.Waiting point) b eo ep)
-  takes_quiet old fs f (phases.Given point c) er b eo ep d = (takes_given old fs f point c er b eo ep, taken_phase old fs f old.left (phases.Given point c) b eo ep)
-  takes_quiet old fs f (phases.Due start) er b eo ep d = absurd (cc)
-  takes_quiet old fs f (phases.Entering point o) er b eo ep d = absurd (cc)
+      → old.frames ≡ fs ++ record f { phase = p } ∷ [] → is_due (Some p) ≡ false → TakesPhase meaning old f p (record old { frames = fs })
+  takes_quiet old fs f (phases.Ready start) er b eo d = (takes_ready old fs f start er b eo, taken_phase old fs f old.left (phases.Ready start) b eo)
+  takes_quiet old fs f (phases.Waiting point) er b eo d = (takes_waiting old fs f point er b eo, taken_phase old fs f old.left (phases.Waiting point) b eo)
+  takes_quiet old fs f (phases.Given point c) er b eo d = (takes_given old fs f point c er b eo, taken_phase old fs f old.left (phases.Given point c) b eo)
+  takes_quiet old fs f (phases.Due start) er b eo d = absurd (cc)
+  takes_quiet old fs f (phases.Entering point o) er b eo d = absurd (cc)
 
   -- or with one
   takes_stepped : (old : Config S) (fs : List NumberedFrame) (f : NumberedFrame) (p : Phase) (left : ℕ) → old.state ≡ states.Running → Base meaning old
-      → old.frames ≡ fs ++ f ∷ [] → f.phase ≡ p → is_due (Some p) ≡ true → old.left ≡ suc left → TakesPhase meaning old f p (record old { frames = fs; left = left })
-  takes_stepped old fs f (phases.Due start) left er b eo ep d el = (takes_due old fs f start left er b eo ep el, taken_phase old fs f left (phases.Due start) b eo ep)
-  takes_stepped old fs f (phases.Entering point o) left er b eo ep d el = (takes_operand old fs f point o left er b eo ep el, taken_phase old fs f left (phases.Entering point o) b eo ep)
-  takes_stepped old fs f (phases.Ready start) left er b eo ep d el = absurd (cc)
-  takes_stepped old fs f (phases.Waiting point) left er b eo ep d el = absurd (cc)
-  takes_stepped old fs f (phases.Given point c) left er b eo ep d el = absurd (cc)
+      → old.frames ≡ fs ++ record f { phase = p } ∷ [] → is_due (Some p) ≡ true → old.left ≡ suc left → TakesPhase meaning old f p (record old { frames = fs; left = left })
+  takes_stepped old fs f (phases.Due start) left er b eo d el = (takes_due old fs f start left er b eo el, taken_phase old fs f left (phases.Due start) b eo)
+  takes_stepped old fs f (phases.Entering point o) left er b eo d el = (takes_operand old fs f point o left er b eo el, taken_phase old fs f left (phases.Entering point o) b eo)
+  takes_stepped old fs f (phases.Ready start) left er b eo d el = absurd (cc)
+  takes_stepped old fs f (phases.Waiting point) left er b eo d el = absurd (cc)
+  takes_stepped old fs f (phases.Given point c) left er b eo d el = absurd (cc)
 
   -- one whose step is due is there
-  pub takes_if_due : (old : Config S) (top : Option NumberedFrame) (fs : List NumberedFrame) (left : ℕ) → old.state ≡ states.Running → Base meaning old
-      → Pops old.frames top fs → is_due (option_map (λ (q : NumberedFrame). q.phase) (last old.frames)) ≡ true → old.left ≡ suc left
+  pub takes_if_due : (old : Config S) (top : Option (NumberedFrame × Phase)) (fs : List NumberedFrame) (left : ℕ) → old.state ≡ states.Running → Base meaning old
+      → Pops old.frames (option_map with_phase top) fs → is_due (option_map (λ (q : NumberedFrame). q.phase) (last old.frames)) ≡ true → old.left ≡ suc left
       → Takes meaning old top (record old { frames = fs; left = left })
   takes_if_due old None fs left er b eo d el = absurd (none_due old.frames eo.0 d)
-  takes_if_due old (Some f) fs left er b eo d el = takes_stepped old fs f f.phase left er b eo refl (sym (due_top old.frames fs f eo) ∙ d) el
+  takes_if_due old (Some top) fs left er b eo d el = takes_stepped old fs top.0 top.1 left er b eo (sym (due_top old.frames fs (with_phase top) eo) ∙ d) el
 
-  pub takes_not_due : (old : Config S) (f : NumberedFrame) (fs : List NumberedFrame) → old.state ≡ states.Running → Base meaning old
-      → old.frames ≡ fs ++ f ∷ [] → is_due (option_map (λ (q : NumberedFrame). q.phase) (last old.frames)) ≡ false
-      → Takes meaning old (Some f) (record old { frames = fs })
-  takes_not_due old f fs er b eo d = takes_quiet old fs f f.phase er b eo refl (sym (due_top old.frames fs f eo) ∙ d)
+  pub takes_not_due : (old : Config S) (top : NumberedFrame × Phase) (fs : List NumberedFrame) → old.state ≡ states.Running → Base meaning old
+      → old.frames ≡ fs ++ with_phase top ∷ [] → is_due (option_map (λ (q : NumberedFrame). q.phase) (last old.frames)) ≡ false
+      → Takes meaning old (Some top) (record old { frames = fs })
+  takes_not_due old top fs er b eo d = takes_quiet old fs top.0 top.1 er b eo (sym (due_top old.frames fs (with_phase top) eo) ∙ d)
 
-  -- as the phase that was read says
-  pub takes_with : (old new : Config S) (f : NumberedFrame) (p q : Phase) → q ≡ f.phase → q ≡ p → Takes meaning old (Some f) new → TakesPhase meaning old f p new
-  takes_with old new f p q e is h = subst (λ x. TakesPhase meaning old f x new) (sym e ∙ is) h
+  -- as its phase says
+  pub takes_with : (old new : Config S) (f : NumberedFrame) (p q : Phase) → q ≡ p → Takes meaning old (Some (f, q)) new → TakesPhase meaning old f p new
+  takes_with old new f p q is h = subst (λ x. TakesPhase meaning old f x new) is h

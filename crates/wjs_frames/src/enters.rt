@@ -45,9 +45,9 @@ fn enter_operand<S: WorldStore>(
     ensures { GoesOn S.meaning frame config.old config.new result (λ t env. Eval (goal_of part) env (then_at S.meaning config.old frame point t env)) }
 {
     let _part = part;
-    let mut frame = frame;
-    frame.set_phase(Phase::Entering(point, operand));
-    config.frames.push(frame)?;
+    config
+        .frames
+        .push_at(frame, Phase::Entering(point, operand))?;
     Ok(())
 }
 
@@ -83,7 +83,7 @@ pub fn enter_last<S: WorldStore>(
     ensures { GoesOn S.meaning frame config.old config.new result (λ t env. Eval (goal_of part) env Ret) }
 {
     let mut frame = frame;
-    frame.begin(part.start(), part.node());
-    config.frames.push(frame)?;
+    frame.begin(part.node());
+    config.frames.push_at(frame, Phase::Due(part.start()))?;
     Ok(())
 }

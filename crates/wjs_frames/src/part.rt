@@ -41,6 +41,6 @@ pub(crate) fn waiting_at(frame: Frame, point: Point) -> Frame
     ensures { result ≡ record frame { phase = Phase.Waiting point } }
 {
     let mut frame = frame;
-    frame.set_phase(Phase::Waiting(point));
+    frame.wait_at(point);
     frame
 }

@@ -5,13 +5,13 @@ ghost use Rattle.wjs_model.specs.Frames.{last};
 ghost use Rattle.wjs_model.specs.Soundness.{Sound};
 ghost use Rattle.wjs_frames.specs.Taking.{Takes};
 
-use wjs_model::{Config, Frame, State};
+use wjs_model::{Config, Frame, Phase, State};
 use wjs_store::WorldStore;
 
-/// Takes the frame that runs off, with its step where one is due: its phase says how it goes on. None where the turn is over: a
-/// step is due and none is left, or there is no frame.
+/// Takes the frame that runs off, with its step where one is due, and with its phase, which says how it goes on. None where the
+/// turn is over: a step is due and none is left, or there is no frame.
 #[inline(always)]
-pub fn take_top<S: WorldStore>(config: &mut Config<S>) -> Option<Frame>
+pub fn take_top<S: WorldStore>(config: &mut Config<S>) -> Option<(Frame, Phase)>
     requires running { config.old.state ≡ State.Running }
     requires sound { Sound S.meaning config.old }
     ensures { Takes S.meaning config.old result config.new }
@@ -25,7 +25,7 @@ pub fn take_top<S: WorldStore>(config: &mut Config<S>) -> Option<Frame>
 
 /// Takes a frame whose step is due. Without a step left it only says so: nothing else changes.
 #[inline(always)]
-fn take_due<S: WorldStore>(config: &mut Config<S>) -> Option<Frame>
+fn take_due<S: WorldStore>(config: &mut Config<S>) -> Option<(Frame, Phase)>
     requires running { config.old.state ≡ State.Running }
     requires sound { Sound S.meaning config.old }
     requires due { is_due (option_map (λ f. f.phase) (last config.old.frames)) ≡ true }
@@ -41,7 +41,7 @@ fn take_due<S: WorldStore>(config: &mut Config<S>) -> Option<Frame>
 
 /// Takes a frame that needs no step; without a frame the run ends.
 #[inline(always)]
-fn take_now<S: WorldStore>(config: &mut Config<S>) -> Option<Frame>
+fn take_now<S: WorldStore>(config: &mut Config<S>) -> Option<(Frame, Phase)>
     requires running { config.old.state ≡ State.Running }
     requires sound { Sound S.meaning config.old }
     requires due { is_due (option_map (λ f. f.phase) (last config.old.frames)) ≡ false }
@@ -52,6 +52,6 @@ fn take_now<S: WorldStore>(config: &mut Config<S>) -> Option<Frame>
             config.state = State::Done;
             None
         }
-        Some(frame) => Some(frame),
+        Some(top) => Some(top),
     }
 }

@@ -66,9 +66,7 @@ pub fn due_later<S: WorldStore>(
     requires start { HasStart config.old start }
     ensures { GoesOn S.meaning frame config.old config.new result (λ t env. Tick (begins_at S.meaning config.old frame start t env)) }
 {
-    let mut frame = frame;
-    frame.set_phase(Phase::Due(start));
-    config.frames.push(frame)?;
+    config.frames.push_at(frame, Phase::Due(start))?;
     Ok(())
 }
 
@@ -85,8 +83,8 @@ pub fn go_on_with<S: WorldStore>(
     ensures { GoesOn S.meaning frame config.old config.new result (λ t env.
         Sub (Ret (completion_in t completion)) (then_at S.meaning config.old frame point t env)) }
 {
-    let mut frame = frame;
-    frame.set_phase(Phase::Given(point, completion));
-    config.frames.push(frame)?;
+    config
+        .frames
+        .push_at(frame, Phase::Given(point, completion))?;
     Ok(())
 }

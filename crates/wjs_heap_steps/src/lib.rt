@@ -29,9 +29,9 @@ pub use makes::{
 };
 pub use operands::operand_completion;
 pub use output::emit;
-pub use peeks::{peek_member, peek_operand};
+pub use peeks::{peek_member, peek_operand, peek_target, peek_value_of};
 pub use properties::{delete, get, get_value, has, put, visits};
-pub use references::{reference_at, store, value_of};
+pub use references::{reference_at, store, store_local, value_of};
 pub use slots::{read, read_content, write};
 pub use texts::{extend, intern, name_of, text_of, units_of};
 pub use values::member_value;

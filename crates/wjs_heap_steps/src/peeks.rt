@@ -6,21 +6,22 @@ ghost use Rattle.wjs_base.specs.Text.{Table, Has};
 ghost use Rattle.wjs_by_content.specs.Names.{slot};
 ghost use Rattle.wjs_by_content.specs.Tables.{text_in, name_in, value_in, content_in};
 ghost use Rattle.wjs_by_content.specs.Values.{value_or_undefined};
-ghost use Rattle.wjs_meaning.specs.Deeds.{Env, Do, Read, Local, Global, Gives};
+ghost use Rattle.wjs_meaning.specs.Deeds.{Env, Do, Read, Local, Global, Gives, Refers};
 ghost use Rattle.wjs_meaning.specs.Properties as line;
 ghost use Rattle.wjs_meaning.specs.References as references;
-ghost use Rattle.wjs_model.specs.Contents.{operand_in};
+ghost use Rattle.wjs_model.specs.Contents.{operand_in, reference_in};
 ghost use Rattle.wjs_model.specs.Operands.{evaluated, named, with_operand};
-ghost use Rattle.wjs_model.specs.Soundness.{Base, IsThere, HasObject, HasName, HasValue, HasContent, HasOperand};
+ghost use Rattle.wjs_model.specs.Soundness.{Base, IsThere, HasObject, HasName, HasValue, HasContent, HasOperand, HasReference};
 ghost use Rattle.wjs_model.specs.Units.{place_in};
 ghost use Rattle.wjs_frames.specs.Parts.{env_in};
 ghost use Rattle.wjs_heap_steps.specs.Peeking.{Peeks};
 
 use crate::looks::{fixed, scope_up};
+use crate::references::reference_at;
 use crate::texts::{name_of, units_of};
 use crate::values::{is_length, length_value};
 use wjs_base::{Content, Name, ObjId, Slot, TextId, Value};
-use wjs_model::{Config, Frame, Operand};
+use wjs_model::{Config, Frame, Operand, Reference};
 use wjs_scope::Place;
 use wjs_store::WorldStore;
 
@@ -125,6 +126,47 @@ pub fn peek_operand<S: WorldStore>(
         Operand::Value(value) => Some(value),
         Operand::Name(place, id) => peek_name(config, frame, place, id),
         Operand::Target(_, _) => None,
+    }
+}
+
+/// The reference of an operand that is a target; None of any other.
+#[inline(always)]
+pub fn peek_target<S: WorldStore>(
+    config: &Config<S>,
+    frame: &Frame,
+    operand: Operand,
+) -> Option<Reference>
+    requires base { Base S.meaning config.now }
+    requires there { IsThere S.meaning config.now frame.now }
+    requires operand { HasOperand config.now operand }
+    ensures peeks { IfSome result (λ reference. Peeks S.meaning (λ t. with_operand (operand_in t operand) (env_in S.meaning config.now t frame.now))
+        (λ t. Refers (reference_in t reference)) config.now) }
+    ensures found { IfSome result (λ reference. HasReference config.now reference) }
+{
+    match operand {
+        Operand::Target(place, id) => Some(reference_at(config, frame, place, id)),
+        _ => None,
+    }
+}
+
+/// The value of a reference (section 8.7.1); None of a global name that is not there, and of what texts have of their prototype.
+#[inline(always)]
+pub fn peek_value_of<S: WorldStore>(
+    config: &Config<S>,
+    frame: &Frame,
+    reference: Reference,
+) -> Option<Value>
+    requires base { Base S.meaning config.now }
+    requires there { IsThere S.meaning config.now frame.now }
+    requires reference { HasReference config.now reference }
+    ensures peeks { IfSome result (λ value. Peeks S.meaning (λ t. evaluated (reference_in t reference) (env_in S.meaning config.now t frame.now))
+        (λ t. Gives (value_in t value)) config.now) }
+    ensures found { IfSome result (λ value. HasValue config.now value) }
+{
+    match reference {
+        Reference::Local(scope, name) => peek_local(config, frame, scope, name),
+        Reference::Global(name) => peek_global(config, frame, name),
+        Reference::Member(base, name) => peek_member(config, frame, base, name),
     }
 }
 

@@ -11,6 +11,7 @@ ghost use Rattle.wjs_model.specs.Units.{place_in};
 ghost use Rattle.wjs_frames.specs.Doing.{Does, Fails, DoesFirst, FailsFirst};
 ghost use Rattle.wjs_frames.specs.Following.{Later};
 ghost use Rattle.wjs_frames.specs.Parts.{env_in};
+ghost use Rattle.wjs_heap_steps.specs.Peeking.{Peeks};
 
 use crate::errors::{create_error, create_undefined};
 use crate::looks::{fixed, scope_up};
@@ -38,6 +39,8 @@ pub fn reference_at<S: WorldStore>(
     requires text { Has config.now.heap.texts id }
     ensures does { Does S.meaning (λ t. line.reference_at (place_in place) (text_in t id) (env_in S.meaning config.now t frame.now))
         (λ t. reference_in t result) config.now config.now }
+    ensures peeks { Peeks S.meaning (λ t. line.reference_at (place_in place) (text_in t id) (env_in S.meaning config.now t frame.now))
+        (λ t. reference_in t result) config.now }
     ensures found { HasReference config.now result }
 {
     let name = name_of(config, id);
@@ -194,7 +197,7 @@ fn store_member<S: WorldStore>(
 
 /// A store to a name in a scope: a function's own name stays as it is.
 #[inline(always)]
-fn store_local<S: WorldStore>(
+pub fn store_local<S: WorldStore>(
     config: &mut Config<S>,
     frame: &Frame,
     scope: ObjId,

@@ -7,3 +7,5 @@ pub mod Knowing
 pub mod ForInParts
 pub mod ForInNames
 pub mod Visiting
+pub mod Parts
+pub mod Rounding

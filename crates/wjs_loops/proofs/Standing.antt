@@ -1,22 +1,23 @@
--- The initialisers of variables stand where their frame is run.
-use Rattle.std.proofs.Common.{◌≡◌, ℕ, zero, suc, List, [], ◌∷◌, ◌++◌, Option, Some, inl, refl, sym, subst}
+-- The initialisers of variables and the parts of a `for` stand where their frame is run.
+use Rattle.std.proofs.Common.{◌≡◌, ℕ, zero, suc, List, [], ◌∷◌, ◌++◌, Option, None, Some, inl, refl, sym, subst}
 use Rattle.std.specs.Prelude.{slice_get}
 use Rattle.std.specs.Option.{option_and_then}
 use Rattle.wjs_base.specs.declared.ids.NodeId.{NodeId}
 use Rattle.wjs_store.specs.Meaning.{Meaning}
 use Rattle.wjs_tree.specs.declared.node.Declarator.{Declarator}
+use Rattle.wjs_tree.specs.declared.node.ForInit.{ForInit}
 use Rattle.wjs_tree.specs.declared.node.ForInit.TheVariants as inits
 use Rattle.wjs_tree.specs.declared.node.Node.{Node}
 use Rattle.wjs_tree.specs.declared.node.Node.TheVariants as nodes
-use Rattle.wjs_scope.specs.Nesting.{Around, option_part, initialisers, plain_parts, parts, IsAmong}
+use Rattle.wjs_scope.specs.Nesting.{Around, option_part, init_parts, initialisers, plain_parts, parts, IsAmong}
 use Rattle.wjs_model.specs.declared.config.Config.{Config}
 use Rattle.wjs_model.specs.declared.frame.Activation.{Activation as Frame}
-use Rattle.wjs_model.specs.Soundness.{IsThere, StandsHere}
+use Rattle.wjs_model.specs.Soundness.{IsThere, StandsHere, StandsIf}
 use Rattle.wjs_frames.specs.Parts.{node_now}
 use Rattle.wjs_frames.proofs.Parting.{among_left, among_right, among_around, stands_here}
 use Rattle.wjs_loops.specs.Variables.{declarators_in}
 
-option_among : (o : Option NodeId) (e : NodeId) → o ≡ Some e → IsAmong (option_part o) e
+pub option_among : (o : Option NodeId) (e : NodeId) → o ≡ Some e → IsAmong (option_part o) e
 option_among o e q = subst (λ (x : Option NodeId). IsAmong (option_part x) e) (sym q) (inl refl)
 
 abbrev pub value_of : Option Declarator → Option NodeId
@@ -39,3 +40,30 @@ variable_among n at e q = absurd (cc)
 -- the initialiser of a variable of the frame's node
 pub initialiser_stands : {S : Type 0} (meaning : S → Meaning) (c : Config S) (f : Frame) (at : ℕ) (e : NodeId) → IsThere meaning c f → value_of (slice_get (declarators_in (node_now meaning c f)) at) ≡ Some e → StandsHere c f e
 initialiser_stands meaning c f at e here q = stands_here meaning c f (node_now meaning c f) e here refl (variable_among (node_now meaning c f) at e q)
+
+module _ {S : Type 0} (meaning : S → Meaning) (c : Config S) (f : Frame) (here : IsThere meaning c f) where
+  -- a part that may be missing
+  pub maybe_stands : (n : Node) (o : Option NodeId) → node_now meaning c f ≡ n → ((j : NodeId) → o ≡ Some j → IsAmong (parts n) (j, Around)) → StandsIf c f o
+  maybe_stands n None e among = tt
+  maybe_stands n (Some j) e among = stands_here meaning c f n j here e (among j refl)
+
+  -- the test, the update and the body of a `for`
+  module _ (first : ForInit) (t u : Option NodeId) (s : NodeId) (is : node_now meaning c f ≡ nodes.For first t u s) where
+    abbrev loop : Node
+    loop = nodes.For first t u s
+
+    -- what stands behind the test, and behind the first part
+    abbrev behind_test : List NodeId
+    behind_test = option_part u ++ s ∷ []
+
+    behind_first : (j : NodeId) → IsAmong (option_part t ++ behind_test) j → IsAmong (parts loop) (j, Around)
+    behind_first j among = among_around (plain_parts loop) j (among_right (init_parts first) (option_part t ++ behind_test) j among)
+
+    pub for_stands : StandsIf c f t × (StandsIf c f u × StandsHere c f s)
+    for_stands = (
+      maybe_stands loop t is (λ j q. behind_first j (among_left (option_part t) behind_test j (option_among t j q))),
+      (
+        maybe_stands loop u is (λ j q. behind_first j (among_right (option_part t) behind_test j (among_left (option_part u) (s ∷ []) j (option_among u j q)))),
+        stands_here meaning c f loop s here is (behind_first s (among_right (option_part t) behind_test s (among_right (option_part u) (s ∷ []) s (inl refl)))),
+      ),
+    )

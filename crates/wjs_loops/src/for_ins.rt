@@ -17,6 +17,7 @@ use crate::bodies::{AfterBody, after_body};
 use crate::variables::place_of;
 use crate::visits::{hold_visits, next_present, next_visit};
 use wjs_base::{OutOfMemory, Slot, TextId, Value};
+use wjs_effects::enter_at_once;
 use wjs_frames::{Part, enter, finish, hold, node_of};
 use wjs_heap_steps::{store, text_of};
 use wjs_model::{Completion, Config, Frame, Held, Point, Reference, StmtPoint};
@@ -214,12 +215,10 @@ fn visit_variable<S: WorldStore>(
     let place = place_of(config, &frame, 0);
     let id = text_of(config, slot.name)?;
     match assign(config, &frame, place, name, Value::Text(id))? {
-        Ok(()) => enter(
-            config,
-            frame,
-            Point::Stmt(StmtPoint::VisitBody(s)),
-            Part::Stmt(s),
-        ),
+        Ok(()) => {
+            let point = Point::Stmt(StmtPoint::VisitBody(s));
+            enter_at_once(config, frame, point, s)
+        }
         Err(error) => finish(config, frame, Completion::Throws(error)),
     }
 }
@@ -266,12 +265,10 @@ fn visit_stored<S: WorldStore>(
 {
     let id = text_of(config, slot.name)?;
     match store(config, &frame, reference, Value::Text(id))? {
-        Ok(()) => enter(
-            config,
-            frame,
-            Point::Stmt(StmtPoint::VisitBody(s)),
-            Part::Stmt(s),
-        ),
+        Ok(()) => {
+            let point = Point::Stmt(StmtPoint::VisitBody(s));
+            enter_at_once(config, frame, point, s)
+        }
         Err(error) => finish(config, frame, Completion::Throws(error)),
     }
 }

@@ -9,6 +9,7 @@ mod fors;
 mod iterations;
 mod jumps;
 mod labels;
+mod rounds;
 mod variables;
 mod visits;
 mod whiles;

@@ -10,8 +10,9 @@ ghost use Rattle.wjs_frames.specs.Handling.{Runs, GoesOn};
 
 use crate::bodies::{AfterBody, after_body};
 use crate::iterations::expr_iteration;
+use crate::rounds::{Position, go_round};
 use wjs_base::{OutOfMemory, Value};
-use wjs_frames::{Part, enter, enter_last, finish};
+use wjs_frames::{Part, enter_last, finish};
 use wjs_model::{Completion, Config, Frame, Point, StmtPoint};
 use wjs_quick::{enter_quickly, quick_entered};
 use wjs_step_common::to_boolean;
@@ -68,8 +69,7 @@ fn while_tested<S: WorldStore>(
     ensures { GoesOn S.meaning frame config.old config.new result (λ t env. loop_test frame.node.0 None s.0 env (value_in t value)) }
 {
     if to_boolean(config, value) {
-        let point = Point::Stmt(StmtPoint::WhileBody);
-        enter(config, frame, point, Part::Stmt(s))
+        go_round(config, frame, Position::Body(None, s))
     } else {
         finish(config, frame, Completion::Normal)
     }
@@ -86,10 +86,7 @@ pub fn while_body<S: WorldStore>(
     ensures { GoesOn S.meaning frame config.old config.new result (λ t env. loop_body frame.node.0 None env (completion_in t completion)) }
 {
     match after_body(config, &frame, completion) {
-        AfterBody::Again => {
-            let node = frame.node();
-            enter_last(config, frame, Part::Again(node))
-        }
+        AfterBody::Again => go_round(config, frame, Position::Again),
         AfterBody::Ends(completion) => finish(config, frame, completion),
     }
 }

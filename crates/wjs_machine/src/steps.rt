@@ -28,7 +28,7 @@ pub fn step<S: WorldStore>(config: &mut Config<S>) -> Result<(), OutOfMemory>
 {
     match take_top(config) {
         None => Ok(()),
-        Some(frame) => match frame.phase() {
+        Some((frame, phase)) => match phase {
             Phase::Due(start) => begin(config, frame, start),
             Phase::Ready(start) => begin(config, frame, start),
             Phase::Waiting(point) => resume(config, frame, point, Completion::Normal),

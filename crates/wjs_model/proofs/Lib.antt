@@ -2,7 +2,7 @@ pub mod Beside
 pub mod Tops
 pub mod Starts
 pub mod Latest
-pub mod Resuming
+pub mod Stacking
 pub mod Holdings
 pub mod Placed
 pub mod Standing

@@ -1,6 +1,6 @@
 -- What stands at a node stands there still as objects are made, and so do the node's parts.
-use Rattle.std.proofs.Common.{◌≡◌, ℕ, zero, suc, ◌+◌, Bool, true, false, List, [], ◌∷◌, ◌++◌, length, Option, None, Some, IsTrue, refl, sym, ap, ◌∙◌, subst, inl, inr, arith}
-use Rattle.std.specs.Prelude.{slice_get, is_some}
+use Rattle.std.proofs.Common.{◌≡◌, ℕ, zero, suc, ◌+◌, true, List, [], ◌∷◌, ◌++◌, length, Option, None, Some, IsTrue, refl, ap, ◌∙◌, subst, inl, inr, arith}
+use Rattle.std.specs.Prelude.{is_some}
 use Rattle.std.specs.Option.{option_and_then}
 use Rattle.std.specs.FinMap as map
 use Rattle.wjs_base.specs.declared.ids.ObjId.{ObjId}
@@ -12,7 +12,7 @@ use Rattle.wjs_tree.specs.declared.node.Node.TheVariants as nodes
 use Rattle.wjs_tree.specs.Shows.{Has}
 use Rattle.wjs_arena.specs.declared.object.Code.{Code}
 use Rattle.wjs_arena.specs.declared.object.Code.TheVariants as code
-use Rattle.wjs_arena.specs.Entries.{Entry, Objects, Keeps, has, scope_of, world_of}
+use Rattle.wjs_arena.specs.Entries.{Entry, Objects, Keeps, has, scope_of}
 use Rattle.wjs_scope.specs.Scopes.{Scope, own_name, with_own_name, in_function}
 use Rattle.wjs_scope.specs.Declarations.{is_body, elements_of}
 use Rattle.wjs_scope.specs.Nesting.{Side, Around, Caught, Inside, on_side, parts, IsAmong, Enters, Leads, LeadsTo}
@@ -89,8 +89,6 @@ module _ (old new : Objects) (k : Keeps old new) where
     stmt_kept tree node scope (stmt.IfTest one other) h = (stands_kept tree one scope 0 h.0, if_kept tree node scope other h.1)
     stmt_kept tree node scope (stmt.DoBody test) h = stands_kept tree test scope 0 h
     stmt_kept tree node scope (stmt.WhileTest body) h = stands_kept tree body scope 0 h
-    stmt_kept tree node scope (stmt.ForFirst test update body) h = (if_kept tree node scope test h.0, (if_kept tree node scope update h.1.0, stands_kept tree body scope 0 h.1.1))
-    stmt_kept tree node scope (stmt.ForVariables test update body) h = (if_kept tree node scope test h.0, (if_kept tree node scope update h.1.0, stands_kept tree body scope 0 h.1.1))
     stmt_kept tree node scope (stmt.ForTest update body) h = (if_kept tree node scope update h.0, stands_kept tree body scope 0 h.1)
     stmt_kept tree node scope (stmt.ForBody update) h = if_kept tree node scope update h
     stmt_kept tree node scope (stmt.VisitsObject body) h = stands_kept tree body scope 0 h

@@ -1,5 +1,6 @@
 -- The last of a list.
 use Rattle.std.proofs.Common.{◌≡◌, suc, ◌-◌, true, false, List, [], ◌∷◌, ◌++◌, Some, is_some, length, slice_get, slice_index_or, slice_set, refl, sym, ap, ◌∙◌, arith}
+use Rattle.std.specs.Prelude.{option_map}
 use Rattle.wjs_model.specs.Frames.{last, front, on_last}
 
 pub last-snoc : {A : Type 0} (xs : List A) (x : A) → last (xs ++ x ∷ []) ≡ Some x
@@ -35,6 +36,12 @@ pub on_last-snoc : {A : Type 0} (g : A → A) (xs : List A) (x : A) → on_last 
 on_last-snoc g [] x = refl
 on_last-snoc g (y ∷ []) x = refl
 on_last-snoc g (y ∷ z ∷ xs) x = ap (λ l. y ∷ l) (on_last-snoc g (z ∷ xs) x)
+
+pub last-on_last : {A : Type 0} (g : A → A) (xs : List A) → last (on_last g xs) ≡ option_map g (last xs)
+last-on_last g [] = refl
+last-on_last g (x ∷ []) = refl
+last-on_last g (x ∷ y ∷ []) = refl
+last-on_last g (x ∷ y ∷ z ∷ xs) = last-on_last g (y ∷ z ∷ xs)
 
 -- a list with a last is what stands before it, and it
 pub before-last : {A : Type 0} (xs : List A) (P : Type 0) → true ≡ is_some (last xs) → ((ys : List A) (y : A) → xs ≡ ys ++ y ∷ [] → P) → P

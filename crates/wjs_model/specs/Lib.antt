@@ -13,5 +13,6 @@ pub mod Configurations
 pub mod Standing
 pub mod Apart
 pub mod Begun
+pub mod Stacks
 pub mod Soundness
 pub mod Others

@@ -1,5 +1,5 @@
--- The lists and names of a node, which its points tell by number. Where the node is of another form there are none.
-use Rattle.std.specs.Prelude.{ℕ, List, [], Option, None, Some}
+-- The lists and names of a node, which its points tell by number, and the parts of a loop. Where the node is of another form there are none.
+use Rattle.std.specs.Prelude.{ℕ, List, [], Option, None}
 use Rattle.wjs_by_content.specs.Values.{Text}
 use Rattle.wjs_meaning.specs.Trees.{Node, Key, InitVar, ArrayLit, ObjectLit, Dot, Call, NewWith, Block, Var, For, ForIn, ForVarIn, Label, Switch, Try, Program}
 use Rattle.wjs_meaning.specs.Deeds.{Act, Ret, Normal}
@@ -44,7 +44,7 @@ abbrev pub program_elements : Node → List ℕ
 program_elements (Program elements) = elements
 program_elements node = []
 
--- ---- names
+-- ---- names and parts
 
 -- the name of a member behind a dot
 abbrev pub if_dot : Node → (Text → Act) → Act
@@ -61,6 +61,11 @@ abbrev pub if_visits : Node → (Taker → Act) → Act
 if_visits (ForIn t e s) go = go (TargetNode t)
 if_visits (ForVarIn name e s) go = go (VarName name)
 if_visits node go = Ret Normal
+
+-- the test, the update and the body of a `for`
+abbrev pub if_for : Node → (Option ℕ → Option ℕ → ℕ → Act) → Act
+if_for (For first t u s) go = go t u s
+if_for node go = Ret Normal
 
 -- the name and the block of a `catch`
 abbrev pub handler_of : Node → Option (Text × ℕ)

@@ -82,8 +82,6 @@ module _ (units : List Program) (arena : Objects) (tree : ℕ) (node : NodeId) (
   StmtPointStands (stmt.IfTest one other) = PartStands one × IfStands other
   StmtPointStands (stmt.DoBody test) = PartStands test
   StmtPointStands (stmt.WhileTest body) = PartStands body
-  StmtPointStands (stmt.ForFirst test update body) = IfStands test × (IfStands update × PartStands body)
-  StmtPointStands (stmt.ForVariables test update body) = IfStands test × (IfStands update × PartStands body)
   StmtPointStands (stmt.ForTest update body) = IfStands update × PartStands body
   StmtPointStands (stmt.ForBody update) = IfStands update
   StmtPointStands (stmt.VisitsObject body) = PartStands body

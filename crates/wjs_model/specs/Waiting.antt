@@ -38,7 +38,7 @@ use Rattle.wjs_model.specs.declared.point.CallPoint.TheVariants as call
 use Rattle.wjs_model.specs.declared.point.Point.{Point}
 use Rattle.wjs_model.specs.declared.point.Point.TheVariants as points
 use Rattle.wjs_model.specs.Contents.{Holding}
-use Rattle.wjs_model.specs.Lists.{items_of, pairs_of, arguments_of, variables_of, block_items, clauses_of, program_elements, if_dot, if_label, if_visits, handler_of}
+use Rattle.wjs_model.specs.Lists.{items_of, pairs_of, arguments_of, variables_of, block_items, clauses_of, program_elements, if_dot, if_label, if_visits, if_for, handler_of}
 
 -- what the enums of the code mean
 
@@ -196,8 +196,8 @@ after_stmt (stmt.DoBody test) here node held env = do_body here test.0 env
 after_stmt stmt.DoTest here node held env = then_value (do_test here env)
 after_stmt (stmt.WhileTest body) here node held env = then_value (loop_test here None body.0 env)
 after_stmt stmt.WhileBody here node held env = loop_body here None env
-after_stmt (stmt.ForFirst t u body) here node held env = then_value (for_started here (number t) (number u) body.0 env)
-after_stmt (stmt.ForVariables t u body) here node held env = then_normal (loop_from here (number t) (number u) body.0 env)
+after_stmt stmt.ForFirst here node held env = then_value (λ v. if_for node (λ t u body. for_started here t u body env v))
+after_stmt stmt.ForVariables here node held env = then_normal (if_for node (λ t u body. loop_from here t u body env))
 after_stmt (stmt.ForTest u body) here node held env = then_value (loop_test here (number u) body.0 env)
 after_stmt (stmt.ForBody u) here node held env = loop_body here (number u) env
 after_stmt stmt.ForUpdate here node held env = then_value (loop_updated here env)

@@ -1,11 +1,12 @@
 //! What a configuration has still to do, a frame for each node that is being run.
 
-ghost use Rattle.std.specs.Prelude.{◌≡◌, ◌++◌, ◌∷◌, [], IfOk, OnOk, OnErr, is_some, option_map, Some, true};
-ghost use Rattle.wjs_model.specs.Begun.{begun_at, is_due, resumed};
+ghost use Rattle.std.specs.Prelude.{◌≡◌, ◌++◌, ◌∷◌, [], IfOk, OnOk, OnErr, is_some, option_map, true};
+ghost use Rattle.wjs_model.specs.Begun.{begun_at, is_due, resumed, with_phase};
 ghost use Rattle.wjs_model.specs.Frames.{last, on_last, Pops, Uncovers};
 
 use crate::operand::Operand;
-use crate::point::{Point, Start};
+use crate::point::{CallPoint, Point, Start};
+use crate::stack::{Stack, Top, give_top, is_due_top, pop_top, push_top, push_waiting};
 use std::alloc::Global;
 use std::marker::Model;
 use std::mem;
@@ -161,30 +162,82 @@ pub struct Activation {
     pub held: Items,
 }
 
+/// What is kept of a frame. All frames but the last wait, so it has no other phase than the point at which it waits: a run that
+/// goes deep is made of these.
+#[derive(Drop)]
+pub(crate) struct Kept {
+    pub(crate) tree: u32,
+    pub(crate) node: NodeId,
+    pub(crate) point: Point,
+    pub(crate) scope: ObjId,
+    pub(crate) this: Value,
+    pub(crate) world: WorldId,
+    pub(crate) held: Items,
+}
+
+// With the 8 bytes of the allocator a frame takes 144.
+const _: () = prove!(size_of::<Kept>() == 136);
+
 /// A node that is being run. It has a place of its own in memory, so that from the frames to a handler and back nothing
-/// but its address moves. Contracts see what it is.
+/// but its address moves. Contracts see what it is, waiting at its point; another phase is kept beside it.
 #[derive(Drop)]
 pub struct Frame {
-    pub(crate) at: Box<Activation>,
+    pub(crate) at: Box<Kept>,
 }
 
 impl Model for Frame {
     ghost use Rattle.wjs_model.specs.declared.frame.Activation.{Activation};
     ghost use Rattle.wjs_model.specs.contracts.frame.Activation as activation_contract;
+    ghost use Rattle.wjs_model.specs.Begun.{waiting};
 
     ghost Value = { Activation };
 
     ghost coded = { activation_contract.the_row.coded };
 
-    ghost view = { λ f. f.at.value };
+    ghost view = { λ f. waiting f.at.value };
 }
 
 impl Frame {
-    /// A frame of its own.
-    pub fn new(alloc: Global, activation: Activation) -> Result<Frame, OutOfMemory>
-        ensures { IfOk result (λ frame. frame ≡ activation) }
+    /// A frame of its own, which waits at a point.
+    fn new(alloc: Global, activation: Activation, point: Point) -> Result<Frame, OutOfMemory>
+        ensures { IfOk result (λ frame. frame ≡ record activation { phase = Phase.Waiting point }) }
     {
-        let at = Box::new(alloc, activation)?;
+        let Activation {
+            tree,
+            node,
+            phase: _,
+            scope,
+            this,
+            world,
+            held,
+        } = activation;
+        let kept = Kept {
+            tree,
+            node,
+            point,
+            scope,
+            this,
+            world,
+            held,
+        };
+        let at = Box::new(alloc, kept)?;
+        Ok(Frame { at })
+    }
+
+    /// A frame of its own that is as this one, and holds something else.
+    pub fn like(&self, alloc: Global, held: Items) -> Result<Frame, OutOfMemory>
+        ensures { IfOk result (λ frame. frame ≡ record self.now { held = held }) }
+    {
+        let kept = Kept {
+            tree: self.at.tree,
+            node: self.at.node,
+            point: self.at.point,
+            scope: self.at.scope,
+            this: self.at.this,
+            world: self.at.world,
+            held,
+        };
+        let at = Box::new(alloc, kept)?;
         Ok(Frame { at })
     }
 
@@ -200,18 +253,12 @@ impl Frame {
         self.at.node
     }
 
-    pub fn phase(&self) -> Phase
-        ensures { result ≡ self.now.phase }
-    {
-        self.at.phase
-    }
-
-    /// Whether a step is due before it goes on.
+    /// The point at which it waits.
     #[inline(always)]
-    fn is_due(&self) -> bool
-        ensures { result ≡ is_due (Some self.now.phase) }
+    pub(crate) fn point(&self) -> Point
+        ensures { Phase.Waiting result ≡ self.now.phase }
     {
-        matches!(self.at.phase, Phase::Due(_) | Phase::Entering(_, _))
+        self.at.point
     }
 
     pub fn scope(&self) -> ObjId
@@ -240,10 +287,12 @@ impl Frame {
         self.at.node = node;
     }
 
-    pub fn set_phase(&mut self, phase: Phase)
-        ensures { self.new ≡ record self.old { phase = phase } }
+    /// It waits at a point.
+    #[inline(always)]
+    pub fn wait_at(&mut self, point: Point)
+        ensures { self.new ≡ record self.old { phase = Phase.Waiting point } }
     {
-        self.at.phase = phase;
+        self.at.point = point;
     }
 
     pub fn set_scope(&mut self, scope: ObjId)
@@ -264,41 +313,31 @@ impl Frame {
         self.at.world = world;
     }
 
-    /// It begins anew at a node, with a step due, and holds nothing.
-    pub fn begin(&mut self, start: Start, node: NodeId)
-        ensures { self.new ≡ record self.old { node = node; phase = Phase.Due start; held = [] } }
+    /// It is run anew at a node, and holds nothing.
+    #[inline(always)]
+    pub fn begin(&mut self, node: NodeId)
+        ensures { self.new ≡ record self.old { node = node; held = [] } }
     {
         self.at.node = node;
-        self.at.phase = Phase::Due(start);
         self.at.held.clear();
     }
 
-    /// Where it waits for a completion it goes on with this one.
-    #[inline(always)]
-    fn give(&mut self, completion: Completion)
-        ensures { self.new ≡ record self.old { phase = resumed self.old.phase completion } }
-    {
-        if let Phase::Waiting(point) = self.at.phase {
-            self.at.phase = Phase::Given(point, completion);
-        }
-    }
-
-    /// It goes on in the tree and the scope, with the `this` and in the world of another.
+    /// It waits where another does, in its tree and its scope, with its `this` and in its world.
     fn set_around(&mut self, other: &Frame)
-        ensures { self.new ≡ record self.old { tree = other.now.tree; scope = other.now.scope; this = other.now.this; world = other.now.world } }
+        ensures { self.new ≡ record other.now { node = self.old.node; held = self.old.held } }
     {
         self.at.tree = other.tree();
+        self.at.point = other.point();
         self.at.scope = other.scope();
         self.at.this = other.this();
         self.at.world = other.world();
     }
 
-    /// It begins at once, and holds something. Where that is nothing, the memory of what it held before is used again.
-    fn go_on_holding(&mut self, start: Start, held: Items)
+    /// It holds something. Where that is nothing, the memory of what it held before is used again.
+    fn hold_all(&mut self, held: Items)
         requires { self.old.held ≡ [] }
-        ensures { self.new ≡ record self.old { phase = Phase.Ready start; held = held } }
+        ensures { self.new ≡ record self.old { held = held } }
     {
-        self.at.phase = Phase::Ready(start);
         if !held.is_empty() {
             self.at.held = held;
         }
@@ -338,7 +377,7 @@ impl Frame {
 /// The frames, the one that runs last. Contracts see the list.
 #[derive(Drop)]
 pub struct Frames {
-    list: Vec<Frame>,
+    stack: Stack,
     /// A few frames that have ended. The next ones are made in their places, since a frame is made at every other step.
     spare: Vec<Frame>,
 }
@@ -351,12 +390,13 @@ impl Model for Frames {
     ghost use Rattle.wjs_model.specs.declared.frame.Activation.{Activation};
     ghost use Rattle.std.specs.Coded.{codes};
     ghost use Rattle.wjs_model.specs.contracts.frame.Activation as activation_contract;
+    ghost use Rattle.wjs_model.specs.Stacks.{all_of};
 
     ghost Value = { List Activation };
 
     ghost coded = { Prim.hlevel (codes, activation_contract.the_row.coded) };
 
-    ghost view = { λ f. f.list.items };
+    ghost view = { λ f. all_of f.stack };
 }
 
 impl Frames {
@@ -365,27 +405,75 @@ impl Frames {
         ensures { result ≡ [] }
     {
         Frames {
-            list: Vec::new(alloc),
+            stack: Stack {
+                below: Vec::new(alloc),
+                list: Vec::new(alloc),
+                top: None,
+            },
             spare: Vec::new(alloc),
         }
     }
 
-    /// Puts a frame on top; after a refusal the frames are as they were.
+    /// Puts a frame that waits on top; after a refusal the frames are as they were.
     #[inline(always)]
     pub fn push(&mut self, frame: Frame) -> Result<(), OutOfMemory>
         ensures ok { OnOk result (self.new ≡ self.old ++ frame ∷ []) }
         ensures err { OnErr result (self.new ≡ self.old) }
     {
-        self.list.push(frame)?;
+        push_waiting(&mut self.stack, frame)
+    }
+
+    /// Puts a frame on top that has this phase; after a refusal the frames are as they were.
+    #[inline(always)]
+    pub fn push_at(&mut self, frame: Frame, phase: Phase) -> Result<(), OutOfMemory>
+        ensures ok { OnOk result (self.new ≡ self.old ++ record frame { phase = phase } ∷ []) }
+        ensures err { OnErr result (self.new ≡ self.old) }
+    {
+        push_top(&mut self.stack, Top { frame, phase })
+    }
+
+    /// Puts a frame of its own on top.
+    pub fn add(&mut self, alloc: Global, activation: Activation) -> Result<(), OutOfMemory>
+        ensures { OnOk result (self.new ≡ self.old ++ activation ∷ []) }
+    {
+        match activation.phase {
+            Phase::Waiting(point) => self.add_waiting(alloc, activation, point),
+            Phase::Due(_) | Phase::Ready(_) | Phase::Given(_, _) | Phase::Entering(_, _) => {
+                self.add_at(alloc, activation)
+            }
+        }
+    }
+
+    fn add_waiting(
+        &mut self,
+        alloc: Global,
+        activation: Activation,
+        point: Point,
+    ) -> Result<(), OutOfMemory>
+        requires { activation.phase ≡ Phase.Waiting point }
+        ensures { OnOk result (self.new ≡ self.old ++ activation ∷ []) }
+    {
+        let frame = Frame::new(alloc, activation, point)?;
+        self.push(frame)?;
         Ok(())
     }
 
-    /// The frame on top, which is taken off; None exactly where there is no frame.
-    #[inline(always)]
-    pub fn pop(&mut self) -> Option<Frame>
-        ensures { Pops self.old result self.new }
+    /// The frame's own point isn't asked for.
+    fn add_at(&mut self, alloc: Global, activation: Activation) -> Result<(), OutOfMemory>
+        ensures { OnOk result (self.new ≡ self.old ++ activation ∷ []) }
     {
-        self.list.pop()
+        let phase = activation.phase;
+        let frame = Frame::new(alloc, activation, Point::Call(CallPoint::NextProgram))?;
+        self.push_at(frame, phase)?;
+        Ok(())
+    }
+
+    /// The frame on top with its phase, which is taken off; None exactly where there is no frame.
+    #[inline(always)]
+    pub fn pop(&mut self) -> Option<(Frame, Phase)>
+        ensures { Pops self.old (option_map with_phase result) self.new }
+    {
+        pop_top(&mut self.stack)
     }
 
     /// Another frame has ended, and the frame on top, which waited, goes on with its completion; false exactly where there is no
@@ -395,21 +483,11 @@ impl Frames {
         ensures given { self.new ≡ on_last (λ f. record f { phase = resumed f.phase completion }) self.old }
         ensures any { result ≡ is_some (last self.old) }
     {
-        self.keep(ended);
-        give_last(self.list.as_mut_slice(), completion)
+        keep(&mut self.spare, ended);
+        give_top(&mut self.stack, completion)
     }
 
-    /// Keeps a frame that has ended, where few are kept.
-    #[inline(always)]
-    fn keep(&mut self, ended: Frame)
-        ensures { self.new ≡ self.old }
-    {
-        if self.spare.len() < MOST_SPARE {
-            let _ = self.spare.push(ended);
-        }
-    }
-
-    /// Puts a frame on top, and one more above it, which begins at a node around the same, with a step due.
+    /// Puts a frame that waits on top, and one more above it, which begins at a node around the same, with a step due.
     #[inline(always)]
     pub fn push_begun(
         &mut self,
@@ -419,12 +497,14 @@ impl Frames {
     ) -> Result<(), OutOfMemory>
         ensures { OnOk result (self.new ≡ (self.old ++ frame ∷ []) ++ begun_at frame start node ∷ []) }
     {
-        let above = self.begun(&frame, start, node)?;
+        let above = self.begun(&frame, node)?;
         self.push(frame)?;
-        self.push(above)
+        self.push_at(above, Phase::Due(start))?;
+        Ok(())
     }
 
-    /// Puts a frame on top, and one more above it, which begins at a node around the same, at once and with what it holds.
+    /// Puts a frame that waits on top, and one more above it, which begins at a node around the same, at once and with what it
+    /// holds.
     pub fn push_ready(
         &mut self,
         frame: Frame,
@@ -434,21 +514,22 @@ impl Frames {
     ) -> Result<(), OutOfMemory>
         ensures { OnOk result (self.new ≡ (self.old ++ frame ∷ []) ++ record (begun_at frame start node) { phase = Phase.Ready start; held = held } ∷ []) }
     {
-        let mut above = self.begun(&frame, start, node)?;
-        above.go_on_holding(start, held);
+        let mut above = self.begun(&frame, node)?;
+        above.hold_all(held);
         self.push(frame)?;
-        self.push(above)
+        self.push_at(above, Phase::Ready(start))?;
+        Ok(())
     }
 
-    /// A frame that begins around the same as another.
+    /// A frame at a node around the same as another.
     #[inline(always)]
-    fn begun(&mut self, at: &Frame, start: Start, node: NodeId) -> Result<Frame, OutOfMemory>
-        ensures frame { IfOk result (λ frame. frame ≡ begun_at at.now start node) }
+    fn begun(&mut self, at: &Frame, node: NodeId) -> Result<Frame, OutOfMemory>
+        ensures frame { IfOk result (λ frame. frame ≡ record at.now { node = node; held = [] }) }
         ensures same { self.new ≡ self.old }
     {
         match self.spare.pop() {
-            Some(frame) => Ok(renewed(frame, at, start, node)),
-            None => begun(*self.list.allocator(), at, start, node),
+            Some(frame) => Ok(renewed(frame, at, node)),
+            None => begun(*self.stack.list.allocator(), at, node),
         }
     }
 
@@ -456,7 +537,7 @@ impl Frames {
     pub fn nothing_held(&self) -> Items
         ensures { result ≡ [] }
     {
-        Items::new(*self.list.allocator())
+        Items::new(*self.stack.list.allocator())
     }
 
     /// Whether a step is due before the frame that runs goes on; none is where there is no frame.
@@ -464,59 +545,34 @@ impl Frames {
     pub fn is_due(&self) -> bool
         ensures { result ≡ is_due (option_map (λ f. f.phase) (last self.now)) }
     {
-        is_due_of(self.list.as_slice())
+        is_due_top(&self.stack)
+    }
+}
+
+/// Keeps a frame that has ended, where few are kept.
+#[inline(always)]
+fn keep(spare: &mut Vec<Frame>, ended: Frame) {
+    if spare.len() < MOST_SPARE {
+        let _ = spare.push(ended);
     }
 }
 
 /// A frame in the place of one that has ended.
 #[inline(always)]
-fn renewed(frame: Frame, at: &Frame, start: Start, node: NodeId) -> Frame
-    ensures { result ≡ begun_at at.now start node }
+fn renewed(frame: Frame, at: &Frame, node: NodeId) -> Frame
+    ensures { result ≡ record at.now { node = node; held = [] } }
 {
     let mut frame = frame;
     frame.set_around(at);
-    frame.begin(start, node);
+    frame.begin(node);
     frame
 }
 
 /// A frame in a new place.
-fn begun(alloc: Global, at: &Frame, start: Start, node: NodeId) -> Result<Frame, OutOfMemory>
-    ensures { IfOk result (λ frame. frame ≡ begun_at at.now start node) }
+fn begun(alloc: Global, at: &Frame, node: NodeId) -> Result<Frame, OutOfMemory>
+    ensures { IfOk result (λ frame. frame ≡ record at.now { node = node; held = [] }) }
 {
-    let activation = Activation {
-        tree: at.tree(),
-        node,
-        phase: Phase::Due(start),
-        scope: at.scope(),
-        this: at.this(),
-        world: at.world(),
-        held: Items::new(alloc),
-    };
-    Frame::new(alloc, activation)
-}
-
-/// The last frame goes on with a completion that it waits for; false exactly where there is no frame.
-#[inline(always)]
-fn give_last(frames: &mut [Frame], completion: Completion) -> bool
-    ensures given { frames.new ≡ on_last (λ f. record f { phase = resumed f.phase completion }) frames.old }
-    ensures any { result ≡ is_some (last frames.old) }
-{
-    let count = frames.len();
-    if count == 0 {
-        return false;
-    }
-    let below = &mut frames[count - 1];
-    below.give(completion);
-    true
-}
-
-/// Whether a step is due before the last frame goes on.
-#[inline(always)]
-fn is_due_of(frames: &[Frame]) -> bool
-    ensures { result ≡ is_due (option_map (λ f. f.phase) (last frames.now)) }
-{
-    match frames.last() {
-        Some(frame) => frame.is_due(),
-        None => false,
-    }
+    let mut frame = at.like(alloc, Items::new(alloc))?;
+    frame.begin(node);
+    Ok(frame)
 }

@@ -9,6 +9,7 @@ mod loaded;
 mod nodes;
 mod operand;
 mod point;
+mod stack;
 
 pub use config::{Config, State};
 pub use frame::{Activation, Completion, Frame, Frames, Held, Items, Phase, Reference};

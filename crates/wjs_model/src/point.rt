@@ -129,10 +129,10 @@ pub enum StmtPoint {
     /// The body comes next.
     WhileTest(NodeId),
     WhileBody,
-    /// The test, the update and the body of a `for`, after its first expression.
-    ForFirst(Option<NodeId>, Option<NodeId>, NodeId),
-    /// The same after its `var`s.
-    ForVariables(Option<NodeId>, Option<NodeId>, NodeId),
+    /// The first expression of a `for`. Its other parts are asked of the node: they would make each point larger.
+    ForFirst,
+    /// The `var`s of a `for`.
+    ForVariables,
     /// The update and the body.
     ForTest(Option<NodeId>, NodeId),
     /// The update.
@@ -184,3 +184,5 @@ pub enum Point {
     /// The conversion of a native function's receiver, which is number 0, or of its arguments from 1 on; whether `new` calls it.
     Native(Native, bool, u32),
 }
+
+const _: () = prove!(size_of::<Point>() == 40);

@@ -1,5 +1,5 @@
 //! The entry of a part.
-ghost use Rattle.std.specs.Prelude.{◌≡◌, ◌<◌, [], Some, length, slice_get, IfOk, OnOk};
+ghost use Rattle.std.specs.Prelude.{◌≡◌, ◌<◌, [], Some, length, slice_get, OnOk};
 ghost use Rattle.wjs_base.specs.declared.ids.ObjId.{ObjId};
 ghost use Rattle.wjs_arena.specs.Entries.{world_of};
 ghost use Rattle.wjs_model.specs.declared.loaded.LoadedProgram.{LoadedProgram as Program};
@@ -10,7 +10,7 @@ use wjs_arena::Class;
 use wjs_base::{OutOfMemory, Value};
 use wjs_heap_steps::{builtin, object_of};
 use wjs_meaning::Builtin;
-use wjs_model::{Activation, Config, Frame, Items, Phase, Start, State};
+use wjs_model::{Activation, Config, Items, Phase, Start, State};
 use wjs_store::WorldStore;
 use wjs_tree::NodeId;
 
@@ -29,8 +29,9 @@ pub fn enter<S: WorldStore>(
 {
     let body = body_of(config, part);
     show_world(config)?;
-    let frame = frame_of(config, part, body)?;
-    config.frames.push(frame)?;
+    let frame = frame_of(config, part, body);
+    let alloc = config.heap.arena.allocator();
+    config.frames.add(alloc, frame)?;
     config.left = budget;
     config.state = State::Running;
     Ok(())
@@ -59,15 +60,11 @@ fn show_world<S: WorldStore>(config: &mut Config<S>) -> Result<(), OutOfMemory>
 }
 
 /// The frame of a body, with its step due.
-fn frame_of<S: WorldStore>(
-    config: &Config<S>,
-    tree: u32,
-    body: NodeId,
-) -> Result<Frame, OutOfMemory>
-    ensures { IfOk result (λ frame. frame ≡ body_frame config.now tree body) }
+fn frame_of<S: WorldStore>(config: &Config<S>, tree: u32, body: NodeId) -> Activation
+    ensures { result ≡ body_frame config.now tree body }
 {
     let alloc = config.heap.arena.allocator();
-    let activation = Activation {
+    Activation {
         tree,
         node: body,
         phase: Phase::Due(Start::Program),
@@ -75,6 +72,5 @@ fn frame_of<S: WorldStore>(
         this: Value::Object(config.global),
         world: config.world,
         held: Items::new(alloc),
-    };
-    Frame::new(alloc, activation)
+    }
 }

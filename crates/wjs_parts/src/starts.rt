@@ -90,7 +90,11 @@ fn library_frame(alloc: Global, library: &Option<LoadedProgram>) -> Result<Frame
 {
     let mut frames = Frames::new(alloc);
     if let Some(library) = library {
-        frames.push(program_frame(alloc, 0, library.program.body, Phase::Due(Start::Program))?)?;
+        let body = library.program.body;
+        frames.add(
+            alloc,
+            program_frame(alloc, 0, body, Phase::Due(Start::Program)),
+        )?;
     }
     Ok(frames)
 }

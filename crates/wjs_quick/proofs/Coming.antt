@@ -27,7 +27,7 @@ use Rattle.wjs_heap_steps.specs.Peeking.{Peeks}
 use Rattle.wjs_heap_steps.proofs.Composing.{by_follows}
 use Rattle.wjs_quick.specs.Coming.{GoalComes, Comes, EndsWith}
 
-one_less : (n : ℕ) → 0 < n → n ≡ suc (n - 1)
+pub one_less : (n : ℕ) → 0 < n → n ≡ suc (n - 1)
 one_less n some = omega (arith, some)
 
 none_below : (n : ℕ) → 0 ≤ suc n
@@ -37,16 +37,16 @@ then_twice : (o : Outcome) (one two : Completion → St → ℕ → Outcome) →
 then_twice (Ends c st n) one two = refl
 then_twice (Spent st) one two = refl
 
-then_ends : (o : Outcome) → then_do o (λ c st n. Ends c st n) ≡ o
+pub then_ends : (o : Outcome) → then_do o (λ c st n. Ends c st n) ≡ o
 then_ends (Ends c st n) = refl
 then_ends (Spent st) = refl
 
 -- a goal within nested deeds
-shorten_goal : (goal : Goal) (env : Env) (k go : Completion → Act) → Shortens (Sub (Eval goal env k) go) (Eval goal env (λ e. Sub (k e) go))
+pub shorten_goal : (goal : Goal) (env : Env) (k go : Completion → Act) → Shortens (Sub (Eval goal env k) go) (Eval goal env (λ e. Sub (k e) go))
 shorten_goal goal env k go = record { same = λ st n. then_twice (eval goal env st n) _ _; fewer = λ st c. none_below _ }
 
 -- a goal that is all of them
-shorten_last : (goal : Goal) (env : Env) (go : Completion → Act) → Shortens (Sub (Eval goal env Ret) go) (Eval goal env go)
+pub shorten_last : (goal : Goal) (env : Env) (go : Completion → Act) → Shortens (Sub (Eval goal env Ret) go) (Eval goal env go)
 shorten_last goal env go = record { same = λ st n. ap (λ o. then_do o (λ e st' n'. interp eval (go e) st' n')) (then_ends (eval goal env st n)); fewer = λ st c. none_below _ }
 
 -- deeds that are an end

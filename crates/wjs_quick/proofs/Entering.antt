@@ -20,7 +20,7 @@ least : (n : ℕ) → n ≤ n
 least n = omega arith
 
 -- what comes after a goal may take a turn more
-shorten_after : (goal : Goal) (env : Env) (go : Completion → Act) → Shortens (Eval goal env go) (Eval goal env (λ e. Sub (Ret e) go))
+pub shorten_after : (goal : Goal) (env : Env) (go : Completion → Act) → Shortens (Eval goal env go) (Eval goal env (λ e. Sub (Ret e) go))
 shorten_after goal env go = record { same = λ st n. refl; fewer = λ st c. least _ }
 
 module _ {S : Type 0} (meaning : S → Meaning) where

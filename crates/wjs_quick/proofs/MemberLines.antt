@@ -21,7 +21,7 @@ use Rattle.wjs_frames.proofs.Shorter.{shorten_trans, shorten_ret, shorten_do, sh
 use Rattle.wjs_step_common.proofs.Converting.{text_shortens}
 
 -- behind a plan, whatever it answers
-plan_after : {A : Type 0} (p : Plan A) (w : WorldId) (go to : A → Act) → ((x : A) → Shortens (go x) (to x)) → Shortens (carry_out p w go) (carry_out p w to)
+pub plan_after : {A : Type 0} (p : Plan A) (w : WorldId) (go to : A → Act) → ((x : A) → Shortens (go x) (to x)) → Shortens (carry_out p w go) (carry_out p w to)
 plan_after (Answers x) w go to h = h x
 plan_after (Reads s next) w go to h = shorten_do _ _ _ (λ found. plan_after (next found) w go to h)
 plan_after (Writes s c next) w go to h = shorten_do _ _ _ (λ done. plan_after next w go to h)

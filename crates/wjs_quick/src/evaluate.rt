@@ -82,7 +82,7 @@ pub(crate) fn form<S: WorldStore>(
 
 /// A node of the tree at hand; none where there is none, which the meaning takes for an empty statement.
 #[inline(always)]
-fn node_at<'a, S: WorldStore>(
+pub fn node_at<'a, S: WorldStore>(
     config: &'a Config<S>,
     frame: &Frame,
     node: NodeId,

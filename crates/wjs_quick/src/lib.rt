@@ -12,6 +12,8 @@ mod operators;
 mod parts;
 
 pub use enters::{enter_last_quickly, enter_quickly};
+pub use evaluate::node_at;
+pub use members::name_there;
 pub use numbers::{arithmetic, calculated};
-pub use operators::is_so;
-pub use parts::{quick, quick_entered};
+pub use operators::{is_so, operated};
+pub use parts::{quick, quick_entered, value_at};

@@ -66,7 +66,7 @@ pub(crate) fn indexed<S: WorldStore>(
 
 /// The name that a primitive's text is, where no text has to be made for it: of an array index, or of a text.
 #[inline(always)]
-fn name_there<S: WorldStore>(config: &Config<S>, value: Value) -> Option<Name>
+pub fn name_there<S: WorldStore>(config: &Config<S>, value: Value) -> Option<Name>
     requires base { Base S.meaning config.now }
     requires value { HasValue config.now value }
     ensures is { IfSome result (λ name. (t : Table) → Grows config.now.heap.texts t → conversions.primitive_text (value_in t value) ≡ name_in t name) }

@@ -24,7 +24,7 @@ use wjs_tree::{BinaryOperator, PrefixOperator};
 /// The value with which the operation on two values ends at once. None where an object would be converted or looked up, a text
 /// made, or an error thrown.
 #[inline(always)]
-pub(crate) fn operated<S: WorldStore>(
+pub fn operated<S: WorldStore>(
     config: &Config<S>,
     operator: BinaryOperator,
     left: Value,

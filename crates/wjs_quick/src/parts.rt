@@ -7,6 +7,7 @@ ghost use Rattle.wjs_model.specs.Soundness.{Base, IsThere, HasValue};
 ghost use Rattle.wjs_frames.specs.Doing.{Does};
 ghost use Rattle.wjs_frames.specs.Following.{Later};
 ghost use Rattle.wjs_frames.specs.Parts.{goal_of, env_in};
+ghost use Rattle.wjs_quick.specs.Coming.{GoalComes};
 
 use crate::evaluate::{form, value_of};
 use wjs_base::Value;
@@ -72,4 +73,21 @@ pub fn quick_entered<S: WorldStore>(
     let found = form(config, frame, node, HEIGHT - 1, &mut left)?;
     config.left = left;
     Some(found)
+}
+
+/// The value of an expression without effect, with so many steps left: those that it takes are taken from them, and the configuration
+/// is as it was. After None the number counts for nothing.
+#[inline(always)]
+pub fn value_at<S: WorldStore>(
+    config: &Config<S>,
+    frame: &Frame,
+    node: NodeId,
+    steps: &mut u64,
+) -> Option<Value>
+    requires base { Base S.meaning config.now }
+    requires there { IsThere S.meaning config.now frame.now }
+    ensures does { IfSome result (λ v. GoalComes S.meaning (AtExpr node.0) v config.now frame.now steps.old steps.new) }
+    ensures found { IfSome result (λ v. HasValue config.now v) }
+{
+    value_of(config, frame, node, HEIGHT, steps)
 }

@@ -14,7 +14,7 @@ use crate::script::script_names;
 use std::alloc::Global;
 use wjs_base::{OutOfMemory, Texts, Value};
 use wjs_model::{
-    Activation, CallPoint, Config, Frame, Frames, Items, LoadedProgram, Phase, Point, Start, State,
+    Activation, CallPoint, Config, Frames, Items, LoadedProgram, Phase, Point, Start, State,
 };
 use wjs_store::WorldStore;
 use wjs_tree::NodeId;
@@ -70,26 +70,21 @@ fn first_frames(
     let mut frames = Frames::new(alloc);
     match library {
         None => {
-            frames.push(program_frame(alloc, 0, script.program.body, begins)?)?;
+            frames.add(alloc, program_frame(alloc, 0, script.program.body, begins))?;
         }
         Some(library) => {
-            frames.push(program_frame(alloc, 1, script.program.body, waits)?)?;
-            frames.push(program_frame(alloc, 0, library.program.body, begins)?)?;
+            frames.add(alloc, program_frame(alloc, 1, script.program.body, waits))?;
+            frames.add(alloc, program_frame(alloc, 0, library.program.body, begins))?;
         }
     }
     Ok(frames)
 }
 
-/// The body of a program, in the first world and on the global object.
-pub fn program_frame(
-    alloc: Global,
-    tree: u32,
-    body: NodeId,
-    phase: Phase,
-) -> Result<Frame, OutOfMemory>
-    ensures { IfOk result (λ frame. frame ≡ frame_at tree body phase) }
+/// The frame of a program's body, in the first world and on the global object.
+pub fn program_frame(alloc: Global, tree: u32, body: NodeId, phase: Phase) -> Activation
+    ensures { result ≡ frame_at tree body phase }
 {
-    let activation = Activation {
+    Activation {
         tree,
         node: body,
         phase,
@@ -97,8 +92,7 @@ pub fn program_frame(
         this: Value::Object(GLOBAL_OBJECT),
         world: FIRST_WORLD,
         held: Items::new(alloc),
-    };
-    Frame::new(alloc, activation)
+    }
 }
 
 /// The programs of the run, the library's first.

@@ -133,27 +133,3 @@ for_from-requires-clause-body g c =
     let f = c.args.frame in
     let can = subst (λ (b : Beginning). CanBegin old f b) (sym c.beginning_of.ensures ∙ c.in-Loop.is) (begin_stands m old f c.requires.runs.running.base c.requires.runs.there) in
     can.1.1
-
-pub for_variables-requires-clause-test : goal.for_variables-requires-clause-test
-for_variables-requires-clause-test g c =
-    let m = g.S.WorldStore.meaning in
-    let old = c.args.config.now in
-    let f = c.args.frame in
-    let can = subst (λ (b : Beginning). CanBegin old f b) (sym c.beginning_of.ensures ∙ c.in-Declares.is) (begin_stands m old f c.requires.runs.running.base c.requires.runs.there) in
-    can.0
-
-pub for_variables-requires-clause-update : goal.for_variables-requires-clause-update
-for_variables-requires-clause-update g c =
-    let m = g.S.WorldStore.meaning in
-    let old = c.args.config.now in
-    let f = c.args.frame in
-    let can = subst (λ (b : Beginning). CanBegin old f b) (sym c.beginning_of.ensures ∙ c.in-Declares.is) (begin_stands m old f c.requires.runs.running.base c.requires.runs.there) in
-    can.1.0
-
-pub for_variables-requires-clause-body : goal.for_variables-requires-clause-body
-for_variables-requires-clause-body g c =
-    let m = g.S.WorldStore.meaning in
-    let old = c.args.config.now in
-    let f = c.args.frame in
-    let can = subst (λ (b : Beginning). CanBegin old f b) (sym c.beginning_of.ensures ∙ c.in-Declares.is) (begin_stands m old f c.requires.runs.running.base c.requires.runs.there) in
-    can.1.1

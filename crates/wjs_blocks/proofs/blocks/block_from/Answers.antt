@@ -1,28 +1,34 @@
-use Rattle.std.proofs.Common.{sym, ◌∙◌}
-use Rattle.wjs_model.specs.Contents.{holding_in}
-use Rattle.wjs_frames.specs.Parts.{env_in, node_now}
-use Rattle.wjs_step_common.proofs.Following.{follows_as}
-use Rattle.wjs_step_common.proofs.Parts.{block_at, block_end}
-use Rattle.wjs_blocks.proofs.Standing.{statement_stands}
+use Rattle.std.proofs.Common.{subst}
+use Rattle.wjs_frames.proofs.Handling.{runs_later, running_later}
+use Rattle.wjs_effects.specs.Proceeding.{Proceeds}
+use Rattle.wjs_blocks.specs.declared.statements.Reached.{Reached}
+use Rattle.wjs_blocks.specs.declared.statements.Reached.TheVariants as reached
+use Rattle.wjs_blocks.specs.Blocks.{block_left, HasReached}
 use Rattle.wjs_blocks.proofs.blocks.block_from.Goals as goal
 
-pub returns-in_ok-next-in-Some : goal.returns-in_ok-next-in-Some
-returns-in_ok-next-in-Some g c =
-    let t = c.enter.new.config.heap.texts in
-    let node = node_now g.S.WorldStore.meaning c.args.config.now c.args.frame in
-    let env = env_in g.S.WorldStore.meaning c.args.config.now t c.args.frame in
-    follows_as g.S.WorldStore.meaning _ _ _ _ c.enter.result (λ grows.
-    block_at t c.args.frame.node.0 (holding_in t c.args.frame.held) env node c.args.at c.in_ok-next-in-Some.next c.in-Some.statement c.in_ok-next-in-Some.ensures (sym c.statement_at.ensures ∙ c.in-Some.is))
-    c.enter.ensures
+pub enter_from-requires : goal.enter_from-requires
+enter_from-requires g c = record { runs = runs_later _ _ _ _ c.requires.runs c.in_ok-reached.ensures.later }
 
-pub returns-in-None : goal.returns-in-None
-returns-in-None g c =
-    let t = c.finish.new.config.heap.texts in
-    let node = node_now g.S.WorldStore.meaning c.args.config.now c.args.frame in
-    let env = env_in g.S.WorldStore.meaning c.args.config.now t c.args.frame in
-    follows_as g.S.WorldStore.meaning _ _ _ _ c.finish.result (λ grows. block_end t c.args.frame.node.0 (holding_in t c.args.frame.held) env node c.args.at (sym c.statement_at.ensures ∙ c.in-None.is)) c.finish.ensures
+pub finish-requires-clause-running : goal.finish-requires-clause-running
+finish-requires-clause-running g c = running_later _ _ _ c.requires.runs.running c.in_ok-reached.ensures.later
 
-pub enter-requires-clause-part : goal.enter-requires-clause-part
-enter-requires-clause-part g c =
-    statement_stands g.S.WorldStore.meaning c.args.config.now c.args.frame c.requires.runs.there c.args.at c.in-Some.statement
-    (sym c.statement_at.ensures ∙ c.in-Some.is)
+pub finish-requires-clause-completion : goal.finish-requires-clause-completion
+finish-requires-clause-completion g c = subst (λ (p : Reached). HasReached c.statements_at_once.new.config p) c.in-Ended.is c.in_ok-reached.ensures.found
+
+pub returns-in-Next : goal.returns-in-Next
+returns-in-Next g c =
+    let m = g.S.WorldStore.meaning in
+    let f = c.args.frame in
+    let old = c.args.config.now in
+    let mid = c.statements_at_once.new.config in
+    let P : Reached → Type 0 = λ p. Proceeds m (block_left m old f (reached.Next c.args.at)) (block_left m mid f p) old mid in
+    (subst P c.in-Next.is c.in_ok-reached.ensures.proceeds).by c.enter_from.new.config c.enter_from.result c.enter_from.ensures
+
+pub returns-in-Ended : goal.returns-in-Ended
+returns-in-Ended g c =
+    let m = g.S.WorldStore.meaning in
+    let f = c.args.frame in
+    let old = c.args.config.now in
+    let mid = c.statements_at_once.new.config in
+    let P : Reached → Type 0 = λ p. Proceeds m (block_left m old f (reached.Next c.args.at)) (block_left m mid f p) old mid in
+    (subst P c.in-Ended.is c.in_ok-reached.ensures.proceeds).by c.finish.new.config c.finish.result c.finish.ensures

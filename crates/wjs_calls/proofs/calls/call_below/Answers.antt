@@ -5,8 +5,6 @@ use Rattle.wjs_meaning.specs.Calls as line
 use Rattle.wjs_meaning.specs.Deeds.{Act}
 use Rattle.wjs_model.specs.declared.config.Config.{Config}
 use Rattle.wjs_model.specs.declared.frame.Activation.{Activation as Frame}
-use Rattle.wjs_model.specs.declared.frame.Phase.TheVariants as phases
-use Rattle.wjs_model.specs.declared.point.Start.TheVariants as starts
 use Rattle.wjs_model.specs.Contents.{holding_in}
 use Rattle.wjs_model.specs.Soundness.{IsThere}
 use Rattle.wjs_frames.specs.Following.{Follows}
@@ -23,7 +21,7 @@ call-requires-clause-runs g c =
     let f = c.args.frame in
     let h = later.frames f c.requires.runs.there in
     runs_over _ _ _ _ _ c.requires.runs later (subst (IsThere m new) (sym c.in_ok-above.ensures)
-    (there_with m new f (phases.Ready starts.Call) f.this c.args.items h h.this (later.items c.args.items c.requires.items)))
+    (there_with m new f f.phase f.this c.args.items h h.this (later.items c.args.items c.requires.items)))
 
 -- the call is run where the frame is
 pub returns : goal.returns

@@ -76,8 +76,8 @@ fill_scope-requires-clause-stand g c =
     (nodes s.stands.unit (ap (λ (us : List Program). slice_get us c.args.tree) (sym (same_units m old mid c.in_ok-inner.ensures.later)) ∙ found)) in
     subst (λ (h : Frame). All (λ (i : NodeId). IsFunction mid.units.items mid.heap.arena h.tree i h.scope 0) d.functions) (sym is) all
 
-pub run_body-requires-clause-body : goal.run_body-requires-clause-body
-run_body-requires-clause-body g c =
+pub begin_body-requires-clause-body : goal.begin_body-requires-clause-body
+begin_body-requires-clause-body g c =
     let m = g.S.WorldStore.meaning in
     let old = c.args.config.now in
     let mid = c.create_scope.new.config in
@@ -87,8 +87,8 @@ run_body-requires-clause-body g c =
     (function_later m mid c2 c.args.tree c.args.node c.in_ok-inner.inner 1 c.in_ok-fill_scope.ensures.later
     (begun_function m old mid c.args.tree c.args.node c.args.scope c.in_ok-inner.inner c.in_ok-inner.ensures.later c.in_ok-inner.ensures.outer c.requires.stands))
 
-pub run_body-requires-clause-runs : goal.run_body-requires-clause-runs
-run_body-requires-clause-runs g c =
+pub begin_body-requires-clause-runs : goal.begin_body-requires-clause-runs
+begin_body-requires-clause-runs g c =
     let m = g.S.WorldStore.meaning in
     let mid = c.create_scope.new.config in
     let is : c.set_scope.new.self ≡ record c.args.frame { tree = c.args.tree; node = c.args.node; scope = c.in_ok-inner.inner } = c.set_scope.ensures ∙ ap (λ (q : Frame). record q { scope = c.in_ok-inner.inner }) c.set_node.ensures in
@@ -103,8 +103,8 @@ returns g c =
     let old = c.args.config.now in
     let mid = c.create_scope.new.config in
     let c2 = c.fill_scope.new.config in
-    let new = c.run_body.new.config in
-    let r = c.run_body.result in
+    let new = c.begin_body.new.config in
+    let r = c.begin_body.result in
     let t = new.heap.texts in
     let f = c.args.frame in
     let inner : Frame = record f { tree = c.args.tree; node = c.args.node; scope = c.in_ok-inner.inner } in
@@ -118,7 +118,7 @@ returns g c =
     let first = c.in_ok-inner.ensures.later in
     let both = later_twice m old mid c2 first c.in_ok-fill_scope.ensures.later in
     let as_begun = λ (o : ObjId). Do (Create old.owner (arguments_object said)) (λ a. body_declare body declared fn a said (record (env_in m old t f) { tree = c.args.tree; scope = o })) in
-    let run0 : OnOk r (Follows m (body_from (elements_of (node_in t (node_now m c2 inner))) (env_in m c2 t inner)) c2 new) = subst (λ (h : Frame). OnOk r (Follows m (body_from (elements_of (node_in t (node_now m c2 h))) (env_in m c2 t h)) c2 new)) held c.run_body.ensures in
+    let run0 : OnOk r (Follows m (body_from (elements_of (node_in t (node_now m c2 inner))) (env_in m c2 t inner)) c2 new) = subst (λ (h : Frame). OnOk r (Follows m (body_from (elements_of (node_in t (node_now m c2 h))) (env_in m c2 t h)) c2 new)) held c.begin_body.ensures in
     let run1 : OnOk r (Follows m (body_from (elements_of (node_in t (node_now m c2 inner))) env) c2 new) = subst (λ (e : Env). OnOk r (Follows m (body_from (elements_of (node_in t (node_now m c2 inner))) e) c2 new)) (env_later m old c2 t inner both) run0 in
     let node = node_is t old.units.items inner.tree inner.node (node_now m c2 inner) (ap (λ (us : List Program). node_among us inner.tree inner.node) (sym (same_units m old c2 both))) in
     let run2 : OnOk r (Follows m (body_run body env) c2 new) = subst (λ (n : Node). OnOk r (Follows m (body_from (elements_of n) env) c2 new)) (sym node) run1 in

@@ -19,12 +19,12 @@ returns-in-Ok g c =
     let old = c.args.config.now in
     let mid = c.text_of.new.config in
     let new = c.store.new.config in
-    let later = c.enter.new.config in
+    let later = c.enter_at_once.new.config in
     let t = later.heap.texts in
     let f = c.args.frame in
-    let P : Act → Type 0 = λ act. OnOk c.enter.result (Follows m act new later) in
-    let body : P (body_entered m t old f c.args.taker c.args.s) = subst P (entered_later m t old new f c.args.taker c.args.s c.requires.taker (later_twice m old mid new c.in_ok-id.ensures.later c.in_ok-store.ensures.later)) c.enter.ensures in
-    named_follows m old mid new later c.enter.result f (λ u. name_in u c.args.slot.name) c.in_ok-id.id (λ u x e act. line.store (reference_in u c.args.reference) (String x) e act) (body_entered m t old f c.args.taker c.args.s)
+    let P : Act → Type 0 = λ act. OnOk c.enter_at_once.result (Follows m act new later) in
+    let body : P (body_entered m t old f c.args.taker c.args.s) = subst P (entered_later m t old new f c.args.taker c.args.s c.requires.taker (later_twice m old mid new c.in_ok-id.ensures.later c.in_ok-store.ensures.later)) c.enter_at_once.ensures in
+    named_follows m old mid new later c.enter_at_once.result f (λ u. name_in u c.args.slot.name) c.in_ok-id.id (λ u x e act. line.store (reference_in u c.args.reference) (String x) e act) (body_entered m t old f c.args.taker c.args.s)
     c.in_ok-id.ensures.does c.in_ok-id.ensures.later (MatchResult-at_ok _ _ c.in-Ok.field-0 c.in-Ok.is c.in_ok-store.ensures.does) body
 
 pub returns-in-Err : goal.returns-in-Err
@@ -36,21 +36,21 @@ returns-in-Err g c =
     named_fails m old c.text_of.new.config c.store.new.config later c.finish.result f (λ u. name_in u c.args.slot.name) c.in_ok-id.id (λ u x e act. line.store (reference_in u c.args.reference) (String x) e act) (body_entered m later.heap.texts old f c.args.taker c.args.s) c.in-Err.error
     c.in_ok-id.ensures.does c.in_ok-id.ensures.later (MatchResult-at_err _ _ c.in-Err.error c.in-Err.is c.in_ok-store.ensures.does) c.finish.ensures
 
-pub enter-requires-clause-part : goal.enter-requires-clause-part
-enter-requires-clause-part g c =
+pub enter_at_once-requires-clause-part : goal.enter_at_once-requires-clause-part
+enter_at_once-requires-clause-part g c =
     stands_twice g.S.WorldStore.meaning c.args.config.now c.args.frame c.text_of.new.config c.store.new.config c.args.s c.in_ok-id.ensures.later
     c.in_ok-store.ensures.later c.requires.body
 
-pub enter-requires-clause-point : goal.enter-requires-clause-point
-enter-requires-clause-point g c =
+pub enter_at_once-requires-clause-point : goal.enter_at_once-requires-clause-point
+enter_at_once-requires-clause-point g c =
     stands_twice g.S.WorldStore.meaning c.args.config.now c.args.frame c.text_of.new.config c.store.new.config c.args.s c.in_ok-id.ensures.later
     c.in_ok-store.ensures.later c.requires.body
 
 pub store-requires-clause-there : goal.store-requires-clause-there
 store-requires-clause-there g c = c.in_ok-id.ensures.later.frames c.args.frame c.requires.runs.there
 
-pub enter-requires-clause-runs : goal.enter-requires-clause-runs
-enter-requires-clause-runs g c = runs_later _ _ _ _ (runs_later _ _ _ _ c.requires.runs c.in_ok-id.ensures.later) c.in_ok-store.ensures.later
+pub enter_at_once-requires-clause-runs : goal.enter_at_once-requires-clause-runs
+enter_at_once-requires-clause-runs g c = runs_later _ _ _ _ (runs_later _ _ _ _ c.requires.runs c.in_ok-id.ensures.later) c.in_ok-store.ensures.later
 
 pub finish-requires-clause-running : goal.finish-requires-clause-running
 finish-requires-clause-running g c = running_later _ _ _ (running_later _ _ _ c.requires.runs.running c.in_ok-id.ensures.later) c.in_ok-store.ensures.later

@@ -1,11 +1,11 @@
 use Rattle.std.proofs.Common.{ap}
 use Rattle.wjs_base.specs.declared.ids.NodeId.{NodeId}
-use Rattle.wjs_meaning.specs.Reading.{node_in, number}
+use Rattle.wjs_meaning.specs.Reading.{node_in}
 use Rattle.wjs_meaning.specs.Deeds.{Sub, then_normal}
 use Rattle.wjs_meaning.specs.Loops.{loop_from}
 use Rattle.wjs_meaning.specs.Statements.{vars_from}
-use Rattle.wjs_model.specs.Lists.{variables_of}
-use Rattle.wjs_frames.specs.Parts.{env_in, node_among}
+use Rattle.wjs_model.specs.Lists.{if_for, variables_of}
+use Rattle.wjs_frames.specs.Parts.{env_in, node_among, node_now}
 use Rattle.wjs_step_common.proofs.Following.{follows_as}
 use Rattle.wjs_loops.proofs.fors.for_variables.Goals as goal
 
@@ -18,4 +18,4 @@ returns g c =
     let env = env_in meaning old t f in
     follows_as meaning _ _ _ _ c.nest.result (λ grows.
     ap (λ (id : NodeId). Sub (vars_from id.0 0 (variables_of (node_in t (node_among old.units.items f.tree id))) env)
-    (then_normal (loop_from f.node.0 (number c.args.test) (number c.args.update) c.args.s.0 env))) c.node-node.ensures) c.nest.ensures
+    (then_normal (if_for (node_in t (node_now meaning old f)) (λ test update s. loop_from f.node.0 test update s env)))) c.node-node.ensures) c.nest.ensures

@@ -1,0 +1,18 @@
+use Rattle.std.proofs.Common.{sym, subst}
+use Rattle.std.specs.Prelude.{IfOk, IfSome}
+use Rattle.wjs_heap_steps.proofs.Later.{later_same}
+use Rattle.wjs_effects.specs.Proceeding.{Proceeds}
+use Rattle.wjs_blocks.specs.declared.statements.Reached.{Reached}
+use Rattle.wjs_blocks.specs.Blocks.{block_left}
+use Rattle.wjs_blocks.proofs.statements.advance.Goals as goal
+
+pub returns-in-Next-clause-proceeds : goal.returns-in-Next-clause-proceeds
+returns-in-Next-clause-proceeds g c =
+    let m = g.S.WorldStore.meaning in
+    let f = c.args.frame.now in
+    let old = c.args.config.now in
+    let new = c.next_statement.new.config in
+    subst (λ (a : Reached). IfOk c.next_statement.result (λ next. IfSome next (λ p. Proceeds m (block_left m old f a) (block_left m new f p) old new))) (sym c.in-Next.is) c.next_statement.ensures.proceeds
+
+pub returns-in-Ended-clause-later : goal.returns-in-Ended-clause-later
+returns-in-Ended-clause-later g c = later_same g.S.WorldStore.meaning c.args.config.now c.requires.base

@@ -1,0 +1,63 @@
+-- Stores that are done, and how they end.
+use Rattle.std.proofs.Common.{◌≡◌, ℕ, [], sym, refl, subst}
+use Rattle.std.specs.Prelude.{OnOk}
+use Rattle.wjs_base.specs.declared.ids.ObjId.{ObjId}
+use Rattle.wjs_base.specs.declared.values.Value.{Value as Numbered}
+use Rattle.wjs_base.specs.declared.values.Value.TheVariants as values
+use Rattle.wjs_base.specs.Text.{Table}
+use Rattle.wjs_store.specs.Meaning.{Meaning}
+use Rattle.wjs_by_content.specs.declared.answers.PutAnswer.{PutAnswer}
+use Rattle.wjs_by_content.specs.declared.answers.PutAnswer.TheVariants.{BadLength}
+use Rattle.wjs_by_content.specs.Tables.{value_in}
+use Rattle.wjs_by_content.specs.Values.{Text, Value, Object}
+use Rattle.wjs_meaning.specs.declared.trouble.Trouble.TheVariants.{InvalidArrayLength}
+use Rattle.wjs_meaning.specs.Deeds.{Env, Member, Completion, Throws, Act, Do, Create}
+use Rattle.wjs_meaning.specs.Errors.{error_of}
+use Rattle.wjs_meaning.specs.Properties.{put}
+use Rattle.wjs_model.specs.declared.config.Config.{Config}
+use Rattle.wjs_model.specs.declared.frame.Activation.{Activation as Frame}
+use Rattle.wjs_frames.specs.Doing.{Does, DoesFirst}
+use Rattle.wjs_frames.specs.Following.{Follows, Later}
+use Rattle.wjs_frames.specs.Parts.{env_in}
+use Rattle.wjs_heap_steps.proofs.Composing.{does_map}
+use Rattle.wjs_effects.specs.Effects.{put_ended, stored}
+
+-- a store to a member of a primitive does nothing
+pub stored_stays : (t : Table) (base : Numbered) (name : Text) (v : Value) (env : Env) (e : Completion) (go : Completion → Act) → ((o : ObjId) → base ≡ values.Object o → ⊥) → stored (Member (value_in t base) name) v env e go ≡ go e
+stored_stays t values.Undefined name v env e go h = refl
+stored_stays t values.Null name v env e go h = refl
+stored_stays t (values.Bool b) name v env e go h = refl
+stored_stays t (values.Number x) name v env e go h = refl
+stored_stays t (values.Text id) name v env e go h = refl
+stored_stays t (values.Object o) name v env e go h = absurd (h o refl)
+
+module _ {S : Type 0} (meaning : S → Meaning) where
+  -- deeds that go on, and then an end
+  pub carry_first : (deeds : Table → Act → Act) (e : Table → Completion) (old new : Config S) → DoesFirst meaning deeds old new → Does meaning (λ t go. deeds t (go (e t))) e old new
+  carry_first deeds e old new d = record { by = λ go later r h. d.by (go (e later.heap.texts)) later r h }
+
+  -- a put, and then what its answer leads to
+  module _ (o : ObjId) (name : Table → Text) (v : Table → Value) (f : Frame) (e : Table → Completion) (old mid : Config S) where
+    abbrev ended : PutAnswer → Table → (Completion → Act) → Act
+    ended a t go = put_ended (env_in meaning old t f) (e t) go a
+
+    carry_put : (a : PutAnswer) (last : Table → Completion) (new : Config S) → Does meaning (λ t. put o (name t) (v t) (env_in meaning old t f)) (λ t. a) old mid → Does meaning (ended a) last mid new → Does meaning (λ t. stored (Member (Object o) (name t)) (v t) (env_in meaning old t f) (e t)) last old new
+    carry_put a last new p q = record { by = λ go later r h. p.by (λ x. ended x later.heap.texts go) later r (q.by go later r h) }
+
+    -- it ends as it is to
+    pub carry_done : (a b : PutAnswer) → a ≡ b → ((t : Table) (go : Completion → Act) → ended b t go ≡ go (e t)) → Does meaning (λ t. put o (name t) (v t) (env_in meaning old t f)) (λ t. a) old mid → Does meaning (λ t. stored (Member (Object o) (name t)) (v t) (env_in meaning old t f) (e t)) e old mid
+    carry_done a b is goes p = carry_put a e mid p (record {
+      by = λ go later r h.
+          let t = later.heap.texts in
+          subst (λ (x : PutAnswer). OnOk r (Follows meaning (ended x t go) mid later)) (sym is) (subst (λ (act : Act). OnOk r (Follows meaning act mid later)) (sym (goes t go)) h);
+    })
+
+    -- the length is bad
+    pub carry_refused : (a : PutAnswer) (error : ObjId) (new : Config S) → a ≡ BadLength → Later meaning old mid → Does meaning (λ t. put o (name t) (v t) (env_in meaning old t f)) (λ t. a) old mid → Does meaning (λ t go. Do (Create mid.owner (error_of InvalidArrayLength [])) go) (λ t. error) mid new
+        → Does meaning (λ t. stored (Member (Object o) (name t)) (v t) (env_in meaning old t f) (e t)) (λ t. Throws (Object error)) old new
+    carry_refused a error new is l p made =
+        let thrown : Table → Completion = λ t. Throws (Object error) in
+        let throws : Table → ObjId → Completion = λ t x. Throws (Object x) in
+        let D : ℕ → Type 0 = λ n. Does meaning (λ t go. Do (Create n (error_of InvalidArrayLength [])) (λ x. go (Throws (Object x)))) thrown mid new in
+        let A : PutAnswer → Type 0 = λ x. Does meaning (ended x) thrown mid new in
+        carry_put a thrown new p (subst A (sym is) (subst D l.owner (does_map meaning (λ t go. Do (Create mid.owner (error_of InvalidArrayLength [])) go) (λ t. error) throws mid new made)))

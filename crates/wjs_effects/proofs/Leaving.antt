@@ -1,0 +1,182 @@
+-- Deeds of which an effect is left, one after another.
+use Rattle.std.proofs.Common.{◌≡◌, ℕ, ◌-◌, ◌<◌, refl, sym, subst}
+use Rattle.std.specs.Prelude.{Ok}
+use Rattle.std.proofs.lemmas.Result.{on_ok_weaker}
+use Rattle.wjs_base.specs.declared.ids.TextId.{TextId}
+use Rattle.wjs_base.specs.declared.values.Value.{Value as Numbered}
+use Rattle.wjs_base.specs.Text.{Table, Grows}
+use Rattle.wjs_store.specs.Meaning.{Meaning}
+use Rattle.wjs_scope.specs.declared.place.Place.{Place}
+use Rattle.wjs_by_content.specs.Tables.{text_in, value_in}
+use Rattle.wjs_by_content.specs.Values.{Value}
+use Rattle.wjs_meaning.specs.Deeds.{Env, Goal, Reference, Completion, Gives, Normal, Throws, Act, Ret, Eval, Sub, then_value}
+use Rattle.wjs_meaning.specs.Programs.{entry}
+use Rattle.wjs_meaning.specs.References.{reference_at, value_of, store}
+use Rattle.wjs_meaning.specs.Statements.{expr_done}
+use Rattle.wjs_model.specs.declared.config.Config.{Config}
+use Rattle.wjs_model.specs.declared.frame.Activation.{Activation as Frame}
+use Rattle.wjs_model.specs.declared.frame.Completion.{Completion as NumberedCompletion}
+use Rattle.wjs_model.specs.declared.frame.Completion.TheVariants as completions
+use Rattle.wjs_model.specs.declared.frame.Reference.{Reference as NumberedReference}
+use Rattle.wjs_model.specs.declared.operand.Operand.{Operand}
+use Rattle.wjs_model.specs.Contents.{completion_in, operand_in, reference_in}
+use Rattle.wjs_model.specs.Operands.{evaluated, with_operand}
+use Rattle.wjs_model.specs.Units.{place_in}
+use Rattle.wjs_frames.specs.declared.part.Part.{Part}
+use Rattle.wjs_frames.specs.Following.{Follows, Later}
+use Rattle.wjs_frames.specs.Operands.{IsOperand}
+use Rattle.wjs_frames.specs.Parts.{goal_of, env_in}
+use Rattle.wjs_frames.specs.Shortening.{Shortens}
+use Rattle.wjs_frames.proofs.Paying.{step_paid}
+use Rattle.wjs_frames.proofs.Shorter.{shorten_same, shorten_ret, shorten_sub, shorten_ended, follows_shorter}
+use Rattle.wjs_heap_steps.specs.Peeking.{Peeks}
+use Rattle.wjs_quick.specs.Coming.{GoalComes}
+use Rattle.wjs_quick.proofs.Coming.{one_less, shorten_goal, shorten_last}
+use Rattle.wjs_effects.specs.declared.effect.Effect.{Effect}
+use Rattle.wjs_effects.specs.declared.effect.Effect.TheVariants.{Ends, Stores}
+use Rattle.wjs_effects.specs.Effects.{stored, carried, HasEffect}
+use Rattle.wjs_effects.specs.Leaving.{GoalLeaves, ActLeaves}
+use Rattle.wjs_effects.proofs.Storing.{value_goes, referred_goes, store_shortens, stored_goes, carried_goes}
+
+-- deeds that are the same
+pub shorten_as : (a b : Act) → a ≡ b → Shortens a b
+shorten_as a b e = subst (λ x. Shortens x b) (sym e) (shorten_same b)
+
+-- an end within nested deeds that hand it on
+shorten_handed : (k go : Completion → Act) (e d : Completion) → k e ≡ Ret d → Shortens (Sub (k e) go) (go d)
+shorten_handed k go e d is = subst (λ (a : Act). Shortens (Sub a go) (go d)) (sym is) (shorten_ret d go)
+
+module _ {S : Type 0} (meaning : S → Meaning) where
+  abbrev with_left : Config S → ℕ → Config S
+  with_left c left = record c { left = left }
+
+  -- what an effect names is there later
+  pub effect_later : (old new : Config S) (x : Effect) → Later meaning old new → HasEffect old x → HasEffect new x
+  effect_later old new (Ends e) l h = l.completions e h
+  effect_later old new (Stores q v e) l h = (l.references q h.0, (l.values v h.1.0, l.completions e h.1.1))
+
+  module _ (c : Config S) (f : Frame) where
+    -- ---- goals
+
+    -- one that gives a value
+    pub leaves_value : (goal : Goal) (v : Numbered) (before after : ℕ) → GoalComes meaning goal v c f before after → GoalLeaves meaning goal (Ends (completions.Gives v)) c f before after
+    leaves_value goal v before after d = record { by = λ go later r h. d.by go later r h }
+
+    -- the step is taken, and then what follows it
+    pub leaves_entered : (goal : Goal) (x : Effect) (before after : ℕ) → 0 < before → ActLeaves meaning (λ t env. entry goal env) x c f (before - 1) after → GoalLeaves meaning goal x c f before after
+    leaves_entered goal x before after some d = record {
+      by = λ go later r h.
+          let env = env_in meaning c later.heap.texts f in
+          step_paid meaning goal env go (Sub (entry goal env) go) (with_left c before) later (before - 1) r (one_less before some) (λ st n. refl) (d.by go later r h);
+    }
+
+    -- an operand that is had at once
+    pub leaves_operand : (p : Part) (o : Operand) (e : NumberedCompletion) (before : ℕ) → 0 < before → IsOperand meaning c f p o → Peeks meaning (λ t. with_operand (operand_in t o) (env_in meaning c t f)) (λ t. completion_in t e) c → GoalLeaves meaning (goal_of p) (Ends e) c f before (before - 1)
+    leaves_operand p o e before some is d = record {
+      by = λ go later r h.
+          let t = later.heap.texts in
+          let env = env_in meaning c t f in
+          step_paid meaning (goal_of p) env go (with_operand (operand_in t o) env go) (with_left c before) later (before - 1) r (one_less before some) (λ st n. is.does t go st n) ((d (before - 1)).by go later r h);
+    }
+
+    -- ---- deeds
+
+    -- a goal that ends, and then what follows it
+    pub leaves_by : (goal : Goal) (k : Table → Env → Completion → Act) (e : NumberedCompletion) (x : Effect) (before mid after : ℕ) → GoalLeaves meaning goal (Ends e) c f before mid → ActLeaves meaning (λ t env. k t env (completion_in t e)) x c f mid after → ActLeaves meaning (λ t env. Eval goal env (k t env)) x c f before after
+    leaves_by goal k e x before mid after one two = record {
+      by = λ go later r h.
+          let t = later.heap.texts in
+          let env = env_in meaning c t f in
+          let next : Completion → Act = λ d. Sub (k t env d) go in
+          follows_shorter meaning (Sub (Eval goal env (k t env)) go) (Eval goal env next) (with_left c before) later r (shorten_goal goal env (k t env) go) (one.by next later r (two.by go later r h));
+    }
+
+    -- a goal that is all of them
+    pub leaves_last : (goal : Goal) (x : Effect) (before after : ℕ) → GoalLeaves meaning goal x c f before after → ActLeaves meaning (λ t env. Eval goal env Ret) x c f before after
+    leaves_last goal x before after d = record {
+      by = λ go later r h.
+          let env = env_in meaning c later.heap.texts f in
+          follows_shorter meaning (Sub (Eval goal env Ret) go) (Eval goal env go) (with_left c before) later r (shorten_last goal env go) (d.by go later r h);
+    }
+
+    -- a goal whose completion is handed on
+    pub leaves_through : (goal : Goal) (k : Completion → Act) (x : Effect) (before after : ℕ) → ((e : Completion) → k e ≡ Ret e) → GoalLeaves meaning goal x c f before after → ActLeaves meaning (λ t env. Eval goal env k) x c f before after
+    leaves_through goal k x before after is d = record {
+      by = λ go later r h.
+          let t = later.heap.texts in
+          let env = env_in meaning c t f in
+          let next : Completion → Act = λ e. Sub (k e) go in
+          follows_shorter meaning (Sub (Eval goal env k) go) (Eval goal env next) (with_left c before) later r (shorten_goal goal env k go)
+          (d.by next later r (follows_shorter meaning (carried t x env next) (carried t x env go) (with_left c after) later r (carried_goes t x env next go (λ e. shorten_handed k go e e (is e))) h));
+    }
+
+    -- a goal that stores, whose value is dropped
+    pub leaves_dropped : (goal : Goal) (q : NumberedReference) (v given : Numbered) (before after : ℕ) → GoalLeaves meaning goal (Stores q v (completions.Gives given)) c f before after → ActLeaves meaning (λ t env. Eval goal env (then_value expr_done)) (Stores q v completions.Normal) c f before after
+    leaves_dropped goal q v given before after d = record {
+      by = λ go later r h.
+          let t = later.heap.texts in
+          let env = env_in meaning c t f in
+          let next : Completion → Act = λ e. Sub (then_value expr_done e) go in
+          let gives : Completion = Gives (value_in t given) in
+          follows_shorter meaning (Sub (Eval goal env (then_value expr_done)) go) (Eval goal env next) (with_left c before) later r (shorten_goal goal env (then_value expr_done) go)
+          (d.by next later r
+          (follows_shorter meaning (stored (reference_in t q) (value_in t v) env gives next) (stored (reference_in t q) (value_in t v) env Normal go) (with_left c after) later r
+          (stored_goes (value_in t v) env gives Normal next go (shorten_ret Normal go) (λ y. shorten_ret (Throws y) go) (reference_in t q)) h));
+    }
+
+    -- deeds that come to others where the texts have grown
+    pub leaves_shorter : (long short : Table → Env → Act) (x : Effect) (before after : ℕ) → ((t : Table) → Grows c.heap.texts t → Shortens (long t (env_in meaning c t f)) (short t (env_in meaning c t f))) → ActLeaves meaning short x c f before after → ActLeaves meaning long x c f before after
+    leaves_shorter long short x before after s d = record {
+      by = λ go later r h.
+          let t = later.heap.texts in
+          let env = env_in meaning c t f in
+          on_ok_weaker r (λ (k : Follows meaning (Sub (short t env) go) (with_left c before) later).
+          follows_shorter meaning (Sub (long t env) go) (Sub (short t env) go) (with_left c before) later (Ok tt) (shorten_sub (long t env) (short t env) go (s t k.keeps.stays.texts)) k) (d.by go later r h);
+    }
+
+    pub leaves_as : (one two : Table → Env → Act) (x : Effect) (before after : ℕ) → ((t : Table) → Grows c.heap.texts t → two t (env_in meaning c t f) ≡ one t (env_in meaning c t f)) → ActLeaves meaning one x c f before after → ActLeaves meaning two x c f before after
+    leaves_as one two x before after e d = leaves_shorter two one x before after (λ t g. shorten_as (two t (env_in meaning c t f)) (one t (env_in meaning c t f)) (e t g)) d
+
+    -- deeds that end
+    pub leaves_ended : (act : Table → Env → Act) (e : NumberedCompletion) (left : ℕ) → ((t : Table) → Grows c.heap.texts t → Shortens (act t (env_in meaning c t f)) (Ret (completion_in t e))) → ActLeaves meaning act (Ends e) c f left left
+    leaves_ended act e left s = record {
+      by = λ go later r h.
+          let t = later.heap.texts in
+          let env = env_in meaning c t f in
+          on_ok_weaker r (λ (k : Follows meaning (go (completion_in t e)) (with_left c left) later).
+          follows_shorter meaning (Sub (act t env) go) (go (completion_in t e)) (with_left c left) later (Ok tt) (shorten_ended (act t env) (completion_in t e) go (s t k.keeps.stays.texts)) k) h;
+    }
+
+    -- the value of a reference, and then what follows it
+    pub leaves_evaluated : (q : NumberedReference) (more : Table → Env → Value → Act) (v : Numbered) (x : Effect) (before after : ℕ) → Peeks meaning (λ t. evaluated (reference_in t q) (env_in meaning c t f)) (λ t. Gives (value_in t v)) c → ActLeaves meaning (λ t env. more t env (value_in t v)) x c f before after
+        → ActLeaves meaning (λ t env. value_of (reference_in t q) env (more t env)) x c f before after
+    leaves_evaluated q more v x before after p d = record {
+      by = λ go later r h.
+          let t = later.heap.texts in
+          let env = env_in meaning c t f in
+          let next : Completion → Act = λ e. Sub (then_value (more t env) e) go in
+          follows_shorter meaning (Sub (value_of (reference_in t q) env (more t env)) go) (evaluated (reference_in t q) env next) (with_left c before) later r (value_goes env (more t env) go (reference_in t q))
+          ((p before).by next later r (d.by go later r h));
+    }
+
+    -- a store, and then an end
+    pub leaves_stored : (q : NumberedReference) (v : Numbered) (e : NumberedCompletion) (left : ℕ) → ActLeaves meaning (λ t env. store (reference_in t q) (value_in t v) env (Ret (completion_in t e))) (Stores q v e) c f left left
+    leaves_stored q v e left = record {
+      by = λ go later r h.
+          let t = later.heap.texts in
+          let env = env_in meaning c t f in
+          follows_shorter meaning (Sub (store (reference_in t q) (value_in t v) env (Ret (completion_in t e))) go) (stored (reference_in t q) (value_in t v) env (completion_in t e) go) (with_left c left) later r
+          (store_shortens (value_in t v) env (completion_in t e) go (reference_in t q)) h;
+    }
+
+    -- the reference of a name, and then what follows it
+    pub leaves_referred : (place : Place) (id : TextId) (q : NumberedReference) (more : Table → Env → Reference → Act) (x : Effect) (before after : ℕ) → Peeks meaning (λ t. reference_at (place_in place) (text_in t id) (env_in meaning c t f)) (λ t. reference_in t q) c → ActLeaves meaning (λ t env. more t env (reference_in t q)) x c f before after
+        → ActLeaves meaning (λ t env. reference_at (place_in place) (text_in t id) env (more t env)) x c f before after
+    leaves_referred place id q more x before after p d = record {
+      by = λ go later r h.
+          let t = later.heap.texts in
+          let env = env_in meaning c t f in
+          let next : Reference → Act = λ y. Sub (more t env y) go in
+          follows_shorter meaning (Sub (reference_at (place_in place) (text_in t id) env (more t env)) go) (reference_at (place_in place) (text_in t id) env next) (with_left c before) later r (referred_goes (place_in place) (text_in t id) env (more t env) go)
+          ((p before).by next later r (d.by go later r h));
+    }

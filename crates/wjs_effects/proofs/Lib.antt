@@ -1,0 +1,5 @@
+pub mod Storing
+pub mod Leaving
+pub mod Lines
+pub mod Carrying
+pub mod Proceeding

@@ -1,0 +1,18 @@
+//! Expressions and statements with an effect, done at once: their steps are taken, and no frame is made for them.
+//!
+//! All parts are evaluated first, over a configuration that stays as it is. What is left then is at most one store, which is done as
+//! the frames do it. So where a part has no value at once the answer is None, and nothing has changed.
+#![tactic(auto)]
+
+mod carries;
+mod effect;
+mod enters;
+mod parts;
+mod statements;
+mod stores;
+mod targets;
+mod updates;
+
+pub use enters::{enter_at_once, enter_last_at_once};
+pub use parts::{expression_at_once, statement_at_once};
+pub use updates::{given, updated};

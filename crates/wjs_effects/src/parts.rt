@@ -1,0 +1,78 @@
+//! Expressions and statements that are done at once.
+ghost use Rattle.std.specs.Prelude.{◌≡◌, IfNone, IfOk, IfSome, OnOk};
+ghost use Rattle.wjs_meaning.specs.Deeds.{Eval, AtExpr, AtStmt};
+ghost use Rattle.wjs_model.specs.Contents.{completion_in};
+ghost use Rattle.wjs_model.specs.Soundness.{Base, IsThere, HasCompletion};
+ghost use Rattle.wjs_frames.specs.Doing.{Does};
+ghost use Rattle.wjs_frames.specs.Following.{Later};
+ghost use Rattle.wjs_frames.specs.Parts.{env_in};
+
+use crate::carries::carry_out;
+use crate::effect::Effect;
+use crate::statements::effect_at;
+use crate::stores::store_at;
+use wjs_base::OutOfMemory;
+use wjs_model::{Completion, Config, Frame};
+use wjs_store::WorldStore;
+use wjs_tree::NodeId;
+
+/// How many statements stand in one another at most: deeper ones are run by frames.
+const HEIGHT: u8 = 8;
+
+/// How an expression ends that is done at once: an assignment, `++` or `--` whose parts have their values at once. None in every
+/// other case, also where steps would be wanting; then nothing has changed.
+pub fn expression_at_once<S: WorldStore>(
+    config: &mut Config<S>,
+    frame: &Frame,
+    node: NodeId,
+) -> Result<Option<Completion>, OutOfMemory>
+    requires base { Base S.meaning config.old }
+    requires there { IsThere S.meaning config.old frame.now }
+    ensures same { IfOk result (λ done. IfNone done (config.new ≡ config.old)) }
+    ensures does { IfOk result (λ done. IfSome done (λ e. Does S.meaning (λ t go. Eval (AtExpr node.0) (env_in S.meaning config.old t frame.now) go)
+        (λ t. completion_in t e) config.old config.new)) }
+    ensures later { OnOk result (Later S.meaning config.old config.new) }
+    ensures found { IfOk result (λ done. IfSome done (λ e. HasCompletion config.new e)) }
+{
+    let mut left = config.left;
+    match store_at(config, frame, node, &mut left) {
+        Some(store) => {
+            config.left = left;
+            let effect = Effect::Stores(
+                store.reference,
+                store.value,
+                Completion::Gives(store.given),
+            );
+            let completion = carry_out(config, frame, effect)?;
+            Ok(Some(completion))
+        }
+        None => Ok(None),
+    }
+}
+
+/// How a statement ends that is done at once: `;`, an expression that stores, a `var` of one variable, `return`, `break`, `continue`,
+/// and an `if` or a block of one of these, where all parts have their values at once. None in every other case, also where steps would be wanting; then
+/// nothing has changed.
+pub fn statement_at_once<S: WorldStore>(
+    config: &mut Config<S>,
+    frame: &Frame,
+    node: NodeId,
+) -> Result<Option<Completion>, OutOfMemory>
+    requires base { Base S.meaning config.old }
+    requires there { IsThere S.meaning config.old frame.now }
+    ensures same { IfOk result (λ done. IfNone done (config.new ≡ config.old)) }
+    ensures does { IfOk result (λ done. IfSome done (λ e. Does S.meaning (λ t go. Eval (AtStmt node.0) (env_in S.meaning config.old t frame.now) go)
+        (λ t. completion_in t e) config.old config.new)) }
+    ensures later { OnOk result (Later S.meaning config.old config.new) }
+    ensures found { IfOk result (λ done. IfSome done (λ e. HasCompletion config.new e)) }
+{
+    let mut left = config.left;
+    match effect_at(config, frame, node, HEIGHT, &mut left) {
+        Some(effect) => {
+            config.left = left;
+            let completion = carry_out(config, frame, effect)?;
+            Ok(Some(completion))
+        }
+        None => Ok(None),
+    }
+}
