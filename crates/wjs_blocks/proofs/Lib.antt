@@ -3,4 +3,4 @@ pub mod Catching
 pub mod Inner
 pub mod Standing
 pub mod Switching
-pub mod Entries
+pub mod Passing

@@ -23,7 +23,7 @@ use Rattle.wjs_model.proofs.Standing.{stands_inner, stands_fewer}
 use Rattle.wjs_frames.specs.Parts.{node_now}
 use Rattle.wjs_frames.proofs.Parting.{among_at, among_left, among_right, among_around, stands_here}
 use Rattle.wjs_step_common.specs.Lists.{statements_in, clauses_in, statements_of_clauses}
-use Rattle.wjs_loops.proofs.Standing.{option_among}
+use Rattle.wjs_effects.proofs.Parted.{option_among}
 
 -- ---- the statements and cases of a `switch`
 

@@ -1,4 +1,3 @@
 pub mod Switches
 pub mod Tries
-pub mod Beginnings
 pub mod Blocks

@@ -1,19 +1,18 @@
-//! Statements: what a frame with one begins with and goes on with (ECMA-262, 3rd edition, section 12). Here are blocks, expression
-//! statements, conditions, `return`, `throw`, `switch`, `try` (sections 12.1, 12.4, 12.5, 12.9, 12.11, 12.13 and 12.14) and `in`
-//! ("Worlds: Controlling the Scope of Side Effects", ECOOP 2011, section 2); loops, labels and variables are run by `wjs_loops`.
+//! Blocks, expression statements, conditions, `return`, `throw`, `switch`, `try` (ECMA-262, 3rd edition, sections 12.1, 12.4, 12.5,
+//! 12.9, 12.11, 12.13 and 12.14) and `in` ("Worlds: Controlling the Scope of Side Effects", ECOOP 2011, section 2).
 #![tactic(auto)]
 
-mod beginnings;
-mod begins;
 mod blocks;
 mod clauses;
 mod enters;
-mod resumes;
 mod simple;
 mod statements;
 mod switches;
 mod tries;
 mod within;
 
-pub use begins::{again, statement, variables};
-pub use resumes::stmt_after;
+pub use blocks::{block_from, block_statement};
+pub use simple::{expr_value, if_test, return_value, throw_value};
+pub use switches::{case_value, clause_statement, switch_value};
+pub use tries::{try_block, try_finally, try_handler};
+pub use within::within_world;

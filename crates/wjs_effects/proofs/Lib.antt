@@ -3,3 +3,4 @@ pub mod Leaving
 pub mod Lines
 pub mod Carrying
 pub mod Proceeding
+pub mod Parted

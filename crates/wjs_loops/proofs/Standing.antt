@@ -15,10 +15,8 @@ use Rattle.wjs_model.specs.declared.frame.Activation.{Activation as Frame}
 use Rattle.wjs_model.specs.Soundness.{IsThere, StandsHere, StandsIf}
 use Rattle.wjs_frames.specs.Parts.{node_now}
 use Rattle.wjs_frames.proofs.Parting.{among_left, among_right, among_around, stands_here}
+use Rattle.wjs_effects.proofs.Parted.{option_among}
 use Rattle.wjs_loops.specs.Variables.{declarators_in}
-
-pub option_among : (o : Option NodeId) (e : NodeId) → o ≡ Some e → IsAmong (option_part o) e
-option_among o e q = subst (λ (x : Option NodeId). IsAmong (option_part x) e) (sym q) (inl refl)
 
 abbrev pub value_of : Option Declarator → Option NodeId
 value_of o = option_and_then (λ (d : Declarator). d.value) o

@@ -6,10 +6,10 @@ ghost use Rattle.wjs_frames.specs.Taking.{Turns};
 
 use wjs_arena::Native;
 use wjs_base::OutOfMemory;
-use wjs_blocks::{again, statement, stmt_after, variables};
 use wjs_calls::call_held;
 use wjs_eval_call::{body, call_after, conversion, program};
 use wjs_eval_expr::{expr, expr_after, operation, target};
+use wjs_eval_stmt::{again, statement, stmt_after, variables};
 use wjs_frames::take_top;
 use wjs_heap_steps::operand_completion;
 use wjs_model::{Completion, Config, Frame, Phase, Point, Start, State};

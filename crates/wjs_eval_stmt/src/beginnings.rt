@@ -1,7 +1,7 @@
 //! What a statement begins with.
 ghost use Rattle.std.specs.Prelude.{◌≡◌};
 ghost use Rattle.wjs_frames.specs.Parts.{node_now};
-ghost use Rattle.wjs_blocks.specs.Beginnings.{beginning_of};
+ghost use Rattle.wjs_eval_stmt.specs.Beginnings.{beginning_of};
 
 use wjs_base::Value;
 use wjs_frames::{Part, node_of};

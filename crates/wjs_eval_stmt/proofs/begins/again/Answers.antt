@@ -1,7 +1,7 @@
 use Rattle.std.proofs.Common.{inl, inr, refl, ◌∙◌}
 use Rattle.wjs_loops.proofs.Parts.{part_stands}
 use Rattle.wjs_loops.proofs.Standing.{for_stands}
-use Rattle.wjs_blocks.proofs.begins.again.Goals as goal
+use Rattle.wjs_eval_stmt.proofs.begins.again.Goals as goal
 
 pub while_again-requires-clause-test : goal.while_again-requires-clause-test
 while_again-requires-clause-test g c =

@@ -6,31 +6,19 @@ use Rattle.wjs_tree.specs.declared.node.Node.{Node}
 use Rattle.wjs_tree.specs.declared.node.Node.TheVariants as nodes
 use Rattle.wjs_store.specs.Meaning.{Meaning}
 use Rattle.wjs_meaning.specs.Reading.{node_in}
-use Rattle.wjs_meaning.specs.Deeds.{Env, Act, Ret, then_normal}
+use Rattle.wjs_meaning.specs.Deeds.{Env}
 use Rattle.wjs_meaning.specs.Statements.{stmt_of}
 use Rattle.wjs_model.specs.declared.config.Config.{Config}
 use Rattle.wjs_model.specs.declared.frame.Activation.{Activation as Frame}
-use Rattle.wjs_model.specs.declared.frame.Completion.{Completion}
-use Rattle.wjs_model.specs.declared.frame.Completion.TheVariants as completions
-use Rattle.wjs_model.specs.Contents.{Holding, completion_in}
+use Rattle.wjs_model.specs.Contents.{Holding}
 use Rattle.wjs_model.specs.Soundness.{Base, IsThere}
 use Rattle.wjs_model.specs.Texts.{KnowsNode}
 use Rattle.wjs_frames.specs.Parts.{node_now}
 use Rattle.wjs_frames.proofs.Places.{node_known}
-use Rattle.wjs_blocks.specs.Beginnings.{CanBegin, beginning_of, goes}
+use Rattle.wjs_eval_stmt.specs.Beginnings.{CanBegin, beginning_of, goes}
 use Rattle.wjs_effects.proofs.Lines.{label_there}
 use Rattle.wjs_loops.proofs.Parts.{part_stands, other_stands, last_stands}
 use Rattle.wjs_loops.proofs.Standing.{for_stands}
-
--- an end that is not normal
-pub other_passes : (act : Act) (t : Table) (e : Completion) → (e ≡ completions.Normal → ⊥) → then_normal act (completion_in t e) ≡ Ret (completion_in t e)
-other_passes act t (completions.Gives v) h = refl
-other_passes act t (completions.Refers r) h = refl
-other_passes act t completions.Normal h = absurd (h refl)
-other_passes act t (completions.Breaks label) h = refl
-other_passes act t (completions.Continues label) h = refl
-other_passes act t (completions.Returns v) h = refl
-other_passes act t (completions.Throws v) h = refl
 
 pub begins_same : (t : Table) (here : ℕ) (n : Node) (held : Holding) (env : Env) → goes t here (node_in t n) held env (beginning_of n) ≡ stmt_of here (node_in t n) env
 begins_same t here (nodes.Block ss) held env = refl

@@ -21,8 +21,8 @@ use Rattle.wjs_model.specs.Soundness.{HasCompletion, HasPoint, StandsHere, Stand
 use Rattle.wjs_model.specs.Waiting.{after_stmt}
 use Rattle.wjs_frames.specs.declared.part.Part.TheVariants as part
 use Rattle.wjs_frames.specs.Parts.{goal_of, node_of}
-use Rattle.wjs_blocks.specs.declared.beginnings.Beginning.{Beginning}
-use Rattle.wjs_blocks.specs.declared.beginnings.Beginning.TheVariants.{Enters, Ends, Block, Variables, Loop, Declares}
+use Rattle.wjs_eval_stmt.specs.declared.beginnings.Beginning.{Beginning}
+use Rattle.wjs_eval_stmt.specs.declared.beginnings.Beginning.TheVariants.{Enters, Ends, Block, Variables, Loop, Declares}
 
 -- by the statement's node
 abbrev pub beginning_of : NumberedNode → Beginning

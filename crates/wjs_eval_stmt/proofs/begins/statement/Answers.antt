@@ -3,10 +3,10 @@ use Rattle.wjs_meaning.specs.Reading.{node_in}
 use Rattle.wjs_model.specs.Contents.{holding_in}
 use Rattle.wjs_frames.specs.Parts.{env_in, node_now}
 use Rattle.wjs_step_common.proofs.Following.{follows_as}
-use Rattle.wjs_blocks.specs.declared.beginnings.Beginning.{Beginning}
-use Rattle.wjs_blocks.specs.Beginnings.{CanBegin, goes}
-use Rattle.wjs_blocks.proofs.Entries.{begins_same, begin_stands}
-use Rattle.wjs_blocks.proofs.begins.statement.Goals as goal
+use Rattle.wjs_eval_stmt.specs.declared.beginnings.Beginning.{Beginning}
+use Rattle.wjs_eval_stmt.specs.Beginnings.{CanBegin, goes}
+use Rattle.wjs_eval_stmt.proofs.Entries.{begins_same, begin_stands}
+use Rattle.wjs_eval_stmt.proofs.begins.statement.Goals as goal
 
 pub returns-in-Enters : goal.returns-in-Enters
 returns-in-Enters g c =

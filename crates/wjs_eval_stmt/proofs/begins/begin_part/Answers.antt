@@ -3,7 +3,7 @@ use Rattle.wjs_frames.specs.Parts.{node_of}
 use Rattle.wjs_frames.proofs.Handling.{runs_later}
 use Rattle.wjs_frames.proofs.Parting.{stands_later, point_later}
 use Rattle.wjs_quick.proofs.Entering.{resumed_quickly, entered_slowly}
-use Rattle.wjs_blocks.proofs.begins.begin_part.Goals as goal
+use Rattle.wjs_eval_stmt.proofs.begins.begin_part.Goals as goal
 
 -- the value was had at once
 pub stmt_after-requires-clause-runs : goal.stmt_after-requires-clause-runs
