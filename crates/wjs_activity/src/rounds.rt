@@ -28,7 +28,8 @@ use wjs_machine::Halt;
 use wjs_model::{Config, State};
 use wjs_session::Session;
 use wjs_store::WorldStore;
-use wjs_tries::{Common, Rested, next_owner, open, resume, take_turn};
+use wjs_tries::{Common, Rested, next_owner, open, resume};
+use wjs_turns::take_turn;
 
 /// Takes the turns of a schedule. Those of activities that have ended, and of numbers that no activity has, are left out.
 pub fn scheduled<O: Sink>(

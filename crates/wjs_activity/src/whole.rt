@@ -27,9 +27,10 @@ use wjs_io::{Sink, write_pieces};
 use wjs_machine::Halt;
 use wjs_model::{Config, LoadedProgram, State};
 use wjs_overlay::Overlay;
-use wjs_parts::{start_parts, walk};
+use wjs_parts::start_parts;
 use wjs_store::WorldStore;
 use wjs_tries::{Common, none_apart};
+use wjs_turns::walk;
 
 /// How a play ends.
 #[derive(Drop)]

@@ -10,8 +10,9 @@ use std::alloc::Global;
 use wjs_base::{OutOfMemory, Texts};
 use wjs_heap_steps::sprout;
 use wjs_model::{Config, Frames, LoadedProgram, State};
-use wjs_parts::{enter, start_parts, walk};
+use wjs_parts::{enter, start_parts};
 use wjs_store::WorldStore;
+use wjs_turns::walk;
 
 /// Takes so many steps at most, where the run goes on, and gives how many. It may rest then, and walk on.
 pub fn walk_on<S: WorldStore>(config: &mut Config<S>, steps: u64) -> Result<u64, OutOfMemory>

@@ -1,4 +1,2 @@
-pub mod Going
-pub mod Pausing
 pub mod Entry
 pub mod Openings

@@ -1,4 +1,3 @@
-pub mod Going
 pub mod Walking
 pub mod Entering
 pub mod Opening

@@ -1,7 +1,7 @@
 //! Turns up to a number of steps.
 ghost use Rattle.std.specs.Prelude.{◌≡◌, ◌<◌, ◌≤◌, true, false, OnOk, IfOk};
 ghost use Rattle.wjs_model.specs.Soundness.{Sound};
-ghost use Rattle.wjs_parts.specs.Going.{Way, WentToStep, again};
+ghost use Rattle.wjs_turns.specs.Going.{Way, WentToStep, again};
 ghost use Rattle.wjs_parts.specs.Walking.{Walks};
 
 use wjs_base::OutOfMemory;

@@ -1,7 +1,7 @@
 use Rattle.std.proofs.Common.{refl}
 use Rattle.wjs_machine.proofs.Stepping.{measure_falls}
-use Rattle.wjs_parts.proofs.Going.{under_none, under_on, went_sound, turn_falls}
-use Rattle.wjs_parts.proofs.walks.walk_to_step.Goals as goal
+use Rattle.wjs_turns.proofs.Going.{under_none, under_on, went_sound, turn_falls}
+use Rattle.wjs_turns.proofs.walks.walk_to_step.Goals as goal
 
 pub loop-config-init : goal.loop-config-init
 loop-config-init g c = (under_none g.S.WorldStore.meaning c.args.config.now c.requires.running c.requires.sound, refl)

@@ -1,6 +1,6 @@
 use Rattle.std.proofs.Common.{refl}
-use Rattle.wjs_parts.proofs.Going.{went_none, went_more, went_sound, way_out}
-use Rattle.wjs_parts.proofs.walks.walk_out.Goals as goal
+use Rattle.wjs_turns.proofs.Going.{went_none, went_more, went_sound, way_out}
+use Rattle.wjs_turns.proofs.walks.walk_out.Goals as goal
 
 pub loop-config-init : goal.loop-config-init
 loop-config-init g c = (went_none g.S.WorldStore.meaning c.args.config.now c.requires.running c.requires.sound, refl)

@@ -8,7 +8,7 @@ use Rattle.wjs_tries.proofs.Hidings.{rests_apart, ends_apart_ok}
 use Rattle.wjs_tries.proofs.Owning.{others_stay, worlds_are_own}
 use Rattle.wjs_tries.proofs.Rests.{rests_turned, less_left, not_whole, less_awake}
 use Rattle.wjs_tries.proofs.Turned.{live, first_stays}
-use Rattle.wjs_tries.proofs.turns.take_turn.Goals as goal
+use Rattle.wjs_turns.proofs.turns.take_turn.Goals as goal
 
 pub rest-common-requires-clause-live : goal.rest-common-requires-clause-live
 rest-common-requires-clause-live c = live c.walk.new.config c.in_ok-_taken.ensures.sound.base

@@ -9,9 +9,9 @@ use Rattle.wjs_model.specs.declared.config.State.TheVariants as states
 use Rattle.wjs_model.specs.Configurations.{Stays, RestIs, Stopped}
 use Rattle.wjs_model.specs.Soundness.{HasThrown, Sound}
 use Rattle.wjs_frames.proofs.Sounding.{base_framed}
-use Rattle.wjs_parts.specs.Going.{Goes, Way, goes, stops, again}
+use Rattle.wjs_turns.specs.Going.{Goes, Way, goes, stops, again}
 use Rattle.wjs_parts.specs.Walking.{going, IsDue, Stops, ended, paused, spent, Walks}
-use Rattle.wjs_parts.proofs.Going.{way_left}
+use Rattle.wjs_turns.proofs.Going.{way_left}
 
 -- a run that hasn't ended for want of steps stays as it is
 again_same : (s : State) → ¬ (s ≡ states.StepsSpent) → again s ≡ s

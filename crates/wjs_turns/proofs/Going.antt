@@ -16,7 +16,7 @@ use Rattle.wjs_heap_steps.proofs.Steps.{stays_same}
 use Rattle.wjs_machine.specs.Runs.{weight}
 use Rattle.wjs_machine.proofs.Running.{own_admitted}
 use Rattle.wjs_machine.proofs.Stepping.{Left, left_falls, less_over}
-use Rattle.wjs_parts.specs.Going.{Goes, Way, goes, stops, Went, WentToStep}
+use Rattle.wjs_turns.specs.Going.{Goes, Way, goes, stops, Went, WentToStep}
 
 plus_assoc : (a b n : ℕ) → (a + b) + n ≡ a + (b + n)
 plus_assoc a b n = omega arith

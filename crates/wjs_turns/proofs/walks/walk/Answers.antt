@@ -1,5 +1,5 @@
-use Rattle.wjs_parts.proofs.Pausing.{sound_left, walks, taken_most}
-use Rattle.wjs_parts.proofs.walks.walk.Goals as goal
+use Rattle.wjs_turns.proofs.Pausing.{sound_left, walks, taken_most}
+use Rattle.wjs_turns.proofs.walks.walk.Goals as goal
 
 pub walk_out-requires-clause-sound : goal.walk_out-requires-clause-sound
 walk_out-requires-clause-sound g c = sound_left g.S.WorldStore.meaning c.args.config.now c.min-config.result c.requires.sound

@@ -1,7 +1,7 @@
 use Rattle.std.proofs.Common.{◌≡◌}
 use Rattle.wjs_machine.proofs.Stepping.{turns_to_step}
-use Rattle.wjs_parts.proofs.Going.{Under}
-use Rattle.wjs_parts.proofs.walks.walk_to_step.Given as goal
+use Rattle.wjs_turns.proofs.Going.{Under}
+use Rattle.wjs_turns.proofs.walks.walk_to_step.Given as goal
 
 -- the turns so far, and that no step was taken while the run goes on with as many steps
 abbrev pub invariant-loop-config : goal.invariant-loop-config
