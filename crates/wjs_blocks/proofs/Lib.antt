@@ -3,4 +3,3 @@ pub mod Catching
 pub mod Inner
 pub mod Standing
 pub mod Switching
-pub mod Passing

@@ -1,4 +1,4 @@
--- The parts of blocks, jumps, `switch` and `try` stand where their frame is run, and frames that hold something else are there.
+-- The parts of `switch` and `try` stand where their frame is run, and frames that hold something else are there.
 use Rattle.std.proofs.Common.{◌≡◌, ◌⊎◌, ℕ, zero, suc, List, [], ◌∷◌, ◌++◌, Option, Some, inl, inr, refl, sym, subst}
 use Rattle.std.specs.Prelude.{slice_get}
 use Rattle.std.specs.Option.{option_and_then}
@@ -22,7 +22,7 @@ use Rattle.wjs_model.specs.Standing.{FrameStands, IsShown}
 use Rattle.wjs_model.proofs.Standing.{stands_inner, stands_fewer}
 use Rattle.wjs_frames.specs.Parts.{node_now}
 use Rattle.wjs_frames.proofs.Parting.{among_at, among_left, among_right, among_around, stands_here}
-use Rattle.wjs_step_common.specs.Lists.{statements_in, clauses_in, statements_of_clauses}
+use Rattle.wjs_step_common.specs.Lists.{clauses_in, statements_of_clauses}
 use Rattle.wjs_effects.proofs.Parted.{option_among}
 
 -- ---- the statements and cases of a `switch`
@@ -57,14 +57,6 @@ module _ {S : Type 0} (meaning : S → Meaning) (c : Config S) (f : Frame) (here
 
   abbrev node : Node
   node = node_now meaning c f
-
-  -- a statement of a block
-  block_among : (n : Node) (at : ℕ) (s : NodeId) → slice_get (statements_in n) at ≡ Some s → IsAmong (parts n) (s, Around)
-  block_among (nodes.Block ss) at s e = among_around ss s (among_at ss at s e)
-  block_among n at s e = absurd (cc)
-
-  pub statement_stands : (at : ℕ) (s : NodeId) → slice_get (statements_in node) at ≡ Some s → StandsHere c f s
-  statement_stands at s e = stands_here meaning c f node s here refl (block_among node at s e)
 
   -- a part of a clause
   clause_among : (n : Node) (j : NodeId) → IsAmong (clause_parts (clauses_in n)) j → IsAmong (parts n) (j, Around)

@@ -14,12 +14,11 @@ ghost use Rattle.wjs_effects.specs.Proceeding.{Proceeds};
 ghost use Rattle.wjs_blocks.specs.Blocks.{reached_in, block_left, HasReached};
 
 use wjs_base::OutOfMemory;
-use wjs_effects::statement_at_once;
-use wjs_frames::node_of;
+use wjs_effects::{statement_at_once, statement_of_block};
 use wjs_model::{Completion, Config, Frame};
 use wjs_step_common::number_after;
 use wjs_store::WorldStore;
-use wjs_tree::{Node, NodeId};
+use wjs_tree::NodeId;
 
 /// How far a block has come.
 #[derive(Clone, Copy)]
@@ -37,10 +36,7 @@ pub(crate) fn statement_at<S: WorldStore>(
 ) -> Option<NodeId>
     ensures { result ≡ slice_get (statements_in (node_now S.meaning config.now frame.now)) at }
 {
-    match node_of(config, frame) {
-        Some(Node::Block(statements)) => statements.as_slice().get(at as usize).copied(),
-        _ => None,
-    }
+    statement_of_block(config, frame, frame.node(), at)
 }
 
 /// How far a block comes at once, from the statement of a number on. It may go on from wherever this stops, so the bound is none

@@ -4,3 +4,4 @@ pub mod Lines
 pub mod Carrying
 pub mod Proceeding
 pub mod Parted
+pub mod Passing

@@ -4,6 +4,7 @@
 //! the frames do it. So where a part has no value at once the answer is None, and nothing has changed.
 #![tactic(auto)]
 
+mod blocks;
 mod carries;
 mod effect;
 mod enters;
@@ -13,6 +14,7 @@ mod stores;
 mod targets;
 mod updates;
 
+pub use blocks::statement_of_block;
 pub use enters::{enter_at_once, enter_last_at_once};
 pub use parts::{expression_at_once, statement_at_once};
 pub use updates::{given, updated};

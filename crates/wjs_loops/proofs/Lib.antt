@@ -9,3 +9,5 @@ pub mod ForInNames
 pub mod Visiting
 pub mod Parts
 pub mod Rounding
+pub mod Above
+pub mod Within

@@ -1,6 +1,7 @@
 //! Loops, `for`-`in` among them, labels and variables (ECMA-262, 3rd edition, sections 12.2, 12.6 and 12.12).
 #![tactic(auto)]
 
+mod above;
 mod assigns;
 mod bodies;
 mod declarators;
@@ -13,6 +14,7 @@ mod rounds;
 mod variables;
 mod visits;
 mod whiles;
+mod within;
 
 pub use for_ins::{visit_body, visit_target, visits_object};
 pub use fors::{

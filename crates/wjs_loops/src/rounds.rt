@@ -1,5 +1,5 @@
 //! The iterations of `for` and `while` (sections 12.6.2 and 12.6.3): those whose parts are done at once follow one another in one turn.
-ghost use Rattle.std.specs.Prelude.{◌≡◌, ℕ, Some, IfNone, IfOk, IfSome, OnOk};
+ghost use Rattle.std.specs.Prelude.{◌≡◌, ℕ, None, Some, IfNone, IfOk, IfSome, OnOk};
 ghost use Rattle.wjs_base.specs.Text.{Table, Grows};
 ghost use Rattle.wjs_by_content.specs.Tables.{value_in};
 ghost use Rattle.wjs_meaning.specs.Deeds.{Env, then_value};
@@ -16,8 +16,9 @@ ghost use Rattle.wjs_loops.specs.Rounds.{position_in, position_left, HasPosition
 
 use crate::bodies::{AfterBody, after_body};
 use crate::iterations::expr_iteration;
+use crate::within::{block_entered, next_within, within_entered};
 use wjs_base::{OutOfMemory, Value};
-use wjs_effects::{expression_at_once, statement_at_once};
+use wjs_effects::{expression_at_once, statement_at_once, statement_of_block};
 use wjs_frames::{Part, enter, enter_last, finish, node_of};
 use wjs_model::{Completion, Config, Frame, Point, StmtPoint};
 use wjs_quick::quick_entered;
@@ -34,6 +35,8 @@ pub(crate) enum Position {
     Test(NodeId, Option<NodeId>, NodeId),
     /// Before its body; its update.
     Body(Option<NodeId>, NodeId),
+    /// In its body, a block, before the statement of this number; its update and the block.
+    Within(Option<NodeId>, NodeId, u32),
     /// Before its update.
     Update(Option<NodeId>),
     Ended(Completion),
@@ -72,6 +75,7 @@ fn go_on_at<S: WorldStore>(
             let point = Point::Stmt(StmtPoint::ForBody(u));
             enter(config, frame, point, Part::Stmt(s))
         }
+        Position::Within(u, s, at) => within_entered(config, frame, u, s, at),
         Position::Update(u) => update_entered(config, frame, u),
         Position::Ended(completion) => finish(config, frame, completion),
     }
@@ -151,12 +155,13 @@ fn advance<S: WorldStore>(
         Position::Again => Ok(next_iteration(config, frame)),
         Position::Test(e, u, s) => Ok(test_at_once(config, frame, e, u, s)),
         Position::Body(u, s) => body_at_once(config, frame, u, s),
+        Position::Within(u, s, at) => next_within(config, frame, u, s, at),
         Position::Update(u) => update_at_once(config, frame, u),
         Position::Ended(_) => Ok(None),
     }
 }
 
-/// The step of the next iteration, where one is left and the loop has a test.
+/// The step of the next iteration, where one is left and it begins with a test or within a block.
 fn next_iteration<S: WorldStore>(config: &mut Config<S>, frame: &Frame) -> Option<Position>
     requires base { Base S.meaning config.old }
     requires there { IsThere S.meaning config.old frame.now }
@@ -178,12 +183,13 @@ fn next_iteration<S: WorldStore>(config: &mut Config<S>, frame: &Frame) -> Optio
     }
 }
 
-/// What an iteration of the loop begins with that the frame runs; None without a test, and of `do`.
+/// What an iteration of the loop begins with that the frame runs; None without a test where its body is no block, and of `do`.
 #[inline(always)]
 fn iteration_of<S: WorldStore>(config: &Config<S>, frame: &Frame) -> Option<Position>
     requires there { IsThere S.meaning config.now frame.now }
-    ensures is { IfSome result (λ p. (t : Table) (env : Env) →
-        again_of frame.now.node.0 (node_in t (node_now S.meaning config.now frame.now)) env ≡ position_in t frame.now.node.0 env p) }
+    ensures is { IfSome result (λ p. (t : Table) →
+        again_of frame.now.node.0 (node_in t (node_now S.meaning config.now frame.now)) (env_in S.meaning config.now t frame.now)
+        ≡ position_left S.meaning config.now frame.now p t) }
     ensures found { IfSome result (λ p. HasPosition config.now frame.now p) }
 {
     match node_of(config, frame) {
@@ -193,7 +199,7 @@ fn iteration_of<S: WorldStore>(config: &Config<S>, frame: &Frame) -> Option<Posi
     }
 }
 
-/// An iteration that begins with a test.
+/// An iteration that begins with a test, if there is one.
 #[inline(always)]
 fn with_test<S: WorldStore>(
     config: &Config<S>,
@@ -205,14 +211,33 @@ fn with_test<S: WorldStore>(
     requires test { StandsIf config.now frame.now test }
     requires update { StandsIf config.now frame.now u }
     requires body { StandsHere config.now frame.now s }
-    ensures is { IfSome result (λ p. (t : Table) (here : ℕ) (env : Env) →
-        iteration_from here (number test) (number u) s.0 env ≡ position_in t here env p) }
+    ensures is { IfSome result (λ p. (t : Table) →
+        iteration_from frame.now.node.0 (number test) (number u) s.0 (env_in S.meaning config.now t frame.now)
+        ≡ position_left S.meaning config.now frame.now p t) }
     ensures found { IfSome result (λ p. HasPosition config.now frame.now p) }
 {
-    let _config = config;
-    let _frame = frame;
     match test {
         Some(e) => Some(Position::Test(e, u, s)),
+        None => without_test(config, frame, u, s),
+    }
+}
+
+/// An iteration without a test: its step is the body's, so it begins within a body that is a block with statements.
+fn without_test<S: WorldStore>(
+    config: &Config<S>,
+    frame: &Frame,
+    u: Option<NodeId>,
+    s: NodeId,
+) -> Option<Position>
+    requires update { StandsIf config.now frame.now u }
+    requires body { StandsHere config.now frame.now s }
+    ensures is { IfSome result (λ p. (t : Table) →
+        iteration_from frame.now.node.0 None (number u) s.0 (env_in S.meaning config.now t frame.now)
+        ≡ position_left S.meaning config.now frame.now p t) }
+    ensures found { IfSome result (λ p. HasPosition config.now frame.now p) }
+{
+    match statement_of_block(config, frame, s, 0) {
+        Some(_) => Some(Position::Within(u, s, 0)),
         None => None,
     }
 }
@@ -266,7 +291,7 @@ fn after_test<S: WorldStore>(
     }
 }
 
-/// The body of an iteration.
+/// The body of an iteration; the entry of one that isn't done at once, and is a block.
 fn body_at_once<S: WorldStore>(
     config: &mut Config<S>,
     frame: &Frame,
@@ -276,6 +301,7 @@ fn body_at_once<S: WorldStore>(
     requires base { Base S.meaning config.old }
     requires there { IsThere S.meaning config.old frame.now }
     requires update { StandsIf config.old frame.now u }
+    requires body { StandsHere config.old frame.now s }
     ensures same { IfOk result (λ next. IfNone next (config.new ≡ config.old)) }
     ensures proceeds { IfOk result (λ next. IfSome next (λ p. Proceeds S.meaning (position_left S.meaning config.old frame.now (Position.Body u s))
         (position_left S.meaning config.new frame.now p) config.old config.new)) }
@@ -285,13 +311,13 @@ fn body_at_once<S: WorldStore>(
     let done = statement_at_once(config, frame, s)?;
     match done {
         Some(completion) => Ok(Some(position_after(config, frame, u, completion))),
-        None => Ok(None),
+        None => Ok(block_entered(config, frame, u, s)),
     }
 }
 
 /// After the body: the update, or the end.
 #[inline(always)]
-fn position_after<S: WorldStore>(
+pub(crate) fn position_after<S: WorldStore>(
     config: &Config<S>,
     frame: &Frame,
     u: Option<NodeId>,

@@ -3,7 +3,7 @@ use Rattle.wjs_model.specs.Contents.{holding_in}
 use Rattle.wjs_frames.specs.Parts.{env_in, node_now}
 use Rattle.wjs_step_common.proofs.Following.{follows_as}
 use Rattle.wjs_step_common.proofs.Parts.{block_at, block_end}
-use Rattle.wjs_blocks.proofs.Standing.{statement_stands}
+use Rattle.wjs_effects.proofs.Parted.{statement_stands}
 use Rattle.wjs_blocks.proofs.blocks.enter_from.Goals as goal
 
 pub returns-in_ok-next-in-Some : goal.returns-in_ok-next-in-Some

@@ -4,7 +4,7 @@ use Rattle.wjs_meaning.specs.Statements.{block_from}
 use Rattle.wjs_model.specs.declared.frame.Completion.{Completion}
 use Rattle.wjs_model.specs.Contents.{completion_in}
 use Rattle.wjs_model.specs.Lists.{block_items}
-use Rattle.wjs_blocks.proofs.Passing.{other_passes}
+use Rattle.wjs_effects.proofs.Passing.{other_passes}
 use Rattle.wjs_blocks.proofs.statements.reached_after.Goals as goal
 
 pub returns-in-Normal-clause-is : goal.returns-in-Normal-clause-is

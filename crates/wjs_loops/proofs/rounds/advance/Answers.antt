@@ -30,6 +30,14 @@ returns-in-Body-clause-proceeds g c =
     let new = c.body_at_once.new.config in
     subst (λ (a : Position). IfOk c.body_at_once.result (λ next. IfSome next (λ p. Proceeds m (position_left m old f a) (position_left m new f p) old new))) (sym c.in-Body.is) c.body_at_once.ensures.proceeds
 
+pub returns-in-Within-clause-proceeds : goal.returns-in-Within-clause-proceeds
+returns-in-Within-clause-proceeds g c =
+    let m = g.S.WorldStore.meaning in
+    let f = c.args.frame.now in
+    let old = c.args.config.now in
+    let new = c.next_within.new.config in
+    subst (λ (a : Position). IfOk c.next_within.result (λ next. IfSome next (λ p. Proceeds m (position_left m old f a) (position_left m new f p) old new))) (sym c.in-Within.is) c.next_within.ensures.proceeds
+
 pub returns-in-Update-clause-proceeds : goal.returns-in-Update-clause-proceeds
 returns-in-Update-clause-proceeds g c =
     let m = g.S.WorldStore.meaning in
@@ -46,6 +54,15 @@ test_at_once-requires-clause-body g c = (subst (λ (p : Position). HasPosition c
 
 pub body_at_once-requires-clause-update : goal.body_at_once-requires-clause-update
 body_at_once-requires-clause-update g c = (subst (λ (p : Position). HasPosition c.args.config.now c.args.frame.now p) c.in-Body.is c.requires.at).0
+
+pub body_at_once-requires-clause-body : goal.body_at_once-requires-clause-body
+body_at_once-requires-clause-body g c = (subst (λ (p : Position). HasPosition c.args.config.now c.args.frame.now p) c.in-Body.is c.requires.at).1
+
+pub next_within-requires-clause-update : goal.next_within-requires-clause-update
+next_within-requires-clause-update g c = (subst (λ (p : Position). HasPosition c.args.config.now c.args.frame.now p) c.in-Within.is c.requires.at).0
+
+pub next_within-requires-clause-body : goal.next_within-requires-clause-body
+next_within-requires-clause-body g c = (subst (λ (p : Position). HasPosition c.args.config.now c.args.frame.now p) c.in-Within.is c.requires.at).1
 
 pub returns-in-Ended-clause-later : goal.returns-in-Ended-clause-later
 returns-in-Ended-clause-later g c = later_same g.S.WorldStore.meaning c.args.config.now c.requires.base

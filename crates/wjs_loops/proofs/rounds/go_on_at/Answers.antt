@@ -13,6 +13,9 @@ returns-in-Test g c = subst (λ (p : Position). GoesOn g.S.WorldStore.meaning c.
 pub returns-in-Body : goal.returns-in-Body
 returns-in-Body g c = subst (λ (p : Position). GoesOn g.S.WorldStore.meaning c.args.frame c.args.config.now c.enter.new.config c.enter.result (λ t env. position_in t c.args.frame.node.0 env p)) (sym c.in-Body.is) c.enter.ensures
 
+pub returns-in-Within : goal.returns-in-Within
+returns-in-Within g c = subst (λ (p : Position). GoesOn g.S.WorldStore.meaning c.args.frame c.args.config.now c.within_entered.new.config c.within_entered.result (λ t env. position_in t c.args.frame.node.0 env p)) (sym c.in-Within.is) c.within_entered.ensures
+
 pub returns-in-Update : goal.returns-in-Update
 returns-in-Update g c = subst (λ (p : Position). GoesOn g.S.WorldStore.meaning c.args.frame c.args.config.now c.update_entered.new.config c.update_entered.result (λ t env. position_in t c.args.frame.node.0 env p)) (sym c.in-Update.is) c.update_entered.ensures
 
@@ -30,6 +33,12 @@ enter-requires-clause-point g c = (subst (λ (p : Position). HasPosition c.args.
 
 pub enter-requires-clause-part : goal.enter-requires-clause-part
 enter-requires-clause-part g c = (subst (λ (p : Position). HasPosition c.args.config.now c.args.frame p) c.in-Body.is c.requires.at).1
+
+pub within_entered-requires-clause-update : goal.within_entered-requires-clause-update
+within_entered-requires-clause-update g c = (subst (λ (p : Position). HasPosition c.args.config.now c.args.frame p) c.in-Within.is c.requires.at).0
+
+pub within_entered-requires-clause-body : goal.within_entered-requires-clause-body
+within_entered-requires-clause-body g c = (subst (λ (p : Position). HasPosition c.args.config.now c.args.frame p) c.in-Within.is c.requires.at).1
 
 pub update_entered-requires-clause-update : goal.update_entered-requires-clause-update
 update_entered-requires-clause-update g c = subst (λ (p : Position). HasPosition c.args.config.now c.args.frame p) c.in-Update.is c.requires.at

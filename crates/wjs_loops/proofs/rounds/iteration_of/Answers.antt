@@ -2,13 +2,14 @@ use Rattle.std.proofs.Common.{inl, inr, refl, ap, ◌∙◌}
 use Rattle.wjs_tree.specs.declared.node.Node.{Node}
 use Rattle.wjs_meaning.specs.Reading.{node_in}
 use Rattle.wjs_meaning.specs.Statements.{again_of}
+use Rattle.wjs_frames.specs.Parts.{env_in}
 use Rattle.wjs_heap_steps.proofs.Peeking.{if_some}
 use Rattle.wjs_loops.proofs.Parts.{part_stands}
 use Rattle.wjs_loops.proofs.Standing.{for_stands}
 use Rattle.wjs_loops.proofs.rounds.iteration_of.Goals as goal
 
 pub returns-in-Some-While-clause-is : goal.returns-in-Some-While-clause-is
-returns-in-Some-While-clause-is g c = λ t env. ap (λ (n : Node). again_of c.args.frame.now.node.0 (node_in t n) env) (c.in-Some-While.ensures ∙ c.in-Some-While.field-0-is)
+returns-in-Some-While-clause-is g c = λ t. ap (λ (n : Node). again_of c.args.frame.now.node.0 (node_in t n) (env_in g.S.WorldStore.meaning c.args.config.now t c.args.frame.now)) (c.in-Some-While.ensures ∙ c.in-Some-While.field-0-is)
 
 pub returns-in-Some-While-clause-found : goal.returns-in-Some-While-clause-found
 returns-in-Some-While-clause-found g c =
@@ -20,8 +21,8 @@ returns-in-Some-While-clause-found g c =
 
 pub returns-in-Some-For-clause-is : goal.returns-in-Some-For-clause-is
 returns-in-Some-For-clause-is g c =
-    if_some _ _ c.with_test.result (λ p is t env.
-    ap (λ (n : Node). again_of c.args.frame.now.node.0 (node_in t n) env) (c.in-Some-For.ensures ∙ c.in-Some-For.field-0-is) ∙ is t c.args.frame.now.node.0 env) c.with_test.ensures.is
+    if_some _ _ c.with_test.result (λ p is t.
+    ap (λ (n : Node). again_of c.args.frame.now.node.0 (node_in t n) (env_in g.S.WorldStore.meaning c.args.config.now t c.args.frame.now)) (c.in-Some-For.ensures ∙ c.in-Some-For.field-0-is) ∙ is t) c.with_test.ensures.is
 
 pub with_test-requires-clause-test : goal.with_test-requires-clause-test
 with_test-requires-clause-test g c =

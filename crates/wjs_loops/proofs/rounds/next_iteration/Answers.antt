@@ -18,7 +18,7 @@ returns-in-Some-clause-proceeds g c =
     let old = c.args.config.now in
     let left_is : old.left ≡ suc (old.left - 1) = omega (arith, c.if-config-eq0.false) in
     proceeds_paid m f (Again f.node.0) (λ t env. position_in t f.node.0 env c.in-Some.position) old (old.left - 1) left_is
-    (λ t. ap (λ (n : Node). again_of f.node.0 n (env_in m old t f)) (node_same t old.units.items f.tree f.node) ∙ c.in-Some.ensures.is t (env_in m old t f))
+    (λ t. ap (λ (n : Node). again_of f.node.0 n (env_in m old t f)) (node_same t old.units.items f.tree f.node) ∙ c.in-Some.ensures.is t)
 
 pub returns-in-Some-clause-later : goal.returns-in-Some-clause-later
 returns-in-Some-clause-later g c = let old = c.args.config.now in later_left g.S.WorldStore.meaning old (old.left - 1) c.requires.base
