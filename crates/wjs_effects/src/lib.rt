@@ -8,6 +8,7 @@ mod blocks;
 mod carries;
 mod effect;
 mod enters;
+mod hopes;
 mod parts;
 mod statements;
 mod stores;

@@ -16,6 +16,7 @@ ghost use Rattle.wjs_effects.specs.Effects.{HasEffect};
 ghost use Rattle.wjs_effects.specs.Leaving.{GoalLeaves, ActLeaves};
 
 use crate::effect::Effect;
+use crate::hopes::are_hopeless;
 use crate::stores::store_at;
 use wjs_base::{TextId, Value};
 use wjs_frames::place_at;
@@ -134,7 +135,7 @@ fn only_of(statements: &[NodeId]) -> Option<NodeId>
     }
 }
 
-/// An `if` (section 12.5).
+/// An `if` (section 12.5); None before its test where neither of its parts is ever done at once.
 #[cycle(forms)]
 fn condition<S: WorldStore>(
     config: &Config<S>,
@@ -151,6 +152,9 @@ fn condition<S: WorldStore>(
         config.now frame.now steps.old steps.new) }
     ensures found { IfSome result (λ x. HasEffect config.now x) }
 {
+    if are_hopeless(config, frame, yes, no) {
+        return None;
+    }
     let truth = value_at(config, frame, test, steps)?;
     chosen(config, frame, truth, yes, no, height, steps)
 }

@@ -19,7 +19,7 @@ use crate::updates::{given, updated};
 use wjs_base::Value;
 use wjs_heap_steps::peek_value_of;
 use wjs_model::{Config, Fix, Frame, Reference};
-use wjs_quick::{node_at, operated, value_at};
+use wjs_quick::{is_hopeless, node_at, operated, value_at};
 use wjs_store::WorldStore;
 use wjs_tree::{AssignOperator, BinaryOperator, Node, NodeId, PrefixOperator, UpdateOperator};
 
@@ -160,7 +160,7 @@ fn update_reference<S: WorldStore>(
     }
 }
 
-/// An assignment: the target, and then what is stored.
+/// An assignment: the target, and then what is stored; None before the target where that never has its value at once.
 #[inline(always)]
 fn assignment<S: WorldStore>(
     config: &Config<S>,
@@ -177,6 +177,9 @@ fn assignment<S: WorldStore>(
         config.now frame.now steps.old steps.new) }
     ensures found { IfSome result (λ s. HasEffect config.now (effect_of s)) }
 {
+    if is_hopeless(config, frame, right) {
+        return None;
+    }
     let reference = target_at(config, frame, target, steps)?;
     assigned(config, frame, sign, right, reference, steps)
 }

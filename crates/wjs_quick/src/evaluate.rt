@@ -13,6 +13,7 @@ ghost use Rattle.wjs_model.specs.Texts.{KnowsSpelt};
 ghost use Rattle.wjs_frames.specs.Parts.{node_among};
 ghost use Rattle.wjs_quick.specs.Coming.{GoalComes, Comes};
 
+use crate::hopes::{is_joining, is_operation_hopeless};
 use crate::members::{dotted, indexed};
 use crate::operators::{is_of_value, operated, prefixed};
 use wjs_base::Value;
@@ -110,6 +111,9 @@ fn binary<S: WorldStore>(
         v config.now frame.now steps.old steps.new) }
     ensures found { IfSome result (λ v. HasValue config.now v) }
 {
+    if is_operation_hopeless(config, frame, operator, right) {
+        return None;
+    }
     let first = value_of(config, frame, left, height, steps)?;
     after_left(config, frame, first, operator, right, height, steps)
 }
@@ -185,7 +189,7 @@ fn or_right<S: WorldStore>(
     }
 }
 
-/// After the left of another operator: the right value, and the operation on both.
+/// After the left of another operator: the right value, and the operation on both; None of a text to which the right one is joined.
 #[cycle(evaluation)]
 fn both<S: WorldStore>(
     config: &Config<S>,
@@ -203,6 +207,9 @@ fn both<S: WorldStore>(
         (λ t env. Eval (AtExpr right.0) env (then_value (line.binary_right operator (value_in t first) env))) v config.now frame.now steps.old steps.new) }
     ensures found { IfSome result (λ v. HasValue config.now v) }
 {
+    if is_joining(operator, first) {
+        return None;
+    }
     let second = value_of(config, frame, right, height, steps)?;
     operated(config, operator, first, second)
 }

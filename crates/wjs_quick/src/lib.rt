@@ -6,6 +6,7 @@
 
 mod enters;
 mod evaluate;
+mod hopes;
 mod members;
 mod numbers;
 mod operators;
@@ -13,6 +14,7 @@ mod parts;
 
 pub use enters::{enter_last_quickly, enter_quickly};
 pub use evaluate::node_at;
+pub use hopes::is_hopeless;
 pub use members::name_there;
 pub use numbers::{arithmetic, calculated};
 pub use operators::{is_so, operated};

@@ -3,15 +3,18 @@ ghost use Rattle.std.specs.Prelude.{◌≡◌, IfSome, IfNone};
 ghost use Rattle.wjs_by_content.specs.Tables.{value_in};
 ghost use Rattle.wjs_meaning.specs.Deeds.{Eval, Sub, AtExpr, Gives};
 ghost use Rattle.wjs_meaning.specs.Expressions.{expr_at};
+ghost use Rattle.wjs_meaning.specs.Programs.{entry};
 ghost use Rattle.wjs_model.specs.Soundness.{Base, IsThere, HasValue};
 ghost use Rattle.wjs_frames.specs.Doing.{Does};
 ghost use Rattle.wjs_frames.specs.Following.{Later};
 ghost use Rattle.wjs_frames.specs.Parts.{goal_of, env_in};
-ghost use Rattle.wjs_quick.specs.Coming.{GoalComes};
+ghost use Rattle.wjs_quick.specs.Coming.{GoalComes, Comes};
 
-use crate::evaluate::{form, value_of};
+use crate::evaluate::form;
+use crate::hopes::is_hopeless;
 use wjs_base::Value;
-use wjs_frames::Part;
+use wjs_frames::{Part, operand_of};
+use wjs_heap_steps::peek_operand;
 use wjs_model::{Config, Frame};
 use wjs_store::WorldStore;
 use wjs_tree::NodeId;
@@ -49,7 +52,7 @@ fn quick_value<S: WorldStore>(config: &mut Config<S>, frame: &Frame, node: NodeI
     ensures found { IfSome result (λ v. HasValue config.new v) }
 {
     let mut left = config.left;
-    let found = value_of(config, frame, node, HEIGHT, &mut left)?;
+    let found = value_at(config, frame, node, &mut left)?;
     config.left = left;
     Some(found)
 }
@@ -77,7 +80,6 @@ pub fn quick_entered<S: WorldStore>(
 
 /// The value of an expression without effect, with so many steps left: those that it takes are taken from them, and the configuration
 /// is as it was. After None the number counts for nothing.
-#[inline(always)]
 pub fn value_at<S: WorldStore>(
     config: &Config<S>,
     frame: &Frame,
@@ -89,5 +91,31 @@ pub fn value_at<S: WorldStore>(
     ensures does { IfSome result (λ v. GoalComes S.meaning (AtExpr node.0) v config.now frame.now steps.old steps.new) }
     ensures found { IfSome result (λ v. HasValue config.now v) }
 {
-    value_of(config, frame, node, HEIGHT, steps)
+    if *steps == 0 {
+        return None;
+    }
+    *steps -= 1;
+    match operand_of(config, frame, Part::Expr(node)) {
+        Some(operand) => peek_operand(config, frame, operand),
+        None => composed(config, frame, node, steps),
+    }
+}
+
+/// What follows the step of its entry, where it is no operand; None at once of a form that never has its value so.
+#[inline(always)]
+fn composed<S: WorldStore>(
+    config: &Config<S>,
+    frame: &Frame,
+    node: NodeId,
+    steps: &mut u64,
+) -> Option<Value>
+    requires base { Base S.meaning config.now }
+    requires there { IsThere S.meaning config.now frame.now }
+    ensures does { IfSome result (λ v. Comes S.meaning (λ t env. entry (AtExpr node.0) env) v config.now frame.now steps.old steps.new) }
+    ensures found { IfSome result (λ v. HasValue config.now v) }
+{
+    if is_hopeless(config, frame, node) {
+        return None;
+    }
+    form(config, frame, node, HEIGHT - 1, steps)
 }
