@@ -9,6 +9,7 @@ ghost use Rattle.wjs_model.specs.Soundness.{HasValue, HasReference, StandsHere};
 ghost use Rattle.wjs_frames.specs.Handling.{Runs, IsAt, GoesOn};
 
 use wjs_base::{OutOfMemory, Value};
+use wjs_effects::reference_at_once;
 use wjs_frames::{Part, enter, finish, hold, nest};
 use wjs_heap_steps::value_of;
 use wjs_model::{Completion, Config, ExprPoint, Frame, Held, Point, Reference, Start};
@@ -17,7 +18,7 @@ use wjs_step_common::{held_reference, held_value, store_and_give};
 use wjs_store::WorldStore;
 use wjs_tree::{AssignOperator, BinaryOperator, Node, NodeId};
 
-/// The target is entered.
+/// An assignment goes on with the reference of its target where that is had at once, and else that is entered.
 pub fn assign_start<S: WorldStore>(
     config: &mut Config<S>,
     frame: Frame,
@@ -30,8 +31,13 @@ pub fn assign_start<S: WorldStore>(
     ensures { GoesOn S.meaning frame config.old config.new result (λ t env.
         Eval (AtTarget target.0) env (then_reference (line.assign_reference (compound sign) right.0 env))) }
 {
-    let point = Point::Expr(ExprPoint::AssignTarget(sign, right));
-    enter(config, frame, point, Part::Target(target))
+    match reference_at_once(config, &frame, target) {
+        Some(reference) => assign_reference(config, frame, sign, right, reference),
+        None => {
+            let point = Point::Expr(ExprPoint::AssignTarget(sign, right));
+            enter(config, frame, point, Part::Target(target))
+        }
+    }
 }
 
 /// After the target: an operator with `=` first takes the target's value.

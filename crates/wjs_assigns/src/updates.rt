@@ -11,7 +11,7 @@ ghost use Rattle.wjs_model.specs.Waiting.{fix_in};
 ghost use Rattle.wjs_frames.specs.Handling.{Runs, GoesOn};
 
 use wjs_base::{OutOfMemory, Value, Whole};
-use wjs_effects::{given, updated};
+use wjs_effects::{given, reference_at_once, updated};
 use wjs_frames::{Part, convert, enter, finish, hold};
 use wjs_heap_steps::value_of;
 use wjs_model::{
@@ -22,7 +22,7 @@ use wjs_step_common::{held_reference, is_object, store_and_give, throw, to_numbe
 use wjs_store::WorldStore;
 use wjs_tree::{NodeId, UpdateOperator};
 
-/// The target is entered.
+/// It goes on with the reference of its target where that is had at once, and else that is entered.
 pub fn update_start<S: WorldStore>(
     config: &mut Config<S>,
     frame: Frame,
@@ -34,8 +34,13 @@ pub fn update_start<S: WorldStore>(
     requires target { StandsHere config.old frame target }
     ensures { GoesOn S.meaning frame config.old config.new result (λ t env. line.update_target (fix_in fix) operator target.0 env) }
 {
-    let point = Point::Expr(ExprPoint::UpdateTarget(fix, operator));
-    enter(config, frame, point, Part::Target(target))
+    match reference_at_once(config, &frame, target) {
+        Some(reference) => update_reference(config, frame, fix, operator, reference),
+        None => {
+            let point = Point::Expr(ExprPoint::UpdateTarget(fix, operator));
+            enter(config, frame, point, Part::Target(target))
+        }
+    }
 }
 
 /// After the target: its value is made a number.

@@ -11,7 +11,8 @@ ghost use Rattle.wjs_frames.specs.Handling.{Runs, GoesOn};
 
 use crate::statements::{Reached, statement_at, statements_at_once};
 use wjs_base::OutOfMemory;
-use wjs_frames::{Part, enter, finish};
+use wjs_effects::enter_statement;
+use wjs_frames::finish;
 use wjs_model::{Completion, Config, Frame, Point, StmtPoint};
 use wjs_step_common::number_after;
 use wjs_store::WorldStore;
@@ -47,7 +48,7 @@ fn enter_from<S: WorldStore>(
         Some(statement) => {
             let next = number_after(at)?;
             let point = Point::Stmt(StmtPoint::BlockStatement(next));
-            enter(config, frame, point, Part::Stmt(statement))
+            enter_statement(config, frame, point, statement)
         }
         None => finish(config, frame, Completion::Normal),
     }

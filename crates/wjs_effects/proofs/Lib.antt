@@ -5,3 +5,5 @@ pub mod Carrying
 pub mod Proceeding
 pub mod Parted
 pub mod Passing
+pub mod Nested
+pub mod Only

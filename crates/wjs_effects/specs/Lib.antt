@@ -1,3 +1,4 @@
 pub mod Effects
 pub mod Leaving
 pub mod Proceeding
+pub mod Only

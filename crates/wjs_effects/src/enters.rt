@@ -4,9 +4,10 @@ ghost use Rattle.wjs_model.specs.Soundness.{HasPoint, StandsHere};
 ghost use Rattle.wjs_frames.specs.Parts.{then_at};
 ghost use Rattle.wjs_frames.specs.Handling.{Runs, GoesOn};
 
+use crate::entries::enter_statement;
 use crate::parts::statement_at_once;
 use wjs_base::OutOfMemory;
-use wjs_frames::{Part, enter, enter_last, finish, go_on_with};
+use wjs_frames::{Part, enter_last, finish, go_on_with};
 use wjs_model::{Config, Frame, Point};
 use wjs_store::WorldStore;
 use wjs_tree::NodeId;
@@ -27,7 +28,7 @@ pub fn enter_at_once<S: WorldStore>(
     let done = statement_at_once(config, &frame, s)?;
     match done {
         Some(completion) => go_on_with(config, frame, point, completion),
-        None => enter(config, frame, point, Part::Stmt(s)),
+        None => enter_statement(config, frame, point, s),
     }
 }
 

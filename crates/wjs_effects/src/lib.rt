@@ -4,10 +4,12 @@
 //! the frames do it. So where a part has no value at once the answer is None, and nothing has changed.
 #![tactic(auto)]
 
+mod above;
 mod blocks;
 mod carries;
 mod effect;
 mod enters;
+mod entries;
 mod hopes;
 mod parts;
 mod statements;
@@ -15,7 +17,9 @@ mod stores;
 mod targets;
 mod updates;
 
+pub use above::wait_below;
 pub use blocks::statement_of_block;
 pub use enters::{enter_at_once, enter_last_at_once};
-pub use parts::{expression_at_once, statement_at_once};
+pub use entries::enter_statement;
+pub use parts::{expression_at_once, reference_at_once, statement_at_once};
 pub use updates::{given, updated};

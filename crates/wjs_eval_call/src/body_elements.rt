@@ -16,8 +16,8 @@ ghost use Rattle.wjs_eval_call.specs.Elements.{NextIs};
 
 use crate::elements::{BodyKind, element_of_body};
 use wjs_base::{OutOfMemory, Value};
-use wjs_effects::statement_at_once;
-use wjs_frames::{Part, enter, finish};
+use wjs_effects::{enter_statement, statement_at_once};
+use wjs_frames::finish;
 use wjs_model::{CallPoint, Completion, Config, Frame, Point};
 use wjs_step_common::number_after;
 use wjs_store::WorldStore;
@@ -66,7 +66,7 @@ fn enter_from<S: WorldStore>(
         Some(element) => {
             let next = number_after(at)?;
             let point = Point::Call(waiting_point(kind, next));
-            enter(config, frame, point, Part::Stmt(element))
+            enter_statement(config, frame, point, element)
         }
         None => finish(config, frame, end_of(kind)),
     }

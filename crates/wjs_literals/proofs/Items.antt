@@ -10,7 +10,7 @@ use Rattle.wjs_tree.specs.declared.node.Node.{Node}
 use Rattle.wjs_tree.specs.declared.node.Node.TheVariants as nodes
 use Rattle.wjs_by_content.specs.Values.{Value, Object}
 use Rattle.wjs_by_content.specs.Names.{slot, index_name}
-use Rattle.wjs_meaning.specs.Reading.{node_in, number, key_in}
+use Rattle.wjs_meaning.specs.Reading.{node_in, number, key_in, pair_in}
 use Rattle.wjs_meaning.specs.Deeds.{Env, Ret, Normal, Eval, Do, Write, AtExpr, give, then_value}
 use Rattle.wjs_meaning.specs.Expressions.{array_from, key_name, object_from}
 use Rattle.wjs_model.specs.declared.loaded.LoadedProgram.{LoadedProgram as Program}
@@ -31,14 +31,19 @@ module _ (t : Table) (n : Node) (at : ℕ) where
   pub items_rest : (o : ObjId) (env : Env) → array_from (drop at (each number (items_in n))) at o env ≡ array_from (drop at (items_of (node_in t n))) at o env
   items_rest o env = sym (ap (λ l. array_from (drop at l) at o env) (items_same t n))
 
+  -- an item comes next
+  pub item_next : (i : ℕ) (e : NodeId) (o : ObjId) (env : Env) → i ≡ at → slice_get (items_in n) at ≡ Some (Some e) →
+      Eval (AtExpr e.0) env (then_value (λ v. Do (Write env.world (slot o (index_name i)) (Some v)) (λ done. array_from (drop (i + 1) (items_of (node_in t n))) (i + 1) o env))) ≡ array_from (drop at (items_of (node_in t n))) at o env
+  item_next i e o env ei h =
+      let items = items_of (node_in t n) in
+      ap (λ k. array_from (Some e.0 ∷ drop (k + 1) items) k o env) ei
+      ∙ sym (ap (λ l. array_from l at o env) (items_at t n at e h) ∙ ap (λ j. array_from (Some e.0 ∷ drop j items) at o env) (sym (add-one at)))
+
   -- an item is entered
   pub array_enters : (i : ℕ) (e : NodeId) (held : Holding) (env : Env) (o : ObjId) → i ≡ at → held.value ≡ Object o → slice_get (items_in n) at ≡ Some (Some e) →
       Eval (AtExpr e.0) env (then_value (array_item (items_of (node_in t n)) i held env)) ≡ array_from (drop at (items_of (node_in t n))) at o env
   array_enters i e held env o ei eh h =
-      let items = items_of (node_in t n) in
-      ap (λ k. Eval (AtExpr e.0) env (then_value (array_item items k held env))) ei
-      ∙ ap (λ x. Eval (AtExpr e.0) env (then_value (array_rest x (drop (at + 1) items) at env))) eh
-      ∙ sym (ap (λ l. array_from l at o env) (items_at t n at e h) ∙ ap (λ j. array_from (Some e.0 ∷ drop j items) at o env) (sym (add-one at)))
+      ap (λ x. Eval (AtExpr e.0) env (then_value (array_rest x (drop (i + 1) (items_of (node_in t n))) i env))) eh ∙ item_next i e o env ei h
 
 -- a hole is left out
 pub hole_skipped : (items : List (Option NodeId)) (at : ℕ) (o : ObjId) (env : Env) → slice_get items at ≡ Some None → array_from (drop at (each number items)) at o env ≡ array_from (drop (at + 1) (each number items)) (at + 1) o env
@@ -56,6 +61,13 @@ array_writes items at held env o v eh = ap (λ x. array_rest x (drop (at + 1) it
 -- ---- objects
 
 module _ (t : Table) (n : Node) (at : ℕ) where
+  -- a property comes next
+  pub property_next : (p : Property) (o : ObjId) (env : Env) → slice_get (properties_in n) at ≡ Some p →
+      Eval (AtExpr p.value.0) env (then_value (λ v. Do (Write env.world (slot o (key_name (key_in t p.key))) (Some v)) (λ done. object_from (drop (at + 1) (pairs_of (node_in t n))) o env))) ≡ object_from (drop at (pairs_of (node_in t n))) o env
+  property_next p o env h =
+      let pairs = pairs_of (node_in t n) in
+      sym (ap (λ l. object_from l o env) (pairs_at t n at p h) ∙ ap (λ j. object_from (pair_in t p ∷ drop j pairs) o env) (sym (add-one at)))
+
   -- the value of a property is entered
   pub object_enters : (p : Property) (held : Holding) (env : Env) (o : ObjId) → held.value ≡ Object o → slice_get (properties_in n) at ≡ Some p →
       Eval (AtExpr p.value.0) env (then_value (object_item (pairs_of (node_in t n)) at held env)) ≡ object_from (drop at (pairs_of (node_in t n))) o env

@@ -1,5 +1,5 @@
 //! Literals of arrays (ECMA-262, 3rd edition, section 11.1.4): the items from left to right, and then the length.
-ghost use Rattle.std.specs.Prelude.{◌≡◌, [], drop, slice_get};
+ghost use Rattle.std.specs.Prelude.{◌≡◌, [], drop, slice_get, unwrap_or, IfOk, OnOk};
 ghost use Rattle.wjs_by_content.specs.Tables.{value_in};
 ghost use Rattle.wjs_meaning.specs.Deeds.{Do, Create};
 ghost use Rattle.wjs_meaning.specs.Expressions as line;
@@ -7,18 +7,20 @@ ghost use Rattle.wjs_meaning.specs.NewObjects.{array_object};
 ghost use Rattle.wjs_meaning.specs.Reading.{node_in};
 ghost use Rattle.wjs_model.specs.Contents.{holding_in, value_held};
 ghost use Rattle.wjs_model.specs.Lists.{items_of};
-ghost use Rattle.wjs_model.specs.Soundness.{HasObject, HasValue};
+ghost use Rattle.wjs_model.specs.Soundness.{Base, IsThere, HasObject, HasValue};
 ghost use Rattle.wjs_model.specs.Waiting as after;
+ghost use Rattle.wjs_frames.specs.Following.{Later};
 ghost use Rattle.wjs_frames.specs.Parts.{node_now};
-ghost use Rattle.wjs_literals.specs.Parts.{items_in, Skips};
+ghost use Rattle.wjs_literals.specs.Parts.{items_in, items_left, Skips};
 ghost use Rattle.wjs_frames.specs.Handling.{Runs, GoesOn};
+ghost use Rattle.wjs_effects.specs.Proceeding.{Proceeds};
 
 use wjs_base::{Name, ObjId, OutOfMemory, Value};
 use wjs_calls::whole_value;
-use wjs_frames::{Part, finish, hold, node_of};
+use wjs_frames::{Part, enter, finish, hold, node_of};
 use wjs_heap_steps::{Known, create_array, write, write_known};
 use wjs_model::{Completion, Config, ExprPoint, Frame, Held, Point};
-use wjs_quick::enter_quickly;
+use wjs_quick::quick;
 use wjs_step_common::{held_value, number_after, number_of};
 use wjs_store::WorldStore;
 use wjs_tree::{Node, NodeId};
@@ -32,7 +34,7 @@ pub(crate) enum Next {
     End(usize),
 }
 
-/// An array literal: the array is made and held, and the first item is asked for.
+/// An array literal: the array is made and held, and the items come next.
 pub fn array_start<S: WorldStore>(config: &mut Config<S>, frame: Frame) -> Result<(), OutOfMemory>
     requires runs { Runs S.meaning config.old frame }
     ensures { GoesOn S.meaning frame config.old config.new result (λ t env.
@@ -63,7 +65,7 @@ pub fn array_item<S: WorldStore>(
     }
 }
 
-/// The item of a number is written, and the next is asked for.
+/// The item of a number is written, and the next ones come.
 fn array_write<S: WorldStore>(
     config: &mut Config<S>,
     frame: Frame,
@@ -83,8 +85,25 @@ fn array_write<S: WorldStore>(
     array_next(config, frame, array, next)
 }
 
-/// The first item from a number on that is no hole is asked for; where there is none, the length is written.
+/// The items from a number on: those that have their values at once are written, and then the next is entered.
 fn array_next<S: WorldStore>(
+    config: &mut Config<S>,
+    frame: Frame,
+    array: ObjId,
+    from: u32,
+) -> Result<(), OutOfMemory>
+    requires runs { Runs S.meaning config.old frame }
+    requires array { HasObject config.old array }
+    requires held { value_held frame.held ≡ Value.Object array }
+    ensures { GoesOn S.meaning frame config.old config.new result (λ t env.
+        line.array_from (drop from (items_of (node_in t (node_now S.meaning config.old frame)))) from array env) }
+{
+    let reached = items_at_once(config, &frame, array, from)?;
+    enter_item(config, frame, array, reached)
+}
+
+/// The first item from a number on that is no hole is entered; where there is none, the length is written.
+fn enter_item<S: WorldStore>(
     config: &mut Config<S>,
     frame: Frame,
     array: ObjId,
@@ -100,9 +119,86 @@ fn array_next<S: WorldStore>(
         Next::Item(at, node) => {
             let number = number_of(at)?;
             let point = Point::Expr(ExprPoint::ArrayItem(number));
-            enter_quickly(config, frame, point, Part::Expr(node))
+            enter(config, frame, point, Part::Expr(node))
         }
         Next::End(length) => array_end(config, frame, array, length),
+    }
+}
+
+/// The items from a number on that have their values at once, one after another: they are written then. Gives the number from which
+/// on they are still to come. The rest may go on from wherever this stops, so the bound is none that counts.
+fn items_at_once<S: WorldStore>(
+    config: &mut Config<S>,
+    frame: &Frame,
+    array: ObjId,
+    from: u32,
+) -> Result<u32, OutOfMemory>
+    requires base { Base S.meaning config.old }
+    requires there { IsThere S.meaning config.old frame.now }
+    requires array { HasObject config.old array }
+    ensures proceeds { IfOk result (λ at. Proceeds S.meaning (items_left S.meaning config.old frame.now array from)
+        (items_left S.meaning config.new frame.now array at) config.old config.new) }
+    ensures later { OnOk result (Later S.meaning config.old config.new) }
+{
+    let mut at = from;
+    for _turn in 0..u64::MAX {
+        let next = item_at_once(config, frame, array, at)?;
+        match next {
+            Some(number) => at = number,
+            None => return Ok(at),
+        }
+    }
+    Ok(at)
+}
+
+/// The number after that of the first item from a number on that is no hole, where its value is had at once: it is written then.
+/// After None nothing has changed.
+#[inline(always)]
+fn item_at_once<S: WorldStore>(
+    config: &mut Config<S>,
+    frame: &Frame,
+    array: ObjId,
+    from: u32,
+) -> Result<Option<u32>, OutOfMemory>
+    requires base { Base S.meaning config.old }
+    requires there { IsThere S.meaning config.old frame.now }
+    requires array { HasObject config.old array }
+    ensures proceeds { IfOk result (λ next. Proceeds S.meaning (items_left S.meaning config.old frame.now array from)
+        (items_left S.meaning config.new frame.now array (unwrap_or next from)) config.old config.new) }
+    ensures later { OnOk result (Later S.meaning config.old config.new) }
+{
+    match next_item(config, frame, from) {
+        Next::Item(at, node) => write_at_once(config, frame, array, from, at, node),
+        Next::End(_) => Ok(None),
+    }
+}
+
+/// The same of an item that was found.
+#[inline(always)]
+fn write_at_once<S: WorldStore>(
+    config: &mut Config<S>,
+    frame: &Frame,
+    array: ObjId,
+    from: u32,
+    at: usize,
+    node: NodeId,
+) -> Result<Option<u32>, OutOfMemory>
+    requires base { Base S.meaning config.old }
+    requires there { IsThere S.meaning config.old frame.now }
+    requires array { HasObject config.old array }
+    requires item { Skips (items_in (node_now S.meaning config.old frame.now)) from (Next.Item at node) }
+    ensures proceeds { IfOk result (λ next. Proceeds S.meaning (items_left S.meaning config.old frame.now array from)
+        (items_left S.meaning config.new frame.now array (unwrap_or next from)) config.old config.new) }
+    ensures later { OnOk result (Later S.meaning config.old config.new) }
+{
+    let number = number_of(at)?;
+    let next = number_after(number)?;
+    match quick(config, frame, Part::Expr(node)) {
+        Some(value) => {
+            write(config, frame, array, Name::Index(number), value)?;
+            Ok(Some(next))
+        }
+        None => Ok(None),
     }
 }
 

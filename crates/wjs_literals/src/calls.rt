@@ -3,6 +3,7 @@ ghost use Rattle.std.specs.Prelude.{◌≡◌, drop};
 ghost use Rattle.wjs_by_content.specs.Tables.{value_in};
 ghost use Rattle.wjs_by_content.specs.Values.{Undefined};
 ghost use Rattle.wjs_base.specs.Text.{Table};
+ghost use Rattle.wjs_meaning.specs.Deeds.{Eval, AtExpr, AtTarget, then_reference, then_value};
 ghost use Rattle.wjs_meaning.specs.Expressions as line;
 ghost use Rattle.wjs_meaning.specs.Reading.{node_in};
 ghost use Rattle.wjs_model.specs.Contents.{holding_in, reference_in};
@@ -12,19 +13,20 @@ ghost use Rattle.wjs_model.specs.Soundness.{HasReference, HasValue, StandsHere};
 ghost use Rattle.wjs_frames.specs.Parts.{node_now};
 ghost use Rattle.wjs_frames.specs.Handling.{Runs, GoesOn};
 
-use crate::arguments::argument;
+use crate::arguments::{argument, arguments_at_once};
 use wjs_base::{OutOfMemory, Value};
 use wjs_calls::call_value;
+use wjs_effects::reference_at_once;
 use wjs_frames::{Part, enter, finish, hold};
 use wjs_heap_steps::value_of;
 use wjs_members::is_target;
 use wjs_model::{Completion, Config, ExprPoint, Frame, Held, Point, Reference};
-use wjs_quick::enter_quickly;
+use wjs_quick::quick;
 use wjs_step_common::{held_callee, number_after};
 use wjs_store::WorldStore;
 use wjs_tree::NodeId;
 
-/// A call: its callee is asked for, as a target where it is one.
+/// A call: its callee comes first, as a target where it is one.
 pub fn call_start<S: WorldStore>(
     config: &mut Config<S>,
     frame: Frame,
@@ -37,11 +39,49 @@ pub fn call_start<S: WorldStore>(
         line.operand callee.0 env (line.call_reference args env) (line.call_callee args Undefined env)) }
 {
     if is_target(config, &frame, callee) {
-        let point = Point::Expr(ExprPoint::CalleeTarget);
-        enter(config, frame, point, Part::Target(callee))
+        target_called(config, frame, callee)
     } else {
-        let point = Point::Expr(ExprPoint::CalleeValue);
-        enter_quickly(config, frame, point, Part::Expr(callee))
+        value_called(config, frame, callee)
+    }
+}
+
+/// A callee that is a target: the call goes on with its reference where that is had at once, and else it is entered.
+fn target_called<S: WorldStore>(
+    config: &mut Config<S>,
+    frame: Frame,
+    callee: NodeId,
+) -> Result<(), OutOfMemory>
+    requires runs { Runs S.meaning config.old frame }
+    requires callee { StandsHere config.old frame callee }
+    ensures { GoesOn S.meaning frame config.old config.new result (λ t env.
+        Eval (AtTarget callee.0) env (then_reference (line.call_reference (arguments_of (node_in t (node_now S.meaning config.old frame))) env))) }
+{
+    match reference_at_once(config, &frame, callee) {
+        Some(reference) => call_reference(config, frame, reference),
+        None => {
+            let point = Point::Expr(ExprPoint::CalleeTarget);
+            enter(config, frame, point, Part::Target(callee))
+        }
+    }
+}
+
+/// Another callee: the call goes on with its value where that is had at once, and else it is entered.
+fn value_called<S: WorldStore>(
+    config: &mut Config<S>,
+    frame: Frame,
+    callee: NodeId,
+) -> Result<(), OutOfMemory>
+    requires runs { Runs S.meaning config.old frame }
+    requires callee { StandsHere config.old frame callee }
+    ensures { GoesOn S.meaning frame config.old config.new result (λ t env.
+        Eval (AtExpr callee.0) env (then_value (line.call_callee (arguments_of (node_in t (node_now S.meaning config.old frame))) Undefined env))) }
+{
+    match quick(config, &frame, Part::Expr(callee)) {
+        Some(value) => call_callee(config, frame, value, Value::Undefined),
+        None => {
+            let point = Point::Expr(ExprPoint::CalleeValue);
+            enter(config, frame, point, Part::Expr(callee))
+        }
     }
 }
 
@@ -79,7 +119,7 @@ fn base_of<S: WorldStore>(config: &Config<S>, reference: Reference) -> Value
     }
 }
 
-/// After the value of the callee: it is held alone, and the first argument is asked for.
+/// After the value of the callee: it is held alone, and the arguments come next.
 pub fn call_callee<S: WorldStore>(
     config: &mut Config<S>,
     frame: Frame,
@@ -98,7 +138,7 @@ pub fn call_callee<S: WorldStore>(
     call_next(config, frame, 0)
 }
 
-/// After the argument of a number: it is held, and the next is asked for.
+/// After the argument of a number: it is held, and the next ones come.
 pub fn call_argument<S: WorldStore>(
     config: &mut Config<S>,
     frame: Frame,
@@ -116,8 +156,24 @@ pub fn call_argument<S: WorldStore>(
     call_next(config, frame, next)
 }
 
-/// The argument of a number is asked for; after the last one comes the call.
+/// The arguments from a number on: those that have their values at once are held, and then the next is entered.
 fn call_next<S: WorldStore>(
+    config: &mut Config<S>,
+    frame: Frame,
+    at: u32,
+) -> Result<(), OutOfMemory>
+    requires runs { Runs S.meaning config.old frame }
+    ensures { GoesOn S.meaning frame config.old config.new result (λ t env.
+        let held = holding_in t frame.held in line.values_from (drop at (arguments_of (node_in t (node_now S.meaning config.old frame)))) held.values env
+        (line.call_values held.callee.0 held.callee.1 env)) }
+{
+    let mut frame = frame;
+    let reached = arguments_at_once(config, &mut frame, at)?;
+    call_from(config, frame, reached)
+}
+
+/// The argument of a number is entered; after the last one comes the call.
+fn call_from<S: WorldStore>(
     config: &mut Config<S>,
     frame: Frame,
     at: u32,
@@ -130,7 +186,7 @@ fn call_next<S: WorldStore>(
     match argument(config, &frame, at as usize) {
         Some(next) => {
             let point = Point::Expr(ExprPoint::Argument(at));
-            enter_quickly(config, frame, point, Part::Expr(next))
+            enter(config, frame, point, Part::Expr(next))
         }
         None => call_held(config, frame),
     }

@@ -12,16 +12,16 @@ ghost use Rattle.wjs_model.specs.Soundness.{HasObject, HasValue, StandsHere};
 ghost use Rattle.wjs_frames.specs.Parts.{node_now};
 ghost use Rattle.wjs_frames.specs.Handling.{Runs, IsRunning, GoesOn};
 
-use crate::arguments::argument;
+use crate::arguments::{argument, arguments_at_once};
 use wjs_base::{ObjId, OutOfMemory, Value};
-use wjs_frames::{Part, finish, hold};
+use wjs_frames::{Part, enter, finish, hold};
 use wjs_model::{Completion, Config, ExprPoint, Frame, Held, Point};
-use wjs_quick::enter_quickly;
+use wjs_quick::quick;
 use wjs_step_common::{held_callee, held_value, number_after};
 use wjs_store::WorldStore;
 use wjs_tree::NodeId;
 
-/// `new`: its callee is asked for.
+/// `new`: it goes on with the value of its callee where that is had at once, and else that is entered.
 pub fn new_start<S: WorldStore>(
     config: &mut Config<S>,
     frame: Frame,
@@ -32,11 +32,16 @@ pub fn new_start<S: WorldStore>(
     ensures { GoesOn S.meaning frame config.old config.new result (λ t env.
         Eval (AtExpr callee.0) env (then_value (line.new_callee (arguments_of (node_in t (node_now S.meaning config.old frame))) env))) }
 {
-    let point = Point::Expr(ExprPoint::NewCallee);
-    enter_quickly(config, frame, point, Part::Expr(callee))
+    match quick(config, &frame, Part::Expr(callee)) {
+        Some(value) => new_callee(config, frame, value),
+        None => {
+            let point = Point::Expr(ExprPoint::NewCallee);
+            enter(config, frame, point, Part::Expr(callee))
+        }
+    }
 }
 
-/// After the callee of `new`: it is held alone, and the first argument is asked for.
+/// After the callee of `new`: it is held alone, and the arguments come next.
 pub fn new_callee<S: WorldStore>(
     config: &mut Config<S>,
     frame: Frame,
@@ -53,7 +58,7 @@ pub fn new_callee<S: WorldStore>(
     new_next(config, frame, 0)
 }
 
-/// After the argument of a number: it is held, and the next is asked for.
+/// After the argument of a number: it is held, and the next ones come.
 pub fn new_argument<S: WorldStore>(
     config: &mut Config<S>,
     frame: Frame,
@@ -71,8 +76,20 @@ pub fn new_argument<S: WorldStore>(
     new_next(config, frame, next)
 }
 
-/// The argument of a number is asked for; after the last one comes the construction.
+/// The arguments from a number on: those that have their values at once are held, and then the next is entered.
 fn new_next<S: WorldStore>(config: &mut Config<S>, frame: Frame, at: u32) -> Result<(), OutOfMemory>
+    requires runs { Runs S.meaning config.old frame }
+    ensures { GoesOn S.meaning frame config.old config.new result (λ t env.
+        let held = holding_in t frame.held in
+        line.values_from (drop at (arguments_of (node_in t (node_now S.meaning config.old frame)))) held.values env (construct held.callee.0 env)) }
+{
+    let mut frame = frame;
+    let reached = arguments_at_once(config, &mut frame, at)?;
+    new_from(config, frame, reached)
+}
+
+/// The argument of a number is entered; after the last one comes the construction.
+fn new_from<S: WorldStore>(config: &mut Config<S>, frame: Frame, at: u32) -> Result<(), OutOfMemory>
     requires runs { Runs S.meaning config.old frame }
     ensures { GoesOn S.meaning frame config.old config.new result (λ t env.
         let held = holding_in t frame.held in
@@ -81,7 +98,7 @@ fn new_next<S: WorldStore>(config: &mut Config<S>, frame: Frame, at: u32) -> Res
     match argument(config, &frame, at as usize) {
         Some(next) => {
             let point = Point::Expr(ExprPoint::NewArgument(at));
-            enter_quickly(config, frame, point, Part::Expr(next))
+            enter(config, frame, point, Part::Expr(next))
         }
         None => new_held(config, frame),
     }

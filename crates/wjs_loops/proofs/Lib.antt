@@ -9,5 +9,4 @@ pub mod ForInNames
 pub mod Visiting
 pub mod Parts
 pub mod Rounding
-pub mod Above
-pub mod Within
+pub mod BlockLines

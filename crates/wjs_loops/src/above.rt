@@ -1,17 +1,15 @@
 //! A loop that waits for its body, a block, which waits for one of its statements.
-ghost use Rattle.std.specs.Prelude.{◌≡◌, ◌++◌, ◌∷◌, [], drop, IfOk, OnOk};
+ghost use Rattle.std.specs.Prelude.{drop};
 ghost use Rattle.wjs_meaning.specs.Deeds.{Eval, Sub, AtStmt, node_here, then_normal};
 ghost use Rattle.wjs_meaning.specs.Statements.{block_from};
 ghost use Rattle.wjs_model.specs.Lists.{block_items};
 ghost use Rattle.wjs_model.specs.Soundness.{HasPoint, StandsHere};
-ghost use Rattle.wjs_frames.specs.Following.{Later};
 ghost use Rattle.wjs_frames.specs.Handling.{Runs, GoesOn};
-ghost use Rattle.wjs_frames.specs.Nesting.{Nests};
-ghost use Rattle.wjs_frames.specs.Parts.{env_in, then_at};
+ghost use Rattle.wjs_frames.specs.Parts.{then_at};
 
 use wjs_base::OutOfMemory;
-use wjs_frames::{Part, enter};
-use wjs_model::{Config, Frame, Frames, Phase, Point, Start, StmtPoint};
+use wjs_effects::{enter_statement, wait_below};
+use wjs_model::{Config, Frame, Point, StmtPoint};
 use wjs_store::WorldStore;
 use wjs_tree::NodeId;
 
@@ -35,40 +33,5 @@ pub(crate) fn enter_in_block<S: WorldStore>(
 {
     let inner = wait_below(config, frame, point, block)?;
     let behind = Point::Stmt(StmtPoint::BlockStatement(next));
-    enter(config, inner, behind, Part::Stmt(statement))
-}
-
-/// The frame waits at a point; another for above it, at a node around the same, with nothing held.
-fn wait_below<S: WorldStore>(
-    config: &mut Config<S>,
-    frame: Frame,
-    point: Point,
-    node: NodeId,
-) -> Result<Frame, OutOfMemory>
-    requires runs { Runs S.meaning config.old frame }
-    requires point { HasPoint config.old frame point }
-    ensures nests { OnOk result (Nests S.meaning (λ t.
-        then_at S.meaning config.old frame point t (env_in S.meaning config.old t frame)) config.old config.new) }
-    ensures same { OnOk result (config.new ≡ record config.old { frames = config.new.frames }) }
-    ensures later { OnOk result (Later S.meaning config.old config.new) }
-    ensures inner { IfOk result (λ inner. inner ≡ record frame { node = node; phase = Phase.Waiting point; held = [] }) }
-{
-    let mut waiting = frame;
-    waiting.wait_at(point);
-    let mut inner = put_below(&mut config.frames, waiting, node)?;
-    inner.wait_at(point);
-    Ok(inner)
-}
-
-/// A frame that waits is put on top. Another for above it is made where one has ended, as the frames make theirs.
-fn put_below(frames: &mut Frames, waiting: Frame, node: NodeId) -> Result<Frame, OutOfMemory>
-    ensures put { OnOk result (frames.new ≡ frames.old ++ waiting ∷ []) }
-    ensures above { IfOk result (λ above. record above { phase = waiting.phase } ≡ record waiting { node = node; held = [] }) }
-{
-    let held = frames.nothing_held();
-    frames.push_ready(waiting, Start::Stmt, node, held)?;
-    match frames.pop() {
-        Some((above, _)) => Ok(above),
-        None => unreachable!(),
-    }
+    enter_statement(config, inner, behind, statement)
 }

@@ -18,7 +18,7 @@ use crate::bodies::{AfterBody, after_body};
 use crate::iterations::expr_iteration;
 use crate::within::{block_entered, next_within, within_entered};
 use wjs_base::{OutOfMemory, Value};
-use wjs_effects::{expression_at_once, statement_at_once, statement_of_block};
+use wjs_effects::{enter_statement, expression_at_once, statement_at_once, statement_of_block};
 use wjs_frames::{Part, enter, enter_last, finish, node_of};
 use wjs_model::{Completion, Config, Frame, Point, StmtPoint};
 use wjs_quick::quick_entered;
@@ -73,7 +73,7 @@ fn go_on_at<S: WorldStore>(
         }
         Position::Body(u, s) => {
             let point = Point::Stmt(StmtPoint::ForBody(u));
-            enter(config, frame, point, Part::Stmt(s))
+            enter_statement(config, frame, point, s)
         }
         Position::Within(u, s, at) => within_entered(config, frame, u, s, at),
         Position::Update(u) => update_entered(config, frame, u),

@@ -8,12 +8,12 @@ use Rattle.wjs_blocks.proofs.blocks.enter_from.Goals as goal
 
 pub returns-in_ok-next-in-Some : goal.returns-in_ok-next-in-Some
 returns-in_ok-next-in-Some g c =
-    let t = c.enter.new.config.heap.texts in
+    let t = c.enter_statement.new.config.heap.texts in
     let node = node_now g.S.WorldStore.meaning c.args.config.now c.args.frame in
     let env = env_in g.S.WorldStore.meaning c.args.config.now t c.args.frame in
-    follows_as g.S.WorldStore.meaning _ _ _ _ c.enter.result (λ grows.
+    follows_as g.S.WorldStore.meaning _ _ _ _ c.enter_statement.result (λ grows.
     block_at t c.args.frame.node.0 (holding_in t c.args.frame.held) env node c.args.at c.in_ok-next-in-Some.next c.in-Some.statement c.in_ok-next-in-Some.ensures (sym c.statement_at.ensures ∙ c.in-Some.is))
-    c.enter.ensures
+    c.enter_statement.ensures
 
 pub returns-in-None : goal.returns-in-None
 returns-in-None g c =
@@ -22,7 +22,7 @@ returns-in-None g c =
     let env = env_in g.S.WorldStore.meaning c.args.config.now t c.args.frame in
     follows_as g.S.WorldStore.meaning _ _ _ _ c.finish.result (λ grows. block_end t c.args.frame.node.0 (holding_in t c.args.frame.held) env node c.args.at (sym c.statement_at.ensures ∙ c.in-None.is)) c.finish.ensures
 
-pub enter-requires-clause-part : goal.enter-requires-clause-part
-enter-requires-clause-part g c =
+pub enter_statement-requires-clause-part : goal.enter_statement-requires-clause-part
+enter_statement-requires-clause-part g c =
     statement_stands g.S.WorldStore.meaning c.args.config.now c.args.frame c.requires.runs.there c.args.at c.in-Some.statement
     (sym c.statement_at.ensures ∙ c.in-Some.is)

@@ -35,18 +35,18 @@ returns-in-Some g c =
     done_and_given m f c.args.point c.args.s (λ t. completion_in t c.in-Some.completion) old mid c.go_on_with.new.config c.go_on_with.result (subst D c.in-Some.is c.in_ok-done.ensures.does) c.in_ok-done.ensures.later c.go_on_with.ensures
 
 -- it is entered
-pub enter-requires-clause-runs : goal.enter-requires-clause-runs
-enter-requires-clause-runs g c = runs_later _ _ _ _ c.requires.runs c.in_ok-done.ensures.later
+pub enter_statement-requires-clause-runs : goal.enter_statement-requires-clause-runs
+enter_statement-requires-clause-runs g c = runs_later _ _ _ _ c.requires.runs c.in_ok-done.ensures.later
 
-pub enter-requires-clause-point : goal.enter-requires-clause-point
-enter-requires-clause-point g c = point_later g.S.WorldStore.meaning c.args.config.now c.args.frame c.statement_at_once.new.config c.args.point c.in_ok-done.ensures.later c.requires.point
+pub enter_statement-requires-clause-point : goal.enter_statement-requires-clause-point
+enter_statement-requires-clause-point g c = point_later g.S.WorldStore.meaning c.args.config.now c.args.frame c.statement_at_once.new.config c.args.point c.in_ok-done.ensures.later c.requires.point
 
-pub enter-requires-clause-part : goal.enter-requires-clause-part
-enter-requires-clause-part g c = stands_later g.S.WorldStore.meaning c.args.config.now c.args.frame c.statement_at_once.new.config c.args.s c.in_ok-done.ensures.later c.requires.part
+pub enter_statement-requires-clause-part : goal.enter_statement-requires-clause-part
+enter_statement-requires-clause-part g c = stands_later g.S.WorldStore.meaning c.args.config.now c.args.frame c.statement_at_once.new.config c.args.s c.in_ok-done.ensures.later c.requires.part
 
 pub returns-in-None : goal.returns-in-None
 returns-in-None g c =
     let old = c.args.config.now in
     let mid = c.statement_at_once.new.config in
     let N : Option Completion → Type 0 = λ o. IfNone o (mid ≡ old) in
-    entered_slowly g.S.WorldStore.meaning c.args.frame (parts.Stmt c.args.s) old mid c.enter.new.config c.enter.result c.args.point (subst N c.in-None.is c.in_ok-done.ensures.same) c.enter.ensures
+    entered_slowly g.S.WorldStore.meaning c.args.frame (parts.Stmt c.args.s) old mid c.enter_statement.new.config c.enter_statement.result c.args.point (subst N c.in-None.is c.in_ok-done.ensures.same) c.enter_statement.ensures

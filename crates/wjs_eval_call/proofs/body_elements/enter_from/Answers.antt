@@ -13,14 +13,14 @@ use Rattle.wjs_eval_call.proofs.Running.{element_goes, elements_end, element_wai
 use Rattle.wjs_eval_call.proofs.StandingBodies.{element_stands, end_there, point_there}
 use Rattle.wjs_eval_call.proofs.body_elements.enter_from.Goals as goal
 
-pub enter-requires-clause-point : goal.enter-requires-clause-point
-enter-requires-clause-point g c =
+pub enter_statement-requires-clause-point : goal.enter_statement-requires-clause-point
+enter_statement-requires-clause-point g c =
     let old = c.args.config.now in
     let f = c.args.frame in
     subst (λ (p : CallPoint). HasPoint old f (points.Call p)) (sym c.waiting_point.ensures) (point_there old f c.args.kind c.in_ok-next-in-Some.next c.requires.body)
 
-pub enter-requires-clause-part : goal.enter-requires-clause-part
-enter-requires-clause-part g c =
+pub enter_statement-requires-clause-part : goal.enter_statement-requires-clause-part
+enter_statement-requires-clause-part g c =
     element_stands g.S.WorldStore.meaning c.args.config.now c.args.frame c.args.kind c.args.at c.in-Some.element c.requires.runs.running.base c.requires.runs.there c.requires.body c.in-Some.ensures
 
 pub returns-in_ok-next-in-Some : goal.returns-in_ok-next-in-Some
@@ -29,15 +29,15 @@ returns-in_ok-next-in-Some g c =
     let old = c.args.config.now in
     let f = c.args.frame in
     let k = c.args.kind in
-    let t = c.enter.new.config.heap.texts in
+    let t = c.enter_statement.new.config.heap.texts in
     let n = node_in t (node_now m old f) in
     let env = env_in m old t f in
     let next = c.in_ok-next-in-Some.next in
     let s = c.in-Some.element.0 in
     let waits = ap (λ (p : CallPoint). then_at m old f (points.Call p) t env) c.waiting_point.ensures ∙ element_waits k next f.node.0 n (holding_in t f.held) env in
-    follows_as m _ _ _ _ c.enter.result (λ grows.
+    follows_as m _ _ _ _ c.enter_statement.result (λ grows.
     ap (λ (go : Said → Act). Eval (AtStmt s) env go) waits ∙ element_goes k (elements_in k n) env c.args.at next s c.in_ok-next-in-Some.ensures (c.in-Some.ensures t))
-    c.enter.ensures
+    c.enter_statement.ensures
 
 pub finish-requires-clause-completion : goal.finish-requires-clause-completion
 finish-requires-clause-completion g c = subst (λ (e : Completion). HasCompletion c.args.config.now e) (sym c.end_of.ensures) (end_there c.args.config.now c.args.kind)

@@ -1,27 +1,8 @@
-use Rattle.std.proofs.Common.{sym}
 use Rattle.wjs_meaning.specs.Expressions.{call_values}
-use Rattle.wjs_model.specs.Contents.{holding_in}
-use Rattle.wjs_frames.specs.Parts.{env_in, node_now}
-use Rattle.wjs_step_common.proofs.Following.{follows_as}
-use Rattle.wjs_literals.proofs.CallLines.{call_enters, values_end}
-use Rattle.wjs_literals.proofs.Standing.{argument_stands}
 use Rattle.wjs_literals.proofs.calls.call_next.Goals as goal
 
-pub enter_quickly-requires-clause-part : goal.enter_quickly-requires-clause-part
-enter_quickly-requires-clause-part g c =
-    argument_stands g.S.WorldStore.meaning c.args.config.now c.args.frame c.requires.runs.there c.args.at c.in-Some.next (sym c.in-Some.ensures)
+pub call_from-requires : goal.call_from-requires
+call_from-requires g c = record { runs = c.in_ok-reached.ensures.runs }
 
-pub returns-in-Some : goal.returns-in-Some
-returns-in-Some g c =
-    let t = c.enter_quickly.new.config.heap.texts in
-    let n = node_now g.S.WorldStore.meaning c.args.config.now c.args.frame in
-    let env = env_in g.S.WorldStore.meaning c.args.config.now t c.args.frame in
-    follows_as _ _ _ _ _ _ (λ grows. call_enters t n c.args.at c.in-Some.next (holding_in t c.args.frame.held) env (sym c.in-Some.ensures)) c.enter_quickly.ensures
-
-pub returns-in-None : goal.returns-in-None
-returns-in-None g c =
-    let t = c.call_held.new.config.heap.texts in
-    let n = node_now g.S.WorldStore.meaning c.args.config.now c.args.frame in
-    let env = env_in g.S.WorldStore.meaning c.args.config.now t c.args.frame in
-    let held = holding_in t c.args.frame.held in
-    follows_as _ _ _ _ _ _ (λ grows. sym (values_end t n c.args.at held.values env (call_values held.callee.0 held.callee.1 env) (sym c.in-None.ensures))) c.call_held.ensures
+pub returns : goal.returns
+returns g c = (c.in_ok-reached.ensures.proceeds call_values).by c.call_from.new.config c.call_from.result c.call_from.ensures

@@ -1,26 +1,8 @@
-use Rattle.std.proofs.Common.{ap, sym}
-use Rattle.wjs_by_content.specs.Tables.{value_in}
-use Rattle.wjs_model.specs.Contents.{holding_in}
-use Rattle.wjs_frames.specs.Parts.{env_in, node_now}
-use Rattle.wjs_step_common.proofs.Following.{follows_as}
-use Rattle.wjs_literals.proofs.Items.{object_enters, object_ends}
-use Rattle.wjs_literals.proofs.Standing.{property_stands}
+use Rattle.wjs_frames.proofs.Handling.{runs_later}
 use Rattle.wjs_literals.proofs.objects.object_next.Goals as goal
 
-pub enter_quickly-requires-clause-part : goal.enter_quickly-requires-clause-part
-enter_quickly-requires-clause-part g c =
-    property_stands g.S.WorldStore.meaning c.args.config.now c.args.frame c.requires.runs.there c.args.at c.in-Some.property (sym c.in-Some.ensures)
+pub enter_property-requires-clause-runs : goal.enter_property-requires-clause-runs
+enter_property-requires-clause-runs g c = runs_later _ _ _ _ c.requires.runs c.in_ok-reached.ensures.later
 
-pub returns-in-Some : goal.returns-in-Some
-returns-in-Some g c =
-    let t = c.enter_quickly.new.config.heap.texts in
-    let n = node_now g.S.WorldStore.meaning c.args.config.now c.args.frame in
-    let env = env_in g.S.WorldStore.meaning c.args.config.now t c.args.frame in
-    follows_as _ _ _ _ _ _ (λ grows. object_enters t n c.args.at c.in-Some.property (holding_in t c.args.frame.held) env c.args.object (ap (value_in t) c.requires.held) (sym c.in-Some.ensures)) c.enter_quickly.ensures
-
-pub returns-in-None : goal.returns-in-None
-returns-in-None g c =
-    let t = c.finish.new.config.heap.texts in
-    let n = node_now g.S.WorldStore.meaning c.args.config.now c.args.frame in
-    let env = env_in g.S.WorldStore.meaning c.args.config.now t c.args.frame in
-    follows_as _ _ _ _ _ _ (λ grows. sym (object_ends t n c.args.at c.args.object env (sym c.in-None.ensures))) c.finish.ensures
+pub returns : goal.returns
+returns g c = c.in_ok-reached.ensures.proceeds.by c.enter_property.new.config c.enter_property.result c.enter_property.ensures

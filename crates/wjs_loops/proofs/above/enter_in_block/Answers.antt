@@ -11,8 +11,8 @@ use Rattle.wjs_frames.specs.Following.{Follows}
 use Rattle.wjs_frames.specs.Parts.{env_in, then_at}
 use Rattle.wjs_frames.proofs.Handling.{runs_over}
 use Rattle.wjs_frames.proofs.Parting.{stands_later}
-use Rattle.wjs_loops.proofs.Above.{above_there, above_stands, above_follows}
-use Rattle.wjs_loops.proofs.Within.{block_here}
+use Rattle.wjs_effects.proofs.Nested.{above_there, above_stands, above_follows}
+use Rattle.wjs_loops.proofs.BlockLines.{block_here}
 use Rattle.wjs_loops.proofs.above.enter_in_block.Goals as goal
 
 pub returns : goal.returns
@@ -20,18 +20,18 @@ returns g c =
     let m = g.S.WorldStore.meaning in
     let old = c.args.config.now in
     let mid = c.wait_below.new.config in
-    let new = c.enter.new.config in
+    let new = c.enter_statement.new.config in
     let t = new.heap.texts in
     let f = c.args.frame in
     let block = c.args.block in
     let point = c.args.point in
     let env = env_in m old t f in
-    let P : Node → Type 0 = λ n. OnOk c.enter.result (Follows m (Sub (Eval (AtStmt c.args.statement.0) env (then_normal (block_from (drop c.args.next (block_items n)) env))) (then_at m old f point t env)) old new) in
+    let P : Node → Type 0 = λ n. OnOk c.enter_statement.result (Follows m (Sub (Eval (AtStmt c.args.statement.0) env (then_normal (block_from (drop c.args.next (block_items n)) env))) (then_at m old f point t env)) old new) in
     subst P (sym (block_here m old f block t))
-    (above_follows m f c.in_ok-inner.inner block (phases.Waiting point) c.in_ok-inner.ensures.inner point (points.Stmt (stmt.BlockStatement c.args.next)) (AtStmt c.args.statement.0) old mid new c.enter.result c.in_ok-inner.ensures.same c.in_ok-inner.ensures.nests c.enter.ensures)
+    (above_follows m f c.in_ok-inner.inner block (phases.Waiting point) c.in_ok-inner.ensures.inner point (points.Stmt (stmt.BlockStatement c.args.next)) (AtStmt c.args.statement.0) old mid new c.enter_statement.result c.in_ok-inner.ensures.same c.in_ok-inner.ensures.nests c.enter_statement.ensures)
 
-pub enter-requires-clause-runs : goal.enter-requires-clause-runs
-enter-requires-clause-runs g c =
+pub enter_statement-requires-clause-runs : goal.enter_statement-requires-clause-runs
+enter_statement-requires-clause-runs g c =
     let m = g.S.WorldStore.meaning in
     let old = c.args.config.now in
     let inner = c.in_ok-inner.inner in
@@ -39,8 +39,8 @@ enter-requires-clause-runs g c =
     runs_over m old c.wait_below.new.config c.args.frame inner c.requires.runs l
     (l.frames inner (above_there m c.args.frame inner c.args.block (phases.Waiting c.args.point) c.in_ok-inner.ensures.inner old c.requires.runs.there c.requires.block))
 
-pub enter-requires-clause-part : goal.enter-requires-clause-part
-enter-requires-clause-part g c =
+pub enter_statement-requires-clause-part : goal.enter_statement-requires-clause-part
+enter_statement-requires-clause-part g c =
     let m = g.S.WorldStore.meaning in
     let old = c.args.config.now in
     let inner = c.in_ok-inner.inner in

@@ -11,7 +11,7 @@ pub returns-in-Test : goal.returns-in-Test
 returns-in-Test g c = subst (λ (p : Position). GoesOn g.S.WorldStore.meaning c.args.frame c.args.config.now c.expr_iteration.new.config c.expr_iteration.result (λ t env. position_in t c.args.frame.node.0 env p)) (sym c.in-Test.is) c.expr_iteration.ensures
 
 pub returns-in-Body : goal.returns-in-Body
-returns-in-Body g c = subst (λ (p : Position). GoesOn g.S.WorldStore.meaning c.args.frame c.args.config.now c.enter.new.config c.enter.result (λ t env. position_in t c.args.frame.node.0 env p)) (sym c.in-Body.is) c.enter.ensures
+returns-in-Body g c = subst (λ (p : Position). GoesOn g.S.WorldStore.meaning c.args.frame c.args.config.now c.enter_statement.new.config c.enter_statement.result (λ t env. position_in t c.args.frame.node.0 env p)) (sym c.in-Body.is) c.enter_statement.ensures
 
 pub returns-in-Within : goal.returns-in-Within
 returns-in-Within g c = subst (λ (p : Position). GoesOn g.S.WorldStore.meaning c.args.frame c.args.config.now c.within_entered.new.config c.within_entered.result (λ t env. position_in t c.args.frame.node.0 env p)) (sym c.in-Within.is) c.within_entered.ensures
@@ -28,11 +28,11 @@ expr_iteration-requires-clause-point g c = (subst (λ (p : Position). HasPositio
 pub expr_iteration-requires-clause-part : goal.expr_iteration-requires-clause-part
 expr_iteration-requires-clause-part g c = (subst (λ (p : Position). HasPosition c.args.config.now c.args.frame p) c.in-Test.is c.requires.at).0
 
-pub enter-requires-clause-point : goal.enter-requires-clause-point
-enter-requires-clause-point g c = (subst (λ (p : Position). HasPosition c.args.config.now c.args.frame p) c.in-Body.is c.requires.at).0
+pub enter_statement-requires-clause-point : goal.enter_statement-requires-clause-point
+enter_statement-requires-clause-point g c = (subst (λ (p : Position). HasPosition c.args.config.now c.args.frame p) c.in-Body.is c.requires.at).0
 
-pub enter-requires-clause-part : goal.enter-requires-clause-part
-enter-requires-clause-part g c = (subst (λ (p : Position). HasPosition c.args.config.now c.args.frame p) c.in-Body.is c.requires.at).1
+pub enter_statement-requires-clause-part : goal.enter_statement-requires-clause-part
+enter_statement-requires-clause-part g c = (subst (λ (p : Position). HasPosition c.args.config.now c.args.frame p) c.in-Body.is c.requires.at).1
 
 pub within_entered-requires-clause-update : goal.within_entered-requires-clause-update
 within_entered-requires-clause-update g c = (subst (λ (p : Position). HasPosition c.args.config.now c.args.frame p) c.in-Within.is c.requires.at).0

@@ -3,7 +3,7 @@ use Rattle.wjs_meaning.specs.Deeds.{Act, Sub}
 use Rattle.wjs_meaning.specs.Loops.{loop_body}
 use Rattle.wjs_meaning.specs.Reading.{number}
 use Rattle.wjs_frames.specs.Parts.{env_in}
-use Rattle.wjs_loops.proofs.Within.{block_entry}
+use Rattle.wjs_loops.proofs.BlockLines.{block_entry}
 use Rattle.wjs_loops.proofs.rounds.without_test.Goals as goal
 
 pub returns-in-Some-clause-is : goal.returns-in-Some-clause-is

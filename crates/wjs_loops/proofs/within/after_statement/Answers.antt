@@ -12,7 +12,7 @@ use Rattle.wjs_effects.proofs.Proceeding.{proceeds_same}
 use Rattle.wjs_loops.specs.declared.rounds.Position.TheVariants as positions
 use Rattle.wjs_loops.specs.Rounds.{position_left, within_after}
 use Rattle.wjs_effects.proofs.Passing.{other_passes}
-use Rattle.wjs_loops.proofs.Within.{proceeds_ended}
+use Rattle.wjs_loops.proofs.BlockLines.{proceeds_ended}
 use Rattle.wjs_loops.proofs.within.after_statement.Goals as goal
 
 pub returns-in-Normal-clause-proceeds : goal.returns-in-Normal-clause-proceeds

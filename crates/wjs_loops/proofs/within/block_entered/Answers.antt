@@ -7,7 +7,7 @@ use Rattle.wjs_model.specs.Lists.{block_items}
 use Rattle.wjs_frames.proofs.Parting.{stands_later, stands_if_later}
 use Rattle.wjs_heap_steps.proofs.Later.{later_same}
 use Rattle.wjs_quick.proofs.Coming.{later_left}
-use Rattle.wjs_loops.proofs.Within.{block_entry, proceeds_entered}
+use Rattle.wjs_loops.proofs.BlockLines.{block_entry, proceeds_entered}
 use Rattle.wjs_loops.proofs.within.block_entered.Goals as goal
 
 pub returns-in-Some-clause-proceeds : goal.returns-in-Some-clause-proceeds

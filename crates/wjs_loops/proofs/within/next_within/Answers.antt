@@ -6,7 +6,7 @@ use Rattle.wjs_frames.specs.Parts.{env_in}
 use Rattle.wjs_heap_steps.proofs.Later.{later_same}
 use Rattle.wjs_loops.specs.declared.rounds.Position.TheVariants as positions
 use Rattle.wjs_loops.specs.Rounds.{position_left}
-use Rattle.wjs_loops.proofs.Within.{block_past, proceeds_ended}
+use Rattle.wjs_loops.proofs.BlockLines.{block_past, proceeds_ended}
 use Rattle.wjs_loops.proofs.within.next_within.Goals as goal
 
 pub statement_within-requires-clause-statement : goal.statement_within-requires-clause-statement

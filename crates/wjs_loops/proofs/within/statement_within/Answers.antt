@@ -15,7 +15,7 @@ use Rattle.wjs_frames.proofs.Parting.{stands_later, stands_if_later}
 use Rattle.wjs_effects.proofs.Proceeding.{proceeds_as, proceeds_twice}
 use Rattle.wjs_loops.specs.declared.rounds.Position.TheVariants as positions
 use Rattle.wjs_loops.specs.Rounds.{position_left, within_after}
-use Rattle.wjs_loops.proofs.Within.{block_next, proceeds_nested}
+use Rattle.wjs_loops.proofs.BlockLines.{block_next, proceeds_nested}
 use Rattle.wjs_loops.proofs.within.statement_within.Goals as goal
 
 pub after_statement-requires-clause-completion : goal.after_statement-requires-clause-completion

@@ -4,8 +4,8 @@ use Rattle.wjs_meaning.specs.Loops.{loop_body}
 use Rattle.wjs_meaning.specs.Reading.{number}
 use Rattle.wjs_frames.specs.Parts.{env_in}
 use Rattle.wjs_step_common.proofs.Following.{follows_as}
-use Rattle.wjs_loops.proofs.Above.{inner_stands}
-use Rattle.wjs_loops.proofs.Within.{block_next, block_past}
+use Rattle.wjs_effects.proofs.Nested.{inner_stands}
+use Rattle.wjs_loops.proofs.BlockLines.{block_next, block_past}
 use Rattle.wjs_loops.proofs.within.within_entered.Goals as goal
 
 pub returns-in_ok-next-in-Some : goal.returns-in_ok-next-in-Some

@@ -2,7 +2,7 @@ use Rattle.std.proofs.Common.{◌≡◌, [], ◌∙◌, subst}
 use Rattle.wjs_model.specs.declared.frame.Activation.{Activation as Frame}
 use Rattle.wjs_frames.proofs.Frames.{put_on}
 use Rattle.wjs_frames.proofs.Moving.{nests_waiting, later_waiting}
-use Rattle.wjs_loops.proofs.above.wait_below.Goals as goal
+use Rattle.wjs_effects.proofs.above.wait_below.Goals as goal
 
 pub returns-clause-nests : goal.returns-clause-nests
 returns-clause-nests g c = nests_waiting g.S.WorldStore.meaning c.args.config.now c.args.frame c.args.point c.put_below.new.frames (put_on _ _ _ _ c.in_ok-inner.ensures.put c.wait_at.ensures)

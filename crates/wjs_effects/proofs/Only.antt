@@ -1,0 +1,51 @@
+-- Statements that have one part, an expression: their lines, and that the part stands where the statement does.
+use Rattle.std.proofs.Common.{◌≡◌, ℕ, Some, None, inl, refl, sym, subst}
+use Rattle.wjs_base.specs.declared.ids.NodeId.{NodeId}
+use Rattle.wjs_base.specs.declared.ids.ObjId.{ObjId}
+use Rattle.wjs_base.specs.Text.{Table}
+use Rattle.wjs_store.specs.Meaning.{Meaning}
+use Rattle.wjs_tree.specs.declared.node.Node.{Node}
+use Rattle.wjs_tree.specs.declared.node.Node.TheVariants as nodes
+use Rattle.wjs_scope.specs.Nesting.{Around, parts, IsAmong}
+use Rattle.wjs_meaning.specs.Deeds.{Env, Eval, AtExpr}
+use Rattle.wjs_meaning.specs.Reading.{node_in}
+use Rattle.wjs_meaning.specs.Statements.{stmt_of}
+use Rattle.wjs_model.specs.declared.config.Config.{Config}
+use Rattle.wjs_model.specs.declared.frame.Activation.{Activation as Frame}
+use Rattle.wjs_model.specs.declared.point.Point.TheVariants as points
+use Rattle.wjs_model.specs.Contents.{Holding}
+use Rattle.wjs_model.specs.Soundness.{IsThere, StandsHere, HasPoint}
+use Rattle.wjs_model.specs.Waiting.{after_stmt}
+use Rattle.wjs_frames.specs.Parts.{node_among}
+use Rattle.wjs_frames.proofs.Parting.{stands_here}
+use Rattle.wjs_effects.specs.declared.entries.Only.{Only}
+use Rattle.wjs_effects.specs.Only.{IsOnly}
+
+pub only_line : (t : Table) (here : ℕ) (n : Node) (only : Only) (held : Holding) (env : Env) → IsOnly n only
+    → stmt_of here (node_in t n) env ≡ Eval (AtExpr only.expression.0) env (after_stmt only.behind here (node_in t n) held env)
+only_line t here (nodes.Expr e end) only held env is =
+    subst (λ (o : Only). stmt_of here (node_in t (nodes.Expr e end)) env ≡ Eval (AtExpr o.expression.0) env (after_stmt o.behind here (node_in t (nodes.Expr e end)) held env)) (sym is) refl
+only_line t here (nodes.Return (Some e) end) only held env is =
+    subst (λ (o : Only). stmt_of here (node_in t (nodes.Return (Some e) end)) env ≡ Eval (AtExpr o.expression.0) env (after_stmt o.behind here (node_in t (nodes.Return (Some e) end)) held env)) (sym is) refl
+only_line t here (nodes.Return None end) only held env is = absurd is
+only_line t here _ only held env is = absurd is
+
+only_among : (n : Node) (only : Only) → IsOnly n only → IsAmong (parts n) (only.expression, Around)
+only_among (nodes.Expr e end) only is = subst (λ (o : Only). IsAmong (parts (nodes.Expr e end)) (o.expression, Around)) (sym is) (inl refl)
+only_among (nodes.Return (Some e) end) only is = subst (λ (o : Only). IsAmong (parts (nodes.Return (Some e) end)) (o.expression, Around)) (sym is) (inl refl)
+only_among (nodes.Return None end) only is = absurd is
+only_among _ only is = absurd is
+
+-- the point names no node
+pub only_point : {S : Type 0} (c : Config S) (f : Frame) (n : Node) (only : Only) → IsOnly n only → HasPoint c f (points.Stmt only.behind)
+only_point c f (nodes.Expr e end) only is = subst (λ (o : Only). HasPoint c f (points.Stmt o.behind)) (sym is) tt
+only_point c f (nodes.Return (Some e) end) only is = subst (λ (o : Only). HasPoint c f (points.Stmt o.behind)) (sym is) tt
+only_point c f (nodes.Return None end) only is = absurd is
+only_point c f _ only is = absurd is
+
+pub only_stands : {S : Type 0} (meaning : S → Meaning) (c : Config S) (f : Frame) (s : NodeId) (only : Only) → IsThere meaning c f → StandsHere c f s
+    → IsOnly (node_among c.units.items f.tree s) only → StandsHere c f only.expression
+only_stands meaning c f s only here h is =
+    stands_here meaning c (record f { node = s }) (node_among c.units.items f.tree s) only.expression
+    (record { scope = here.scope; this = here.this; world = here.world; held = here.held; stands = record { node = h; shown = here.stands.shown } }) refl
+    (only_among (node_among c.units.items f.tree s) only is)
