@@ -12,12 +12,13 @@ ghost use Rattle.wjs_model.specs.Texts as known;
 ghost use Rattle.wjs_frames.specs.Parts.{env_in, node_among};
 
 use wjs_arena::{Code, Native};
-use wjs_base::{OutOfMemory, TextId, units_of_ascii};
+use wjs_base::{OutOfMemory, TextId};
 use wjs_heap_steps::units_of;
 use wjs_meaning::row_of;
 use wjs_model::{Config, Frame};
 use wjs_store::WorldStore;
 use wjs_strings::function_text;
+use wjs_texts::units_of_ascii;
 use wjs_tree::{Node, NodeId};
 
 /// The name of a function that has none.
