@@ -1,5 +1,5 @@
 -- Texts that are found by their keys.
-use Rattle.std.proofs.Common.{◌≡◌, ℕ, suc, ◌+◌, ◌<◌, ◌≤◌, ◌⊎◌, ⊎_elim, inr, Bool, true, false, cond, [], ◌∷◌, ◌++◌, Option, None, Some, length, map, slice_get, IsSome, is_some, refl, sym, ap, subst, ◌∙◌, true≢false, arith, append-nil}
+use Rattle.std.proofs.Common.{◌≡◌, ℕ, suc, ◌+◌, ◌<◌, ◌≤◌, ◌⊎◌, ⊎_elim, inr, Bool, true, false, [], ◌∷◌, ◌++◌, Option, None, Some, length, slice_get, IsSome, is_some, refl, sym, ap, subst, ◌∙◌, true≢false, arith}
 use Rattle.std.proofs.lemmas.Bool.{cases_Bool, cases_lt, cases_order}
 use Rattle.std.proofs.lemmas.List.{length-map, map_push}
 use Rattle.std.proofs.lemmas.List.Elements.{All-push}
@@ -15,7 +15,7 @@ use Rattle.wjs_texts.specs.declared.keys.Key.{Key}
 use Rattle.wjs_texts.specs.Hash.{hash_of}
 use Rattle.wjs_texts.specs.Keys.{Entries, key_of, same_key, at_key, texts_in, past_turns, IsEntry, AreFound, HasNone, IsFree}
 use Rattle.wjs_texts.specs.Spans.{units_in, IsWithin, Stands}
-use Rattle.wjs_base.specs.Text.{Units, Table, Denotes, IsText, IsTable, Grows, Interns}
+use Rattle.wjs_base.specs.Text.{Units, Table, Denotes, IsText, IsTable, Interns}
 use Rattle.wjs_base.proofs.Lists.{get_last, get_pushed}
 
 same_key_laws : IsEquivalence same_key

@@ -1,4 +1,4 @@
-use Rattle.std.proofs.Common.{sym, ap, ◌∙◌}
+use Rattle.std.proofs.Common.{ap, ◌∙◌}
 use Rattle.wjs_texts.specs.Hash.{hash_of}
 use Rattle.wjs_texts.proofs.texts.first_hash.Goals as goal
 

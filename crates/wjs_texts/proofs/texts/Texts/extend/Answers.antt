@@ -1,5 +1,5 @@
 use Rattle.std.proofs.lemmas.Result.{err_from_is_err_and}
-use Rattle.std.proofs.Common.{◌≡◌, ◌++◌, length, refl, sym, ap, subst, ◌∙◌, arith}
+use Rattle.std.proofs.Common.{◌++◌, length, refl, sym, ap, subst, ◌∙◌, arith}
 use Rattle.wjs_texts.specs.Hash.{hash_behind, hash_of}
 use Rattle.wjs_texts.specs.Keys.{texts_in}
 use Rattle.wjs_texts.specs.Spans.{units_in}
