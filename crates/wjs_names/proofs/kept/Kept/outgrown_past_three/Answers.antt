@@ -2,7 +2,7 @@ use Rattle.std.proofs.Common.{◌∙◌, ap, sym, subst}
 use Rattle.wjs_base.specs.Order.{name_cmp}
 use Rattle.wjs_names.specs.Kept.{rows_of}
 use Rattle.wjs_names.specs.Lists.{IsInOrder}
-use Rattle.wjs_names.proofs.kept.Kept.outgrown_elsewhere.Goals as goal
+use Rattle.wjs_names.proofs.kept.Kept.outgrown_past_three.Goals as goal
 
 pub many_of-requires : goal.many_of-requires
 many_of-requires g c = subst (IsInOrder name_cmp) (sym c.deref.ensures.value) (subst (λ k. IsInOrder name_cmp (rows_of k)) c.in-Few.is c.requires)
