@@ -27,7 +27,7 @@ HELD = os.path.join(HERE, 'counts.json')
 TOP = os.path.dirname(HERE)
 COUNTER = os.path.join(TOP, 'tests', 'hostile', 'refuse.c')
 TURNS_NAME = 'turns_bench'
-TURNS_NAMES = 'wjs_base wjs_io wjs_load wjs_machine wjs_model wjs_overlay wjs_start'
+TURNS_NAMES = 'wjs_base wjs_texts wjs_io wjs_load wjs_machine wjs_model wjs_overlay wjs_start'
 # so much more than is held is too much; in percent
 MOST_MORE = 3
 DEAREST = 10

@@ -8,11 +8,11 @@ use crate::fault::Fault;
 use crate::schedule::{Schedule, schedule_of};
 use std::alloc::Global;
 use wjs_activity::{PlayEnd, play};
-use wjs_base::Texts;
 use wjs_division::load_parts;
 use wjs_io::{Sink, Source, read_all};
 use wjs_load::library;
 use wjs_model::LoadedProgram;
+use wjs_texts::Texts;
 
 /// The most bytes that are read.
 const MOST_BYTES: u64 = 16_777_216;

@@ -21,7 +21,7 @@ use crate::ends::{Ends, PlayTurn};
 use crate::lines::lines;
 use crate::rounds::{rounds, scheduled};
 use std::alloc::Global;
-use wjs_base::{OutOfMemory, Texts};
+use wjs_base::OutOfMemory;
 use wjs_heap::Heap;
 use wjs_io::{Sink, write_pieces};
 use wjs_machine::Halt;
@@ -29,6 +29,7 @@ use wjs_model::{Config, LoadedProgram, State};
 use wjs_overlay::Overlay;
 use wjs_parts::start_parts;
 use wjs_store::WorldStore;
+use wjs_texts::Texts;
 use wjs_tries::{Common, none_apart};
 use wjs_turns::walk;
 

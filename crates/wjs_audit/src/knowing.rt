@@ -5,8 +5,9 @@ ghost use Rattle.wjs_audit.specs.Logs.{KnowsName, KnowsValue, KnowsContent, Know
 
 use crate::deed::Deed;
 use crate::log::Log;
-use wjs_base::{Content, Name, Names, Slot, TextId, Texts, Value};
+use wjs_base::{Content, Name, Names, Slot, TextId, Value};
 use wjs_store::Verdict;
+use wjs_texts::Texts;
 
 /// The greatest array index (ECMA-262, 3rd edition, section 15.4).
 const GREATEST_INDEX: u32 = 4_294_967_294;

@@ -4,7 +4,8 @@ ghost use Rattle.wjs_audit.specs.Reading.{numbers, TextMay, Named};
 
 use std::alloc::Global;
 use std::collections::BTreeSet;
-use wjs_base::{OutOfMemory, TextFault, Texts};
+use wjs_base::OutOfMemory;
+use wjs_texts::{TextFault, Texts};
 
 /// The texts so far, and the numbers that name them.
 #[derive(Drop)]

@@ -9,8 +9,9 @@ ghost use Rattle.wjs_audit.specs.Tables.{name_ids, value_ids, content_ids, verdi
 use crate::deed::Deed;
 use crate::spelling::push_text;
 use std::alloc::Global;
-use wjs_base::{Content, Name, Names, OutOfMemory, Slot, TextId, Texts, Value};
+use wjs_base::{Content, Name, Names, OutOfMemory, Slot, TextId, Value};
 use wjs_store::Verdict;
+use wjs_texts::Texts;
 
 /// No text of a table has a line yet.
 pub(crate) fn unmarked(alloc: Global, texts: &Texts) -> Result<Vec<bool>, OutOfMemory>

@@ -12,8 +12,9 @@ use crate::log::Log;
 use crate::needed::{push_texts_of, unmarked};
 use std::alloc::Global;
 use std::fmt::Write;
-use wjs_base::{Content, Name, Names, ObjId, OutOfMemory, Slot, Texts, Value, WorldId};
+use wjs_base::{Content, Name, Names, ObjId, OutOfMemory, Slot, Value, WorldId};
 use wjs_store::Verdict;
+use wjs_texts::Texts;
 
 /// Puts a word behind a text.
 fn push_word(out: &mut String, word: &str) -> Result<(), OutOfMemory>

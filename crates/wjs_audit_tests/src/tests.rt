@@ -3,9 +3,10 @@
 use std::alloc::Global;
 use std::test::Fail;
 use wjs_audit::{AuditFault, Log, Logged, audit, audit_in, knows_log, read_log, spell_log};
-use wjs_base::{Content, Name, ObjId, Slot, TextId, Texts, Value, WorldId};
+use wjs_base::{Content, Name, ObjId, Slot, TextId, Value, WorldId};
 use wjs_full::{FullStore, run_actions};
 use wjs_store::Action;
+use wjs_texts::Texts;
 
 /// A write, a sprout, a read of what was written, another write, and a commit, which is refused.
 const REFUSED: &[u8] =

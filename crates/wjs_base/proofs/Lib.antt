@@ -5,9 +5,4 @@ pub mod Options
 pub mod Orders
 pub mod Results
 pub mod Trees
-pub mod Decimals
-mod Finding
-mod Hashes
-mod Standing
 pub mod TextLaws
-mod Transcoding

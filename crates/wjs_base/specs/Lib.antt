@@ -1,10 +1,7 @@
 pub mod Codes
-pub mod Hash
-pub mod Keys
 pub mod Order
 pub mod Range
 pub mod Same
-pub mod Spans
 pub mod Spelling
 pub mod Stacks
 pub mod Text

@@ -1,5 +1,5 @@
 //! What the node of a function says of it, in the tree of a frame.
-ghost use Rattle.std.specs.Prelude.{◌≡◌, length, MatchOption};
+ghost use Rattle.std.specs.Prelude.{◌≡◌, length};
 ghost use Rattle.std.specs.Option.{option_map};
 ghost use Rattle.wjs_base.specs.Text.{Table};
 ghost use Rattle.wjs_by_content.specs.Tables.{text_in};
@@ -8,23 +8,13 @@ ghost use Rattle.wjs_meaning.specs.Reading.{node_in};
 ghost use Rattle.wjs_meaning.specs.Trees.{formals_of, name_of};
 ghost use Rattle.wjs_model.specs.Soundness.{Base};
 ghost use Rattle.wjs_model.specs.Texts as known;
-ghost use Rattle.wjs_frames.specs.Parts.{env_in, node_among};
+ghost use Rattle.wjs_frames.specs.Parts.{env_in};
 
 use wjs_base::TextId;
+use wjs_frames::node_at;
 use wjs_model::{Config, Frame};
 use wjs_store::WorldStore;
 use wjs_tree::{Node, NodeId};
-
-/// A node of the frame's tree; none where there is none, which the meaning takes for an empty statement.
-fn node_at<'a, S: WorldStore>(config: &'a Config<S>, frame: &Frame, id: NodeId) -> Option<&'a Node>
-    ensures { MatchOption result (node_among config.now.units.items frame.now.tree id ≡ Node.Empty)
-        (λ node. node_among config.now.units.items frame.now.tree id ≡ node.now) }
-{
-    match config.units.get(frame.tree() as usize) {
-        Some(unit) => unit.node(id),
-        None => None,
-    }
-}
 
 /// How many formals a function has.
 pub(crate) fn formals_count<S: WorldStore>(config: &Config<S>, frame: &Frame, id: NodeId) -> usize

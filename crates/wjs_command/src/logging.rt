@@ -16,12 +16,12 @@ use crate::report::{Report, Stop};
 use crate::running::{begin, stop_of, tell, write_or_stop};
 use std::alloc::Global;
 use wjs_audit::Logged;
-use wjs_base::Texts;
 use wjs_io::{Sink, Unheard};
 use wjs_logs::spell_store;
 use wjs_machine::{Ending, run};
 use wjs_model::{Config, LoadedProgram};
 use wjs_store::WorldStore;
+use wjs_texts::Texts;
 
 /// Runs a script's program behind the library, with so many steps, over a new store, and writes the log of its actions in place of
 /// what it prints.

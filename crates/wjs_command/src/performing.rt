@@ -14,12 +14,12 @@ use crate::playing::play_parts;
 use crate::report::{Report, Stop, done, refuse};
 use crate::running::{run_script, write_or_stop};
 use std::alloc::Global;
-use wjs_base::Texts;
 use wjs_io::Sink;
 use wjs_load::{LoadFault, load};
 use wjs_options::{Mode, Options};
 use wjs_overlay::Overlay;
 use wjs_store::WorldStore;
+use wjs_texts::Texts;
 
 /// Does what the options ask with the bytes, in sparse worlds.
 pub fn perform<O: Sink>(

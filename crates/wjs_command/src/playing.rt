@@ -12,11 +12,11 @@ use crate::status::Status;
 use std::alloc::Global;
 use std::mem::ManuallyDrop;
 use wjs_activity::{PlayEnd, play};
-use wjs_base::Texts;
 use wjs_division::{InputFault, load_parts};
 use wjs_io::Sink;
 use wjs_load::library;
 use wjs_model::LoadedProgram;
+use wjs_texts::Texts;
 
 /// Plays the scripts that the bytes are divided into, in rounds of turns of so many steps, each with this budget for a try: in worlds
 /// of their own under one first world.

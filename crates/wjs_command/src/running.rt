@@ -18,7 +18,7 @@ use crate::report::{Report, Stop, done, report_line};
 use crate::status::Status;
 use std::alloc::Global;
 use std::mem::ManuallyDrop;
-use wjs_base::{OutOfMemory, Texts, Value};
+use wjs_base::{OutOfMemory, Value};
 use wjs_io::{Sink, write_pieces};
 use wjs_load::library;
 use wjs_machine::{Ending, run};
@@ -27,6 +27,7 @@ use wjs_options::Mode;
 use wjs_reports::{show_thrown, world_lines};
 use wjs_start::start;
 use wjs_store::WorldStore;
+use wjs_texts::Texts;
 
 /// Runs a script's program behind the library, with so many steps, over a new store. What stands behind its output goes by the mode.
 pub fn run_script<S: WorldStore + Drop, O: Sink>(

@@ -6,8 +6,9 @@ ghost use Rattle.wjs_by_content.specs.Conversions.{alike, equal, is_nan, is_null
 
 use crate::convert::to_number;
 use std::cmp::Ordering;
-use wjs_base::{Texts, Value, Whole, same_value};
+use wjs_base::{Value, Whole, same_value};
 use wjs_num::less;
+use wjs_texts::Texts;
 
 /// `===` (ECMA-262, 3rd edition, section 11.9.6): one value, but NaN equals nothing. Objects are equal where they are one.
 #[inline(always)]

@@ -6,8 +6,9 @@ ghost use Rattle.wjs_by_content.specs.Tables.{value_in, knows_value};
 ghost use Rattle.wjs_by_content.specs.Conversions.{to_boolean, primitive_number, primitive_text};
 
 use std::alloc::Global;
-use wjs_base::{LONGEST_TEXT, OutOfMemory, TextId, Texts, Value, Whole};
+use wjs_base::{OutOfMemory, TextId, Value, Whole};
 use wjs_num::{read_text, write_radix};
+use wjs_texts::{LONGEST_TEXT, Texts};
 
 /// `undefined`, `null`, `true` and `false`.
 const UNDEFINED: [u16; 9] = [117, 110, 100, 101, 102, 105, 110, 101, 100];

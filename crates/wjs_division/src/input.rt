@@ -13,9 +13,10 @@ ghost use Rattle.wjs_division.specs.Inputs.{ArePrograms, IsInput, IsNoInput, IsN
 use crate::division::{Piece, parts_of};
 use crate::lines::line_ends;
 use std::alloc::Global;
-use wjs_base::{OutOfMemory, Texts};
+use wjs_base::OutOfMemory;
 use wjs_load::{LoadFault, Refusal, load};
 use wjs_model::LoadedProgram;
+use wjs_texts::Texts;
 
 /// The most parts of a play.
 const MOST: usize = 1000;

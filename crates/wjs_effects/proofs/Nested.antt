@@ -26,11 +26,6 @@ use Rattle.wjs_frames.specs.Parts.{env_in, node_among, then_at}
 use Rattle.wjs_step_common.specs.Lists.{statements_in}
 use Rattle.wjs_effects.proofs.Parted.{statement_stands}
 
--- one that was put on can be taken off
-pub some_on : {A : Type 0} (all xs : List A) (x : A) → all ≡ xs ++ x ∷ [] → all ≡ [] → ⊥
-some_on all [] x e h = cc
-some_on all (y ∷ xs) x e h = cc
-
 -- a frame was put above one that waits, and taken off again
 module _ (old all new : List Frame) (waiting above : Frame) (phase : Phase) (start : Start) (node : NodeId) (held : List Held) where
   abbrev begun : Frame

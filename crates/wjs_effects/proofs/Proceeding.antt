@@ -57,10 +57,6 @@ module _ {S : Type 0} (meaning : S → Meaning) where
           step_paid meaning goal env Ret (act t env) old later left r el (λ st n. then_ends (interp eval (entry goal env) st n) ∙ ap (λ (a : Act). interp eval a st n) (is t)) h;
     }
 
-    -- what goes on with those that are left goes on with all
-    pub goes_on_from : (all rest : Table → Env → Act) (old mid new : Config S) (r : Result (Unit {0}) OutOfMemory) → Proceeds meaning (λ t. all t (env_in meaning old t f)) (λ t. rest t (env_in meaning mid t f)) old mid → GoesOn meaning f mid new r rest → GoesOn meaning f old new r all
-    goes_on_from all rest old mid new r p h = p.by new r h
-
     -- what the frame does at a point stays
     then_later : (point : Point) (t : Table) (old mid : Config S) (e : Completion) → Later meaning old mid → then_at meaning mid f point t (env_in meaning mid t f) e ≡ then_at meaning old f point t (env_in meaning old t f) e
     then_later point t old mid e l = λ i. after point f.node.0 (node_in t (node_among (l.units i).items f.tree f.node)) (holding_in t f.held) (env_later meaning old mid t f l i) e

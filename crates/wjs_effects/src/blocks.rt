@@ -3,8 +3,8 @@ ghost use Rattle.std.specs.Prelude.{◌≡◌, slice_get};
 ghost use Rattle.wjs_frames.specs.Parts.{node_among};
 ghost use Rattle.wjs_step_common.specs.Lists.{statements_in};
 
+use wjs_frames::node_at;
 use wjs_model::{Config, Frame};
-use wjs_quick::node_at;
 use wjs_store::WorldStore;
 use wjs_tree::{Node, NodeId};
 

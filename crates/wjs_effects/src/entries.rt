@@ -10,9 +10,8 @@ ghost use Rattle.wjs_effects.specs.Only.{IsOnly};
 
 use crate::above::wait_below;
 use wjs_base::OutOfMemory;
-use wjs_frames::{Part, enter};
+use wjs_frames::{Part, enter, node_at};
 use wjs_model::{Config, Frame, Point, StmtPoint};
-use wjs_quick::node_at;
 use wjs_store::WorldStore;
 use wjs_tree::{Node, NodeId};
 

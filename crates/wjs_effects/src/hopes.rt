@@ -2,8 +2,9 @@
 //!
 //! What is told here decides only whether something is tried, so no clause says of it: a wrong answer costs time and nothing else.
 
+use wjs_frames::node_at;
 use wjs_model::{Config, Frame};
-use wjs_quick::{is_hopeless, node_at};
+use wjs_quick::is_hopeless;
 use wjs_store::WorldStore;
 use wjs_tree::{Node, NodeId, PrefixOperator};
 

@@ -17,9 +17,10 @@ use crate::effect::Store;
 use crate::targets::target_at;
 use crate::updates::{given, updated};
 use wjs_base::Value;
+use wjs_frames::node_at;
 use wjs_heap_steps::peek_value_of;
 use wjs_model::{Config, Fix, Frame, Reference};
-use wjs_quick::{is_hopeless, node_at, operated, value_at};
+use wjs_quick::{is_hopeless, operated, value_at};
 use wjs_store::WorldStore;
 use wjs_tree::{AssignOperator, BinaryOperator, Node, NodeId, PrefixOperator, UpdateOperator};
 

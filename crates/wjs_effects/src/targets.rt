@@ -17,10 +17,10 @@ ghost use Rattle.wjs_effects.specs.Leaving.{GoalLeaves, ActLeaves};
 
 use crate::effect::Effect;
 use wjs_base::Value;
-use wjs_frames::{Part, operand_of};
+use wjs_frames::{Part, node_at, operand_of};
 use wjs_heap_steps::{name_of, peek_target};
 use wjs_model::{Completion, Config, Frame, Reference};
-use wjs_quick::{name_there, node_at, value_at};
+use wjs_quick::{name_there, value_at};
 use wjs_step_common::is_nullish;
 use wjs_store::WorldStore;
 use wjs_tree::{Node, NodeId, Spelt};

@@ -13,7 +13,6 @@ use Rattle.wjs_tree.specs.Shows.{Has}
 use Rattle.wjs_arena.specs.Entries.{scope_of}
 use Rattle.wjs_scope.specs.Nesting.{Side, Around, Caught, on_side, parts, IsAmong}
 use Rattle.wjs_scope.specs.Declarations.{elements_of}
-use Rattle.wjs_scope.specs.Places.{IsScript}
 use Rattle.wjs_model.specs.declared.config.Config.{Config}
 use Rattle.wjs_model.specs.declared.point.Point.{Point}
 use Rattle.wjs_model.specs.declared.frame.Activation.{Activation as Frame}

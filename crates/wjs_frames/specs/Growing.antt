@@ -4,7 +4,7 @@ use Rattle.wjs_base.specs.Text.{Table, Grows}
 use Rattle.wjs_store.specs.Meaning.{Meaning}
 use Rattle.wjs_model.specs.declared.config.Config.{Config}
 use Rattle.wjs_model.specs.Soundness.{Sound}
-use Rattle.wjs_model.specs.Outside.{Outside, Admits, Knows}
+use Rattle.wjs_model.specs.Outside.{Outside, Knows}
 use Rattle.wjs_model.specs.Configurations.{rest, turns}
 
 -- with a later table outside

@@ -23,7 +23,7 @@ pub use laws::{
     looks_follow, more_texts_change_nothing, more_texts_outside_change_nothing,
     nested_ends_shorten, reached_is_reached, shorter_follow, step_paid, turns_reach,
 };
-pub use node::{node_among, node_of, place_at};
+pub use node::{node_among, node_at, node_of, place_at};
 pub use operands::operand_of;
 pub use part::Part;
 pub use take::take_top;

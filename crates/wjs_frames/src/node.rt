@@ -19,6 +19,19 @@ pub fn node_of<'a, S: WorldStore>(config: &'a Config<S>, frame: &Frame) -> Optio
     node_among(config, frame.tree(), frame.node())
 }
 
+/// A node of the tree at hand; none where there is none, which the meaning takes for an empty statement.
+#[inline(always)]
+pub fn node_at<'a, S: WorldStore>(
+    config: &'a Config<S>,
+    frame: &Frame,
+    node: NodeId,
+) -> Option<&'a Node>
+    ensures { MatchOption result (node_among config.now.units.items frame.now.tree node ≡ Node.Empty)
+        (λ found. node_among config.now.units.items frame.now.tree node ≡ found.now) }
+{
+    node_among(config, frame.tree(), node)
+}
+
 /// A node of a tree; none where there is none.
 #[inline(always)]
 pub fn node_among<S: WorldStore>(config: &Config<S>, tree: u32, node: NodeId) -> Option<&Node>

@@ -2,8 +2,8 @@
 
 use std::alloc::Global;
 use wjs_arena::Arena;
-use wjs_base::Texts;
 use wjs_store::WorldStore;
+use wjs_texts::Texts;
 
 /// Texts, objects, and the worlds that hold the slots of the objects.
 ///

@@ -4,8 +4,8 @@ ghost use Rattle.wjs_base.specs.Text.{longest};
 ghost use Rattle.wjs_meaning.specs.Errors.{message_of};
 
 use std::alloc::{AllocError, Global};
-use wjs_base::LONGEST_TEXT;
 use wjs_meaning::Trouble;
+use wjs_texts::LONGEST_TEXT;
 
 /// What follows a name that is not defined.
 const NOT_DEFINED: &[u8] = b" is not defined";

@@ -10,7 +10,8 @@ use crate::cursor::Cursor;
 use crate::pieces::Scanned;
 use std::alloc::{AllocError, Global};
 use thiserror::Error;
-use wjs_base::{TextFault, TextId, Texts, Whole};
+use wjs_base::{TextId, Whole};
+use wjs_texts::{TextFault, Texts};
 use wjs_tree::{Tok, Token};
 
 /// Why a script has no tokens.

@@ -10,12 +10,13 @@ ghost use Rattle.wjs_load.specs.Reading.{ParsedAnswers, ReadAnswers};
 use crate::stopping::fault_of;
 use crate::tokens::LoadFault;
 use std::alloc::Global;
-use wjs_base::{OutOfMemory, Texts};
+use wjs_base::OutOfMemory;
 use wjs_model::LoadedProgram;
 use wjs_order::ordered;
 use wjs_parse::program;
 use wjs_parse_expr::ParseFault;
 use wjs_scope::{declared_bodies, places};
+use wjs_texts::Texts;
 use wjs_tree::{Program, Tok};
 
 /// The loaded program that the tokens spell, whose names are those of the table of texts. They are refused exactly where no

@@ -5,8 +5,8 @@ ghost use Rattle.wjs_lexer.specs.Lexing.{HasTokens};
 ghost use Rattle.wjs_load.specs.Loading.{IsRefused};
 
 use std::alloc::Global;
-use wjs_base::Texts;
 use wjs_lexer::{LexFault, lex};
+use wjs_texts::Texts;
 use wjs_tree::Tok;
 
 /// Why bytes are no script. The first of these that holds is the one that is told.

@@ -10,8 +10,9 @@ ghost use Rattle.wjs_load.specs.Loading.{IsProgramOrNot, IsRefused};
 use crate::script::read;
 use crate::tokens::{LoadFault, tokens};
 use std::alloc::Global;
-use wjs_base::{OutOfMemory, Texts};
+use wjs_base::OutOfMemory;
 use wjs_model::{LIBRARY, LoadedProgram};
+use wjs_texts::Texts;
 
 /// The loaded program that at most 16,777,216 bytes spell; its texts are put into the table, in which what was there keeps its
 /// number, also after a fault. Each refusal comes exactly where it holds of the bytes (ECMA-262, 3rd edition, sections 6, 7

@@ -7,8 +7,9 @@ ghost use Rattle.wjs_logs.specs.Telling.{Tells};
 
 use std::alloc::Global;
 use wjs_audit::{Logged, spell_log};
-use wjs_base::{OutOfMemory, Texts};
+use wjs_base::OutOfMemory;
 use wjs_store::WorldStore;
+use wjs_texts::Texts;
 
 /// The bytes of a store's log, with the texts of a table that knows its actions. They tell these actions, by content.
 pub fn spell_store<S: WorldStore + Drop>(

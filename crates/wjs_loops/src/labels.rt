@@ -12,9 +12,10 @@ ghost use Rattle.wjs_model.specs.Units.{node_of, unit_in};
 ghost use Rattle.wjs_frames.specs.Parts.{env_in};
 ghost use Rattle.wjs_loops.specs.Labels.{label_of};
 
-use wjs_base::{TextId, Texts, Value, same_value};
+use wjs_base::{TextId, Value, same_value};
 use wjs_model::{Config, Frame, LoadedProgram};
 use wjs_store::WorldStore;
+use wjs_texts::Texts;
 use wjs_tree::{Node, NodeId};
 
 /// Whether two labels are one, in every table that grows from the texts.

@@ -10,12 +10,13 @@ ghost use Rattle.wjs_start.specs.First.{IsNew};
 ghost use Rattle.wjs_machine_tests.specs.Telling.{told_by_store, HasTold, told_of_run};
 
 use std::alloc::Global;
-use wjs_base::{OutOfMemory, Texts};
+use wjs_base::OutOfMemory;
 use wjs_io::Unheard;
 use wjs_machine::{Ending, run};
 use wjs_model::{Config, LoadedProgram};
 use wjs_start::start;
 use wjs_store::WorldStore;
+use wjs_texts::Texts;
 
 /// Runs a configuration to its end, and hears nothing of its output. Where memory does not run out, the store then tells the
 /// actions of the run, if it tells any.

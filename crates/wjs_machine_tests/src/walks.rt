@@ -7,11 +7,12 @@ ghost use Rattle.wjs_model.specs.Texts.{KnowsUnit, PlacesUnit};
 ghost use Rattle.wjs_start.specs.First.{IsNew};
 
 use std::alloc::Global;
-use wjs_base::{OutOfMemory, Texts};
+use wjs_base::OutOfMemory;
 use wjs_heap_steps::sprout;
 use wjs_model::{Config, Frames, LoadedProgram, State};
 use wjs_parts::{enter, start_parts};
 use wjs_store::WorldStore;
+use wjs_texts::Texts;
 use wjs_turns::walk;
 
 /// Takes so many steps at most, where the run goes on, and gives how many. It may rest then, and walk on.

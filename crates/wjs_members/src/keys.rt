@@ -10,11 +10,12 @@ ghost use Rattle.wjs_frames.specs.Doing.{Does};
 ghost use Rattle.wjs_frames.specs.Following.{Later};
 
 use std::alloc::Global;
-use wjs_base::{LONGEST_TEXT, Name, OutOfMemory, Value};
+use wjs_base::{Name, OutOfMemory, Value};
 use wjs_heap_steps::{intern, name_of};
 use wjs_model::Config;
 use wjs_step_common::name_of_value;
 use wjs_store::WorldStore;
+use wjs_texts::LONGEST_TEXT;
 use wjs_tree::{Key, PropertyKey, Spelt};
 
 /// The name of a property in an object literal.

@@ -1,6 +1,6 @@
 //! Targets (ECMA-262, 3rd edition, section 8.7): which expressions are targets - a name, a member, or a target in parentheses -
 //! and what a target begins with.
-ghost use Rattle.std.specs.Prelude.{◌≡◌, MatchOption};
+ghost use Rattle.std.specs.Prelude.{◌≡◌};
 ghost use Rattle.wjs_base.specs.Text.{Table};
 ghost use Rattle.wjs_meaning.specs.Deeds.{tree_here};
 ghost use Rattle.wjs_meaning.specs.Trees as trees;
@@ -11,7 +11,7 @@ ghost use Rattle.wjs_frames.specs.Handling.{Runs, Begins};
 use crate::members::{at_start, dot_start};
 use crate::names::name_target;
 use wjs_base::OutOfMemory;
-use wjs_frames::{Part, enter_last, finish, node_of};
+use wjs_frames::{Part, enter_last, finish, node_at, node_of};
 use wjs_model::{Completion, Config, Frame, Purpose, Start};
 use wjs_store::WorldStore;
 use wjs_tree::{Node, NodeId};
@@ -90,20 +90,5 @@ fn target_form<S: WorldStore>(config: &Config<S>, frame: &Frame, node: NodeId) -
         Some(Node::At(_, _)) => TargetForm::Target,
         Some(Node::Paren(part)) => TargetForm::Inside(*part),
         _ => TargetForm::Other,
-    }
-}
-
-/// A node of the tree at hand; none where there is none, which the meaning takes for an empty statement.
-fn node_at<'a, S: WorldStore>(
-    config: &'a Config<S>,
-    frame: &Frame,
-    node: NodeId,
-) -> Option<&'a Node>
-    ensures { MatchOption result (node_among config.now.units.items frame.now.tree node ≡ Node.Empty)
-        (λ found. node_among config.now.units.items frame.now.tree node ≡ found.now) }
-{
-    match config.units.get(frame.tree() as usize) {
-        Some(unit) => unit.node(node),
-        None => None,
     }
 }

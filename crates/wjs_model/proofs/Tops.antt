@@ -1,6 +1,5 @@
 -- The last of a list.
-use Rattle.std.proofs.Common.{◌≡◌, suc, ◌-◌, true, false, List, [], ◌∷◌, ◌++◌, Some, is_some, length, slice_get, slice_index_or, slice_set, refl, sym, ap, ◌∙◌, arith}
-use Rattle.std.specs.Prelude.{option_map}
+use Rattle.std.proofs.Common.{◌≡◌, suc, ◌-◌, true, false, List, [], ◌∷◌, ◌++◌, Some, is_some, length, slice_get, refl, sym, ap, ◌∙◌, arith}
 use Rattle.wjs_model.specs.Frames.{last, front, on_last}
 
 pub last-snoc : {A : Type 0} (xs : List A) (x : A) → last (xs ++ x ∷ []) ≡ Some x
@@ -21,27 +20,10 @@ last-get (x ∷ y ∷ xs) =
     let d : length (x ∷ y ∷ xs) - 1 ≡ suc (length xs) = omega arith in
     last-get (y ∷ xs) ∙ ap (λ i. slice_get (y ∷ xs) i) e ∙ sym (ap (λ i. slice_get (x ∷ y ∷ xs) i) d)
 
--- the last is set
-pub set-last : {A : Type 0} (g : A → A) (xs : List A) (d : A) → slice_set xs (length xs - 1) (g (slice_index_or xs (length xs - 1) d)) ≡ on_last g xs
-set-last g [] d = refl
-set-last g (x ∷ []) d = refl
-set-last g (x ∷ y ∷ xs) d =
-    let e : length (y ∷ xs) - 1 ≡ length xs = omega arith in
-    let f : length (x ∷ y ∷ xs) - 1 ≡ suc (length xs) = omega arith in
-    ap (λ i. slice_set (x ∷ y ∷ xs) i (g (slice_index_or (x ∷ y ∷ xs) i d))) f
-    ∙ ap (λ i. x ∷ slice_set (y ∷ xs) i (g (slice_index_or (y ∷ xs) i d))) (sym e)
-    ∙ ap (λ l. x ∷ l) (set-last g (y ∷ xs) d)
-
 pub on_last-snoc : {A : Type 0} (g : A → A) (xs : List A) (x : A) → on_last g (xs ++ x ∷ []) ≡ xs ++ g x ∷ []
 on_last-snoc g [] x = refl
 on_last-snoc g (y ∷ []) x = refl
 on_last-snoc g (y ∷ z ∷ xs) x = ap (λ l. y ∷ l) (on_last-snoc g (z ∷ xs) x)
-
-pub last-on_last : {A : Type 0} (g : A → A) (xs : List A) → last (on_last g xs) ≡ option_map g (last xs)
-last-on_last g [] = refl
-last-on_last g (x ∷ []) = refl
-last-on_last g (x ∷ y ∷ []) = refl
-last-on_last g (x ∷ y ∷ z ∷ xs) = last-on_last g (y ∷ z ∷ xs)
 
 -- a list with a last is what stands before it, and it
 pub before-last : {A : Type 0} (xs : List A) (P : Type 0) → true ≡ is_some (last xs) → ((ys : List A) (y : A) → xs ≡ ys ++ y ∷ [] → P) → P
@@ -53,9 +35,3 @@ pub none-last : {A : Type 0} (xs : List A) → false ≡ is_some (last xs) → x
 none-last [] h = refl
 none-last (x ∷ []) h = absurd cc
 none-last (x ∷ y ∷ xs) h = absurd (let e : y ∷ xs ≡ [] = none-last (y ∷ xs) h in cc)
-
--- one that isn't empty has a last
-pub some-last : {A : Type 0} (xs : List A) → (length xs ≡ 0 → ⊥) → true ≡ is_some (last xs)
-some-last [] h = absurd (h refl)
-some-last (x ∷ []) h = refl
-some-last (x ∷ y ∷ xs) h = some-last (y ∷ xs) (λ e. cc)

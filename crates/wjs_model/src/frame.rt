@@ -51,6 +51,8 @@ pub enum Phase {
     Entering(Point, Operand),
 }
 
+const _: () = prove!(size_of::<Phase>() == 104);
+
 /// What a frame holds until it goes on.
 #[derive(Clone, Copy)]
 pub enum Held {
@@ -178,8 +180,8 @@ pub(crate) struct Kept {
 // With the 8 bytes of the allocator a frame takes 144.
 const _: () = prove!(size_of::<Kept>() == 136);
 
-/// A node that is being run. It has a place of its own in memory, so that from the frames to a handler and back nothing
-/// but its address moves. Contracts see what it is, waiting at its point; another phase is kept beside it.
+/// A node that is being run. It has a place of its own in memory, so that from the frames to a handler and back only its
+/// address moves, and the phase that it had. Contracts see what it is, waiting at its point; another phase is kept beside it.
 #[derive(Drop)]
 pub struct Frame {
     pub(crate) at: Box<Kept>,
@@ -378,7 +380,7 @@ impl Frame {
 #[derive(Drop)]
 pub struct Frames {
     stack: Stack,
-    /// A few frames that have ended. The next ones are made in their places, since a frame is made at every other step.
+    /// A few frames that have ended. The next ones are made in their places.
     spare: Vec<Frame>,
 }
 
@@ -432,9 +434,10 @@ impl Frames {
         push_top(&mut self.stack, Top { frame, phase })
     }
 
-    /// Puts a frame of its own on top.
+    /// Puts a frame of its own on top; after a refusal the frames are as they were.
     pub fn add(&mut self, alloc: Global, activation: Activation) -> Result<(), OutOfMemory>
-        ensures { OnOk result (self.new ≡ self.old ++ activation ∷ []) }
+        ensures ok { OnOk result (self.new ≡ self.old ++ activation ∷ []) }
+        ensures err { OnErr result (self.new ≡ self.old) }
     {
         match activation.phase {
             Phase::Waiting(point) => self.add_waiting(alloc, activation, point),
@@ -451,7 +454,8 @@ impl Frames {
         point: Point,
     ) -> Result<(), OutOfMemory>
         requires { activation.phase ≡ Phase.Waiting point }
-        ensures { OnOk result (self.new ≡ self.old ++ activation ∷ []) }
+        ensures ok { OnOk result (self.new ≡ self.old ++ activation ∷ []) }
+        ensures err { OnErr result (self.new ≡ self.old) }
     {
         let frame = Frame::new(alloc, activation, point)?;
         self.push(frame)?;
@@ -460,7 +464,8 @@ impl Frames {
 
     /// The frame's own point isn't asked for.
     fn add_at(&mut self, alloc: Global, activation: Activation) -> Result<(), OutOfMemory>
-        ensures { OnOk result (self.new ≡ self.old ++ activation ∷ []) }
+        ensures ok { OnOk result (self.new ≡ self.old ++ activation ∷ []) }
+        ensures err { OnErr result (self.new ≡ self.old) }
     {
         let phase = activation.phase;
         let frame = Frame::new(alloc, activation, Point::Call(CallPoint::NextProgram))?;

@@ -170,10 +170,7 @@ fn resumed(phase: Phase, completion: Completion) -> Phase
 {
     match phase {
         Phase::Waiting(point) => Phase::Given(point, completion),
-        Phase::Due(start) => Phase::Due(start),
-        Phase::Ready(start) => Phase::Ready(start),
-        Phase::Given(point, before) => Phase::Given(point, before),
-        Phase::Entering(point, operand) => Phase::Entering(point, operand),
+        other => other,
     }
 }
 

@@ -1,5 +1,5 @@
 -- The next row at the first indices, and among all rows.
-use Rattle.std.proofs.Common.{◌≡◌, ℕ, ◌+◌, ◌<◌, ◌≤◌, Bool, true, false, List, length, get_or, Option, None, Some, is_some, slice_get, refl, ap, sym, ◌∙◌, subst, arith}
+use Rattle.std.proofs.Common.{◌≡◌, ℕ, ◌<◌, ◌≤◌, Bool, true, false, List, length, Option, None, Some, is_some, refl, ap, sym, ◌∙◌, subst, arith}
 use Rattle.std.specs.Ordering.{is_lt, is_le, nat_cmp}
 use Rattle.std.specs.FinMap as map
 use Rattle.std.specs.FinMap.{find}
@@ -7,14 +7,13 @@ use Rattle.std.specs.Map.{lookup_entry}
 use Rattle.std.specs.Option.{option_or}
 use Rattle.std.proofs.lemmas.Bool.{false≢true}
 use Rattle.std.proofs.lemmas.Bool.Decides.{nat_tests}
-use Rattle.std.proofs.lemmas.Option.{slice_get_past, slice_get-get_or}
 use Rattle.std.proofs.lemmas.Map.Keys.{le_from_is_le}
 use Rattle.wjs_base.specs.declared.values.Name.{Name}
 use Rattle.wjs_base.specs.declared.values.Name.TheVariants.{Index, Text}
 use Rattle.wjs_base.specs.Order.{name_cmp, name_total, name_exact}
 use Rattle.wjs_base.proofs.Options.{by_option}
 use Rattle.wjs_rows.specs.Order.{is_from}
-use Rattle.wjs_names.specs.Dense.{held_in, dense_value, IsBeside}
+use Rattle.wjs_names.specs.Dense.{dense_value, IsBeside}
 use Rattle.wjs_names.specs.Least.{IsLeast, lesser_entry}
 use Rattle.wjs_names.proofs.Dense.{by_lt, all, get_all, value_there}
 use Rattle.wjs_names.proofs.Least.{first_on, like, least_is, least_either}

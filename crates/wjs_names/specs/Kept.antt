@@ -24,12 +24,12 @@ rows_of (kept.Four four) = rows_of_four four
 rows_of (kept.Few few) = few.items
 rows_of (kept.Many many) = map.entries many.value
 
--- they aren't up to three in the object's place
-abbrev pub is_elsewhere : {V : Type 0} → Kept V → Bool
-is_elsewhere kept.Zero = false
-is_elsewhere (kept.One a) = false
-is_elsewhere (kept.Two a b) = false
-is_elsewhere (kept.Three a b c) = false
-is_elsewhere (kept.Four four) = true
-is_elsewhere (kept.Few few) = true
-is_elsewhere (kept.Many many) = true
+-- there are more than three, or they stand elsewhere than in the object's place
+abbrev pub is_past_three : {V : Type 0} → Kept V → Bool
+is_past_three kept.Zero = false
+is_past_three (kept.One a) = false
+is_past_three (kept.Two a b) = false
+is_past_three (kept.Three a b c) = false
+is_past_three (kept.Four four) = true
+is_past_three (kept.Few few) = true
+is_past_three (kept.Many many) = true

@@ -1,5 +1,5 @@
 -- A name by its rank among small names: the first 2^15 indices, then the texts of as many numbers.
-use Rattle.std.specs.Prelude.{◌≡◌, ℕ, ◌+◌, ◌-◌, ◌≤◌, Bool, true, false, cond, nat_lt}
+use Rattle.std.specs.Prelude.{◌≡◌, ℕ, ◌+◌, ◌-◌, ◌≤◌, Bool, true, false, cond, nat_lt, Option, None, Some}
 use Rattle.std.proofs.Common.{refl, ltb-false}
 use Rattle.std.proofs.Math.Nat.{sub-add_cancel}
 use Rattle.wjs_base.specs.declared.values.Name.{Name}
@@ -13,10 +13,10 @@ abbrev pub rank_of : Name → ℕ
 rank_of (Index index) = index
 rank_of (Text text) = text.0 + 32768
 
--- the rank of a name, or 2^16 where its number is too great
-abbrev pub rank_for : Name → ℕ
-rank_for (Index index) = cond (nat_lt index 32768) index 65536
-rank_for (Text text) = cond (nat_lt text.0 32768) (text.0 + 32768) 65536
+-- the rank of a name; none where its number is too great
+abbrev pub rank_for : Name → Option ℕ
+rank_for (Index index) = cond (nat_lt index 32768) (Some index) None
+rank_for (Text text) = cond (nat_lt text.0 32768) (Some (text.0 + 32768)) None
 
 rank_by : (rank : ℕ) (b : Bool) → (b ≡ false → 32768 ≤ rank) → rank_of (cond b (Index rank) (Text (record { 0 = rank - 32768 }))) ≡ rank
 rank_by rank true high = refl

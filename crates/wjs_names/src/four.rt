@@ -32,7 +32,7 @@ pub(crate) struct Four<V> {
 }
 
 impl<V: Copy> Four<V> {
-    /// Three rows in order with one more, whose name none has; None only where the number of a name is too great.
+    /// Three rows in order with one more, whose name none has; None where the number of a name is too great.
     pub(crate) fn new(
         first: (ShortName, V),
         second: (ShortName, V),

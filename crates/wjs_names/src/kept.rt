@@ -23,7 +23,7 @@ use wjs_base::{Name, OutOfMemory};
 /// How many rows a list has at most: past that, room for one in between would take too long a move.
 const LONGEST_LIST: usize = 256;
 
-/// For how many rows a list has room first, as an object gets its fifth.
+/// For how many rows a list has room first, as an object gets its fifth, or its fourth where a name isn't tiny.
 const FIRST_ROWS: usize = 6;
 
 /// Rows in the order of their names. Up to three stand in the object's place itself, and four where their names are tiny, as the
@@ -43,7 +43,7 @@ pub(crate) enum Kept<V> {
 const _: () = prove!(size_of::<Kept<(u64, u64)>>() == 80);
 
 impl<V: Copy> Kept<V> {
-    ghost use Rattle.wjs_names.specs.Kept.{is_elsewhere, rows_of, short_rows};
+    ghost use Rattle.wjs_names.specs.Kept.{is_past_three, rows_of, short_rows};
 
     /// The value at a name.
     #[inline(always)]
@@ -97,7 +97,7 @@ impl<V: Copy> Kept<V> {
     /// Up to three rows in the object's place, if they stand there.
     fn short(&self) -> Option<Short<V>>
         ensures rows { IfSome result (λ short. short_rows short ≡ rows_of self.now) }
-        ensures elsewhere { result ≡ None → is_elsewhere self.now ≡ true }
+        ensures past_three { result ≡ None → is_past_three self.now ≡ true }
     {
         match self {
             Kept::Zero => Some(Short::Zero),
@@ -210,12 +210,12 @@ impl<V: Copy> Kept<V> {
                 *self = kept_of(short.without(name));
                 Ok(found)
             }
-            None => self.remove_elsewhere(name),
+            None => self.remove_past_three(name),
         }
     }
 
     /// `remove` of four rows, in a list or at the indices.
-    fn remove_elsewhere(&mut self, name: Name) -> Result<bool, OutOfMemory>
+    fn remove_past_three(&mut self, name: Name) -> Result<bool, OutOfMemory>
         requires { IsInOrder name_cmp (rows_of self.old) }
         ensures removed { OnOk result (rows_of self.new ≡ without name_cmp name (rows_of self.old)) }
         ensures found { IfOk result (λ found. found ≡ is_some (find name_cmp name (rows_of self.old))) }
@@ -265,14 +265,14 @@ impl<V: Copy> Kept<V> {
     {
         match self.short() {
             Some(short) => short.next_from(name),
-            None => self.next_from_elsewhere(name),
+            None => self.next_from_past_three(name),
         }
     }
 
     /// `next_from` of four rows, in a list or by the indices.
-    fn next_from_elsewhere(&self, name: Name) -> Option<(Name, V)>
+    fn next_from_past_three(&self, name: Name) -> Option<(Name, V)>
         requires ordered { IsInOrder name_cmp (rows_of self.now) }
-        requires elsewhere { is_elsewhere self.now ≡ true }
+        requires past_three { is_past_three self.now ≡ true }
         ensures { result ≡ lookup_entry (is_from name_cmp name) (rows_of self.now) }
     {
         match self {
@@ -293,14 +293,14 @@ impl<V: Copy> Kept<V> {
     {
         match self.short() {
             Some(short) => short.next_after(name),
-            None => self.next_after_elsewhere(name),
+            None => self.next_after_past_three(name),
         }
     }
 
     /// `next_after` of four rows, in a list or by the indices.
-    fn next_after_elsewhere(&self, name: Name) -> Option<(Name, V)>
+    fn next_after_past_three(&self, name: Name) -> Option<(Name, V)>
         requires ordered { IsInOrder name_cmp (rows_of self.now) }
-        requires elsewhere { is_elsewhere self.now ≡ true }
+        requires past_three { is_past_three self.now ≡ true }
         ensures { result ≡ lookup_entry (is_after name_cmp name) (rows_of self.now) }
     {
         match self {
@@ -335,12 +335,12 @@ impl<V: Copy> Kept<V> {
     {
         match self.short() {
             Some(short) => Ok(Some(list_of(short, name, alloc)?)),
-            None => self.outgrown_elsewhere(name, alloc),
+            None => self.outgrown_past_three(name, alloc),
         }
     }
 
     /// `outgrown` of four rows or a list.
-    fn outgrown_elsewhere(&self, name: Name, alloc: Global) -> Result<Option<Kept<V>>, OutOfMemory>
+    fn outgrown_past_three(&self, name: Name, alloc: Global) -> Result<Option<Kept<V>>, OutOfMemory>
         requires { IsInOrder name_cmp (rows_of self.now) }
         ensures { IfOk result (λ outgrown. IfSome outgrown (λ kept. rows_of kept ≡ rows_of self.now)) }
     {

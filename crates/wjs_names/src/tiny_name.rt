@@ -12,9 +12,6 @@ use wjs_base::Name;
 /// How many indices have tiny names, and how many texts.
 const EACH: u32 = 32_768;
 
-/// The least number that is no rank.
-const RANKS: u32 = 65_536;
-
 /// An index or a text with a number below 2^15, by its rank among these names. Contracts see the name.
 #[derive(Clone, Copy)]
 pub(crate) struct TinyName {
@@ -39,32 +36,29 @@ impl Model for TinyName {
     ghost inverse_ok = { λ t h. inverse_is t };
 }
 
-/// The rank of a name; past all ranks where its number is too great.
+/// The rank of a name; None exactly where its number is too great.
 #[inline(always)]
-pub(crate) fn rank_for(name: Name) -> u32
+pub(crate) fn rank_for(name: Name) -> Option<u32>
     ensures { result ≡ rank_for name }
 {
     match name {
-        Name::Index(index) => { if index < EACH { index } else { RANKS } }
+        Name::Index(index) => { if index < EACH { Some(index) } else { None } }
         Name::Text(text) => {
             if text.0 < EACH as u64 {
-                text.0 as u32 + EACH
+                Some(text.0 as u32 + EACH)
             } else {
-                RANKS
+                None
             }
         }
     }
 }
 
 impl TinyName {
-    /// A name in two bytes; None only where its number is too great.
+    /// A name in two bytes; None where its number is too great.
     pub(crate) fn new(name: ShortName) -> Option<TinyName>
         ensures { IfSome result (λ tiny. tiny ≡ name) }
     {
-        let rank = rank_for(name.name());
-        if rank >= RANKS {
-            return None;
-        }
+        let rank = rank_for(name.name())?;
         Some(TinyName { rank: rank as u16 })
     }
 
@@ -83,9 +77,9 @@ impl TinyName {
 
     /// Whether this is its rank: many names are told apart by one number so.
     #[inline(always)]
-    pub(crate) fn has_rank(self, rank: u32) -> bool
+    pub(crate) fn has_rank(self, rank: Option<u32>) -> bool
         ensures { (name : Name) → rank ≡ rank_for name → result ≡ is_eq (name_cmp name self) }
     {
-        rank == self.rank as u32
+        rank == Some(self.rank as u32)
     }
 }

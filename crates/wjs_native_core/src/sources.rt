@@ -1,5 +1,5 @@
 //! The texts of functions (ECMA-262, 3rd edition, section 15.3.4.2).
-ghost use Rattle.std.specs.Prelude.{◌≡◌, ◌++◌, IfOk, MatchOption, codes};
+ghost use Rattle.std.specs.Prelude.{◌≡◌, ◌++◌, IfOk, codes};
 ghost use Rattle.std.specs.Option.{option_map};
 ghost use Rattle.wjs_base.specs.Text.{Table, Grows};
 ghost use Rattle.wjs_by_content.specs.Tables.{text_in};
@@ -12,12 +12,14 @@ ghost use Rattle.wjs_model.specs.Texts as known;
 ghost use Rattle.wjs_frames.specs.Parts.{env_in, node_among};
 
 use wjs_arena::{Code, Native};
-use wjs_base::{OutOfMemory, TextId, units_of_ascii};
+use wjs_base::{OutOfMemory, TextId};
+use wjs_frames::node_among;
 use wjs_heap_steps::units_of;
 use wjs_meaning::row_of;
 use wjs_model::{Config, Frame};
 use wjs_store::WorldStore;
 use wjs_strings::function_text;
+use wjs_texts::units_of_ascii;
 use wjs_tree::{Node, NodeId};
 
 /// The name of a function that has none.
@@ -75,17 +77,8 @@ fn name_at<S: WorldStore>(config: &Config<S>, tree: u32, node: NodeId) -> Option
     ensures is { (t : Table) → trees.name_of (node_in t (node_among config.now.units.items tree node)) ≡ option_map (text_in t) result }
     ensures found { known.HasText config.now.heap.texts result }
 {
-    match node_at(config, tree, node) {
+    match node_among(config, tree, node) {
         Some(node) => name_in_node(node),
-        None => None,
-    }
-}
-
-fn node_at<'a, S: WorldStore>(config: &'a Config<S>, tree: u32, id: NodeId) -> Option<&'a Node>
-    ensures { MatchOption result (node_among config.now.units.items tree id ≡ Node.Empty) (λ node. node_among config.now.units.items tree id ≡ node.now) }
-{
-    match config.units.get(tree as usize) {
-        Some(unit) => unit.node(id),
         None => None,
     }
 }

@@ -16,13 +16,14 @@ use crate::receivers::wrapped;
 use crate::units::copied;
 use std::alloc::Global;
 use wjs_arena::{Native, StringNative};
-use wjs_base::{LONGEST_TEXT, OutOfMemory, Value};
+use wjs_base::{OutOfMemory, Value};
 use wjs_heap_steps::intern;
 use wjs_model::{Config, Frame};
 use wjs_natives::{number_of, text_of, value_at};
 use wjs_step_common::give_text;
 use wjs_store::WorldStore;
 use wjs_strings::code_unit;
+use wjs_texts::LONGEST_TEXT;
 
 /// The text that is given, or the empty one; a wrapper of it where `new` calls (sections 15.5.1 and 15.5.2).
 pub(crate) fn new_string<S: WorldStore>(

@@ -11,10 +11,11 @@ ghost use Rattle.wjs_alone.specs.Opening.{part_names};
 ghost use Rattle.wjs_parts.specs.Opening.{StartsParts, frames_of, state_of, units_of};
 
 use std::alloc::Global;
-use wjs_base::{OutOfMemory, TextId, Texts};
+use wjs_base::{OutOfMemory, TextId};
 use wjs_model::{Config, Frames, LoadedProgram, Phase, Start, State};
 use wjs_start::{FIRST_WORLD, GLOBAL_OBJECT, first_heap, program_frame, script_names};
 use wjs_store::WorldStore;
+use wjs_texts::Texts;
 
 /// A play of parts before the first of them: the library's program is due with so many steps, where there is one, in the first
 /// world (ECMA-262, 3rd edition, section 10.2.1). What there is before the first step is made over a new store; the names that any

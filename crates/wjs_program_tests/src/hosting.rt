@@ -4,7 +4,6 @@ ghost use Rattle.wjs_model.specs.Soundness.{Sound};
 
 use std::alloc::Global;
 use std::test::Fail;
-use wjs_base::Texts;
 use wjs_full::FullStore;
 use wjs_io::Unheard;
 use wjs_load::load;
@@ -14,6 +13,7 @@ use wjs_machine_tests::{
 use wjs_model::{Config, State};
 use wjs_start::start;
 use wjs_store::WorldStore;
+use wjs_texts::Texts;
 
 const SCRIPT: &[u8] = b"var x = 1, w = thisWorld.sprout(); in w { x = 2; } w.commit(); print(x);";
 

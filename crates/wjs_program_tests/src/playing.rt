@@ -6,13 +6,14 @@ use std::alloc::{AllocError, Global};
 use std::process::Abort;
 use std::test::Fail;
 use wjs_activity::{Ends, PlayEnd, PlayTurn, play};
-use wjs_base::{Content, Name, Slot, Texts, Value};
+use wjs_base::{Content, Name, Slot, Value};
 use wjs_division::load_parts;
 use wjs_heap::Heap;
 use wjs_io::MemSink;
 use wjs_overlay::Overlay;
 use wjs_start::GLOBAL_OBJECT;
 use wjs_store::WorldStore;
+use wjs_texts::Texts;
 
 /// The steps of a try.
 pub(crate) const BUDGET: u64 = 300;

@@ -7,7 +7,8 @@ ghost use Rattle.wjs_by_content.specs.Tables.{name_in, value_in, content_in};
 ghost use Rattle.wjs_by_content.specs.Values as values;
 ghost use Rattle.wjs_by_content.specs.Properties as plan;
 
-use wjs_base::{Content, Name, OutOfMemory, TextId, Texts, Value, Whole};
+use wjs_base::{Content, Name, OutOfMemory, TextId, Value, Whole};
+use wjs_texts::Texts;
 
 /// The code units of `length`.
 const LENGTH: [u16; 6] = [108, 101, 110, 103, 116, 104];

@@ -6,7 +6,8 @@ ghost use Rattle.wjs_props.specs.Spelled.{spelled_cmp, IsSpelled};
 
 use std::alloc::Global;
 use std::cmp::Ordering;
-use wjs_base::{Name, Names, OutOfMemory, Texts};
+use wjs_base::{Name, Names, OutOfMemory};
+use wjs_texts::Texts;
 
 /// A name with the code units of its text; an index has none.
 #[derive(Clone, Copy)]

@@ -1,7 +1,7 @@
 //! The values of expressions (ECMA-262, 3rd edition, section 11), where each of their parts has its value at once.
 //!
 //! Each function takes the steps of the expressions that it enters from those that are left, also where it then answers None.
-ghost use Rattle.std.specs.Prelude.{◌≡◌, IfSome, MatchOption};
+ghost use Rattle.std.specs.Prelude.{◌≡◌, IfSome};
 ghost use Rattle.wjs_base.specs.Text.{Table, Grows};
 ghost use Rattle.wjs_by_content.specs.Tables.{value_in};
 ghost use Rattle.wjs_meaning.specs.Deeds.{Env, Eval, AtExpr, Ret, then_value};
@@ -10,14 +10,13 @@ ghost use Rattle.wjs_meaning.specs.Programs.{entry};
 ghost use Rattle.wjs_meaning.specs.Reading.{spelt_in};
 ghost use Rattle.wjs_model.specs.Soundness.{Base, IsThere, HasValue};
 ghost use Rattle.wjs_model.specs.Texts.{KnowsSpelt};
-ghost use Rattle.wjs_frames.specs.Parts.{node_among};
 ghost use Rattle.wjs_quick.specs.Coming.{GoalComes, Comes};
 
 use crate::hopes::{is_joining, is_operation_hopeless};
 use crate::members::{dotted, indexed};
 use crate::operators::{is_of_value, operated, prefixed};
 use wjs_base::Value;
-use wjs_frames::{Part, node_among, operand_of};
+use wjs_frames::{Part, node_at, operand_of};
 use wjs_heap_steps::peek_operand;
 use wjs_model::{Config, Frame};
 use wjs_step_common::to_boolean;
@@ -79,19 +78,6 @@ pub(crate) fn form<S: WorldStore>(
         Some(Node::Comma(first, second)) => comma(config, frame, *first, *second, height, steps),
         _ => None,
     }
-}
-
-/// A node of the tree at hand; none where there is none, which the meaning takes for an empty statement.
-#[inline(always)]
-pub fn node_at<'a, S: WorldStore>(
-    config: &'a Config<S>,
-    frame: &Frame,
-    node: NodeId,
-) -> Option<&'a Node>
-    ensures { MatchOption result (node_among config.now.units.items frame.now.tree node ≡ Node.Empty)
-        (λ found. node_among config.now.units.items frame.now.tree node ≡ found.now) }
-{
-    node_among(config, frame.tree(), node)
 }
 
 /// An operator between two operands (sections 11.5 to 11.11).

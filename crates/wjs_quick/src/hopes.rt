@@ -2,9 +2,9 @@
 //!
 //! What is told here decides only whether something is tried, so no clause says of it: a wrong answer costs time and nothing else.
 
-use crate::evaluate::node_at;
 use crate::operators::is_of_value;
 use wjs_base::Value;
+use wjs_frames::node_at;
 use wjs_model::{Config, Frame};
 use wjs_step_common::is_text;
 use wjs_store::WorldStore;

@@ -13,7 +13,6 @@ mod operators;
 mod parts;
 
 pub use enters::{enter_last_quickly, enter_quickly};
-pub use evaluate::node_at;
 pub use hopes::is_hopeless;
 pub use members::name_there;
 pub use numbers::{arithmetic, calculated};

@@ -6,9 +6,9 @@ ghost use Rattle.wjs_tree.specs.declared.keys.Key.TheVariants as keys;
 use std::alloc::Global;
 use std::process::Abort;
 use std::test::Fail;
-use wjs_base::Texts;
 use wjs_lexer::lex;
 use wjs_parse_expr::{Functions, ParseFault, expression, has_key};
+use wjs_texts::Texts;
 use wjs_tree::{Key, Node, NodeId, Nodes, Tok};
 
 /// Whether no token is `function`, so that nothing has to be read before.

@@ -3,8 +3,9 @@
 use std::alloc::Global;
 use std::process::Abort;
 use std::test::Fail;
-use wjs_base::{Texts, Whole};
+use wjs_base::Whole;
 use wjs_lexer::{LexFault, lex};
+use wjs_texts::Texts;
 use wjs_tree::{Sign, Tok, Token};
 
 fn is_same(a: Token, b: Token) -> bool {

@@ -20,12 +20,13 @@ ghost use Rattle.wjs_reports.specs.Thrown.{Leaves, ShowsIn, shown_fault, shown_o
 
 use std::alloc::Global;
 use wjs_arena::Class;
-use wjs_base::{Content, ObjId, OutOfMemory, TextId, Texts, Value, utf8_of_units};
+use wjs_base::{Content, ObjId, OutOfMemory, TextId, Value};
 use wjs_convert::to_text;
 use wjs_heap::Heap;
 use wjs_model::Config;
 use wjs_store::WorldStore;
 use wjs_strings::fault_text;
+use wjs_texts::{Texts, utf8_of_units};
 
 /// `name` and `message`.
 const NAME: [u16; 4] = [110, 97, 109, 101];

@@ -8,7 +8,8 @@ use crate::nesting::nest;
 use crate::rows::rows;
 use crate::table::Places;
 use std::alloc::Global;
-use wjs_base::{OutOfMemory, Texts};
+use wjs_base::OutOfMemory;
+use wjs_texts::Texts;
 use wjs_tree::Program;
 
 /// The code units of `arguments`.

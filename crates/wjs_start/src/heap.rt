@@ -9,9 +9,10 @@ use crate::known::make_known;
 use crate::making::create_all;
 use crate::slots::write_all;
 use std::alloc::Global;
-use wjs_base::{OutOfMemory, TextId, Texts};
+use wjs_base::{OutOfMemory, TextId};
 use wjs_heap::Heap;
 use wjs_store::WorldStore;
+use wjs_texts::Texts;
 
 /// What there is before the first step, over a new store, where a script declares these names: the first objects, and the slots
 /// of the first world (ECMA-262, 3rd edition, section 15). Texts that are new are put behind those that are in the table.

@@ -9,7 +9,8 @@ ghost use Rattle.wjs_start.specs.Properties.{given_in, property_in};
 use crate::names::{library, name_number, names_of, text_number};
 use crate::properties::{Given, Property, properties};
 use std::alloc::Global;
-use wjs_base::{Name, OutOfMemory, Slot, TextId, Texts, Value, Whole};
+use wjs_base::{Name, OutOfMemory, Slot, TextId, Value, Whole};
+use wjs_texts::Texts;
 
 /// A slot with its value, whose texts have numbers.
 #[derive(Clone, Copy)]

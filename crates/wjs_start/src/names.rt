@@ -6,7 +6,8 @@ ghost use Rattle.wjs_meaning.specs.Start.{library_names};
 ghost use Rattle.wjs_start.specs.Names.{IsTextOf, IsNameOf, AreNamesOf, words_in};
 
 use std::alloc::Global;
-use wjs_base::{Name, OutOfMemory, TextId, Texts, units_of_ascii};
+use wjs_base::{Name, OutOfMemory, TextId};
+use wjs_texts::{Texts, units_of_ascii};
 
 /// A name in ASCII.
 #[derive(Clone, Copy)]

@@ -12,11 +12,12 @@ use crate::builtins::GLOBAL_OBJECT;
 use crate::heap::first_heap;
 use crate::script::script_names;
 use std::alloc::Global;
-use wjs_base::{OutOfMemory, Texts, Value};
+use wjs_base::{OutOfMemory, Value};
 use wjs_model::{
     Activation, CallPoint, Config, Frames, Items, LoadedProgram, Phase, Point, Start, State,
 };
 use wjs_store::WorldStore;
+use wjs_texts::Texts;
 use wjs_tree::NodeId;
 
 /// A run of a library's program, where there is one, and then of a script's, before the first step and with so many steps

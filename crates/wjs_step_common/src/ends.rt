@@ -9,12 +9,13 @@ ghost use Rattle.wjs_meaning.specs.Errors as errors;
 ghost use Rattle.wjs_model.specs.Soundness.{HasValue};
 ghost use Rattle.wjs_frames.specs.Handling.{IsRunning, GoesOn};
 
-use wjs_base::{LONGEST_TEXT, OutOfMemory, TextId, Value, Whole};
+use wjs_base::{OutOfMemory, TextId, Value, Whole};
 use wjs_frames::finish;
 use wjs_heap_steps::{create_error, extend, intern, units_of};
 use wjs_model::{Completion, Config, Frame, Trouble};
 use wjs_num::NumFault;
 use wjs_store::WorldStore;
+use wjs_texts::LONGEST_TEXT;
 
 /// Ends with a value.
 #[inline(always)]

@@ -12,11 +12,12 @@ ghost use Rattle.wjs_frames.specs.Following.{Later};
 ghost use Rattle.wjs_frames.specs.Handling.{IsRunning, Runs, GoesOn};
 
 use crate::ends::{give_extended, give_text};
-use wjs_base::{LONGEST_TEXT, Name, OutOfMemory, TextId, Value};
+use wjs_base::{Name, OutOfMemory, TextId, Value};
 use wjs_heap_steps::{intern, name_of, units_of};
 use wjs_model::{Config, Frame};
 use wjs_num::write_radix;
 use wjs_store::WorldStore;
+use wjs_texts::LONGEST_TEXT;
 
 /// `undefined`, `null`, `true` and `false`.
 const UNDEFINED: [u16; 9] = [117, 110, 100, 101, 102, 105, 110, 101, 100];

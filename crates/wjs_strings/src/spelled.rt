@@ -4,7 +4,8 @@ ghost use Rattle.wjs_base.specs.Unicode.{utf8_of};
 ghost use Rattle.wjs_meaning.specs.NativesOfObjects.{with_message};
 
 use std::alloc::Global;
-use wjs_base::{OutOfMemory, utf8_of_units};
+use wjs_base::OutOfMemory;
+use wjs_texts::utf8_of_units;
 
 /// `function ` and `() { }`.
 const FUNCTION: [u16; 9] = [102, 117, 110, 99, 116, 105, 111, 110, 32];

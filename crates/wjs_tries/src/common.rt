@@ -1,10 +1,10 @@
 //! What activities share, and what one has to itself between its turns.
 
 use wjs_arena::{Arena, Owned};
-use wjs_base::Texts;
 use wjs_model::{Frames, LoadedProgram};
 use wjs_overlay::Overlay;
 use wjs_session::Resting;
+use wjs_texts::Texts;
 
 /// What all activities of a play share: the texts, the objects that what was committed left, the programs and the worlds, and for each
 /// of them the owner of its try that rests: what that has made no other may name.

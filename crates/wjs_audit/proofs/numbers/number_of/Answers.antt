@@ -1,5 +1,5 @@
 use Rattle.std.proofs.Common.{◌≡◌, ◌<◌, ◌^◌, length, get_or, ◌∙◌, sym, arith}
-use Rattle.wjs_base.proofs.Decimals.{are_digits, value_is, some_digit, no_leading_zero, spelled, first_is, no_first}
+use Rattle.wjs_texts.proofs.Decimals.{are_digits, value_is, some_digit, no_leading_zero, spelled, first_is, no_first}
 use Rattle.wjs_audit.proofs.numbers.number_of.Goals as goal
 use Rattle.wjs_audit.proofs.numbers.number_of.Goals.{else-first-eq-ZERO-via-then-first-eq-ZERO+else-part-gt1, else-first-eq-ZERO-via-else-first-eq-ZERO}
 

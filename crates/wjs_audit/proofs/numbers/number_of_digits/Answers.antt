@@ -1,5 +1,5 @@
 use Rattle.std.proofs.Common.{◌^◌, arith}
-use Rattle.wjs_base.proofs.Decimals.{more_digits, more_value, too_great, no_digit}
+use Rattle.wjs_texts.proofs.Decimals.{more_digits, more_value, too_great, no_digit}
 use Rattle.wjs_audit.proofs.numbers.number_of_digits.Goals as goal
 use Rattle.wjs_audit.proofs.numbers.number_of_digits.Goals.{then-digit-lt-ZERO-via-then-digit-lt-ZERO, then-digit-lt-ZERO-via-else-digit-lt-ZERO+then-digit-gt-NINE}
 

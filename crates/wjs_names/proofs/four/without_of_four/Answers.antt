@@ -1,5 +1,5 @@
 use Rattle.std.proofs.Common.{[], ◌∷◌, ◌∙◌, ap, sym, is_some}
-use Rattle.wjs_base.specs.Order.{name_cmp, name_total}
+use Rattle.wjs_base.specs.Order.{name_total}
 use Rattle.wjs_names.proofs.Shorts.{less_first, less_next, found_here, found_past, rest_sorted}
 use Rattle.wjs_names.proofs.four.without_of_four.Goals as goal
 

@@ -1,4 +1,4 @@
-use Rattle.std.proofs.Common.{◌∷◌, [], T}
+use Rattle.std.proofs.Common.{◌∷◌, []}
 use Rattle.wjs_base.specs.Order.{name_cmp, name_total}
 use Rattle.wjs_base.proofs.Booleans.{right_true}
 use Rattle.std.specs.FinMap.Entries.{below_all, is_sorted}

@@ -1,5 +1,5 @@
-use Rattle.std.proofs.Common.{◌∷◌, [], cond, ap}
-use Rattle.wjs_base.specs.Order.{name_cmp, name_total}
+use Rattle.std.proofs.Common.{◌∷◌, []}
+use Rattle.wjs_base.specs.Order.{name_total}
 use Rattle.wjs_names.proofs.Shorts.{put_first, found_first, put_rest, found_rest, put_one}
 use Rattle.wjs_names.proofs.short.put_in_two.Goals as goal
 

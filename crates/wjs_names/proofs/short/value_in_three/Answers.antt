@@ -1,5 +1,5 @@
 use Rattle.std.proofs.Common.{◌∙◌, ◌∷◌, []}
-use Rattle.wjs_base.specs.Order.{name_cmp, name_total}
+use Rattle.wjs_base.specs.Order.{name_total}
 use Rattle.wjs_names.proofs.Shorts.{find_first, find_next}
 use Rattle.wjs_names.proofs.short.value_in_three.Goals as goal
 

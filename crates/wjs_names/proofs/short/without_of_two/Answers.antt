@@ -1,6 +1,5 @@
 use Rattle.std.proofs.Common.{[], ◌∷◌, ◌∙◌, ap, sym}
-use Rattle.wjs_base.specs.Order.{name_cmp, name_total}
-use Rattle.wjs_names.specs.Lists.{without}
+use Rattle.wjs_base.specs.Order.{name_total}
 use Rattle.wjs_names.proofs.Shorts.{less_first, less_next}
 use Rattle.wjs_names.proofs.short.without_of_two.Goals as goal
 

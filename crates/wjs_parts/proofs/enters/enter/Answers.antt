@@ -18,5 +18,5 @@ returns g c =
     let at : slice_get mid.units.items part ≡ Some h.0 = ap (λ (us : Vec Program Global). slice_get us.items part) shows.stays.units ∙ h.1 in
     let none = none_left m old mid shows c.requires.frames in
     let framed = c.frame_of-frame.ensures ∙ ap (λ (b : NodeId). body_frame mid part b) (c.body_of-body.ensures h.0 h.1) in
-    let one : c.add.new.self ≡ body_frame mid part h.0.program.body ∷ [] = c.in_ok-add.ensures ∙ ap (λ (l : List Frame). l ++ c.frame_of-frame.result ∷ []) none ∙ ap (λ (f : Frame). f ∷ []) framed in
+    let one : c.add.new.self ≡ body_frame mid part h.0.program.body ∷ [] = c.in_ok-add.ensures.ok ∙ ap (λ (l : List Frame). l ++ c.frame_of-frame.result ∷ []) none ∙ ap (λ (f : Frame). f ∷ []) framed in
     enters m old mid c.add.new.self part c.args.budget h.0 shows at one

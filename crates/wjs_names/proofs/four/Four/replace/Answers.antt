@@ -1,6 +1,6 @@
 use Rattle.std.proofs.Common.{[], ◌∷◌, ◌∙◌, ap, sym, is_some}
 use Rattle.wjs_base.specs.declared.values.Name.{Name}
-use Rattle.wjs_base.specs.Order.{name_cmp, name_total}
+use Rattle.wjs_base.specs.Order.{name_total}
 use Rattle.wjs_names.proofs.Shorts.{found_here, found_past, put_here, put_past, rest_sorted}
 use Rattle.wjs_names.proofs.four.Four.replace.Goals as goal
 

@@ -1,10 +1,4 @@
-use Rattle.std.proofs.Common.{◌≡◌, ◌∙◌, None, Some, ap, sym, subst}
-use Rattle.wjs_base.specs.declared.values.Name.{Name}
-use Rattle.wjs_base.specs.declared.values.Name.TheVariants.{Index}
-use Rattle.wjs_base.specs.Order.{name_cmp}
-use Rattle.wjs_rows.specs.Order.{is_from}
-use Rattle.wjs_names.specs.Dense.{dense_value}
-use Rattle.wjs_names.specs.Least.{IsLeast}
+use Rattle.std.proofs.Common.{◌∙◌, ap}
 use Rattle.wjs_names.proofs.Starting.{first_row, first_nowhere, first_behind, value_row, none_of_row}
 use Rattle.wjs_names.proofs.held.Held.first_from.Goals as goal
 

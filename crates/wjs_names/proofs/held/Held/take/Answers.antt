@@ -1,4 +1,4 @@
-use Rattle.std.proofs.Common.{◌≡◌, ◌<◌, ◌≤◌, ◌∙◌, None, is_some, length, length-set, set, ap, sym, subst, arith}
+use Rattle.std.proofs.Common.{◌<◌, ◌≤◌, ◌∙◌, None, is_some, length, length-set, set, ap, sym, subst, arith}
 use Rattle.std.proofs.lemmas.Option.{slice_get-get_or}
 use Rattle.wjs_base.specs.declared.values.Name.TheVariants.{Index}
 use Rattle.wjs_names.specs.Dense.{dense_value, held_in}

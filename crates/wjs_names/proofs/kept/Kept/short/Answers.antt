@@ -1,5 +1,5 @@
 use Rattle.std.proofs.Common.{ap, sym}
-use Rattle.wjs_names.specs.Kept.{is_elsewhere, rows_of}
+use Rattle.wjs_names.specs.Kept.{is_past_three, rows_of}
 use Rattle.wjs_names.proofs.kept.Kept.short.Goals as goal
 
 pub returns-in-Zero-clause-rows : goal.returns-in-Zero-clause-rows
@@ -14,11 +14,11 @@ returns-in-Two-clause-rows g c = ap rows_of (sym c.in-Two.is)
 pub returns-in-Three-clause-rows : goal.returns-in-Three-clause-rows
 returns-in-Three-clause-rows g c = ap rows_of (sym c.in-Three.is)
 
-pub returns-in-Four-clause-elsewhere : goal.returns-in-Four-clause-elsewhere
-returns-in-Four-clause-elsewhere g c = λ _. ap is_elsewhere c.in-Four.is
+pub returns-in-Four-clause-past_three : goal.returns-in-Four-clause-past_three
+returns-in-Four-clause-past_three g c = λ _. ap is_past_three c.in-Four.is
 
-pub returns-in-Few-clause-elsewhere : goal.returns-in-Few-clause-elsewhere
-returns-in-Few-clause-elsewhere g c = λ _. ap is_elsewhere c.in-Few.is
+pub returns-in-Few-clause-past_three : goal.returns-in-Few-clause-past_three
+returns-in-Few-clause-past_three g c = λ _. ap is_past_three c.in-Few.is
 
-pub returns-in-Many-clause-elsewhere : goal.returns-in-Many-clause-elsewhere
-returns-in-Many-clause-elsewhere g c = λ _. ap is_elsewhere c.in-Many.is
+pub returns-in-Many-clause-past_three : goal.returns-in-Many-clause-past_three
+returns-in-Many-clause-past_three g c = λ _. ap is_past_three c.in-Many.is

@@ -1,8 +1,8 @@
-use Rattle.std.proofs.Common.{◌≡◌, ◌∙◌, None, length, is_some, ap, sym, subst}
+use Rattle.std.proofs.Common.{◌≡◌, ◌∙◌, None, length, is_some, ap, sym}
 use Rattle.std.specs.FinMap as map
 use Rattle.std.specs.FinMap.{find}
 use Rattle.wjs_base.specs.Order.{name_cmp, name_total}
-use Rattle.wjs_names.specs.Dense.{index_in, IsBeside}
+use Rattle.wjs_names.specs.Dense.{index_in}
 use Rattle.wjs_names.proofs.Dense.{all, placed, get_index, get_rest, place_changed, rest_changed, rest_beside, fewer_beside, removed}
 use Rattle.wjs_names.proofs.Sorted.{find_without, sorted_without}
 use Rattle.wjs_names.proofs.many.Many.remove.Goals as goal

@@ -1,6 +1,6 @@
 use Rattle.std.proofs.Common.{◌∙◌, length, is_some, ap, sym}
 use Rattle.std.specs.FinMap as map
-use Rattle.wjs_names.specs.Dense.{index_in, IsBeside}
+use Rattle.wjs_names.specs.Dense.{index_in}
 use Rattle.wjs_names.proofs.Dense.{placed, get_index, held_length, held_replaced}
 use Rattle.wjs_names.proofs.many.Many.replace.Goals as goal
 

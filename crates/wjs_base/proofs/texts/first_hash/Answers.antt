@@ -1,6 +1,0 @@
-use Rattle.std.proofs.Common.{sym, ap, ◌∙◌}
-use Rattle.wjs_base.specs.Hash.{hash_of}
-use Rattle.wjs_base.proofs.texts.first_hash.Goals as goal
-
-pub returns-then-key-eq0 : goal.returns-then-key-eq0
-returns-then-key-eq0 c = c.requires ∙ ap (λ t. hash_of t c.args.units.now) c.if-key-eq0.true

@@ -1,0 +1,5 @@
+pub mod Decimals
+mod Finding
+mod Hashes
+mod Standing
+mod Transcoding
