@@ -1,15 +1,16 @@
 -- Deeds of which an effect is left, one after another.
 use Rattle.std.proofs.Common.{◌≡◌, ℕ, ◌-◌, ◌<◌, refl, sym, subst}
-use Rattle.std.specs.Prelude.{Ok}
+use Rattle.std.specs.Prelude.{Option, None, Some, Ok}
 use Rattle.std.proofs.lemmas.Result.{on_ok_weaker}
 use Rattle.wjs_base.specs.declared.ids.TextId.{TextId}
 use Rattle.wjs_base.specs.declared.values.Value.{Value as Numbered}
 use Rattle.wjs_base.specs.Text.{Table, Grows}
+use Rattle.wjs_base.proofs.TextLaws.{Grows-trans}
 use Rattle.wjs_store.specs.Meaning.{Meaning}
 use Rattle.wjs_scope.specs.declared.place.Place.{Place}
 use Rattle.wjs_by_content.specs.Tables.{text_in, value_in}
 use Rattle.wjs_by_content.specs.Values.{Value}
-use Rattle.wjs_meaning.specs.Deeds.{Env, Goal, Reference, Completion, Gives, Normal, Throws, Act, Ret, Eval, Sub, then_value}
+use Rattle.wjs_meaning.specs.Deeds.{Env, Goal, Reference, Completion, Gives, Normal, Returns, Throws, Act, Ret, Eval, Sub, then_value}
 use Rattle.wjs_meaning.specs.Programs.{entry}
 use Rattle.wjs_meaning.specs.References.{reference_at, value_of, store}
 use Rattle.wjs_meaning.specs.Statements.{expr_done}
@@ -30,12 +31,20 @@ use Rattle.wjs_frames.specs.Shortening.{Shortens}
 use Rattle.wjs_frames.proofs.Paying.{step_paid}
 use Rattle.wjs_frames.proofs.Shorter.{shorten_same, shorten_ret, shorten_sub, shorten_ended, follows_shorter}
 use Rattle.wjs_heap_steps.specs.Peeking.{Peeks}
-use Rattle.wjs_quick.specs.Coming.{GoalComes}
+use Rattle.wjs_quick.specs.Coming.{GoalYields, GoalComes}
 use Rattle.wjs_quick.proofs.Coming.{one_less, shorten_goal, shorten_last}
 use Rattle.wjs_effects.specs.declared.effect.Effect.{Effect}
 use Rattle.wjs_effects.specs.declared.effect.Effect.TheVariants.{Ends, Stores}
-use Rattle.wjs_effects.specs.Effects.{stored, carried, HasEffect}
+use Rattle.wjs_effects.specs.declared.effect.Effect.TheVariants as effects
+use Rattle.wjs_effects.specs.declared.effect.Given.{Given}
+use Rattle.wjs_effects.specs.declared.effect.Given.TheVariants.{Nothing, Stored, Other}
+use Rattle.wjs_effects.specs.declared.effect.Made.{Made}
+use Rattle.wjs_effects.specs.declared.effect.Made.TheVariants.{There, Joined}
+use Rattle.wjs_effects.specs.declared.effect.Pieces.{Pieces}
+use Rattle.wjs_effects.specs.declared.effect.Store.{Store}
+use Rattle.wjs_effects.specs.Effects.{stored, given_in, carried, HasGiven, HasEffect}
 use Rattle.wjs_effects.specs.Leaving.{GoalLeaves, ActLeaves}
+use Rattle.wjs_effects.specs.Making.{made_in, HasIf, HasPieces, HasMade}
 use Rattle.wjs_effects.proofs.Storing.{value_goes, referred_goes, store_shortens, stored_goes, carried_goes}
 
 -- deeds that are the same
@@ -46,14 +55,37 @@ shorten_as a b e = subst (λ x. Shortens x b) (sym e) (shorten_same b)
 shorten_handed : (k go : Completion → Act) (e d : Completion) → k e ≡ Ret d → Shortens (Sub (k e) go) (go d)
 shorten_handed k go e d is = subst (λ (a : Act). Shortens (Sub a go) (go d)) (sym is) (shorten_ret d go)
 
+-- what is given is dropped
+given_dropped : (t : Table) (v : Value) (go : Completion → Act) (given : Given) → Shortens (Sub (then_value expr_done (given_in t v given)) go) (go Normal)
+given_dropped t v go Nothing = shorten_ret Normal go
+given_dropped t v go Stored = shorten_ret Normal go
+given_dropped t v go (Other w) = shorten_ret Normal go
+
 module _ {S : Type 0} (meaning : S → Meaning) where
   abbrev with_left : Config S → ℕ → Config S
   with_left c left = record c { left = left }
 
-  -- what an effect names is there later
+  -- what pieces, values and effects name is there later
+  if_later : (old new : Config S) (o : Option Numbered) → Later meaning old new → HasIf old o → HasIf new o
+  if_later old new None l h = tt
+  if_later old new (Some v) l h = l.values v h
+
+  pieces_later : (old new : Config S) (p : Pieces) → Later meaning old new → HasPieces old p → HasPieces new p
+  pieces_later old new p l h = ((l.values p.first h.0.0, (l.values p.second h.0.1.0, (if_later old new p.third l h.0.1.1.0, if_later old new p.fourth l h.0.1.1.1))), λ t more. h.1 t (Grows-trans old.heap.texts new.heap.texts t l.texts more))
+
+  made_later : (old new : Config S) (m : Made) → Later meaning old new → HasMade old m → HasMade new m
+  made_later old new (There v) l h = l.values v h
+  made_later old new (Joined p) l h = pieces_later old new p l h
+
+  pub given_later : (old new : Config S) (given : Given) → Later meaning old new → HasGiven old given → HasGiven new given
+  given_later old new Nothing l h = tt
+  given_later old new Stored l h = tt
+  given_later old new (Other v) l h = l.values v h
+
   pub effect_later : (old new : Config S) (x : Effect) → Later meaning old new → HasEffect old x → HasEffect new x
   effect_later old new (Ends e) l h = l.completions e h
-  effect_later old new (Stores q v e) l h = (l.references q h.0, (l.values v h.1.0, l.completions e h.1.1))
+  effect_later old new (effects.Returns m) l h = made_later old new m l h
+  effect_later old new (Stores s) l h = (l.references s.reference h.0, (made_later old new s.made l h.1.0, given_later old new s.given l h.1.1))
 
   module _ (c : Config S) (f : Frame) where
     -- ---- goals
@@ -91,6 +123,16 @@ module _ {S : Type 0} (meaning : S → Meaning) where
           follows_shorter meaning (Sub (Eval goal env (k t env)) go) (Eval goal env next) (with_left c before) later r (shorten_goal goal env (k t env) go) (one.by next later r (two.by go later r h));
     }
 
+    -- a goal that gives a value, told by content, and then what follows it
+    pub leaves_yielded : (goal : Goal) (k : Table → Env → Completion → Act) (v : Table → Value) (x : Effect) (before mid after : ℕ) → GoalYields meaning goal v c f before mid → ActLeaves meaning (λ t env. k t env (Gives (v t))) x c f mid after → ActLeaves meaning (λ t env. Eval goal env (k t env)) x c f before after
+    leaves_yielded goal k v x before mid after one two = record {
+      by = λ go later r h.
+          let t = later.heap.texts in
+          let env = env_in meaning c t f in
+          let next : Completion → Act = λ d. Sub (k t env d) go in
+          follows_shorter meaning (Sub (Eval goal env (k t env)) go) (Eval goal env next) (with_left c before) later r (shorten_goal goal env (k t env) go) (one.by next later r (two.by go later r h));
+    }
+
     -- a goal that is all of them
     pub leaves_last : (goal : Goal) (x : Effect) (before after : ℕ) → GoalLeaves meaning goal x c f before after → ActLeaves meaning (λ t env. Eval goal env Ret) x c f before after
     leaves_last goal x before after d = record {
@@ -111,17 +153,17 @@ module _ {S : Type 0} (meaning : S → Meaning) where
     }
 
     -- a goal that stores, whose value is dropped
-    pub leaves_dropped : (goal : Goal) (q : NumberedReference) (v given : Numbered) (before after : ℕ) → GoalLeaves meaning goal (Stores q v (completions.Gives given)) c f before after → ActLeaves meaning (λ t env. Eval goal env (then_value expr_done)) (Stores q v completions.Normal) c f before after
-    leaves_dropped goal q v given before after d = record {
+    pub leaves_dropped : (goal : Goal) (s : Store) (before after : ℕ) → GoalLeaves meaning goal (Stores s) c f before after → ActLeaves meaning (λ t env. Eval goal env (then_value expr_done)) (Stores (record s { given = Nothing })) c f before after
+    leaves_dropped goal s before after d = record {
       by = λ go later r h.
           let t = later.heap.texts in
           let env = env_in meaning c t f in
+          let v = made_in t s.made in
           let next : Completion → Act = λ e. Sub (then_value expr_done e) go in
-          let gives : Completion = Gives (value_in t given) in
           follows_shorter meaning (Sub (Eval goal env (then_value expr_done)) go) (Eval goal env next) (with_left c before) later r (shorten_goal goal env (then_value expr_done) go)
           (d.by next later r
-          (follows_shorter meaning (stored (reference_in t q) (value_in t v) env gives next) (stored (reference_in t q) (value_in t v) env Normal go) (with_left c after) later r
-          (stored_goes (value_in t v) env gives Normal next go (shorten_ret Normal go) (λ y. shorten_ret (Throws y) go) (reference_in t q)) h));
+          (follows_shorter meaning (carried t (Stores s) env next) (stored (reference_in t s.reference) v env Normal go) (with_left c after) later r
+          (stored_goes v env (given_in t v s.given) Normal next go (given_dropped t v go s.given) (λ y. shorten_ret (Throws y) go) (reference_in t s.reference)) h));
     }
 
     -- deeds that come to others where the texts have grown
@@ -160,13 +202,22 @@ module _ {S : Type 0} (meaning : S → Meaning) where
     }
 
     -- a store, and then an end
-    pub leaves_stored : (q : NumberedReference) (v : Numbered) (e : NumberedCompletion) (left : ℕ) → ActLeaves meaning (λ t env. store (reference_in t q) (value_in t v) env (Ret (completion_in t e))) (Stores q v e) c f left left
-    leaves_stored q v e left = record {
+    pub leaves_stored : (s : Store) (left : ℕ) → ActLeaves meaning (λ t env. store (reference_in t s.reference) (made_in t s.made) env (Ret (given_in t (made_in t s.made) s.given))) (Stores s) c f left left
+    leaves_stored s left = record {
       by = λ go later r h.
           let t = later.heap.texts in
           let env = env_in meaning c t f in
-          follows_shorter meaning (Sub (store (reference_in t q) (value_in t v) env (Ret (completion_in t e))) go) (stored (reference_in t q) (value_in t v) env (completion_in t e) go) (with_left c left) later r
-          (store_shortens (value_in t v) env (completion_in t e) go (reference_in t q)) h;
+          let v = made_in t s.made in
+          let e = given_in t v s.given in
+          follows_shorter meaning (Sub (store (reference_in t s.reference) v env (Ret e)) go) (stored (reference_in t s.reference) v env e go) (with_left c left) later r (store_shortens v env e go (reference_in t s.reference)) h;
+    }
+
+    -- the end of a `return`
+    pub leaves_returned : (m : Made) (left : ℕ) → ActLeaves meaning (λ t env. Ret (Returns (made_in t m))) (effects.Returns m) c f left left
+    leaves_returned m left = record {
+      by = λ go later r h.
+          let e : Completion = Returns (made_in later.heap.texts m) in
+          follows_shorter meaning (Sub (Ret e) go) (go e) (with_left c left) later r (shorten_ret e go) h;
     }
 
     -- the reference of a name, and then what follows it

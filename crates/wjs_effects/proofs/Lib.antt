@@ -1,3 +1,4 @@
+pub mod Joining
 pub mod Storing
 pub mod Leaving
 pub mod Lines

@@ -1,7 +1,6 @@
 -- Statements that have one part, an expression: their lines, and that the part stands where the statement does.
 use Rattle.std.proofs.Common.{◌≡◌, ℕ, Some, None, inl, refl, sym, subst}
 use Rattle.wjs_base.specs.declared.ids.NodeId.{NodeId}
-use Rattle.wjs_base.specs.declared.ids.ObjId.{ObjId}
 use Rattle.wjs_base.specs.Text.{Table}
 use Rattle.wjs_store.specs.Meaning.{Meaning}
 use Rattle.wjs_tree.specs.declared.node.Node.{Node}

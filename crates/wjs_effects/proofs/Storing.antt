@@ -6,11 +6,10 @@ use Rattle.wjs_by_content.specs.declared.answers.PutAnswer.{PutAnswer}
 use Rattle.wjs_by_content.specs.declared.answers.PutAnswer.TheVariants.{Done, Ignored, BadLength}
 use Rattle.wjs_by_content.specs.Names.{slot, length_name}
 use Rattle.wjs_by_content.specs.Objects.{fixed}
-use Rattle.wjs_by_content.specs.Tables.{value_in}
 use Rattle.wjs_by_content.specs.Values.{Text, Value, Undefined, Null, Boolean, Number, String, Object, whole, same_text, value_or_undefined}
 use Rattle.wjs_meaning.specs.Builtins.{class_prototype}
 use Rattle.wjs_meaning.specs.Trees.{Place}
-use Rattle.wjs_meaning.specs.Deeds.{Env, Reference, Local, Global, Member, Completion, Gives, Throws, Act, Ret, Sub, Do, Read, Write, then_value}
+use Rattle.wjs_meaning.specs.Deeds.{Env, Reference, Local, Global, Member, Completion, Gives, Returns, Throws, Act, Ret, Sub, Do, Read, Write, then_value}
 use Rattle.wjs_meaning.specs.Properties.{get_value, put}
 use Rattle.wjs_meaning.specs.References.{reference_at, value_of, member_value, defined_value, store, after_put}
 use Rattle.wjs_model.specs.Contents.{completion_in, reference_in}
@@ -20,7 +19,9 @@ use Rattle.wjs_frames.proofs.Shorter.{shorten_same, shorten_trans, shorten_ret, 
 use Rattle.wjs_quick.proofs.MemberLines.{plan_after}
 use Rattle.wjs_effects.specs.declared.effect.Effect.{Effect}
 use Rattle.wjs_effects.specs.declared.effect.Effect.TheVariants.{Ends, Stores}
-use Rattle.wjs_effects.specs.Effects.{put_ended, stored, carried}
+use Rattle.wjs_effects.specs.declared.effect.Effect.TheVariants as effects
+use Rattle.wjs_effects.specs.Effects.{put_ended, stored, given_in, carried}
+use Rattle.wjs_effects.specs.Making.{made_in}
 
 -- ---- values
 
@@ -117,4 +118,8 @@ module _ (v : Value) (env : Env) (e d : Completion) (one two : Completion → Ac
 -- what follows an effect
 pub carried_goes : (t : Table) (x : Effect) (env : Env) (one two : Completion → Act) → ((e : Completion) → Shortens (one e) (two e)) → Shortens (carried t x env one) (carried t x env two)
 carried_goes t (Ends e) env one two h = h (completion_in t e)
-carried_goes t (Stores r v e) env one two h = stored_goes (value_in t v) env (completion_in t e) (completion_in t e) one two (h (completion_in t e)) (λ y. h (Throws y)) (reference_in t r)
+carried_goes t (effects.Returns m) env one two h = h (Returns (made_in t m))
+carried_goes t (Stores s) env one two h =
+    let v = made_in t s.made in
+    let e = given_in t v s.given in
+    stored_goes v env e e one two (h e) (λ y. h (Throws y)) (reference_in t s.reference)

@@ -1,5 +1,6 @@
-//! The store that is left of an expression or a statement (ECMA-262, 3rd edition, section 8.7.2).
-ghost use Rattle.std.specs.Prelude.{IfOk, OnOk};
+//! What is left of an expression or a statement: a value that is made, and a store (ECMA-262, 3rd edition, section 8.7.2).
+ghost use Rattle.std.specs.Prelude.{◌≡◌, IfOk, OnOk};
+ghost use Rattle.wjs_base.specs.Text.{Table};
 ghost use Rattle.wjs_by_content.specs.Tables.{name_in, value_in};
 ghost use Rattle.wjs_by_content.specs.Values.{Object};
 ghost use Rattle.wjs_meaning.specs.Deeds.{Member};
@@ -8,9 +9,10 @@ ghost use Rattle.wjs_model.specs.Soundness.{Base, IsThere, HasCompletion, HasNam
 ghost use Rattle.wjs_frames.specs.Doing.{Does};
 ghost use Rattle.wjs_frames.specs.Following.{Later};
 ghost use Rattle.wjs_frames.specs.Parts.{env_in};
-ghost use Rattle.wjs_effects.specs.Effects.{carried, stored, HasEffect};
+ghost use Rattle.wjs_effects.specs.Effects.{carried, given_in, stored, HasEffect, HasGiven, HasStore};
 
-use crate::effect::Effect;
+use crate::effect::{Effect, Given, Store};
+use crate::joins::settle;
 use wjs_base::{Name, ObjId, OutOfMemory, Value};
 use wjs_by_content::PutAnswer;
 use wjs_heap_steps::{create_error, put, store_local};
@@ -34,9 +36,46 @@ pub(crate) fn carry_out<S: WorldStore>(
 {
     match effect {
         Effect::Ends(completion) => Ok(completion),
-        Effect::Stores(reference, value, completion) => {
-            store_and_end(config, frame, reference, value, completion)
+        Effect::Returns(made) => {
+            let value = settle(config, made)?;
+            Ok(Completion::Returns(value))
         }
+        Effect::Stores(store) => carry_store(config, frame, store),
+    }
+}
+
+/// A store, whose value is made first where that is still to be done.
+fn carry_store<S: WorldStore>(
+    config: &mut Config<S>,
+    frame: &Frame,
+    store: Store,
+) -> Result<Completion, OutOfMemory>
+    requires base { Base S.meaning config.old }
+    requires there { IsThere S.meaning config.old frame.now }
+    requires store { HasStore config.old store }
+    ensures does { IfOk result (λ e. Does S.meaning (λ t. carried t (Effect.Stores store) (env_in S.meaning config.old t frame.now))
+        (λ t. completion_in t e) config.old config.new) }
+    ensures later { OnOk result (Later S.meaning config.old config.new) }
+    ensures found { IfOk result (λ e. HasCompletion config.new e) }
+{
+    let value = settle(config, store.made)?;
+    let completion = end_of(config, store.given, value);
+    store_and_end(config, frame, store.reference, value, completion)
+}
+
+/// The end of a store of this value, where it throws nothing.
+#[inline(always)]
+fn end_of<S: WorldStore>(config: &Config<S>, given: Given, value: Value) -> Completion
+    requires given { HasGiven config.now given }
+    requires value { HasValue config.now value }
+    ensures end { (t : Table) → completion_in t result ≡ given_in t (value_in t value) given }
+    ensures found { HasCompletion config.now result }
+{
+    let _config = config;
+    match given {
+        Given::Nothing => Completion::Normal,
+        Given::Stored => Completion::Gives(value),
+        Given::Other(other) => Completion::Gives(other),
     }
 }
 

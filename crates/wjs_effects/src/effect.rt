@@ -3,18 +3,43 @@
 use wjs_base::Value;
 use wjs_model::{Completion, Reference};
 
-/// An end, or one store before it.
+/// Primitives whose texts are joined, one behind the other.
 #[derive(Clone, Copy)]
-pub(crate) enum Effect {
-    Ends(Completion),
-    /// The value is stored to the reference; the end is another where that throws.
-    Stores(Reference, Value, Completion),
+pub(crate) struct Pieces {
+    pub first: Value,
+    pub second: Value,
+    pub third: Option<Value>,
+    pub fourth: Option<Value>,
 }
 
-/// The store of an expression, and the value that the expression gives.
+/// The value of an expression: it is there, or is a text that is still to be made.
+#[derive(Clone, Copy)]
+pub(crate) enum Made {
+    There(Value),
+    Joined(Pieces),
+}
+
+/// What is given after a store: nothing, the value that was stored, or another.
+#[derive(Clone, Copy)]
+pub(crate) enum Given {
+    Nothing,
+    Stored,
+    Other(Value),
+}
+
+/// A store of a value to a reference, and what is given then.
 #[derive(Clone, Copy)]
 pub(crate) struct Store {
     pub reference: Reference,
-    pub value: Value,
-    pub given: Value,
+    pub made: Made,
+    pub given: Given,
+}
+
+/// An end, or what is done before it: a value is made and returned, or is stored.
+#[derive(Clone, Copy)]
+pub(crate) enum Effect {
+    Ends(Completion),
+    Returns(Made),
+    /// The end is another where the store throws.
+    Stores(Store),
 }

@@ -1,7 +1,7 @@
 //! Expressions and statements with an effect, done at once: their steps are taken, and no frame is made for them.
 //!
-//! All parts are evaluated first, over a configuration that stays as it is. What is left then is at most one store, which is done as
-//! the frames do it. So where a part has no value at once the answer is None, and nothing has changed.
+//! All parts are evaluated first, over a configuration that stays as it is. What is left then is at most one text that is made, and one
+//! store, which is done as the frames do it. So where a part has no value at once the answer is None, and nothing has changed.
 #![tactic(auto)]
 
 mod above;
@@ -11,7 +11,10 @@ mod effect;
 mod enters;
 mod entries;
 mod hopes;
+mod joins;
+mod makes;
 mod parts;
+mod pieces;
 mod statements;
 mod stores;
 mod targets;

@@ -62,12 +62,7 @@ pub fn expression_at_once<S: WorldStore>(
     match store_at(config, frame, node, &mut left) {
         Some(store) => {
             config.left = left;
-            let effect = Effect::Stores(
-                store.reference,
-                store.value,
-                Completion::Gives(store.given),
-            );
-            let completion = carry_out(config, frame, effect)?;
+            let completion = carry_out(config, frame, Effect::Stores(store))?;
             Ok(Some(completion))
         }
         None => Ok(None),

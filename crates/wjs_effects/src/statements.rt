@@ -15,8 +15,9 @@ ghost use Rattle.wjs_frames.specs.Parts.{node_among};
 ghost use Rattle.wjs_effects.specs.Effects.{HasEffect};
 ghost use Rattle.wjs_effects.specs.Leaving.{GoalLeaves, ActLeaves};
 
-use crate::effect::Effect;
+use crate::effect::{Effect, Given, Store};
 use crate::hopes::are_hopeless;
+use crate::makes::made_at;
 use crate::stores::store_at;
 use wjs_base::{TextId, Value};
 use wjs_frames::{node_at, place_at};
@@ -99,7 +100,11 @@ fn expression<S: WorldStore>(
     ensures found { IfSome result (λ x. HasEffect config.now x) }
 {
     let store = store_at(config, frame, e, steps)?;
-    Some(Effect::Stores(store.reference, store.value, Completion::Normal))
+    Some(Effect::Stores(Store {
+        reference: store.reference,
+        made: store.made,
+        given: Given::Nothing,
+    }))
 }
 
 /// A block of one statement (section 12.1).
@@ -222,8 +227,8 @@ fn result_of<S: WorldStore>(
     let _node = node;
     match value {
         Some(e) => {
-            let given = value_at(config, frame, e, steps)?;
-            Some(Effect::Ends(Completion::Returns(given)))
+            let made = made_at(config, frame, e, steps)?;
+            Some(Effect::Returns(made))
         }
         None => Some(Effect::Ends(Completion::Returns(Value::Undefined))),
     }
@@ -284,8 +289,12 @@ fn initialised<S: WorldStore>(
         config.now frame.now steps.old steps.new) }
     ensures found { IfSome result (λ x. HasEffect config.now x) }
 {
-    let value = value_at(config, frame, e, steps)?;
+    let made = made_at(config, frame, e, steps)?;
     let place = place_at(config, frame, node, 0);
     let reference = reference_at(config, frame, place, name);
-    Some(Effect::Stores(reference, value, Completion::Normal))
+    Some(Effect::Stores(Store {
+        reference,
+        made,
+        given: Given::Nothing,
+    }))
 }

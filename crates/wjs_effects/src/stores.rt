@@ -10,17 +10,19 @@ ghost use Rattle.wjs_meaning.specs.Programs.{entry};
 ghost use Rattle.wjs_model.specs.Contents.{reference_in};
 ghost use Rattle.wjs_model.specs.Soundness.{Base, IsThere, HasReference};
 ghost use Rattle.wjs_model.specs.Waiting.{fix_in};
-ghost use Rattle.wjs_effects.specs.Effects.{effect_of, HasEffect};
+ghost use Rattle.wjs_effects.specs.Effects.{HasStore};
 ghost use Rattle.wjs_effects.specs.Leaving.{GoalLeaves, ActLeaves};
 
-use crate::effect::Store;
+use crate::effect::{Effect, Given, Made, Store};
+use crate::makes::made_at;
+use crate::pieces::compound;
 use crate::targets::target_at;
 use crate::updates::{given, updated};
 use wjs_base::Value;
 use wjs_frames::node_at;
 use wjs_heap_steps::peek_value_of;
 use wjs_model::{Config, Fix, Frame, Reference};
-use wjs_quick::{is_hopeless, operated, value_at};
+use wjs_quick::is_hopeless;
 use wjs_store::WorldStore;
 use wjs_tree::{AssignOperator, BinaryOperator, Node, NodeId, PrefixOperator, UpdateOperator};
 
@@ -33,8 +35,8 @@ pub(crate) fn store_at<S: WorldStore>(
 ) -> Option<Store>
     requires base { Base S.meaning config.now }
     requires there { IsThere S.meaning config.now frame.now }
-    ensures leaves { IfSome result (λ s. GoalLeaves S.meaning (AtExpr node.0) (effect_of s) config.now frame.now steps.old steps.new) }
-    ensures found { IfSome result (λ s. HasEffect config.now (effect_of s)) }
+    ensures leaves { IfSome result (λ s. GoalLeaves S.meaning (AtExpr node.0) (Effect.Stores s) config.now frame.now steps.old steps.new) }
+    ensures found { IfSome result (λ s. HasStore config.now s) }
 {
     if *steps == 0 {
         return None;
@@ -53,8 +55,8 @@ fn form<S: WorldStore>(
 ) -> Option<Store>
     requires base { Base S.meaning config.now }
     requires there { IsThere S.meaning config.now frame.now }
-    ensures leaves { IfSome result (λ s. ActLeaves S.meaning (λ t env. entry (AtExpr node.0) env) (effect_of s) config.now frame.now steps.old steps.new) }
-    ensures found { IfSome result (λ s. HasEffect config.now (effect_of s)) }
+    ensures leaves { IfSome result (λ s. ActLeaves S.meaning (λ t env. entry (AtExpr node.0) env) (Effect.Stores s) config.now frame.now steps.old steps.new) }
+    ensures found { IfSome result (λ s. HasStore config.now s) }
 {
     match node_at(config, frame, node) {
         Some(Node::Assign(target, sign, right)) => {
@@ -79,9 +81,9 @@ fn prefix<S: WorldStore>(
 ) -> Option<Store>
     requires base { Base S.meaning config.now }
     requires there { IsThere S.meaning config.now frame.now }
-    ensures leaves { IfSome result (λ s. ActLeaves S.meaning (λ t env. line.prefix_of operator part.0 env) (effect_of s)
+    ensures leaves { IfSome result (λ s. ActLeaves S.meaning (λ t env. line.prefix_of operator part.0 env) (Effect.Stores s)
         config.now frame.now steps.old steps.new) }
-    ensures found { IfSome result (λ s. HasEffect config.now (effect_of s)) }
+    ensures found { IfSome result (λ s. HasStore config.now s) }
 {
     match operator {
         PrefixOperator::Increment => {
@@ -119,9 +121,9 @@ fn update<S: WorldStore>(
 ) -> Option<Store>
     requires base { Base S.meaning config.now }
     requires there { IsThere S.meaning config.now frame.now }
-    ensures leaves { IfSome result (λ s. ActLeaves S.meaning (λ t env. line.update_target (fix_in fix) operator target.0 env) (effect_of s)
+    ensures leaves { IfSome result (λ s. ActLeaves S.meaning (λ t env. line.update_target (fix_in fix) operator target.0 env) (Effect.Stores s)
         config.now frame.now steps.old steps.new) }
-    ensures found { IfSome result (λ s. HasEffect config.now (effect_of s)) }
+    ensures found { IfSome result (λ s. HasStore config.now s) }
 {
     let reference = target_at(config, frame, target, steps)?;
     update_reference(config, frame, fix, operator, reference)
@@ -140,9 +142,9 @@ fn update_reference<S: WorldStore>(
     requires there { IsThere S.meaning config.now frame.now }
     requires reference { HasReference config.now reference }
     ensures leaves { IfSome result (λ s. (left : ℕ) →
-        ActLeaves S.meaning (λ t env. line.update_reference (fix_in fix) operator env (reference_in t reference)) (effect_of s)
+        ActLeaves S.meaning (λ t env. line.update_reference (fix_in fix) operator env (reference_in t reference)) (Effect.Stores s)
         config.now frame.now left left) }
-    ensures found { IfSome result (λ s. HasEffect config.now (effect_of s)) }
+    ensures found { IfSome result (λ s. HasStore config.now s) }
 {
     let old = peek_value_of(config, frame, reference)?;
     let Value::Number(number) = old else {
@@ -153,8 +155,8 @@ fn update_reference<S: WorldStore>(
             let told = given(fix, number, next);
             Some(Store {
                 reference,
-                value: Value::Number(next),
-                given: Value::Number(told),
+                made: Made::There(Value::Number(next)),
+                given: Given::Other(Value::Number(told)),
             })
         }
         Err(_) => None,
@@ -174,9 +176,9 @@ fn assignment<S: WorldStore>(
     requires base { Base S.meaning config.now }
     requires there { IsThere S.meaning config.now frame.now }
     ensures leaves { IfSome result (λ s. ActLeaves S.meaning
-        (λ t env. Eval (AtTarget target.0) env (then_reference (line.assign_reference (compound sign) right.0 env))) (effect_of s)
+        (λ t env. Eval (AtTarget target.0) env (then_reference (line.assign_reference (compound sign) right.0 env))) (Effect.Stores s)
         config.now frame.now steps.old steps.new) }
-    ensures found { IfSome result (λ s. HasEffect config.now (effect_of s)) }
+    ensures found { IfSome result (λ s. HasStore config.now s) }
 {
     if is_hopeless(config, frame, right) {
         return None;
@@ -199,8 +201,8 @@ fn assigned<S: WorldStore>(
     requires there { IsThere S.meaning config.now frame.now }
     requires reference { HasReference config.now reference }
     ensures leaves { IfSome result (λ s. ActLeaves S.meaning (λ t env. line.assign_reference (compound sign) right.0 env (reference_in t reference))
-        (effect_of s) config.now frame.now steps.old steps.new) }
-    ensures found { IfSome result (λ s. HasEffect config.now (effect_of s)) }
+        (Effect.Stores s) config.now frame.now steps.old steps.new) }
+    ensures found { IfSome result (λ s. HasStore config.now s) }
 {
     match sign.compound() {
         None => plain(config, frame, right, reference, steps),
@@ -221,15 +223,15 @@ fn plain<S: WorldStore>(
     requires there { IsThere S.meaning config.now frame.now }
     requires reference { HasReference config.now reference }
     ensures leaves { IfSome result (λ s. ActLeaves S.meaning
-        (λ t env. Eval (AtExpr right.0) env (then_value (line.assign_value (reference_in t reference) env))) (effect_of s)
+        (λ t env. Eval (AtExpr right.0) env (then_value (line.assign_value (reference_in t reference) env))) (Effect.Stores s)
         config.now frame.now steps.old steps.new) }
-    ensures found { IfSome result (λ s. HasEffect config.now (effect_of s)) }
+    ensures found { IfSome result (λ s. HasStore config.now s) }
 {
-    let value = value_at(config, frame, right, steps)?;
+    let made = made_at(config, frame, right, steps)?;
     Some(Store {
         reference,
-        value,
-        given: value,
+        made,
+        given: Given::Stored,
     })
 }
 
@@ -246,15 +248,15 @@ fn compounded<S: WorldStore>(
     requires there { IsThere S.meaning config.now frame.now }
     requires reference { HasReference config.now reference }
     ensures leaves { IfSome result (λ s. ActLeaves S.meaning (λ t env. line.assign_reference (Some operator) right.0 env (reference_in t reference))
-        (effect_of s) config.now frame.now steps.old steps.new) }
-    ensures found { IfSome result (λ s. HasEffect config.now (effect_of s)) }
+        (Effect.Stores s) config.now frame.now steps.old steps.new) }
+    ensures found { IfSome result (λ s. HasStore config.now s) }
 {
     let old = peek_value_of(config, frame, reference)?;
-    let second = value_at(config, frame, right, steps)?;
-    let value = operated(config, operator, old, second)?;
+    let second = made_at(config, frame, right, steps)?;
+    let made = compound(config, operator, old, second)?;
     Some(Store {
         reference,
-        value,
-        given: value,
+        made,
+        given: Given::Stored,
     })
 }

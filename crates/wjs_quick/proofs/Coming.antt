@@ -25,7 +25,7 @@ use Rattle.wjs_frames.proofs.Shorter.{shorten_same, shorten_sub, shorten_ended, 
 use Rattle.wjs_frames.proofs.Sounding.{there_framed, base_framed}
 use Rattle.wjs_heap_steps.specs.Peeking.{Peeks}
 use Rattle.wjs_heap_steps.proofs.Composing.{by_follows}
-use Rattle.wjs_quick.specs.Coming.{GoalComes, Comes, EndsWith}
+use Rattle.wjs_quick.specs.Coming.{GoalYields, Yields, YieldsWith, GoalComes, Comes, EndsWith}
 
 pub one_less : (n : ℕ) → 0 < n → n ≡ suc (n - 1)
 one_less n some = omega (arith, some)
@@ -78,13 +78,47 @@ module _ {S : Type 0} (meaning : S → Meaning) where
   }
 
   module _ (c : Config S) (f : Frame) where
-    -- the step is taken, and what follows it comes to the value
-    pub comes_entered : (goal : Goal) (v : Numbered) (before after : ℕ) → 0 < before → Comes meaning (λ t env. entry goal env) v c f (before - 1) after → GoalComes meaning goal v c f before after
-    comes_entered goal v before after some d = record {
+    -- ---- values that are told by content
+
+    -- the step is taken, and what follows it gives the value
+    pub yields_entered : (goal : Goal) (v : Table → Value) (before after : ℕ) → 0 < before → Yields meaning (λ t env. entry goal env) v c f (before - 1) after → GoalYields meaning goal v c f before after
+    yields_entered goal v before after some d = record {
       by = λ go later r h.
           let env = env_in meaning c later.heap.texts f in
           step_paid meaning goal env go (Sub (entry goal env) go) (with_left c before) later (before - 1) r (one_less before some) (λ st n. refl) (d.by go later r h);
     }
+
+    -- the value of a goal, and then what follows it
+    pub yields_then : (goal : Goal) (more : Table → Env → Value → Act) (v w : Table → Value) (before mid after : ℕ) → GoalYields meaning goal v c f before mid → Yields meaning (λ t env. more t env (v t)) w c f mid after → Yields meaning (λ t env. Eval goal env (then_value (more t env))) w c f before after
+    yields_then goal more v w before mid after one two = record {
+      by = λ go later r h.
+          let t = later.heap.texts in
+          let env = env_in meaning c t f in
+          let next : Completion → Act = λ e. Sub (then_value (more t env) e) go in
+          follows_shorter meaning (Sub (Eval goal env (then_value (more t env))) go) (Eval goal env next) (with_left c before) later r (shorten_goal goal env (then_value (more t env)) go) (one.by next later r (two.by go later r h));
+    }
+
+    -- deeds that come to others where the texts have grown
+    pub yields_shorter : (long short : Table → Env → Act) (v : Table → Value) (before after : ℕ) → ((t : Table) → Grows c.heap.texts t → Shortens (long t (env_in meaning c t f)) (short t (env_in meaning c t f))) → Yields meaning short v c f before after → Yields meaning long v c f before after
+    yields_shorter long short v before after h d = by_follows meaning (λ t go. Sub (long t (env_in meaning c t f)) go) (λ t. Gives (v t)) (with_left c before) (with_left c after) (λ go later g k.
+        let t = later.heap.texts in
+        let env = env_in meaning c t f in
+        follows_shorter meaning (Sub (long t env) go) (Sub (short t env) go) (with_left c before) later (Ok tt) (shorten_sub (long t env) (short t env) go (h t g)) (d.by go later (Ok tt) k))
+
+    pub yields_as : (one two : Table → Env → Act) (v : Table → Value) (before after : ℕ) → ((t : Table) → Grows c.heap.texts t → two t (env_in meaning c t f) ≡ one t (env_in meaning c t f)) → Yields meaning one v c f before after → Yields meaning two v c f before after
+    yields_as one two v before after e d = yields_shorter two one v before after (λ t g. let done = one t (env_in meaning c t f) in subst (λ a. Shortens a done) (sym (e t g)) (shorten_same done)) d
+
+    -- deeds that end with the value
+    pub yields_ended : (act : Table → Env → Act) (v : Table → Value) (left : ℕ) → YieldsWith act v c → Yields meaning act v c f left left
+    yields_ended act v left ends = by_follows meaning (λ t go. Sub (act t (env_in meaning c t f)) go) (λ t. Gives (v t)) (with_left c left) (with_left c left) (λ go later g k.
+        let t = later.heap.texts in
+        let env = env_in meaning c t f in
+        follows_shorter meaning (Sub (act t env) go) (go (Gives (v t))) (with_left c left) later (Ok tt) (shorten_ended (act t env) (Gives (v t)) go (ends t g env)) k)
+
+    -- ---- values that are known by number
+
+    pub comes_entered : (goal : Goal) (v : Numbered) (before after : ℕ) → 0 < before → Comes meaning (λ t env. entry goal env) v c f (before - 1) after → GoalComes meaning goal v c f before after
+    comes_entered goal v before after some d = yields_entered goal (λ t. value_in t v) before after some d
 
     -- an operand that is had at once
     pub comes_operand : (p : Part) (o : Operand) (v : Numbered) (before : ℕ) → 0 < before → IsOperand meaning c f p o → Peeks meaning (λ t. with_operand (operand_in t o) (env_in meaning c t f)) (λ t. Gives (value_in t v)) c → GoalComes meaning (goal_of p) v c f before (before - 1)
@@ -95,15 +129,8 @@ module _ {S : Type 0} (meaning : S → Meaning) where
           step_paid meaning (goal_of p) env go (with_operand (operand_in t o) env go) (with_left c before) later (before - 1) r (one_less before some) (λ st n. is.does t go st n) ((d (before - 1)).by go later r h);
     }
 
-    -- the value of a goal, and then what follows it
     pub comes_then : (goal : Goal) (more : Table → Env → Value → Act) (v w : Numbered) (before mid after : ℕ) → GoalComes meaning goal v c f before mid → Comes meaning (λ t env. more t env (value_in t v)) w c f mid after → Comes meaning (λ t env. Eval goal env (then_value (more t env))) w c f before after
-    comes_then goal more v w before mid after one two = record {
-      by = λ go later r h.
-          let t = later.heap.texts in
-          let env = env_in meaning c t f in
-          let next : Completion → Act = λ e. Sub (then_value (more t env) e) go in
-          follows_shorter meaning (Sub (Eval goal env (then_value (more t env))) go) (Eval goal env next) (with_left c before) later r (shorten_goal goal env (then_value (more t env)) go) (one.by next later r (two.by go later r h));
-    }
+    comes_then goal more v w before mid after one two = yields_then goal more (λ t. value_in t v) (λ t. value_in t w) before mid after one two
 
     -- a goal that is all of them
     pub comes_last : (goal : Goal) (v : Numbered) (before after : ℕ) → GoalComes meaning goal v c f before after → Comes meaning (λ t env. Eval goal env Ret) v c f before after
@@ -113,22 +140,14 @@ module _ {S : Type 0} (meaning : S → Meaning) where
           follows_shorter meaning (Sub (Eval goal env Ret) go) (Eval goal env go) (with_left c before) later r (shorten_last goal env go) (d.by go later r h);
     }
 
-    -- deeds that come to others where the texts have grown
     pub comes_shorter : (long short : Table → Env → Act) (v : Numbered) (before after : ℕ) → ((t : Table) → Grows c.heap.texts t → Shortens (long t (env_in meaning c t f)) (short t (env_in meaning c t f))) → Comes meaning short v c f before after → Comes meaning long v c f before after
-    comes_shorter long short v before after h d = by_follows meaning (λ t go. Sub (long t (env_in meaning c t f)) go) (λ t. Gives (value_in t v)) (with_left c before) (with_left c after) (λ go later g k.
-        let t = later.heap.texts in
-        let env = env_in meaning c t f in
-        follows_shorter meaning (Sub (long t env) go) (Sub (short t env) go) (with_left c before) later (Ok tt) (shorten_sub (long t env) (short t env) go (h t g)) (d.by go later (Ok tt) k))
+    comes_shorter long short v before after h d = yields_shorter long short (λ t. value_in t v) before after h d
 
     pub comes_as : (one two : Table → Env → Act) (v : Numbered) (before after : ℕ) → ((t : Table) → Grows c.heap.texts t → two t (env_in meaning c t f) ≡ one t (env_in meaning c t f)) → Comes meaning one v c f before after → Comes meaning two v c f before after
-    comes_as one two v before after e d = comes_shorter two one v before after (λ t g. let done = one t (env_in meaning c t f) in subst (λ a. Shortens a done) (sym (e t g)) (shorten_same done)) d
+    comes_as one two v before after e d = yields_as one two (λ t. value_in t v) before after e d
 
-    -- deeds that end with the value
     pub comes_ended : (act : Table → Env → Act) (v : Numbered) (left : ℕ) → EndsWith act v c → Comes meaning act v c f left left
-    comes_ended act v left ends = by_follows meaning (λ t go. Sub (act t (env_in meaning c t f)) go) (λ t. Gives (value_in t v)) (with_left c left) (with_left c left) (λ go later g k.
-        let t = later.heap.texts in
-        let env = env_in meaning c t f in
-        follows_shorter meaning (Sub (act t env) go) (go (Gives (value_in t v))) (with_left c left) later (Ok tt) (shorten_ended (act t env) (Gives (value_in t v)) go (ends t g env)) k)
+    comes_ended act v left ends = yields_ended act (λ t. value_in t v) left ends
 
     -- deeds that find the value, and then an end with it
     pub comes_found : (deeds : Table → Env → (Value → Act) → Act) (v : Numbered) (left : ℕ) → ((t : Table) (env : Env) (go : Completion → Act) → Shortens (Sub (deeds t env give) go) (deeds t env (λ x. go (Gives x)))) → Peeks meaning (λ t. deeds t (env_in meaning c t f)) (λ t. value_in t v) c → Comes meaning (λ t env. deeds t env give) v c f left left

@@ -17,4 +17,4 @@ pub use hopes::is_hopeless;
 pub use members::name_there;
 pub use numbers::{arithmetic, calculated};
 pub use operators::{is_so, operated};
-pub use parts::{quick, quick_entered, value_at};
+pub use parts::{entered_at, quick, quick_entered, value_at};

@@ -97,13 +97,14 @@ pub fn value_at<S: WorldStore>(
     *steps -= 1;
     match operand_of(config, frame, Part::Expr(node)) {
         Some(operand) => peek_operand(config, frame, operand),
-        None => composed(config, frame, node, steps),
+        None => entered_at(config, frame, node, steps),
     }
 }
 
-/// What follows the step of its entry, where it is no operand; None at once of a form that never has its value so.
+/// The same of an expression that is entered already, where it is no operand; None before anything is evaluated for a form that never
+/// has its value at once.
 #[inline(always)]
-fn composed<S: WorldStore>(
+pub fn entered_at<S: WorldStore>(
     config: &Config<S>,
     frame: &Frame,
     node: NodeId,

@@ -4,3 +4,4 @@ pub mod Knowing
 pub mod Parts
 pub mod Indices
 pub mod Extending
+pub mod Lengths

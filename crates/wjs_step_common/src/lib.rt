@@ -14,7 +14,7 @@ pub use held::{held_callee, held_elements, held_reference, held_value};
 pub use numbers::{number_after, number_of};
 pub use objects::{this_or_global, to_object};
 pub use references::{give_value_of, store_and_give};
-pub use texts::{index_of, join, name_of_value};
+pub use texts::{index_of, join, most_units, name_of_value, push_text};
 pub use values::{
     are_primitives, is_nullish, is_object, is_text, less_than, loosely_equal, strictly_equal,
     to_boolean, to_number,

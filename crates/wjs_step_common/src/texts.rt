@@ -1,6 +1,6 @@
 //! Texts of primitives (ECMA-262, 3rd edition, section 9.8), and names of members by value.
-ghost use Rattle.std.specs.Prelude.{◌≡◌, ◌≤◌, ◌++◌, IfOk, OnOk, MatchOption};
-ghost use Rattle.wjs_base.specs.Text.{Table, Grows, Has};
+ghost use Rattle.std.specs.Prelude.{◌≡◌, ◌≤◌, ◌++◌, length, IfOk, OnOk, MatchOption};
+ghost use Rattle.wjs_base.specs.Text.{Table, Grows, Has, longest};
 ghost use Rattle.wjs_by_content.specs.Tables.{text_in, value_in, name_in};
 ghost use Rattle.wjs_base.specs.Spelling.{greatest_index};
 ghost use Rattle.wjs_by_content.specs.Names.{index_name};
@@ -29,7 +29,7 @@ const TRUE: [u16; 4] = [116, 114, 117, 101];
 const FALSE: [u16; 5] = [102, 97, 108, 115, 101];
 
 /// Puts the code units of a primitive's text behind others.
-fn push_text<S: WorldStore>(
+pub fn push_text<S: WorldStore>(
     config: &Config<S>,
     units: &mut Vec<u16>,
     value: Value,
@@ -49,6 +49,20 @@ fn push_text<S: WorldStore>(
         }
         Value::Text(id) => push_units(units, units_of(config, id)),
         Value::Object(_) => push_units(units, &[]),
+    }
+}
+
+/// At most so many code units a primitive's text has: as many as there are of a text, and no more than 17 of every other primitive.
+#[inline(always)]
+pub fn most_units<S: WorldStore>(config: &Config<S>, value: Value) -> usize
+    requires base { Base S.meaning config.now }
+    requires value { HasValue config.now value }
+    ensures most { (t : Table) → Grows config.now.heap.texts t → length (primitive_text (value_in t value)) ≤ result }
+    ensures short { result ≤ longest }
+{
+    match value {
+        Value::Text(id) => units_of(config, id).len(),
+        _ => 17,
     }
 }
 

@@ -1,6 +1,6 @@
 use Rattle.wjs_heap_steps.proofs.Later.{later_same, later_twice}
 use Rattle.wjs_quick.proofs.Coming.{later_left}
-use Rattle.wjs_effects.specs.Effects.{effect_of}
+use Rattle.wjs_effects.specs.declared.effect.Effect.TheVariants.{Stores}
 use Rattle.wjs_effects.proofs.Leaving.{effect_later}
 use Rattle.wjs_effects.proofs.parts.expression_at_once.Goals as goal
 
@@ -15,7 +15,7 @@ carry_out-requires-clause-effect g c =
     let m = g.S.WorldStore.meaning in
     let old = c.args.config.now in
     let left = c.store_at.new.steps in
-    effect_later m old (record old { left = left }) (effect_of c.in-Some.store) (later_left m old left c.requires.base) c.in-Some.ensures.found
+    effect_later m old (record old { left = left }) (Stores c.in-Some.store) (later_left m old left c.requires.base) c.in-Some.ensures.found
 
 -- what follows the end follows the effect, and that the goal
 pub returns-in_ok-completion-in-Some-clause-does : goal.returns-in_ok-completion-in-Some-clause-does

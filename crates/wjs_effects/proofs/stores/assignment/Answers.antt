@@ -3,10 +3,10 @@ use Rattle.wjs_meaning.specs.Deeds.{AtTarget, then_reference}
 use Rattle.wjs_meaning.specs.Expressions as line
 use Rattle.wjs_model.specs.declared.frame.Completion.TheVariants as completions
 use Rattle.wjs_heap_steps.proofs.Peeking.{if_some}
-use Rattle.wjs_effects.specs.Effects.{effect_of}
+use Rattle.wjs_effects.specs.declared.effect.Effect.TheVariants.{Stores}
 use Rattle.wjs_effects.proofs.Leaving.{leaves_by}
 use Rattle.wjs_effects.proofs.stores.assignment.Goals as goal
 
 pub returns-clause-leaves : goal.returns-clause-leaves
 returns-clause-leaves g c =
-    if_some _ _ c.assigned.result (λ s d. leaves_by g.S.WorldStore.meaning c.args.config.now c.args.frame.now (AtTarget c.args.target.0) (λ t env. then_reference (line.assign_reference (compound c.args.sign) c.args.right.0 env)) (completions.Refers c.in_ok-reference.reference) (effect_of s) c.args.steps.now c.target_at.new.steps c.assigned.new.steps c.in_ok-reference.ensures.leaves d) c.assigned.ensures.leaves
+    if_some _ _ c.assigned.result (λ s d. leaves_by g.S.WorldStore.meaning c.args.config.now c.args.frame.now (AtTarget c.args.target.0) (λ t env. then_reference (line.assign_reference (compound c.args.sign) c.args.right.0 env)) (completions.Refers c.in_ok-reference.reference) (Stores s) c.args.steps.now c.target_at.new.steps c.assigned.new.steps c.in_ok-reference.ensures.leaves d) c.assigned.ensures.leaves

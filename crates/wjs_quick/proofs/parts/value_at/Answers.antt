@@ -13,4 +13,4 @@ returns-in-Some-clause-does g c =
 pub returns-in-None-clause-does : goal.returns-in-None-clause-does
 returns-in-None-clause-does g c =
     let some : 0 < c.args.steps.now = omega (arith, c.if-steps-eq0.false) in
-    if_some _ _ c.composed.result (λ v d. comes_entered g.S.WorldStore.meaning c.args.config.now c.args.frame.now (AtExpr c.args.node.0) v c.args.steps.now c.composed.new.steps some d) c.composed.ensures.does
+    if_some _ _ c.entered_at.result (λ v d. comes_entered g.S.WorldStore.meaning c.args.config.now c.args.frame.now (AtExpr c.args.node.0) v c.args.steps.now c.entered_at.new.steps some d) c.entered_at.ensures.does

@@ -1,0 +1,4 @@
+use Rattle.wjs_effects.proofs.pieces.joinable.Goals as goal
+
+pub returns-in-Add-clause-ends : goal.returns-in-Add-clause-ends
+returns-in-Add-clause-ends g c = rw c.in-Add.is c.of_texts.ensures.ends
