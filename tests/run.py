@@ -16,11 +16,16 @@ words behind `// worlds`, and which has no log. A row may have besides:
   full         of `out` and `err` the streams whose writes all fail
   gone         of `out` and `err` the streams that are pipes whose reader has gone
   closed       of `in`, `out` and `err` the streams that are closed
+  broken       standard input gives `stdin`, and then fails
+  taken        standard input is a file, of which so many bytes are taken
+  most         of `out` and `err` a stream that is a file, with the bytes that it takes: a write past them fails
+  pieces       the lengths of the writes on standard output
   memory_mb    the program has so much address space
   stack_kb     the program has so much stack
   fronts       in place of `out`, `err` and `status`: the script is not run alone, but each of its fronts. A part of this list has the
                greatest length of the fronts for which it holds, then their `out`, `err` and `status`
   stops        the same of each number from 1 on, which stands in place of `#` in `stdin`
+  cut          of `in`, `out` and `err` one that fails behind each front of what is due there, and on `out` and `err` once behind all of it
   program      the row runs another program than worlds: that of this crate
 
 Without a COMMAND the program is what ./worlds runs, which is proved and built first where a source is newer, as the others are.
@@ -33,6 +38,8 @@ import json
 import os
 import re
 import resource
+import signal
+import socket
 import subprocess
 import sys
 
@@ -41,6 +48,7 @@ SECONDS = 120
 SHOWN = 300
 STREAMS = ('in', 'out', 'err')
 LIMITS = (('memory_mb', resource.RLIMIT_AS, 20), ('stack_kb', resource.RLIMIT_STACK, 10))
+OUT_FAULT, ERR_FAULT = 7, 8
 
 
 def rows_of_table(path):
@@ -50,8 +58,32 @@ def rows_of_table(path):
                 yield from rows_by_number(row, row['fronts'], 0, lambda length, stdin: stdin[:length])
             elif 'stops' in row:
                 yield from rows_by_number(row, row['stops'], 1, lambda steps, stdin: stdin.replace('#', str(steps)))
+            elif 'cut' in row:
+                yield from CUTS[row['cut']](row)
             else:
                 yield row
+
+
+def rows_cut_in(row):
+    for length in range(len(row['stdin']) + 1):
+        yield row | {'id': f"{row['id']}-{length}", 'stdin': row['stdin'][:length], 'broken': True,
+                     'out': '', 'err': 'read failed\n', 'status': 6}
+
+
+def rows_cut_out(row):
+    for length in range(len(row['out']) + 1):
+        whole = length == len(row['out'])
+        yield row | {'id': f"{row['id']}-{length}", 'most': {'out': length}, 'out': row['out'][:length],
+                     'err': row['err'] if whole else '', 'status': row['status'] if whole else OUT_FAULT}
+
+
+def rows_cut_err(row):
+    for length in range(len(row['err']) + 1):
+        status = row['status'] if length == len(row['err']) else ERR_FAULT
+        yield row | {'id': f"{row['id']}-{length}", 'most': {'err': length}, 'err': row['err'][:length], 'status': status}
+
+
+CUTS = {'in': rows_cut_in, 'out': rows_cut_out, 'err': rows_cut_err}
 
 
 def rows_by_number(row, due, number, given):
@@ -97,6 +129,34 @@ def build(crate):
             sys.exit(f'tests/run.py: the program of {crate} could not be built')
 
 
+def file_of(content, opened):
+    file = os.memfd_create('stream')
+    opened.callback(os.close, file)
+    os.write(file, content)
+    os.lseek(file, 0, os.SEEK_SET)
+    return file
+
+
+def input_of(row, opened):
+    if 'stdin_from' in row:
+        # a folder too, which `open` refuses
+        source = os.open(row['stdin_from'], os.O_RDONLY)
+        opened.callback(os.close, source)
+        return {'stdin': source}
+    given = given_by(row) * row.get('times', 1)
+    if 'taken' in row:
+        return {'stdin': file_of(given, opened)}
+    if row.get('broken'):
+        ours, theirs = socket.socketpair()
+        opened.callback(theirs.close)
+        # what a socket holds that is closed resets the other one, which gives what it has and then fails
+        theirs.send(b'unread')
+        ours.sendall(given)
+        ours.close()
+        return {'stdin': theirs}
+    return {'input': given}
+
+
 def streams_of(row, opened):
     streams = {'stdout': subprocess.PIPE, 'stderr': subprocess.PIPE}
     if 'full' in row:
@@ -107,12 +167,8 @@ def streams_of(row, opened):
         os.close(reader)
         opened.callback(os.close, writer)
         streams |= {'std' + name: writer for name in row['gone'].split()}
-    if 'stdin_from' in row:
-        # a folder too, which `open` refuses
-        source = os.open(row['stdin_from'], os.O_RDONLY)
-        opened.callback(os.close, source)
-        return streams | {'stdin': source}
-    return streams | {'input': given_by(row) * row.get('times', 1)}
+    streams |= {'std' + name: file_of(b'', opened) for name in row.get('most', ())}
+    return streams | input_of(row, opened)
 
 
 def given_by(row):
@@ -124,9 +180,12 @@ def given_by(row):
 def preparation_of(row):
     """What is done in the program's process before it begins, where there is something."""
     limits = [(limit, row[field] << bits) for field, limit, bits in LIMITS if field in row]
+    limits += [(resource.RLIMIT_FSIZE, most) for most in row.get('most', {}).values()]
     closed = [STREAMS.index(name) for name in row.get('closed', '').split()]
 
     def prepare():
+        # past the greatest size of a file a write fails then, and no signal ends the process
+        signal.signal(signal.SIGXFSZ, signal.SIG_IGN)
         for limit, size in limits:
             resource.setrlimit(limit, (size, size))
         for stream in closed:
@@ -144,7 +203,7 @@ def is_due_on_out(row, out):
 
 
 def is_due(row, out, err, status):
-    if row['err'] == 'usage: ':
+    if row['err'] == 'usage: ' and 'most' not in row:
         err_is_due = err.startswith(b'usage: ') and err.endswith(b'\n') and err.count(b'\n') == 1
     else:
         err_is_due = err == row['err'].encode()
@@ -155,18 +214,41 @@ def shown(out, err, status):
     return ' '.join(text if len(text) <= SHOWN else text[:SHOWN] + '..' for text in (repr(out), repr(err))) + f' {status}'
 
 
+def done_by(command, row):
+    """What the program wrote on out and err, its status, and how many bytes it took of a file."""
+    with contextlib.ExitStack() as opened:
+        streams = streams_of(row, opened)
+        done = subprocess.run(command + row['words'], timeout=SECONDS, preexec_fn=preparation_of(row), **streams)
+        written = {'out': done.stdout or b'', 'err': done.stderr or b''}
+        for name in row.get('most', ()):
+            file = streams['std' + name]
+            written[name] = os.pread(file, os.fstat(file).st_size, 0)
+        taken = os.lseek(streams['stdin'], 0, os.SEEK_CUR) if 'taken' in row else None
+        return written['out'], written['err'], done.returncode, taken
+
+
+def pieces_of(command, row):
+    """The lengths of the writes on out: a socket keeps each apart, and holds all of them until they are read."""
+    reader, writer = socket.socketpair(socket.AF_UNIX, socket.SOCK_SEQPACKET)
+    with reader:
+        with writer:
+            subprocess.run(command + row['words'], timeout=SECONDS, input=given_by(row), stdout=writer, stderr=subprocess.DEVNULL)
+        return list(iter(lambda: len(reader.recv(1 << 20)), 0))
+
+
 def difference(row, command):
     """What was got in place of what is due, None where that is the same."""
     command = [program_of(row['program'])] if 'program' in row else command
     try:
-        with contextlib.ExitStack() as opened:
-            done = subprocess.run(command + row['words'], timeout=SECONDS, preexec_fn=preparation_of(row), **streams_of(row, opened))
+        out, err, status, taken = done_by(command, row)
+        pieces = pieces_of(command, row) if 'pieces' in row else None
     except subprocess.TimeoutExpired:
         return f'no end in {SECONDS} seconds'
-    out, err = done.stdout or b'', done.stderr or b''
-    if is_due(row, out, err, done.returncode):
-        return audit_of(out, command) if row.get('audited') else None
-    return shown(out.decode('utf-8', 'replace'), err.decode('utf-8', 'replace'), done.returncode)
+    if not is_due(row, out, err, status):
+        return shown(out.decode('utf-8', 'replace'), err.decode('utf-8', 'replace'), status)
+    if (taken, pieces) != (row.get('taken'), row.get('pieces')):
+        return f'{taken} bytes taken, pieces {pieces}'
+    return audit_of(out, command) if row.get('audited') else None
 
 
 def audit_of(log, command):

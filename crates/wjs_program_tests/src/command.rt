@@ -1,10 +1,7 @@
-//! The command where its streams fail or stop at a limit, and over full copies.
+//! The command over streams in memory, and over full copies.
 
 mod copies;
-mod limits;
-mod scripts;
 mod streams;
-mod turns;
 
 use std::alloc::{AllocError, Global};
 use wjs_command::{Status, command};
