@@ -1,5 +1,5 @@
 -- When a configuration is sound: everything that it names is there, and of no owner that is kept apart.
-use Rattle.std.specs.Prelude.{◌≡◌, ℕ, ◌<◌, not, List, [], ◌∷◌, Option, None, Some, All, IsTrue}
+use Rattle.std.specs.Prelude.{◌≡◌, not, List, [], ◌∷◌, Option, None, Some, All, IsTrue}
 use Rattle.std.specs.FinMap as map
 use Rattle.wjs_base.specs.declared.ids.ObjId.{ObjId}
 use Rattle.wjs_base.specs.declared.ids.TextId.{TextId}

@@ -19,7 +19,7 @@ use Rattle.wjs_arena.specs.AtName as numbered_at
 use Rattle.wjs_arena.specs.AtName.{same_name}
 use Rattle.wjs_arena.specs.Chains as numbered
 use Rattle.wjs_arena.specs.Chains.{chain_from}
-use Rattle.wjs_arena.specs.Entries.{Objects, Entry, IsArena, prototype_of, depth_of, depth_at}
+use Rattle.wjs_arena.specs.Entries.{Objects, Entry, prototype_of, depth_of}
 use Rattle.wjs_arena.specs.Entries as entries
 use Rattle.wjs_arena.specs.declared.object.Object.{Object}
 use Rattle.wjs_arena.proofs.Walks.{chain_step, there_next, link_is}

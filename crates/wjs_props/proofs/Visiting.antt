@@ -20,8 +20,8 @@ use Rattle.wjs_arena.specs.declared.object.Flags.{Flags}
 use Rattle.wjs_arena.specs.declared.object.Object.{Object}
 use Rattle.wjs_arena.specs.AtName.{same_name}
 use Rattle.wjs_arena.specs.Chains as numbered
-use Rattle.wjs_arena.specs.Chains.{chain_from, flags_in}
-use Rattle.wjs_arena.specs.Entries.{Objects, Entry as NumberedEntry, IsArena, prototype_of, depth_of}
+use Rattle.wjs_arena.specs.Chains.{flags_in}
+use Rattle.wjs_arena.specs.Entries.{Entry as NumberedEntry}
 use Rattle.wjs_arena.specs.Entries as entries
 use Rattle.wjs_by_content.specs.Values.{same_text}
 use Rattle.wjs_by_content.specs.Names.{slot}

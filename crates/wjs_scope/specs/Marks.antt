@@ -1,5 +1,5 @@
 -- Nodes that are marked with the number of the scope that they stand in.
-use Rattle.std.specs.Prelude.{ℕ, List, [], ◌∷◌, set, Option, Some, None}
+use Rattle.std.specs.Prelude.{ℕ, List, [], ◌∷◌, set, Option, Some}
 use Rattle.wjs_base.specs.declared.ids.NodeId.{NodeId}
 pub use Rattle.wjs_tree.specs.Parts.{handler_blocks}
 use Rattle.wjs_scope.specs.Nesting.{Side, Around}

@@ -1,5 +1,5 @@
 -- The two parts of a table together.
-use Rattle.std.proofs.Common.{◌≡◌, ℕ, ◌+◌, ◌-◌, ◌<◌, ◌≤◌, ◌^◌, ◌==◌, Bool, true, cond, nat_le, List, [], ◌∷◌, length, Option, None, Some, refl, ap, sym, ◌∙◌, subst, arith, eqb-true}
+use Rattle.std.proofs.Common.{◌≡◌, ℕ, ◌+◌, ◌-◌, ◌<◌, ◌≤◌, ◌^◌, ◌==◌, true, cond, nat_le, List, [], ◌∷◌, length, None, Some, refl, ap, sym, ◌∙◌, subst, arith, eqb-true}
 use Rattle.std.specs.Ordering.{is_le, ordering_then, nat_cmp, eq_by_cmp}
 use Rattle.std.specs.Cmp.{nat_cmp_total, tied_itself}
 use Rattle.std.specs.FinMap as map
@@ -8,7 +8,7 @@ use Rattle.std.proofs.lemmas.Bool.Decides.{nat_tests}
 use Rattle.wjs_base.specs.declared.ids.ObjId.{ObjId}
 use Rattle.wjs_base.specs.declared.values.Name.{Name}
 use Rattle.wjs_base.specs.declared.values.Slot.{Slot}
-use Rattle.wjs_base.specs.Order.{name_cmp, obj_cmp, slot_cmp, slot_total, slot_exact, name_total}
+use Rattle.wjs_base.specs.Order.{name_cmp, obj_cmp, slot_cmp, name_total}
 use Rattle.wjs_base.proofs.Booleans.{by_bool}
 use Rattle.wjs_base.proofs.Numbers.{not_le, le_of}
 use Rattle.wjs_names.proofs.Firsts.{from_true}
