@@ -1,6 +1,6 @@
 -- Within the body of a loop, a block: its entry, its statements one after another, and its end.
-use Rattle.std.proofs.Common.{◌≡◌, ℕ, suc, ◌+◌, None, Some, refl, sym, ap, ◌∙◌, subst, drop}
-use Rattle.std.specs.Prelude.{Result, OnOk, slice_get}
+use Rattle.std.proofs.Common.{◌≡◌, ℕ, suc, ◌+◌, None, Some, refl, sym, ap, subst, drop}
+use Rattle.std.specs.Prelude.{OnOk, slice_get}
 use Rattle.wjs_base.specs.declared.ids.NodeId.{NodeId}
 use Rattle.wjs_base.specs.Text.{Table, Grows}
 use Rattle.wjs_store.specs.Meaning.{Meaning}

@@ -1,5 +1,5 @@
 -- Turns one after another until none can be taken.
-use Rattle.std.proofs.Common.{◌≡◌, ℕ, ◌+◌, ◌-◌, ◌<◌, ◌⊎◌, inl, inr, refl, sym, ap, ◌∙◌, subst, arith, not, IsTrue}
+use Rattle.std.proofs.Common.{◌≡◌, ℕ, ◌+◌, ◌-◌, inr, refl, sym, ap, ◌∙◌, subst, arith, not, IsTrue}
 use Rattle.wjs_base.specs.Text.{Grows}
 use Rattle.wjs_base.proofs.TextLaws.{Grows-trans}
 use Rattle.wjs_store.specs.Meaning.{Meaning, IsSound}
@@ -13,9 +13,8 @@ use Rattle.wjs_frames.proofs.Growing.{left_alike}
 use Rattle.wjs_frames.proofs.Keeping.{none_taken}
 use Rattle.wjs_frames.proofs.Reaching.{stays_on, turn_reaches}
 use Rattle.wjs_heap_steps.proofs.Steps.{stays_same}
-use Rattle.wjs_machine.specs.Runs.{weight}
 use Rattle.wjs_machine.proofs.Running.{own_admitted}
-use Rattle.wjs_machine.proofs.Stepping.{Left, left_falls, less_over}
+use Rattle.wjs_machine.proofs.Stepping.{Left, left_falls}
 use Rattle.wjs_turns.specs.Going.{Goes, Way, goes, stops, Went, WentToStep}
 
 plus_assoc : (a b n : ℕ) → (a + b) + n ≡ a + (b + n)
@@ -118,9 +117,6 @@ module _ {S : Type 0} (meaning : S → Meaning) where
 
   pub under_none : (c : Config S) → c.state ≡ states.Running → Sound meaning c → Under c c
   under_none c run sound = record { went = went_none c run sound; left = inr refl }
-
-  pub under_over : (first c : Config S) → first.state ≡ states.Running → Under first c → (¬ (c.state ≡ states.Running)) ⊎ (¬ (c.left ≡ first.left)) → WentToStep meaning first c
-  under_over first c run u done = record { went = u.went; less = less_over meaning first c run u.left done }
 
   pub went_more : (first mid new : Config S) → Sound meaning first → mid.state ≡ states.Running → Went meaning first mid → WentToStep meaning mid new → Went meaning first new
   went_more first mid new so run a b = went_then first mid new so run a b.went

@@ -6,12 +6,11 @@ use Rattle.wjs_store.specs.Meaning.{Meaning}
 use Rattle.wjs_model.specs.declared.config.Config.{Config}
 use Rattle.wjs_model.specs.declared.config.State.{State}
 use Rattle.wjs_model.specs.declared.config.State.TheVariants as states
-use Rattle.wjs_model.specs.Configurations.{Stays, RestIs, Stopped}
+use Rattle.wjs_model.specs.Configurations.{Stays, RestIs}
 use Rattle.wjs_model.specs.Soundness.{HasThrown, Sound}
 use Rattle.wjs_frames.proofs.Sounding.{base_framed}
 use Rattle.wjs_turns.specs.Going.{Goes, Way, goes, stops, again}
-use Rattle.wjs_parts.specs.Walking.{going, IsDue, Stops, ended, paused, spent, Walks}
-use Rattle.wjs_turns.proofs.Going.{way_left}
+use Rattle.wjs_parts.specs.Walking.{IsDue, ended, paused, spent, Walks}
 
 -- a run that hasn't ended for want of steps stays as it is
 again_same : (s : State) → ¬ (s ≡ states.StepsSpent) → again s ≡ s
@@ -130,7 +129,3 @@ module _ {S : Type 0} (meaning : S → Meaning) where
 
     pub walks : (last : Config S) (s : State) → Way meaning taken (record old { left = m }) last → ¬ (last.state ≡ states.Running) → (steps < old.left → s ≡ again last.state) → (old.left ≤ steps → s ≡ last.state) → Walks meaning steps taken old (record last { left = old.left - taken; state = s })
     walks last s way done some none = by_way last s way done (nat_lt steps old.left) refl some none
-
-    -- no more steps were taken than there were
-    pub taken_most : (last : Config S) → Way meaning taken (record old { left = m }) last → taken ≤ old.left
-    taken_most last way = let e = way_left meaning taken (record old { left = m }) last way in let f : m ≡ taken + last.left = e in omega (arith, held, f)

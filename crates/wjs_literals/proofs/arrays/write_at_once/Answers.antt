@@ -1,4 +1,4 @@
-use Rattle.std.proofs.Common.{◌+◌, drop, sym, ap, ◌∙◌, subst}
+use Rattle.std.proofs.Common.{◌+◌, drop, sym, ◌∙◌, subst}
 use Rattle.wjs_by_content.specs.Names.{slot, index_name}
 use Rattle.wjs_meaning.specs.Expressions.{array_from}
 use Rattle.wjs_meaning.specs.Reading.{node_in}

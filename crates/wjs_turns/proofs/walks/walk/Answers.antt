@@ -1,4 +1,4 @@
-use Rattle.wjs_turns.proofs.Pausing.{sound_left, walks, taken_most}
+use Rattle.wjs_turns.proofs.Pausing.{sound_left, walks}
 use Rattle.wjs_turns.proofs.walks.walk.Goals as goal
 
 pub walk_out-requires-clause-sound : goal.walk_out-requires-clause-sound
