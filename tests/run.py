@@ -25,7 +25,8 @@ words behind `// worlds`, and which has no log. A row may have besides:
   fronts       in place of `out`, `err` and `status`: the script is not run alone, but each of its fronts. A part of this list has the
                greatest length of the fronts for which it holds, then their `out`, `err` and `status`
   stops        the same of each number from 1 on, which stands in place of `#` in `stdin`
-  cut          of `in`, `out` and `err` one that fails behind each front of what is due there, and on `out` and `err` once behind all of it
+  cut          of `in`, `out` and `err` a stream that fails behind each front of what goes through it, one after another, and last behind
+               all of it, where a write is not missed
   program      the row runs another program than worlds: that of this crate
 
 Without a COMMAND the program is what ./worlds runs, which is proved and built first where a source is newer, as the others are.
@@ -48,7 +49,7 @@ SECONDS = 120
 SHOWN = 300
 STREAMS = ('in', 'out', 'err')
 LIMITS = (('memory_mb', resource.RLIMIT_AS, 20), ('stack_kb', resource.RLIMIT_STACK, 10))
-OUT_FAULT, ERR_FAULT = 7, 8
+READ_FAULT, OUT_FAULT, ERR_FAULT = 6, 7, 8
 
 
 def rows_of_table(path):
@@ -67,7 +68,7 @@ def rows_of_table(path):
 def rows_cut_in(row):
     for length in range(len(row['stdin']) + 1):
         yield row | {'id': f"{row['id']}-{length}", 'stdin': row['stdin'][:length], 'broken': True,
-                     'out': '', 'err': 'read failed\n', 'status': 6}
+                     'out': '', 'err': 'read failed\n', 'status': READ_FAULT}
 
 
 def rows_cut_out(row):
