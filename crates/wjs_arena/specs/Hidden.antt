@@ -20,4 +20,4 @@ hidden_all callee length count = (callee, hidden) ∷ (length, hidden) ∷ hidde
 
 -- the same, kept in short
 abbrev pub hidden_list : Hidden → List (Name × Flags)
-hidden_list h = hidden_all (names.Text (record { 0 = h.texts.callee })) (names.Text (record { 0 = h.texts.length })) h.count
+hidden_list h = hidden_all (names.Text (record { 0 = h.callee })) (names.Text (record { 0 = h.length })) h.count

@@ -5,6 +5,7 @@ pub mod Rows
 pub mod Codes
 pub mod Hidden
 pub mod Kept
+pub mod Links
 pub mod Listed
 pub mod Packed
 pub mod There

@@ -7,22 +7,19 @@ ghost use Rattle.wjs_arena.specs.Hidden.{hidden, hidden_list};
 use crate::object::Flags;
 use wjs_base::{Name, TextId};
 
-/// The greatest number of a text that is kept in short.
-const GREATEST_TEXT: u64 = 4_294_967_295;
+/// The greatest number of a text that is kept in short. The texts of the library come first, and have small numbers.
+const GREATEST_TEXT: u64 = 65_535;
 
-/// Two texts, by their numbers.
-#[derive(Clone, Copy)]
-pub struct TwoTexts {
-    pub callee: u32,
-    pub length: u32,
-}
-
-/// Two texts and the indices below a count: the names that an Arguments object hides (ECMA-262, 3rd edition, section 10.1.8).
+/// Two texts, by their numbers, and the indices below a count: the names that an Arguments object hides (ECMA-262, 3rd edition,
+/// section 10.1.8).
 #[derive(Clone, Copy)]
 pub struct Hidden {
-    pub texts: TwoTexts,
     pub count: u32,
+    pub callee: u16,
+    pub length: u16,
 }
+
+const _: () = prove!(size_of::<Hidden>() == 8);
 
 impl Hidden {
     /// The attributes of a name; None exactly where it isn't among these.
@@ -37,9 +34,9 @@ impl Hidden {
 
     /// Whether a text is one of the two.
     fn has_text(&self, text: TextId) -> bool
-        ensures { result ≡ ((self.now.texts.callee == text.0) || (self.now.texts.length == text.0)) }
+        ensures { result ≡ ((self.now.callee == text.0) || (self.now.length == text.0)) }
     {
-        self.texts.callee as u64 == text.0 || self.texts.length as u64 == text.0
+        self.callee as u64 == text.0 || self.length as u64 == text.0
     }
 }
 
@@ -58,7 +55,7 @@ fn hidden_if(is_hidden: bool) -> Option<Flags>
 }
 
 /// The number of a text in short; None of an index, and where it is too great.
-pub(crate) fn short_text(name: Name) -> Option<u32>
+pub(crate) fn short_text(name: Name) -> Option<u16>
     ensures { IfSome result (λ text. names.Text (record { 0 = text }) ≡ name) }
 {
     match name {
@@ -67,7 +64,7 @@ pub(crate) fn short_text(name: Name) -> Option<u32>
             if text.0 > GREATEST_TEXT {
                 return None;
             }
-            Some(text.0 as u32)
+            Some(text.0 as u16)
         }
     }
 }

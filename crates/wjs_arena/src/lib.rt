@@ -7,6 +7,7 @@ mod chain;
 mod class;
 mod entry;
 mod hidden;
+mod link;
 mod listed;
 mod native;
 mod object;

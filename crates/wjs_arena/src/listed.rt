@@ -3,7 +3,7 @@ ghost use Rattle.std.specs.Prelude.{◌≡◌, [], IfSome, IsTrue};
 ghost use Rattle.wjs_arena.specs.AtName.{at_name};
 ghost use Rattle.wjs_arena.specs.Hidden.{hidden_all, hidden_list};
 
-use crate::hidden::{Hidden, TwoTexts, short_text};
+use crate::hidden::{Hidden, short_text};
 use crate::object::Flags;
 use crate::under::Under;
 use std::alloc::Global;
@@ -67,11 +67,9 @@ impl Listed {
                 None => None,
                 Some(second) => Some(Listed {
                     form: Form::Hidden(Hidden {
-                        texts: TwoTexts {
-                            callee: first,
-                            length: second,
-                        },
                         count,
+                        callee: first,
+                        length: second,
                     }),
                 }),
             },

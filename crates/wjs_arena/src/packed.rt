@@ -1,46 +1,50 @@
-//! An object as the arena keeps it: its links apart, and what few objects have in memory of its own.
+//! An object as the arena keeps it: its links in short, and what few objects have in memory of its own.
 ghost use Rattle.std.specs.Prelude.{◌≡◌, IfOk};
 ghost use Rattle.wjs_arena.specs.AtName.{at_name};
-ghost use Rattle.wjs_arena.specs.Packed.{link};
+ghost use Rattle.wjs_arena.specs.Links.{AreLinks};
 
 use crate::class::Class;
-use crate::hidden::Hidden;
+use crate::link::{Linked, ShortLinks, short_links};
 use crate::object::{Code, Flags, Object};
-use crate::rest::{Rest, rest_of};
+use crate::rare::{Beside, Wide, world_in};
+use crate::rest::{Rest, rare_of, rest_of};
 use std::alloc::Global;
 use std::marker::Model;
 use wjs_base::{Name, ObjId, OutOfMemory, Value, WorldId};
 
 /// An object and its depth, in few bytes. Contracts see the entry.
 ///
-/// The wide fields come first, since fields lie in their order: 56 bytes.
+/// The wide field comes where no bytes lie between, since fields lie in their order. An object whose links or depth are too great
+/// for their fields has them with the rest.
 #[derive(Drop)]
 pub struct Packed {
-    depth: u64,
-    prototype_serial: u64,
-    scope_serial: u64,
-    rest: Rest,
+    depth: u32,
+    prototype_serial: u32,
     prototype_owner: u32,
+    scope_serial: u32,
     scope_owner: u32,
-    /// How many indices it hides, if it is an Arguments object.
-    count: u32,
+    prototype: Linked,
+    scope: Linked,
     class: Class,
-    has_prototype: bool,
-    has_scope: bool,
     all_kept: bool,
+    rest: Rest,
 }
+
+const _: () = prove!(size_of::<Packed>() == 40);
 
 impl Model for Packed {
     ghost use Rattle.wjs_arena.specs.Entries.{Entry};
     ghost use Rattle.wjs_arena.specs.Codes.{coded_entry};
-    ghost use Rattle.wjs_arena.specs.Packed.{link, rare_in, unpacked};
+    ghost use Rattle.wjs_arena.specs.Links.{depth_in, link};
+    ghost use Rattle.wjs_arena.specs.Packed.{few_in, unpacked, wide_in};
 
     ghost Value = { Entry };
 
     ghost coded = { coded_entry };
 
-    ghost view = { λ p. unpacked p.depth p.class (link p.has_prototype p.prototype_owner p.prototype_serial) (link p.has_scope p.scope_owner p.scope_serial)
-        (rare_in p.count p.rest) p.all_kept };
+    ghost view = { λ p. unpacked (depth_in p.prototype p.depth (wide_in p.rest).depth) p.class
+        (link p.prototype p.prototype_owner p.prototype_serial (wide_in p.rest).prototype) (link p.scope p.scope_owner p.scope_serial (wide_in p.rest).scope)
+        (few_in p.rest) p.all_kept };
 }
 
 impl Packed {
@@ -48,23 +52,60 @@ impl Packed {
     pub fn new(alloc: Global, object: Object, depth: u64) -> Result<Packed, OutOfMemory>
         ensures { IfOk result (λ packed. packed ≡ record { object = object; depth = depth }) }
     {
-        let prototype = parts_of(object.prototype);
-        let scope = parts_of(object.scope);
+        match short_links(&object, depth) {
+            Some(links) => Packed::short(alloc, object, links),
+            None => Packed::wide(alloc, object, depth),
+        }
+    }
+
+    /// An object with its links in short.
+    fn short(alloc: Global, object: Object, links: ShortLinks) -> Result<Packed, OutOfMemory>
+        requires { AreLinks links object }
+        ensures { IfOk result (λ packed. packed ≡ record { object = object; depth = links.depth }) }
+    {
         let class = object.class;
         let all_kept = object.all_kept;
-        let counted = rest_of(alloc, object)?;
+        let rest = rest_of(alloc, object)?;
         Ok(Packed {
-            depth,
-            prototype_serial: prototype.serial,
-            scope_serial: scope.serial,
-            rest: counted.rest,
-            prototype_owner: prototype.owner,
-            scope_owner: scope.owner,
-            count: counted.count,
+            depth: links.depth,
+            prototype_serial: links.prototype.serial,
+            prototype_owner: links.prototype.owner,
+            scope_serial: links.scope.serial,
+            scope_owner: links.scope.owner,
+            prototype: links.prototype.linked,
+            scope: links.scope.linked,
             class,
-            has_prototype: prototype.is_there,
-            has_scope: scope.is_there,
             all_kept,
+            rest,
+        })
+    }
+
+    /// An object with its links with the rest.
+    #[cold]
+    fn wide(alloc: Global, object: Object, depth: u64) -> Result<Packed, OutOfMemory>
+        ensures { IfOk result (λ packed. packed ≡ record { object = object; depth = depth }) }
+    {
+        let class = object.class;
+        let all_kept = object.all_kept;
+        let wide = Wide {
+            depth,
+            prototype: object.prototype,
+            scope: object.scope,
+            world: object.world,
+        };
+        let beside = Box::new(alloc, wide)?;
+        let rest = rare_of(alloc, object, Beside::Wide(beside))?;
+        Ok(Packed {
+            depth: 0,
+            prototype_serial: 0,
+            prototype_owner: 0,
+            scope_serial: 0,
+            scope_owner: 0,
+            prototype: Linked::Wide,
+            scope: Linked::Wide,
+            class,
+            all_kept,
+            rest,
         })
     }
 
@@ -72,7 +113,11 @@ impl Packed {
     pub fn depth(&self) -> u64
         ensures { result ≡ self.now.depth }
     {
-        self.depth
+        match self.prototype {
+            Linked::None => self.depth as u64,
+            Linked::Short => self.depth as u64,
+            Linked::Wide => self.rest.wide().depth,
+        }
     }
 
     #[inline(always)]
@@ -86,18 +131,28 @@ impl Packed {
     pub fn prototype(&self) -> Option<ObjId>
         ensures { result ≡ self.now.object.prototype }
     {
-        joined(
-            self.has_prototype,
-            self.prototype_owner,
-            self.prototype_serial,
-        )
+        match self.prototype {
+            Linked::None => None,
+            Linked::Short => Some(ObjId {
+                owner: self.prototype_owner,
+                serial: self.prototype_serial as u64,
+            }),
+            Linked::Wide => self.rest.wide().prototype,
+        }
     }
 
     #[inline(always)]
     pub fn scope(&self) -> Option<ObjId>
         ensures { result ≡ self.now.object.scope }
     {
-        joined(self.has_scope, self.scope_owner, self.scope_serial)
+        match self.scope {
+            Linked::None => None,
+            Linked::Short => Some(ObjId {
+                owner: self.scope_owner,
+                serial: self.scope_serial as u64,
+            }),
+            Linked::Wide => self.rest.wide().scope,
+        }
     }
 
     #[inline(always)]
@@ -139,7 +194,7 @@ impl Packed {
             Rest::Plain => None,
             Rest::Hidden(_) => None,
             Rest::Listed(_) => None,
-            Rest::Rare(rare) => rare.world,
+            Rest::Rare(rare) => world_in(&rare.beside),
         }
     }
 
@@ -162,52 +217,9 @@ impl Packed {
     {
         match &self.rest {
             Rest::Plain => None,
-            Rest::Hidden(texts) => {
-                let hidden = Hidden {
-                    texts: *texts,
-                    count: self.count,
-                };
-                hidden.get(name)
-            }
+            Rest::Hidden(hidden) => hidden.get(name),
             Rest::Listed(flags) => flags.get(name),
             Rest::Rare(rare) => rare.flags.get(name),
         }
-    }
-}
-
-/// A number taken apart, if there is one.
-#[derive(Clone, Copy)]
-struct Link {
-    is_there: bool,
-    owner: u32,
-    serial: u64,
-}
-
-fn parts_of(id: Option<ObjId>) -> Link
-    ensures { link result.is_there result.owner result.serial ≡ id }
-{
-    match id {
-        None => Link {
-            is_there: false,
-            owner: 0,
-            serial: 0,
-        },
-        Some(id) => Link {
-            is_there: true,
-            owner: id.owner,
-            serial: id.serial,
-        },
-    }
-}
-
-/// A number put together again, if there is one.
-#[inline(always)]
-fn joined(is_there: bool, owner: u32, serial: u64) -> Option<ObjId>
-    ensures { result ≡ link is_there owner serial }
-{
-    if is_there {
-        Some(ObjId { owner, serial })
-    } else {
-        None
     }
 }

@@ -2,12 +2,12 @@
 ghost use Rattle.std.specs.Prelude.{◌≡◌, [], IfOk, IfSome, IsTrue, None};
 ghost use Rattle.wjs_base.specs.declared.values.Value.TheVariants as values;
 ghost use Rattle.wjs_arena.specs.declared.object.Code.TheVariants as codes;
-ghost use Rattle.wjs_arena.specs.Packed.{rare_in, rare_parts};
+ghost use Rattle.wjs_arena.specs.Packed.{few_in, few_of, wide_in, wide_of, world_in};
 
-use crate::hidden::TwoTexts;
+use crate::hidden::Hidden;
 use crate::listed::Listed;
 use crate::object::{Code, Object};
-use crate::rare::Rare;
+use crate::rare::{Beside, Rare, Wide, beside_of, no_links, wide_of};
 use std::alloc::Global;
 use wjs_base::{OutOfMemory, Value, WorldId};
 
@@ -16,91 +16,89 @@ use wjs_base::{OutOfMemory, Value, WorldId};
 #[derive(Drop)]
 pub(crate) enum Rest {
     Plain,
-    /// Two texts, with so many indices as are counted beside it.
-    Hidden(TwoTexts),
+    Hidden(Hidden),
     /// Attributes, as arrays and the prototypes of functions have some.
     Listed(Box<Listed>),
     Rare(Box<Rare>),
 }
 
-/// It, with the number of indices that it hides.
-#[derive(Drop)]
-pub(crate) struct Counted {
-    pub rest: Rest,
-    pub count: u32,
+impl Rest {
+    /// Links and depth that have no place in short; none where all have.
+    #[cold]
+    pub(crate) fn wide(&self) -> Wide
+        ensures { result ≡ wide_in self.now }
+    {
+        match self {
+            Rest::Plain => no_links(),
+            Rest::Hidden(_) => no_links(),
+            Rest::Listed(_) => no_links(),
+            Rest::Rare(rare) => wide_of(&rare.beside),
+        }
+    }
 }
 
 /// What an object has beside its class and its links.
-pub(crate) fn rest_of(alloc: Global, object: Object) -> Result<Counted, OutOfMemory>
-    ensures { IfOk result (λ counted. rare_in counted.count counted.rest ≡ rare_parts object) }
+pub(crate) fn rest_of(alloc: Global, object: Object) -> Result<Rest, OutOfMemory>
+    ensures { IfOk result (λ rest. few_in rest ≡ few_of object) }
 {
     match short_rest(&object) {
-        Some(counted) => Ok(counted),
+        Some(rest) => Ok(rest),
         None => long_rest(alloc, object),
     }
 }
 
 /// It, in memory of its own.
-fn long_rest(alloc: Global, object: Object) -> Result<Counted, OutOfMemory>
-    ensures { IfOk result (λ counted. rare_in counted.count counted.rest ≡ rare_parts object) }
+fn long_rest(alloc: Global, object: Object) -> Result<Rest, OutOfMemory>
+    ensures { IfOk result (λ rest. few_in rest ≡ few_of object) }
 {
     if is_common(&object) {
         return listed_of(alloc, object);
     }
-    rare_of(alloc, object)
+    let beside = beside_of(object.world);
+    rare_of(alloc, object, beside)
 }
 
 /// Attributes alone, in memory of their own.
-fn listed_of(alloc: Global, object: Object) -> Result<Counted, OutOfMemory>
+fn listed_of(alloc: Global, object: Object) -> Result<Rest, OutOfMemory>
     requires { (object.code ≡ codes.None) × (object.primitive ≡ values.Undefined) × (object.world ≡ None) × (object.fixed ≡ []) }
-    ensures { IfOk result (λ counted. rare_in counted.count counted.rest ≡ rare_parts object) }
+    ensures { IfOk result (λ rest. few_in rest ≡ few_of object) }
 {
     let _fixed = object.fixed;
     let flags = Box::new(alloc, object.flags)?;
-    Ok(Counted {
-        rest: Rest::Listed(flags),
-        count: 0,
-    })
+    Ok(Rest::Listed(flags))
 }
 
 /// It, where it takes no memory of its own.
-fn short_rest(object: &Object) -> Option<Counted>
-    ensures { IfSome result (λ counted. rare_in counted.count counted.rest ≡ rare_parts object.now) }
+fn short_rest(object: &Object) -> Option<Rest>
+    ensures { IfSome result (λ rest. few_in rest ≡ few_of object.now) }
 {
     if !is_common(object) {
         return None;
     }
     if object.flags.is_empty() {
-        return Some(Counted {
-            rest: Rest::Plain,
-            count: 0,
-        });
+        return Some(Rest::Plain);
     }
     match object.flags.hidden() {
         None => None,
-        Some(hidden) => Some(Counted {
-            rest: Rest::Hidden(hidden.texts),
-            count: hidden.count,
-        }),
+        Some(hidden) => Some(Rest::Hidden(hidden)),
     }
 }
 
-/// All of it, in memory of its own.
-fn rare_of(alloc: Global, object: Object) -> Result<Counted, OutOfMemory>
-    ensures { IfOk result (λ counted. rare_in counted.count counted.rest ≡ rare_parts object) }
+/// All of it, in memory of its own, with a world that is kept beside it.
+pub(crate) fn rare_of(alloc: Global, object: Object, beside: Beside) -> Result<Rest, OutOfMemory>
+    requires { world_in beside ≡ object.world }
+    ensures few { IfOk result (λ rest. few_in rest ≡ few_of object) }
+    ensures wide { IfOk result (λ rest. wide_in rest ≡ wide_of beside) }
 {
     let rare = Rare {
         code: object.code,
         primitive: object.primitive,
-        world: object.world,
+        beside,
         fixed: object.fixed,
         flags: object.flags,
     };
     let rare = Box::new(alloc, rare)?;
-    Ok(Counted {
-        rest: Rest::Rare(rare),
-        count: 0,
-    })
+    Ok(Rest::Rare(rare))
 }
 
 /// Whether an object is no function, no wrapper, stands for no world and has no fixed properties.

@@ -17,5 +17,5 @@ returns-in-Text c =
     let t = c.in-Text.text in
     c.hidden_if-in-Text.ensures
     ∙ ap (λ b. cond b (Some hidden) None) c.has_text.ensures
-    ∙ text_get h.count (h.texts.callee == t.0) (h.texts.length == t.0) t
+    ∙ text_get h.count (h.callee == t.0) (h.length == t.0) t
     ∙ ap (at_name (hidden_list h)) (sym c.in-Text.is)

@@ -1,13 +1,13 @@
 use Rattle.std.proofs.Common.{sym, ap, ◌∙◌}
 use Rattle.wjs_arena.specs.Entries.{Entry}
-use Rattle.wjs_arena.specs.Packed.{rare_in}
+use Rattle.wjs_arena.specs.Packed.{few_in}
 use Rattle.wjs_arena.proofs.packed.Packed.fixed.Goals as goal
 
 pub returns-in-Plain : goal.returns-in-Plain
-returns-in-Plain c = sym (ap (λ r. (rare_in c.self.inside.count r).fixed) c.in-Plain.is) ∙ ap (λ (e : Entry). e.object.fixed) c.self.view_is
+returns-in-Plain c = sym (ap (λ r. (few_in r).fixed) c.in-Plain.is) ∙ ap (λ (e : Entry). e.object.fixed) c.self.view_is
 
 pub returns-in-Hidden : goal.returns-in-Hidden
-returns-in-Hidden c = sym (ap (λ r. (rare_in c.self.inside.count r).fixed) c.in-Hidden.is) ∙ ap (λ (e : Entry). e.object.fixed) c.self.view_is
+returns-in-Hidden c = sym (ap (λ r. (few_in r).fixed) c.in-Hidden.is) ∙ ap (λ (e : Entry). e.object.fixed) c.self.view_is
 
 pub returns-in-Listed : goal.returns-in-Listed
-returns-in-Listed c = sym (ap (λ r. (rare_in c.self.inside.count r).fixed) c.in-Listed.is) ∙ ap (λ (e : Entry). e.object.fixed) c.self.view_is
+returns-in-Listed c = sym (ap (λ r. (few_in r).fixed) c.in-Listed.is) ∙ ap (λ (e : Entry). e.object.fixed) c.self.view_is

@@ -1,6 +1,23 @@
-use Rattle.std.proofs.Common.{ap, ◌∙◌}
+use Rattle.std.proofs.Common.{sym, ap, ◌∙◌}
 use Rattle.wjs_arena.specs.Entries.{Entry}
+use Rattle.wjs_arena.specs.Links.{link}
+use Rattle.wjs_arena.specs.Packed.{wide_in}
+use Rattle.wjs_arena.specs.declared.rare.Wide.{Wide}
 use Rattle.wjs_arena.proofs.packed.Packed.prototype.Goals as goal
 
-pub returns : goal.returns
-returns c = c.joined.ensures ∙ ap (λ (e : Entry). e.object.prototype) c.self.view_is
+pub returns-in-None : goal.returns-in-None
+returns-in-None c =
+    let p = c.self.inside in
+    sym (ap (λ l. link l p.prototype_owner p.prototype_serial (wide_in p.rest).prototype) c.in-None.is) ∙ ap (λ (e : Entry). e.object.prototype) c.self.view_is
+
+pub returns-in-Short : goal.returns-in-Short
+returns-in-Short c =
+    let p = c.self.inside in
+    sym (ap (λ l. link l p.prototype_owner p.prototype_serial (wide_in p.rest).prototype) c.in-Short.is) ∙ ap (λ (e : Entry). e.object.prototype) c.self.view_is
+
+pub returns-in-Wide : goal.returns-in-Wide
+returns-in-Wide c =
+    let p = c.self.inside in
+    ap (λ (w : Wide). w.prototype) c.wide.ensures
+    ∙ sym (ap (λ l. link l p.prototype_owner p.prototype_serial (wide_in p.rest).prototype) c.in-Wide.is)
+    ∙ ap (λ (e : Entry). e.object.prototype) c.self.view_is
