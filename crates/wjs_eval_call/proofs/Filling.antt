@@ -16,8 +16,9 @@ use Rattle.wjs_arena.specs.declared.class.Class.TheVariants as class
 use Rattle.wjs_arena.specs.declared.object.Flags.{Flags}
 use Rattle.wjs_arena.specs.declared.object.Object.{Object}
 use Rattle.wjs_arena.specs.Entries.{Objects}
-use Rattle.wjs_by_content.specs.Names.{slot, index_name, callee_name, length_name}
+use Rattle.wjs_by_content.specs.Names.{Slot, slot, index_name, callee_name, length_name}
 use Rattle.wjs_by_content.specs.Objects.{object_of, hidden_flags}
+use Rattle.wjs_by_content.specs.Values.{Value}
 use Rattle.wjs_by_content.specs.Tables.{text_in, name_in, value_in, under_in, object_in}
 use Rattle.wjs_heap.specs.Heap.{HasNamed}
 use Rattle.wjs_meaning.specs.Builtins.{object_prototype}
@@ -72,33 +73,81 @@ module _ (t : Table) (w : WorldId) (s : ObjId) where
       → write_all w (undefined_slots s (each (text_in t) (drop i ns))) act ≡ Do (Write w (slot s (text_in t (slice_index_or ns i other))) (Some (value_in t values.Undefined))) (λ done. write_all w (undefined_slots s (each (text_in t) (drop (i + 1) ns))) act)
   undefined_left ns i other act lt = ap (λ (l : List TextId). write_all w (undefined_slots s (each (text_in t) l)) act) (left_here ns i other lt)
 
-  -- the argument of a number
-  abbrev pub argument : List NumberedValue → ℕ → NumberedValue
-  argument vs i = unwrap_or (slice_get vs i) values.Undefined
+-- the argument of a number
+abbrev pub argument : List NumberedValue → ℕ → NumberedValue
+argument vs i = unwrap_or (slice_get vs i) values.Undefined
 
-  formal_first : (k : TextId) (rest : List TextId) (vs : List NumberedValue) (i : ℕ) (act : Act)
-      → write_all w (formal_slots s (each (text_in t) (k ∷ rest)) (each (value_in t) (drop i vs))) act ≡ Do (Write w (slot s (text_in t k)) (Some (value_in t (argument vs i)))) (λ done. write_all w (formal_slots s (each (text_in t) rest) (each (value_in t) (drop (suc i) vs))) act)
-  formal_first k rest [] zero act = refl
-  formal_first k rest [] (suc i) act = refl
-  formal_first k rest (v ∷ vs) zero act = refl
-  formal_first k rest (v ∷ vs) (suc i) act = formal_first k rest vs i act
+module _ (t : Table) (s : ObjId) where
+  pub formal_first : (k : TextId) (rest : List TextId) (vs : List NumberedValue) (i : ℕ)
+      → formal_slots s (each (text_in t) (k ∷ rest)) (each (value_in t) (drop i vs)) ≡ (slot s (text_in t k), value_in t (argument vs i)) ∷ formal_slots s (each (text_in t) rest) (each (value_in t) (drop (suc i) vs))
+  formal_first k rest [] zero = refl
+  formal_first k rest [] (suc i) = refl
+  formal_first k rest (v ∷ vs) zero = refl
+  formal_first k rest (v ∷ vs) (suc i) = formal_first k rest vs i
 
   -- the first of the formals, and those after it
-  pub formal_left : (ns : List TextId) (vs : List NumberedValue) (i : ℕ) (other : TextId) (v : NumberedValue) (act : Act) → i < length ns → v ≡ argument vs i
-      → write_all w (formal_slots s (each (text_in t) (drop i ns)) (each (value_in t) (drop i vs))) act
-      ≡ Do (Write w (slot s (text_in t (slice_index_or ns i other))) (Some (value_in t v))) (λ done. write_all w (formal_slots s (each (text_in t) (drop (i + 1) ns)) (each (value_in t) (drop (i + 1) vs))) act)
-  formal_left ns vs i other v act lt e =
+  pub formal_left : (ns : List TextId) (vs : List NumberedValue) (i : ℕ) (other : TextId) (v : NumberedValue) → i < length ns → v ≡ argument vs i
+      → formal_slots s (each (text_in t) (drop i ns)) (each (value_in t) (drop i vs))
+      ≡ (slot s (text_in t (slice_index_or ns i other)), value_in t v) ∷ formal_slots s (each (text_in t) (drop (i + 1) ns)) (each (value_in t) (drop (i + 1) vs))
+  formal_left ns vs i other v lt e =
       let x = slice_index_or ns i other in
+      let rest = drop (i + 1) ns in
       let next : suc i ≡ i + 1 = omega arith in
-      ap (λ (l : List TextId). write_all w (formal_slots s (each (text_in t) l) (each (value_in t) (drop i vs))) act) (left_here ns i other lt)
-      ∙ formal_first x (drop (i + 1) ns) vs i act
-      ∙ ap (λ (k : ℕ). Do (Write w (slot s (text_in t x)) (Some (value_in t (argument vs i)))) (λ done. write_all w (formal_slots s (each (text_in t) (drop (i + 1) ns)) (each (value_in t) (drop k vs))) act)) next
-      ∙ ap (λ (u : NumberedValue). Do (Write w (slot s (text_in t x)) (Some (value_in t u))) (λ done. write_all w (formal_slots s (each (text_in t) (drop (i + 1) ns)) (each (value_in t) (drop (i + 1) vs))) act)) (sym e)
+      ap (λ (l : List TextId). formal_slots s (each (text_in t) l) (each (value_in t) (drop i vs))) (left_here ns i other lt)
+      ∙ formal_first x rest vs i
+      ∙ ap (λ (k : ℕ). (slot s (text_in t x), value_in t (argument vs i)) ∷ formal_slots s (each (text_in t) rest) (each (value_in t) (drop k vs))) next
+      ∙ ap (λ (u : NumberedValue). (slot s (text_in t x), value_in t u) ∷ formal_slots s (each (text_in t) rest) (each (value_in t) (drop (i + 1) vs))) (sym e)
+
+  -- without arguments all are undefined
+  pub formals_undefined : (ns : List TextId) → formal_slots s (each (text_in t) ns) [] ≡ undefined_slots s (each (text_in t) ns)
+  formals_undefined [] = refl
+  formals_undefined (n ∷ ns) = ap (λ l. (slot s (text_in t n), value_in t values.Undefined) ∷ l) (formals_undefined ns)
 
 pub argument_there : (P : NumberedValue → Type 0) → P values.Undefined → (vs : List NumberedValue) (i : ℕ) → All P vs → P (unwrap_or (slice_get vs i) values.Undefined)
 argument_there P none [] i h = none
 argument_there P none (v ∷ vs) zero h = All-head P v vs h
 argument_there P none (v ∷ vs) (suc i) h = argument_there P none vs i (All-tail P v vs h)
+
+-- ---- few formals
+
+module _ {A : Type 0} where
+  pub none_there : (xs : List A) → length xs < 1 → xs ≡ []
+  none_there [] less = refl
+  none_there (x ∷ xs) less = absurd (omega arith)
+
+  pub one_there : (xs : List A) (other : A) → 1 ≤ length xs → length xs < 2 → xs ≡ slice_index_or xs 0 other ∷ []
+  one_there [] other least less = absurd (omega arith)
+  one_there (x ∷ []) other least less = refl
+  one_there (x ∷ y ∷ xs) other least less = absurd (omega arith)
+
+  pub two_there : (xs : List A) (other : A) → 2 ≤ length xs → length xs < 3 → xs ≡ slice_index_or xs 0 other ∷ slice_index_or xs 1 other ∷ []
+  two_there [] other least less = absurd (omega arith)
+  two_there (x ∷ []) other least less = absurd (omega arith)
+  two_there (x ∷ y ∷ []) other least less = refl
+  two_there (x ∷ y ∷ z ∷ xs) other least less = absurd (omega arith)
+
+  pub three_there : (xs : List A) (other : A) → 3 ≤ length xs → length xs < 4 → xs ≡ slice_index_or xs 0 other ∷ slice_index_or xs 1 other ∷ slice_index_or xs 2 other ∷ []
+  three_there [] other least less = absurd (omega arith)
+  three_there (x ∷ []) other least less = absurd (omega arith)
+  three_there (x ∷ y ∷ []) other least less = absurd (omega arith)
+  three_there (x ∷ y ∷ z ∷ []) other least less = refl
+  three_there (x ∷ y ∷ z ∷ u ∷ xs) other least less = absurd (omega arith)
+
+module _ (t : Table) (s : ObjId) (vs : List NumberedValue) where
+  -- the slot of a formal, whose number says its argument
+  abbrev pub formal_slot : TextId → ℕ → Slot × Value
+  formal_slot k i = (slot s (text_in t k), value_in t (argument vs i))
+
+  pub one_formal : (a : TextId) → formal_slots s (each (text_in t) (a ∷ [])) (each (value_in t) vs) ≡ formal_slot a 0 ∷ []
+  one_formal a = formal_first t s a [] vs 0
+
+  pub two_formals : (a b : TextId) → formal_slots s (each (text_in t) (a ∷ b ∷ [])) (each (value_in t) vs) ≡ formal_slot a 0 ∷ formal_slot b 1 ∷ []
+  two_formals a b = formal_first t s a (b ∷ []) vs 0 ∙ ap (λ l. formal_slot a 0 ∷ l) (formal_first t s b [] vs 1)
+
+  pub three_formals : (a b c : TextId) → formal_slots s (each (text_in t) (a ∷ b ∷ c ∷ [])) (each (value_in t) vs) ≡ formal_slot a 0 ∷ formal_slot b 1 ∷ formal_slot c 2 ∷ []
+  three_formals a b c =
+      formal_first t s a (b ∷ c ∷ []) vs 0
+      ∙ ap (λ l. formal_slot a 0 ∷ l) (formal_first t s b (c ∷ []) vs 1 ∙ ap (λ l. formal_slot b 1 ∷ l) (formal_first t s c [] vs 2))
 
 -- the first of the variables of a program, and those after it
 pub variable_left : (t : Table) (env : Env) (ns : List TextId) (i : ℕ) (other : TextId) (act : Act) → i < length ns

@@ -6,3 +6,4 @@ pub mod Names
 pub mod Filling
 pub mod Beginning
 pub mod UnitTrees
+pub mod Gathering

@@ -11,10 +11,21 @@ use Rattle.wjs_meaning.specs.Declarations.{Declared}
 abbrev pub undefined_slots : ObjId → List Text → List (Slot × Value)
 undefined_slots s names = each (λ name. (slot s name, Undefined)) names
 
+-- the variables of a scope: `arguments`, the formals, and others as undefined
+abbrev pub variables_of : ObjId → ObjId → List Text → List Value → List Text → List (Slot × Value)
+variables_of s a formals args others = (slot s arguments_name, Object a) ∷ formal_slots s formals args ++ undefined_slots s others
+
 -- what is written to a scope: `arguments`, the formals, the functions, and the other variables
 abbrev pub scope_filled : List Text → List ℕ → List Text → ObjId → ObjId → List Value → Env → Act → Act
 scope_filled formals functions others f a args env act =
     write_all env.world (arguments_slots a f args ++ (slot env.scope arguments_name, Object a) ∷ formal_slots env.scope formals args) (
+    declare_functions functions env.scope env (
+    write_all env.world (undefined_slots env.scope others) act))
+
+-- the same but for what is written to the Arguments object
+abbrev pub variables_filled : List Text → List ℕ → List Text → ObjId → List Value → Env → Act → Act
+variables_filled formals functions others a args env act =
+    write_all env.world ((slot env.scope arguments_name, Object a) ∷ formal_slots env.scope formals args) (
     declare_functions functions env.scope env (
     write_all env.world (undefined_slots env.scope others) act))
 

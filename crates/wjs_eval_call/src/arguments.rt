@@ -1,5 +1,5 @@
 //! The scopes of calls (ECMA-262, 3rd edition, sections 10.1.6, 10.1.8 and 10.2.3).
-ghost use Rattle.std.specs.Prelude.{◌≡◌, ◌≤◌, ◌++◌, ◌∷◌, [], All, IfOk, OnOk, map, Some, slice_get, unwrap_or};
+ghost use Rattle.std.specs.Prelude.{◌≡◌, ◌≤◌, ◌++◌, ◌∷◌, [], All, IfOk, OnOk, map, Some};
 ghost use Rattle.wjs_base.specs.Text.{Table, Grows, Has};
 ghost use Rattle.wjs_by_content.specs.Names.{slot, callee_name, length_name};
 ghost use Rattle.wjs_by_content.specs.Objects.{hidden_flags};
@@ -8,6 +8,7 @@ ghost use Rattle.wjs_by_content.specs.Values.{Object};
 ghost use Rattle.wjs_heap.specs.Means.{nothing};
 ghost use Rattle.wjs_meaning.specs.Deeds.{Do, Create, Write, write_all};
 ghost use Rattle.wjs_meaning.specs.Functions as line;
+ghost use Rattle.wjs_meaning.specs.NewObjects.{elements_from};
 ghost use Rattle.wjs_meaning.specs.Reading.{numbers};
 ghost use Rattle.wjs_model.specs.Contents.{holding_in};
 ghost use Rattle.wjs_model.specs.Standing.{IsFunction};
@@ -15,16 +16,17 @@ ghost use Rattle.wjs_model.specs.Soundness.{Base, IsThere, HasName, HasObject, H
 ghost use Rattle.wjs_frames.specs.Doing.{Does, DoesFirst};
 ghost use Rattle.wjs_frames.specs.Parts.{env_in};
 ghost use Rattle.wjs_frames.specs.Following.{Later};
+ghost use Rattle.wjs_props.specs.Several.{rows_in};
+ghost use Rattle.wjs_heap_steps.specs.HasRows.{HasRows};
 ghost use Rattle.wjs_arena.specs.Hidden.{hidden_from};
-ghost use Rattle.wjs_eval_call.specs.Filling.{arguments_written, undefined_slots};
+ghost use Rattle.wjs_eval_call.specs.Filling.{arguments_written, undefined_slots, variables_filled};
 
+use crate::scopes::write_variables;
 use std::alloc::Global;
 use wjs_arena::{Class, Flags, Listed};
 use wjs_base::{Name, ObjId, OutOfMemory, TextId, Value};
 use wjs_calls::{declare_functions, whole_value, write_elements};
-use wjs_heap_steps::{
-    Known, builtin, create, create_scope, known_name, name_of, object_of, write, write_known,
-};
+use wjs_heap_steps::{Known, builtin, create, known_name, name_of, object_of, write, write_rows};
 use wjs_meaning::Builtin;
 use wjs_model::{Config, Frame};
 use wjs_scope::Declared;
@@ -147,40 +149,6 @@ fn push_hidden(flags: &mut Vec<(Name, Flags)>, name: Name) -> Result<(), OutOfMe
     Ok(())
 }
 
-/// Writes the formals, each with its argument; a missing one is undefined.
-fn write_formals<S: WorldStore>(
-    config: &mut Config<S>,
-    frame: &Frame,
-    scope: ObjId,
-    formals: &[TextId],
-    values: &[Value],
-) -> Result<(), OutOfMemory>
-    requires base { Base S.meaning config.old }
-    requires there { IsThere S.meaning config.old frame.now }
-    requires scope { HasObject config.old scope }
-    requires formals { All (Has config.old.heap.texts) formals.now }
-    requires values { All (HasValue config.old) values.now }
-    ensures does { OnOk result (DoesFirst S.meaning
-        (λ t. write_all frame.now.world (line.formal_slots scope (map (text_in t) formals.now) (map (value_in t) values.now))) config.old config.new) }
-    ensures later { OnOk result (Later S.meaning config.old config.new) }
-{
-    for (i, formal) in formals.iter().enumerate() {
-        let value = argument_at(values, i);
-        write_variable(config, frame, scope, *formal, value)?;
-    }
-    Ok(())
-}
-
-/// The argument of a number; a missing one is undefined.
-fn argument_at(values: &[Value], i: usize) -> Value
-    ensures { result ≡ unwrap_or (slice_get values.now i) Value.Undefined }
-{
-    match values.get(i) {
-        Some(value) => *value,
-        None => Value::Undefined,
-    }
-}
-
 /// Writes variables as undefined.
 #[inline(always)]
 fn write_undefined<S: WorldStore>(
@@ -245,16 +213,65 @@ fn write_arguments<S: WorldStore>(
         (λ t. write_all frame.now.world (line.arguments_slots arguments.object function (map (value_in t) values.now))) config.old config.new) }
     ensures later { OnOk result (Later S.meaning config.old config.new) }
 {
-    let object = arguments.object;
-    let length = whole_value(values.len())?;
-    write(
-        config,
-        frame,
-        object,
-        arguments.callee,
-        Value::Object(function),
-    )?;
-    write(config, frame, object, arguments.length, length)?;
+    let count = whole_value(values.len())?;
+    let callee = (arguments.callee, Value::Object(function));
+    let length = (arguments.length, count);
+    write_listed(config, frame, arguments.object, callee, length, values)
+}
+
+/// Writes two rows and the values at their indices; few of them by one call.
+fn write_listed<S: WorldStore>(
+    config: &mut Config<S>,
+    frame: &Frame,
+    object: ObjId,
+    first: (Name, Value),
+    second: (Name, Value),
+    values: &[Value],
+) -> Result<(), OutOfMemory>
+    requires base { Base S.meaning config.old }
+    requires there { IsThere S.meaning config.old frame.now }
+    requires object { HasObject config.old object }
+    requires rows { HasRows config.old (first ∷ second ∷ []) }
+    requires values { All (HasValue config.old) values.now }
+    ensures does { OnOk result (DoesFirst S.meaning
+        (λ t. write_all frame.now.world (rows_in t object (first ∷ second ∷ []) ++ elements_from object 0 (map (value_in t) values.now)))
+        config.old config.new) }
+    ensures later { OnOk result (Later S.meaning config.old config.new) }
+{
+    match values {
+        [] => write_rows(config, frame, object, &[first, second]),
+        [a] => {
+            let rows = [first, second, (Name::Index(0), *a)];
+            write_rows(config, frame, object, &rows)
+        }
+        [a, b] => {
+            let rows = [first, second, (Name::Index(0), *a), (Name::Index(1), *b)];
+            write_rows(config, frame, object, &rows)
+        }
+        _ => write_long(config, frame, object, first, second, values),
+    }
+}
+
+/// The same of many values.
+fn write_long<S: WorldStore>(
+    config: &mut Config<S>,
+    frame: &Frame,
+    object: ObjId,
+    first: (Name, Value),
+    second: (Name, Value),
+    values: &[Value],
+) -> Result<(), OutOfMemory>
+    requires base { Base S.meaning config.old }
+    requires there { IsThere S.meaning config.old frame.now }
+    requires object { HasObject config.old object }
+    requires rows { HasRows config.old (first ∷ second ∷ []) }
+    requires values { All (HasValue config.old) values.now }
+    ensures does { OnOk result (DoesFirst S.meaning
+        (λ t. write_all frame.now.world (rows_in t object (first ∷ second ∷ []) ++ elements_from object 0 (map (value_in t) values.now)))
+        config.old config.new) }
+    ensures later { OnOk result (Later S.meaning config.old config.new) }
+{
+    write_rows(config, frame, object, &[first, second])?;
     write_elements(config, frame, object, values)
 }
 
@@ -279,17 +296,62 @@ pub(crate) fn fill_scope<S: WorldStore>(
         (map (value_in t) values.now) (env_in S.meaning config.old t frame.now)) config.old config.new) }
     ensures later { OnOk result (Later S.meaning config.old config.new) }
 {
-    let scope = frame.scope();
     let arguments = create_arguments(config, values)?;
     write_arguments(config, frame, arguments, function, values)?;
-    write_known(
-        config,
-        frame,
-        scope,
-        Known::Arguments,
-        Value::Object(arguments.object),
-    )?;
-    write_formals(config, frame, scope, declared.formals(), values)?;
+    fill_variables(config, frame, arguments.object, declared, others, values)
+}
+
+/// Fills the scope but for the Arguments object, by one call where the body declares no functions.
+fn fill_variables<S: WorldStore>(
+    config: &mut Config<S>,
+    frame: &Frame,
+    arguments: ObjId,
+    declared: &Declared,
+    others: &[TextId],
+    values: &[Value],
+) -> Result<(), OutOfMemory>
+    requires base { Base S.meaning config.old }
+    requires there { IsThere S.meaning config.old frame.now }
+    requires arguments { HasObject config.old arguments }
+    requires formals { All (Has config.old.heap.texts) declared.now.formals }
+    requires others { All (Has config.old.heap.texts) others.now }
+    requires values { All (HasValue config.old) values.now }
+    requires stand { All (λ i. IsFunction config.old.units.items config.old.heap.arena frame.now.tree i frame.now.scope 0) declared.now.functions }
+    ensures does { OnOk result (DoesFirst S.meaning
+        (λ t. variables_filled (map (text_in t) declared.now.formals) (numbers declared.now.functions) (map (text_in t) others.now) arguments
+        (map (value_in t) values.now) (env_in S.meaning config.old t frame.now)) config.old config.new) }
+    ensures later { OnOk result (Later S.meaning config.old config.new) }
+{
+    if declared.functions().is_empty() {
+        write_variables(config, frame, arguments, declared.formals(), others, values)
+    } else {
+        fill_around(config, frame, arguments, declared, others, values)
+    }
+}
+
+/// The same where functions stand between the formals and the other variables.
+fn fill_around<S: WorldStore>(
+    config: &mut Config<S>,
+    frame: &Frame,
+    arguments: ObjId,
+    declared: &Declared,
+    others: &[TextId],
+    values: &[Value],
+) -> Result<(), OutOfMemory>
+    requires base { Base S.meaning config.old }
+    requires there { IsThere S.meaning config.old frame.now }
+    requires arguments { HasObject config.old arguments }
+    requires formals { All (Has config.old.heap.texts) declared.now.formals }
+    requires others { All (Has config.old.heap.texts) others.now }
+    requires values { All (HasValue config.old) values.now }
+    requires stand { All (λ i. IsFunction config.old.units.items config.old.heap.arena frame.now.tree i frame.now.scope 0) declared.now.functions }
+    ensures does { OnOk result (DoesFirst S.meaning
+        (λ t. variables_filled (map (text_in t) declared.now.formals) (numbers declared.now.functions) (map (text_in t) others.now) arguments
+        (map (value_in t) values.now) (env_in S.meaning config.old t frame.now)) config.old config.new) }
+    ensures later { OnOk result (Later S.meaning config.old config.new) }
+{
+    let scope = frame.scope();
+    write_variables(config, frame, arguments, declared.formals(), &[], values)?;
     declare_functions(config, frame, declared.functions(), scope)?;
     write_undefined(config, frame, scope, others)
 }

@@ -10,6 +10,7 @@ mod elements;
 mod methods;
 mod points;
 mod programs;
+mod scopes;
 mod values;
 mod variables;
 

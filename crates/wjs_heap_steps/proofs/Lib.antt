@@ -17,3 +17,4 @@ pub mod Looking
 pub mod Making
 pub mod Referring
 pub mod Sprouting
+pub mod WritingRows

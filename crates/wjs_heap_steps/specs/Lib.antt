@@ -2,3 +2,4 @@ pub mod Known
 pub mod Worlds
 pub mod Visits
 pub mod Peeking
+pub mod HasRows

@@ -32,7 +32,7 @@ pub use output::emit;
 pub use peeks::{peek_member, peek_operand, peek_target, peek_value_of};
 pub use properties::{delete, get, get_value, has, put, visits};
 pub use references::{reference_at, store, store_local, value_of};
-pub use slots::{read, read_content, write};
+pub use slots::{read, read_content, write, write_rows};
 pub use texts::{extend, intern, name_of, text_of, units_of};
 pub use values::member_value;
 pub use worlds::{commit, create_world_object, has_world, sprout, world_of};

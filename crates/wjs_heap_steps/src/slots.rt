@@ -4,10 +4,12 @@ ghost use Rattle.wjs_by_content.specs.Names.{slot};
 ghost use Rattle.wjs_by_content.specs.Tables.{name_in, value_in, content_in};
 ghost use Rattle.wjs_by_content.specs.Values.{value_or_undefined};
 ghost use Rattle.wjs_heap.specs.Means.{nothing};
-ghost use Rattle.wjs_meaning.specs.Deeds.{Do, Read, Write};
+ghost use Rattle.wjs_meaning.specs.Deeds.{Do, Read, Write, write_all};
+ghost use Rattle.wjs_props.specs.Several.{rows_in};
 ghost use Rattle.wjs_model.specs.Soundness.{Base, IsThere, HasObject, HasName, HasValue, HasContent};
-ghost use Rattle.wjs_frames.specs.Doing.{Does};
+ghost use Rattle.wjs_frames.specs.Doing.{Does, DoesFirst};
 ghost use Rattle.wjs_frames.specs.Following.{Later};
+ghost use Rattle.wjs_heap_steps.specs.HasRows.{HasRows};
 
 use wjs_base::{Content, Name, ObjId, OutOfMemory, Slot, Value};
 use wjs_model::{Config, Frame};
@@ -83,5 +85,23 @@ pub fn write<S: WorldStore>(
         Slot { object, name },
         Content::Present(value),
     )?;
+    Ok(())
+}
+
+/// Sets slots of an object, one after another; those of a new one are put in at once.
+pub fn write_rows<S: WorldStore>(
+    config: &mut Config<S>,
+    frame: &Frame,
+    object: ObjId,
+    rows: &[(Name, Value)],
+) -> Result<(), OutOfMemory>
+    requires base { Base S.meaning config.old }
+    requires there { IsThere S.meaning config.old frame.now }
+    requires object { HasObject config.old object }
+    requires rows { HasRows config.old rows.now }
+    ensures does { OnOk result (DoesFirst S.meaning (λ t. write_all frame.now.world (rows_in t object rows.now)) config.old config.new) }
+    ensures later { OnOk result (Later S.meaning config.old config.new) }
+{
+    wjs_props::write_rows(&mut config.heap, frame.world(), object, rows)?;
     Ok(())
 }

@@ -14,10 +14,10 @@ use Rattle.wjs_base.specs.Spelling.{IsName}
 use Rattle.wjs_base.specs.Text.{Table, IsTable, Grows}
 use Rattle.wjs_base.proofs.TextLaws.{Grows-refl, Grows-trans}
 use Rattle.wjs_store.specs.State.{Act, slots_at, read, write, list, sprout, commit, found, wrote, listed, sprouted, committed, after, answer_to, has_world, content_at}
-use Rattle.wjs_store.specs.Meaning.{Meaning, View, Worlds, PlainAct, PlainReply, Does, IsSound, worlds}
+use Rattle.wjs_store.specs.Meaning.{Meaning, View, Worlds, PlainAct, PlainReply, Does, worlds}
 use Rattle.wjs_store.specs.Shown.{content_of, slots_of, verdict_of}
 use Rattle.wjs_store.specs.declared.store.Verdict.{Verdict}
-use Rattle.wjs_store.proofs.Contents.{own_view}
+use Rattle.wjs_store.proofs.Contents.{own_view_at}
 use Rattle.wjs_by_content.specs.Ascends.{Ascends}
 use Rattle.wjs_by_content.specs.Renamed.{Holds, KnowsContent}
 use Rattle.wjs_by_content.specs.Rename.{shape}
@@ -60,7 +60,7 @@ content_knows texts t arena (Some v) table g has = (value_grows texts t g v (val
 
 -- ---- one action
 
-module _ (h : Parts) (new : Meaning) (heap : IsHeap h) (sound : IsSound new) where
+module _ (h : Parts) (new : Meaning) (heap : IsHeap h) (ok : IsTrue (new.admits new.own)) where
   -- what a present slot and its content name is there
   abbrev IsHeld : Slot → Value → Type 0
   IsHeld s v = HasSlot h.texts h.arena s × HasValue h.texts h.arena v
@@ -70,7 +70,7 @@ module _ (h : Parts) (new : Meaning) (heap : IsHeap h) (sound : IsSound new) whe
     table = heap.table;
     arena = heap.arena;
     objects = heap.objects;
-    slots = λ i s v e. slots i s v (ap (λ (F : Worlds). content_at F i s) (sym (own_view h.store new a answer sound does).1) ∙ e);
+    slots = λ i s v e. slots i s v (ap (λ (F : Worlds). content_at F i s) (sym (own_view_at h.store new a answer ok does).1) ∙ e);
   }
 
   -- what is known of the worlds under the old store's own view
@@ -89,8 +89,8 @@ module _ (h : Parts) (new : Meaning) (heap : IsHeap h) (sound : IsSound new) whe
     carries = λ t u g gu v ok k.
         let both = Grows-trans h.texts t u g gu in
         subst (λ p. Carries u w p (shows t) h.store new v) (still u both ∙ sym (still t g)) (subst (λ x. Carries u w (plan u) x h.store new v) (alike u both ∙ sym (alike t g)) (carries u both v ok k));
-    marks = λ k. (carries h.texts (Grows-refl h.texts) new.own sound.admits_own (own_known a answer does k)).knows;
-    told = λ k. told_after h.texts h.store a answer new does sound.admits_own (own_known a answer does k) known;
+    marks = λ k. (carries h.texts (Grows-refl h.texts) new.own ok (own_known a answer does k)).knows;
+    told = λ k. told_after h.texts h.store a answer new does ok (own_known a answer does k) known;
     texts = Grows-refl h.texts;
     arena = refl;
     own = does.own;
@@ -110,7 +110,7 @@ module _ (h : Parts) (new : Meaning) (heap : IsHeap h) (sound : IsSound new) whe
 
   -- what a read found is there
   pub found_there : (w : WorldId) (s : Slot) (c : Content) → Does h.store (read w s) (found (content_of c)) new → HasContent h.texts h.arena (content_of c)
-  found_there w s c does = by (content_of c) (is_found _ _ (own_view h.store new (read w s) (found (content_of c)) sound does).0)
+  found_there w s c does = by (content_of c) (is_found _ _ (own_view_at h.store new (read w s) (found (content_of c)) ok does).0)
     where
       is_found : (a b : Option Value) → (let x : PlainReply = found a in let y : PlainReply = found b in x ≡ y) → a ≡ b
       is_found a b e = cc
@@ -139,7 +139,7 @@ module _ (h : Parts) (new : Meaning) (heap : IsHeap h) (sound : IsSound new) whe
 
   -- what is listed is there, ascending
   listed_so : (w : WorldId) (o : ObjId) (names : List Name) → Does h.store (list w o) (listed (slots_of o names)) new → slots_at (worlds h.store) w o ≡ slots_of o names
-  listed_so w o names does = sym (is_listed _ _ (own_view h.store new (list w o) (listed (slots_of o names)) sound does).0)
+  listed_so w o names does = sym (is_listed _ _ (own_view_at h.store new (list w o) (listed (slots_of o names)) ok does).0)
     where
       is_listed : (a b : List Slot) → (let x : PlainReply = listed a in let y : PlainReply = listed b in x ≡ y) → a ≡ b
       is_listed a b e = cc
@@ -173,8 +173,8 @@ module _ (h : Parts) (new : Meaning) (heap : IsHeap h) (sound : IsSound new) whe
   acted a b answer shown same alike known does slots = record {
     narrows = does.narrows;
     acts = λ u g. by u;
-    marks = λ k. knows_so h.texts h.store a answer new does new.own sound.admits_own (own_known a answer does k) (known h.texts);
-    told = λ k. told_after h.texts h.store a answer new does sound.admits_own (own_known a answer does k) (known h.texts);
+    marks = λ k. knows_so h.texts h.store a answer new does new.own ok (own_known a answer does k) (known h.texts);
+    told = λ k. told_after h.texts h.store a answer new does ok (own_known a answer does k) (known h.texts);
     texts = refl;
     arena = refl;
     own = does.own;
@@ -200,7 +200,7 @@ module _ (h : Parts) (new : Meaning) (heap : IsHeap h) (sound : IsSound new) whe
   -- the child is there
   pub child_there : (w : WorldId) (owner : ℕ) (strict : Bool) (child : WorldId) → IsTrue (has_world (worlds h.store) w) → Does h.store (sprout w owner strict) (sprouted child) new → IsTrue (has_world (worlds new) child)
   child_there w owner strict child there does =
-      let both = own_view h.store new (sprout w owner strict) (sprouted child) sound does in
+      let both = own_view_at h.store new (sprout w owner strict) (sprouted child) ok does in
       (λ i. has_world (both.1 i) (is_child _ _ both.0 i)) ∙ has_child (worlds h.store) w owner strict there
     where
       is_child : (a b : WorldId) → (let x : PlainReply = sprouted a in let y : PlainReply = sprouted b in x ≡ y) → a ≡ b

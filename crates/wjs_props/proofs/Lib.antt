@@ -12,3 +12,4 @@ pub mod InOrder
 pub mod Visiting
 pub mod Walking
 pub mod NameSets
+pub mod WritingRows

@@ -1,3 +1,4 @@
 pub mod Spelled
 pub mod Listing
 pub mod Visits
+pub mod Several

@@ -1,5 +1,5 @@
 //! One action of the worlds of a heap, and one object more.
-ghost use Rattle.std.specs.Prelude.{◌≡◌, IfOk, IfSome, IsTrue, OnErr, Some};
+ghost use Rattle.std.specs.Prelude.{◌≡◌, IfOk, IfSome, IsTrue, OnErr, OnOk, Some};
 ghost use Rattle.wjs_base.specs.declared.ids.ObjId.{ObjId};
 ghost use Rattle.wjs_base.specs.declared.values.Slot.{Slot};
 ghost use Rattle.wjs_base.specs.Order.{slot_cmp};
@@ -12,16 +12,17 @@ ghost use Rattle.wjs_store.specs.State as action;
 ghost use Rattle.wjs_by_content.specs.Ascends.{Ascends};
 ghost use Rattle.wjs_by_content.specs.Renamed.{Holds};
 ghost use Rattle.wjs_by_content.specs.Rename.{shape};
-ghost use Rattle.wjs_arena.specs.Entries.{IsThere, world_of};
+ghost use Rattle.wjs_arena.specs.Entries.{IsThere, has, world_of};
 ghost use Rattle.wjs_by_content.specs.Plans.{Gives, Reads, Writes, Lists, Sprouted, Committed};
 ghost use Rattle.wjs_by_content.specs.Tables.{slot_in, content_in};
 ghost use Rattle.wjs_by_content.specs.Worlds.{listing};
 ghost use Rattle.wjs_heap.specs.Acts.{Acts, Creates};
-ghost use Rattle.wjs_heap.specs.Heap.{IsHeap, HasNamed, HasSlot, HasContent, Performs};
+ghost use Rattle.wjs_heap.specs.Heap.{IsHeap, HasNamed, HasSlot, HasContent, HasValue, Performs};
 ghost use Rattle.wjs_heap.specs.Means.{parts, nothing};
+ghost use Rattle.wjs_props.specs.Several.{writes, rows_in};
 
 use wjs_arena::Object;
-use wjs_base::{Content, Names, ObjId, OutOfMemory, Slot, WorldId};
+use wjs_base::{Content, Name, Names, ObjId, OutOfMemory, Slot, Value, WorldId};
 use wjs_heap::Heap;
 use wjs_store::{Verdict, WorldStore};
 
@@ -75,6 +76,24 @@ pub fn write<S: WorldStore>(
         (λ t. nothing) (parts S.meaning heap.old) (parts S.meaning heap.new)) }
 {
     heap.store.write(world, slot, content)?;
+    Ok(())
+}
+
+/// Sets slots of an object, one after another.
+#[inline(always)]
+pub fn write_rows<S: WorldStore>(
+    heap: &mut Heap<S>,
+    world: WorldId,
+    object: ObjId,
+    rows: &[(Name, Value)],
+) -> Result<(), OutOfMemory>
+    requires heap { IsHeap (parts S.meaning heap.old) }
+    requires world { IsTrue (has_world (worlds (S.meaning heap.old.store)) world) }
+    requires object { IsTrue (has heap.old.arena object) }
+    requires rows { Holds (λ row. IsName heap.old.texts row.0 × HasValue heap.old.texts heap.old.arena row.1) rows.now }
+    ensures { OnOk result (Performs world (λ t. writes (rows_in t object rows.now)) (λ t. nothing) (parts S.meaning heap.old) (parts S.meaning heap.new)) }
+{
+    heap.store.write_rows(world, object, rows)?;
     Ok(())
 }
 

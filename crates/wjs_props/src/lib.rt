@@ -12,7 +12,7 @@ mod seen;
 mod visits;
 mod writes;
 
-pub use deeds::{commit, create, look, read, sprout, write};
+pub use deeds::{commit, create, look, read, sprout, write, write_rows};
 pub use listing::list_names;
 pub use reads::{get, has, peek};
 pub use visits::{Visit, Visits};

@@ -1,5 +1,5 @@
 -- What each action leaves of the contents.
-use Rattle.std.proofs.Common.{◌≡◌, ℕ, Bool, true, false, cond, ◌&&◌, ◌||◌, ◌∷◌, refl, ap, sym, ◌∙◌, Option, Some}
+use Rattle.std.proofs.Common.{◌≡◌, ℕ, Bool, true, false, cond, ◌&&◌, ◌||◌, ◌∷◌, refl, ap, sym, ◌∙◌, Option, Some, IsTrue}
 use Rattle.std.specs.Option.{option_map_or, option_and_then}
 use Rattle.std.specs.Ordering.{eq_by_cmp}
 use Rattle.std.specs.FinMap as map
@@ -45,8 +45,12 @@ module _ {K V : Type 0} {n : Naming K V} (F : State n) where
       ∙ content_child (child_of x (next_id F owner) strict) i t
       ∙ ap (λ c. cond (same_world (next_id F owner) i) c (content_at F i t)) (sym (ap (option_and_then (λ (v : World n). map.get v.copy t)) fx)))
 
-pub own_view : (old new : Meaning) (a : PlainAct) (answer : PlainReply) → IsSound new → Does old a answer new → (answer ≡ answer_to (worlds old) a) × (worlds new ≡ after (worlds old) a)
-own_view old new a answer s d = (
-  d.answers new.own s.admits_own ∙ ap (λ v. answer_to (old.full v) a) d.own,
-  d.worlds new.own s.admits_own ∙ ap (λ v. after (old.full v) a) d.own,
+-- under its own view, where that is admitted afterwards
+pub own_view_at : (old new : Meaning) (a : PlainAct) (answer : PlainReply) → IsTrue (new.admits new.own) → Does old a answer new → (answer ≡ answer_to (worlds old) a) × (worlds new ≡ after (worlds old) a)
+own_view_at old new a answer ok d = (
+  d.answers new.own ok ∙ ap (λ v. answer_to (old.full v) a) d.own,
+  d.worlds new.own ok ∙ ap (λ v. after (old.full v) a) d.own,
 )
+
+pub own_view : (old new : Meaning) (a : PlainAct) (answer : PlainReply) → IsSound new → Does old a answer new → (answer ≡ answer_to (worlds old) a) × (worlds new ≡ after (worlds old) a)
+own_view old new a answer s d = own_view_at old new a answer s.admits_own d

@@ -7,7 +7,7 @@ use Rattle.wjs_store.specs.Meaning.{Worlds, PlainAct, PlainReply, Does}
 use Rattle.wjs_store.specs.Fixed.{fixed}
 use Rattle.wjs_store.proofs.Keeps.{has_world_after, reached_after}
 
-does_fixed : (F G : Worlds) (a : PlainAct) (r : PlainReply) → r ≡ answer_to F a → G ≡ after F a → Does (fixed F false) a r (fixed G false)
+pub does_fixed : (F G : Worlds) (a : PlainAct) (r : PlainReply) → r ≡ answer_to F a → G ≡ after F a → Does (fixed F false) a r (fixed G false)
 does_fixed F G a r e f = record {
   narrows = λ v h. h;
   answers = λ v h. e;

@@ -17,3 +17,4 @@ pub mod Moved
 pub mod MovedMarks
 pub mod MarksLaw
 pub mod Parents
+pub mod AllAnswered

@@ -1,16 +1,18 @@
 -- What a store of worlds means.
-use Rattle.std.specs.Prelude.{◌≡◌, Bool, not, List, [], ◌∷◌, ◌++◌, map as each, Option, Result, Ok, Err, IsTrue}
+use Rattle.std.specs.Prelude.{◌≡◌, Bool, not, List, [], ◌∷◌, ◌++◌, map as each, Option, Some, Result, Ok, Err, IsTrue}
 use Rattle.wjs_base.specs.declared.ids.OutOfMemory.{OutOfMemory}
 use Rattle.std.specs.Option.{option_map}
 use Rattle.std.specs.FinMap.{FinMap}
 use Rattle.std.specs.FinMap as map
+use Rattle.wjs_base.specs.declared.values.Name.{Name}
 use Rattle.wjs_base.specs.declared.values.Slot.{Slot}
 use Rattle.wjs_base.specs.declared.values.Value.{Value}
+use Rattle.wjs_base.specs.declared.ids.ObjId.{ObjId}
 use Rattle.wjs_base.specs.declared.ids.WorldId.{WorldId}
 use Rattle.wjs_base.specs.Order.{slot_cmp}
 use Rattle.wjs_store.specs.Naming.{plain}
 use Rattle.wjs_store.specs.Reached.{IsReached}
-use Rattle.wjs_store.specs.State.{World, State, Act, Reply, answer_to, after, has_world}
+use Rattle.wjs_store.specs.State.{World, State, Act, Reply, write, wrote, answer_to, after, has_world}
 
 -- a finite map of contents that stands outside the store
 abbrev pub View : Type 0
@@ -73,3 +75,23 @@ pub record IsSound (m : Meaning) : Type 0 where
 abbrev pub Answers : {T : Type 0} → Meaning → PlainAct → (T → PlainReply) → Result T OutOfMemory → Meaning → Type 0
 Answers old action told (Ok answer) new = Does old action (told answer) new × IsTrue (not old.spent)
 Answers old action told (Err e) new = IsTrue new.spent
+
+-- ---- several actions
+
+-- actions were answered, one after another
+abbrev pub DoesAll : Meaning → List (PlainAct × PlainReply) → Meaning → Type 0
+DoesAll old [] new = new ≡ old
+DoesAll old (e ∷ es) new = (mid : Meaning) × Does old e.0 e.1 mid × DoesAll mid es new
+
+-- all of them, or want of memory for good
+abbrev pub AnswersAll : {T : Type 0} → Meaning → List (PlainAct × PlainReply) → Result T OutOfMemory → Meaning → Type 0
+AnswersAll old done (Ok answer) new = DoesAll old done new × IsTrue (not old.spent)
+AnswersAll old done (Err e) new = IsTrue new.spent
+
+-- the slots of an object that these values have names for
+abbrev pub entries_of : ObjId → List (Name × Value) → List (Slot × Option Value)
+entries_of o rows = each (λ row. (record { object = o; name = row.0 }, Some row.1)) rows
+
+-- they are written in a world
+abbrev pub writes_of : WorldId → List (Slot × Option Value) → List (PlainAct × PlainReply)
+writes_of w es = each (λ e. (write w e.0 e.1, wrote)) es

@@ -1,10 +1,10 @@
 //! The trait of every store of worlds.
 ghost use Rattle.std.specs.Prelude.{◌≡◌, not, IsTrue, IfSome, Some, Ok};
 ghost use Rattle.wjs_store.specs.State.{has_world, parent_of, found, wrote, listed, sprouted, committed, read, write, list, sprout, commit};
-ghost use Rattle.wjs_store.specs.Meaning.{Meaning, IsSound, Answers, worlds};
+ghost use Rattle.wjs_store.specs.Meaning.{Meaning, IsSound, Answers, AnswersAll, entries_of, writes_of, worlds};
 ghost use Rattle.wjs_store.specs.Shown.{content_of, slots_of, verdict_of, first_of, Counts as Counted};
 
-use wjs_base::{Content, Names, ObjId, OutOfMemory, Slot, WorldId};
+use wjs_base::{Content, Name, Names, ObjId, OutOfMemory, Slot, Value, WorldId};
 
 /// What a commit answers.
 #[derive(Clone, Copy, PartialEq, Eq)]
@@ -77,6 +77,29 @@ pub trait WorldStore {
     fn write(&mut self, world: WorldId, slot: Slot, content: Content) -> Result<(), OutOfMemory>
         requires { IsTrue (has_world (worlds (meaning self.old)) world) }
         ensures { Answers (meaning self.old) (write world slot (content_of content)) (λ _. wrote) result (meaning self.new) };
+
+    /// Sets slots of an object in the world, as a `write` of each in turn does.
+    fn write_rows(
+        &mut self,
+        world: WorldId,
+        object: ObjId,
+        rows: &[(Name, Value)],
+    ) -> Result<(), OutOfMemory>
+        requires { IsTrue (has_world (worlds (meaning self.old)) world) }
+        ensures { AnswersAll (meaning self.old) (writes_of world (entries_of object rows.now)) result (meaning self.new) }
+    {
+        if self.is_spent() {
+            return Err(OutOfMemory);
+        }
+        for row in rows {
+            let slot = Slot {
+                object,
+                name: row.0,
+            };
+            self.write(world, slot, Content::Present(row.1))?;
+        }
+        Ok(())
+    }
 
     /// The names of the object's present slots in the world, in the order of slots. In a world with a parent each of
     /// them that was untouched is recorded as read, and the object is marked listed.

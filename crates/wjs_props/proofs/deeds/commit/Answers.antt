@@ -10,4 +10,4 @@ returns g c =
     let does = c.in_ok-verdict.ensures.0 in
     let works = c.in_ok-verdict.ensures.1 in
     let sound = g.met.S.WorldStore.sound c.commit.new.self (ap not does.spent ∙ works) in
-    did_commit (parts m c.args.heap.now) (m c.commit.new.self) c.requires.heap sound c.args.world c.in_ok-verdict.verdict does
+    did_commit (parts m c.args.heap.now) (m c.commit.new.self) c.requires.heap sound.admits_own c.args.world c.in_ok-verdict.verdict does

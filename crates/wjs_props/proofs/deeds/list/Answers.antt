@@ -10,7 +10,7 @@ returns-clause-lists g c =
     let does = c.in_ok-names.ensures.0 in
     let works = c.in_ok-names.ensures.1 in
     let sound = g.met.S.WorldStore.sound c.list.new.self (ap not does.spent ∙ works) in
-    did_list (parts m c.args.heap.now) (m c.list.new.self) c.requires.heap sound c.args.world c.args.object c.in_ok-names.names does
+    did_list (parts m c.args.heap.now) (m c.list.new.self) c.requires.heap sound.admits_own c.args.world c.args.object c.in_ok-names.names does
 
 pub returns-clause-names : goal.returns-clause-names
 returns-clause-names g c =
@@ -18,7 +18,7 @@ returns-clause-names g c =
     let does = c.in_ok-names.ensures.0 in
     let works = c.in_ok-names.ensures.1 in
     let sound = g.met.S.WorldStore.sound c.list.new.self (ap not does.spent ∙ works) in
-    listed_there (parts m c.args.heap.now) (m c.list.new.self) c.requires.heap sound c.args.world c.args.object c.in_ok-names.names does
+    listed_there (parts m c.args.heap.now) (m c.list.new.self) c.requires.heap sound.admits_own c.args.world c.args.object c.in_ok-names.names does
 
 pub returns-clause-ascends : goal.returns-clause-ascends
 returns-clause-ascends g c =
@@ -26,4 +26,4 @@ returns-clause-ascends g c =
     let does = c.in_ok-names.ensures.0 in
     let works = c.in_ok-names.ensures.1 in
     let sound = g.met.S.WorldStore.sound c.list.new.self (ap not does.spent ∙ works) in
-    listed_ascends (parts m c.args.heap.now) (m c.list.new.self) c.requires.heap sound c.args.world c.args.object c.in_ok-names.names does
+    listed_ascends (parts m c.args.heap.now) (m c.list.new.self) c.requires.heap sound.admits_own c.args.world c.args.object c.in_ok-names.names does

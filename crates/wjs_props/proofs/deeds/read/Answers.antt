@@ -10,7 +10,7 @@ returns-clause-reads g c =
     let does = c.in_ok-found.ensures.0 in
     let works = c.in_ok-found.ensures.1 in
     let sound = g.met.S.WorldStore.sound c.read.new.self (ap not does.spent ∙ works) in
-    did_read (parts m c.args.heap.now) (m c.read.new.self) c.requires.heap sound c.args.world c.args.slot c.in_ok-found.found c.requires.slot does
+    did_read (parts m c.args.heap.now) (m c.read.new.self) c.requires.heap sound.admits_own c.args.world c.args.slot c.in_ok-found.found c.requires.slot does
 
 pub returns-clause-found : goal.returns-clause-found
 returns-clause-found g c =
@@ -18,4 +18,4 @@ returns-clause-found g c =
     let does = c.in_ok-found.ensures.0 in
     let works = c.in_ok-found.ensures.1 in
     let sound = g.met.S.WorldStore.sound c.read.new.self (ap not does.spent ∙ works) in
-    found_there (parts m c.args.heap.now) (m c.read.new.self) c.requires.heap sound c.args.world c.args.slot c.in_ok-found.found does
+    found_there (parts m c.args.heap.now) (m c.read.new.self) c.requires.heap sound.admits_own c.args.world c.args.slot c.in_ok-found.found does

@@ -10,7 +10,7 @@ returns-clause-sprouts g c =
     let does = c.in_ok-child.ensures.0 in
     let works = c.in_ok-child.ensures.1 in
     let sound = g.met.S.WorldStore.sound c.sprout.new.self (ap not does.spent ∙ works) in
-    did_sprout (parts m c.args.heap.now) (m c.sprout.new.self) c.requires.heap sound c.args.world c.args.owner c.args.strict c.in_ok-child.child c.requires.world does
+    did_sprout (parts m c.args.heap.now) (m c.sprout.new.self) c.requires.heap sound.admits_own c.args.world c.args.owner c.args.strict c.in_ok-child.child c.requires.world does
 
 pub returns-clause-there : goal.returns-clause-there
 returns-clause-there g c =
@@ -18,4 +18,4 @@ returns-clause-there g c =
     let does = c.in_ok-child.ensures.0 in
     let works = c.in_ok-child.ensures.1 in
     let sound = g.met.S.WorldStore.sound c.sprout.new.self (ap not does.spent ∙ works) in
-    child_there (parts m c.args.heap.now) (m c.sprout.new.self) c.requires.heap sound c.args.world c.args.owner c.args.strict c.in_ok-child.child c.requires.world does
+    child_there (parts m c.args.heap.now) (m c.sprout.new.self) c.requires.heap sound.admits_own c.args.world c.args.owner c.args.strict c.in_ok-child.child c.requires.world does

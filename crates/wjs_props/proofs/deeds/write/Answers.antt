@@ -10,4 +10,4 @@ returns g c =
     let does = c.in_ok-write.ensures.0 in
     let works = c.in_ok-write.ensures.1 in
     let sound = g.met.S.WorldStore.sound c.write.new.self (ap not does.spent ∙ works) in
-    did_write (parts m c.args.heap.now) (m c.write.new.self) c.requires.heap sound c.args.world c.args.slot c.args.content c.requires.slot c.requires.content does
+    did_write (parts m c.args.heap.now) (m c.write.new.self) c.requires.heap sound.admits_own c.args.world c.args.slot c.args.content c.requires.slot c.requires.content does
