@@ -63,6 +63,17 @@ impl Rows {
         if owner == 0 {
             return self.first.as_slice();
         }
+        self.list_of_another(owner)
+    }
+
+    /// The objects of an owner other than 0, by a search.
+    #[inline(never)]
+    fn list_of_another(&self, owner: u32) -> &[Packed]
+        requires { ¬ (owner ≡ 0) }
+        ensures objects { (id : ObjId) → id.owner ≡ owner → map.get self.now id ≡ slice_get result.now id.serial }
+        ensures count { length result.now ≡ (next_number self.now owner).serial }
+        ensures serials { (id : ObjId) → IsTrue (has self.now id) ↔ (id.serial < (next_number self.now id.owner).serial) }
+    {
         match self.owners.get(&owner) {
             Some(rows) => rows.as_slice(),
             None => &[],

@@ -29,7 +29,7 @@ pub use makes::{
 };
 pub use operands::operand_completion;
 pub use output::emit;
-pub use peeks::{peek_member, peek_operand, peek_target, peek_value_of};
+pub use peeks::{peek_member, peek_operand, peek_target, peek_value_of, peek_word};
 pub use properties::{delete, get, get_value, has, put, visits};
 pub use references::{reference_at, store, store_local, value_of};
 pub use slots::{read, read_content, write, write_rows};

@@ -1,7 +1,7 @@
 //! What names and properties hold, where a read of them would change nothing; else None, which a store may answer at any slot.
 //!
 //! Nothing is told, no mark is left and no step taken, so each call holds however many steps are left.
-ghost use Rattle.std.specs.Prelude.{IfSome};
+ghost use Rattle.std.specs.Prelude.{IfSome, Some};
 ghost use Rattle.wjs_base.specs.Text.{Table, Has};
 ghost use Rattle.wjs_by_content.specs.Names.{slot};
 ghost use Rattle.wjs_by_content.specs.Tables.{text_in, name_in, value_in, content_in};
@@ -92,6 +92,69 @@ pub fn peek_member<S: WorldStore>(
     }
 }
 
+/// `peek_member` by a word. Mostly the object itself holds it: then it needs no look at what the word spells.
+#[inline(always)]
+pub fn peek_word<S: WorldStore>(
+    config: &Config<S>,
+    frame: &Frame,
+    base: Value,
+    id: TextId,
+) -> Option<Value>
+    requires base { Base S.meaning config.now }
+    requires there { IsThere S.meaning config.now frame.now }
+    requires value { HasValue config.now base }
+    requires text { Has config.now.heap.texts id }
+    ensures peeks { IfSome result (λ value. Peeks S.meaning
+        (λ t. references.member_value (value_in t base) (text_in t id) (env_in S.meaning config.now t frame.now)) (λ t. value_in t value) config.now) }
+    ensures found { IfSome result (λ value. HasValue config.now value) }
+{
+    match member_held(config, frame, base, id) {
+        Some(value) => Some(value),
+        None => member_spelled(config, frame, base, id),
+    }
+}
+
+/// The value of a member that an object's own slot holds; else None.
+#[inline(always)]
+fn member_held<S: WorldStore>(
+    config: &Config<S>,
+    frame: &Frame,
+    base: Value,
+    id: TextId,
+) -> Option<Value>
+    requires base { Base S.meaning config.now }
+    requires there { IsThere S.meaning config.now frame.now }
+    requires value { HasValue config.now base }
+    ensures peeks { IfSome result (λ value. Peeks S.meaning
+        (λ t. references.member_value (value_in t base) (text_in t id) (env_in S.meaning config.now t frame.now)) (λ t. value_in t value) config.now) }
+    ensures found { IfSome result (λ value. HasValue config.now value) }
+{
+    match base {
+        Value::Object(object) => peek_held(config, frame, object, id),
+        _ => None,
+    }
+}
+
+/// The value of a member, by what its name's text spells.
+#[inline(never)]
+fn member_spelled<S: WorldStore>(
+    config: &Config<S>,
+    frame: &Frame,
+    base: Value,
+    id: TextId,
+) -> Option<Value>
+    requires base { Base S.meaning config.now }
+    requires there { IsThere S.meaning config.now frame.now }
+    requires value { HasValue config.now base }
+    requires text { Has config.now.heap.texts id }
+    ensures peeks { IfSome result (λ value. Peeks S.meaning
+        (λ t. references.member_value (value_in t base) (text_in t id) (env_in S.meaning config.now t frame.now)) (λ t. value_in t value) config.now) }
+    ensures found { IfSome result (λ value. HasValue config.now value) }
+{
+    let name = name_of(config, id);
+    peek_member(config, frame, base, name)
+}
+
 /// A text's own `length`; None of every other name.
 fn peek_length<S: WorldStore>(config: &Config<S>, id: TextId, name: Name) -> Option<Value>
     requires base { Base S.meaning config.now }
@@ -170,7 +233,8 @@ pub fn peek_value_of<S: WorldStore>(
     }
 }
 
-/// The value of a name at its place (section 10.1.4).
+/// The value of a name at its place (section 10.1.4). Mostly its scope or the global object itself holds it: then it needs no look at
+/// what the text spells.
 #[inline(always)]
 fn peek_name<S: WorldStore>(
     config: &Config<S>,
@@ -185,14 +249,159 @@ fn peek_name<S: WorldStore>(
         (λ t. Gives (value_in t value)) config.now) }
     ensures found { IfSome result (λ value. HasValue config.now value) }
 {
-    let name = name_of(config, id);
     match place {
-        Place::Global => peek_global(config, frame, name),
+        Place::Global => peek_in_global(config, frame, id),
         Place::Local { hops } => {
             let scope = scope_up(config, frame.scope(), hops);
-            peek_local(config, frame, scope, name)
+            peek_in_scope(config, frame, scope, id)
         }
     }
+}
+
+/// The value of a name in a scope.
+#[inline(always)]
+fn peek_in_scope<S: WorldStore>(
+    config: &Config<S>,
+    frame: &Frame,
+    scope: ObjId,
+    id: TextId,
+) -> Option<Value>
+    requires base { Base S.meaning config.now }
+    requires there { IsThere S.meaning config.now frame.now }
+    requires scope { HasObject config.now scope }
+    requires text { Has config.now.heap.texts id }
+    ensures peeks { IfSome result (λ value. Peeks S.meaning (λ t. evaluated (Local scope (text_in t id)) (env_in S.meaning config.now t frame.now))
+        (λ t. Gives (value_in t value)) config.now) }
+    ensures found { IfSome result (λ value. HasValue config.now value) }
+{
+    match local_held(config, frame, scope, id) {
+        Some(value) => Some(value),
+        None => local_spelled(config, frame, scope, id),
+    }
+}
+
+/// The value of a name of the global object; None where it is absent, since that throws.
+#[inline(always)]
+fn peek_in_global<S: WorldStore>(config: &Config<S>, frame: &Frame, id: TextId) -> Option<Value>
+    requires base { Base S.meaning config.now }
+    requires there { IsThere S.meaning config.now frame.now }
+    requires text { Has config.now.heap.texts id }
+    ensures peeks { IfSome result (λ value. Peeks S.meaning (λ t. evaluated (Global (text_in t id)) (env_in S.meaning config.now t frame.now))
+        (λ t. Gives (value_in t value)) config.now) }
+    ensures found { IfSome result (λ value. HasValue config.now value) }
+{
+    match global_held(config, frame, id) {
+        Some(value) => Some(value),
+        None => global_spelled(config, frame, id),
+    }
+}
+
+/// The value of a name in a scope, where its slot holds one and nothing is fixed; else None.
+#[inline(always)]
+fn local_held<S: WorldStore>(
+    config: &Config<S>,
+    frame: &Frame,
+    scope: ObjId,
+    id: TextId,
+) -> Option<Value>
+    requires base { Base S.meaning config.now }
+    requires there { IsThere S.meaning config.now frame.now }
+    requires scope { HasObject config.now scope }
+    ensures peeks { IfSome result (λ value. Peeks S.meaning (λ t. evaluated (Local scope (text_in t id)) (env_in S.meaning config.now t frame.now))
+        (λ t. Gives (value_in t value)) config.now) }
+    ensures found { IfSome result (λ value. HasValue config.now value) }
+{
+    let name = Name::Text(id);
+    let value = slot_held(config, frame, scope, name)?;
+    match fixed(config, scope, name) {
+        Some(_) => None,
+        None => Some(value),
+    }
+}
+
+/// The value that a slot holds, where it holds one: then its name is there.
+#[inline(always)]
+fn slot_held<S: WorldStore>(
+    config: &Config<S>,
+    frame: &Frame,
+    object: ObjId,
+    name: Name,
+) -> Option<Value>
+    requires base { Base S.meaning config.now }
+    requires there { IsThere S.meaning config.now frame.now }
+    requires object { HasObject config.now object }
+    ensures name { IfSome result (λ _. HasName config.now name) }
+    ensures peeks { IfSome result (λ value. Peeks S.meaning (λ t go. Do (Read frame.now.world (slot object (name_in t name))) go)
+        (λ t. Some (value_in t value)) config.now) }
+    ensures found { IfSome result (λ value. HasValue config.now value) }
+{
+    let value = wjs_props::look_held(&config.heap, frame.world(), Slot { object, name })?;
+    Some(value)
+}
+
+/// The value of a name in a scope, by what its text spells.
+#[inline(never)]
+fn local_spelled<S: WorldStore>(
+    config: &Config<S>,
+    frame: &Frame,
+    scope: ObjId,
+    id: TextId,
+) -> Option<Value>
+    requires base { Base S.meaning config.now }
+    requires there { IsThere S.meaning config.now frame.now }
+    requires scope { HasObject config.now scope }
+    requires text { Has config.now.heap.texts id }
+    ensures peeks { IfSome result (λ value. Peeks S.meaning (λ t. evaluated (Local scope (text_in t id)) (env_in S.meaning config.now t frame.now))
+        (λ t. Gives (value_in t value)) config.now) }
+    ensures found { IfSome result (λ value. HasValue config.now value) }
+{
+    let name = name_of(config, id);
+    peek_local(config, frame, scope, name)
+}
+
+/// The value of a property that the global object's own slot holds; else None.
+#[inline(always)]
+fn global_held<S: WorldStore>(config: &Config<S>, frame: &Frame, id: TextId) -> Option<Value>
+    requires base { Base S.meaning config.now }
+    requires there { IsThere S.meaning config.now frame.now }
+    ensures peeks { IfSome result (λ value. Peeks S.meaning (λ t. evaluated (Global (text_in t id)) (env_in S.meaning config.now t frame.now))
+        (λ t. Gives (value_in t value)) config.now) }
+    ensures found { IfSome result (λ value. HasValue config.now value) }
+{
+    peek_held(config, frame, config.global, id)
+}
+
+/// The value of a property of the global object, by what its text spells.
+#[inline(never)]
+fn global_spelled<S: WorldStore>(config: &Config<S>, frame: &Frame, id: TextId) -> Option<Value>
+    requires base { Base S.meaning config.now }
+    requires there { IsThere S.meaning config.now frame.now }
+    requires text { Has config.now.heap.texts id }
+    ensures peeks { IfSome result (λ value. Peeks S.meaning (λ t. evaluated (Global (text_in t id)) (env_in S.meaning config.now t frame.now))
+        (λ t. Gives (value_in t value)) config.now) }
+    ensures found { IfSome result (λ value. HasValue config.now value) }
+{
+    let name = name_of(config, id);
+    peek_global(config, frame, name)
+}
+
+/// What [[Get]] finds where the object's own slot holds a value under the text; else None.
+#[inline(always)]
+fn peek_held<S: WorldStore>(
+    config: &Config<S>,
+    frame: &Frame,
+    object: ObjId,
+    id: TextId,
+) -> Option<Value>
+    requires base { Base S.meaning config.now }
+    requires there { IsThere S.meaning config.now frame.now }
+    requires object { HasObject config.now object }
+    ensures peeks { IfSome result (λ value. Peeks S.meaning (λ t. line.get object (text_in t id) (env_in S.meaning config.now t frame.now))
+        (λ t. Some (value_in t value)) config.now) }
+    ensures found { IfSome result (λ value. HasValue config.now value) }
+{
+    let value = wjs_props::peek_held(&config.heap, frame.world(), object, Name::Text(id))?;
+    Some(value)
 }
 
 /// The value of a property of the global object; None where it is absent, since that throws.

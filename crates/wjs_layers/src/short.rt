@@ -12,6 +12,7 @@ use wjs_base::{Content, ObjId, TextId, Value, Whole};
 
 impl ShortContent {
     /// The content.
+    #[inline(always)]
     pub fn content(&self) -> Content
         ensures { result ≡ content_in self.now }
     {

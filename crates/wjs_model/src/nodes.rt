@@ -30,6 +30,7 @@ impl LoadedProgram {
 
     /// The place of the name of this number among a node's own: a Name's, or those that its `var` declares. Where the node has
     /// no name of this number, it is any place.
+    #[inline(always)]
     pub fn place(&self, node: NodeId, at: usize) -> Place
         ensures { at < length (placed_names (node_of self.now node)) → (t : Table) → name_place (unit_in t self.now) node.0 at ≡ place_in result }
     {
@@ -52,6 +53,7 @@ impl LoadedProgram {
     }
 }
 
+#[inline(always)]
 fn place_or_global(place: Option<Place>) -> Place
     ensures { result ≡ place_or_global place }
 {

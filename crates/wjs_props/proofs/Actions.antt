@@ -108,16 +108,24 @@ module _ (h : Parts) (new : Meaning) (heap : IsHeap h) (ok : IsTrue (new.admits 
   content_still t g contents.Absent has = refl
   content_still t g (contents.Present v) has = ap (λ x. Some x) (value_grows h.texts t g v (value_knows h.texts h.arena v heap.table has)).1
 
-  -- what a read found is there
-  pub found_there : (w : WorldId) (s : Slot) (c : Content) → Does h.store (read w s) (found (content_of c)) new → HasContent h.texts h.arena (content_of c)
-  found_there w s c does = by (content_of c) (is_found _ _ (own_view_at h.store new (read w s) (found (content_of c)) ok does).0)
+  -- what a read found is what the slot holds
+  found_at : (w : WorldId) (s : Slot) (c : Content) → Does h.store (read w s) (found (content_of c)) new → content_of c ≡ content_at (worlds h.store) w s
+  found_at w s c does = is_found _ _ (own_view_at h.store new (read w s) (found (content_of c)) ok does).0
     where
       is_found : (a b : Option Value) → (let x : PlainReply = found a in let y : PlainReply = found b in x ≡ y) → a ≡ b
       is_found a b e = cc
 
+  -- what a read found is there
+  pub found_there : (w : WorldId) (s : Slot) (c : Content) → Does h.store (read w s) (found (content_of c)) new → HasContent h.texts h.arena (content_of c)
+  found_there w s c does = by (content_of c) (found_at w s c does)
+    where
       by : (c : Option Value) → c ≡ content_at (worlds h.store) w s → HasContent h.texts h.arena c
       by None e = tt
       by (Some v) e = (heap.slots w s v (sym e)).1
+
+  -- so are the object and the name of a slot in which it found a value, and the value
+  pub held_there : (w : WorldId) (s : Slot) (c : Content) (v : Value) → c ≡ contents.Present v → Does h.store (read w s) (found (content_of c)) new → HasSlot h.texts h.arena s × HasValue h.texts h.arena v
+  held_there w s c v is does = heap.slots w s v (sym (found_at w s c does) ∙ ap content_of is)
 
   pub did_read : (w : WorldId) (s : Slot) (c : Content) → HasSlot h.texts h.arena s → Does h.store (read w s) (found (content_of c)) new
       → Performs w (λ t. Reads (slot_in t s) Gives) (λ t. content_in t c) h (record { texts = h.texts; arena = h.arena; store = new })

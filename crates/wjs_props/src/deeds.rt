@@ -14,7 +14,7 @@ ghost use Rattle.wjs_by_content.specs.Renamed.{Holds};
 ghost use Rattle.wjs_by_content.specs.Rename.{shape};
 ghost use Rattle.wjs_arena.specs.Entries.{IsThere, has, world_of};
 ghost use Rattle.wjs_by_content.specs.Plans.{Gives, Reads, Writes, Lists, Sprouted, Committed};
-ghost use Rattle.wjs_by_content.specs.Tables.{slot_in, content_in};
+ghost use Rattle.wjs_by_content.specs.Tables.{slot_in, content_in, value_in};
 ghost use Rattle.wjs_by_content.specs.Worlds.{listing};
 ghost use Rattle.wjs_heap.specs.Acts.{Acts, Creates};
 ghost use Rattle.wjs_heap.specs.Heap.{IsHeap, HasNamed, HasSlot, HasContent, HasValue, Performs};
@@ -57,6 +57,24 @@ pub fn look<S: WorldStore>(heap: &Heap<S>, world: WorldId, slot: Slot) -> Option
     match heap.store.peek(world, slot) {
         None => None,
         Some(found) => Some(found),
+    }
+}
+
+/// The value that a slot holds, where it holds one and a read of it would change nothing; else None, which any store may answer.
+/// A slot that holds one has an object and a name that are there, so neither is asked for.
+#[inline(always)]
+pub fn look_held<S: WorldStore>(heap: &Heap<S>, world: WorldId, slot: Slot) -> Option<Value>
+    requires heap { IsHeap (parts S.meaning heap.now) }
+    requires world { IsTrue (has_world (worlds (S.meaning heap.now.store)) world) }
+    ensures slot { IfSome result (λ _. HasSlot heap.now.texts heap.now.arena slot) }
+    ensures reads { IfSome result (λ value. Performs world (λ t. Reads (slot_in t slot) Gives)
+        (λ t. Some (value_in t value)) (parts S.meaning heap.now) (parts S.meaning heap.now)) }
+    ensures found { IfSome result (λ value. HasValue heap.now.texts heap.now.arena value) }
+{
+    let found = heap.store.peek(world, slot)?;
+    match found {
+        Content::Present(value) => Some(value),
+        Content::Absent => None,
     }
 }
 

@@ -12,8 +12,8 @@ mod seen;
 mod visits;
 mod writes;
 
-pub use deeds::{commit, create, look, read, sprout, write, write_rows};
+pub use deeds::{commit, create, look, look_held, read, sprout, write, write_rows};
 pub use listing::list_names;
-pub use reads::{get, has, peek};
+pub use reads::{get, has, peek, peek_held};
 pub use visits::{Visit, Visits};
 pub use writes::{delete, put};

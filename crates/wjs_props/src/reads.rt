@@ -1,17 +1,17 @@
 //! Reading and testing properties.
-ghost use Rattle.std.specs.Prelude.{◌≡◌, IfOk, IfSome, IsTrue};
+ghost use Rattle.std.specs.Prelude.{◌≡◌, IfOk, IfSome, IsTrue, Some};
 ghost use Rattle.wjs_base.specs.Spelling.{IsName};
 ghost use Rattle.wjs_store.specs.State.{has_world};
 ghost use Rattle.wjs_store.specs.Meaning.{worlds};
 ghost use Rattle.wjs_store.specs.Shown.{content_of};
 ghost use Rattle.wjs_arena.specs.Entries.{has};
-ghost use Rattle.wjs_by_content.specs.Tables.{name_in, content_in, arena_in};
-ghost use Rattle.wjs_heap.specs.Heap.{IsHeap, HasContent, Performs};
+ghost use Rattle.wjs_by_content.specs.Tables.{name_in, value_in, content_in, arena_in};
+ghost use Rattle.wjs_heap.specs.Heap.{IsHeap, HasContent, HasValue, Performs};
 ghost use Rattle.wjs_heap.specs.Means.{parts};
 ghost use Rattle.wjs_by_content.specs.Properties as plan;
 
-use crate::deeds::{look, read};
-use wjs_base::{Content, Name, ObjId, OutOfMemory, Slot, WorldId};
+use crate::deeds::{look, look_held, read};
+use wjs_base::{Content, Name, ObjId, OutOfMemory, Slot, Value, WorldId};
 use wjs_heap::Heap;
 use wjs_store::WorldStore;
 
@@ -77,6 +77,30 @@ pub fn peek<S: WorldStore>(
             None => return Some(Content::Absent),
             Some(prototype) => here = prototype,
         }
+    }
+}
+
+/// What `peek` finds where the object's own slot holds a value; else None. A slot that holds one has a name that is there, so none is
+/// asked for.
+#[inline(always)]
+pub fn peek_held<S: WorldStore>(
+    heap: &Heap<S>,
+    world: WorldId,
+    object: ObjId,
+    name: Name,
+) -> Option<Value>
+    requires heap { IsHeap (parts S.meaning heap.now) }
+    requires world { IsTrue (has_world (worlds (S.meaning heap.now.store)) world) }
+    requires object { IsTrue (has heap.now.arena object) }
+    ensures name { IfSome result (λ _. IsName heap.now.texts name) }
+    ensures gets { IfSome result (λ value. Performs world (λ t. plan.get (arena_in t heap.now.arena) object (name_in t name))
+        (λ t. Some (value_in t value)) (parts S.meaning heap.now) (parts S.meaning heap.now)) }
+    ensures found { IfSome result (λ value. HasValue heap.now.texts heap.now.arena value) }
+{
+    let value = look_held(heap, world, Slot { object, name })?;
+    match heap.arena.fixed(object, name) {
+        Some(_) => None,
+        None => Some(value),
     }
 }
 

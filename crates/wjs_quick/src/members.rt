@@ -10,7 +10,7 @@ ghost use Rattle.wjs_model.specs.Texts.{KnowsSpelt};
 ghost use Rattle.wjs_quick.specs.Coming.{Comes};
 
 use wjs_base::{Name, Value};
-use wjs_heap_steps::{name_of, peek_member};
+use wjs_heap_steps::{name_of, peek_member, peek_word};
 use wjs_model::{Config, Frame};
 use wjs_step_common::{index_of, is_nullish};
 use wjs_store::WorldStore;
@@ -36,7 +36,7 @@ pub(crate) fn dotted<S: WorldStore>(
         return None;
     }
     match name {
-        Spelt::Word(id) => peek_member(config, frame, base, name_of(config, id)),
+        Spelt::Word(id) => peek_word(config, frame, base, id),
         Spelt::Key(_) => None,
     }
 }

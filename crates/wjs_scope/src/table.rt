@@ -25,6 +25,7 @@ impl Places {
     ghost use Rattle.wjs_scope.specs.Places.{place_at};
 
     /// The place of one of the names of a node, counted from 0; None exactly where no place is kept for one.
+    #[inline(always)]
     pub fn get(&self, node: NodeId, at: usize) -> Option<Place>
         ensures { result ≡ place_at self.now node at }
     {

@@ -22,6 +22,7 @@ const MOST_DIGITS: usize = 10;
 
 impl Texts {
     /// The name of a text: the index that it spells in decimal digits, or else the text.
+    #[inline(always)]
     pub fn name_of(&self, id: TextId) -> Name
         requires { Has self.now id }
         ensures { IsNameOf self.now id result }
@@ -88,8 +89,22 @@ fn write_decimal(number: u32, digits: &mut [u16; 10]) -> usize
     place
 }
 
-/// The index that code units spell.
+/// The index that code units spell. Of most names the first unit is no digit, and no other one is looked at.
+#[inline(always)]
 fn spelled_index(units: &[u16]) -> Option<u32>
+    ensures found { IfSome result (λ index. (index ≤ greatest_index) × (units.now ≡ decimal index)) }
+    ensures none { IfNone result ((index : ℕ) → index ≤ greatest_index → ¬ (units.now ≡ decimal index)) }
+{
+    let first = *units.first()?;
+    if first < ZERO || first > NINE {
+        return None;
+    }
+    index_of_digits(units)
+}
+
+/// The same of units that may all be digits.
+#[inline(never)]
+fn index_of_digits(units: &[u16]) -> Option<u32>
     ensures found { IfSome result (λ index. (index ≤ greatest_index) × (units.now ≡ decimal index)) }
     ensures none { IfNone result ((index : ℕ) → index ≤ greatest_index → ¬ (units.now ≡ decimal index)) }
 {
