@@ -526,9 +526,9 @@ impl Frames {
         Ok(())
     }
 
-    /// A frame at a node around the same as another.
+    /// A frame at a node around the same as another, and as it waits, with nothing held. It is made in the place of one that has ended.
     #[inline(always)]
-    fn begun(&mut self, at: &Frame, node: NodeId) -> Result<Frame, OutOfMemory>
+    pub fn begun(&mut self, at: &Frame, node: NodeId) -> Result<Frame, OutOfMemory>
         ensures frame { IfOk result (λ frame. frame ≡ record at.now { node = node; held = [] }) }
         ensures same { self.new ≡ self.old }
     {
