@@ -6,7 +6,6 @@ mod blocks;
 mod clauses;
 mod enters;
 mod simple;
-mod statements;
 mod switches;
 mod tries;
 mod within;

@@ -14,12 +14,11 @@ ghost use Rattle.wjs_frames.specs.Parts.{node_now};
 ghost use Rattle.wjs_frames.specs.Handling.{Runs, GoesOn, Begins, Resumes};
 
 use crate::arguments::fill_scope;
-use crate::body_elements::run_elements;
 use crate::declarations::declared_at;
-use crate::elements::BodyKind;
 use crate::variables::other_variables;
 use wjs_arena::Code;
 use wjs_base::{NodeId, ObjId, OutOfMemory};
+use wjs_effects::{Sequence, run_from};
 use wjs_frames::finish;
 use wjs_heap_steps::{code_of, create_scope, scope_of};
 use wjs_model::{CallPoint, Completion, Config, Frame, Point, Start, Trouble};
@@ -140,5 +139,5 @@ fn run_body<S: WorldStore>(
     ensures { GoesOn S.meaning frame config.old config.new result (λ t env.
         line.body_from (drop from (elements_of (node_in t (node_now S.meaning config.old frame)))) env) }
 {
-    run_elements(config, frame, BodyKind::Function, from)
+    run_from(config, frame, Sequence::Function, from)
 }
