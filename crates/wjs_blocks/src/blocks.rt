@@ -7,12 +7,12 @@ ghost use Rattle.wjs_model.specs.Contents.{completion_in};
 ghost use Rattle.wjs_model.specs.Lists.{block_items};
 ghost use Rattle.wjs_model.specs.Soundness.{HasCompletion};
 ghost use Rattle.wjs_frames.specs.Parts.{node_now};
-ghost use Rattle.wjs_frames.specs.Handling.{Runs, GoesOn};
+ghost use Rattle.wjs_frames.specs.Handling.{Runs, GoesOn, Resumes};
 
 use wjs_base::OutOfMemory;
-use wjs_effects::{Sequence, run_from};
+use wjs_effects::{Sequence, dropped, run_from};
 use wjs_frames::finish;
-use wjs_model::{Completion, Config, Frame};
+use wjs_model::{Completion, Config, Frame, Point, StmtPoint};
 use wjs_store::WorldStore;
 
 /// The statements of a block, from the one of this number on: those that are done at once, and then the next one by a frame.
@@ -44,4 +44,18 @@ pub fn block_statement<S: WorldStore>(
         Completion::Normal => block_from(config, frame, at),
         other => finish(config, frame, other),
     }
+}
+
+/// After the expression of a block's statement, before the statement of this number.
+pub fn block_value<S: WorldStore>(
+    config: &mut Config<S>,
+    frame: Frame,
+    at: u32,
+    completion: Completion,
+) -> Result<(), OutOfMemory>
+    requires runs { Runs S.meaning config.old frame }
+    requires completion { HasCompletion config.old completion }
+    ensures { Resumes S.meaning frame (Point.Stmt (StmtPoint.BlockValue at)) completion config.old config.new result }
+{
+    block_statement(config, frame, at, dropped(completion))
 }

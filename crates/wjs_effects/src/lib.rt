@@ -26,7 +26,7 @@ pub use above::wait_below;
 pub use blocks::statement_of_block;
 pub use elements::Sequence;
 pub use enters::{enter_at_once, enter_last_at_once};
-pub use entries::enter_statement;
+pub use entries::{dropped, enter_statement};
 pub use parts::{expression_at_once, reference_at_once, statement_at_once};
 pub use sequences::run_from;
 pub use updates::{given, updated};

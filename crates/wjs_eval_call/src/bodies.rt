@@ -18,7 +18,7 @@ use crate::declarations::declared_at;
 use crate::variables::other_variables;
 use wjs_arena::Code;
 use wjs_base::{NodeId, ObjId, OutOfMemory};
-use wjs_effects::{Sequence, run_from};
+use wjs_effects::{Sequence, dropped, run_from};
 use wjs_frames::finish;
 use wjs_heap_steps::{code_of, create_scope, scope_of};
 use wjs_model::{CallPoint, Completion, Config, Frame, Point, Start, Trouble};
@@ -125,6 +125,21 @@ pub(crate) fn after_body_element<S: WorldStore>(
         Completion::Returns(value) => finish(config, frame, Completion::Gives(value)),
         _ => finish(config, frame, completion),
     }
+}
+
+/// After the expression that is the element of a function's body before this number.
+pub(crate) fn after_body_value<S: WorldStore>(
+    config: &mut Config<S>,
+    frame: Frame,
+    next: u32,
+    completion: Completion,
+) -> Result<(), OutOfMemory>
+    requires runs { Runs S.meaning config.old frame }
+    requires body { IsFunction config.old.units.items config.old.heap.arena frame.tree frame.node frame.scope 1 }
+    requires completion { HasCompletion config.old completion }
+    ensures { Resumes S.meaning frame (Point.Call (CallPoint.BodyValue next)) completion config.old config.new result }
+{
+    after_body_element(config, frame, next, dropped(completion))
 }
 
 /// The elements of a function's body from one on.

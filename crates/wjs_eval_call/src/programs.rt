@@ -10,7 +10,7 @@ ghost use Rattle.wjs_frames.specs.Handling.{Runs, GoesOn, Begins, Resumes};
 
 use crate::declarations::{declare_program, program_body};
 use wjs_base::OutOfMemory;
-use wjs_effects::{Sequence, run_from};
+use wjs_effects::{Sequence, dropped, run_from};
 use wjs_frames::{due_later, finish};
 use wjs_model::{CallPoint, Completion, Config, Frame, Point, Start};
 use wjs_store::WorldStore;
@@ -67,6 +67,20 @@ pub(crate) fn after_program_element<S: WorldStore>(
         Completion::Normal => run_program(config, frame, next),
         _ => finish(config, frame, completion),
     }
+}
+
+/// After the expression that is the element of a program before this number.
+pub(crate) fn after_program_value<S: WorldStore>(
+    config: &mut Config<S>,
+    frame: Frame,
+    next: u32,
+    completion: Completion,
+) -> Result<(), OutOfMemory>
+    requires runs { Runs S.meaning config.old frame }
+    requires completion { HasCompletion config.old completion }
+    ensures { Resumes S.meaning frame (Point.Call (CallPoint.ProgramValue next)) completion config.old config.new result }
+{
+    after_program_element(config, frame, next, dropped(completion))
 }
 
 /// The elements of a program from one on.
