@@ -7,14 +7,12 @@ ghost use Rattle.wjs_model.specs.Contents.{completion_in};
 ghost use Rattle.wjs_model.specs.Lists.{block_items};
 ghost use Rattle.wjs_model.specs.Soundness.{HasCompletion};
 ghost use Rattle.wjs_frames.specs.Parts.{node_now};
-ghost use Rattle.wjs_frames.specs.Handling.{Runs, GoesOn};
+ghost use Rattle.wjs_frames.specs.Handling.{Runs, GoesOn, Resumes};
 
-use crate::statements::{Reached, statement_at, statements_at_once};
 use wjs_base::OutOfMemory;
-use wjs_effects::enter_statement;
+use wjs_effects::{Sequence, dropped, run_from};
 use wjs_frames::finish;
 use wjs_model::{Completion, Config, Frame, Point, StmtPoint};
-use wjs_step_common::number_after;
 use wjs_store::WorldStore;
 
 /// The statements of a block, from the one of this number on: those that are done at once, and then the next one by a frame.
@@ -27,31 +25,7 @@ pub fn block_from<S: WorldStore>(
     ensures { GoesOn S.meaning frame config.old config.new result (λ t env.
         block_from (drop at (block_items (node_in t (node_now S.meaning config.old frame)))) env) }
 {
-    let reached = statements_at_once(config, &frame, at)?;
-    match reached {
-        Reached::Next(number) => enter_from(config, frame, number),
-        Reached::Ended(completion) => finish(config, frame, completion),
-    }
-}
-
-/// The statement of this number is entered; past the last the block ends.
-fn enter_from<S: WorldStore>(
-    config: &mut Config<S>,
-    frame: Frame,
-    at: u32,
-) -> Result<(), OutOfMemory>
-    requires runs { Runs S.meaning config.old frame }
-    ensures { GoesOn S.meaning frame config.old config.new result (λ t env.
-        block_from (drop at (block_items (node_in t (node_now S.meaning config.old frame)))) env) }
-{
-    match statement_at(config, &frame, at) {
-        Some(statement) => {
-            let next = number_after(at)?;
-            let point = Point::Stmt(StmtPoint::BlockStatement(next));
-            enter_statement(config, frame, point, statement)
-        }
-        None => finish(config, frame, Completion::Normal),
-    }
+    run_from(config, frame, Sequence::Block, at)
 }
 
 /// After a statement of a block, before the one of this number.
@@ -70,4 +44,18 @@ pub fn block_statement<S: WorldStore>(
         Completion::Normal => block_from(config, frame, at),
         other => finish(config, frame, other),
     }
+}
+
+/// After the expression of a block's statement, before the statement of this number.
+pub fn block_value<S: WorldStore>(
+    config: &mut Config<S>,
+    frame: Frame,
+    at: u32,
+    completion: Completion,
+) -> Result<(), OutOfMemory>
+    requires runs { Runs S.meaning config.old frame }
+    requires completion { HasCompletion config.old completion }
+    ensures { Resumes S.meaning frame (Point.Stmt (StmtPoint.BlockValue at)) completion config.old config.new result }
+{
+    block_statement(config, frame, at, dropped(completion))
 }

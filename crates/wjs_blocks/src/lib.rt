@@ -6,12 +6,11 @@ mod blocks;
 mod clauses;
 mod enters;
 mod simple;
-mod statements;
 mod switches;
 mod tries;
 mod within;
 
-pub use blocks::{block_from, block_statement};
+pub use blocks::{block_from, block_statement, block_value};
 pub use simple::{expr_value, if_test, return_value, throw_value};
 pub use switches::{case_value, clause_statement, switch_value};
 pub use tries::{try_block, try_finally, try_handler};

@@ -8,3 +8,5 @@ pub mod Parted
 pub mod Passing
 pub mod Nested
 pub mod Only
+pub mod Running
+pub mod StandingElements

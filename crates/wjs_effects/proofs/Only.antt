@@ -6,19 +6,26 @@ use Rattle.wjs_store.specs.Meaning.{Meaning}
 use Rattle.wjs_tree.specs.declared.node.Node.{Node}
 use Rattle.wjs_tree.specs.declared.node.Node.TheVariants as nodes
 use Rattle.wjs_scope.specs.Nesting.{Around, parts, IsAmong}
-use Rattle.wjs_meaning.specs.Deeds.{Env, Eval, AtExpr}
+use Rattle.wjs_meaning.specs.Deeds.{Env, Completion as Said, Act, Ret, Eval, AtExpr, then_value}
 use Rattle.wjs_meaning.specs.Reading.{node_in}
-use Rattle.wjs_meaning.specs.Statements.{stmt_of}
+use Rattle.wjs_meaning.specs.Statements.{stmt_of, expr_done}
 use Rattle.wjs_model.specs.declared.config.Config.{Config}
 use Rattle.wjs_model.specs.declared.frame.Activation.{Activation as Frame}
+use Rattle.wjs_model.specs.declared.frame.Completion.{Completion}
+use Rattle.wjs_model.specs.declared.frame.Completion.TheVariants as completions
+use Rattle.wjs_model.specs.declared.point.CallPoint.TheVariants as call
+use Rattle.wjs_model.specs.declared.point.StmtPoint.TheVariants as stmt
 use Rattle.wjs_model.specs.declared.point.Point.TheVariants as points
-use Rattle.wjs_model.specs.Contents.{Holding}
-use Rattle.wjs_model.specs.Soundness.{IsThere, StandsHere, HasPoint}
-use Rattle.wjs_model.specs.Waiting.{after_stmt}
+use Rattle.wjs_model.specs.Contents.{Holding, completion_in}
+use Rattle.wjs_model.specs.Soundness.{HasCompletion, IsThere, StandsHere, HasPoint}
+use Rattle.wjs_model.specs.Waiting.{after_stmt, after_dropped}
 use Rattle.wjs_frames.specs.Parts.{node_among}
+use Rattle.wjs_frames.specs.Shortening.{Shortens}
 use Rattle.wjs_frames.proofs.Parting.{stands_here}
+use Rattle.wjs_frames.proofs.Shorter.{shorten_ended}
 use Rattle.wjs_effects.specs.declared.entries.Only.{Only}
-use Rattle.wjs_effects.specs.Only.{IsOnly}
+use Rattle.wjs_effects.specs.Only.{IsOnly, Spares, dropped}
+use Rattle.wjs_effects.proofs.Leaving.{shorten_as}
 
 pub only_line : (t : Table) (here : ℕ) (n : Node) (only : Only) (held : Holding) (env : Env) → IsOnly n only
     → stmt_of here (node_in t n) env ≡ Eval (AtExpr only.expression.0) env (after_stmt only.behind here (node_in t n) held env)
@@ -48,3 +55,38 @@ only_stands meaning c f s only here h is =
     stands_here meaning c (record f { node = s }) (node_among c.units.items f.tree s) only.expression
     (record { scope = here.scope; this = here.this; world = here.world; held = here.held; stands = record { node = h; shown = here.stands.shown } }) refl
     (only_among (node_among c.units.items f.tree s) only is)
+
+-- ---- without the statement's frame
+
+-- the frame of a sequence waits for the value
+pub block_spares : (next : ℕ) → Spares (points.Stmt (stmt.BlockStatement next)) stmt.ExprValue (points.Stmt (stmt.BlockValue next))
+block_spares next = record { line = λ here inner node statement held nothing env. refl; stands = λ units arena tree node scope h. h }
+
+pub body_spares : (next : ℕ) → Spares (points.Call (call.BodyElement next)) stmt.ExprValue (points.Call (call.BodyValue next))
+body_spares next = record { line = λ here inner node statement held nothing env. refl; stands = λ units arena tree node scope h. h }
+
+pub program_spares : (next : ℕ) → Spares (points.Call (call.ProgramElement next)) stmt.ExprValue (points.Call (call.ProgramValue next))
+program_spares next = record { line = λ here inner node statement held nothing env. refl; stands = λ units arena tree node scope h. h }
+
+-- how a statement ends by its expression
+dropped_is : (t : Table) (e : Completion) → then_value expr_done (completion_in t e) ≡ Ret (completion_in t (dropped e))
+dropped_is t (completions.Gives v) = refl
+dropped_is t (completions.Refers r) = refl
+dropped_is t completions.Normal = refl
+dropped_is t (completions.Breaks label) = refl
+dropped_is t (completions.Continues label) = refl
+dropped_is t (completions.Returns v) = refl
+dropped_is t (completions.Throws v) = refl
+
+pub dropped_there : {S : Type 0} (c : Config S) (e : Completion) → HasCompletion c e → HasCompletion c (dropped e)
+dropped_there c (completions.Gives v) h = tt
+dropped_there c (completions.Refers r) h = h
+dropped_there c completions.Normal h = h
+dropped_there c (completions.Breaks label) h = h
+dropped_there c (completions.Continues label) h = h
+dropped_there c (completions.Returns v) h = h
+dropped_there c (completions.Throws v) h = h
+
+-- and what follows the statement goes on
+pub dropped_shortens : (t : Table) (e : Completion) (go : Said → Act) → Shortens (after_dropped go (completion_in t e)) (go (completion_in t (dropped e)))
+dropped_shortens t e go = shorten_ended (then_value expr_done (completion_in t e)) (completion_in t (dropped e)) go (shorten_as _ _ (dropped_is t e))

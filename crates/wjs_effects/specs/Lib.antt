@@ -3,3 +3,4 @@ pub mod Leaving
 pub mod Making
 pub mod Proceeding
 pub mod Only
+pub mod Sequences

@@ -1,5 +1,4 @@
 pub mod Asking
-pub mod Running
 pub mod StandingBodies
 pub mod GlobalVariables
 pub mod Names

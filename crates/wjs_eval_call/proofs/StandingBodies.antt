@@ -1,5 +1,5 @@
 -- Bodies stand at their nodes, inside the scopes that are made for them.
-use Rattle.std.proofs.Common.{◌≡◌, ℕ, zero, suc, ◌+◌, Bool, true, false, List, [], ◌∷◌, Option, None, Some, IsTrue, inl, inr, refl, sym, ap, ◌∙◌, drop, subst}
+use Rattle.std.proofs.Common.{◌≡◌, ℕ, ◌+◌, Bool, true, false, List, [], ◌∷◌, Option, None, Some, IsTrue, inl, inr, refl, sym, ap, ◌∙◌, subst}
 use Rattle.std.specs.Prelude.{All, slice_get, unwrap_or, is_some}
 use Rattle.std.specs.FinMap as map
 use Rattle.std.proofs.lemmas.List.Elements.{All-nil, All-cons, All-get_or}
@@ -7,7 +7,6 @@ use Rattle.std.proofs.lemmas.Option.{slice_get_within, get_or_from_slice_get}
 use Rattle.wjs_base.specs.declared.ids.ObjId.{ObjId}
 use Rattle.wjs_base.specs.Text.{Table}
 use Rattle.wjs_base.specs.declared.ids.NodeId.{NodeId}
-use Rattle.wjs_base.specs.declared.values.Value.{Value}
 use Rattle.wjs_store.specs.Meaning.{Meaning}
 use Rattle.wjs_tree.specs.declared.node.Node.{Node}
 use Rattle.wjs_tree.specs.declared.node.Node.TheVariants as nodes
@@ -17,50 +16,21 @@ use Rattle.wjs_arena.specs.declared.object.Code.TheVariants as code
 use Rattle.wjs_arena.specs.Entries.{Entry, Objects, scope_of}
 use Rattle.wjs_scope.specs.Bodies.{elements_at}
 use Rattle.wjs_scope.specs.Declarations.{elements_of, is_declaration, functions_among}
-use Rattle.wjs_scope.specs.Nesting.{Around, parts, IsAmong}
-use Rattle.wjs_meaning.specs.Reading.{numbers, node_in}
+use Rattle.wjs_scope.specs.Nesting.{IsAmong}
+use Rattle.wjs_meaning.specs.Reading.{node_in}
 use Rattle.wjs_meaning.specs.Trees as content
 use Rattle.wjs_model.specs.declared.config.Config.{Config}
 use Rattle.wjs_model.specs.declared.frame.Activation.{Activation as Frame}
 use Rattle.wjs_model.specs.declared.loaded.LoadedProgram.{LoadedProgram as Program}
-use Rattle.wjs_model.specs.declared.point.Point.TheVariants as points
 use Rattle.wjs_model.specs.Texts.{PlacesUnit}
-use Rattle.wjs_model.specs.Standing.{Stands, is_function, own_scopes, IsFunction, FunctionStands}
-use Rattle.wjs_model.specs.Soundness.{HasObject, HasValue, HasCompletion, HasPoint, StandsHere, IsThere, Base}
+use Rattle.wjs_model.specs.Standing.{Stands, own_scopes, IsFunction, FunctionStands}
+use Rattle.wjs_model.specs.Soundness.{HasObject, IsThere, Base}
 use Rattle.wjs_model.specs.Lists.{program_elements}
 use Rattle.wjs_model.proofs.Standing.{stands_fewer, function_begins}
 use Rattle.wjs_frames.specs.Following.{Later}
 use Rattle.wjs_frames.specs.Parts.{node_now}
-use Rattle.wjs_frames.proofs.Parting.{among_around, among_is, stands_here, element_here, function_now}
+use Rattle.wjs_frames.proofs.Parting.{among_is}
 use Rattle.wjs_calls.proofs.StandingFunctions.{function_later}
-use Rattle.wjs_eval_call.specs.declared.elements.BodyKind.{BodyKind}
-use Rattle.wjs_eval_call.specs.declared.elements.BodyKind.TheVariants as kinds
-use Rattle.wjs_eval_call.specs.Bodies.{elements_in, body_end, returned, element_point, BodyStands}
-use Rattle.wjs_eval_call.specs.Elements.{NextIs}
-
--- ---- elements
-
-same_node : (x s : NodeId) → s.0 ≡ x.0 → s ≡ x
-same_node x s e = λ i. record { 0 = e i }
-
-among_left_over : (l : List NodeId) (at : ℕ) (s : NodeId) (rest : List ℕ) → drop at (numbers l) ≡ s.0 ∷ rest → IsAmong l s
-among_left_over [] zero s rest h = absurd (cc)
-among_left_over [] (suc k) s rest h = absurd (cc)
-among_left_over (x ∷ l) zero s rest h = inl (same_node x s (cc))
-among_left_over (x ∷ l) (suc k) s rest h = inr (among_left_over l k s rest h)
-
-none_left_over : (at : ℕ) (s : NodeId) (rest : List ℕ) → drop at [] ≡ s.0 ∷ rest → ⊥
-none_left_over zero s rest k = cc
-none_left_over (suc i) s rest k = cc
-
-program_parts : (t : Table) (n : Node) (at : ℕ) (s : NodeId) → NextIs (program_elements (node_in t n)) at (Some s) → IsAmong (parts n) (s, Around)
-program_parts t (nodes.Program list) at s k = among_around list s (among_left_over list at s _ k)
-program_parts t n at s k = absurd (none_left_over at s _ k)
-
-function_element : (t : Table) (n : Node) (at : ℕ) (s : NodeId) → is_function n ≡ true → NextIs (content.elements_of (node_in t n)) at (Some s) → IsAmong (elements_of n) s
-function_element t (nodes.Function name formals list) at s e h = among_left_over list at s _ h
-function_element t (nodes.FunctionDecl name formals list) at s e h = among_left_over list at s _ h
-function_element t n at s e h = absurd (cc)
 
 -- ---- programs
 
@@ -102,20 +72,6 @@ module _ (units : List Program) (arena : Objects) where
         (ap (λ (r : Option Node). functions_among u.program.nodes (elements_of (unwrap_or r nodes.Empty))) (sym has) ∙ sym e)
         (all_declared (elements_of n) h)
 
--- ---- what bodies wait for, and how they end
-
-pub point_there : {S : Type 0} (c : Config S) (f : Frame) (kind : BodyKind) (next : ℕ) → BodyStands c f kind → HasPoint c f (points.Call (element_point kind next))
-point_there c f kinds.Function next h = h
-point_there c f kinds.Program next h = tt
-
-pub end_there : {S : Type 0} (c : Config S) (kind : BodyKind) → HasCompletion c (body_end kind)
-end_there c kinds.Function = tt
-end_there c kinds.Program = tt
-
-pub returned_there : {S : Type 0} (c : Config S) (kind : BodyKind) (v : Value) → HasValue c v → HasCompletion c (returned kind v)
-returned_there c kinds.Function v h = h
-returned_there c kinds.Program v h = h
-
 -- ---- configurations
 
 module _ {S : Type 0} (meaning : S → Meaning) where
@@ -147,18 +103,6 @@ module _ {S : Type 0} (meaning : S → Meaning) where
       }
 
   module _ (c : Config S) (f : Frame) where
-    -- an element of a body stands
-    pub element_stands : (kind : BodyKind) (at : ℕ) (s : NodeId) → Base meaning c → IsThere meaning c f → BodyStands c f kind → ((t : Table) → NextIs (elements_in kind (node_in t (node_now meaning c f))) at (Some s)) → StandsHere c f s
-    element_stands kinds.Function at s b h begun e =
-        let t = c.heap.texts in
-        element_here meaning c f s b begun (function_element t begun.function at s begun.is (subst (λ (n : Node). NextIs (content.elements_of (node_in t n)) at (Some s)) (function_now meaning c f begun) (e t)))
-    element_stands kinds.Program at s b h begun e = stands_here meaning c f (node_now meaning c f) s h refl (program_parts c.heap.texts (node_now meaning c f) at s (e c.heap.texts))
-
-    -- the body stands still after a deed
-    pub body_later : (kind : BodyKind) (new : Config S) → Later meaning c new → BodyStands c f kind → BodyStands new f kind
-    body_later kinds.Function new l h = function_later meaning c new f.tree f.node f.scope 1 l h
-    body_later kinds.Program new l h = tt
-
     -- at the body of its program
     pub at_body : (body : NodeId) → IsThere meaning c f → ((u : Program) → slice_get c.units.items f.tree ≡ Some u → body ≡ u.program.body) → IsThere meaning c (record f { node = body })
     at_body body h is =

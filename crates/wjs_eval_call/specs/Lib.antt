@@ -1,4 +1,2 @@
-pub mod Elements
-pub mod Bodies
 pub mod Filling
 pub mod Taking

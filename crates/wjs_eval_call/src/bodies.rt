@@ -14,12 +14,11 @@ ghost use Rattle.wjs_frames.specs.Parts.{node_now};
 ghost use Rattle.wjs_frames.specs.Handling.{Runs, GoesOn, Begins, Resumes};
 
 use crate::arguments::fill_scope;
-use crate::body_elements::run_elements;
 use crate::declarations::declared_at;
-use crate::elements::BodyKind;
 use crate::variables::other_variables;
 use wjs_arena::Code;
 use wjs_base::{NodeId, ObjId, OutOfMemory};
+use wjs_effects::{Sequence, dropped, run_from};
 use wjs_frames::finish;
 use wjs_heap_steps::{code_of, create_scope, scope_of};
 use wjs_model::{CallPoint, Completion, Config, Frame, Point, Start, Trouble};
@@ -128,6 +127,21 @@ pub(crate) fn after_body_element<S: WorldStore>(
     }
 }
 
+/// After the expression that is the element of a function's body before this number.
+pub(crate) fn after_body_value<S: WorldStore>(
+    config: &mut Config<S>,
+    frame: Frame,
+    next: u32,
+    completion: Completion,
+) -> Result<(), OutOfMemory>
+    requires runs { Runs S.meaning config.old frame }
+    requires body { IsFunction config.old.units.items config.old.heap.arena frame.tree frame.node frame.scope 1 }
+    requires completion { HasCompletion config.old completion }
+    ensures { Resumes S.meaning frame (Point.Call (CallPoint.BodyValue next)) completion config.old config.new result }
+{
+    after_body_element(config, frame, next, dropped(completion))
+}
+
 /// The elements of a function's body from one on.
 #[inline(always)]
 fn run_body<S: WorldStore>(
@@ -140,5 +154,5 @@ fn run_body<S: WorldStore>(
     ensures { GoesOn S.meaning frame config.old config.new result (λ t env.
         line.body_from (drop from (elements_of (node_in t (node_now S.meaning config.old frame)))) env) }
 {
-    run_elements(config, frame, BodyKind::Function, from)
+    run_from(config, frame, Sequence::Function, from)
 }

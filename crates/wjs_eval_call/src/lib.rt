@@ -3,10 +3,8 @@
 
 mod arguments;
 mod bodies;
-mod body_elements;
 mod conversions;
 mod declarations;
-mod elements;
 mod methods;
 mod points;
 mod programs;

@@ -2,10 +2,10 @@
 ghost use Rattle.wjs_model.specs.Soundness.{HasCompletion, HasPoint};
 ghost use Rattle.wjs_frames.specs.Handling.{Runs, Resumes};
 
-use crate::bodies::after_body_element;
+use crate::bodies::{after_body_element, after_body_value};
 use crate::conversions::{integer_of_primitive, number_of_primitive, text_of_primitive};
 use crate::methods::{after_first_method, after_second_method};
-use crate::programs::{after_program_element, next_program};
+use crate::programs::{after_program_element, after_program_value, next_program};
 use wjs_base::OutOfMemory;
 use wjs_model::{CallPoint, Completion, Config, Frame, Point};
 use wjs_store::WorldStore;
@@ -26,6 +26,8 @@ pub fn call_after<S: WorldStore>(
         CallPoint::NextProgram => next_program(config, frame, completion),
         CallPoint::ProgramElement(next) => after_program_element(config, frame, next, completion),
         CallPoint::BodyElement(next) => after_body_element(config, frame, next, completion),
+        CallPoint::ProgramValue(next) => after_program_value(config, frame, next, completion),
+        CallPoint::BodyValue(next) => after_body_value(config, frame, next, completion),
         CallPoint::FirstMethod(hint) => after_first_method(config, frame, hint, completion),
         CallPoint::SecondMethod => after_second_method(config, frame, completion),
         CallPoint::NumberOfPrimitive => number_of_primitive(config, frame, completion),

@@ -8,10 +8,9 @@ ghost use Rattle.wjs_model.specs.Soundness.{HasCompletion};
 ghost use Rattle.wjs_frames.specs.Parts.{node_now};
 ghost use Rattle.wjs_frames.specs.Handling.{Runs, GoesOn, Begins, Resumes};
 
-use crate::body_elements::run_elements;
 use crate::declarations::{declare_program, program_body};
-use crate::elements::BodyKind;
 use wjs_base::OutOfMemory;
+use wjs_effects::{Sequence, dropped, run_from};
 use wjs_frames::{due_later, finish};
 use wjs_model::{CallPoint, Completion, Config, Frame, Point, Start};
 use wjs_store::WorldStore;
@@ -70,6 +69,20 @@ pub(crate) fn after_program_element<S: WorldStore>(
     }
 }
 
+/// After the expression that is the element of a program before this number.
+pub(crate) fn after_program_value<S: WorldStore>(
+    config: &mut Config<S>,
+    frame: Frame,
+    next: u32,
+    completion: Completion,
+) -> Result<(), OutOfMemory>
+    requires runs { Runs S.meaning config.old frame }
+    requires completion { HasCompletion config.old completion }
+    ensures { Resumes S.meaning frame (Point.Call (CallPoint.ProgramValue next)) completion config.old config.new result }
+{
+    after_program_element(config, frame, next, dropped(completion))
+}
+
 /// The elements of a program from one on.
 fn run_program<S: WorldStore>(
     config: &mut Config<S>,
@@ -80,5 +93,5 @@ fn run_program<S: WorldStore>(
     ensures { GoesOn S.meaning frame config.old config.new result (λ t env.
         line.program_from (drop from (program_elements (node_in t (node_now S.meaning config.old frame)))) env) }
 {
-    run_elements(config, frame, BodyKind::Program, from)
+    run_from(config, frame, Sequence::Program, from)
 }

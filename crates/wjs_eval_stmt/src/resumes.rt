@@ -4,8 +4,8 @@ ghost use Rattle.wjs_frames.specs.Handling.{Runs, Resumes};
 
 use wjs_base::OutOfMemory;
 use wjs_blocks::{
-    block_statement, case_value, clause_statement, expr_value, if_test, return_value, switch_value,
-    throw_value, try_block, try_finally, try_handler, within_world,
+    block_statement, block_value, case_value, clause_statement, expr_value, if_test, return_value,
+    switch_value, throw_value, try_block, try_finally, try_handler, within_world,
 };
 use wjs_loops::{
     do_body, do_test, for_body, for_declared, for_started, for_test, for_updated, label_body,
@@ -29,6 +29,7 @@ pub fn stmt_after<S: WorldStore>(
 {
     match point {
         StmtPoint::BlockStatement(at) => block_statement(config, frame, at, completion),
+        StmtPoint::BlockValue(at) => block_value(config, frame, at, completion),
         StmtPoint::VariableValue(at) => variable_value(config, frame, at, completion),
         StmtPoint::ExprValue => expr_value(config, frame, completion),
         StmtPoint::IfTest(s, other) => if_test(config, frame, s, other, completion),

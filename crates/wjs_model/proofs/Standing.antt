@@ -102,6 +102,7 @@ module _ (old new : Objects) (k : Keeps old new) where
     call_kept : (tree : ℕ) (node : NodeId) (scope : ObjId) (p : CallPoint) → CallPointStands units old tree node scope p
         → CallPointStands units new tree node scope p
     call_kept tree node scope (call.BodyElement i) h = function_kept tree node scope 1 h
+    call_kept tree node scope (call.BodyValue i) h = function_kept tree node scope 1 h
     call_kept tree node scope p h = tt
 
     pub point_kept : (tree : ℕ) (node : NodeId) (scope : ObjId) (p : Point) → PointStands units old tree node scope p → PointStands units new tree node scope p

@@ -94,6 +94,7 @@ module _ (units : List Program) (arena : Objects) (tree : ℕ) (node : NodeId) (
 
   abbrev pub CallPointStands : CallPoint → Type 0
   CallPointStands (call.BodyElement i) = IsFunction units arena tree node scope 1
+  CallPointStands (call.BodyValue i) = IsFunction units arena tree node scope 1
   CallPointStands _ = Unit {0}
 
   abbrev pub PointStands : Point → Type 0

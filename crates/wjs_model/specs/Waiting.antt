@@ -9,7 +9,7 @@ use Rattle.wjs_by_content.specs.Names.{Slot, slot, index_name}
 use Rattle.wjs_meaning.specs.declared.trouble.Trouble.TheVariants.{NoPrimitiveValue}
 use Rattle.wjs_meaning.specs.Reading.{number}
 use Rattle.wjs_meaning.specs.Trees.{Node, Key, elements_of, name_place}
-use Rattle.wjs_meaning.specs.Deeds.{Env, Act, Ret, Eval, Do, Write, AtProgram, Reference, Completion, Refers, Normal, Throws, then_value, then_number, then_text, then_reference, then_normal, tree_here}
+use Rattle.wjs_meaning.specs.Deeds.{Env, Act, Ret, Eval, Sub, Do, Write, AtProgram, Reference, Completion, Refers, Normal, Throws, then_value, then_number, then_text, then_reference, then_normal, tree_here}
 use Rattle.wjs_meaning.specs.Errors.{throw}
 use Rattle.wjs_meaning.specs.NativesOfObjects.{whole_of}
 use Rattle.wjs_meaning.specs.Conversions.{Hint, HintString, HintNumber, second_method, try_method, method_result, number_of_primitive, text_of_primitive, integer_of_primitive}
@@ -187,8 +187,13 @@ after_case v all (x ∷ xs) env w = elim (strictly_equal v w) [
 abbrev pub after_variable : ℕ → List (Text × Option ℕ) → ℕ → Env → Value → Act
 after_variable here xs i env v = store_variable here (drop i xs) i env v
 
+-- after the expression of a statement: its value is dropped, and what follows the statement goes on
+abbrev pub after_dropped : (Completion → Act) → Completion → Act
+after_dropped go c = Sub (then_value expr_done c) go
+
 abbrev pub after_stmt : StmtPoint → ℕ → Node → Holding → Env → Completion → Act
 after_stmt (stmt.BlockStatement i) here node held env = then_normal (block_from (drop i (block_items node)) env)
+after_stmt (stmt.BlockValue i) here node held env = after_dropped (then_normal (block_from (drop i (block_items node)) env))
 after_stmt (stmt.VariableValue i) here node held env = then_value (after_variable here (variables_of node) i env)
 after_stmt stmt.ExprValue here node held env = then_value expr_done
 after_stmt (stmt.IfTest one other) here node held env = then_value (if_test one.0 (number other) env)
@@ -231,6 +236,8 @@ abbrev pub after_call : CallPoint → Node → Holding → Env → Completion �
 after_call call.NextProgram node held env = next_program env
 after_call (call.ProgramElement i) node held env = then_normal (program_from (drop i (program_elements node)) env)
 after_call (call.BodyElement i) node held env = body_next (body_from (drop i (elements_of node)) env)
+after_call (call.ProgramValue i) node held env = after_dropped (then_normal (program_from (drop i (program_elements node)) env))
+after_call (call.BodyValue i) node held env = after_dropped (body_next (body_from (drop i (elements_of node)) env))
 after_call (call.FirstMethod hint) node held env = then_value (after_first (hint_in hint) held.value env)
 after_call call.SecondMethod node held env = then_value (method_result (throw NoPrimitiveValue env))
 after_call call.NumberOfPrimitive node held env = then_value number_of_primitive

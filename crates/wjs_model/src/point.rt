@@ -118,6 +118,8 @@ pub enum ExprPoint {
 pub enum StmtPoint {
     /// The statement of this number comes next.
     BlockStatement(u32),
+    /// The expression of a block's statement, which has no frame of its own; the statement of this number comes next.
+    BlockValue(u32),
     /// The initialiser of this number, of a `var` statement or of a `for`'s `var`s.
     VariableValue(u32),
     ExprValue,
@@ -167,6 +169,9 @@ pub enum CallPoint {
     /// The element of this number comes next.
     ProgramElement(u32),
     BodyElement(u32),
+    /// The expression of an element, which has no frame of its own; the element of this number comes next.
+    ProgramValue(u32),
+    BodyValue(u32),
     /// The first of an object's two methods that give a primitive.
     FirstMethod(Hint),
     SecondMethod,
