@@ -22,3 +22,4 @@ pub mod Works
 pub mod Depths
 pub mod Moving
 pub mod Resetting
+pub mod Several

@@ -144,7 +144,7 @@ closes_are os y = closes_on os y (is_some y.parent) refl
 pub written_more : (w : WorldId) (rows : List (Slot × Row)) (i : ℕ) (e : Slot × Row) (F G Z : State plain) → i < length rows → e ≡ get_or rows i e → G ≡ cond e.1.written (after_write F w e.0 (now_of e.1)) F → written_rows w (drop i rows) F ≡ Z → written_rows w (drop (i + 1) rows) G ≡ Z
 written_more w rows i e F G Z l is h k = ap (written_rows w (drop (i + 1) rows)) h ∙ ap (λ ss. written_rows w ss F) (ap (λ d. d ∷ drop (i + 1) rows) is ∙ sym (drop_more rows i e l)) ∙ k
 
-write_places : (F : State plain) (w : WorldId) (s : Slot) (c : Option Value) (v : WorldId) → place_of (after_write F w s c) v ≡ place_of F v
+pub write_places : (F : State plain) (w : WorldId) (s : Slot) (c : Option Value) (v : WorldId) → place_of (after_write F w s c) v ≡ place_of F v
 unfolding after_write
 write_places F w s c v = place_each (write_at F w s c) (write_id F w s c) F v
 

@@ -12,3 +12,4 @@ pub mod Least
 pub mod Moves
 pub mod Marks
 pub mod Reset
+pub mod Several

@@ -17,11 +17,11 @@ ghost use Rattle.wjs_base.specs.declared.values.Slot.{Slot};
 use crate::compact::ShortContent;
 use crate::maps::{ObjectSet, Row};
 use crate::touched::Touched;
-use crate::values::{content_with, held, set_value, with_entry, with_row};
+use crate::values::{content_with, held, set_value, set_values, with_entry, with_row};
 use std::alloc::Global;
 use std::marker::Model;
 use std::sync::ledger::Ledger;
-use wjs_base::{Content, Name, ObjId, OutOfMemory, Slot, WorldId};
+use wjs_base::{Content, Name, ObjId, OutOfMemory, Slot, Value, WorldId};
 use wjs_rows::Steps;
 use wjs_slots::{Table, least_slot};
 
@@ -99,6 +99,7 @@ impl Layer {
     ghost use Rattle.wjs_layers.specs.Look.{first_row_of};
     ghost use Rattle.wjs_layers.specs.Shorts.{row_read, row_written};
     ghost use Rattle.wjs_layers.specs.Moves.{cleared};
+    ghost use Rattle.wjs_layers.specs.Several.{first_rows};
     ghost use Rattle.wjs_layers.specs.Marks.{reads_in, writes_in, has_written};
     ghost use Rattle.std.specs.Option.{is_none};
 
@@ -290,6 +291,23 @@ impl Layer {
     {
         match &mut self.kept {
             Kept::First(values) => set_value(values, slot, content, steps),
+            Kept::Under(_, _) => unreachable!(),
+        }
+    }
+
+    /// Sets slots of an object of the first world, one after another.
+    #[inline(always)]
+    pub fn set_rows_first<L: Ledger>(
+        &mut self,
+        object: ObjId,
+        rows: &[(Name, Value)],
+        steps: &mut Steps<L>,
+    ) -> Result<(), OutOfMemory>
+        requires { self.old.above ≡ None }
+        ensures ok { OnOk result (self.new ≡ record self.old { rows = first_rows object rows.now self.old.rows }) }
+    {
+        match &mut self.kept {
+            Kept::First(values) => set_values(values, object, rows, steps),
             Kept::Under(_, _) => unreachable!(),
         }
     }

@@ -3,13 +3,14 @@ ghost use Rattle.std.specs.Prelude.{◌≡◌, ◌+◌, ◌*◌, ◌<◌, ◌≤
 ghost use Rattle.wjs_layers.specs.Reset.{has_child, after_reset};
 ghost use Rattle.std.specs.Option.{option_map};
 ghost use Rattle.wjs_store.specs.Naming.{plain};
-ghost use Rattle.wjs_store.specs.State.{World, find_world, parent_of, content_at, put, next_id, after_read, after_write, after_sprout, after_list, after_commit, at_world, clear_marks, close_in, fault_in, slots_at};
+ghost use Rattle.wjs_store.specs.State.{World, find_world, parent_of, content_at, put, next_id, after_read, after_write, after_sprout, after_list, after_commit, at_world, clear_marks, close_in, fault_in, slots_at, write_all};
 ghost use Rattle.std.specs.Prelude.{None};
 ghost use Rattle.std.specs.FinMap as map;
 ghost use Rattle.wjs_store.specs.State.{State};
 ghost use Rattle.wjs_layers.specs.Sparse.{place_of};
 ghost use Rattle.wjs_layers.specs.Moves.{handed_rows, ReadsAgree, written_rows, closed_all};
 ghost use Rattle.wjs_layers.specs.Sparse.{AreKept, after_reads, now_of};
+ghost use Rattle.wjs_store.specs.Meaning.{entries_of};
 ghost use Rattle.wjs_store.specs.Shown.{content_of};
 ghost use Rattle.wjs_base.specs.declared.values.Slot.{Slot};
 ghost use Rattle.wjs_layers.specs.declared.layer.Layer.{Layer};
@@ -17,6 +18,7 @@ ghost use Rattle.wjs_layers.specs.Cursor.{IsNextSlot, lesser_of, with_present};
 ghost use Rattle.wjs_layers.specs.Work.{row_slots};
 ghost use Rattle.wjs_layers.specs.Look.{IsUntouched, Looked, read_after, first_row_of};
 ghost use Rattle.wjs_layers.specs.Keyed.{rewritten};
+ghost use Rattle.wjs_layers.specs.Several.{first_rows};
 ghost use Rattle.wjs_layers.specs.Shorts.{row_read, row_written};
 ghost use Rattle.wjs_layers.specs.Sparse.{IsSparse, IsAt, StandFor, full_of, depth_of};
 
@@ -24,7 +26,7 @@ use crate::layer::{Layer, Look, Spot, close_all, close_layer, hand_reads, look_p
 use crate::maps::{Row, SlotSet};
 use std::alloc::Global;
 use std::sync::ledger::Ledger;
-use wjs_base::{Content, ObjId, OutOfMemory, Slot, WorldId};
+use wjs_base::{Content, Name, ObjId, OutOfMemory, Slot, Value, WorldId};
 use wjs_rows::Steps;
 
 /// What a slot holds in a world: what the nearest row upward says, and nothing past a closed object.
@@ -283,6 +285,65 @@ fn write_unseen<L: Ledger>(
 {
     let read = read_before(layers, world, slot, steps);
     put_written(layers, world, slot, read, content, steps)
+}
+
+/// Sets slots of an object in a world, one after another.
+#[inline(always)]
+pub fn write_on<L: Ledger>(
+    layers: &mut [Layer],
+    world: Spot,
+    object: ObjId,
+    rows: &[(Name, Value)],
+    steps: &mut Steps<L>,
+) -> Result<(), OutOfMemory>
+    requires sparse { IsSparse layers.old }
+    requires there { IsAt layers.old world }
+    ensures after { OnOk result (StandFor layers.new (write_all world.world (entries_of object rows.now) (full_of layers.old))) }
+{
+    match layers[world.place].above() {
+        None => write_first_on(layers, world, object, rows, steps),
+        Some(_) => write_each_on(layers, world, object, rows, steps),
+    }
+}
+
+/// Sets slots of an object in the first world.
+#[inline(always)]
+fn write_first_on<L: Ledger>(
+    layers: &mut [Layer],
+    world: Spot,
+    object: ObjId,
+    rows: &[(Name, Value)],
+    steps: &mut Steps<L>,
+) -> Result<(), OutOfMemory>
+    requires there { world.place < length layers.old }
+    requires first { IfSome (slice_get layers.old world.place) (λ (r : Layer). r.above ≡ None) }
+    ensures ok { OnOk result (IfSome (slice_get layers.old world.place) (λ (r : Layer). layers.new ≡ slice_set layers.old world.place (record r { rows = first_rows object rows.now r.rows }))) }
+{
+    let layer = &mut layers[world.place];
+    layer.set_rows_first(object, rows, steps)
+}
+
+/// `write_on` by one `write` after another.
+#[inline(never)]
+fn write_each_on<L: Ledger>(
+    layers: &mut [Layer],
+    world: Spot,
+    object: ObjId,
+    rows: &[(Name, Value)],
+    steps: &mut Steps<L>,
+) -> Result<(), OutOfMemory>
+    requires sparse { IsSparse layers.old }
+    requires there { IsAt layers.old world }
+    ensures after { OnOk result (StandFor layers.new (write_all world.world (entries_of object rows.now) (full_of layers.old))) }
+{
+    for row in rows {
+        let slot = Slot {
+            object,
+            name: row.0,
+        };
+        write(layers, world, slot, Content::Present(row.1), steps)?;
+    }
+    Ok(())
 }
 
 /// Puts a child of a world last. It has no rows: it holds what its parent holds.

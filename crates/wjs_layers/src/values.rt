@@ -4,6 +4,7 @@ ghost use Rattle.std.specs.Option.{option_map, option_and_then, option_copied};
 ghost use Rattle.wjs_store.specs.State.{put};
 ghost use Rattle.wjs_store.specs.Shown.{content_of};
 ghost use Rattle.wjs_layers.specs.Look.{first_row_of};
+ghost use Rattle.wjs_layers.specs.Several.{first_rows};
 ghost use Rattle.wjs_layers.specs.Shorts.{content_in, row_first, at_first};
 ghost use Rattle.wjs_layers.specs.Sparse.{now_of};
 ghost use Rattle.wjs_layers.specs.Keyed.{entry_by, rows_by};
@@ -12,7 +13,7 @@ use crate::compact::{Mark, ShortContent};
 use crate::maps::Row;
 use crate::short::short_value;
 use std::sync::ledger::Ledger;
-use wjs_base::{Content, OutOfMemory, Slot};
+use wjs_base::{Content, Name, ObjId, OutOfMemory, Slot, Value};
 use wjs_rows::Steps;
 use wjs_slots::Table;
 
@@ -83,4 +84,24 @@ pub fn set_value<L: Ledger>(
         Content::Absent => values.remove(slot, steps),
         Content::Present(value) => values.set(slot, short_value(value, Mark::Read), steps),
     }
+}
+
+/// Sets slots of an object of the first world, one after another.
+pub fn set_values<L: Ledger>(
+    values: &mut Table<ShortContent>,
+    object: ObjId,
+    rows: &[(Name, Value)],
+    steps: &mut Steps<L>,
+) -> Result<(), OutOfMemory>
+    ensures { OnOk result (rows_by at_first values.new ≡ first_rows object rows.now (rows_by at_first values.old)) }
+{
+    values.reserve(object, rows.len())?;
+    for row in rows {
+        let slot = Slot {
+            object,
+            name: row.0,
+        };
+        set_value(values, slot, Content::Present(row.1), steps)?;
+    }
+    Ok(())
 }

@@ -51,6 +51,13 @@ impl<V: Copy> RowsByName<V> {
         self.kept.get(name)
     }
 
+    /// Takes room for so many rows where there are none, if they are to stand in a list.
+    pub fn reserve(&mut self, count: usize, alloc: Global) -> Result<(), OutOfMemory>
+        ensures { self.new ≡ self.old }
+    {
+        self.kept.reserve(count, alloc)
+    }
+
     /// Puts a value at a name, and says whether the name is new. After a refusal all is as it was.
     #[inline(always)]
     pub fn set(&mut self, name: Name, value: V, alloc: Global) -> Result<bool, OutOfMemory>

@@ -26,6 +26,9 @@ const LONGEST_LIST: usize = 256;
 /// For how many rows a list has room first, as an object gets its fifth, or its fourth where a name isn't tiny.
 const FIRST_ROWS: usize = 6;
 
+/// Up to how many rows stand in the object's place.
+const ROWS_IN_PLACE: usize = 4;
+
 /// Rows in the order of their names. Up to three stand in the object's place itself, and four where their names are tiny, as the
 /// scope and the arguments of a short call have them. Those of an object with more stand elsewhere: each object takes the room of
 /// the largest form.
@@ -59,6 +62,23 @@ impl<V: Copy> Kept<V> {
             Kept::Four(four) => four.get(name),
             Kept::Few(few) => few::get(few, name),
             Kept::Many(many) => many.get(name),
+        }
+    }
+
+    /// Takes room for so many rows where there are none, if they are to stand in a list.
+    pub(crate) fn reserve(&mut self, count: usize, alloc: Global) -> Result<(), OutOfMemory>
+        ensures { rows_of self.new ≡ rows_of self.old }
+    {
+        if count <= ROWS_IN_PLACE || count > LONGEST_LIST {
+            return Ok(());
+        }
+        match self {
+            Kept::Zero => {
+                let few = Vec::with_capacity(alloc, count.max(FIRST_ROWS))?;
+                *self = Kept::Few(few);
+                Ok(())
+            }
+            _ => Ok(()),
         }
     }
 
@@ -128,12 +148,37 @@ impl<V: Copy> Kept<V> {
         ensures added { IfOk result (λ added. added ≡ not (is_some (find name_cmp name (rows_of self.old)))) }
         ensures err { OnErr result (rows_of self.new ≡ rows_of self.old) }
     {
+        if self.has_room(name) {
+            return self.add_listed(name, value);
+        }
         match self.with(name, value) {
             Some(short) => {
                 *self = kept_of(short);
                 Ok(true)
             }
             None => self.add_fourth(name, value, alloc),
+        }
+    }
+
+    /// Whether the rows stand in a list that can have one more of this name.
+    #[inline(always)]
+    fn has_room(&self, name: Name) -> bool {
+        match self {
+            Kept::Few(few) => few.len() < LONGEST_LIST && ShortName::new(name).is_some(),
+            _ => false,
+        }
+    }
+
+    /// `add` in a list.
+    fn add_listed(&mut self, name: Name, value: V) -> Result<bool, OutOfMemory>
+        requires { IsInOrder name_cmp (rows_of self.old) }
+        ensures ok { OnOk result (rows_of self.new ≡ put name_cmp name value (rows_of self.old)) }
+        ensures added { IfOk result (λ added. added ≡ not (is_some (find name_cmp name (rows_of self.old)))) }
+        ensures err { OnErr result (rows_of self.new ≡ rows_of self.old) }
+    {
+        match self {
+            Kept::Few(few) => few::set(few, name, value),
+            _ => Err(OutOfMemory),
         }
     }
 

@@ -13,3 +13,4 @@ pub mod Touching
 pub mod Handing
 pub mod Passing
 pub mod Renewing
+pub mod Several

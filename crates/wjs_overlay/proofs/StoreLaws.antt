@@ -92,7 +92,7 @@ ids_list F w o = ids_each (λ x. cond (same_world x.id w) (list_in o x) x) (λ x
 pub ids_at : (w : WorldId) (f : World plain → World plain) → ((x : World plain) → (f x).id ≡ x.id) → (F : State plain) → ids_of (at_world w f F) ≡ ids_of F
 ids_at w f h F = ids_each (λ x. cond (same_world x.id w) (f x) x) (at_id w f h) F
 
-ids_all : (w : WorldId) (es : List (Slot × Option Value)) (F : State plain) → ids_of (write_all w es F) ≡ ids_of F
+pub ids_all : (w : WorldId) (es : List (Slot × Option Value)) (F : State plain) → ids_of (write_all w es F) ≡ ids_of F
 ids_all w [] F = refl
 ids_all w (e ∷ es) F = ids_all w es (after_write F w e.0 e.1) ∙ ids_write F w e.0 e.1
 

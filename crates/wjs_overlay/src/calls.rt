@@ -3,7 +3,8 @@ ghost use Rattle.std.specs.Prelude.{◌≡◌, ◌+◌, ◌*◌, ◌≤◌, true
 ghost use Rattle.wjs_layers.specs.Reset.{has_child, after_reset};
 ghost use Rattle.wjs_layers.specs.declared.layer.Layer.{Layer};
 ghost use Rattle.wjs_layers.specs.Look.{IsUntouched};
-ghost use Rattle.wjs_store.specs.State.{parent_of, content_at, slots_at, verdict_at, after_read, after_write, after_list, after_commit};
+ghost use Rattle.wjs_store.specs.State.{parent_of, content_at, slots_at, verdict_at, after_read, after_write, after_list, after_commit, write_all};
+ghost use Rattle.wjs_store.specs.Meaning.{entries_of};
 ghost use Rattle.wjs_store.specs.Shown.{content_of, slots_of, verdict_of};
 ghost use Rattle.wjs_layers.specs.Sparse.{IsSparse, IsAt, StandFor, full_of, depth_of};
 ghost use Rattle.wjs_base.specs.declared.values.Slot.{Slot};
@@ -14,7 +15,7 @@ ghost use Rattle.wjs_layers.specs.Work.{rows_of, closed_of, rows_above};
 use crate::check::fault;
 use std::alloc::Global;
 use std::sync::ledger::{Blank, Ledger};
-use wjs_base::{Content, Names, ObjId, OutOfMemory, Slot};
+use wjs_base::{Content, Name, Names, ObjId, OutOfMemory, Slot, Value};
 use wjs_layers::{Layer, Spot, layers};
 use wjs_rows::Steps;
 use wjs_store::Verdict;
@@ -75,6 +76,23 @@ pub fn write<L: Ledger>(
     ensures steps { steps.new ≤ steps.old + (2 * depth_of (full_of layers.old.items) world.world + 3) }
 {
     layers::write(layers.as_mut_slice(), world, slot, content, steps)
+}
+
+/// Writes slots of an object in a world, one after another.
+#[inline(always)]
+pub fn write_rows<L: Ledger>(
+    layers: &mut Vec<Layer>,
+    world: Spot,
+    object: ObjId,
+    rows: &[(Name, Value)],
+    steps: &mut Steps<L>,
+) -> Result<(), OutOfMemory>
+    requires sparse { IsSparse layers.old.items }
+    requires there { IsAt layers.old.items world }
+    ensures after { OnOk result (StandFor layers.new.items (write_all world.world (entries_of object rows.now) (full_of layers.old.items))) }
+    ensures len { length layers.new.items ≡ length layers.old.items }
+{
+    layers::write_on(layers.as_mut_slice(), world, object, rows, steps)
 }
 
 /// The names of slots.

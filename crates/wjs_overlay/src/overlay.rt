@@ -11,7 +11,7 @@ use crate::{calls, marks, uncounted};
 use std::alloc::Global;
 use std::marker::Brand;
 use std::sync::ledger::{Blank, Ledger};
-use wjs_base::{Content, Names, ObjId, OutOfMemory, Slot, WorldId};
+use wjs_base::{Content, Name, Names, ObjId, OutOfMemory, Slot, Value, WorldId};
 use wjs_layers::{Layer, Spot, layers};
 use wjs_rows::Steps;
 use wjs_store::{Counts, Verdict, WorldStore};
@@ -73,7 +73,7 @@ impl Overlay {
     ghost use Rattle.wjs_base.specs.declared.ids.WorldId.{WorldId};
     ghost use Rattle.wjs_overlay.specs.Covers.{covers};
     ghost use Rattle.wjs_store.specs.Fixed.{fixed, begun, fresh};
-    ghost use Rattle.wjs_store.specs.Meaning.{Answers, worlds};
+    ghost use Rattle.wjs_store.specs.Meaning.{Answers, AnswersAll, entries_of, writes_of, worlds};
     ghost use Rattle.wjs_store.specs.State.{has_world, read, write, list, sprout, commit, found, wrote, listed, sprouted, committed};
     ghost use Rattle.wjs_store.specs.Shown.{content_of, slots_of, verdict_of};
     ghost use Rattle.wjs_layers.specs.Sparse.{IsAt, full_of, place_of, depth_of};
@@ -309,6 +309,29 @@ impl Overlay {
         Ok(())
     }
 
+    /// `write_rows`, with its steps.
+    #[inline(always)]
+    pub(crate) fn write_rows_counted<L: Ledger>(
+        &mut self,
+        world: WorldId,
+        object: ObjId,
+        rows: &[(Name, Value)],
+        steps: &mut Steps<L>,
+    ) -> Result<(), OutOfMemory>
+        requires { IsTrue (has_world (worlds (⟦<Overlay as WorldStore>⟧.meaning self.old)) world) }
+        ensures answers { AnswersAll (⟦<Overlay as WorldStore>⟧.meaning self.old) (writes_of world (entries_of object rows.now)) result (⟦<Overlay as WorldStore>⟧.meaning self.new) }
+    {
+        if self.spent {
+            return Err(OutOfMemory);
+        }
+        let at = self.spot(world);
+        self.spent = true;
+        reach(&mut self.bounds, at.place, object.serial)?;
+        calls::write_rows(&mut self.layers, at, object, rows, steps)?;
+        self.spent = false;
+        Ok(())
+    }
+
     /// `list`, with its steps.
     pub(crate) fn list_counted<L: Ledger>(
         &mut self,
@@ -463,6 +486,16 @@ impl WorldStore for Overlay {
     #[inline(always)]
     fn write(&mut self, world: WorldId, slot: Slot, content: Content) -> Result<(), OutOfMemory> {
         uncounted::write_uncounted::<Brand>(self, world, slot, content, Blank::new(1))
+    }
+
+    #[inline(always)]
+    fn write_rows(
+        &mut self,
+        world: WorldId,
+        object: ObjId,
+        rows: &[(Name, Value)],
+    ) -> Result<(), OutOfMemory> {
+        uncounted::write_rows_uncounted::<Brand>(self, world, object, rows, Blank::new(1))
     }
 
     fn list(&mut self, world: WorldId, object: ObjId) -> Result<Names, OutOfMemory> {

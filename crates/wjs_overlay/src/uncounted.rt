@@ -1,12 +1,12 @@
 //! The calls of the store of sparse worlds whose steps nobody counts.
 ghost use Rattle.std.specs.Prelude.{◌≡◌, ◌<◌, IsTrue, IfSome, Ok};
-ghost use Rattle.wjs_store.specs.Meaning.{Answers, worlds};
+ghost use Rattle.wjs_store.specs.Meaning.{Answers, AnswersAll, entries_of, writes_of, worlds};
 ghost use Rattle.wjs_store.specs.State.{has_world, read, write, list, sprout, commit, found, wrote, listed, sprouted, committed};
 ghost use Rattle.wjs_store.specs.Shown.{content_of, slots_of, verdict_of};
 
 use crate::overlay::Overlay;
 use std::sync::ledger::{Blank, Ledger};
-use wjs_base::{Content, Names, ObjId, OutOfMemory, Slot, WorldId};
+use wjs_base::{Content, Name, Names, ObjId, OutOfMemory, Slot, Value, WorldId};
 use wjs_rows::Steps;
 use wjs_store::{Verdict, WorldStore};
 
@@ -66,6 +66,25 @@ pub fn write_uncounted<L: Ledger>(
 {
     let mut steps = Steps::<L>::new(blank);
     store.write_counted(world, slot, content, &mut steps)
+}
+
+/// `write_rows`, whose steps nobody counts.
+#[inline(never)]
+pub fn write_rows_uncounted<L: Ledger>(
+    store: &mut Overlay,
+    world: WorldId,
+    object: ObjId,
+    rows: &[(Name, Value)],
+    blank: Blank,
+) -> Result<(), OutOfMemory>
+    requires name { blank.name ≡ L.name }
+    requires parts { blank.parts ≡ L.parts }
+    requires some { 0 < blank.parts }
+    requires there { IsTrue (has_world (worlds (⟦<Overlay as WorldStore>⟧.meaning store.old)) world) }
+    ensures { AnswersAll (⟦<Overlay as WorldStore>⟧.meaning store.old) (writes_of world (entries_of object rows.now)) result (⟦<Overlay as WorldStore>⟧.meaning store.new) }
+{
+    let mut steps = Steps::<L>::new(blank);
+    store.write_rows_counted(world, object, rows, &mut steps)
 }
 
 /// `list`, whose steps nobody counts.

@@ -105,6 +105,26 @@ impl<V: Copy> Parts<V> {
         }
     }
 
+    /// Makes an object near where it can be, and takes room for so many rows of it where it has none, if they are to stand in
+    /// a list.
+    pub(crate) fn reserve(
+        &mut self,
+        object: ObjId,
+        count: usize,
+        start: Start,
+    ) -> Result<(), OutOfMemory>
+        ensures { self.new ≡ self.old }
+    {
+        self.reach(object, start)?;
+        match self.near.place(object) {
+            Some(place) => {
+                let names = &mut self.near.objects[place];
+                names.reserve(count, self.alloc)
+            }
+            None => Ok(()),
+        }
+    }
+
     /// Takes the row at a slot out, and says whether there was one. After a refusal all is as it was.
     pub(crate) fn remove(&mut self, slot: Slot) -> Result<bool, OutOfMemory>
         ensures removed { OnOk result (self.new ≡ map.remove self.old slot) }

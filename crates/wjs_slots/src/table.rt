@@ -91,6 +91,13 @@ impl<V: Copy> Table<V> {
         Ok(())
     }
 
+    /// Takes room for so many rows of an object that has none yet, if they are to stand in a list. It takes no step.
+    pub fn reserve(&mut self, object: ObjId, count: usize) -> Result<(), OutOfMemory>
+        ensures { self.new ≡ self.old }
+    {
+        self.parts.reserve(object, count, Start::First)
+    }
+
     /// Takes the row at a slot out, if there is one. After a refusal the table is as it was.
     #[inline(never)]
     pub fn remove<L: Ledger>(&mut self, slot: Slot, steps: &mut Steps<L>) -> Result<(), OutOfMemory>

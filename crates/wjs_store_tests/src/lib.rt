@@ -4,4 +4,6 @@
 #[cfg(test)]
 mod looks;
 #[cfg(test)]
+mod rows;
+#[cfg(test)]
 mod stores;
