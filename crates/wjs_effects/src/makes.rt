@@ -12,10 +12,10 @@ ghost use Rattle.wjs_effects.specs.Making.{made_in, HasMade};
 
 use crate::effect::Made;
 use crate::pieces::added;
-use wjs_frames::{Part, operand_of};
+use wjs_frames::{Part, node_at, operand_of};
 use wjs_heap_steps::peek_operand;
 use wjs_model::{Config, Frame};
-use wjs_quick::{entered_at, is_hopeless, node_at, value_at};
+use wjs_quick::{entered_at, is_hopeless, value_at};
 use wjs_store::WorldStore;
 use wjs_tree::{BinaryOperator, Node, NodeId};
 

@@ -11,11 +11,12 @@ ghost use Rattle.wjs_quick.specs.Coming.{YieldsWith};
 ghost use Rattle.wjs_effects.specs.Making.{spelled, spelled_if, joined, made_in, HasIf, HasValues, IsShort, HasPieces, HasMade};
 
 use crate::effect::{Made, Pieces};
-use wjs_base::{LONGEST_TEXT, Value};
+use wjs_base::Value;
 use wjs_model::Config;
 use wjs_quick::operated;
 use wjs_step_common::{are_primitives, is_object, is_text, most_units};
 use wjs_store::WorldStore;
+use wjs_texts::LONGEST_TEXT;
 use wjs_tree::BinaryOperator;
 
 /// The sum of a value and another behind it.
