@@ -16,11 +16,15 @@ use Rattle.wjs_meaning.specs.Errors.{error_of}
 use Rattle.wjs_meaning.specs.Properties.{put}
 use Rattle.wjs_model.specs.declared.config.Config.{Config}
 use Rattle.wjs_model.specs.declared.frame.Activation.{Activation as Frame}
+use Rattle.wjs_model.specs.declared.frame.Reference.{Reference}
+use Rattle.wjs_model.specs.Contents.{reference_in}
 use Rattle.wjs_frames.specs.Doing.{Does, DoesFirst}
 use Rattle.wjs_frames.specs.Following.{Follows, Later}
 use Rattle.wjs_frames.specs.Parts.{env_in}
-use Rattle.wjs_heap_steps.proofs.Composing.{does_map}
+use Rattle.wjs_heap_steps.proofs.Composing.{does_map, does_with}
+use Rattle.wjs_effects.specs.declared.effect.Made.{Made}
 use Rattle.wjs_effects.specs.Effects.{put_ended, stored}
+use Rattle.wjs_effects.specs.Making.{made_in}
 
 -- a store to a member of a primitive does nothing
 pub stored_stays : (t : Table) (base : Numbered) (name : Text) (v : Value) (env : Env) (e : Completion) (go : Completion → Act) → ((o : ObjId) → base ≡ values.Object o → ⊥) → stored (Member (value_in t base) name) v env e go ≡ go e
@@ -35,6 +39,11 @@ module _ {S : Type 0} (meaning : S → Meaning) where
   -- deeds that go on, and then an end
   pub carry_first : (deeds : Table → Act → Act) (e : Table → Completion) (old new : Config S) → DoesFirst meaning deeds old new → Does meaning (λ t go. deeds t (go (e t))) e old new
   carry_first deeds e old new d = record { by = λ go later r h. d.by (go (e later.heap.texts)) later r h }
+
+  -- a value is made and stored, and then an end
+  pub carry_made : (f : Frame) (q : Reference) (m : Made) (end : Table → Value → Completion) (v : Numbered) (last : Table → Completion) (old mid new : Config S) → Does meaning (λ t go. go (made_in t m)) (λ t. value_in t v) old mid → Later meaning old mid → Does meaning (λ t. stored (reference_in t q) (value_in t v) (env_in meaning mid t f) (end t (value_in t v))) last mid new
+      → Does meaning (λ t. stored (reference_in t q) (made_in t m) (env_in meaning old t f) (end t (made_in t m))) last old new
+  carry_made f q m end v last old mid new d l s = does_with meaning f (λ t. made_in t m) (λ t. value_in t v) (λ t x env go. stored (reference_in t q) x env (end t x) go) last old mid new d l s
 
   -- a put, and then what its answer leads to
   module _ (o : ObjId) (name : Table → Text) (v : Table → Value) (f : Frame) (e : Table → Completion) (old mid : Config S) where

@@ -1,5 +1,5 @@
 -- Values and stores of references (ECMA-262, 3rd edition, section 8.7) within nested deeds.
-use Rattle.std.proofs.Common.{Bool, true, false, Option, Some, None, length}
+use Rattle.std.proofs.Common.{◌≡◌, ℕ, ◌≤◌, Bool, true, false, Option, Some, None, length, refl, arith}
 use Rattle.wjs_base.specs.declared.ids.ObjId.{ObjId}
 use Rattle.wjs_base.specs.Text.{Table}
 use Rattle.wjs_by_content.specs.declared.answers.PutAnswer.{PutAnswer}
@@ -9,19 +9,19 @@ use Rattle.wjs_by_content.specs.Objects.{fixed}
 use Rattle.wjs_by_content.specs.Values.{Text, Value, Undefined, Null, Boolean, Number, String, Object, whole, same_text, value_or_undefined}
 use Rattle.wjs_meaning.specs.Builtins.{class_prototype}
 use Rattle.wjs_meaning.specs.Trees.{Place}
-use Rattle.wjs_meaning.specs.Deeds.{Env, Reference, Local, Global, Member, Completion, Gives, Returns, Throws, Act, Ret, Sub, Do, Read, Write, then_value}
+use Rattle.wjs_meaning.specs.Deeds.{Env, Reference, Local, Global, Member, Goal, AtExpr, St, Outcome, Ends, Spent, Completion, Gives, Throws, Act, Ret, Eval, Sub, Do, Read, Write, interp, then_do, then_value}
 use Rattle.wjs_meaning.specs.Properties.{get_value, put}
+use Rattle.wjs_meaning.specs.Programs.{eval}
 use Rattle.wjs_meaning.specs.References.{reference_at, value_of, member_value, defined_value, store, after_put}
-use Rattle.wjs_model.specs.Contents.{completion_in, reference_in}
+use Rattle.wjs_meaning.specs.Statements.{expr_done, return_value}
+use Rattle.wjs_model.specs.Contents.{completion_in}
 use Rattle.wjs_model.specs.Operands.{evaluated, defined_or_thrown}
 use Rattle.wjs_frames.specs.Shortening.{Shortens}
 use Rattle.wjs_frames.proofs.Shorter.{shorten_same, shorten_trans, shorten_ret, shorten_do, shorten_deed, shorten_plan}
 use Rattle.wjs_quick.proofs.MemberLines.{plan_after}
 use Rattle.wjs_effects.specs.declared.effect.Effect.{Effect}
-use Rattle.wjs_effects.specs.declared.effect.Effect.TheVariants.{Ends, Stores}
 use Rattle.wjs_effects.specs.declared.effect.Effect.TheVariants as effects
-use Rattle.wjs_effects.specs.Effects.{put_ended, stored, given_in, carried}
-use Rattle.wjs_effects.specs.Making.{made_in}
+use Rattle.wjs_effects.specs.Effects.{put_ended, stored, carried}
 
 -- ---- values
 
@@ -90,36 +90,22 @@ module _ (v : Value) (env : Env) (e : Completion) (go : Completion → Act) wher
   store_shortens (Member (Number x) name) = shorten_ret e go
   store_shortens (Member (String t) name) = shorten_ret e go
 
--- ---- what follows a store
+-- ---- what follows what is left of a statement
 
-module _ (v : Value) (env : Env) (e d : Completion) (one two : Completion → Act) (ended : Shortens (one e) (two d)) (thrown : (x : Value) → Shortens (one (Throws x)) (two (Throws x))) where
-  written_goes : (scope : ObjId) (name : Text) (o : Option Value) → Shortens (elim o [ Some old ↦ one e | None ↦ Do (Write env.world (slot scope name) (Some v)) (λ done. one e) ]) (elim o [ Some old ↦ two d | None ↦ Do (Write env.world (slot scope name) (Some v)) (λ done. two d) ])
-  written_goes scope name (Some old) = ended
-  written_goes scope name None = shorten_do _ _ _ (λ done. ended)
+-- outcomes are followed by the same
+outcome_goes : (o : Outcome) (one two : Completion → St → ℕ → Outcome) → ((c : Completion) (st : St) (n : ℕ) → one c st n ≡ two c st n) → then_do o one ≡ then_do o two
+outcome_goes (Ends c st n) one two h = h c st n
+outcome_goes (Spent st) one two h = refl
 
-  answer_goes : (a : PutAnswer) → Shortens (put_ended env e one a) (put_ended env d two a)
-  answer_goes Done = ended
-  answer_goes Ignored = ended
-  answer_goes BadLength = shorten_do _ _ _ (λ o. thrown (Object o))
+least : (n : ℕ) → n ≤ n
+least n = omega arith
 
-  put_goes : (o : ObjId) (name : Text) → Shortens (put o name v env (put_ended env e one)) (put o name v env (put_ended env d two))
-  put_goes o name = shorten_do _ _ _ (λ arena. plan_after _ _ _ _ answer_goes)
+-- a goal within nested deeds
+nested_goes : (goal : Goal) (env : Env) (k one two : Completion → Act) → ((e : Completion) → Shortens (one e) (two e)) → Shortens (Sub (Eval goal env k) one) (Sub (Eval goal env k) two)
+nested_goes goal env k one two h = record { same = λ st n. outcome_goes (interp eval (Eval goal env k) st n) _ _ (λ c st n. (h c).same st n); fewer = λ st c. least _ }
 
-  pub stored_goes : (r : Reference) → Shortens (stored r v env e one) (stored r v env d two)
-  stored_goes (Local scope name) = shorten_do _ _ _ (λ arena. written_goes scope name (fixed arena scope name))
-  stored_goes (Global name) = put_goes env.global name
-  stored_goes (Member (Object o) name) = put_goes o name
-  stored_goes (Member Undefined name) = ended
-  stored_goes (Member Null name) = ended
-  stored_goes (Member (Boolean b) name) = ended
-  stored_goes (Member (Number x) name) = ended
-  stored_goes (Member (String t) name) = ended
-
--- what follows an effect
-pub carried_goes : (t : Table) (x : Effect) (env : Env) (one two : Completion → Act) → ((e : Completion) → Shortens (one e) (two e)) → Shortens (carried t x env one) (carried t x env two)
-carried_goes t (Ends e) env one two h = h (completion_in t e)
-carried_goes t (effects.Returns m) env one two h = h (Returns (made_in t m))
-carried_goes t (Stores s) env one two h =
-    let v = made_in t s.made in
-    let e = given_in t v s.given in
-    stored_goes v env e e one two (h e) (λ y. h (Throws y)) (reference_in t s.reference)
+pub carried_goes : (x : Effect) (t : Table) (env : Env) (one two : Completion → Act) → ((e : Completion) → Shortens (one e) (two e)) → Shortens (carried x t env one) (carried x t env two)
+carried_goes (effects.Ends e) t env one two h = h (completion_in t e)
+carried_goes (effects.Evaluates e) t env one two h = nested_goes (AtExpr e.0) env (then_value expr_done) one two h
+carried_goes (effects.Returns e) t env one two h = nested_goes (AtExpr e.0) env (then_value return_value) one two h
+carried_goes (effects.Initialises node name e) t env one two h = nested_goes (AtExpr e.0) env _ one two h

@@ -1,25 +1,32 @@
--- What effects do, and that they name what is there.
-use Rattle.std.specs.Prelude.{[], None, Some}
-use Rattle.wjs_base.specs.Text.{Table}
+-- What is left of deeds, and that it names what is there.
+use Rattle.std.specs.Prelude.{◌<◌, ◌∷◌, [], length, None, Some}
+use Rattle.wjs_base.specs.declared.values.Value.TheVariants as values
+use Rattle.wjs_base.specs.declared.number.Whole.{Whole}
+use Rattle.wjs_base.specs.Text.{Table, Has}
+use Rattle.wjs_scope.specs.Places.{placed_names}
 use Rattle.wjs_by_content.specs.declared.answers.PutAnswer.{PutAnswer}
 use Rattle.wjs_by_content.specs.declared.answers.PutAnswer.TheVariants.{Done, Ignored, BadLength}
 use Rattle.wjs_by_content.specs.Names.{slot}
 use Rattle.wjs_by_content.specs.Objects.{fixed}
-use Rattle.wjs_by_content.specs.Tables.{value_in}
-use Rattle.wjs_by_content.specs.Values.{Value, Object}
+use Rattle.wjs_by_content.specs.Tables.{text_in}
+use Rattle.wjs_by_content.specs.Values.{Value, Number, Object}
 use Rattle.wjs_meaning.specs.declared.trouble.Trouble.TheVariants.{InvalidArrayLength}
-use Rattle.wjs_meaning.specs.Deeds.{Env, Reference, Local, Global, Member, Completion, Gives, Normal, Returns, Throws, Act, Do, Look, Write, Create}
+use Rattle.wjs_meaning.specs.Deeds.{Env, Reference, Local, Global, Member, Completion, Gives, Normal, Returns, Throws, Act, Eval, Sub, Do, Look, Write, Create, AtExpr, then_value}
 use Rattle.wjs_meaning.specs.Errors.{error_of}
 use Rattle.wjs_meaning.specs.Properties.{put}
+use Rattle.wjs_meaning.specs.Statements.{expr_done, return_value, vars_from}
 use Rattle.wjs_model.specs.declared.config.Config.{Config}
+use Rattle.wjs_model.specs.declared.frame.Activation.{Activation as Frame}
+use Rattle.wjs_model.specs.declared.frame.Completion.{Completion as NumberedCompletion}
+use Rattle.wjs_model.specs.declared.frame.Reference.{Reference as NumberedReference}
 use Rattle.wjs_model.specs.Contents.{completion_in, reference_in}
-use Rattle.wjs_model.specs.Soundness.{HasCompletion, HasReference, HasValue}
+use Rattle.wjs_model.specs.Soundness.{HasCompletion}
+use Rattle.wjs_frames.specs.Parts.{node_among}
 use Rattle.wjs_effects.specs.declared.effect.Effect.{Effect}
 use Rattle.wjs_effects.specs.declared.effect.Effect.TheVariants as effects
-use Rattle.wjs_effects.specs.declared.effect.Given.{Given}
-use Rattle.wjs_effects.specs.declared.effect.Given.TheVariants.{Nothing, Stored, Other}
-use Rattle.wjs_effects.specs.declared.effect.Store.{Store}
-use Rattle.wjs_effects.specs.Making.{made_in, HasMade}
+use Rattle.wjs_effects.specs.declared.effect.Made.{Made}
+use Rattle.wjs_effects.specs.declared.effect.Made.TheVariants.{There}
+use Rattle.wjs_effects.specs.Making.{made_in}
 
 -- what follows a [[Put]] (ECMA-262, 3rd edition, section 8.7.2): a completion, or what is thrown
 abbrev pub put_ended : Env → Completion → (Completion → Act) → PutAnswer → Act
@@ -37,28 +44,42 @@ stored (Global name) v env e go = put env.global name v env (put_ended env e go)
 stored (Member (Object o) name) v env e go = put o name v env (put_ended env e go)
 stored (Member base name) v env e go = go e
 
--- what is given after a store of a value: nothing, that value, or another
-abbrev pub given_in : Table → Value → Given → Completion
-given_in t v Nothing = Normal
-given_in t v Stored = Gives v
-given_in t v (Other w) = Gives (value_in t w)
+-- ---- what is left of deeds, with what follows their completion
 
--- an effect, and what follows its completion
-abbrev pub carried : Table → Effect → Env → (Completion → Act) → Act
-carried t (effects.Ends e) env go = go (completion_in t e)
-carried t (effects.Returns m) env go = go (Returns (made_in t m))
-carried t (effects.Stores s) env go = stored (reference_in t s.reference) (made_in t s.made) env (given_in t (made_in t s.made) s.given) go
+abbrev pub Rest : Type 0
+Rest = Table → Env → (Completion → Act) → Act
 
--- what an effect names is there
-abbrev pub HasGiven : {S : Type 0} → Config S → Given → Type 0
-HasGiven c Nothing = Unit {0}
-HasGiven c Stored = Unit {0}
-HasGiven c (Other v) = HasValue c v
+-- an end
+abbrev pub ends : NumberedCompletion → Rest
+ends e = λ t env go. go (completion_in t e)
 
-abbrev pub HasStore : {S : Type 0} → Config S → Store → Type 0
-HasStore c s = HasReference c s.reference × (HasMade c s.made × HasGiven c s.given)
+-- the end of a `return` of a value
+abbrev pub returns : Made → Rest
+returns m = λ t env go. go (Returns (made_in t m))
 
-abbrev pub HasEffect : {S : Type 0} → Config S → Effect → Type 0
-HasEffect c (effects.Ends e) = HasCompletion c e
-HasEffect c (effects.Returns m) = HasMade c m
-HasEffect c (effects.Stores s) = HasStore c s
+-- a store, and then an end: of an assignment the value, of `++` and `--` a number, of a `var` none
+abbrev pub stores : NumberedReference → Made → (Table → Completion) → Rest
+stores q m end = λ t env go. stored (reference_in t q) (made_in t m) env (end t) go
+
+abbrev pub assigns : NumberedReference → Made → Rest
+assigns q m = stores q m (λ t. Gives (made_in t m))
+
+abbrev pub updates : NumberedReference → Whole → Whole → Rest
+updates q next told = stores q (There (values.Number next)) (λ t. Gives (Number told.number))
+
+abbrev pub initialises : NumberedReference → Made → Rest
+initialises q m = stores q m (λ t. Normal)
+
+-- what a statement does last
+abbrev pub carried : Effect → Rest
+carried (effects.Ends e) = ends e
+carried (effects.Evaluates e) = λ t env go. Sub (Eval (AtExpr e.0) env (then_value expr_done)) go
+carried (effects.Returns e) = λ t env go. Sub (Eval (AtExpr e.0) env (then_value return_value)) go
+carried (effects.Initialises node name e) = λ t env go. Sub (vars_from node.0 0 ((text_in t name, Some e.0) ∷ []) env) go
+
+-- what it names is there
+abbrev pub HasEffect : {S : Type 0} → Config S → Frame → Effect → Type 0
+HasEffect c f (effects.Ends e) = HasCompletion c e
+HasEffect c f (effects.Evaluates e) = Unit {0}
+HasEffect c f (effects.Returns e) = Unit {0}
+HasEffect c f (effects.Initialises node name e) = (0 < length (placed_names (node_among c.units.items f.tree node))) × Has c.heap.texts name

@@ -1,4 +1,5 @@
 pub mod Effects
+pub mod Forms
 pub mod Leaving
 pub mod Making
 pub mod Proceeding

@@ -1,87 +1,201 @@
-//! What is left of an expression or a statement: a value that is made, and a store (ECMA-262, 3rd edition, section 8.7.2).
-ghost use Rattle.std.specs.Prelude.{◌≡◌, IfOk, OnOk};
-ghost use Rattle.wjs_base.specs.Text.{Table};
-ghost use Rattle.wjs_by_content.specs.Tables.{name_in, value_in};
+//! What is left of a statement is done: an expression is evaluated, a value is returned or stored (ECMA-262, 3rd edition, sections 8.7.2,
+//! 12.2, 12.4 and 12.9).
+ghost use Rattle.std.specs.Prelude.{◌≡◌, ◌<◌, ◌∷◌, [], Some, length, IfNone, IfOk, IfSome, OnOk};
+ghost use Rattle.wjs_base.specs.Text.{Table, Has};
+ghost use Rattle.wjs_scope.specs.Places.{placed_names};
+ghost use Rattle.wjs_by_content.specs.Tables.{name_in, text_in, value_in};
 ghost use Rattle.wjs_by_content.specs.Values.{Object};
-ghost use Rattle.wjs_meaning.specs.Deeds.{Member};
+ghost use Rattle.wjs_meaning.specs.Deeds.{Eval, Ret, Member, AtExpr, then_value};
+ghost use Rattle.wjs_meaning.specs.Statements as line;
 ghost use Rattle.wjs_model.specs.Contents.{completion_in, reference_in};
 ghost use Rattle.wjs_model.specs.Soundness.{Base, IsThere, HasCompletion, HasName, HasObject, HasReference, HasValue};
 ghost use Rattle.wjs_frames.specs.Doing.{Does};
 ghost use Rattle.wjs_frames.specs.Following.{Later};
-ghost use Rattle.wjs_frames.specs.Parts.{env_in};
-ghost use Rattle.wjs_effects.specs.Effects.{carried, given_in, stored, HasEffect, HasGiven, HasStore};
+ghost use Rattle.wjs_frames.specs.Parts.{env_in, node_among};
+ghost use Rattle.wjs_effects.specs.Effects.{assigns, carried, initialises, stored, HasEffect};
+ghost use Rattle.wjs_effects.specs.Leaving.{ActEnds, Ends};
+ghost use Rattle.wjs_effects.specs.Making.{HasMade};
 
-use crate::effect::{Effect, Given, Store};
+use crate::effect::{Effect, Made};
 use crate::joins::settle;
-use wjs_base::{Name, ObjId, OutOfMemory, Value};
+use crate::makes::made_at;
+use crate::stores::expression_done;
+use wjs_base::{Name, ObjId, OutOfMemory, TextId, Value};
 use wjs_by_content::PutAnswer;
-use wjs_heap_steps::{create_error, put, store_local};
+use wjs_frames::place_at;
+use wjs_heap_steps::{create_error, put, reference_at, store_local};
 use wjs_meaning::Trouble;
 use wjs_model::{Completion, Config, Frame, Reference};
 use wjs_store::WorldStore;
+use wjs_tree::NodeId;
 
-/// Does what is left, and gives the end: that of the effect, or what its store throws.
+/// How a statement ends of which this is left, with so many steps; None where a part has no value at once, and then nothing has changed.
 pub(crate) fn carry_out<S: WorldStore>(
     config: &mut Config<S>,
     frame: &Frame,
     effect: Effect,
-) -> Result<Completion, OutOfMemory>
+    left: u64,
+) -> Result<Option<Completion>, OutOfMemory>
     requires base { Base S.meaning config.old }
     requires there { IsThere S.meaning config.old frame.now }
-    requires effect { HasEffect config.old effect }
-    ensures does { IfOk result (λ e. Does S.meaning (λ t. carried t effect (env_in S.meaning config.old t frame.now))
-        (λ t. completion_in t e) config.old config.new) }
+    requires effect { HasEffect config.old frame.now effect }
+    ensures same { IfOk result (λ done. IfNone done (config.new ≡ config.old)) }
+    ensures does { IfOk result (λ done. IfSome done (λ e. Ends S.meaning (carried effect) e config.old frame.now left config.new)) }
     ensures later { OnOk result (Later S.meaning config.old config.new) }
-    ensures found { IfOk result (λ e. HasCompletion config.new e) }
+    ensures found { IfOk result (λ done. IfSome done (λ e. HasCompletion config.new e)) }
 {
     match effect {
-        Effect::Ends(completion) => Ok(completion),
-        Effect::Returns(made) => {
-            let value = settle(config, made)?;
-            Ok(Completion::Returns(value))
+        Effect::Ends(completion) => {
+            config.left = left;
+            Ok(Some(completion))
         }
-        Effect::Stores(store) => carry_store(config, frame, store),
+        Effect::Evaluates(e) => evaluate(config, frame, e, left),
+        Effect::Returns(e) => give_back(config, frame, e, left),
+        Effect::Initialises(node, name, e) => initialise(config, frame, node, name, e, left),
     }
 }
 
-/// A store, whose value is made first where that is still to be done.
-fn carry_store<S: WorldStore>(
+/// An expression that stores, whose value is dropped.
+#[inline(always)]
+fn evaluate<S: WorldStore>(
     config: &mut Config<S>,
     frame: &Frame,
-    store: Store,
-) -> Result<Completion, OutOfMemory>
+    e: NodeId,
+    left: u64,
+) -> Result<Option<Completion>, OutOfMemory>
     requires base { Base S.meaning config.old }
     requires there { IsThere S.meaning config.old frame.now }
-    requires store { HasStore config.old store }
-    ensures does { IfOk result (λ e. Does S.meaning (λ t. carried t (Effect.Stores store) (env_in S.meaning config.old t frame.now))
-        (λ t. completion_in t e) config.old config.new) }
+    ensures same { IfOk result (λ done. IfNone done (config.new ≡ config.old)) }
+    ensures does { IfOk result (λ done. IfSome done (λ d. ActEnds S.meaning (λ t env. Eval (AtExpr e.0) env (then_value line.expr_done))
+        d config.old frame.now left config.new)) }
     ensures later { OnOk result (Later S.meaning config.old config.new) }
-    ensures found { IfOk result (λ e. HasCompletion config.new e) }
+    ensures found { IfOk result (λ done. IfSome done (λ d. HasCompletion config.new d)) }
 {
-    let value = settle(config, store.made)?;
-    let completion = end_of(config, store.given, value);
-    store_and_end(config, frame, store.reference, value, completion)
+    let done = expression_done(config, frame, e, left)?;
+    match done {
+        Some(completion) => Ok(Some(dropped(config, completion))),
+        None => Ok(None),
+    }
 }
 
-/// The end of a store of this value, where it throws nothing.
+/// How a statement ends whose expression ended so: its value is dropped.
 #[inline(always)]
-fn end_of<S: WorldStore>(config: &Config<S>, given: Given, value: Value) -> Completion
-    requires given { HasGiven config.now given }
-    requires value { HasValue config.now value }
-    ensures end { (t : Table) → completion_in t result ≡ given_in t (value_in t value) given }
+fn dropped<S: WorldStore>(config: &Config<S>, completion: Completion) -> Completion
+    requires { HasCompletion config.now completion }
+    ensures is { (t : Table) → then_value line.expr_done (completion_in t completion) ≡ Ret (completion_in t result) }
     ensures found { HasCompletion config.now result }
 {
     let _config = config;
-    match given {
-        Given::Nothing => Completion::Normal,
-        Given::Stored => Completion::Gives(value),
-        Given::Other(other) => Completion::Gives(other),
+    match completion {
+        Completion::Gives(_) => Completion::Normal,
+        _ => completion,
     }
+}
+
+/// The value of a `return`, which is made first where that is still to be done.
+fn give_back<S: WorldStore>(
+    config: &mut Config<S>,
+    frame: &Frame,
+    e: NodeId,
+    left: u64,
+) -> Result<Option<Completion>, OutOfMemory>
+    requires base { Base S.meaning config.old }
+    requires there { IsThere S.meaning config.old frame.now }
+    ensures same { IfOk result (λ done. IfNone done (config.new ≡ config.old)) }
+    ensures does { IfOk result (λ done. IfSome done (λ d. ActEnds S.meaning (λ t env. Eval (AtExpr e.0) env (then_value line.return_value))
+        d config.old frame.now left config.new)) }
+    ensures later { OnOk result (Later S.meaning config.old config.new) }
+    ensures found { IfOk result (λ done. IfSome done (λ d. HasCompletion config.new d)) }
+{
+    let mut left = left;
+    match made_at(config, frame, e, &mut left) {
+        Some(made) => {
+            config.left = left;
+            let value = settle(config, made)?;
+            Ok(Some(Completion::Returns(value)))
+        }
+        None => Ok(None),
+    }
+}
+
+/// The variable of a `var`, by its name, gets the value of its initialiser.
+fn initialise<S: WorldStore>(
+    config: &mut Config<S>,
+    frame: &Frame,
+    node: NodeId,
+    name: TextId,
+    e: NodeId,
+    left: u64,
+) -> Result<Option<Completion>, OutOfMemory>
+    requires base { Base S.meaning config.old }
+    requires there { IsThere S.meaning config.old frame.now }
+    requires named { 0 < length (placed_names (node_among config.old.units.items frame.now.tree node)) }
+    requires name { Has config.old.heap.texts name }
+    ensures same { IfOk result (λ done. IfNone done (config.new ≡ config.old)) }
+    ensures does { IfOk result (λ done. IfSome done (λ d. ActEnds S.meaning (λ t env. line.vars_from node.0 0 ((text_in t name, Some e.0) ∷ []) env)
+        d config.old frame.now left config.new)) }
+    ensures later { OnOk result (Later S.meaning config.old config.new) }
+    ensures found { IfOk result (λ done. IfSome done (λ d. HasCompletion config.new d)) }
+{
+    let mut left = left;
+    match made_at(config, frame, e, &mut left) {
+        Some(made) => {
+            let place = place_at(config, frame, node, 0);
+            let reference = reference_at(config, frame, place, name);
+            let completion = store_unheard(config, frame, reference, made, left)?;
+            Ok(Some(completion))
+        }
+        None => Ok(None),
+    }
+}
+
+/// A value is made where that is still to be done, and stored; nothing is given.
+#[inline(always)]
+fn store_unheard<S: WorldStore>(
+    config: &mut Config<S>,
+    frame: &Frame,
+    reference: Reference,
+    made: Made,
+    left: u64,
+) -> Result<Completion, OutOfMemory>
+    requires base { Base S.meaning config.old }
+    requires there { IsThere S.meaning config.old frame.now }
+    requires reference { HasReference config.old reference }
+    requires made { HasMade config.old made }
+    ensures does { IfOk result (λ e. Ends S.meaning (initialises reference made) e config.old frame.now left config.new) }
+    ensures later { OnOk result (Later S.meaning config.old config.new) }
+    ensures found { IfOk result (λ e. HasCompletion config.new e) }
+{
+    config.left = left;
+    let value = settle(config, made)?;
+    store_and_end(config, frame, reference, value, Completion::Normal)
+}
+
+/// A value is made where that is still to be done, stored and given.
+#[inline(always)]
+pub(crate) fn store_made<S: WorldStore>(
+    config: &mut Config<S>,
+    frame: &Frame,
+    reference: Reference,
+    made: Made,
+    left: u64,
+) -> Result<Completion, OutOfMemory>
+    requires base { Base S.meaning config.old }
+    requires there { IsThere S.meaning config.old frame.now }
+    requires reference { HasReference config.old reference }
+    requires made { HasMade config.old made }
+    ensures does { IfOk result (λ e. Ends S.meaning (assigns reference made) e config.old frame.now left config.new) }
+    ensures later { OnOk result (Later S.meaning config.old config.new) }
+    ensures found { IfOk result (λ e. HasCompletion config.new e) }
+{
+    config.left = left;
+    let value = settle(config, made)?;
+    store_and_end(config, frame, reference, value, Completion::Gives(value))
 }
 
 /// A store to a reference.
 #[inline(always)]
-fn store_and_end<S: WorldStore>(
+pub(crate) fn store_and_end<S: WorldStore>(
     config: &mut Config<S>,
     frame: &Frame,
     reference: Reference,
@@ -143,7 +257,6 @@ fn member_and_end<S: WorldStore>(
 }
 
 /// A put, after which a bad length of an Array is thrown.
-#[inline(always)]
 fn put_and_end<S: WorldStore>(
     config: &mut Config<S>,
     frame: &Frame,

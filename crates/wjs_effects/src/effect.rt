@@ -1,7 +1,8 @@
-//! What is left of an expression or of a statement once its parts were evaluated.
+//! What is left of a statement, and values that may be texts still to be made.
 
-use wjs_base::Value;
-use wjs_model::{Completion, Reference};
+use wjs_base::{TextId, Value};
+use wjs_model::Completion;
+use wjs_tree::NodeId;
 
 /// Primitives whose texts are joined, one behind the other.
 #[derive(Clone, Copy)]
@@ -19,27 +20,13 @@ pub(crate) enum Made {
     Joined(Pieces),
 }
 
-/// What is given after a store: nothing, the value that was stored, or another.
-#[derive(Clone, Copy)]
-pub(crate) enum Given {
-    Nothing,
-    Stored,
-    Other(Value),
-}
-
-/// A store of a value to a reference, and what is given then.
-#[derive(Clone, Copy)]
-pub(crate) struct Store {
-    pub reference: Reference,
-    pub made: Made,
-    pub given: Given,
-}
-
-/// An end, or what is done before it: a value is made and returned, or is stored.
+/// How a statement ends, or what it does last: nothing of that is evaluated yet.
 #[derive(Clone, Copy)]
 pub(crate) enum Effect {
     Ends(Completion),
-    Returns(Made),
-    /// The end is another where the store throws.
-    Stores(Store),
+    /// An expression statement's expression.
+    Evaluates(NodeId),
+    Returns(NodeId),
+    /// The `var` at a node, whose one variable has a name and an initialiser.
+    Initialises(NodeId, TextId, NodeId),
 }

@@ -8,9 +8,8 @@ ghost use Rattle.wjs_frames.specs.Following.{Later};
 ghost use Rattle.wjs_frames.specs.Parts.{env_in};
 
 use crate::carries::carry_out;
-use crate::effect::Effect;
 use crate::statements::effect_at;
-use crate::stores::store_at;
+use crate::stores::expression_done;
 use crate::targets::target_at;
 use wjs_base::OutOfMemory;
 use wjs_model::{Completion, Config, Frame, Reference};
@@ -58,15 +57,8 @@ pub fn expression_at_once<S: WorldStore>(
     ensures later { OnOk result (Later S.meaning config.old config.new) }
     ensures found { IfOk result (λ done. IfSome done (λ e. HasCompletion config.new e)) }
 {
-    let mut left = config.left;
-    match store_at(config, frame, node, &mut left) {
-        Some(store) => {
-            config.left = left;
-            let completion = carry_out(config, frame, Effect::Stores(store))?;
-            Ok(Some(completion))
-        }
-        None => Ok(None),
-    }
+    let left = config.left;
+    expression_done(config, frame, node, left)
 }
 
 /// How a statement ends that is done at once: `;`, an expression that stores, a `var` of one variable, `return`, `break`, `continue`,
@@ -87,11 +79,7 @@ pub fn statement_at_once<S: WorldStore>(
 {
     let mut left = config.left;
     match effect_at(config, frame, node, HEIGHT, &mut left) {
-        Some(effect) => {
-            config.left = left;
-            let completion = carry_out(config, frame, effect)?;
-            Ok(Some(completion))
-        }
+        Some(effect) => carry_out(config, frame, effect, left),
         None => Ok(None),
     }
 }

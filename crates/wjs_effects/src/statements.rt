@@ -1,10 +1,10 @@
-//! Statements (ECMA-262, 3rd edition, section 12) that come to at most one store, where each of their parts has its value at once.
+//! Statements (ECMA-262, 3rd edition, section 12) that come to an end or to one last deed, where each test before it has its value at once.
 //!
 //! Each function takes the steps of what it enters from those that are left, also where it then answers None.
-ghost use Rattle.std.specs.Prelude.{◌≡◌, ◌<◌, ◌∷◌, [], Some, All, length, map, slice_get, IfSome};
+ghost use Rattle.std.specs.Prelude.{◌≡◌, ℕ, Some, All, length, map, slice_get, IfSome};
 ghost use Rattle.wjs_base.specs.Text.{Has};
 ghost use Rattle.wjs_scope.specs.Places.{declarator_names, placed_names};
-ghost use Rattle.wjs_by_content.specs.Tables.{text_in, value_in};
+ghost use Rattle.wjs_by_content.specs.Tables.{value_in};
 ghost use Rattle.wjs_meaning.specs.Deeds.{Eval, AtExpr, AtStmt, then_value};
 ghost use Rattle.wjs_meaning.specs.Programs.{entry};
 ghost use Rattle.wjs_meaning.specs.Reading.{number, numbers, variable_in};
@@ -12,16 +12,13 @@ ghost use Rattle.wjs_meaning.specs.Statements as line;
 ghost use Rattle.wjs_meaning.specs.Trees as trees;
 ghost use Rattle.wjs_model.specs.Soundness.{Base, IsThere, HasValue};
 ghost use Rattle.wjs_frames.specs.Parts.{node_among};
-ghost use Rattle.wjs_effects.specs.Effects.{HasEffect};
+ghost use Rattle.wjs_effects.specs.Effects.{carried, HasEffect};
 ghost use Rattle.wjs_effects.specs.Leaving.{GoalLeaves, ActLeaves};
 
-use crate::effect::{Effect, Given, Store};
+use crate::effect::Effect;
 use crate::hopes::are_hopeless;
-use crate::makes::made_at;
-use crate::stores::store_at;
-use wjs_base::{TextId, Value};
-use wjs_frames::{node_at, place_at};
-use wjs_heap_steps::reference_at;
+use wjs_base::Value;
+use wjs_frames::node_at;
 use wjs_model::{Completion, Config, Frame};
 use wjs_quick::value_at;
 use wjs_step_common::to_boolean;
@@ -39,8 +36,8 @@ pub(crate) fn effect_at<S: WorldStore>(
 ) -> Option<Effect>
     requires base { Base S.meaning config.now }
     requires there { IsThere S.meaning config.now frame.now }
-    ensures leaves { IfSome result (λ x. GoalLeaves S.meaning (AtStmt node.0) x config.now frame.now steps.old steps.new) }
-    ensures found { IfSome result (λ x. HasEffect config.now x) }
+    ensures leaves { IfSome result (λ x. GoalLeaves S.meaning (AtStmt node.0) (carried x) config.now frame.now steps.old steps.new) }
+    ensures found { IfSome result (λ x. HasEffect config.now frame.now x) }
 {
     if height == 0 {
         return None;
@@ -63,48 +60,24 @@ fn form<S: WorldStore>(
 ) -> Option<Effect>
     requires base { Base S.meaning config.now }
     requires there { IsThere S.meaning config.now frame.now }
-    ensures leaves { IfSome result (λ x. ActLeaves S.meaning (λ t env. entry (AtStmt node.0) env) x config.now frame.now steps.old steps.new) }
-    ensures found { IfSome result (λ x. HasEffect config.now x) }
+    ensures leaves { IfSome result (λ x. ActLeaves S.meaning (λ t env. entry (AtStmt node.0) env) (carried x) config.now frame.now steps.old steps.new) }
+    ensures found { IfSome result (λ x. HasEffect config.now frame.now x) }
 {
     match node_at(config, frame, node) {
-        Some(Node::Expr(e, _)) => expression(config, frame, *e, steps),
+        Some(Node::Expr(e, _)) => Some(Effect::Evaluates(*e)),
         Some(Node::If(test, yes, no)) => {
             condition(config, frame, *test, *yes, *no, height, steps)
         }
         Some(Node::Block(statements)) => {
             block(config, frame, statements.as_slice(), height, steps)
         }
-        Some(Node::Var(variables, _)) => {
-            variable(config, frame, node, variables.as_slice(), steps)
-        }
-        Some(Node::Return(value, _)) => result_of(config, frame, node, *value, steps),
+        Some(Node::Var(variables, _)) => variable(config, frame, node, variables.as_slice()),
+        Some(Node::Return(value, _)) => Some(result_of(config, frame, node, *value)),
         Some(Node::Break(label, _)) => Some(Effect::Ends(Completion::Breaks(*label))),
         Some(Node::Continue(label, _)) => Some(Effect::Ends(Completion::Continues(*label))),
         Some(Node::Empty) => Some(Effect::Ends(Completion::Normal)),
         _ => None,
     }
-}
-
-/// An expression statement (section 12.4): one that stores, whose value is dropped.
-#[inline(always)]
-fn expression<S: WorldStore>(
-    config: &Config<S>,
-    frame: &Frame,
-    e: NodeId,
-    steps: &mut u64,
-) -> Option<Effect>
-    requires base { Base S.meaning config.now }
-    requires there { IsThere S.meaning config.now frame.now }
-    ensures leaves { IfSome result (λ x. ActLeaves S.meaning (λ t env. Eval (AtExpr e.0) env (then_value line.expr_done)) x
-        config.now frame.now steps.old steps.new) }
-    ensures found { IfSome result (λ x. HasEffect config.now x) }
-{
-    let store = store_at(config, frame, e, steps)?;
-    Some(Effect::Stores(Store {
-        reference: store.reference,
-        made: store.made,
-        given: Given::Nothing,
-    }))
 }
 
 /// A block of one statement (section 12.1).
@@ -118,9 +91,9 @@ fn block<S: WorldStore>(
 ) -> Option<Effect>
     requires base { Base S.meaning config.now }
     requires there { IsThere S.meaning config.now frame.now }
-    ensures leaves { IfSome result (λ x. ActLeaves S.meaning (λ t env. line.block_from (numbers statements.now) env) x
+    ensures leaves { IfSome result (λ x. ActLeaves S.meaning (λ t env. line.block_from (numbers statements.now) env) (carried x)
         config.now frame.now steps.old steps.new) }
-    ensures found { IfSome result (λ x. HasEffect config.now x) }
+    ensures found { IfSome result (λ x. HasEffect config.now frame.now x) }
 {
     let statement = only_of(statements)?;
     effect_at(config, frame, statement, height, steps)
@@ -153,9 +126,9 @@ fn condition<S: WorldStore>(
 ) -> Option<Effect>
     requires base { Base S.meaning config.now }
     requires there { IsThere S.meaning config.now frame.now }
-    ensures leaves { IfSome result (λ x. ActLeaves S.meaning (λ t env. Eval (AtExpr test.0) env (then_value (line.if_test yes.0 (number no) env))) x
+    ensures leaves { IfSome result (λ x. ActLeaves S.meaning (λ t env. Eval (AtExpr test.0) env (then_value (line.if_test yes.0 (number no) env))) (carried x)
         config.now frame.now steps.old steps.new) }
-    ensures found { IfSome result (λ x. HasEffect config.now x) }
+    ensures found { IfSome result (λ x. HasEffect config.now frame.now x) }
 {
     if are_hopeless(config, frame, yes, no) {
         return None;
@@ -178,9 +151,9 @@ fn chosen<S: WorldStore>(
     requires base { Base S.meaning config.now }
     requires there { IsThere S.meaning config.now frame.now }
     requires value { HasValue config.now truth }
-    ensures leaves { IfSome result (λ x. ActLeaves S.meaning (λ t env. line.if_test yes.0 (number no) env (value_in t truth)) x
+    ensures leaves { IfSome result (λ x. ActLeaves S.meaning (λ t env. line.if_test yes.0 (number no) env (value_in t truth)) (carried x)
         config.now frame.now steps.old steps.new) }
-    ensures found { IfSome result (λ x. HasEffect config.now x) }
+    ensures found { IfSome result (λ x. HasEffect config.now frame.now x) }
 {
     if to_boolean(config, truth) {
         effect_at(config, frame, yes, height, steps)
@@ -200,8 +173,8 @@ fn otherwise<S: WorldStore>(
 ) -> Option<Effect>
     requires base { Base S.meaning config.now }
     requires there { IsThere S.meaning config.now frame.now }
-    ensures leaves { IfSome result (λ x. ActLeaves S.meaning (λ t env. line.else_of (number no) env) x config.now frame.now steps.old steps.new) }
-    ensures found { IfSome result (λ x. HasEffect config.now x) }
+    ensures leaves { IfSome result (λ x. ActLeaves S.meaning (λ t env. line.else_of (number no) env) (carried x) config.now frame.now steps.old steps.new) }
+    ensures found { IfSome result (λ x. HasEffect config.now frame.now x) }
 {
     match no {
         Some(s) => effect_at(config, frame, s, height, steps),
@@ -216,21 +189,17 @@ fn result_of<S: WorldStore>(
     frame: &Frame,
     node: NodeId,
     value: Option<NodeId>,
-    steps: &mut u64,
-) -> Option<Effect>
-    requires base { Base S.meaning config.now }
-    requires there { IsThere S.meaning config.now frame.now }
-    ensures leaves { IfSome result (λ x. ActLeaves S.meaning (λ t env. line.stmt_of node.0 (trees.Return (number value)) env) x
-        config.now frame.now steps.old steps.new) }
-    ensures found { IfSome result (λ x. HasEffect config.now x) }
+) -> Effect
+    ensures leaves { (left : ℕ) → ActLeaves S.meaning (λ t env. line.stmt_of node.0 (trees.Return (number value)) env) (carried result)
+        config.now frame.now left left }
+    ensures found { HasEffect config.now frame.now result }
 {
+    let _config = config;
+    let _frame = frame;
     let _node = node;
     match value {
-        Some(e) => {
-            let made = made_at(config, frame, e, steps)?;
-            Some(Effect::Returns(made))
-        }
-        None => Some(Effect::Ends(Completion::Returns(Value::Undefined))),
+        Some(e) => Effect::Returns(e),
+        None => Effect::Ends(Completion::Returns(Value::Undefined)),
     }
 }
 
@@ -240,19 +209,18 @@ fn variable<S: WorldStore>(
     frame: &Frame,
     node: NodeId,
     variables: &[Declarator],
-    steps: &mut u64,
 ) -> Option<Effect>
-    requires base { Base S.meaning config.now }
-    requires there { IsThere S.meaning config.now frame.now }
     requires named { placed_names (node_among config.now.units.items frame.now.tree node) ≡ declarator_names variables.now }
     requires texts { All (λ d. Has config.now.heap.texts d.name) variables.now }
-    ensures leaves { IfSome result (λ x. ActLeaves S.meaning (λ t env. line.vars_from node.0 0 (map (variable_in t) variables.now) env) x
-        config.now frame.now steps.old steps.new) }
-    ensures found { IfSome result (λ x. HasEffect config.now x) }
+    ensures leaves { IfSome result (λ x. (left : ℕ) → ActLeaves S.meaning (λ t env. line.vars_from node.0 0 (map (variable_in t) variables.now) env)
+        (carried x) config.now frame.now left left) }
+    ensures found { IfSome result (λ x. HasEffect config.now frame.now x) }
 {
+    let _config = config;
+    let _frame = frame;
     let variable = only_variable(variables)?;
     match variable.value {
-        Some(e) => initialised(config, frame, node, variable.name, e, steps),
+        Some(e) => Some(Effect::Initialises(node, variable.name, e)),
         None => Some(Effect::Ends(Completion::Normal)),
     }
 }
@@ -269,32 +237,4 @@ fn only_variable(variables: &[Declarator]) -> Option<Declarator>
         Some(variable) => Some(*variable),
         None => None,
     }
-}
-
-/// A variable with an initialiser.
-#[inline(always)]
-fn initialised<S: WorldStore>(
-    config: &Config<S>,
-    frame: &Frame,
-    node: NodeId,
-    name: TextId,
-    e: NodeId,
-    steps: &mut u64,
-) -> Option<Effect>
-    requires base { Base S.meaning config.now }
-    requires there { IsThere S.meaning config.now frame.now }
-    requires named { 0 < length (placed_names (node_among config.now.units.items frame.now.tree node)) }
-    requires name { Has config.now.heap.texts name }
-    ensures leaves { IfSome result (λ x. ActLeaves S.meaning (λ t env. line.vars_from node.0 0 ((text_in t name, Some e.0) ∷ []) env) x
-        config.now frame.now steps.old steps.new) }
-    ensures found { IfSome result (λ x. HasEffect config.now x) }
-{
-    let made = made_at(config, frame, e, steps)?;
-    let place = place_at(config, frame, node, 0);
-    let reference = reference_at(config, frame, place, name);
-    Some(Effect::Stores(Store {
-        reference,
-        made,
-        given: Given::Nothing,
-    }))
 }

@@ -13,9 +13,9 @@ ghost use Rattle.wjs_model.specs.Soundness.{Base, IsThere, HasReference, HasValu
 ghost use Rattle.wjs_model.specs.Texts.{KnowsSpelt};
 ghost use Rattle.wjs_model.specs.Waiting.{refer};
 ghost use Rattle.wjs_frames.specs.Shortening.{Shortens};
+ghost use Rattle.wjs_effects.specs.Effects.{ends};
 ghost use Rattle.wjs_effects.specs.Leaving.{GoalLeaves, ActLeaves};
 
-use crate::effect::Effect;
 use wjs_base::Value;
 use wjs_frames::{Part, node_at, operand_of};
 use wjs_heap_steps::{name_of, peek_target};
@@ -26,6 +26,7 @@ use wjs_store::WorldStore;
 use wjs_tree::{Node, NodeId, Spelt};
 
 /// The reference of a target.
+#[inline(always)]
 pub(crate) fn target_at<S: WorldStore>(
     config: &Config<S>,
     frame: &Frame,
@@ -34,7 +35,7 @@ pub(crate) fn target_at<S: WorldStore>(
 ) -> Option<Reference>
     requires base { Base S.meaning config.now }
     requires there { IsThere S.meaning config.now frame.now }
-    ensures leaves { IfSome result (λ r. GoalLeaves S.meaning (AtTarget node.0) (Effect.Ends (Completion.Refers r)) config.now frame.now steps.old steps.new) }
+    ensures leaves { IfSome result (λ r. GoalLeaves S.meaning (AtTarget node.0) (ends (Completion.Refers r)) config.now frame.now steps.old steps.new) }
     ensures found { IfSome result (λ r. HasReference config.now r) }
 {
     if *steps == 0 {
@@ -57,7 +58,7 @@ fn member<S: WorldStore>(
 ) -> Option<Reference>
     requires base { Base S.meaning config.now }
     requires there { IsThere S.meaning config.now frame.now }
-    ensures leaves { IfSome result (λ r. ActLeaves S.meaning (λ t env. entry (AtTarget node.0) env) (Effect.Ends (Completion.Refers r))
+    ensures leaves { IfSome result (λ r. ActLeaves S.meaning (λ t env. entry (AtTarget node.0) env) (ends (Completion.Refers r))
         config.now frame.now steps.old steps.new) }
     ensures found { IfSome result (λ r. HasReference config.now r) }
 {
@@ -81,7 +82,7 @@ fn dot<S: WorldStore>(
     requires there { IsThere S.meaning config.now frame.now }
     requires name { KnowsSpelt config.now.heap.texts name }
     ensures leaves { IfSome result (λ r. ActLeaves S.meaning (λ t env. Eval (AtExpr base.0) env (then_value (line.dot_base (spelt_in t name) env refer)))
-        (Effect.Ends (Completion.Refers r)) config.now frame.now steps.old steps.new) }
+        (ends (Completion.Refers r)) config.now frame.now steps.old steps.new) }
     ensures found { IfSome result (λ r. HasReference config.now r) }
 {
     let object = value_at(config, frame, base, steps)?;
@@ -100,7 +101,7 @@ fn at<S: WorldStore>(
     requires base { Base S.meaning config.now }
     requires there { IsThere S.meaning config.now frame.now }
     ensures leaves { IfSome result (λ r. ActLeaves S.meaning (λ t env. Eval (AtExpr base.0) env (then_value (line.at_base index.0 env refer)))
-        (Effect.Ends (Completion.Refers r)) config.now frame.now steps.old steps.new) }
+        (ends (Completion.Refers r)) config.now frame.now steps.old steps.new) }
     ensures found { IfSome result (λ r. HasReference config.now r) }
 {
     let object = value_at(config, frame, base, steps)?;

@@ -4,7 +4,8 @@ use Rattle.wjs_tree.specs.declared.node.Declarator.{Declarator}
 use Rattle.wjs_base.specs.declared.ids.NodeId.{NodeId}
 use Rattle.wjs_scope.specs.Places.{declarator_names, placed_names}
 use Rattle.wjs_by_content.specs.Tables.{value_in}
-use Rattle.wjs_meaning.specs.Deeds.{Normal, Ret, Eval, AtExpr, AtStmt, then_value, then_normal}
+use Rattle.wjs_base.specs.Text.{Table}
+use Rattle.wjs_meaning.specs.Deeds.{Env, Normal, Act, Ret, Eval, AtExpr, AtStmt, then_value, then_normal}
 use Rattle.wjs_meaning.specs.Programs.{entry}
 use Rattle.wjs_meaning.specs.Reading.{number, numbers, variable_in}
 use Rattle.wjs_meaning.specs.Statements as line
@@ -13,14 +14,16 @@ use Rattle.wjs_model.specs.declared.frame.Completion.TheVariants as completions
 use Rattle.wjs_frames.specs.Parts.{env_in}
 use Rattle.wjs_frames.proofs.Places.{node_known}
 use Rattle.wjs_heap_steps.proofs.Peeking.{if_some}
-use Rattle.wjs_effects.proofs.Leaving.{shorten_as, leaves_value, leaves_entered, leaves_by, leaves_last, leaves_through, leaves_as, leaves_ended}
+use Rattle.wjs_effects.specs.declared.effect.Effect.TheVariants as effects
+use Rattle.wjs_effects.specs.Effects.{carried}
+use Rattle.wjs_effects.proofs.Leaving.{shorten_as, leaves_all, leaves_value, leaves_entered, leaves_by, leaves_last, leaves_through, leaves_as, leaves_ended}
 use Rattle.wjs_effects.proofs.Lines.{stmt_is, label_there, block_is, handed_on, if_yes, if_no}
 use Rattle.wjs_effects.proofs.statements.+forms.Goals as goal
 
 pub effect_at-returns-clause-leaves : goal.effect_at-returns-clause-leaves
 effect_at-returns-clause-leaves g t c =
     let some : 0 < c.args.steps.now = omega (arith, c.if-steps-eq0.false) in
-    if_some _ _ c.form.result (λ x d. leaves_entered g.S.WorldStore.meaning c.args.config.now c.args.frame.now (AtStmt c.args.node.0) x c.args.steps.now c.form.new.steps some d) c.form.ensures.leaves
+    if_some _ _ c.form.result (λ x d. leaves_entered g.S.WorldStore.meaning c.args.config.now c.args.frame.now (AtStmt c.args.node.0) (carried x) c.args.steps.now c.form.new.steps some d) c.form.ensures.leaves
 
 -- ---- by form
 
@@ -30,8 +33,9 @@ form-returns-in-Some-Expr-clause-leaves g t c =
     let now = c.args.config.now in
     let f = c.args.frame.now in
     let s = c.in-Some-Expr in
-    if_some _ _ c.expression.result (λ x d. leaves_as m now f (λ t env. Eval (AtExpr s.e.0) env (then_value line.expr_done)) (λ t env. entry (AtStmt c.args.node.0) env) x c.args.steps.now c.expression.new.steps
-    (λ t more. stmt_is m now f c.args.node _ t (s.ensures ∙ s.field-0-is)) d) c.expression.ensures.leaves
+    let act : Table → Env → Act = λ t env. Eval (AtExpr s.e.0) env (then_value line.expr_done) in
+    leaves_as m now f act (λ t env. entry (AtStmt c.args.node.0) env) (carried (effects.Evaluates s.e)) c.args.steps.now c.args.steps.now
+    (λ t more. stmt_is m now f c.args.node _ t (s.ensures ∙ s.field-0-is)) (leaves_all m now f act c.args.steps.now)
 
 pub form-returns-in-Some-If-clause-leaves : goal.form-returns-in-Some-If-clause-leaves
 form-returns-in-Some-If-clause-leaves g t c =
@@ -39,7 +43,7 @@ form-returns-in-Some-If-clause-leaves g t c =
     let now = c.args.config.now in
     let f = c.args.frame.now in
     let s = c.in-Some-If in
-    if_some _ _ c.condition.result (λ x d. leaves_as m now f (λ t env. Eval (AtExpr s.test.0) env (then_value (line.if_test s.yes.0 (number s.no) env))) (λ t env. entry (AtStmt c.args.node.0) env) x c.args.steps.now c.condition.new.steps
+    if_some _ _ c.condition.result (λ x d. leaves_as m now f (λ t env. Eval (AtExpr s.test.0) env (then_value (line.if_test s.yes.0 (number s.no) env))) (λ t env. entry (AtStmt c.args.node.0) env) (carried x) c.args.steps.now c.condition.new.steps
     (λ t more. stmt_is m now f c.args.node _ t (s.ensures ∙ s.field-0-is)) d) c.condition.ensures.leaves
 
 pub form-returns-in-Some-Block-clause-leaves : goal.form-returns-in-Some-Block-clause-leaves
@@ -48,7 +52,7 @@ form-returns-in-Some-Block-clause-leaves g t c =
     let now = c.args.config.now in
     let f = c.args.frame.now in
     let s = c.in-Some-Block in
-    if_some _ _ c.block.result (λ x d. leaves_as m now f (λ t env. line.block_from (numbers c.as_slice.result.now) env) (λ t env. entry (AtStmt c.args.node.0) env) x c.args.steps.now c.block.new.steps
+    if_some _ _ c.block.result (λ x d. leaves_as m now f (λ t env. line.block_from (numbers c.as_slice.result.now) env) (λ t env. entry (AtStmt c.args.node.0) env) (carried x) c.args.steps.now c.block.new.steps
     (λ t more. stmt_is m now f c.args.node _ t (s.ensures ∙ s.field-0-is) ∙ ap (λ (l : List NodeId). line.block_from (numbers l) (env_in m now t f)) (sym c.as_slice.ensures)) d) c.block.ensures.leaves
 
 pub form-returns-in-Some-Var-clause-leaves : goal.form-returns-in-Some-Var-clause-leaves
@@ -57,8 +61,8 @@ form-returns-in-Some-Var-clause-leaves g t c =
     let now = c.args.config.now in
     let f = c.args.frame.now in
     let s = c.in-Some-Var in
-    if_some _ _ c.variable.result (λ x d. leaves_as m now f (λ t env. line.vars_from c.args.node.0 0 (map (variable_in t) c.as_slice-in-Some-Var.result.now) env) (λ t env. entry (AtStmt c.args.node.0) env) x c.args.steps.now c.variable.new.steps
-    (λ t more. stmt_is m now f c.args.node _ t (s.ensures ∙ s.field-0-is) ∙ ap (λ (l : List Declarator). line.vars_from c.args.node.0 0 (map (variable_in t) l) (env_in m now t f)) (sym c.as_slice-in-Some-Var.ensures)) d) c.variable.ensures.leaves
+    if_some _ _ c.variable.result (λ x d. leaves_as m now f (λ t env. line.vars_from c.args.node.0 0 (map (variable_in t) c.as_slice-in-Some-Var.result.now) env) (λ t env. entry (AtStmt c.args.node.0) env) (carried x) c.args.steps.now c.args.steps.now
+    (λ t more. stmt_is m now f c.args.node _ t (s.ensures ∙ s.field-0-is) ∙ ap (λ (l : List Declarator). line.vars_from c.args.node.0 0 (map (variable_in t) l) (env_in m now t f)) (sym c.as_slice-in-Some-Var.ensures)) (d c.args.steps.now)) c.variable.ensures.leaves
 
 pub form-variable-requires-clause-named : goal.form-variable-requires-clause-named
 form-variable-requires-clause-named g t c = ap placed_names (c.in-Some-Var.ensures ∙ c.in-Some-Var.field-0-is) ∙ ap declarator_names (sym c.as_slice-in-Some-Var.ensures)
@@ -75,8 +79,8 @@ form-returns-in-Some-Return-clause-leaves g t c =
     let now = c.args.config.now in
     let f = c.args.frame.now in
     let s = c.in-Some-Return in
-    if_some _ _ c.result_of.result (λ x d. leaves_as m now f (λ t env. line.stmt_of c.args.node.0 (trees.Return (number s.value)) env) (λ t env. entry (AtStmt c.args.node.0) env) x c.args.steps.now c.result_of.new.steps
-    (λ t more. stmt_is m now f c.args.node _ t (s.ensures ∙ s.field-0-is)) d) c.result_of.ensures.leaves
+    leaves_as m now f (λ t env. line.stmt_of c.args.node.0 (trees.Return (number s.value)) env) (λ t env. entry (AtStmt c.args.node.0) env) (carried c.result_of.result) c.args.steps.now c.args.steps.now
+    (λ t more. stmt_is m now f c.args.node _ t (s.ensures ∙ s.field-0-is)) (c.result_of.ensures.leaves c.args.steps.now)
 
 pub form-returns-in-Some-Break-clause-leaves : goal.form-returns-in-Some-Break-clause-leaves
 form-returns-in-Some-Break-clause-leaves g t c =
@@ -124,7 +128,7 @@ block-returns-clause-leaves g t c =
     let s = c.in_ok-statement.statement in
     let before = c.args.steps.now in
     let after = c.effect_at.new.steps in
-    if_some _ _ c.effect_at.result (λ x d. leaves_as m now f (λ t env. Eval (AtStmt s.0) env (then_normal (Ret Normal))) (λ t env. line.block_from (numbers c.args.statements.now) env) x before after
+    if_some _ _ c.effect_at.result (λ x d. leaves_as m now f (λ t env. Eval (AtStmt s.0) env (then_normal (Ret Normal))) (λ t env. line.block_from (numbers c.args.statements.now) env) (carried x) before after
     (λ t more. block_is c.args.statements.now s (env_in m now t f) c.in_ok-statement.ensures.first c.in_ok-statement.ensures.one)
     (leaves_through m now f (AtStmt s.0) (then_normal (Ret Normal)) x before after handed_on d)) c.effect_at.ensures.leaves
 
@@ -136,7 +140,7 @@ condition-returns-clause-leaves g t c =
     let truth = c.in_ok-truth.truth in
     let before = c.args.steps.now in
     let mid = c.value_at.new.steps in
-    if_some _ _ c.chosen.result (λ x d. leaves_by m now f (AtExpr c.args.test.0) (λ t env. then_value (line.if_test c.args.yes.0 (number c.args.no) env)) (completions.Gives truth) x before mid c.chosen.new.steps (leaves_value m now f (AtExpr c.args.test.0) truth before mid c.in_ok-truth.ensures.does) d) c.chosen.ensures.leaves
+    if_some _ _ c.chosen.result (λ x d. leaves_by m now f (AtExpr c.args.test.0) (λ t env. then_value (line.if_test c.args.yes.0 (number c.args.no) env)) (completions.Gives truth) (carried x) before mid c.chosen.new.steps (leaves_value m now f (AtExpr c.args.test.0) truth before mid c.in_ok-truth.ensures.does) d) c.chosen.ensures.leaves
 
 pub chosen-returns-then-to_boolean-clause-leaves : goal.chosen-returns-then-to_boolean-clause-leaves
 chosen-returns-then-to_boolean-clause-leaves g t c =
@@ -145,16 +149,16 @@ chosen-returns-then-to_boolean-clause-leaves g t c =
     let f = c.args.frame.now in
     let before = c.args.steps.now in
     let after = c.effect_at.new.steps in
-    if_some _ _ c.effect_at.result (λ x d. leaves_as m now f (λ t env. Eval (AtStmt c.args.yes.0) env Ret) (λ t env. line.if_test c.args.yes.0 (number c.args.no) env (value_in t c.args.truth)) x before after
+    if_some _ _ c.effect_at.result (λ x d. leaves_as m now f (λ t env. Eval (AtStmt c.args.yes.0) env Ret) (λ t env. line.if_test c.args.yes.0 (number c.args.no) env (value_in t c.args.truth)) (carried x) before after
     (λ t more. if_yes c.args.yes.0 (number c.args.no) (env_in m now t f) (value_in t c.args.truth) (c.to_boolean.ensures t more ∙ c.if-to_boolean.true))
-    (leaves_last m now f (AtStmt c.args.yes.0) x before after d)) c.effect_at.ensures.leaves
+    (leaves_last m now f (AtStmt c.args.yes.0) (carried x) before after d)) c.effect_at.ensures.leaves
 
 pub chosen-returns-else-to_boolean-clause-leaves : goal.chosen-returns-else-to_boolean-clause-leaves
 chosen-returns-else-to_boolean-clause-leaves g t c =
     let m = g.S.WorldStore.meaning in
     let now = c.args.config.now in
     let f = c.args.frame.now in
-    if_some _ _ c.otherwise.result (λ x d. leaves_as m now f (λ t env. line.else_of (number c.args.no) env) (λ t env. line.if_test c.args.yes.0 (number c.args.no) env (value_in t c.args.truth)) x c.args.steps.now c.otherwise.new.steps
+    if_some _ _ c.otherwise.result (λ x d. leaves_as m now f (λ t env. line.else_of (number c.args.no) env) (λ t env. line.if_test c.args.yes.0 (number c.args.no) env (value_in t c.args.truth)) (carried x) c.args.steps.now c.otherwise.new.steps
     (λ t more. if_no c.args.yes.0 (number c.args.no) (env_in m now t f) (value_in t c.args.truth) (c.to_boolean.ensures t more ∙ c.if-to_boolean.false)) d) c.otherwise.ensures.leaves
 
 pub otherwise-returns-in-Some-clause-leaves : goal.otherwise-returns-in-Some-clause-leaves
@@ -165,8 +169,8 @@ otherwise-returns-in-Some-clause-leaves g t c =
     let s = c.in-Some.s in
     let before = c.args.steps.now in
     let after = c.effect_at.new.steps in
-    if_some _ _ c.effect_at.result (λ x d. leaves_as m now f (λ t env. Eval (AtStmt s.0) env Ret) (λ t env. line.else_of (number c.args.no) env) x before after
-    (λ t more. ap (λ (o : Option NodeId). line.else_of (number o) (env_in m now t f)) c.in-Some.is) (leaves_last m now f (AtStmt s.0) x before after d)) c.effect_at.ensures.leaves
+    if_some _ _ c.effect_at.result (λ x d. leaves_as m now f (λ t env. Eval (AtStmt s.0) env Ret) (λ t env. line.else_of (number c.args.no) env) (carried x) before after
+    (λ t more. ap (λ (o : Option NodeId). line.else_of (number o) (env_in m now t f)) c.in-Some.is) (leaves_last m now f (AtStmt s.0) (carried x) before after d)) c.effect_at.ensures.leaves
 
 pub otherwise-returns-in-None-clause-leaves : goal.otherwise-returns-in-None-clause-leaves
 otherwise-returns-in-None-clause-leaves g t c =

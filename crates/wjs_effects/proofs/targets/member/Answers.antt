@@ -8,7 +8,7 @@ use Rattle.wjs_model.specs.declared.frame.Completion.TheVariants as completions
 use Rattle.wjs_model.specs.Waiting.{refer}
 use Rattle.wjs_frames.proofs.Places.{node_known}
 use Rattle.wjs_heap_steps.proofs.Peeking.{if_some}
-use Rattle.wjs_effects.specs.declared.effect.Effect.TheVariants.{Ends}
+use Rattle.wjs_effects.specs.Effects.{ends}
 use Rattle.wjs_effects.proofs.Leaving.{leaves_as}
 use Rattle.wjs_effects.proofs.Lines.{target_is}
 use Rattle.wjs_effects.proofs.targets.member.Goals as goal
@@ -19,7 +19,7 @@ returns-in-Some-Dot-clause-leaves g c =
     let now = c.args.config.now in
     let f = c.args.frame.now in
     let s = c.in-Some-Dot in
-    if_some _ _ c.dot.result (λ r d. leaves_as m now f (λ t env. Eval (AtExpr s.base.0) env (then_value (line.dot_base (spelt_in t s.name) env refer))) (λ t env. entry (AtTarget c.args.node.0) env) (Ends (completions.Refers r)) c.args.steps.now c.dot.new.steps
+    if_some _ _ c.dot.result (λ r d. leaves_as m now f (λ t env. Eval (AtExpr s.base.0) env (then_value (line.dot_base (spelt_in t s.name) env refer))) (λ t env. entry (AtTarget c.args.node.0) env) (ends (completions.Refers r)) c.args.steps.now c.dot.new.steps
     (λ t more. target_is m now f c.args.node (nodes.Dot s.base s.name) t (s.ensures ∙ s.field-0-is)) d) c.dot.ensures.leaves
 
 pub dot-requires-clause-name : goal.dot-requires-clause-name
@@ -33,5 +33,5 @@ returns-in-Some-At-clause-leaves g c =
     let now = c.args.config.now in
     let f = c.args.frame.now in
     let s = c.in-Some-At in
-    if_some _ _ c.at.result (λ r d. leaves_as m now f (λ t env. Eval (AtExpr s.base.0) env (then_value (line.at_base s.index.0 env refer))) (λ t env. entry (AtTarget c.args.node.0) env) (Ends (completions.Refers r)) c.args.steps.now c.at.new.steps
+    if_some _ _ c.at.result (λ r d. leaves_as m now f (λ t env. Eval (AtExpr s.base.0) env (then_value (line.at_base s.index.0 env refer))) (λ t env. entry (AtTarget c.args.node.0) env) (ends (completions.Refers r)) c.args.steps.now c.at.new.steps
     (λ t more. target_is m now f c.args.node (nodes.At s.base s.index) t (s.ensures ∙ s.field-0-is)) d) c.at.ensures.leaves
