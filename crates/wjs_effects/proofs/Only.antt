@@ -1,5 +1,5 @@
 -- Statements that have one part, an expression: their lines, and that the part stands where the statement does.
-use Rattle.std.proofs.Common.{◌≡◌, ℕ, Some, None, inl, refl, sym, subst}
+use Rattle.std.proofs.Common.{◌≡◌, ℕ, Some, None, inl, refl, sym, ap, subst}
 use Rattle.wjs_base.specs.declared.ids.NodeId.{NodeId}
 use Rattle.wjs_base.specs.Text.{Table}
 use Rattle.wjs_store.specs.Meaning.{Meaning}
@@ -9,22 +9,24 @@ use Rattle.wjs_scope.specs.Nesting.{Around, parts, IsAmong}
 use Rattle.wjs_meaning.specs.Deeds.{Env, Completion as Said, Act, Ret, Eval, AtExpr, then_value}
 use Rattle.wjs_meaning.specs.Reading.{node_in}
 use Rattle.wjs_meaning.specs.Statements.{stmt_of, expr_done}
+use Rattle.wjs_meaning.specs.Trees.{Node as Spoken}
 use Rattle.wjs_model.specs.declared.config.Config.{Config}
 use Rattle.wjs_model.specs.declared.frame.Activation.{Activation as Frame}
 use Rattle.wjs_model.specs.declared.frame.Completion.{Completion}
 use Rattle.wjs_model.specs.declared.frame.Completion.TheVariants as completions
 use Rattle.wjs_model.specs.declared.point.CallPoint.TheVariants as call
 use Rattle.wjs_model.specs.declared.point.StmtPoint.TheVariants as stmt
+use Rattle.wjs_model.specs.declared.point.Point.{Point}
 use Rattle.wjs_model.specs.declared.point.Point.TheVariants as points
 use Rattle.wjs_model.specs.Contents.{Holding, completion_in}
 use Rattle.wjs_model.specs.Soundness.{HasCompletion, IsThere, StandsHere, HasPoint}
-use Rattle.wjs_model.specs.Waiting.{after_stmt, after_dropped}
+use Rattle.wjs_model.specs.Waiting.{after, after_stmt, after_dropped}
 use Rattle.wjs_frames.specs.Parts.{node_among}
 use Rattle.wjs_frames.specs.Shortening.{Shortens}
 use Rattle.wjs_frames.proofs.Parting.{stands_here}
 use Rattle.wjs_frames.proofs.Shorter.{shorten_ended}
 use Rattle.wjs_effects.specs.declared.entries.Only.{Only}
-use Rattle.wjs_effects.specs.Only.{IsOnly, Spares, dropped}
+use Rattle.wjs_effects.specs.Only.{IsOnly, value_point, dropped}
 use Rattle.wjs_effects.proofs.Leaving.{shorten_as}
 
 pub only_line : (t : Table) (here : ℕ) (n : Node) (only : Only) (held : Holding) (env : Env) → IsOnly n only
@@ -58,15 +60,31 @@ only_stands meaning c f s only here h is =
 
 -- ---- without the statement's frame
 
--- the frame of a sequence waits for the value
-pub block_spares : (next : ℕ) → Spares (points.Stmt (stmt.BlockStatement next)) stmt.ExprValue (points.Stmt (stmt.BlockValue next))
-block_spares next = record { line = λ here inner node statement held nothing env. refl; stands = λ units arena tree node scope h. h }
+-- the frame of a sequence does what the statement's would do, and then what it does behind the statement
+pub value_line : (point waits : Point) → value_point point ≡ Some waits → (here : ℕ) (node : Spoken) (held : Holding) (env : Env) → after waits here node held env ≡ after_dropped (after point here node held env)
+value_line (points.Stmt (stmt.BlockStatement next)) waits e here node held env =
+    let same : waits ≡ points.Stmt (stmt.BlockValue next) = cc in
+    ap (λ (p : Point). after p here node held env) same
+value_line (points.Call (call.BodyElement next)) waits e here node held env =
+    let same : waits ≡ points.Call (call.BodyValue next) = cc in
+    ap (λ (p : Point). after p here node held env) same
+value_line (points.Call (call.ProgramElement next)) waits e here node held env =
+    let same : waits ≡ points.Call (call.ProgramValue next) = cc in
+    ap (λ (p : Point). after p here node held env) same
+value_line _ waits e here node held env = absurd (cc)
 
-pub body_spares : (next : ℕ) → Spares (points.Call (call.BodyElement next)) stmt.ExprValue (points.Call (call.BodyValue next))
-body_spares next = record { line = λ here inner node statement held nothing env. refl; stands = λ units arena tree node scope h. h }
-
-pub program_spares : (next : ℕ) → Spares (points.Call (call.ProgramElement next)) stmt.ExprValue (points.Call (call.ProgramValue next))
-program_spares next = record { line = λ here inner node statement held nothing env. refl; stands = λ units arena tree node scope h. h }
+-- and names nothing more
+pub value_there : {S : Type 0} (c : Config S) (f : Frame) (point waits : Point) → value_point point ≡ Some waits → HasPoint c f point → HasPoint c f waits
+value_there c f (points.Stmt (stmt.BlockStatement next)) waits e h =
+    let same : points.Stmt (stmt.BlockValue next) ≡ waits = cc in
+    subst (HasPoint c f) same tt
+value_there c f (points.Call (call.BodyElement next)) waits e h =
+    let same : points.Call (call.BodyValue next) ≡ waits = cc in
+    subst (HasPoint c f) same h
+value_there c f (points.Call (call.ProgramElement next)) waits e h =
+    let same : points.Call (call.ProgramValue next) ≡ waits = cc in
+    subst (HasPoint c f) same tt
+value_there c f _ waits e h = absurd (cc)
 
 -- how a statement ends by its expression
 dropped_is : (t : Table) (e : Completion) → then_value expr_done (completion_in t e) ≡ Ret (completion_in t (dropped e))

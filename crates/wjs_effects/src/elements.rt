@@ -1,4 +1,5 @@
 //! The elements of blocks, functions and programs.
+ghost use Rattle.std.specs.Prelude.{◌≡◌, slice_get};
 ghost use Rattle.wjs_base.specs.Text.{Table};
 ghost use Rattle.wjs_meaning.specs.Reading.{numbers, node_in};
 ghost use Rattle.wjs_meaning.specs.Trees.{elements_of};
@@ -59,9 +60,16 @@ fn program_element_at<S: WorldStore>(config: &Config<S>, frame: &Frame, at: u32)
     }
 }
 
-/// The element of a number of a list; None past the last.
+/// The element of a number of a list, behind which the others come; None past the last.
 fn element_of(elements: &[NodeId], at: u32) -> Option<NodeId>
     ensures { NextIs (numbers elements.now) at result }
 {
-    elements.get(at as usize).copied()
+    listed(elements, at)
+}
+
+/// What stands at a number of a list; None past its end.
+fn listed(list: &[NodeId], at: u32) -> Option<NodeId>
+    ensures { result ≡ slice_get list.now at }
+{
+    list.get(at as usize).copied()
 }

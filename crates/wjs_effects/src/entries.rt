@@ -1,12 +1,12 @@
 //! The entry of statements by frames (ECMA-262, 3rd edition, sections 12.4 and 12.9): one that is an expression, or returns one, is
 //! entered together with it. One that is an expression has no frame of its own where it stands in a block, a body or a program.
-ghost use Rattle.std.specs.Prelude.{◌≡◌, IfSome};
+ghost use Rattle.std.specs.Prelude.{◌≡◌, Some, IfSome};
 ghost use Rattle.wjs_meaning.specs.Deeds.{Eval, Sub, AtStmt};
 ghost use Rattle.wjs_meaning.specs.Programs.{entry};
 ghost use Rattle.wjs_model.specs.Soundness.{HasPoint, StandsHere};
 ghost use Rattle.wjs_frames.specs.Handling.{Runs, GoesOn};
 ghost use Rattle.wjs_frames.specs.Parts.{node_among, then_at};
-ghost use Rattle.wjs_effects.specs.Only.{IsOnly, Spares, dropped};
+ghost use Rattle.wjs_effects.specs.Only.{IsOnly, value_point, dropped};
 
 use crate::above::wait_below;
 use wjs_base::OutOfMemory;
@@ -65,8 +65,8 @@ fn only_part<S: WorldStore>(config: &Config<S>, frame: &Frame, s: NodeId) -> Opt
     }
 }
 
-/// The frame waits for a statement's expression, which is entered, after the statement's step: by itself where it is a sequence's, and
-/// else below a frame of the statement.
+/// The frame waits at a point for a statement whose step is taken, and whose expression is entered: without a frame of its own where
+/// its value is dropped.
 fn enter_only<S: WorldStore>(
     config: &mut Config<S>,
     frame: Frame,
@@ -81,28 +81,38 @@ fn enter_only<S: WorldStore>(
     ensures { GoesOn S.meaning frame config.old config.new result (λ t env.
         Sub (entry (AtStmt s.0) env) (then_at S.meaning config.old frame point t env)) }
 {
-    match spared_point(point, only.behind) {
-        Some(spared) => enter(config, frame, spared, Part::Expr(only.expression)),
+    match only.behind {
+        StmtPoint::ExprValue => enter_value(config, frame, point, s, only),
+        _ => enter_nested(config, frame, point, s, only),
+    }
+}
+
+/// The frame waits for the expression that is its statement, by itself where it is that of a sequence.
+fn enter_value<S: WorldStore>(
+    config: &mut Config<S>,
+    frame: Frame,
+    point: Point,
+    s: NodeId,
+    only: Only,
+) -> Result<(), OutOfMemory>
+    requires runs { Runs S.meaning config.old frame }
+    requires point { HasPoint config.old frame point }
+    requires part { StandsHere config.old frame s }
+    requires only { IsOnly (node_among config.old.units.items frame.tree s) only }
+    requires value { only.behind ≡ StmtPoint.ExprValue }
+    ensures { GoesOn S.meaning frame config.old config.new result (λ t env.
+        Sub (entry (AtStmt s.0) env) (then_at S.meaning config.old frame point t env)) }
+{
+    match value_point(point) {
+        Some(waits) => enter(config, frame, waits, Part::Expr(only.expression)),
         None => enter_nested(config, frame, point, s, only),
     }
 }
 
-/// Where a frame that waits at a point for a statement may wait for its expression instead; None of a frame that is no sequence's, and
-/// of a `return`.
-#[inline(always)]
-fn spared_point(point: Point, behind: StmtPoint) -> Option<Point>
-    ensures { IfSome result (λ spared. Spares point behind spared) }
-{
-    match behind {
-        StmtPoint::ExprValue => value_point(point),
-        _ => None,
-    }
-}
-
-/// Where the frame of a sequence waits for the expression that is its statement.
+/// Where the frame of a sequence waits for the expression that is its statement; None of every other frame.
 #[inline(always)]
 fn value_point(point: Point) -> Option<Point>
-    ensures { IfSome result (λ spared. Spares point StmtPoint.ExprValue spared) }
+    ensures { IfSome result (λ waits. value_point point ≡ Some waits) }
 {
     match point {
         Point::Stmt(StmtPoint::BlockStatement(next)) => {

@@ -2,4 +2,4 @@ use Rattle.wjs_effects.proofs.Running.{next_is}
 use Rattle.wjs_effects.proofs.elements.element_of.Goals as goal
 
 pub returns : goal.returns
-returns c = next_is c.args.elements.now c.args.at c.copied.result c.copied.ensures
+returns c = next_is c.args.elements.now c.args.at c.listed.result c.listed.ensures

@@ -16,7 +16,7 @@ pub enter_statement-requires-clause-point : goal.enter_statement-requires-clause
 enter_statement-requires-clause-point g c =
     let old = c.args.config.now in
     let f = c.args.frame in
-    subst (λ (p : Point). HasPoint old f p) (sym c.waiting_point.ensures) (point_there old f c.args.kind c.in_ok-next-in-Some.next c.requires.stands)
+    subst (λ (p : Point). HasPoint old f p) (sym c.waiting_point-point.ensures) (point_there old f c.args.kind c.in_ok-next-in-Some.next c.requires.stands)
 
 pub enter_statement-requires-clause-part : goal.enter_statement-requires-clause-part
 enter_statement-requires-clause-part g c =
@@ -33,7 +33,7 @@ returns-in_ok-next-in-Some g c =
     let env = env_in m old t f in
     let next = c.in_ok-next-in-Some.next in
     let s = c.in-Some.element.0 in
-    let waits = ap (λ (p : Point). then_at m old f p t env) c.waiting_point.ensures ∙ element_waits k next f.node.0 n (holding_in t f.held) env in
+    let waits = ap (λ (p : Point). then_at m old f p t env) c.waiting_point-point.ensures ∙ element_waits k next f.node.0 n (holding_in t f.held) env in
     follows_as m _ _ _ _ c.enter_statement.result (λ grows.
     ap (λ (go : Said → Act). Eval (AtStmt s) env go) waits ∙ element_goes k (elements_in k n) env c.args.at next s c.in_ok-next-in-Some.ensures (c.in-Some.ensures t))
     c.enter_statement.ensures
