@@ -1,4 +1,5 @@
 pub mod Joining
+pub mod Summing
 pub mod Storing
 pub mod Leaving
 pub mod Lines

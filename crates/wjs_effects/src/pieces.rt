@@ -58,7 +58,7 @@ pub(crate) fn compound<S: WorldStore>(
 
 /// Of two values that are there.
 #[inline(always)]
-fn of_values<S: WorldStore>(
+pub(crate) fn of_values<S: WorldStore>(
     config: &Config<S>,
     operator: BinaryOperator,
     left: Value,
