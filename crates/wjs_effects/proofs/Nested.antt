@@ -1,5 +1,5 @@
 -- A frame that waits for another above it, which is run at a node around the same.
-use Rattle.std.proofs.Common.{◌≡◌, ℕ, List, [], ◌∷◌, ◌++◌, Some, sym, ap, ◌∙◌, subst}
+use Rattle.std.proofs.Common.{◌≡◌, ℕ, [], Some, sym, subst}
 use Rattle.std.specs.Prelude.{Result, OnOk, slice_get}
 use Rattle.wjs_base.specs.declared.ids.OutOfMemory.{OutOfMemory}
 use Rattle.wjs_base.specs.declared.ids.NodeId.{NodeId}
@@ -8,42 +8,17 @@ use Rattle.wjs_meaning.specs.Deeds.{Goal, Eval, Sub}
 use Rattle.wjs_meaning.specs.Reading.{node_in}
 use Rattle.wjs_model.specs.declared.config.Config.{Config}
 use Rattle.wjs_model.specs.declared.frame.Activation.{Activation as Frame}
-use Rattle.wjs_model.specs.declared.frame.Held.{Held}
-use Rattle.wjs_model.specs.declared.frame.Phase.{Phase}
-use Rattle.wjs_model.specs.declared.frame.Phase.TheVariants as phases
 use Rattle.wjs_model.specs.declared.point.Point.{Point}
-use Rattle.wjs_model.specs.declared.point.Start.{Start}
-use Rattle.wjs_model.specs.Begun.{begun_at, with_phase}
 use Rattle.wjs_model.specs.Contents.{holding_in}
-use Rattle.wjs_model.specs.Frames.{last, front}
 use Rattle.wjs_model.specs.Soundness.{IsThere, StandsHere}
 use Rattle.wjs_model.specs.Waiting.{after}
-use Rattle.wjs_model.proofs.Tops.{last-snoc, front-snoc}
 use Rattle.wjs_frames.specs.Following.{Follows}
 use Rattle.wjs_frames.specs.Nesting.{Nests}
 use Rattle.wjs_frames.specs.Parts.{env_in, node_among, then_at}
 use Rattle.wjs_step_common.specs.Lists.{statements_in}
 use Rattle.wjs_effects.proofs.Parted.{statement_stands}
 
--- a frame was put above one that waits, and taken off again
-module _ (old all new : List Frame) (waiting above : Frame) (phase : Phase) (start : Start) (node : NodeId) (held : List Held) where
-  abbrev begun : Frame
-  begun = record (begun_at waiting start node) { phase = phases.Ready start; held = held }
-
-  module _ (put : all ≡ (old ++ waiting ∷ []) ++ begun ∷ []) (off : all ≡ new ++ with_phase (above, phase) ∷ []) where
-    abbrev both : new ++ with_phase (above, phase) ∷ [] ≡ (old ++ waiting ∷ []) ++ begun ∷ []
-    both = sym off ∙ put
-
-    pub below_same : new ≡ old ++ waiting ∷ []
-    below_same = sym (front-snoc new (with_phase (above, phase))) ∙ ap front both ∙ front-snoc (old ++ waiting ∷ []) begun
-
-    pub above_same : held ≡ [] → record above { phase = waiting.phase } ≡ record waiting { node = node; held = [] }
-    above_same none =
-        let tops : Some (with_phase (above, phase)) ≡ Some begun = sym (last-snoc new (with_phase (above, phase))) ∙ ap last both ∙ last-snoc (old ++ waiting ∷ []) begun in
-        let top : with_phase (above, phase) ≡ begun = cc in
-        ap (λ (f : Frame). record f { phase = waiting.phase }) top ∙ ap (λ (h : List Held). record waiting { node = node; held = h }) none
-
-module _ {S : Type 0} (meaning : S → Meaning) (f above : Frame) (node : NodeId) (phase : Phase) (is : above ≡ record f { node = node; phase = phase; held = [] }) where
+module _ {S : Type 0} (meaning : S → Meaning) (f above : Frame) (node : NodeId) (is : above ≡ record f { node = node; held = [] }) where
   -- it is there
   pub above_there : (c : Config S) → IsThere meaning c f → StandsHere c f node → IsThere meaning c above
   above_there c here s =

@@ -1,7 +1,7 @@
 //! The loops `while` and `do` (sections 12.6.1 and 12.6.2).
 ghost use Rattle.std.specs.Prelude.{None, Some};
 ghost use Rattle.wjs_by_content.specs.Tables.{value_in};
-ghost use Rattle.wjs_meaning.specs.Deeds.{then_value};
+ghost use Rattle.wjs_meaning.specs.Deeds.{Eval, AtExpr, then_value};
 ghost use Rattle.wjs_meaning.specs.Loops.{loop_body, loop_test, do_body, do_test};
 ghost use Rattle.wjs_meaning.specs.Statements.{iteration_from};
 ghost use Rattle.wjs_model.specs.Contents.{completion_in};
@@ -12,9 +12,9 @@ use crate::bodies::{AfterBody, after_body};
 use crate::iterations::expr_iteration;
 use crate::rounds::{Position, go_round};
 use wjs_base::{OutOfMemory, Value};
-use wjs_frames::{Part, enter_last, finish};
+use wjs_frames::{Part, enter, enter_last, finish};
 use wjs_model::{Completion, Config, Frame, Point, StmtPoint};
-use wjs_quick::{enter_quickly, quick_entered};
+use wjs_quick::{quick, quick_entered};
 use wjs_step_common::to_boolean;
 use wjs_store::WorldStore;
 use wjs_tree::NodeId;
@@ -104,10 +104,27 @@ pub fn do_body<S: WorldStore>(
     ensures { GoesOn S.meaning frame config.old config.new result (λ t env. do_body frame.node.0 e.0 env (completion_in t completion)) }
 {
     match after_body(config, &frame, completion) {
-        AfterBody::Again => {
-            enter_quickly(config, frame, Point::Stmt(StmtPoint::DoTest), Part::Expr(e))
-        }
+        AfterBody::Again => do_asked(config, frame, e),
         AfterBody::Ends(completion) => finish(config, frame, completion),
+    }
+}
+
+/// The test of a `do` has its value at once, or is entered.
+fn do_asked<S: WorldStore>(
+    config: &mut Config<S>,
+    frame: Frame,
+    e: NodeId,
+) -> Result<(), OutOfMemory>
+    requires runs { Runs S.meaning config.old frame }
+    requires test { StandsHere config.old frame e }
+    ensures { GoesOn S.meaning frame config.old config.new result (λ t env. Eval (AtExpr e.0) env (then_value (do_test frame.node.0 env))) }
+{
+    match quick(config, &frame, Part::Expr(e)) {
+        Some(value) => do_tested(config, frame, value),
+        None => {
+            let point = Point::Stmt(StmtPoint::DoTest);
+            enter(config, frame, point, Part::Expr(e))
+        }
     }
 }
 

@@ -1,19 +1,33 @@
-use Rattle.std.proofs.Common.{◌≡◌, [], ◌∙◌, subst}
+use Rattle.std.proofs.Common.{List, sym, subst}
 use Rattle.wjs_model.specs.declared.frame.Activation.{Activation as Frame}
-use Rattle.wjs_frames.proofs.Frames.{put_on}
-use Rattle.wjs_frames.proofs.Moving.{nests_waiting, later_waiting}
+use Rattle.wjs_model.specs.Soundness.{HasPoint}
+use Rattle.wjs_frames.specs.Following.{Later}
+use Rattle.wjs_frames.specs.Handling.{Runs}
+use Rattle.wjs_frames.specs.Nesting.{Nests}
+use Rattle.wjs_frames.specs.Parts.{env_in, then_at}
 use Rattle.wjs_effects.proofs.above.wait_below.Goals as goal
 
+pub wait-requires-clause-runs : goal.wait-requires-clause-runs
+wait-requires-clause-runs g c =
+    let m = g.S.WorldStore.meaning in
+    let old = c.args.config.now in
+    subst (λ (fs : List Frame). Runs m (record old { frames = fs }) c.args.frame) (sym c.in_ok-inner.ensures.same) c.requires.runs
+
+pub wait-requires-clause-point : goal.wait-requires-clause-point
+wait-requires-clause-point g c =
+    let old = c.args.config.now in
+    subst (λ (fs : List Frame). HasPoint (record old { frames = fs }) c.args.frame c.args.point) (sym c.in_ok-inner.ensures.same) c.requires.point
+
 pub returns-clause-nests : goal.returns-clause-nests
-returns-clause-nests g c = nests_waiting g.S.WorldStore.meaning c.args.config.now c.args.frame c.args.point c.put_below.new.frames (put_on _ _ _ _ c.in_ok-inner.ensures.put c.wait_at.ensures)
+returns-clause-nests g c =
+    let m = g.S.WorldStore.meaning in
+    let old = c.args.config.now in
+    let new = c.wait.new.config in
+    let f = c.args.frame in
+    subst (λ (fs : List Frame). let x = record old { frames = fs } in Nests m (λ t. then_at m x f c.args.point t (env_in m x t f)) x new) c.in_ok-inner.ensures.same c.in_ok-wait.ensures.nests
 
 pub returns-clause-later : goal.returns-clause-later
 returns-clause-later g c =
-    later_waiting g.S.WorldStore.meaning c.args.config.now c.args.frame c.args.point c.put_below.new.frames c.requires.runs.running.base c.requires.runs.there c.requires.point
-    (put_on _ _ _ _ c.in_ok-inner.ensures.put c.wait_at.ensures)
-
-pub returns-clause-inner : goal.returns-clause-inner
-returns-clause-inner g c =
-    let made = c.in_ok-inner.inner in
-    c.wait_at-2.ensures
-    ∙ subst (λ (w : Frame). record made { phase = w.phase } ≡ record w { node = c.args.node; held = [] }) c.wait_at.ensures c.in_ok-inner.ensures.above
+    let m = g.S.WorldStore.meaning in
+    let old = c.args.config.now in
+    subst (λ (fs : List Frame). Later m (record old { frames = fs }) c.wait.new.config) c.in_ok-inner.ensures.same c.in_ok-wait.ensures.later

@@ -3,7 +3,6 @@ use Rattle.std.specs.Prelude.{OnOk}
 use Rattle.wjs_meaning.specs.Deeds.{Eval, Sub, AtStmt, then_normal}
 use Rattle.wjs_meaning.specs.Statements.{block_from}
 use Rattle.wjs_meaning.specs.Trees.{Node}
-use Rattle.wjs_model.specs.declared.frame.Phase.TheVariants as phases
 use Rattle.wjs_model.specs.declared.point.Point.TheVariants as points
 use Rattle.wjs_model.specs.declared.point.StmtPoint.TheVariants as stmt
 use Rattle.wjs_model.specs.Lists.{block_items}
@@ -28,7 +27,7 @@ returns g c =
     let env = env_in m old t f in
     let P : Node → Type 0 = λ n. OnOk c.enter_statement.result (Follows m (Sub (Eval (AtStmt c.args.statement.0) env (then_normal (block_from (drop c.args.next (block_items n)) env))) (then_at m old f point t env)) old new) in
     subst P (sym (block_here m old f block t))
-    (above_follows m f c.in_ok-inner.inner block (phases.Waiting point) c.in_ok-inner.ensures.inner point (points.Stmt (stmt.BlockStatement c.args.next)) (AtStmt c.args.statement.0) old mid new c.enter_statement.result c.in_ok-inner.ensures.same c.in_ok-inner.ensures.nests c.enter_statement.ensures)
+    (above_follows m f c.in_ok-inner.inner block c.in_ok-inner.ensures.inner point (points.Stmt (stmt.BlockStatement c.args.next)) (AtStmt c.args.statement.0) old mid new c.enter_statement.result c.in_ok-inner.ensures.same c.in_ok-inner.ensures.nests c.enter_statement.ensures)
 
 pub enter_statement-requires-clause-runs : goal.enter_statement-requires-clause-runs
 enter_statement-requires-clause-runs g c =
@@ -37,7 +36,7 @@ enter_statement-requires-clause-runs g c =
     let inner = c.in_ok-inner.inner in
     let l = c.in_ok-inner.ensures.later in
     runs_over m old c.wait_below.new.config c.args.frame inner c.requires.runs l
-    (l.frames inner (above_there m c.args.frame inner c.args.block (phases.Waiting c.args.point) c.in_ok-inner.ensures.inner old c.requires.runs.there c.requires.block))
+    (l.frames inner (above_there m c.args.frame inner c.args.block c.in_ok-inner.ensures.inner old c.requires.runs.there c.requires.block))
 
 pub enter_statement-requires-clause-part : goal.enter_statement-requires-clause-part
 enter_statement-requires-clause-part g c =
@@ -45,4 +44,4 @@ enter_statement-requires-clause-part g c =
     let old = c.args.config.now in
     let inner = c.in_ok-inner.inner in
     stands_later m old inner c.wait_below.new.config c.args.statement c.in_ok-inner.ensures.later
-    (above_stands m c.args.frame inner c.args.block (phases.Waiting c.args.point) c.in_ok-inner.ensures.inner old c.args.statement c.requires.statement)
+    (above_stands m c.args.frame inner c.args.block c.in_ok-inner.ensures.inner old c.args.statement c.requires.statement)
