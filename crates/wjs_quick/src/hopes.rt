@@ -43,7 +43,7 @@ pub(crate) fn is_operation_hopeless<S: WorldStore>(
     match operator {
         BinaryOperator::And => false,
         BinaryOperator::Or => false,
-        BinaryOperator::Add => spells(config, frame, right) || is_hopeless(config, frame, right),
+        BinaryOperator::Add => is_never_added(config, frame, right),
         _ => asks_objects(operator) || is_hopeless(config, frame, right),
     }
 }
@@ -57,12 +57,14 @@ fn asks_objects(operator: BinaryOperator) -> bool {
     }
 }
 
-/// Whether an expression is a text that stands in the script.
+/// Whether a sum never has its value at once that has this right term: a text that stands in the script, which is joined with the left
+/// one, or an expression that never has its own.
 #[inline(always)]
-fn spells<S: WorldStore>(config: &Config<S>, frame: &Frame, node: NodeId) -> bool {
-    match node_at(config, frame, node) {
+fn is_never_added<S: WorldStore>(config: &Config<S>, frame: &Frame, right: NodeId) -> bool {
+    match node_at(config, frame, right) {
         Some(Node::Text(_)) => true,
-        _ => false,
+        Some(form) => is_never_quick(form),
+        None => true,
     }
 }
 

@@ -10,11 +10,9 @@ ghost use Rattle.wjs_frames.specs.Following.{Later};
 ghost use Rattle.wjs_frames.specs.Parts.{goal_of, env_in};
 ghost use Rattle.wjs_quick.specs.Coming.{GoalComes, Comes};
 
-use crate::evaluate::form;
-use crate::hopes::is_hopeless;
+use crate::evaluate::{form, value_of};
 use wjs_base::Value;
-use wjs_frames::{Part, operand_of};
-use wjs_heap_steps::peek_operand;
+use wjs_frames::Part;
 use wjs_model::{Config, Frame};
 use wjs_store::WorldStore;
 use wjs_tree::NodeId;
@@ -91,18 +89,10 @@ pub fn value_at<S: WorldStore>(
     ensures does { IfSome result (λ v. GoalComes S.meaning (AtExpr node.0) v config.now frame.now steps.old steps.new) }
     ensures found { IfSome result (λ v. HasValue config.now v) }
 {
-    if *steps == 0 {
-        return None;
-    }
-    *steps -= 1;
-    match operand_of(config, frame, Part::Expr(node)) {
-        Some(operand) => peek_operand(config, frame, operand),
-        None => entered_at(config, frame, node, steps),
-    }
+    value_of(config, frame, node, HEIGHT, steps)
 }
 
-/// The same of an expression that is entered already, where it is no operand; None before anything is evaluated for a form that never
-/// has its value at once.
+/// The same of an expression that is entered already, where it is no operand.
 #[inline(always)]
 pub fn entered_at<S: WorldStore>(
     config: &Config<S>,
@@ -115,8 +105,5 @@ pub fn entered_at<S: WorldStore>(
     ensures does { IfSome result (λ v. Comes S.meaning (λ t env. entry (AtExpr node.0) env) v config.now frame.now steps.old steps.new) }
     ensures found { IfSome result (λ v. HasValue config.now v) }
 {
-    if is_hopeless(config, frame, node) {
-        return None;
-    }
     form(config, frame, node, HEIGHT - 1, steps)
 }
