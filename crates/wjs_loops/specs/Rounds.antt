@@ -1,19 +1,19 @@
 -- Where `for` and `while` are, and what is left of them there.
-use Rattle.std.specs.Prelude.{◌≡◌, ℕ, ◌+◌, drop, Option, Some, None}
+use Rattle.std.specs.Prelude.{ℕ, drop, Option}
 use Rattle.wjs_base.specs.Text.{Table}
 use Rattle.wjs_base.specs.declared.ids.NodeId.{NodeId}
 use Rattle.wjs_store.specs.Meaning.{Meaning}
 use Rattle.wjs_meaning.specs.Deeds.{Env, Act, Ret, Eval, Sub, AtStmt, Completion as Said, node_here, then_value, then_normal}
 use Rattle.wjs_meaning.specs.Expressions.{expr_at}
 use Rattle.wjs_meaning.specs.Loops.{loop_again, loop_body, loop_test, loop_update}
-use Rattle.wjs_meaning.specs.Reading.{node_in, number}
-use Rattle.wjs_meaning.specs.Statements.{again_of, block_from}
+use Rattle.wjs_meaning.specs.Reading.{number}
+use Rattle.wjs_meaning.specs.Statements.{block_from}
 use Rattle.wjs_model.specs.declared.config.Config.{Config}
 use Rattle.wjs_model.specs.declared.frame.Activation.{Activation as Frame}
 use Rattle.wjs_model.specs.Contents.{completion_in}
 use Rattle.wjs_model.specs.Lists.{block_items}
 use Rattle.wjs_model.specs.Soundness.{HasCompletion, StandsHere, StandsIf}
-use Rattle.wjs_frames.specs.Parts.{env_in, node_now}
+use Rattle.wjs_frames.specs.Parts.{env_in}
 use Rattle.wjs_loops.specs.declared.rounds.Position.{Position}
 use Rattle.wjs_loops.specs.declared.rounds.Position.TheVariants.{Again, Test, Body, Within, Update, Ended}
 
@@ -29,15 +29,6 @@ position_in t here env (Ended e) = Ret (completion_in t e)
 -- where a frame is run
 abbrev pub position_left : {S : Type 0} → (S → Meaning) → Config S → Frame → Position → Table → Act
 position_left meaning c f at t = position_in t f.node.0 (env_in meaning c t f) at
-
--- what an iteration of the frame's loop begins with, when its step is taken
-abbrev pub Iterates : {S : Type 0} → (S → Meaning) → Config S → Frame → Position → Type 0
-Iterates meaning c f first = (t : Table) → again_of f.node.0 (node_in t (node_now meaning c f)) (env_in meaning c t f) ≡ position_left meaning c f first t
-
--- a position in the body, or that of the next of its statements
-abbrev pub next_or : Option NodeId → NodeId → ℕ → Option Position → Position
-next_or u s at (Some p) = p
-next_or u s at None = Within u s (at + 1)
 
 -- after a statement of the body, a block, before the one of a number
 abbrev pub within_after : {S : Type 0} → (S → Meaning) → Config S → Frame → Option NodeId → NodeId → ℕ → Table → Said → Act

@@ -1,22 +1,22 @@
 //! The iterations of `for` and `while` (sections 12.6.2 and 12.6.3): those whose parts are done at once follow one another in one turn.
-ghost use Rattle.std.specs.Prelude.{◌≡◌, ◌<◌, ℕ, None, Some, IfOk, IfSome, OnOk};
-ghost use Rattle.wjs_base.specs.Text.{Table};
+ghost use Rattle.std.specs.Prelude.{◌≡◌, ℕ, None, Some, IfNone, IfOk, IfSome, OnOk};
+ghost use Rattle.wjs_base.specs.Text.{Table, Grows};
 ghost use Rattle.wjs_by_content.specs.Tables.{value_in};
 ghost use Rattle.wjs_meaning.specs.Deeds.{Env, then_value};
 ghost use Rattle.wjs_meaning.specs.Loops.{loop_body, loop_test, loop_updated};
-ghost use Rattle.wjs_meaning.specs.Reading.{number};
-ghost use Rattle.wjs_meaning.specs.Statements.{iteration_from};
+ghost use Rattle.wjs_meaning.specs.Reading.{node_in, number};
+ghost use Rattle.wjs_meaning.specs.Statements.{again_of, iteration_from};
 ghost use Rattle.wjs_model.specs.Contents.{completion_in};
 ghost use Rattle.wjs_model.specs.Soundness.{Base, IsThere, HasCompletion, HasValue, StandsHere, StandsIf};
 ghost use Rattle.wjs_frames.specs.Following.{Later};
 ghost use Rattle.wjs_frames.specs.Handling.{Runs, GoesOn};
-ghost use Rattle.wjs_frames.specs.Parts.{env_in};
+ghost use Rattle.wjs_frames.specs.Parts.{env_in, node_now};
 ghost use Rattle.wjs_effects.specs.Proceeding.{Proceeds};
-ghost use Rattle.wjs_loops.specs.Rounds.{position_in, position_left, HasPosition, Iterates};
+ghost use Rattle.wjs_loops.specs.Rounds.{position_in, position_left, HasPosition};
 
 use crate::bodies::{AfterBody, after_body};
 use crate::iterations::expr_iteration;
-use crate::within::{block_entered, within, within_entered};
+use crate::within::{block_entered, next_within, within_entered};
 use wjs_base::{OutOfMemory, Value};
 use wjs_effects::{enter_statement, expression_at_once, statement_at_once, statement_of_block};
 use wjs_frames::{Part, enter, enter_last, finish, node_of};
@@ -109,7 +109,8 @@ fn update_entered<S: WorldStore>(
     }
 }
 
-/// How far a loop comes at once from a position.
+/// How far a loop comes at once from a position. Each position on the way is one from which it may go on, so the bound is none that
+/// counts.
 fn rounds<S: WorldStore>(
     config: &mut Config<S>,
     frame: &Frame,
@@ -123,99 +124,62 @@ fn rounds<S: WorldStore>(
     ensures later { OnOk result (Later S.meaning config.old config.new) }
     ensures found { IfOk result (λ p. HasPosition config.new frame.now p) }
 {
-    let reached = rest_of_iteration(config, frame, from)?;
-    match reached {
-        Position::Again => iterations(config, frame),
-        stopped => Ok(stopped),
-    }
-}
-
-/// How far the iterations come at once that follow: up to the first of which not all is done at once. None is gone into without a step
-/// that is left, nor where the loop's body has to be entered by its own, or its test behind it.
-fn iterations<S: WorldStore>(config: &mut Config<S>, frame: &Frame) -> Result<Position, OutOfMemory>
-    requires base { Base S.meaning config.old }
-    requires there { IsThere S.meaning config.old frame.now }
-    ensures proceeds { IfOk result (λ p. Proceeds S.meaning (position_left S.meaning config.old frame.now Position.Again)
-        (position_left S.meaning config.new frame.now p) config.old config.new) }
-    ensures later { OnOk result (Later S.meaning config.old config.new) }
-    ensures found { IfOk result (λ p. HasPosition config.new frame.now p) }
-{
-    match iteration_of(config, frame) {
-        Some(first) => iterations_from(config, frame, first),
-        None => Ok(Position::Again),
-    }
-}
-
-/// The same, by what each iteration begins with. The bound is none that counts.
-fn iterations_from<S: WorldStore>(
-    config: &mut Config<S>,
-    frame: &Frame,
-    first: Position,
-) -> Result<Position, OutOfMemory>
-    requires base { Base S.meaning config.old }
-    requires there { IsThere S.meaning config.old frame.now }
-    requires is { Iterates S.meaning config.old frame.now first }
-    requires first { HasPosition config.old frame.now first }
-    ensures proceeds { IfOk result (λ p. Proceeds S.meaning (position_left S.meaning config.old frame.now Position.Again)
-        (position_left S.meaning config.new frame.now p) config.old config.new) }
-    ensures later { OnOk result (Later S.meaning config.old config.new) }
-    ensures found { IfOk result (λ p. HasPosition config.new frame.now p) }
-{
-    for _iteration in 0..u64::MAX {
-        if config.left == 0 {
-            return Ok(Position::Again);
-        }
-        let reached = iteration(config, frame, first)?;
+    let mut at = from;
+    for _turn in 0..u64::MAX {
+        let reached = advance(config, frame, at)?;
         match reached {
-            Position::Again => {}
-            stopped => return Ok(stopped),
+            Some(next) => at = next,
+            None => return Ok(at),
         }
     }
-    Ok(Position::Again)
+    Ok(at)
 }
 
-/// An iteration, by what it begins with. Its step is taken.
+/// The next position of a loop, where what stands between is done at once; after None nothing has changed.
 #[inline(always)]
-fn iteration<S: WorldStore>(
-    config: &mut Config<S>,
-    frame: &Frame,
-    first: Position,
-) -> Result<Position, OutOfMemory>
-    requires base { Base S.meaning config.old }
-    requires there { IsThere S.meaning config.old frame.now }
-    requires left { 0 < config.old.left }
-    requires is { Iterates S.meaning config.old frame.now first }
-    requires first { HasPosition config.old frame.now first }
-    ensures proceeds { IfOk result (λ p. Proceeds S.meaning (position_left S.meaning config.old frame.now Position.Again)
-        (position_left S.meaning config.new frame.now p) config.old config.new) }
-    ensures later { OnOk result (Later S.meaning config.old config.new) }
-    ensures found { IfOk result (λ p. HasPosition config.new frame.now p) }
-{
-    config.left -= 1;
-    rest_of_iteration(config, frame, first)
-}
-
-/// How far an iteration comes at once from a position in it: up to the next one.
-#[inline(always)]
-fn rest_of_iteration<S: WorldStore>(
+fn advance<S: WorldStore>(
     config: &mut Config<S>,
     frame: &Frame,
     at: Position,
-) -> Result<Position, OutOfMemory>
+) -> Result<Option<Position>, OutOfMemory>
     requires base { Base S.meaning config.old }
     requires there { IsThere S.meaning config.old frame.now }
     requires at { HasPosition config.old frame.now at }
-    ensures proceeds { IfOk result (λ p. Proceeds S.meaning (position_left S.meaning config.old frame.now at)
-        (position_left S.meaning config.new frame.now p) config.old config.new) }
+    ensures same { IfOk result (λ next. IfNone next (config.new ≡ config.old)) }
+    ensures proceeds { IfOk result (λ next. IfSome next (λ p. Proceeds S.meaning (position_left S.meaning config.old frame.now at)
+        (position_left S.meaning config.new frame.now p) config.old config.new)) }
     ensures later { OnOk result (Later S.meaning config.old config.new) }
-    ensures found { IfOk result (λ p. HasPosition config.new frame.now p) }
+    ensures found { IfOk result (λ next. IfSome next (λ p. HasPosition config.new frame.now p)) }
 {
     match at {
-        Position::Test(e, u, s) => test(config, frame, e, u, s),
-        Position::Body(u, s) => body(config, frame, u, s),
-        Position::Within(u, s, at) => within(config, frame, u, s, at),
-        Position::Update(u) => update(config, frame, u),
-        _ => Ok(at),
+        Position::Again => Ok(next_iteration(config, frame)),
+        Position::Test(e, u, s) => Ok(test_at_once(config, frame, e, u, s)),
+        Position::Body(u, s) => body_at_once(config, frame, u, s),
+        Position::Within(u, s, at) => next_within(config, frame, u, s, at),
+        Position::Update(u) => update_at_once(config, frame, u),
+        Position::Ended(_) => Ok(None),
+    }
+}
+
+/// The step of the next iteration, where one is left and it begins with a test or within a block.
+fn next_iteration<S: WorldStore>(config: &mut Config<S>, frame: &Frame) -> Option<Position>
+    requires base { Base S.meaning config.old }
+    requires there { IsThere S.meaning config.old frame.now }
+    ensures same { IfNone result (config.new ≡ config.old) }
+    ensures proceeds { IfSome result (λ p. Proceeds S.meaning (position_left S.meaning config.old frame.now Position.Again)
+        (position_left S.meaning config.new frame.now p) config.old config.new) }
+    ensures later { Later S.meaning config.old config.new }
+    ensures found { IfSome result (λ p. HasPosition config.new frame.now p) }
+{
+    if config.left == 0 {
+        return None;
+    }
+    match iteration_of(config, frame) {
+        Some(position) => {
+            config.left -= 1;
+            Some(position)
+        }
+        None => None,
     }
 }
 
@@ -223,7 +187,9 @@ fn rest_of_iteration<S: WorldStore>(
 #[inline(always)]
 fn iteration_of<S: WorldStore>(config: &Config<S>, frame: &Frame) -> Option<Position>
     requires there { IsThere S.meaning config.now frame.now }
-    ensures is { IfSome result (λ p. Iterates S.meaning config.now frame.now p) }
+    ensures is { IfSome result (λ p. (t : Table) →
+        again_of frame.now.node.0 (node_in t (node_now S.meaning config.now frame.now)) (env_in S.meaning config.now t frame.now)
+        ≡ position_left S.meaning config.now frame.now p t) }
     ensures found { IfSome result (λ p. HasPosition config.now frame.now p) }
 {
     match node_of(config, frame) {
@@ -276,167 +242,140 @@ fn without_test<S: WorldStore>(
     }
 }
 
-/// From the test of an iteration.
-#[inline(always)]
-fn test<S: WorldStore>(
+/// The test of an iteration.
+fn test_at_once<S: WorldStore>(
     config: &mut Config<S>,
     frame: &Frame,
     e: NodeId,
     u: Option<NodeId>,
     s: NodeId,
-) -> Result<Position, OutOfMemory>
+) -> Option<Position>
     requires base { Base S.meaning config.old }
     requires there { IsThere S.meaning config.old frame.now }
-    requires test { StandsHere config.old frame.now e }
     requires update { StandsIf config.old frame.now u }
     requires body { StandsHere config.old frame.now s }
-    ensures proceeds { IfOk result (λ p. Proceeds S.meaning (position_left S.meaning config.old frame.now (Position.Test e u s))
+    ensures same { IfNone result (config.new ≡ config.old) }
+    ensures proceeds { IfSome result (λ p. Proceeds S.meaning (position_left S.meaning config.old frame.now (Position.Test e u s))
         (position_left S.meaning config.new frame.now p) config.old config.new) }
-    ensures later { OnOk result (Later S.meaning config.old config.new) }
-    ensures found { IfOk result (λ p. HasPosition config.new frame.now p) }
+    ensures later { Later S.meaning config.old config.new }
+    ensures found { IfSome result (λ p. HasPosition config.new frame.now p) }
 {
     match quick_entered(config, frame, e) {
-        Some(value) => tested(config, frame, value, u, s),
-        None => Ok(Position::Test(e, u, s)),
+        Some(value) => Some(after_test(config, frame, value, u, s)),
+        None => None,
     }
 }
 
 /// After the test: the body, or the end.
 #[inline(always)]
-fn tested<S: WorldStore>(
-    config: &mut Config<S>,
+fn after_test<S: WorldStore>(
+    config: &Config<S>,
     frame: &Frame,
     value: Value,
     u: Option<NodeId>,
     s: NodeId,
-) -> Result<Position, OutOfMemory>
-    requires base { Base S.meaning config.old }
-    requires there { IsThere S.meaning config.old frame.now }
-    requires value { HasValue config.old value }
-    requires update { StandsIf config.old frame.now u }
-    requires body { StandsHere config.old frame.now s }
-    ensures proceeds { IfOk result (λ p. Proceeds S.meaning
-        (λ t. loop_test frame.now.node.0 (number u) s.0 (env_in S.meaning config.old t frame.now) (value_in t value))
-        (position_left S.meaning config.new frame.now p) config.old config.new) }
-    ensures later { OnOk result (Later S.meaning config.old config.new) }
-    ensures found { IfOk result (λ p. HasPosition config.new frame.now p) }
+) -> Position
+    requires base { Base S.meaning config.now }
+    requires value { HasValue config.now value }
+    requires update { StandsIf config.now frame.now u }
+    requires body { StandsHere config.now frame.now s }
+    ensures is { (t : Table) → Grows config.now.heap.texts t → (here : ℕ) (env : Env) →
+        loop_test here (number u) s.0 env (value_in t value) ≡ position_in t here env result }
+    ensures found { HasPosition config.now frame.now result }
 {
+    let _frame = frame;
     if to_boolean(config, value) {
-        body(config, frame, u, s)
+        Position::Body(u, s)
     } else {
-        Ok(Position::Ended(Completion::Normal))
+        Position::Ended(Completion::Normal)
     }
 }
 
-/// From the body on: within it, where it is a block, or as a whole.
-fn body<S: WorldStore>(
+/// The body of an iteration; the entry of one that isn't done at once, and is a block.
+fn body_at_once<S: WorldStore>(
     config: &mut Config<S>,
     frame: &Frame,
     u: Option<NodeId>,
     s: NodeId,
-) -> Result<Position, OutOfMemory>
+) -> Result<Option<Position>, OutOfMemory>
     requires base { Base S.meaning config.old }
     requires there { IsThere S.meaning config.old frame.now }
     requires update { StandsIf config.old frame.now u }
     requires body { StandsHere config.old frame.now s }
-    ensures proceeds { IfOk result (λ p. Proceeds S.meaning (position_left S.meaning config.old frame.now (Position.Body u s))
-        (position_left S.meaning config.new frame.now p) config.old config.new) }
+    ensures same { IfOk result (λ next. IfNone next (config.new ≡ config.old)) }
+    ensures proceeds { IfOk result (λ next. IfSome next (λ p. Proceeds S.meaning (position_left S.meaning config.old frame.now (Position.Body u s))
+        (position_left S.meaning config.new frame.now p) config.old config.new)) }
     ensures later { OnOk result (Later S.meaning config.old config.new) }
-    ensures found { IfOk result (λ p. HasPosition config.new frame.now p) }
-{
-    if block_entered(config, frame, s) {
-        within(config, frame, u, s, 0)
-    } else {
-        whole_body(config, frame, u, s)
-    }
-}
-
-/// The same of a body that is a single statement.
-#[inline(always)]
-fn whole_body<S: WorldStore>(
-    config: &mut Config<S>,
-    frame: &Frame,
-    u: Option<NodeId>,
-    s: NodeId,
-) -> Result<Position, OutOfMemory>
-    requires base { Base S.meaning config.old }
-    requires there { IsThere S.meaning config.old frame.now }
-    requires update { StandsIf config.old frame.now u }
-    requires body { StandsHere config.old frame.now s }
-    ensures proceeds { IfOk result (λ p. Proceeds S.meaning (position_left S.meaning config.old frame.now (Position.Body u s))
-        (position_left S.meaning config.new frame.now p) config.old config.new) }
-    ensures later { OnOk result (Later S.meaning config.old config.new) }
-    ensures found { IfOk result (λ p. HasPosition config.new frame.now p) }
+    ensures found { IfOk result (λ next. IfSome next (λ p. HasPosition config.new frame.now p)) }
 {
     let done = statement_at_once(config, frame, s)?;
     match done {
-        Some(completion) => ended_body(config, frame, u, completion),
-        None => Ok(Position::Body(u, s)),
+        Some(completion) => Ok(Some(position_after(config, frame, u, completion))),
+        None => Ok(block_entered(config, frame, u, s)),
     }
 }
 
 /// After the body: the update, or the end.
-pub(crate) fn ended_body<S: WorldStore>(
-    config: &mut Config<S>,
+#[inline(always)]
+pub(crate) fn position_after<S: WorldStore>(
+    config: &Config<S>,
     frame: &Frame,
     u: Option<NodeId>,
     completion: Completion,
-) -> Result<Position, OutOfMemory>
-    requires base { Base S.meaning config.old }
-    requires there { IsThere S.meaning config.old frame.now }
-    requires completion { HasCompletion config.old completion }
-    requires update { StandsIf config.old frame.now u }
-    ensures proceeds { IfOk result (λ p. Proceeds S.meaning
-        (λ t. loop_body frame.now.node.0 (number u) (env_in S.meaning config.old t frame.now) (completion_in t completion))
-        (position_left S.meaning config.new frame.now p) config.old config.new) }
-    ensures later { OnOk result (Later S.meaning config.old config.new) }
-    ensures found { IfOk result (λ p. HasPosition config.new frame.now p) }
+) -> Position
+    requires base { Base S.meaning config.now }
+    requires completion { HasCompletion config.now completion }
+    requires update { StandsIf config.now frame.now u }
+    ensures is { (t : Table) → Grows config.now.heap.texts t →
+        loop_body frame.now.node.0 (number u) (env_in S.meaning config.now t frame.now) (completion_in t completion)
+        ≡ position_in t frame.now.node.0 (env_in S.meaning config.now t frame.now) result }
+    ensures found { HasPosition config.now frame.now result }
 {
     match after_body(config, frame, completion) {
-        AfterBody::Again => update(config, frame, u),
-        AfterBody::Ends(ended) => Ok(Position::Ended(ended)),
+        AfterBody::Again => Position::Update(u),
+        AfterBody::Ends(ended) => Position::Ended(ended),
     }
 }
 
 /// The update, if there is one.
-#[inline(always)]
-fn update<S: WorldStore>(
+fn update_at_once<S: WorldStore>(
     config: &mut Config<S>,
     frame: &Frame,
     u: Option<NodeId>,
-) -> Result<Position, OutOfMemory>
+) -> Result<Option<Position>, OutOfMemory>
     requires base { Base S.meaning config.old }
     requires there { IsThere S.meaning config.old frame.now }
-    requires update { StandsIf config.old frame.now u }
-    ensures proceeds { IfOk result (λ p. Proceeds S.meaning (position_left S.meaning config.old frame.now (Position.Update u))
-        (position_left S.meaning config.new frame.now p) config.old config.new) }
+    ensures same { IfOk result (λ next. IfNone next (config.new ≡ config.old)) }
+    ensures proceeds { IfOk result (λ next. IfSome next (λ p. Proceeds S.meaning (position_left S.meaning config.old frame.now (Position.Update u))
+        (position_left S.meaning config.new frame.now p) config.old config.new)) }
     ensures later { OnOk result (Later S.meaning config.old config.new) }
-    ensures found { IfOk result (λ p. HasPosition config.new frame.now p) }
+    ensures found { IfOk result (λ next. IfSome next (λ p. HasPosition config.new frame.now p)) }
 {
     match u {
         Some(e) => update_expression(config, frame, e),
-        None => Ok(Position::Again),
+        None => Ok(Some(Position::Again)),
     }
 }
 
 /// The expression of an update.
+#[inline(always)]
 fn update_expression<S: WorldStore>(
     config: &mut Config<S>,
     frame: &Frame,
     e: NodeId,
-) -> Result<Position, OutOfMemory>
+) -> Result<Option<Position>, OutOfMemory>
     requires base { Base S.meaning config.old }
     requires there { IsThere S.meaning config.old frame.now }
-    requires update { StandsHere config.old frame.now e }
-    ensures proceeds { IfOk result (λ p. Proceeds S.meaning (position_left S.meaning config.old frame.now (Position.Update (Some e)))
-        (position_left S.meaning config.new frame.now p) config.old config.new) }
+    ensures same { IfOk result (λ next. IfNone next (config.new ≡ config.old)) }
+    ensures proceeds { IfOk result (λ next. IfSome next (λ p. Proceeds S.meaning (position_left S.meaning config.old frame.now (Position.Update (Some e)))
+        (position_left S.meaning config.new frame.now p) config.old config.new)) }
     ensures later { OnOk result (Later S.meaning config.old config.new) }
-    ensures found { IfOk result (λ p. HasPosition config.new frame.now p) }
+    ensures found { IfOk result (λ next. IfSome next (λ p. HasPosition config.new frame.now p)) }
 {
     let done = expression_at_once(config, frame, e)?;
     match done {
-        Some(completion) => Ok(after_update(config, frame, completion)),
-        None => Ok(Position::Update(Some(e))),
+        Some(completion) => Ok(Some(after_update(config, frame, completion))),
+        None => Ok(None),
     }
 }
 

@@ -1,5 +1,5 @@
 //! The body of a loop that is a block of which not all is done at once: its statements follow one another in the loop's own turn.
-ghost use Rattle.std.specs.Prelude.{◌≡◌, ◌+◌, true, false, Option, Some, slice_get, IfOk, OnOk};
+ghost use Rattle.std.specs.Prelude.{◌≡◌, Some, slice_get, IfNone, IfOk, IfSome, OnOk};
 ghost use Rattle.wjs_model.specs.Contents.{completion_in};
 ghost use Rattle.wjs_model.specs.Soundness.{Base, IsThere, HasCompletion, StandsHere, StandsIf};
 ghost use Rattle.wjs_frames.specs.Following.{Later};
@@ -7,10 +7,10 @@ ghost use Rattle.wjs_frames.specs.Handling.{Runs, GoesOn};
 ghost use Rattle.wjs_frames.specs.Parts.{node_among};
 ghost use Rattle.wjs_step_common.specs.Lists.{statements_in};
 ghost use Rattle.wjs_effects.specs.Proceeding.{Proceeds};
-ghost use Rattle.wjs_loops.specs.Rounds.{position_in, position_left, next_or, within_after, HasPosition};
+ghost use Rattle.wjs_loops.specs.Rounds.{position_in, position_left, within_after, HasPosition};
 
 use crate::above::enter_in_block;
-use crate::rounds::{Position, ended_body};
+use crate::rounds::{Position, position_after};
 use wjs_base::OutOfMemory;
 use wjs_effects::{statement_at_once, statement_of_block};
 use wjs_frames::go_on_with;
@@ -19,62 +19,37 @@ use wjs_step_common::number_after;
 use wjs_store::WorldStore;
 use wjs_tree::NodeId;
 
-/// The step of the body's entry, where one is left and the body is a block with statements; after false nothing has changed.
-#[inline(always)]
-pub(crate) fn block_entered<S: WorldStore>(config: &mut Config<S>, frame: &Frame, s: NodeId) -> bool
-    requires base { Base S.meaning config.old }
-    requires there { IsThere S.meaning config.old frame.now }
-    ensures same { result ≡ false → config.new ≡ config.old }
-    ensures proceeds { result ≡ true → (u : Option NodeId) → Proceeds S.meaning (position_left S.meaning config.old frame.now (Position.Body u s))
-        (position_left S.meaning config.new frame.now (Position.Within u s 0)) config.old config.new }
-    ensures later { Later S.meaning config.old config.new }
-{
-    if config.left == 0 {
-        return false;
-    }
-    match statement_of_block(config, frame, s, 0) {
-        Some(_) => {
-            config.left -= 1;
-            true
-        }
-        None => false,
-    }
-}
-
-/// From the statement of this number on, in the body. The bound is none that counts.
-pub(crate) fn within<S: WorldStore>(
+/// The step of the body's entry, where one is left and the body is a block with statements.
+pub(crate) fn block_entered<S: WorldStore>(
     config: &mut Config<S>,
     frame: &Frame,
     u: Option<NodeId>,
     s: NodeId,
-    from: u32,
-) -> Result<Position, OutOfMemory>
+) -> Option<Position>
     requires base { Base S.meaning config.old }
     requires there { IsThere S.meaning config.old frame.now }
     requires update { StandsIf config.old frame.now u }
     requires body { StandsHere config.old frame.now s }
-    ensures proceeds { IfOk result (λ p. Proceeds S.meaning (position_left S.meaning config.old frame.now (Position.Within u s from))
+    ensures same { IfNone result (config.new ≡ config.old) }
+    ensures proceeds { IfSome result (λ p. Proceeds S.meaning (position_left S.meaning config.old frame.now (Position.Body u s))
         (position_left S.meaning config.new frame.now p) config.old config.new) }
-    ensures later { OnOk result (Later S.meaning config.old config.new) }
-    ensures found { IfOk result (λ p. HasPosition config.new frame.now p) }
+    ensures later { Later S.meaning config.old config.new }
+    ensures found { IfSome result (λ p. HasPosition config.new frame.now p) }
 {
-    let mut at = from;
-    for _statement in 0..u64::MAX {
-        let reached = next_within(config, frame, u, s, at)?;
-        match reached {
-            Some(position) => return Ok(position),
-            None => {
-                let following = number_after(at)?;
-                at = following;
-            }
-        }
+    if config.left == 0 {
+        return None;
     }
-    Ok(Position::Within(u, s, at))
+    match statement_of_block(config, frame, s, 0) {
+        Some(_) => {
+            config.left -= 1;
+            Some(Position::Within(u, s, 0))
+        }
+        None => None,
+    }
 }
 
-/// From the statement of this number on, where it isn't done at once or the body ends with it; None where the next one follows it.
-#[inline(always)]
-fn next_within<S: WorldStore>(
+/// After the statement of this number, where it is done at once; after the body past the last.
+pub(crate) fn next_within<S: WorldStore>(
     config: &mut Config<S>,
     frame: &Frame,
     u: Option<NodeId>,
@@ -85,21 +60,19 @@ fn next_within<S: WorldStore>(
     requires there { IsThere S.meaning config.old frame.now }
     requires update { StandsIf config.old frame.now u }
     requires body { StandsHere config.old frame.now s }
-    ensures proceeds { IfOk result (λ reached. Proceeds S.meaning (position_left S.meaning config.old frame.now (Position.Within u s at))
-        (position_left S.meaning config.new frame.now (next_or u s at reached)) config.old config.new) }
+    ensures same { IfOk result (λ next. IfNone next (config.new ≡ config.old)) }
+    ensures proceeds { IfOk result (λ next. IfSome next (λ p. Proceeds S.meaning (position_left S.meaning config.old frame.now (Position.Within u s at))
+        (position_left S.meaning config.new frame.now p) config.old config.new)) }
     ensures later { OnOk result (Later S.meaning config.old config.new) }
-    ensures found { IfOk result (λ reached. HasPosition config.new frame.now (next_or u s at reached)) }
+    ensures found { IfOk result (λ next. IfSome next (λ p. HasPosition config.new frame.now p)) }
 {
     match statement_of_block(config, frame, s, at) {
         Some(statement) => statement_within(config, frame, u, s, at, statement),
-        None => {
-            let position = ended_body(config, frame, u, Completion::Normal)?;
-            Ok(Some(position))
-        }
+        None => Ok(Some(position_after(config, frame, u, Completion::Normal))),
     }
 }
 
-/// The same of a statement that was found.
+/// The statement of this number, which was found.
 #[inline(always)]
 fn statement_within<S: WorldStore>(
     config: &mut Config<S>,
@@ -114,45 +87,41 @@ fn statement_within<S: WorldStore>(
     requires update { StandsIf config.old frame.now u }
     requires body { StandsHere config.old frame.now s }
     requires statement { slice_get (statements_in (node_among config.old.units.items frame.now.tree s)) at ≡ Some statement }
-    ensures proceeds { IfOk result (λ reached. Proceeds S.meaning (position_left S.meaning config.old frame.now (Position.Within u s at))
-        (position_left S.meaning config.new frame.now (next_or u s at reached)) config.old config.new) }
+    ensures same { IfOk result (λ next. IfNone next (config.new ≡ config.old)) }
+    ensures proceeds { IfOk result (λ next. IfSome next (λ p. Proceeds S.meaning (position_left S.meaning config.old frame.now (Position.Within u s at))
+        (position_left S.meaning config.new frame.now p) config.old config.new)) }
     ensures later { OnOk result (Later S.meaning config.old config.new) }
-    ensures found { IfOk result (λ reached. HasPosition config.new frame.now (next_or u s at reached)) }
+    ensures found { IfOk result (λ next. IfSome next (λ p. HasPosition config.new frame.now p)) }
 {
+    let next = number_after(at)?;
     let done = statement_at_once(config, frame, statement)?;
     match done {
-        Some(completion) => after_statement(config, frame, u, s, at, completion),
-        None => Ok(Some(Position::Within(u, s, at))),
+        Some(completion) => Ok(Some(after_statement(config, frame, u, s, next, completion))),
+        None => Ok(None),
     }
 }
 
-/// After the statement of this number: None where the next one follows, and else after the body.
+/// After the statement before the one of this number: the next one, or after the body with an end that isn't normal.
 #[inline(always)]
 fn after_statement<S: WorldStore>(
-    config: &mut Config<S>,
+    config: &Config<S>,
     frame: &Frame,
     u: Option<NodeId>,
     s: NodeId,
-    at: u32,
+    next: u32,
     completion: Completion,
-) -> Result<Option<Position>, OutOfMemory>
-    requires base { Base S.meaning config.old }
-    requires there { IsThere S.meaning config.old frame.now }
-    requires completion { HasCompletion config.old completion }
-    requires update { StandsIf config.old frame.now u }
-    requires body { StandsHere config.old frame.now s }
-    ensures proceeds { IfOk result (λ reached. Proceeds S.meaning
-        (λ t. within_after S.meaning config.old frame.now u s (at + 1) t (completion_in t completion))
-        (position_left S.meaning config.new frame.now (next_or u s at reached)) config.old config.new) }
-    ensures later { OnOk result (Later S.meaning config.old config.new) }
-    ensures found { IfOk result (λ reached. HasPosition config.new frame.now (next_or u s at reached)) }
+) -> Position
+    requires base { Base S.meaning config.now }
+    requires completion { HasCompletion config.now completion }
+    requires update { StandsIf config.now frame.now u }
+    requires body { StandsHere config.now frame.now s }
+    ensures proceeds { Proceeds S.meaning (λ t. within_after S.meaning config.now frame.now u s next t (completion_in t completion))
+        (position_left S.meaning config.now frame.now result) config.now config.now }
+    ensures found { HasPosition config.now frame.now result }
 {
     match completion {
-        Completion::Normal => Ok(None),
-        _ => {
-            let position = ended_body(config, frame, u, completion)?;
-            Ok(Some(position))
-        }
+        Completion::Normal => Position::Within(u, s, next),
+        _ => position_after(config, frame, u, completion),
     }
 }
 

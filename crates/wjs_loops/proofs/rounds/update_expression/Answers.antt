@@ -1,5 +1,5 @@
-use Rattle.std.proofs.Common.{◌≡◌, Option, sym, subst}
-use Rattle.std.specs.Prelude.{IfNone, IfSome, Some}
+use Rattle.std.proofs.Common.{◌≡◌, Option, subst}
+use Rattle.std.specs.Prelude.{IfNone, IfSome}
 use Rattle.wjs_meaning.specs.Deeds.{Eval, AtExpr, then_value}
 use Rattle.wjs_meaning.specs.Loops.{loop_updated}
 use Rattle.wjs_model.specs.declared.frame.Completion.{Completion}
@@ -7,11 +7,8 @@ use Rattle.wjs_model.specs.Contents.{completion_in}
 use Rattle.wjs_model.specs.Soundness.{HasCompletion}
 use Rattle.wjs_frames.specs.Doing.{Does}
 use Rattle.wjs_frames.specs.Parts.{env_in}
-use Rattle.wjs_frames.proofs.Parting.{stands_later}
-use Rattle.wjs_effects.specs.Proceeding.{Proceeds}
-use Rattle.wjs_effects.proofs.Proceeding.{proceeds_by, proceeds_same}
-use Rattle.wjs_loops.specs.declared.rounds.Position.TheVariants as positions
-use Rattle.wjs_loops.specs.Rounds.{position_in, position_left}
+use Rattle.wjs_effects.proofs.Proceeding.{proceeds_by}
+use Rattle.wjs_loops.specs.Rounds.{position_in}
 use Rattle.wjs_loops.proofs.rounds.update_expression.Goals as goal
 
 pub after_update-requires : goal.after_update-requires
@@ -29,16 +26,8 @@ returns-in-Some-clause-proceeds g c =
     proceeds_by m f (λ t go. Eval (AtExpr c.args.e.0) (env_in m old t f) go) (λ t. completion_in t c.in-Some.completion) (λ t env. then_value (loop_updated f.node.0 env)) (λ t env. position_in t f.node.0 env c.after_update.result) old mid
     (subst D c.in-Some.is c.in_ok-done.ensures.does) c.in_ok-done.ensures.later (λ t grows. c.after_update.ensures.is t f.node.0 (env_in m mid t f))
 
--- it isn't done at once, and nothing has changed
-pub returns-in-None-clause-proceeds : goal.returns-in-None-clause-proceeds
-returns-in-None-clause-proceeds g c =
-    let m = g.S.WorldStore.meaning in
-    let f = c.args.frame.now in
+pub returns-in-None-clause-same : goal.returns-in-None-clause-same
+returns-in-None-clause-same g c =
     let old = c.args.config.now in
     let mid = c.expression_at_once.new.config in
-    let here = positions.Update (Some c.args.e) in
-    let still : mid ≡ old = subst (λ (o : Option Completion). IfNone o (mid ≡ old)) c.in-None.is c.in_ok-done.ensures.same in
-    subst (λ x. Proceeds m (position_left m old f here) (position_left m x f here) old x) (sym still) (proceeds_same m (position_left m old f here) old)
-
-pub returns-in-None-clause-found : goal.returns-in-None-clause-found
-returns-in-None-clause-found g c = stands_later g.S.WorldStore.meaning c.args.config.now c.args.frame.now c.expression_at_once.new.config c.args.e c.in_ok-done.ensures.later c.requires.update
+    subst (λ (o : Option Completion). IfNone o (mid ≡ old)) c.in-None.is c.in_ok-done.ensures.same

@@ -1,16 +1,12 @@
 use Rattle.std.proofs.Common.{Option, sym, subst}
-use Rattle.std.specs.Prelude.{IfOk}
+use Rattle.std.specs.Prelude.{IfOk, IfSome}
 use Rattle.wjs_base.specs.declared.ids.NodeId.{NodeId}
-use Rattle.wjs_model.specs.Soundness.{StandsIf}
 use Rattle.wjs_heap_steps.proofs.Later.{later_same}
 use Rattle.wjs_effects.specs.Proceeding.{Proceeds}
 use Rattle.wjs_effects.proofs.Proceeding.{proceeds_same}
 use Rattle.wjs_loops.specs.declared.rounds.Position.TheVariants as positions
 use Rattle.wjs_loops.specs.Rounds.{position_left}
-use Rattle.wjs_loops.proofs.rounds.update.Goals as goal
-
-pub update_expression-requires-clause-update : goal.update_expression-requires-clause-update
-update_expression-requires-clause-update g c = subst (λ (o : Option NodeId). StandsIf c.args.config.now c.args.frame.now o) c.in-Some.is c.requires.update
+use Rattle.wjs_loops.proofs.rounds.update_at_once.Goals as goal
 
 pub returns-in-Some-clause-proceeds : goal.returns-in-Some-clause-proceeds
 returns-in-Some-clause-proceeds g c =
@@ -18,7 +14,7 @@ returns-in-Some-clause-proceeds g c =
     let f = c.args.frame.now in
     let old = c.args.config.now in
     let new = c.update_expression.new.config in
-    subst (λ (o : Option NodeId). IfOk c.update_expression.result (λ p. Proceeds m (position_left m old f (positions.Update o)) (position_left m new f p) old new)) (sym c.in-Some.is) c.update_expression.ensures.proceeds
+    subst (λ (o : Option NodeId). IfOk c.update_expression.result (λ next. IfSome next (λ p. Proceeds m (position_left m old f (positions.Update o)) (position_left m new f p) old new))) (sym c.in-Some.is) c.update_expression.ensures.proceeds
 
 pub returns-in-None-clause-proceeds : goal.returns-in-None-clause-proceeds
 returns-in-None-clause-proceeds g c =
