@@ -1,4 +1,4 @@
-use Rattle.std.proofs.Common.{◌≡◌, List, [], ◌∷◌, ◌++◌, sym, ap, subst, append-nil}
+use Rattle.std.proofs.Common.{List, ◌∷◌, sym, subst, append-nil}
 use Rattle.std.specs.Prelude.{All, OnOk, map}
 use Rattle.std.proofs.lemmas.Result.{on_ok_weaker}
 use Rattle.std.proofs.lemmas.List.Elements.{All-weaker}
@@ -10,7 +10,7 @@ use Rattle.wjs_base.proofs.TextLaws.{Grows-Has}
 use Rattle.wjs_by_content.specs.Names.{Slot, slot, arguments_name}
 use Rattle.wjs_by_content.specs.Tables.{text_in, value_in}
 use Rattle.wjs_by_content.specs.Values.{Object, Value}
-use Rattle.wjs_meaning.specs.Deeds.{Env, Act, write_all}
+use Rattle.wjs_meaning.specs.Deeds.{Env, write_all}
 use Rattle.wjs_meaning.specs.Functions.{formal_slots, declare_functions}
 use Rattle.wjs_meaning.specs.Reading.{numbers}
 use Rattle.wjs_model.specs.Soundness.{HasObject}

@@ -1,5 +1,5 @@
-use Rattle.std.proofs.Common.{◌∷◌, ◌++◌, sym, subst}
-use Rattle.std.specs.Prelude.{All, OnOk, map}
+use Rattle.std.proofs.Common.{◌∷◌, sym, subst}
+use Rattle.std.specs.Prelude.{OnOk, map}
 use Rattle.std.proofs.lemmas.Result.{on_ok_weaker}
 use Rattle.std.proofs.lemmas.List.Elements.{All-weaker}
 use Rattle.wjs_base.specs.declared.ids.NodeId.{NodeId}

@@ -1,5 +1,6 @@
-use Rattle.std.proofs.Common.{◌≡◌, List, [], ◌∷◌, ◌∙◌, sym, ap, subst}
+use Rattle.std.proofs.Common.{◌≡◌, List, [], ◌∷◌, ◌∙◌, sym, subst, eqb-true, length}
 use Rattle.std.specs.Prelude.{All, OnOk, map}
+use Rattle.std.proofs.lemmas.List.{nil_from_length}
 use Rattle.std.proofs.lemmas.Result.{on_ok_weaker}
 use Rattle.wjs_base.specs.declared.ids.NodeId.{NodeId}
 use Rattle.wjs_base.specs.declared.ids.TextId.{TextId}
@@ -28,7 +29,8 @@ returns-then-is_empty-clause-does g c =
     let s = f.scope in
     let a = c.args.arguments in
     let old = c.args.config.now in
-    let none : c.args.declared.now.functions ≡ [] = ? in
+    let fns = c.functions.result.now in
+    let none : c.args.declared.now.functions ≡ [] = sym c.functions.ensures ∙ nil_from_length fns (eqb-true (length fns) 0 (sym c.is_empty.ensures ∙ c.if-is_empty.true)) in
     on_ok_weaker c.write_variables.result
     (λ (written : DoesFirst m (λ t. write_all w (variables_of s a (map (text_in t) c.formals.result.now) (map (value_in t) c.args.values.now) (map (text_in t) c.args.others.now))) old c.write_variables.new.config). record {
       by = λ act later r h.

@@ -1,6 +1,8 @@
-use Rattle.std.proofs.Common.{◌≡◌, [], ◌∷◌, ◌++◌, length, sym, ap, ◌∙◌}
+use Rattle.std.proofs.Common.{◌≡◌, List, [], ◌∷◌, ◌++◌, length, sym, ap, ◌∙◌}
 use Rattle.std.specs.Prelude.{map}
-use Rattle.wjs_base.specs.Text.{Table}
+use Rattle.wjs_base.specs.declared.values.Name.{Name}
+use Rattle.wjs_base.specs.declared.values.Value.{Value as NumberedValue}
+use Rattle.wjs_base.specs.declared.values.Value.TheVariants as values
 use Rattle.wjs_by_content.specs.Names.{slot}
 use Rattle.wjs_by_content.specs.Tables.{value_in}
 use Rattle.wjs_by_content.specs.Values.{Object, whole}
@@ -26,11 +28,11 @@ returns-clause-does g c =
     let o = c.args.arguments.object in
     let vs = c.args.values.now in
     let n = c.in_ok-count.count in
-    let rows = (c.args.arguments.callee, _) ∷ (c.args.arguments.length, n) ∷ [] in
+    let rows : List (Name × NumberedValue) = (c.args.arguments.callee, values.Object c.args.function) ∷ (c.args.arguments.length, n) ∷ [] in
     written_as g.S.WorldStore.meaning c.args.frame.now.world c.write_listed.result (λ t. rows_in t o rows ++ elements_from o 0 (map (value_in t) vs)) (λ t. arguments_slots o c.args.function (map (value_in t) vs)) c.args.config.now c.write_listed.new.config
     c.write_listed.ensures.does c.write_listed.ensures.later
     (λ t more.
-    let size = c.in_ok-count.ensures t ∙ ap whole (sym (length-each (value_in t) vs)) in
+    let size : value_in t n ≡ whole (length (map (value_in t) vs)) = c.in_ok-count.ensures t ∙ ap whole (sym (length-each (value_in t) vs)) in
     (λ i. (slot o (c.requires.callee_text t more i), Object c.args.function) ∷ (slot o (c.requires.length_text t more i), size i) ∷ elements_from o 0 (map (value_in t) vs)))
 
 pub returns-clause-later : goal.returns-clause-later

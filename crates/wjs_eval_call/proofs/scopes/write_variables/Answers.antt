@@ -1,13 +1,14 @@
-use Rattle.std.proofs.Common.{◌≡◌, List, [], ◌∷◌, ◌++◌, ap, ◌∙◌, sym, append-nil}
+use Rattle.std.proofs.Common.{◌≡◌, List, [], ◌∷◌, ◌++◌, ap, ◌∙◌, sym, append-nil, eqb-true, length}
 use Rattle.std.specs.Prelude.{map}
+use Rattle.std.proofs.lemmas.List.{nil_from_length}
 use Rattle.std.proofs.lemmas.Result.{on_ok_weaker}
 use Rattle.std.proofs.lemmas.List.Elements.{All-weaker}
 use Rattle.wjs_base.specs.declared.ids.TextId.{TextId}
 use Rattle.wjs_base.specs.Text.{Table, Has}
 use Rattle.wjs_base.proofs.TextLaws.{Grows-Has}
-use Rattle.wjs_by_content.specs.Names.{slot}
+use Rattle.wjs_by_content.specs.Names.{Slot, slot}
 use Rattle.wjs_by_content.specs.Tables.{name_in, text_in, value_in}
-use Rattle.wjs_by_content.specs.Values.{Object}
+use Rattle.wjs_by_content.specs.Values.{Value, Object}
 use Rattle.wjs_meaning.specs.Deeds.{write_all}
 use Rattle.wjs_meaning.specs.Functions.{formal_slots}
 use Rattle.wjs_model.specs.Soundness.{HasValue}
@@ -69,9 +70,9 @@ returns-then-is_empty-clause-does g c =
     let mid = c.known_name.new.config in
     let new = c.write_formals.new.config in
     let others = c.args.others.now in
-    let formals = λ (t : Table). formal_slots s (map (text_in t) c.args.formals.now) (map (value_in t) c.args.values.now) in
-    let none : others ≡ [] = ? in
-    let all = λ (t : Table). formals t ++ undefined_slots s (map (text_in t) others) in
+    let formals : Table → List (Slot × Value) = λ t. formal_slots s (map (text_in t) c.args.formals.now) (map (value_in t) c.args.values.now) in
+    let none : others ≡ [] = nil_from_length others (eqb-true (length others) 0 (sym c.is_empty.ensures ∙ c.if-is_empty.true)) in
+    let all : Table → List (Slot × Value) = λ t. formals t ++ undefined_slots s (map (text_in t) others) in
     on_ok_weaker c.write_formals.result
     (λ (last : DoesFirst m (λ t. write_all w ((slot s (name_in t name), Object a) ∷ all t)) mid new). record {
       by = λ act later r h. c.in_ok-name.ensures.does.by (λ x. write_all w ((slot s x, Object a) ∷ all later.heap.texts) act) later r (last.by act later r h);
@@ -89,7 +90,7 @@ returns-else-is_empty-clause-does g c =
     let s = c.args.frame.now.scope in
     let a = c.args.arguments in
     let name = c.in_ok-name.name in
-    let all = λ (t : Table). formal_slots s (map (text_in t) c.args.formals.now) (map (value_in t) c.args.values.now) ++ undefined_slots s (map (text_in t) c.args.others.now) in
+    let all : Table → List (Slot × Value) = λ t. formal_slots s (map (text_in t) c.args.formals.now) (map (value_in t) c.args.values.now) ++ undefined_slots s (map (text_in t) c.args.others.now) in
     on_ok_weaker c.write_gathered.result
     (λ (last : DoesFirst m (λ t. write_all w ((slot s (name_in t name), Object a) ∷ all t)) c.known_name.new.config c.write_gathered.new.config). record {
       by = λ act later r h. c.in_ok-name.ensures.does.by (λ x. write_all w ((slot s x, Object a) ∷ all later.heap.texts) act) later r (last.by act later r h);

@@ -1,4 +1,5 @@
 use Rattle.std.proofs.Common.{sym}
+use Rattle.wjs_base.specs.Text.{Table}
 use Rattle.wjs_heap.specs.Means.{nothing}
 use Rattle.wjs_props.specs.Several.{writes, rows_in}
 use Rattle.wjs_model.specs.Apart.{IsNear}
@@ -17,7 +18,7 @@ pub returns-clause-does : goal.returns-clause-does
 returns-clause-does g c =
     let m = g.S.WorldStore.meaning in
     let old = c.args.config.now in
-    let rows = λ t. rows_in t c.args.object c.args.rows.now in
+    let rows = λ (t : Table). rows_in t c.args.object c.args.rows.now in
     rw (sym c.world.ensures) (does_rows m c.world.result rows old _ (does_ran m _ _ old _ (ran_actions m c.world.result (λ t. writes (rows t)) (λ t. nothing) old c.write_rows.new.heap c.in_ok-write_rows.ensures)))
 
 pub returns-clause-later : goal.returns-clause-later
