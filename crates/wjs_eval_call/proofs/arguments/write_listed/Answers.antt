@@ -7,7 +7,7 @@ use Rattle.wjs_by_content.specs.Tables.{value_in}
 use Rattle.wjs_meaning.specs.NewObjects.{elements_from}
 use Rattle.wjs_model.specs.Soundness.{HasValue}
 use Rattle.wjs_props.specs.Several.{rows_in}
-use Rattle.wjs_eval_call.proofs.Filling.{none_read, one_read, two_read}
+use Rattle.wjs_eval_call.proofs.Filling.{none_there, one_read, two_read}
 use Rattle.wjs_eval_call.proofs.Gathering.{written_as}
 use Rattle.wjs_eval_call.proofs.arguments.write_listed.Goals as goal
 
@@ -18,7 +18,7 @@ returns-in-empty-clause-does g c =
     let front = c.args.first ∷ c.args.second ∷ [] in
     written_as g.S.WorldStore.meaning c.args.frame.now.world c.write_rows.result (λ t. rows_in t o (c.args.first ∷ c.args.second ∷ [])) (λ t. rows_in t o front ++ elements_from o 0 (map (value_in t) vs)) c.args.config.now c.write_rows.new.config
     c.write_rows.ensures.does c.write_rows.ensures.later
-    (λ t more. ap (λ (l : List NumberedValue). rows_in t o front ++ elements_from o 0 (map (value_in t) l)) (sym (none_read vs (omega (arith, c.in-empty.len_below)))))
+    (λ t more. ap (λ (l : List NumberedValue). rows_in t o front ++ elements_from o 0 (map (value_in t) l)) (sym (none_there vs (omega (arith, c.in-empty.len_below)))))
 
 pub returns-in-empty-clause-later : goal.returns-in-empty-clause-later
 returns-in-empty-clause-later g c = c.write_rows.ensures.later
