@@ -133,6 +133,18 @@ module _ {A : Type 0} where
   three_there (x ∷ y ∷ z ∷ []) other least less = refl
   three_there (x ∷ y ∷ z ∷ u ∷ xs) other least less = absurd (omega arith)
 
+  -- the same of elements that were read
+  pub one_read : (xs : List A) (x : A) → 1 ≤ length xs → length xs < 2 → x ≡ slice_index_or xs 0 x → xs ≡ x ∷ []
+  one_read [] x least less is = absurd (omega arith)
+  one_read (y ∷ []) x least less is = ap (λ z. z ∷ []) (sym is)
+  one_read (y ∷ z ∷ xs) x least less is = absurd (omega arith)
+
+  pub two_read : (xs : List A) (x y : A) → 2 ≤ length xs → length xs < 3 → x ≡ slice_index_or xs 0 x → y ≡ slice_index_or xs 1 y → xs ≡ x ∷ y ∷ []
+  two_read [] x y least less first second = absurd (omega arith)
+  two_read (a ∷ []) x y least less first second = absurd (omega arith)
+  two_read (a ∷ b ∷ []) x y least less first second = λ i. sym first i ∷ sym second i ∷ []
+  two_read (a ∷ b ∷ c ∷ xs) x y least less first second = absurd (omega arith)
+
 module _ (t : Table) (s : ObjId) (vs : List NumberedValue) where
   -- the slot of a formal, whose number says its argument
   abbrev pub formal_slot : TextId → ℕ → Slot × Value

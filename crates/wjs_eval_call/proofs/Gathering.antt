@@ -36,9 +36,9 @@ pub row_there : {S : Type 0} (c : Config S) (old new : List (Name × NumberedVal
 row_there c old new row h name value e = subst (HasRows c) (sym e) (holds_append (λ (r : Name × NumberedValue). HasName c r.0 × HasValue c r.1) old (row ∷ []) h ((name, value), tt))
 
 -- two things that hold after a call
-both_ok : {A P Q : Type 0} (r : Result A OutOfMemory) → OnOk r P → OnOk r Q → OnOk r (P × Q)
-both_ok (Ok x) p q = (p, q)
-both_ok (Err e) p q = tt
+both_ok : {A : Type 0} (P Q : Type 0) (r : Result A OutOfMemory) → OnOk r P → OnOk r Q → OnOk r (P × Q)
+both_ok P Q (Ok x) p q = (p, q)
+both_ok P Q (Err e) p q = tt
 
 -- what was written, said otherwise
 pub written_as : {S : Type 0} (meaning : S → Meaning) (w : WorldId) (r : Result (Unit {0}) OutOfMemory) (one two : Table → List (Slot × Value)) (old new : Config S)
@@ -47,4 +47,4 @@ written_as meaning w r one two old new does later same =
     on_ok_weaker r
     (λ (both : DoesFirst meaning (λ t. write_all w (one t)) old new × Later meaning old new).
     first_same meaning (λ t. write_all w (one t)) (λ t. write_all w (two t)) old new (λ t more act. ap (λ es. write_all w es act) (sym (same t (Grows-trans old.heap.texts new.heap.texts t both.1.texts more)))) both.0)
-    (both_ok r does later)
+    (both_ok (DoesFirst meaning (λ t. write_all w (one t)) old new) (Later meaning old new) r does later)

@@ -240,8 +240,8 @@ fn write_listed<S: WorldStore>(
 {
     match values {
         [] => write_rows(config, frame, object, &[first, second]),
-        [a] => {
-            let rows = [first, second, (Name::Index(0), *a)];
+        [only] => {
+            let rows = [first, second, (Name::Index(0), *only)];
             write_rows(config, frame, object, &rows)
         }
         [a, b] => {
