@@ -1,5 +1,5 @@
 -- Texts that are found by their keys.
-use Rattle.std.proofs.Common.{◌≡◌, ℕ, suc, ◌+◌, ◌<◌, ◌≤◌, ◌⊎◌, ⊎_elim, inr, Bool, true, false, [], ◌∷◌, ◌++◌, Option, None, Some, length, slice_get, IsSome, is_some, refl, sym, ap, subst, ◌∙◌, true≢false, arith}
+use Rattle.std.proofs.Common.{◌≡◌, ℕ, suc, ◌+◌, ◌<◌, ◌≤◌, ◌⊎◌, ⊎_elim, inr, Bool, true, false, List, [], ◌∷◌, ◌++◌, Option, None, Some, length, slice_get, IsSome, is_some, refl, sym, ap, subst, ◌∙◌, true≢false, arith}
 use Rattle.std.proofs.lemmas.Bool.{cases_Bool, cases_lt, cases_order}
 use Rattle.std.proofs.lemmas.List.{length-map, map_push}
 use Rattle.std.proofs.lemmas.List.Elements.{All-push}
@@ -14,9 +14,11 @@ use Rattle.wjs_texts.specs.declared.buffers.Span.{Span}
 use Rattle.wjs_texts.specs.declared.keys.Key.{Key}
 use Rattle.wjs_texts.specs.Hash.{hash_of}
 use Rattle.wjs_texts.specs.Keys.{Entries, key_of, same_key, at_key, texts_in, past_turns, IsEntry, AreFound, HasNone, IsFree}
+use Rattle.wjs_texts.specs.Known.{AreKept}
 use Rattle.wjs_texts.specs.Spans.{units_in, IsWithin, Stands}
-use Rattle.wjs_base.specs.Text.{Units, Table, Denotes, IsText, IsTable, Interns}
+use Rattle.wjs_base.specs.Text.{Units, Table, Denotes, IsText, IsTable, Grows, Interns}
 use Rattle.wjs_base.proofs.Lists.{get_last, get_pushed}
+use Rattle.wjs_base.proofs.TextLaws.{Grows-Denotes}
 
 same_key_laws : IsEquivalence same_key
 same_key_laws = and_equiv (on_equiv (λ (k : Key). k.hash) nat_eq_equiv) (on_equiv (λ (k : Key). k.turn) nat_eq_equiv)
@@ -125,6 +127,10 @@ module _ (buffers : Table) (entries : Entries) where
           (λ r. ⊎_elim (λ b. others t b) (λ b. absurd (omega (arith, b, before))) r)
           (cases_order t turn)
 
+-- the numbers of known texts stay when a table grows
+pub kept_grown : (old new : Table) (kept : List (Option TextId)) → Grows old new → AreKept old kept → AreKept new kept
+kept_grown old new kept more are = λ place id units at known. Grows-Denotes old new id units more (are place id units at known)
+
 -- texts stay when what is in the buffers stays
 module _ (old new : Table) (stands : Stands old new) where
   texts_stay : (entries : Entries) → ((place : ℕ) (entry : Key × Span) → slice_get entries place ≡ Some entry → IsWithin old entry.1) → texts_in new entries ≡ texts_in old entries
@@ -159,6 +165,9 @@ module _ (old new : Table) (stands : Stands old new) where
           let e = map_push (λ (e : Key × Span). units_in new e.1) entries (key, span) in
           let s = same_texts in
           e ∙ ap (λ (us : Units). texts_in new entries ++ us ∷ []) are ∙ ap (λ (ts : Table). ts ++ units ∷ []) s
+
+      pub grown : Grows (texts_in old entries) (texts_in new (entries ++ (key, span) ∷ []))
+      grown = (units ∷ [], texts_more)
 
       kept_entry : (entry : Key × Span) → IsEntry new entries entry → IsEntry new (entries ++ (key, span) ∷ []) entry
       kept_entry entry i = record { within = i.within; hash = i.hash; few = i.few; turns = λ t before. some_more (same_key (key_of (units_in new entry.1) t)) entries ((key, span) ∷ []) (i.turns t before) }

@@ -1,3 +1,4 @@
 pub mod Hash
 pub mod Keys
+pub mod Known
 pub mod Spans

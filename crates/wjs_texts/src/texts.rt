@@ -2,12 +2,14 @@
 ghost use Rattle.std.specs.Prelude.{◌≡◌, ◌+◌, ◌<◌, ◌≤◌, ◌↔◌, ◌++◌, [], ◌∷◌, length, IfOk, OnOk, OnErr, IsErrOf, None, slice_get, Some, true};
 ghost use Rattle.wjs_texts.specs.Hash.{hash_of};
 ghost use Rattle.wjs_texts.specs.Keys.{AreFound, IsSought, at_key, texts_in};
+ghost use Rattle.wjs_texts.specs.Known.{text_of};
 ghost use Rattle.wjs_texts.specs.Spans.{IsWithin, units_in};
 ghost use Rattle.wjs_base.specs.Text.{Denotes, Finds, Grows, Has, Interns, IsTable, IsText, Units, longest};
 
 use crate::buffers::{Buffers, Span};
 use crate::hash::{EMPTY_HASH, FACTOR, factor, hash_behind};
 use crate::keys::{Key, Sought};
+use crate::known::{KNOWN, Known};
 use indexmap::IndexMap;
 use std::alloc::Global;
 use std::marker::Model;
@@ -16,9 +18,6 @@ use wjs_base::{OutOfMemory, TextId};
 
 /// The longest text, in code units.
 pub const LONGEST_TEXT: usize = 16_777_216;
-
-/// How many texts that are asked for again can be kept apart.
-const KEPT: usize = 16;
 
 /// Why a text is not interned.
 #[derive(Clone, Copy, Debug, PartialEq, Eq, Error)]
@@ -55,8 +54,8 @@ pub struct Texts {
     /// Where each text stands in the buffers, in the order of their numbers.
     spans: IndexMap<Key, Span>,
     buffers: Buffers,
-    /// Where `find_again` found the latest text of each of its keys.
-    found: [usize; 16],
+    /// The number of each known text that was found, at its place: a text keeps its number.
+    known: [Option<TextId>; 9],
 }
 
 impl Model for Texts {
@@ -65,10 +64,11 @@ impl Model for Texts {
     ghost Value = { Table };
 
     ghost use Rattle.wjs_texts.specs.Keys.{AreFound, texts_in};
+    ghost use Rattle.wjs_texts.specs.Known.{AreKept};
 
     ghost view = { λ t. texts_in t.buffers t.spans.entries };
 
-    ghost invariant = { λ t. AreFound t.buffers t.spans.entries };
+    ghost invariant = { λ t. AreFound t.buffers t.spans.entries × AreKept (texts_in t.buffers t.spans.entries) t.known };
 }
 
 impl Texts {
@@ -81,7 +81,7 @@ impl Texts {
         Ok(Texts {
             spans: IndexMap::new(alloc),
             buffers,
-            found: [0; KEPT],
+            known: [None; KNOWN],
         })
     }
 
@@ -116,32 +116,27 @@ impl Texts {
         }
     }
 
-    /// What `find` gives. For a text that is looked for again and again it is quicker, where no other text is looked for by the
-    /// same key: a text keeps its number, so the one that was found by the key before is compared with the units first.
-    pub fn find_again(&mut self, key: usize, units: &[u16]) -> Option<TextId>
-        ensures finds { Finds self.old units.now result }
+    /// The number of a known text; None exactly where no text of the table is it. It compares no units where the text was found
+    /// before.
+    #[inline(always)]
+    pub fn known(&mut self, known: Known) -> Option<TextId>
+        ensures finds { Finds self.old (text_of known) result }
         ensures same { self.new ≡ self.old }
     {
-        let key = key % KEPT;
-        let place = self.found[key];
-        if self.stands_at(place, units) {
-            return Some(TextId(place as u64));
+        match self.known[known.place()] {
+            Some(id) => Some(id),
+            None => self.find_known(known),
         }
-        let id = self.find(units)?;
-        self.found[key] = id.0 as usize;
-        Some(id)
     }
 
-    /// Whether the text of a number is there and has these code units.
-    #[inline(always)]
-    fn stands_at(&self, place: usize, units: &[u16]) -> bool
-        ensures { result ≡ true → slice_get self.now place ≡ Some units.now }
+    /// The number of a known text, which is kept where there is one.
+    fn find_known(&mut self, known: Known) -> Option<TextId>
+        ensures finds { Finds self.old (text_of known) result }
+        ensures same { self.new ≡ self.old }
     {
-        if place >= self.spans.len() {
-            return false;
-        }
-        let (_, span) = entry_at(&self.spans, TextId(place as u64));
-        self.buffers.units(span) == units
+        let id = self.find(known.units())?;
+        self.known[known.place()] = Some(id);
+        Some(id)
     }
 
     /// The code units of the text of a number.
@@ -291,6 +286,7 @@ fn put(
     ensures ok { IfOk result
         (Interns (texts_in buffers.old spans.old.entries) (texts_in buffers.new spans.new.entries) (units_in buffers.old front ++ back.now)) }
     ensures err { OnErr result (texts_in buffers.new spans.new.entries ≡ texts_in buffers.old spans.old.entries) }
+    ensures grows { Grows (texts_in buffers.old spans.old.entries) (texts_in buffers.new spans.new.entries) }
     ensures found { AreFound buffers.new spans.new.entries }
 {
     let key = match seek(spans, buffers, hash, front, back) {

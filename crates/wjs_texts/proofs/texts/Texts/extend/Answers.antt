@@ -4,14 +4,14 @@ use Rattle.wjs_texts.specs.Hash.{hash_behind, hash_of}
 use Rattle.wjs_texts.specs.Keys.{texts_in}
 use Rattle.wjs_texts.specs.Spans.{units_in}
 use Rattle.wjs_base.specs.Text.{Units, Table, Denotes, Interns}
-use Rattle.wjs_texts.proofs.Finding.{text_at}
+use Rattle.wjs_texts.proofs.Finding.{text_at, kept_grown}
 use Rattle.wjs_texts.proofs.Hashes.{hash_append}
 use Rattle.wjs_texts.proofs.Standing.{longer_text}
 use Rattle.wjs_base.proofs.TextLaws.{Denotes-unique, Denotes-IsText}
 use Rattle.wjs_texts.proofs.texts.Texts.extend.Goals as goal
 
 pub units-requires : goal.units-requires
-units-requires c = (c.self.invariant.entry c.args.front.0 c.entry_at.result c.entry_at.ensures).within
+units-requires c = (c.self.invariant.0.entry c.args.front.0 c.entry_at.result c.entry_at.ensures).within
 
 pub returns-then-units-back-gt-LONGEST_TEXT-clause-too_long : goal.returns-then-units-back-gt-LONGEST_TEXT-clause-too_long
 returns-then-units-back-gt-LONGEST_TEXT-clause-too_long c = λ units at.
@@ -23,13 +23,13 @@ returns-then-units-back-gt-LONGEST_TEXT-clause-too_long c = λ units at.
     (λ _. omega (arith, one, two), λ _. refl)
 
 pub units-requires-2 : goal.units-requires-2
-units-requires-2 c = (c.self.invariant.entry c.args.front.0 c.entry_at.result c.entry_at.ensures).within
+units-requires-2 c = (c.self.invariant.0.entry c.args.front.0 c.entry_at.result c.entry_at.ensures).within
 
 pub first_hash-requires : goal.first_hash-requires
-first_hash-requires c = (c.self.invariant.entry c.args.front.0 c.entry_at.result c.entry_at.ensures).hash ∙ ap (hash_of c.entry_at.result.0.turn) (sym c.units-2.ensures)
+first_hash-requires c = (c.self.invariant.0.entry c.args.front.0 c.entry_at.result c.entry_at.ensures).hash ∙ ap (hash_of c.entry_at.result.0.turn) (sym c.units-2.ensures)
 
 pub put-requires-clause-front : goal.put-requires-clause-front
-put-requires-clause-front c = (c.self.invariant.entry c.args.front.0 c.entry_at.result c.entry_at.ensures).within
+put-requires-clause-front c = (c.self.invariant.0.entry c.args.front.0 c.entry_at.result c.entry_at.ensures).within
 
 pub put-requires-clause-hash : goal.put-requires-clause-hash
 put-requires-clause-hash c =
@@ -44,7 +44,7 @@ put-requires-clause-text c =
     let entries = c.self.inside.spans.entries in
     let front = units_in buffers c.entry_at.result.1 in
     let two = ap (λ (us : Units). length us) c.units.ensures in
-    longer_text front c.args.back.now (Denotes-IsText (texts_in buffers entries) c.args.front front c.self.invariant.table (text_at buffers entries c.args.front.0 c.entry_at.result c.entry_at.ensures)) c.type_inv.back (omega (arith, two))
+    longer_text front c.args.back.now (Denotes-IsText (texts_in buffers entries) c.args.front front c.self.invariant.0.table (text_at buffers entries c.args.front.0 c.entry_at.result c.entry_at.ensures)) c.type_inv.back (omega (arith, two))
 
 pub returns-clause-ok : goal.returns-clause-ok
 returns-clause-ok c = λ units at.
@@ -73,3 +73,6 @@ returns-in_err-put-clause-too_long c = λ units at.
     let two = ap (λ (us : Units). length us) c.units.ensures in
     let p = err_from_is_err_and c.from_residual.result c.from_residual.ensures.1 in
     rw (p.1, p.2) (λ e. cc, λ e. absurd (omega (arith, one, two, e)))
+
+pub invariant_of-self-2 : goal.invariant_of-self-2
+invariant_of-self-2 c = (c.put.ensures.found, kept_grown _ _ _ c.put.ensures.grows c.self.invariant.1)
