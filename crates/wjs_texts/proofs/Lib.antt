@@ -1,5 +1,6 @@
 pub mod Decimals
 mod Finding
 mod Hashes
+mod Letters
 mod Standing
 mod Transcoding

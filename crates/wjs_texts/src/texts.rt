@@ -1,9 +1,10 @@
 //! The table of interned texts.
-ghost use Rattle.std.specs.Prelude.{◌≡◌, ◌+◌, ◌<◌, ◌≤◌, ◌↔◌, ◌++◌, [], ◌∷◌, length, IfOk, OnOk, OnErr, IsErrOf, None, slice_get, Some, true};
+ghost use Rattle.std.specs.Prelude.{◌≡◌, ◌+◌, ◌<◌, ◌≤◌, ◌↔◌, ◌++◌, [], ◌∷◌, length, IfOk, IfSome, OnOk, OnErr, IsErrOf, None, slice_get, Some, true};
 ghost use Rattle.wjs_texts.specs.Hash.{hash_of};
 ghost use Rattle.wjs_texts.specs.Keys.{AreFound, IsSought, at_key, texts_in};
 ghost use Rattle.wjs_texts.specs.Known.{text_of};
 ghost use Rattle.wjs_texts.specs.Spans.{IsWithin, units_in};
+ghost use Rattle.wjs_base.specs.Spelling.{SpellsNoIndex};
 ghost use Rattle.wjs_base.specs.Text.{Denotes, Finds, Grows, Has, Interns, IsTable, IsText, Units, longest};
 
 use crate::buffers::{Buffers, Span};
@@ -116,17 +117,26 @@ impl Texts {
         }
     }
 
-    /// The number of a known text; None exactly where no text of the table is it. It compares no units where the text was found
-    /// before.
+    /// The number of a known text; None exactly where no text of the table is it. None of them spells an index. It compares no units
+    /// where the text was found before.
     #[inline(always)]
     pub fn known(&mut self, known: Known) -> Option<TextId>
         ensures finds { Finds self.old (text_of known) result }
+        ensures no_index { IfSome result (λ id. SpellsNoIndex self.old id) }
         ensures same { self.new ≡ self.old }
     {
-        match self.known[known.place()] {
+        match self.kept(known) {
             Some(id) => Some(id),
             None => self.find_known(known),
         }
+    }
+
+    /// The number of a known text that was found before.
+    #[inline(always)]
+    fn kept(&self, known: Known) -> Option<TextId>
+        ensures { IfSome result (λ id. Denotes self.now id (text_of known)) }
+    {
+        self.known[known.place()]
     }
 
     /// The number of a known text, which is kept where there is one.
