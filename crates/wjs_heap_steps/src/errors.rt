@@ -11,9 +11,9 @@ ghost use Rattle.wjs_meaning.specs.Builtins as first;
 ghost use Rattle.wjs_model.specs.Soundness.{Base, HasObject, HasName, HasValue};
 ghost use Rattle.wjs_frames.specs.Doing.{Does};
 ghost use Rattle.wjs_frames.specs.Following.{Later};
-ghost use Rattle.wjs_heap_steps.specs.Known.{text_of as known_text};
+ghost use Rattle.wjs_texts.specs.Known.{text_of as known_text};
 
-use crate::known::{Known, known_name};
+use crate::known::known_name;
 use crate::makes::{builtin, create, object_of, one_fixed, two_fixed};
 use crate::messages;
 use crate::texts::{intern, text_of, units_of};
@@ -22,6 +22,7 @@ use wjs_base::{Name, ObjId, OutOfMemory, Value};
 use wjs_meaning::{Builtin, Trouble};
 use wjs_model::Config;
 use wjs_store::WorldStore;
+use wjs_texts::Known;
 
 /// The name of the error of a commit that failed.
 const COMMIT_FAILED: [u16; 12] = [67, 111, 109, 109, 105, 116, 70, 97, 105, 108, 101, 100];

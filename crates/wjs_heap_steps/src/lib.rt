@@ -19,7 +19,7 @@ mod values;
 mod worlds;
 
 pub use errors::create_error;
-pub use known::{Known, get_known, known_name, write_known};
+pub use known::{get_known, known_name, write_known};
 pub use looks::{
     class_of, code_of, fixed, function_of, is_array, is_callable, is_hidden, is_past, next_number,
     primitive_of, scope_of, world_object,
@@ -35,4 +35,5 @@ pub use references::{reference_at, store, store_local, value_of};
 pub use slots::{read, read_content, write, write_rows};
 pub use texts::{extend, intern, name_of, text_of, units_of};
 pub use values::member_value;
+pub use wjs_texts::Known;
 pub use worlds::{commit, create_world_object, has_world, sprout, world_of};

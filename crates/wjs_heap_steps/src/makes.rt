@@ -17,7 +17,7 @@ ghost use Rattle.wjs_model.specs.Standing.{FunctionStands};
 ghost use Rattle.wjs_frames.specs.Doing.{Does};
 ghost use Rattle.wjs_frames.specs.Following.{Later};
 
-use crate::known::{Known, known_name};
+use crate::known::known_name;
 use crate::texts::units_of;
 use crate::values::length_value;
 use std::alloc::Global;
@@ -26,6 +26,7 @@ use wjs_base::{Name, ObjId, OutOfMemory, TextId, Value};
 use wjs_meaning::Builtin;
 use wjs_model::Config;
 use wjs_store::WorldStore;
+use wjs_texts::Known;
 
 /// An object that was there before the first step.
 pub fn builtin<S: WorldStore>(config: &Config<S>, builtin: Builtin) -> ObjId

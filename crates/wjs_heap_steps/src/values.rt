@@ -11,7 +11,6 @@ ghost use Rattle.wjs_frames.specs.Doing.{Does};
 ghost use Rattle.wjs_frames.specs.Following.{Later};
 ghost use Rattle.wjs_frames.specs.Parts.{env_in};
 
-use crate::known::LENGTH;
 use crate::makes::builtin;
 use crate::properties::get_value;
 use crate::texts::units_of;
@@ -19,6 +18,9 @@ use wjs_base::{Name, ObjId, OutOfMemory, TextId, Value, Whole};
 use wjs_meaning::Builtin;
 use wjs_model::{Config, Frame};
 use wjs_store::WorldStore;
+
+/// The code units of `length`.
+const LENGTH: [u16; 6] = [108, 101, 110, 103, 116, 104];
 
 /// A length as a value.
 pub(crate) fn length_value(length: usize) -> Value

@@ -9,8 +9,8 @@ use Rattle.wjs_by_content.specs.Values.{Text, Value as Said, String}
 use Rattle.wjs_meaning.specs.declared.trouble.Trouble.{Trouble}
 use Rattle.wjs_meaning.specs.Errors.{fixed_name}
 use Rattle.wjs_model.specs.Soundness.{HasName, HasValue}
-use Rattle.wjs_heap_steps.specs.declared.known.Known.TheVariants as known
-use Rattle.wjs_heap_steps.specs.Known.{text_of}
+use Rattle.wjs_texts.specs.declared.known.Known.TheVariants as known
+use Rattle.wjs_texts.specs.Known.{text_of}
 use Rattle.wjs_heap_steps.proofs.Composing.{if_ok, quiet_as, quiet_then}
 use Rattle.wjs_heap_steps.proofs.Making.{other_fixed}
 use Rattle.wjs_heap_steps.proofs.Later.{later_twice}

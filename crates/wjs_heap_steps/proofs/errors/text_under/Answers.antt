@@ -1,5 +1,5 @@
 use Rattle.wjs_by_content.specs.Tables.{text_in, name_in}
-use Rattle.wjs_heap_steps.specs.Known.{text_of}
+use Rattle.wjs_texts.specs.Known.{text_of}
 use Rattle.wjs_heap_steps.proofs.Composing.{quiet_then}
 use Rattle.wjs_heap_steps.proofs.Later.{later_twice}
 use Rattle.wjs_heap_steps.proofs.errors.text_under.Goals as goal

@@ -1,6 +1,6 @@
 use Rattle.wjs_by_content.specs.Tables.{name_in, value_in}
 use Rattle.wjs_meaning.specs.Properties as line
-use Rattle.wjs_heap_steps.specs.Known.{text_of}
+use Rattle.wjs_texts.specs.Known.{text_of}
 use Rattle.wjs_heap_steps.proofs.Composing.{does_with, if_ok}
 use Rattle.std.proofs.lemmas.Result.{on_ok_weaker}
 use Rattle.wjs_heap_steps.proofs.Later.{later_twice}
