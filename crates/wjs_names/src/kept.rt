@@ -26,8 +26,8 @@ const LONGEST_LIST: usize = 256;
 /// For how many rows a list has room first, as an object gets its fifth, or its fourth where a name isn't tiny.
 const FIRST_ROWS: usize = 6;
 
-/// Up to how many rows stand in the object's place.
-const ROWS_IN_PLACE: usize = 4;
+/// Up to how many rows stand in the object's place: they need no room.
+pub const ROWS_IN_PLACE: usize = 4;
 
 /// Rows in the order of their names. Up to three stand in the object's place itself, and four where their names are tiny, as the
 /// scope and the arguments of a short call have them. Those of an object with more stand elsewhere: each object takes the room of
