@@ -1,5 +1,5 @@
 -- Cases, and facts of orders and tests.
-use Rattle.std.proofs.Common.{◌≡◌, Bool, true, false, not, T, Option, None, Some, is_some, Result, Ok, Err, OnOk, OnErr, IfOk, refl, ap, sym, ◌∙◌, cond}
+use Rattle.std.proofs.Common.{◌≡◌, Bool, true, false, not, Option, None, Some, is_some, Result, Ok, Err, OnOk, OnErr, IfOk, refl, ap, sym, ◌∙◌, cond}
 use Rattle.std.specs.declared.cmp.Ordering.{Ordering}
 use Rattle.std.specs.declared.cmp.Ordering.TheVariants.{Less, Equal, Greater}
 use Rattle.std.specs.Ordering.{is_lt, is_gt, is_eq, ordering_reverse, eq_by_cmp}

@@ -82,13 +82,18 @@ module _ {K V : Type 0} {R : K → K → Ordering} (total : IsTotalOrder R) (k :
     pub found_first : (es : List (K × V)) → b ≡ true → is_some (find R k (e ∷ es)) ≡ true
     found_first es t = ap (λ c. is_some (cond c (Some e.1) (find R k es))) (sym is ∙ t)
 
+    pub found_one : b ≡ is_some (find R k (e ∷ []))
+    found_one = by_bool b
+        (λ t. t ∙ sym (found_first [] t))
+        (λ f. f ∙ sym (ap (λ c. is_some (cond c (Some e.1) None)) (sym is ∙ f)))
+
     pub put_one : now ∷ [] ≡ cond b (put R k v (e ∷ [])) (e ∷ [])
     put_one = by_bool b
         (λ t. put_first [] t ∙ sym (ap (λ c. cond c (put R k v (e ∷ [])) (e ∷ [])) t))
         (λ t. ap (λ x. x ∷ []) (h ∙ ap (λ c. cond c (e.0, v) e) t) ∙ sym (ap (λ c. cond c (put R k v (e ∷ [])) (e ∷ [])) t))
 
-    pub found_rest : (es : List (K × V)) → b ≡ false → is_some (find R k es) ≡ true → is_some (find R k (e ∷ es)) ≡ true
-    found_rest es f s = ap (λ c. is_some (cond c (Some e.1) (find R k es))) (sym is ∙ f) ∙ s
+    pub found_rest : (es : List (K × V)) (d : Bool) → b ≡ false → d ≡ is_some (find R k es) → d ≡ is_some (find R k (e ∷ es))
+    found_rest es d f s = s ∙ sym (ap (λ c. is_some (cond c (Some e.1) (find R k es))) (sym is ∙ f))
 
     pub put_rest : (es more : List (K × V)) (d : Bool) → T (is_sorted R (e ∷ es)) → b ≡ false → (d ≡ true → is_some (find R k es) ≡ true) → more ≡ cond d (put R k v es) es → now ∷ more ≡ cond d (put R k v (e ∷ es)) (e ∷ es)
     put_rest es more d s f found m =

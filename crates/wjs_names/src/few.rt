@@ -171,6 +171,20 @@ pub(crate) fn set<V: Copy>(
     let Some(row) = row_of(name, value) else {
         return Err(OutOfMemory);
     };
+    put_row(few, row)
+}
+
+/// `set` of a row with its name in short.
+pub(crate) fn put_row<V: Copy>(
+    few: &mut Vec<(ShortName, V)>,
+    row: (ShortName, V),
+) -> Result<bool, OutOfMemory>
+    requires { IsInOrder name_cmp few.old.items }
+    ensures ok { OnOk result (few.new.items ≡ put name_cmp row.0 row.1 few.old.items) }
+    ensures added { IfOk result (λ added. added ≡ not (is_some (find name_cmp row.0 few.old.items))) }
+    ensures err { OnErr result (few.new.items ≡ few.old.items) }
+{
+    let name = row.0.name();
     if goes_last(few, name) {
         return push(few, row);
     }

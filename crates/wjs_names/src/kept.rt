@@ -1,5 +1,5 @@
 //! The rows of one object, in a list or by their indices.
-ghost use Rattle.std.specs.Prelude.{◌≡◌, ◌++◌, ◌∷◌, [], not, is_some, OnOk, OnErr, IfOk, IfSome, IsTrue, None, true, cond};
+ghost use Rattle.std.specs.Prelude.{◌≡◌, ◌++◌, ◌∷◌, [], not, is_some, OnOk, OnErr, IfOk, IfSome, IsTrue, None, true, false, cond};
 ghost use Rattle.std.specs.Option.{option_copied};
 ghost use Rattle.std.specs.FinMap as map;
 ghost use Rattle.std.specs.FinMap.Entries.{put, find};
@@ -14,7 +14,7 @@ use crate::few;
 use crate::four::Four;
 use crate::many::Many;
 use crate::short::{
-    Short, put_in, put_in_three, put_in_two, value_in, value_in_three, value_in_two,
+    Short, put_in, put_in_three, put_in_two, three, two, value_in, value_in_three, value_in_two,
 };
 use crate::short_name::ShortName;
 use std::alloc::Global;
@@ -26,8 +26,8 @@ const LONGEST_LIST: usize = 256;
 /// For how many rows a list has room first, as an object gets its fifth, or its fourth where a name isn't tiny.
 const FIRST_ROWS: usize = 6;
 
-/// Up to how many rows stand in the object's place.
-const ROWS_IN_PLACE: usize = 4;
+/// Up to how many rows stand in the object's place: they need no room.
+pub const ROWS_IN_PLACE: usize = 4;
 
 /// Rows in the order of their names. Up to three stand in the object's place itself, and four where their names are tiny, as the
 /// scope and the arguments of a short call have them. Those of an object with more stand elsewhere: each object takes the room of
@@ -101,6 +101,7 @@ impl<V: Copy> Kept<V> {
     fn replace(&mut self, name: Name, value: V) -> bool
         requires { IsInOrder name_cmp (rows_of self.old) }
         ensures found { IsTrue result → is_some (find name_cmp name (rows_of self.old)) ≡ true }
+        ensures absent { is_past_three self.new ≡ false → result ≡ false → find name_cmp name (rows_of self.old) ≡ None }
         ensures replaced { rows_of self.new ≡ cond result (put name_cmp name value (rows_of self.old)) (rows_of self.old) }
     {
         match self {
@@ -140,89 +141,83 @@ impl<V: Copy> Kept<V> {
         }
     }
 
-    /// `set`, with room for one more row.
+    /// `set`, with room for one more row. No row in the object's place has the name.
     #[inline(never)]
     fn add(&mut self, name: Name, value: V, alloc: Global) -> Result<bool, OutOfMemory>
-        requires { IsInOrder name_cmp (rows_of self.old) }
+        requires ordered { IsInOrder name_cmp (rows_of self.old) }
+        requires absent { is_past_three self.old ≡ false → find name_cmp name (rows_of self.old) ≡ None }
         ensures ok { OnOk result (rows_of self.new ≡ put name_cmp name value (rows_of self.old)) }
         ensures added { IfOk result (λ added. added ≡ not (is_some (find name_cmp name (rows_of self.old)))) }
         ensures err { OnErr result (rows_of self.new ≡ rows_of self.old) }
     {
-        if self.has_room(name) {
-            return self.add_listed(name, value);
-        }
-        match self.with(name, value) {
-            Some(short) => {
-                *self = kept_of(short);
-                Ok(true)
-            }
-            None => self.add_fourth(name, value, alloc),
-        }
-    }
-
-    /// Whether the rows stand in a list that can have one more of this name.
-    #[inline(always)]
-    fn has_room(&self, name: Name) -> bool {
-        match self {
-            Kept::Few(few) => few.len() < LONGEST_LIST && ShortName::new(name).is_some(),
-            _ => false,
-        }
-    }
-
-    /// `add` in a list.
-    fn add_listed(&mut self, name: Name, value: V) -> Result<bool, OutOfMemory>
-        requires { IsInOrder name_cmp (rows_of self.old) }
-        ensures ok { OnOk result (rows_of self.new ≡ put name_cmp name value (rows_of self.old)) }
-        ensures added { IfOk result (λ added. added ≡ not (is_some (find name_cmp name (rows_of self.old)))) }
-        ensures err { OnErr result (rows_of self.new ≡ rows_of self.old) }
-    {
-        match self {
-            Kept::Few(few) => few::set(few, name, value),
-            _ => Err(OutOfMemory),
-        }
-    }
-
-    /// Up to three rows with one more, where these are up to three too.
-    fn with(&self, name: Name, value: V) -> Option<Short<V>>
-        requires { IsInOrder name_cmp (rows_of self.now) }
-        ensures put { IfSome result (λ short. short_rows short ≡ put name_cmp name value (rows_of self.now)) }
-        ensures none { IfSome result (λ _. find name_cmp name (rows_of self.now) ≡ None) }
-    {
-        let short = self.short()?;
-        if self.get(name).is_some() {
-            return None;
-        }
-        let row = few::row_of(name, value)?;
-        short.with(row)
-    }
-
-    /// `add` to three rows or more.
-    #[inline(never)]
-    fn add_fourth(&mut self, name: Name, value: V, alloc: Global) -> Result<bool, OutOfMemory>
-        requires { IsInOrder name_cmp (rows_of self.old) }
-        ensures ok { OnOk result (rows_of self.new ≡ put name_cmp name value (rows_of self.old)) }
-        ensures added { IfOk result (λ added. added ≡ not (is_some (find name_cmp name (rows_of self.old)))) }
-        ensures err { OnErr result (rows_of self.new ≡ rows_of self.old) }
-    {
-        match self.with_fourth(name, value) {
-            Some(four) => {
-                *self = Kept::Four(four);
-                Ok(true)
-            }
+        match few::row_of(name, value) {
+            Some(row) => self.add_row(row, alloc),
             None => self.add_elsewhere(name, value, alloc),
         }
     }
 
-    /// Three rows with one more, where their names are tiny.
-    fn with_fourth(&self, name: Name, value: V) -> Option<Four<V>>
-        requires { IsInOrder name_cmp (rows_of self.now) }
-        ensures put { IfSome result (λ four. rows_of_four four ≡ put name_cmp name value (rows_of self.now)) }
-        ensures none { IfSome result (λ _. find name_cmp name (rows_of self.now) ≡ None) }
+    /// `add` of a row with its name in short.
+    #[inline(always)]
+    fn add_row(&mut self, row: (ShortName, V), alloc: Global) -> Result<bool, OutOfMemory>
+        requires ordered { IsInOrder name_cmp (rows_of self.old) }
+        requires absent { is_past_three self.old ≡ false → find name_cmp row.0 (rows_of self.old) ≡ None }
+        ensures ok { OnOk result (rows_of self.new ≡ put name_cmp row.0 row.1 (rows_of self.old)) }
+        ensures added { IfOk result (λ added. added ≡ not (is_some (find name_cmp row.0 (rows_of self.old)))) }
+        ensures err { OnErr result (rows_of self.new ≡ rows_of self.old) }
     {
         match self {
-            Kept::Three(first, second, third) => {
-                three_with_one(first, second, third, name, value)
+            Kept::Zero => {
+                *self = Kept::One(row);
+                Ok(true)
             }
+            Kept::One(first) => {
+                let more = two(*first, row);
+                *self = kept_of(more);
+                Ok(true)
+            }
+            Kept::Two(first, second) => {
+                let more = three(*first, *second, row);
+                *self = kept_of(more);
+                Ok(true)
+            }
+            Kept::Few(few) => {
+                if few.len() < LONGEST_LIST {
+                    return few::put_row(few, row);
+                }
+                self.add_elsewhere(row.0.name(), row.1, alloc)
+            }
+            _ => self.add_fourth(row, alloc),
+        }
+    }
+
+    /// `add_row` to three rows or more.
+    #[inline(never)]
+    fn add_fourth(&mut self, row: (ShortName, V), alloc: Global) -> Result<bool, OutOfMemory>
+        requires ordered { IsInOrder name_cmp (rows_of self.old) }
+        requires absent { is_past_three self.old ≡ false → find name_cmp row.0 (rows_of self.old) ≡ None }
+        ensures ok { OnOk result (rows_of self.new ≡ put name_cmp row.0 row.1 (rows_of self.old)) }
+        ensures added { IfOk result (λ added. added ≡ not (is_some (find name_cmp row.0 (rows_of self.old)))) }
+        ensures err { OnErr result (rows_of self.new ≡ rows_of self.old) }
+    {
+        match self.with_fourth(row) {
+            Some(four) => {
+                *self = Kept::Four(four);
+                Ok(true)
+            }
+            None => self.add_elsewhere(row.0.name(), row.1, alloc),
+        }
+    }
+
+    /// Three rows with one more, where their names are tiny.
+    #[inline(always)]
+    fn with_fourth(&self, row: (ShortName, V)) -> Option<Four<V>>
+        requires ordered { IsInOrder name_cmp (rows_of self.now) }
+        requires absent { is_past_three self.now ≡ false → find name_cmp row.0 (rows_of self.now) ≡ None }
+        ensures put { IfSome result (λ four. rows_of_four four ≡ put name_cmp row.0 row.1 (rows_of self.now)) }
+        ensures none { IfSome result (λ _. find name_cmp row.0 (rows_of self.now) ≡ None) }
+    {
+        match self {
+            Kept::Three(first, second, third) => Four::new(*first, *second, *third, row),
             _ => None,
         }
     }
@@ -413,25 +408,6 @@ fn kept_of<V: Copy>(short: Short<V>) -> Kept<V>
         Short::Two(first, second) => Kept::Two(first, second),
         Short::Three(first, second, third) => Kept::Three(first, second, third),
     }
-}
-
-/// Three rows with one more, where none has its name and all names are tiny.
-fn three_with_one<V: Copy>(
-    first: &(ShortName, V),
-    second: &(ShortName, V),
-    third: &(ShortName, V),
-    name: Name,
-    value: V,
-) -> Option<Four<V>>
-    requires { IsInOrder name_cmp (first.now ∷ second.now ∷ third.now ∷ []) }
-    ensures put { IfSome result (λ four. rows_of_four four ≡ put name_cmp name value (first.now ∷ second.now ∷ third.now ∷ [])) }
-    ensures none { IfSome result (λ _. find name_cmp name (first.now ∷ second.now ∷ third.now ∷ []) ≡ None) }
-{
-    if value_in_three(first, second, third, name).is_some() {
-        return None;
-    }
-    let row = few::row_of(name, value)?;
-    Four::new(*first, *second, *third, row)
 }
 
 /// Four rows in a list; where a name can't be kept in short, by their indices.

@@ -13,3 +13,4 @@ mod tiny_name;
 pub mod tree;
 
 pub use by_name::RowsByName;
+pub use kept::ROWS_IN_PLACE;

@@ -84,7 +84,7 @@ pub(crate) fn put_in_two<V: Copy>(
     value: V,
 ) -> bool
     requires { IsInOrder name_cmp (first.old ∷ second.old ∷ []) }
-    ensures found { IsTrue result → is_some (find name_cmp name (first.old ∷ second.old ∷ [])) ≡ true }
+    ensures found { result ≡ is_some (find name_cmp name (first.old ∷ second.old ∷ [])) }
     ensures put { first.new ∷ second.new ∷ [] ≡ cond result (put name_cmp name value (first.old ∷ second.old ∷ [])) (first.old ∷ second.old ∷ []) }
 {
     if put_in(first, name, value) {
@@ -103,7 +103,7 @@ pub(crate) fn put_in_three<V: Copy>(
     value: V,
 ) -> bool
     requires { IsInOrder name_cmp (first.old ∷ second.old ∷ third.old ∷ []) }
-    ensures found { IsTrue result → is_some (find name_cmp name (first.old ∷ second.old ∷ third.old ∷ [])) ≡ true }
+    ensures found { result ≡ is_some (find name_cmp name (first.old ∷ second.old ∷ third.old ∷ [])) }
     ensures put { first.new ∷ second.new ∷ third.new ∷ [] ≡ cond result (put name_cmp name value (first.old ∷ second.old ∷ third.old ∷ []))
         (first.old ∷ second.old ∷ third.old ∷ []) }
 {
@@ -114,7 +114,8 @@ pub(crate) fn put_in_three<V: Copy>(
 }
 
 /// Two rows in order: one, and one of another name.
-fn two<V: Copy>(first: (ShortName, V), row: (ShortName, V)) -> Short<V>
+#[inline(always)]
+pub(crate) fn two<V: Copy>(first: (ShortName, V), row: (ShortName, V)) -> Short<V>
     requires { find name_cmp row.0 (first ∷ []) ≡ None }
     ensures { short_rows result ≡ put name_cmp row.0 row.1 (first ∷ []) }
 {
@@ -126,7 +127,12 @@ fn two<V: Copy>(first: (ShortName, V), row: (ShortName, V)) -> Short<V>
 }
 
 /// Three rows in order: two in order, and one of another name.
-fn three<V: Copy>(first: (ShortName, V), second: (ShortName, V), row: (ShortName, V)) -> Short<V>
+#[inline(always)]
+pub(crate) fn three<V: Copy>(
+    first: (ShortName, V),
+    second: (ShortName, V),
+    row: (ShortName, V),
+) -> Short<V>
     requires ordered { IsInOrder name_cmp (first ∷ second ∷ []) }
     requires none { find name_cmp row.0 (first ∷ second ∷ []) ≡ None }
     ensures { short_rows result ≡ put name_cmp row.0 row.1 (first ∷ second ∷ []) }
@@ -235,20 +241,6 @@ impl<V: Copy> Short<V> {
     ghost use Rattle.std.specs.FinMap.Entries.{put, find};
     ghost use Rattle.std.specs.Map.{lookup_entry};
     ghost use Rattle.wjs_rows.specs.Order as order;
-
-    /// The rows with one more, whose name none has; None where there are three.
-    pub(crate) fn with(self, row: (ShortName, V)) -> Option<Short<V>>
-        requires ordered { IsInOrder name_cmp (short_rows self) }
-        requires none { find name_cmp row.0 (short_rows self) ≡ None }
-        ensures { IfSome result (λ more. short_rows more ≡ put name_cmp row.0 row.1 (short_rows self)) }
-    {
-        match self {
-            Short::Zero => Some(Short::One(row)),
-            Short::One(first) => Some(two(first, row)),
-            Short::Two(first, second) => Some(three(first, second, row)),
-            Short::Three(_, _, _) => None,
-        }
-    }
 
     /// The rows without the one of this name.
     pub(crate) fn without(self, name: Name) -> Short<V>

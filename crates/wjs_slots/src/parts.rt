@@ -107,6 +107,7 @@ impl<V: Copy> Parts<V> {
 
     /// Makes an object near where it can be, and takes room for so many rows of it where it has none, if they are to stand in
     /// a list.
+    #[inline(never)]
     pub(crate) fn reserve(
         &mut self,
         object: ObjId,

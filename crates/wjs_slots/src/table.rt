@@ -10,6 +10,7 @@ use std::alloc::Global;
 use std::marker::Model;
 use std::sync::ledger::Ledger;
 use wjs_base::{Name, ObjId, OutOfMemory, Slot};
+use wjs_names::ROWS_IN_PLACE;
 use wjs_rows::Steps;
 
 /// Rows by slot, seen as a finite map. They are gone through object by object.
@@ -92,9 +93,13 @@ impl<V: Copy> Table<V> {
     }
 
     /// Takes room for so many rows of an object that has none yet, if they are to stand in a list. It takes no step.
+    #[inline(always)]
     pub fn reserve(&mut self, object: ObjId, count: usize) -> Result<(), OutOfMemory>
         ensures { self.new ≡ self.old }
     {
+        if count <= ROWS_IN_PLACE {
+            return Ok(());
+        }
         self.parts.reserve(object, count, Start::First)
     }
 
