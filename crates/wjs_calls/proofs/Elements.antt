@@ -26,10 +26,6 @@ left_here xs i other lt = let s : i + 1 ≡ suc i = omega arith in drop-cons xs 
 left_at : {A : Type 0} (xs : List A) (i : ℕ) (x : A) → i < length xs → x ≡ slice_index_or xs i x → drop i xs ≡ x ∷ drop (i + 1) xs
 left_at xs i x lt e = left_here xs i x lt ∙ ap (λ y. y ∷ drop (i + 1) xs) (sym e)
 
--- where the index is another's
-pub left_as : {A : Type 0} (xs : List A) (i j : ℕ) (x : A) → i ≡ j → j < length xs → x ≡ slice_index_or xs j x → drop i xs ≡ x ∷ drop (i + 1) xs
-left_as xs i j x is lt e = left_at xs i x (omega (arith, is, lt)) (e ∙ ap (λ k. slice_index_or xs k x) (sym is))
-
 -- the value at an index is written, and those after it
 pub element_left : (t : Table) (w : WorldId) (o : ObjId) (vs : List NumberedValue) (i : ℕ) (v : NumberedValue) (a : Act) → drop i vs ≡ v ∷ drop (i + 1) vs
     → write_all w (elements_from o i (map (value_in t) (drop i vs))) a ≡ Do (Write w (slot o (index_name i)) (Some (value_in t v))) (λ done. write_all w (elements_from o (i + 1) (map (value_in t) (drop (i + 1) vs))) a)
