@@ -1,5 +1,5 @@
 -- The lines of array and object literals from one part to the next (ECMA-262, 3rd edition, sections 11.1.4 and 11.1.5).
-use Rattle.std.proofs.Common.{◌≡◌, ℕ, zero, suc, ◌+◌, ◌<◌, List, [], ◌∷◌, Option, None, Some, length, refl, sym, ap, ◌∙◌, subst, drop, add-one, arith}
+use Rattle.std.proofs.Common.{◌≡◌, ℕ, zero, suc, ◌+◌, List, [], ◌∷◌, Option, None, Some, length, refl, sym, ap, ◌∙◌, subst, drop, add-one, arith}
 use Rattle.std.specs.Prelude.{map as each, All, slice_get}
 use Rattle.std.proofs.lemmas.List.Elements.{All-head, All-tail}
 use Rattle.wjs_base.specs.declared.ids.ObjId.{ObjId}
@@ -60,12 +60,6 @@ module _ (t : Table) (n : Node) (at : ℕ) where
 -- a hole is left out
 pub hole_skipped : (items : List (Option NodeId)) (at : ℕ) (o : ObjId) (env : Env) → slice_get items at ≡ Some None → array_from (drop at (each number items)) at o env ≡ array_from (drop (at + 1) (each number items)) (at + 1) o env
 hole_skipped items at o env h = ap (λ l. array_from l at o env) (each_at number items at None h) ∙ ap (λ j. array_from (drop j (each number items)) (at + 1) o env) (sym (add-one at))
-
--- one that is there
-pub item_found : (items : List (Option NodeId)) (at : ℕ) (item : Option NodeId) → slice_get items at ≡ Some item → at < length items
-item_found [] at item h = absurd (cc)
-item_found (x ∷ items) zero item h = omega arith
-item_found (x ∷ items) (suc at) item h = let less = item_found items at item h in omega (arith, less)
 
 -- none is left
 pub items_end : (items : List (Option NodeId)) (at : ℕ) (o : ObjId) (env : Env) → slice_get items at ≡ None → array_from (drop at (each number items)) at o env ≡ array_from [] at o env

@@ -1,6 +1,6 @@
 use Rattle.std.proofs.Common.{◌+◌, [], ◌∷◌, Some, ap, ◌∙◌, subst, arith}
 use Rattle.std.specs.Prelude.{OnOk}
-use Rattle.wjs_by_content.specs.Names.{slot, index_name, length_name}
+use Rattle.wjs_by_content.specs.Names.{slot, index_name}
 use Rattle.wjs_by_content.specs.Tables.{name_in, value_in}
 use Rattle.wjs_by_content.specs.Values.{Value, Object, whole}
 use Rattle.wjs_meaning.specs.Deeds.{write_all, give}
