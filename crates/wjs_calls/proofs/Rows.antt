@@ -1,11 +1,15 @@
 -- Deeds one after another.
-use Rattle.std.proofs.Common.{◌≡◌, sym, ap, subst}
+use Rattle.std.proofs.Common.{◌≡◌, List, sym, ap, subst}
 use Rattle.std.specs.Prelude.{Result, Ok, Err, OnOk, IfOk}
 use Rattle.std.proofs.lemmas.Result.{on_ok_weaker}
 use Rattle.wjs_base.specs.declared.ids.OutOfMemory.{OutOfMemory}
+use Rattle.wjs_base.specs.declared.ids.WorldId.{WorldId}
 use Rattle.wjs_base.specs.Text.{Table, Grows}
+use Rattle.wjs_base.proofs.TextLaws.{Grows-trans}
 use Rattle.wjs_store.specs.Meaning.{Meaning}
-use Rattle.wjs_meaning.specs.Deeds.{Env, Act}
+use Rattle.wjs_by_content.specs.Names.{Slot}
+use Rattle.wjs_by_content.specs.Values.{Value}
+use Rattle.wjs_meaning.specs.Deeds.{Env, Act, write_all}
 use Rattle.wjs_model.specs.declared.config.Config.{Config}
 use Rattle.wjs_model.specs.declared.frame.Activation.{Activation as Frame}
 use Rattle.wjs_frames.specs.Doing.{DoesFirst}
@@ -38,6 +42,10 @@ module _ {S : Type 0} (meaning : S → Meaning) where
         l.by act later (Ok tt) (subst (λ x. Follows meaning x cur later) (sym (e later.heap.texts k.keeps.stays.texts act)) (d.by (less later.heap.texts act) later (Ok tt) k))) h;
   }
 
+  -- more of them are done
+  pub leaves_twice : (all rest less : Table → Act → Act) (old cur next : Config S) → Leaves meaning all rest old cur → Leaves meaning rest less cur next → Leaves meaning all less old next
+  leaves_twice all rest less old cur next l k = record { by = λ act later r h. l.by act later r (k.by act later r h) }
+
   -- none is left
   pub leaves_none : (all rest : Table → Act → Act) (old cur : Config S) → ((t : Table) (act : Act) → rest t act ≡ act) → Leaves meaning all rest old cur → DoesFirst meaning all old cur
   leaves_none all rest old cur e l = record { by = λ act later r h. l.by act later r (subst (λ x. OnOk r (Follows meaning x cur later)) (sym (e later.heap.texts act)) h) }
@@ -62,3 +70,17 @@ any_later meaning old mid new (Err e) f h = tt
 -- the programs stay
 pub same_units : {S : Type 0} (meaning : S → Meaning) (old new : Config S) → Later meaning old new → new.units.items ≡ old.units.items
 same_units meaning old new l = λ i. (l.units i).items
+
+-- two things that hold after a call
+both_ok : {A : Type 0} (P Q : Type 0) (r : Result A OutOfMemory) → OnOk r P → OnOk r Q → OnOk r (P × Q)
+both_ok P Q (Ok x) p q = (p, q)
+both_ok P Q (Err e) p q = tt
+
+-- what was written, said otherwise
+pub written_as : {S : Type 0} (meaning : S → Meaning) (w : WorldId) (r : Result (Unit {0}) OutOfMemory) (one two : Table → List (Slot × Value)) (old new : Config S)
+    → OnOk r (DoesFirst meaning (λ t. write_all w (one t)) old new) → OnOk r (Later meaning old new) → ((t : Table) → Grows old.heap.texts t → one t ≡ two t) → OnOk r (DoesFirst meaning (λ t. write_all w (two t)) old new)
+written_as meaning w r one two old new does later same =
+    on_ok_weaker r
+    (λ (both : DoesFirst meaning (λ t. write_all w (one t)) old new × Later meaning old new).
+    first_same meaning (λ t. write_all w (one t)) (λ t. write_all w (two t)) old new (λ t more act. ap (λ es. write_all w es act) (sym (same t (Grows-trans old.heap.texts new.heap.texts t both.1.texts more)))) both.0)
+    (both_ok (DoesFirst meaning (λ t. write_all w (one t)) old new) (Later meaning old new) r does later)

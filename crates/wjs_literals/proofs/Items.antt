@@ -1,5 +1,5 @@
 -- The lines of array and object literals from one part to the next (ECMA-262, 3rd edition, sections 11.1.4 and 11.1.5).
-use Rattle.std.proofs.Common.{◌≡◌, ℕ, zero, suc, ◌+◌, List, [], ◌∷◌, Option, None, Some, refl, sym, ap, ◌∙◌, subst, drop, add-one}
+use Rattle.std.proofs.Common.{◌≡◌, ℕ, zero, suc, ◌+◌, List, [], ◌∷◌, Option, None, Some, length, refl, sym, ap, ◌∙◌, subst, drop, add-one, arith}
 use Rattle.std.specs.Prelude.{map as each, All, slice_get}
 use Rattle.std.proofs.lemmas.List.Elements.{All-head, All-tail}
 use Rattle.wjs_base.specs.declared.ids.ObjId.{ObjId}
@@ -21,6 +21,7 @@ use Rattle.wjs_model.specs.Waiting.{array_rest, array_item, object_rest, object_
 use Rattle.wjs_frames.specs.Parts.{node_among}
 use Rattle.wjs_step_common.proofs.Parts.{each_at, each_past}
 use Rattle.wjs_frames.proofs.Places.{node_known}
+use Rattle.wjs_calls.proofs.Elements.{length-each, none_left}
 use Rattle.wjs_literals.specs.Parts.{items_in, properties_in}
 use Rattle.wjs_literals.proofs.Lists.{items_same, items_at, pairs_at, pairs_past}
 
@@ -38,6 +39,17 @@ module _ (t : Table) (n : Node) (at : ℕ) where
       let items = items_of (node_in t n) in
       ap (λ k. array_from (Some e.0 ∷ drop (k + 1) items) k o env) ei
       ∙ sym (ap (λ l. array_from l at o env) (items_at t n at e h) ∙ ap (λ j. array_from (Some e.0 ∷ drop j items) at o env) (sym (add-one at)))
+
+  -- none comes after the last
+  pub none_after : (i : ℕ) → length (items_in n) ≡ i + 1 → drop (i + 1) (items_of (node_in t n)) ≡ []
+  none_after i last = ap (drop (i + 1)) (items_same t n) ∙ none_left (each number (items_in n)) (i + 1) (omega (arith, length-each number (items_in n), last))
+
+  -- the last comes next, and then the length
+  pub last_next : (i : ℕ) (e : NodeId) (o : ObjId) (env : Env) → i ≡ at → slice_get (items_in n) at ≡ Some (Some e) → length (items_in n) ≡ i + 1 →
+      Eval (AtExpr e.0) env (then_value (λ v. Do (Write env.world (slot o (index_name i)) (Some v)) (λ done. array_from [] (i + 1) o env))) ≡ array_from (drop at (items_of (node_in t n))) at o env
+  last_next i e o env ei h last =
+      ap (λ l. Eval (AtExpr e.0) env (then_value (λ v. Do (Write env.world (slot o (index_name i)) (Some v)) (λ done. array_from l (i + 1) o env)))) (sym (none_after i last))
+      ∙ item_next i e o env ei h
 
   -- an item is entered
   pub array_enters : (i : ℕ) (e : NodeId) (held : Holding) (env : Env) (o : ObjId) → i ≡ at → held.value ≡ Object o → slice_get (items_in n) at ≡ Some (Some e) →

@@ -1,5 +1,5 @@
 -- The parts of literals of arrays and objects (ECMA-262, 3rd edition, sections 11.1.4 and 11.1.5).
-use Rattle.std.specs.Prelude.{◌≡◌, ℕ, List, [], Option, map as each, drop, slice_get, Some}
+use Rattle.std.specs.Prelude.{◌≡◌, ℕ, ◌+◌, List, [], Option, map as each, drop, length, slice_get, Some}
 use Rattle.wjs_base.specs.declared.ids.ObjId.{ObjId}
 use Rattle.wjs_base.specs.declared.ids.NodeId.{NodeId}
 use Rattle.wjs_base.specs.Text.{Table}
@@ -26,9 +26,10 @@ abbrev pub properties_in : Node → List Property
 properties_in (nodes.ObjectLit properties comma) = properties
 properties_in _ = []
 
--- the items from a number on, with the holes before the first that is there left out
+-- the items from a number on, with the holes before the first that is there left out; the last is the last of all
 abbrev pub Skips : List (Option NodeId) → ℕ → Next → Type 0
 Skips items from (next.Item at node) = (slice_get items at ≡ Some (Some node)) × ((o : ObjId) (env : Env) → array_from (drop from (each number items)) from o env ≡ array_from (drop at (each number items)) at o env)
+Skips items from (next.Last at node) = (slice_get items at ≡ Some (Some node)) × (length items ≡ at + 1) × ((o : ObjId) (env : Env) → array_from (drop from (each number items)) from o env ≡ array_from (drop at (each number items)) at o env)
 Skips items from (next.End count) = (o : ObjId) (env : Env) → array_from (drop from (each number items)) from o env ≡ array_from [] count o env
 
 module _ {S : Type 0} (meaning : S → Meaning) where

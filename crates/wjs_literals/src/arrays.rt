@@ -1,7 +1,8 @@
 //! Literals of arrays (ECMA-262, 3rd edition, section 11.1.4): the items from left to right, and then the length.
-ghost use Rattle.std.specs.Prelude.{◌≡◌, [], drop, slice_get, unwrap_or, IfOk, OnOk};
+ghost use Rattle.std.specs.Prelude.{◌≡◌, ◌+◌, ◌==◌, [], drop, length, slice_get, unwrap_or, Some, IfOk, OnOk};
+ghost use Rattle.wjs_by_content.specs.Names.{slot, index_name};
 ghost use Rattle.wjs_by_content.specs.Tables.{value_in};
-ghost use Rattle.wjs_meaning.specs.Deeds.{Do, Create};
+ghost use Rattle.wjs_meaning.specs.Deeds.{Do, Create, Write};
 ghost use Rattle.wjs_meaning.specs.Expressions as line;
 ghost use Rattle.wjs_meaning.specs.NewObjects.{array_object};
 ghost use Rattle.wjs_meaning.specs.Reading.{node_in};
@@ -18,7 +19,7 @@ ghost use Rattle.wjs_effects.specs.Proceeding.{Proceeds};
 use wjs_base::{Name, ObjId, OutOfMemory, Value};
 use wjs_calls::whole_value;
 use wjs_frames::{Part, enter, finish, hold, node_of};
-use wjs_heap_steps::{Known, create_array, write, write_known};
+use wjs_heap_steps::{Known, create_array, known_name, write, write_known, write_rows};
 use wjs_model::{Completion, Config, ExprPoint, Frame, Held, Point};
 use wjs_quick::quick;
 use wjs_step_common::{held_value, number_after, number_of};
@@ -30,6 +31,8 @@ use wjs_tree::{Node, NodeId};
 pub(crate) enum Next {
     /// The first that is there, with its number.
     Item(usize, NodeId),
+    /// The same, and it is the last of all.
+    Last(usize, NodeId),
     /// None is there; the length is this.
     End(usize),
 }
@@ -80,6 +83,9 @@ fn array_write<S: WorldStore>(
     ensures { GoesOn S.meaning frame config.old config.new result (λ t env.
         after.array_item (items_of (node_in t (node_now S.meaning config.old frame))) at (holding_in t frame.held) env (value_in t value)) }
 {
+    if is_last(config, &frame, at) {
+        return array_last(config, frame, array, at, value);
+    }
     let next = number_after(at)?;
     write(config, &frame, array, Name::Index(at), value)?;
     array_next(config, frame, array, next)
@@ -121,12 +127,61 @@ fn enter_item<S: WorldStore>(
             let point = Point::Expr(ExprPoint::ArrayItem(number));
             enter(config, frame, point, Part::Expr(node))
         }
+        Next::Last(at, node) => last_item(config, frame, array, at, node),
         Next::End(length) => array_end(config, frame, array, length),
     }
 }
 
-/// The items from a number on that have their values at once, one after another: they are written then. Gives the number from which
-/// on they are still to come. The rest may go on from wherever this stops, so the bound is none that counts.
+/// The last item is entered, or written with the length where its value is had at once.
+fn last_item<S: WorldStore>(
+    config: &mut Config<S>,
+    frame: Frame,
+    array: ObjId,
+    at: usize,
+    node: NodeId,
+) -> Result<(), OutOfMemory>
+    requires runs { Runs S.meaning config.old frame }
+    requires array { HasObject config.old array }
+    requires held { value_held frame.held ≡ Value.Object array }
+    requires item { slice_get (items_in (node_now S.meaning config.old frame)) at ≡ Some (Some node) }
+    requires last { length (items_in (node_now S.meaning config.old frame)) ≡ at + 1 }
+    ensures { GoesOn S.meaning frame config.old config.new result (λ t env.
+        line.array_from (drop at (items_of (node_in t (node_now S.meaning config.old frame)))) at array env) }
+{
+    let number = number_of(at)?;
+    match quick(config, &frame, Part::Expr(node)) {
+        Some(value) => array_last(config, frame, array, number, value),
+        None => {
+            let point = Point::Expr(ExprPoint::ArrayItem(number));
+            enter(config, frame, point, Part::Expr(node))
+        }
+    }
+}
+
+/// The last item is written and the length, by one call, and the array given.
+fn array_last<S: WorldStore>(
+    config: &mut Config<S>,
+    frame: Frame,
+    array: ObjId,
+    at: u32,
+    value: Value,
+) -> Result<(), OutOfMemory>
+    requires runs { Runs S.meaning config.old frame }
+    requires array { HasObject config.old array }
+    requires value { HasValue config.old value }
+    ensures { GoesOn S.meaning frame config.old config.new result (λ t env.
+        Do (Write env.world (slot array (index_name at)) (Some (value_in t value))) (λ done. line.array_from [] (at + 1) array env)) }
+{
+    let next = number_after(at)?;
+    let length = whole_value(next as usize)?;
+    let name = known_name(config, Known::Length)?;
+    let rows = [(Name::Index(at), value), (name, length)];
+    write_rows(config, &frame, array, &rows)?;
+    finish(config, frame, Completion::Gives(Value::Object(array)))
+}
+
+/// The items from a number on that have their values at once, one after another, but for the last: they are written then. Gives the
+/// number from which on they are still to come. The rest may go on from wherever this stops, so the bound is none that counts.
 fn items_at_once<S: WorldStore>(
     config: &mut Config<S>,
     frame: &Frame,
@@ -151,8 +206,8 @@ fn items_at_once<S: WorldStore>(
     Ok(at)
 }
 
-/// The number after that of the first item from a number on that is no hole, where its value is had at once: it is written then.
-/// After None nothing has changed.
+/// The number after that of the first item from a number on that is no hole, where it is not the last and its value is had at once:
+/// it is written then. After None nothing has changed.
 #[inline(always)]
 fn item_at_once<S: WorldStore>(
     config: &mut Config<S>,
@@ -169,7 +224,7 @@ fn item_at_once<S: WorldStore>(
 {
     match next_item(config, frame, from) {
         Next::Item(at, node) => write_at_once(config, frame, array, from, at, node),
-        Next::End(_) => Ok(None),
+        Next::Last(_, _) | Next::End(_) => Ok(None),
     }
 }
 
@@ -235,11 +290,32 @@ fn next_among(items: &[Option<NodeId>], from: usize) -> Next
     let mut at = from;
     'holes: while let Some(item) = item_at(items, at) {
         if let Some(node) = item {
-            return Next::Item(at, node);
+            return found_among(items, at, node);
         }
         at += 1;
     }
     Next::End(at)
+}
+
+/// An item that is there.
+fn found_among(items: &[Option<NodeId>], at: usize, node: NodeId) -> Next
+    requires { slice_get items.now at ≡ Some (Some node) }
+    ensures { Skips items.now at result }
+{
+    if at == items.len() - 1 {
+        return Next::Last(at, node);
+    }
+    Next::Item(at, node)
+}
+
+/// Whether an item is the last of all of the frame's node.
+fn is_last<S: WorldStore>(config: &Config<S>, frame: &Frame, at: u32) -> bool
+    ensures { result ≡ (length (items_in (node_now S.meaning config.now frame.now)) == at + 1) }
+{
+    match node_of(config, frame) {
+        Some(Node::ArrayLit(items, _)) => items.as_slice().len() == at as usize + 1,
+        _ => false,
+    }
 }
 
 fn item_at(items: &[Option<NodeId>], at: usize) -> Option<Option<NodeId>>

@@ -22,6 +22,13 @@ returns-in_ok-number-in-Item g c =
     ∙ sym (c.in-Item.ensures.1 c.args.array env)
     ∙ items_rest t n c.args.from c.args.array env) c.enter.ensures
 
+pub returns-in-Last : goal.returns-in-Last
+returns-in-Last g c =
+    let t = c.last_item.new.config.heap.texts in
+    let n = node_now g.S.WorldStore.meaning c.args.config.now c.args.frame in
+    let env = env_in g.S.WorldStore.meaning c.args.config.now t c.args.frame in
+    follows_as _ _ _ _ _ _ (λ grows. sym (items_rest t n c.in-Last.at c.args.array env) ∙ sym (c.in-Last.ensures.2 c.args.array env) ∙ items_rest t n c.args.from c.args.array env) c.last_item.ensures
+
 pub returns-in-End : goal.returns-in-End
 returns-in-End g c =
     let t = c.array_end.new.config.heap.texts in
