@@ -1,13 +1,17 @@
 -- Deeds that come to a value at once, one after another.
-use Rattle.std.proofs.Common.{◌≡◌, ℕ, suc, ◌-◌, ◌<◌, ◌≤◌, refl, sym, ap, subst, arith}
+use Rattle.std.proofs.Common.{◌≡◌, ℕ, suc, ◌-◌, ◌<◌, ◌≤◌, refl, sym, ap, ◌∙◌, subst, arith}
 use Rattle.std.specs.Prelude.{Ok}
+use Rattle.wjs_base.specs.declared.ids.NodeId.{NodeId}
 use Rattle.wjs_base.specs.declared.values.Value.{Value as Numbered}
 use Rattle.wjs_base.specs.Text.{Table, Grows}
 use Rattle.wjs_store.specs.Meaning.{Meaning}
+use Rattle.wjs_tree.specs.declared.node.Node.{Node}
 use Rattle.wjs_by_content.specs.Tables.{value_in}
 use Rattle.wjs_by_content.specs.Values.{Value}
-use Rattle.wjs_meaning.specs.Deeds.{St, Env, Goal, Completion, Gives, Act, Ret, Eval, Sub, Outcome, Ends, Spent, interp, then_do, then_value, give}
+use Rattle.wjs_meaning.specs.Deeds.{St, Env, Goal, AtExpr, Completion, Gives, Act, Ret, Eval, Sub, Outcome, Ends, Spent, interp, then_do, then_value, give}
+use Rattle.wjs_meaning.specs.Expressions.{expr_of}
 use Rattle.wjs_meaning.specs.Programs.{eval, entry}
+use Rattle.wjs_meaning.specs.Reading.{node_in}
 use Rattle.wjs_model.specs.declared.config.Config.{Config}
 use Rattle.wjs_model.specs.declared.frame.Activation.{Activation as Frame}
 use Rattle.wjs_model.specs.declared.operand.Operand.{Operand}
@@ -17,9 +21,10 @@ use Rattle.wjs_model.specs.Soundness.{Base}
 use Rattle.wjs_frames.specs.declared.part.Part.{Part}
 use Rattle.wjs_frames.specs.Following.{Later}
 use Rattle.wjs_frames.specs.Operands.{IsOperand}
-use Rattle.wjs_frames.specs.Parts.{goal_of, env_in}
+use Rattle.wjs_frames.specs.Parts.{goal_of, env_in, node_among}
 use Rattle.wjs_frames.specs.Shortening.{Shortens}
 use Rattle.wjs_frames.proofs.Keeping.{grows_same}
+use Rattle.wjs_frames.proofs.OperandLines.{expr_is}
 use Rattle.wjs_frames.proofs.Paying.{step_paid}
 use Rattle.wjs_frames.proofs.Shorter.{shorten_same, shorten_sub, shorten_ended, follows_shorter}
 use Rattle.wjs_frames.proofs.Sounding.{there_framed, base_framed}
@@ -128,6 +133,14 @@ module _ {S : Type 0} (meaning : S → Meaning) where
           let env = env_in meaning c t f in
           step_paid meaning (goal_of p) env go (with_operand (operand_in t o) env go) (with_left c before) later (before - 1) r (one_less before some) (λ st n. is.does t go st n) ((d (before - 1)).by go later r h);
     }
+
+    -- a literal, or `this`
+    pub comes_literal : (e : NodeId) (n : Node) (v : Numbered) (before : ℕ) → 0 < before → node_among c.units.items f.tree e ≡ n → ((t : Table) → expr_of e.0 (node_in t n) (env_in meaning c t f) ≡ give (value_in t v)) → GoalComes meaning (AtExpr e.0) v c f before (before - 1)
+    comes_literal e n v before some is gives =
+        let left = before - 1 in
+        comes_entered (AtExpr e.0) v before left some
+        (yields_as (λ t env. give (value_in t v)) (λ t env. entry (AtExpr e.0) env) (λ t. value_in t v) left left (λ t more. expr_is meaning c f e n t is ∙ gives t)
+        (yields_ended (λ t env. give (value_in t v)) (λ t. value_in t v) left (λ t more env. shorten_same (give (value_in t v)))))
 
     pub comes_then : (goal : Goal) (more : Table → Env → Value → Act) (v w : Numbered) (before mid after : ℕ) → GoalComes meaning goal v c f before mid → Comes meaning (λ t env. more t env (value_in t v)) w c f mid after → Comes meaning (λ t env. Eval goal env (then_value (more t env))) w c f before after
     comes_then goal more v w before mid after one two = yields_then goal more (λ t. value_in t v) (λ t. value_in t w) before mid after one two

@@ -1,7 +1,7 @@
 //! The values of expressions (ECMA-262, 3rd edition, section 11), where each of their parts has its value at once.
 //!
 //! Each function takes the steps of the expressions that it enters from those that are left, also where it then answers None.
-ghost use Rattle.std.specs.Prelude.{◌≡◌, IfSome};
+ghost use Rattle.std.specs.Prelude.{◌≡◌, ℕ, ◌<◌, ◌-◌, IfSome};
 ghost use Rattle.wjs_base.specs.Text.{Table, Grows};
 ghost use Rattle.wjs_by_content.specs.Tables.{value_in};
 ghost use Rattle.wjs_meaning.specs.Deeds.{Env, Eval, AtExpr, Ret, then_value};
@@ -10,21 +10,23 @@ ghost use Rattle.wjs_meaning.specs.Programs.{entry};
 ghost use Rattle.wjs_meaning.specs.Reading.{spelt_in};
 ghost use Rattle.wjs_model.specs.Soundness.{Base, IsThere, HasValue};
 ghost use Rattle.wjs_model.specs.Texts.{KnowsSpelt};
+ghost use Rattle.wjs_frames.specs.Parts.{node_among};
 ghost use Rattle.wjs_quick.specs.Coming.{GoalComes, Comes};
 
 use crate::hopes::{is_joining, is_operation_hopeless};
 use crate::members::{dotted, indexed};
 use crate::operators::{is_of_value, operated, prefixed};
-use wjs_base::Value;
-use wjs_frames::{Part, node_at, operand_of};
+use wjs_base::{TextId, Value};
+use wjs_frames::{node_at, place_at};
 use wjs_heap_steps::peek_operand;
-use wjs_model::{Config, Frame};
+use wjs_model::{Config, Frame, Operand};
 use wjs_step_common::to_boolean;
 use wjs_store::WorldStore;
 use wjs_tree::{BinaryOperator, Node, NodeId, PrefixOperator, Spelt};
 
 /// The value of an expression that has no effect, at most so many expressions deep.
 #[cycle(evaluation)]
+#[inline(always)]
 pub(crate) fn value_of<S: WorldStore>(
     config: &Config<S>,
     frame: &Frame,
@@ -37,6 +39,28 @@ pub(crate) fn value_of<S: WorldStore>(
     ensures does { IfSome result (λ v. GoalComes S.meaning (AtExpr node.0) v config.now frame.now steps.old steps.new) }
     ensures found { IfSome result (λ v. HasValue config.now v) }
 {
+    let found = node_at(config, frame, node)?;
+    value_with(config, frame, node, found, height, steps)
+}
+
+/// The same with its node at hand. Literals and names are told apart here, so that none of them costs a call of what evaluates the
+/// other forms.
+#[cycle(evaluation)]
+#[inline(always)]
+fn value_with<S: WorldStore>(
+    config: &Config<S>,
+    frame: &Frame,
+    node: NodeId,
+    found: &Node,
+    height: u8,
+    steps: &mut u64,
+) -> Option<Value>
+    requires base { Base S.meaning config.now }
+    requires there { IsThere S.meaning config.now frame.now }
+    requires node { node_among config.now.units.items frame.now.tree node ≡ found.now }
+    ensures does { IfSome result (λ v. GoalComes S.meaning (AtExpr node.0) v config.now frame.now steps.old steps.new) }
+    ensures found { IfSome result (λ v. HasValue config.now v) }
+{
     if height == 0 {
         return None;
     }
@@ -44,14 +68,36 @@ pub(crate) fn value_of<S: WorldStore>(
         return None;
     }
     *steps -= 1;
-    match operand_of(config, frame, Part::Expr(node)) {
-        Some(operand) => peek_operand(config, frame, operand),
-        None => form(config, frame, node, height - 1, steps),
+    match found {
+        Node::Number(number) => Some(Value::Number(*number)),
+        Node::Name(id) => name_value(config, frame, node, *id),
+        Node::Text(id) => Some(Value::Text(*id)),
+        Node::Bool(truth) => Some(Value::Bool(*truth)),
+        Node::Null => Some(Value::Null),
+        Node::This => Some(frame.this()),
+        _ => form_with(config, frame, node, found, height - 1, steps),
     }
 }
 
+/// The value of a name (section 10.1.4).
+#[inline(never)]
+fn name_value<S: WorldStore>(
+    config: &Config<S>,
+    frame: &Frame,
+    node: NodeId,
+    id: TextId,
+) -> Option<Value>
+    requires base { Base S.meaning config.now }
+    requires there { IsThere S.meaning config.now frame.now }
+    requires node { node_among config.now.units.items frame.now.tree node ≡ Node.Name id }
+    ensures does { IfSome result (λ v. (left : ℕ) → 0 < left → GoalComes S.meaning (AtExpr node.0) v config.now frame.now left (left - 1)) }
+    ensures found { IfSome result (λ v. HasValue config.now v) }
+{
+    let place = place_at(config, frame, node, 0);
+    peek_operand(config, frame, Operand::Name(place, id))
+}
+
 /// What follows the step of its entry, where it is no operand.
-#[cycle(evaluation)]
 pub(crate) fn form<S: WorldStore>(
     config: &Config<S>,
     frame: &Frame,
@@ -64,24 +110,43 @@ pub(crate) fn form<S: WorldStore>(
     ensures does { IfSome result (λ v. Comes S.meaning (λ t env. entry (AtExpr node.0) env) v config.now frame.now steps.old steps.new) }
     ensures found { IfSome result (λ v. HasValue config.now v) }
 {
-    match node_at(config, frame, node) {
-        Some(Node::Paren(part)) => value_of(config, frame, *part, height, steps),
-        Some(Node::Binary(left, operator, right)) => {
+    let found = node_at(config, frame, node)?;
+    form_with(config, frame, node, found, height, steps)
+}
+
+/// The same with its node at hand.
+#[cycle(evaluation)]
+fn form_with<S: WorldStore>(
+    config: &Config<S>,
+    frame: &Frame,
+    node: NodeId,
+    found: &Node,
+    height: u8,
+    steps: &mut u64,
+) -> Option<Value>
+    requires base { Base S.meaning config.now }
+    requires there { IsThere S.meaning config.now frame.now }
+    requires node { node_among config.now.units.items frame.now.tree node ≡ found.now }
+    ensures does { IfSome result (λ v. Comes S.meaning (λ t env. entry (AtExpr node.0) env) v config.now frame.now steps.old steps.new) }
+    ensures found { IfSome result (λ v. HasValue config.now v) }
+{
+    match found {
+        Node::Binary(left, operator, right) => {
             binary(config, frame, *left, *operator, *right, height, steps)
         }
-        Some(Node::Dot(base, name)) => dot(config, frame, *base, *name, height, steps),
-        Some(Node::At(base, index)) => at(config, frame, *base, *index, height, steps),
-        Some(Node::Prefix(operator, part)) => {
-            prefix(config, frame, *operator, *part, height, steps)
-        }
-        Some(Node::Cond(test, yes, no)) => choice(config, frame, *test, *yes, *no, height, steps),
-        Some(Node::Comma(first, second)) => comma(config, frame, *first, *second, height, steps),
+        Node::Paren(part) => value_of(config, frame, *part, height, steps),
+        Node::Dot(base, name) => dot(config, frame, *base, *name, height, steps),
+        Node::At(base, index) => at(config, frame, *base, *index, height, steps),
+        Node::Prefix(operator, part) => prefix(config, frame, *operator, *part, height, steps),
+        Node::Cond(test, yes, no) => choice(config, frame, *test, *yes, *no, height, steps),
+        Node::Comma(first, second) => comma(config, frame, *first, *second, height, steps),
         _ => None,
     }
 }
 
 /// An operator between two operands (sections 11.5 to 11.11).
 #[cycle(evaluation)]
+#[inline(always)]
 fn binary<S: WorldStore>(
     config: &Config<S>,
     frame: &Frame,
@@ -97,26 +162,30 @@ fn binary<S: WorldStore>(
         v config.now frame.now steps.old steps.new) }
     ensures found { IfSome result (λ v. HasValue config.now v) }
 {
-    if is_operation_hopeless(config, frame, operator, right) {
+    let second = node_at(config, frame, right)?;
+    if is_operation_hopeless(operator, second) {
         return None;
     }
     let first = value_of(config, frame, left, height, steps)?;
-    after_left(config, frame, first, operator, right, height, steps)
+    after_left(config, frame, first, operator, right, second, height, steps)
 }
 
-/// After the left value.
+/// After the left value, with the right node at hand.
 #[cycle(evaluation)]
+#[inline(always)]
 fn after_left<S: WorldStore>(
     config: &Config<S>,
     frame: &Frame,
     first: Value,
     operator: BinaryOperator,
     right: NodeId,
+    found: &Node,
     height: u8,
     steps: &mut u64,
 ) -> Option<Value>
     requires base { Base S.meaning config.now }
     requires there { IsThere S.meaning config.now frame.now }
+    requires node { node_among config.now.units.items frame.now.tree right ≡ found.now }
     requires value { HasValue config.now first }
     ensures does { IfSome result (λ v. Comes S.meaning (λ t env. line.binary_left operator right.0 env (value_in t first))
         v config.now frame.now steps.old steps.new) }
@@ -125,12 +194,13 @@ fn after_left<S: WorldStore>(
     match operator {
         BinaryOperator::And => and_right(config, frame, first, right, height, steps),
         BinaryOperator::Or => or_right(config, frame, first, right, height, steps),
-        _ => both(config, frame, first, operator, right, height, steps),
+        _ => both(config, frame, first, operator, right, found, height, steps),
     }
 }
 
 /// After the left of `&&`: the right counts where the left does.
 #[cycle(evaluation)]
+#[inline(never)]
 fn and_right<S: WorldStore>(
     config: &Config<S>,
     frame: &Frame,
@@ -154,6 +224,7 @@ fn and_right<S: WorldStore>(
 
 /// After the left of `||`: the right counts where the left does not.
 #[cycle(evaluation)]
+#[inline(never)]
 fn or_right<S: WorldStore>(
     config: &Config<S>,
     frame: &Frame,
@@ -177,17 +248,20 @@ fn or_right<S: WorldStore>(
 
 /// After the left of another operator: the right value, and the operation on both; None of a text to which the right one is joined.
 #[cycle(evaluation)]
+#[inline(always)]
 fn both<S: WorldStore>(
     config: &Config<S>,
     frame: &Frame,
     first: Value,
     operator: BinaryOperator,
     right: NodeId,
+    found: &Node,
     height: u8,
     steps: &mut u64,
 ) -> Option<Value>
     requires base { Base S.meaning config.now }
     requires there { IsThere S.meaning config.now frame.now }
+    requires node { node_among config.now.units.items frame.now.tree right ≡ found.now }
     requires value { HasValue config.now first }
     ensures does { IfSome result (λ v. Comes S.meaning
         (λ t env. Eval (AtExpr right.0) env (then_value (line.binary_right operator (value_in t first) env))) v config.now frame.now steps.old steps.new) }
@@ -196,12 +270,13 @@ fn both<S: WorldStore>(
     if is_joining(operator, first) {
         return None;
     }
-    let second = value_of(config, frame, right, height, steps)?;
+    let second = value_with(config, frame, right, found, height, steps)?;
     operated(config, operator, first, second)
 }
 
 /// An operator before an operand that is entered for its value (section 11.4).
 #[cycle(evaluation)]
+#[inline(never)]
 fn prefix<S: WorldStore>(
     config: &Config<S>,
     frame: &Frame,
@@ -224,6 +299,7 @@ fn prefix<S: WorldStore>(
 
 /// A condition (section 11.12).
 #[cycle(evaluation)]
+#[inline(never)]
 fn choice<S: WorldStore>(
     config: &Config<S>,
     frame: &Frame,
@@ -257,6 +333,7 @@ fn chosen<S: WorldStore>(config: &Config<S>, truth: Value, yes: NodeId, no: Node
 
 /// One expression and then another (section 11.14).
 #[cycle(evaluation)]
+#[inline(never)]
 fn comma<S: WorldStore>(
     config: &Config<S>,
     frame: &Frame,
@@ -277,6 +354,7 @@ fn comma<S: WorldStore>(
 
 /// A member by name (section 11.2.1).
 #[cycle(evaluation)]
+#[inline(never)]
 fn dot<S: WorldStore>(
     config: &Config<S>,
     frame: &Frame,
@@ -299,6 +377,7 @@ fn dot<S: WorldStore>(
 
 /// A member by value (section 11.2.1).
 #[cycle(evaluation)]
+#[inline(never)]
 fn at<S: WorldStore>(
     config: &Config<S>,
     frame: &Frame,

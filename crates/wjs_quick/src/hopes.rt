@@ -34,17 +34,11 @@ fn is_never_quick(form: &Node) -> bool {
 
 /// Whether an operation never has its value at once, whatever the left operand is. The right one of `&&` and `||` may not count.
 #[inline(always)]
-pub(crate) fn is_operation_hopeless<S: WorldStore>(
-    config: &Config<S>,
-    frame: &Frame,
-    operator: BinaryOperator,
-    right: NodeId,
-) -> bool {
+pub(crate) fn is_operation_hopeless(operator: BinaryOperator, right: &Node) -> bool {
     match operator {
-        BinaryOperator::And => false,
-        BinaryOperator::Or => false,
-        BinaryOperator::Add => is_never_added(config, frame, right),
-        _ => asks_objects(operator) || is_hopeless(config, frame, right),
+        BinaryOperator::And | BinaryOperator::Or => false,
+        BinaryOperator::Add => is_never_added(right),
+        _ => asks_objects(operator) || is_never_quick(right),
     }
 }
 
@@ -60,11 +54,10 @@ fn asks_objects(operator: BinaryOperator) -> bool {
 /// Whether a sum never has its value at once that has this right term: a text that stands in the script, which is joined with the left
 /// one, or an expression that never has its own.
 #[inline(always)]
-fn is_never_added<S: WorldStore>(config: &Config<S>, frame: &Frame, right: NodeId) -> bool {
-    match node_at(config, frame, right) {
-        Some(Node::Text(_)) => true,
-        Some(form) => is_never_quick(form),
-        None => true,
+fn is_never_added(right: &Node) -> bool {
+    match right {
+        Node::Text(_) => true,
+        form => is_never_quick(form),
     }
 }
 

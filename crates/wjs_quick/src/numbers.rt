@@ -33,11 +33,18 @@ pub fn calculated(operator: BinaryOperator, left: Value, right: Value) -> Option
 fn number_of(operator: BinaryOperator, x: Whole, y: Whole) -> Option<Whole>
     ensures { IfSome result (λ number. (env : Env) → Shortens (line.operate operator (Number x.number) (Number y.number) env) (give (Number number.number))) }
 {
-    if is_calculation(operator) {
-        return calculation(operator, x, y);
-    }
     match operator {
         BinaryOperator::Add => sum(x, y),
+        BinaryOperator::Subtract => calculation(BinaryOperator::Subtract, x, y),
+        BinaryOperator::Multiply => calculation(BinaryOperator::Multiply, x, y),
+        BinaryOperator::Divide => calculation(BinaryOperator::Divide, x, y),
+        BinaryOperator::Remainder => calculation(BinaryOperator::Remainder, x, y),
+        BinaryOperator::ShiftLeft => calculation(BinaryOperator::ShiftLeft, x, y),
+        BinaryOperator::ShiftRight => calculation(BinaryOperator::ShiftRight, x, y),
+        BinaryOperator::ShiftRightUnsigned => calculation(BinaryOperator::ShiftRightUnsigned, x, y),
+        BinaryOperator::BitAnd => calculation(BinaryOperator::BitAnd, x, y),
+        BinaryOperator::BitXor => calculation(BinaryOperator::BitXor, x, y),
+        BinaryOperator::BitOr => calculation(BinaryOperator::BitOr, x, y),
         _ => None,
     }
 }
@@ -81,25 +88,5 @@ pub fn arithmetic(operator: BinaryOperator, x: Whole, y: Whole) -> Result<Whole,
         BinaryOperator::BitXor => Ok(bit_xor(x, y)),
         BinaryOperator::BitOr => Ok(bit_or(x, y)),
         _ => Ok(Whole::NAN),
-    }
-}
-
-/// Whether the operator is one on two numbers.
-#[inline(always)]
-fn is_calculation(operator: BinaryOperator) -> bool
-    ensures { result ≡ is_calculation operator }
-{
-    match operator {
-        BinaryOperator::Multiply
-        | BinaryOperator::Divide
-        | BinaryOperator::Remainder
-        | BinaryOperator::Subtract
-        | BinaryOperator::ShiftLeft
-        | BinaryOperator::ShiftRight
-        | BinaryOperator::ShiftRightUnsigned
-        | BinaryOperator::BitAnd
-        | BinaryOperator::BitXor
-        | BinaryOperator::BitOr => true,
-        _ => false,
     }
 }

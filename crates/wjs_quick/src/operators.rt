@@ -36,6 +36,46 @@ pub fn operated<S: WorldStore>(
     ensures ends { IfSome result (λ v. EndsWith (λ t env. line.operate operator (value_in t left) (value_in t right) env) v config.now) }
     ensures found { IfSome result (λ v. HasValue config.now v) }
 {
+    let Value::Number(x) = left else {
+        return operated_else(config, operator, left, right);
+    };
+    let Value::Number(y) = right else {
+        return operated_else(config, operator, left, right);
+    };
+    by_operator(config, operator, Value::Number(x), Value::Number(y))
+}
+
+/// The same out of line, of two values that aren't both numbers.
+#[inline(never)]
+fn operated_else<S: WorldStore>(
+    config: &Config<S>,
+    operator: BinaryOperator,
+    left: Value,
+    right: Value,
+) -> Option<Value>
+    requires base { Base S.meaning config.now }
+    requires left { HasValue config.now left }
+    requires right { HasValue config.now right }
+    ensures ends { IfSome result (λ v. EndsWith (λ t env. line.operate operator (value_in t left) (value_in t right) env) v config.now) }
+    ensures found { IfSome result (λ v. HasValue config.now v) }
+{
+    by_operator(config, operator, left, right)
+}
+
+/// The operation, in the line of each caller: where the values are known for numbers, only what numbers need is left of it.
+#[inline(always)]
+fn by_operator<S: WorldStore>(
+    config: &Config<S>,
+    operator: BinaryOperator,
+    left: Value,
+    right: Value,
+) -> Option<Value>
+    requires base { Base S.meaning config.now }
+    requires left { HasValue config.now left }
+    requires right { HasValue config.now right }
+    ensures ends { IfSome result (λ v. EndsWith (λ t env. line.operate operator (value_in t left) (value_in t right) env) v config.now) }
+    ensures found { IfSome result (λ v. HasValue config.now v) }
+{
     match operator {
         BinaryOperator::Less => compared(config, BinaryOperator::Less, left, right),
         BinaryOperator::Greater => compared(config, BinaryOperator::Greater, left, right),

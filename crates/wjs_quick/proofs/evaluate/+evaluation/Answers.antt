@@ -1,4 +1,5 @@
-use Rattle.std.proofs.Common.{◌<◌, sym, ◌∙◌, arith, rules}
+use Rattle.std.proofs.Common.{◌<◌, refl, sym, ◌∙◌, arith, rules}
+use Rattle.wjs_base.specs.declared.values.Value.TheVariants as values
 use Rattle.wjs_tree.specs.declared.node.Node.TheVariants as nodes
 use Rattle.wjs_by_content.specs.Tables.{value_in}
 use Rattle.wjs_meaning.specs.Deeds.{Ret, Eval, AtExpr, then_value}
@@ -6,97 +7,129 @@ use Rattle.wjs_meaning.specs.Expressions as line
 use Rattle.wjs_meaning.specs.Programs.{entry}
 use Rattle.wjs_meaning.specs.Reading.{spelt_in}
 use Rattle.wjs_model.specs.Texts.{KnowsSpelt}
-use Rattle.wjs_frames.specs.declared.part.Part.TheVariants as parts
 use Rattle.wjs_frames.specs.Parts.{env_in}
 use Rattle.wjs_frames.proofs.OperandLines.{expr_is}
 use Rattle.wjs_frames.proofs.Places.{node_known}
 use Rattle.wjs_heap_steps.proofs.Peeking.{if_some}
 use Rattle.wjs_quick.specs.Operating.{after_prefix}
-use Rattle.wjs_quick.proofs.Coming.{ends_as, comes_entered, comes_operand, comes_then, comes_last, comes_as, comes_ended}
+use Rattle.wjs_quick.proofs.Coming.{ends_as, comes_entered, comes_literal, comes_then, comes_last, comes_as, comes_ended}
 use Rattle.wjs_quick.proofs.Operations.{prefix_is, left_is_held, and_goes_on, and_ends, or_goes_on, or_ends}
 use Rattle.wjs_quick.proofs.evaluate.+evaluation.Goals as goal
 
 -- ---- a step, and what follows it
 
-pub value_of-returns-in-Some-clause-does : goal.value_of-returns-in-Some-clause-does
-value_of-returns-in-Some-clause-does g t c =
+pub value_with-returns-in-Number-clause-does : goal.value_with-returns-in-Number-clause-does
+value_with-returns-in-Number-clause-does g t c =
     let some : 0 < c.args.steps.now = omega (arith, c.if-steps-eq0.false) in
-    if_some _ _ c.peek_operand.result (λ v p. comes_operand g.S.WorldStore.meaning c.args.config.now c.args.frame.now (parts.Expr c.args.node) c.in-Some.operand v c.args.steps.now some c.in-Some.ensures p) c.peek_operand.ensures.peeks
+    comes_literal g.S.WorldStore.meaning c.args.config.now c.args.frame.now c.args.node (nodes.Number c.in-Number.number) (values.Number c.in-Number.number) c.args.steps.now some (c.requires.node ∙ c.in-Number.is) (λ t. refl)
 
-pub value_of-returns-in-None-clause-does : goal.value_of-returns-in-None-clause-does
-value_of-returns-in-None-clause-does g t c =
+pub value_with-returns-in-Name-clause-does : goal.value_with-returns-in-Name-clause-does
+value_with-returns-in-Name-clause-does g t c =
     let some : 0 < c.args.steps.now = omega (arith, c.if-steps-eq0.false) in
-    if_some _ _ c.form.result (λ v d. comes_entered g.S.WorldStore.meaning c.args.config.now c.args.frame.now (AtExpr c.args.node.0) v c.args.steps.now c.form.new.steps some d) c.form.ensures.does
+    if_some _ _ c.name_value.result (λ v d. d c.args.steps.now some) c.name_value.ensures.does
+
+pub value_with-returns-in-Text-clause-does : goal.value_with-returns-in-Text-clause-does
+value_with-returns-in-Text-clause-does g t c =
+    let some : 0 < c.args.steps.now = omega (arith, c.if-steps-eq0.false) in
+    comes_literal g.S.WorldStore.meaning c.args.config.now c.args.frame.now c.args.node (nodes.Text c.in-Text.id) (values.Text c.in-Text.id) c.args.steps.now some (c.requires.node ∙ c.in-Text.is) (λ t. refl)
+
+pub value_with-returns-in-Text-clause-found : goal.value_with-returns-in-Text-clause-found
+value_with-returns-in-Text-clause-found g t c =
+    let now = c.args.config.now in
+    node_known now.heap.texts now.units.items c.args.frame.now.tree c.args.node (nodes.Text c.in-Text.id) c.requires.base.units (c.requires.node ∙ c.in-Text.is)
+
+pub value_with-returns-in-Bool-clause-does : goal.value_with-returns-in-Bool-clause-does
+value_with-returns-in-Bool-clause-does g t c =
+    let some : 0 < c.args.steps.now = omega (arith, c.if-steps-eq0.false) in
+    comes_literal g.S.WorldStore.meaning c.args.config.now c.args.frame.now c.args.node (nodes.Bool c.in-Bool.truth) (values.Bool c.in-Bool.truth) c.args.steps.now some (c.requires.node ∙ c.in-Bool.is) (λ t. refl)
+
+pub value_with-returns-in-Null-clause-does : goal.value_with-returns-in-Null-clause-does
+value_with-returns-in-Null-clause-does g t c =
+    let some : 0 < c.args.steps.now = omega (arith, c.if-steps-eq0.false) in
+    comes_literal g.S.WorldStore.meaning c.args.config.now c.args.frame.now c.args.node nodes.Null values.Null c.args.steps.now some (c.requires.node ∙ c.in-Null.is) (λ t. refl)
+
+pub value_with-returns-in-This-clause-does : goal.value_with-returns-in-This-clause-does
+value_with-returns-in-This-clause-does g t c =
+    let some : 0 < c.args.steps.now = omega (arith, c.if-steps-eq0.false) in
+    rw c.this.ensures (comes_literal g.S.WorldStore.meaning c.args.config.now c.args.frame.now c.args.node nodes.This c.args.frame.now.this c.args.steps.now some (c.requires.node ∙ c.in-This.is) (λ t. refl))
+
+pub value_with-returns-in-This-clause-found : goal.value_with-returns-in-This-clause-found
+value_with-returns-in-This-clause-found g t c = rw c.this.ensures c.requires.there.this
+
+pub value_with-returns-in_default-clause-does : goal.value_with-returns-in_default-clause-does
+value_with-returns-in_default-clause-does g t c =
+    let some : 0 < c.args.steps.now = omega (arith, c.if-steps-eq0.false) in
+    if_some _ _ c.form_with.result (λ v d. comes_entered g.S.WorldStore.meaning c.args.config.now c.args.frame.now (AtExpr c.args.node.0) v c.args.steps.now c.form_with.new.steps some d) c.form_with.ensures.does
 
 -- ---- by form
 
-pub form-returns-in-Some-Paren-clause-does : goal.form-returns-in-Some-Paren-clause-does
-form-returns-in-Some-Paren-clause-does g t c =
+pub form_with-returns-in-Paren-clause-does : goal.form_with-returns-in-Paren-clause-does
+form_with-returns-in-Paren-clause-does g t c =
     let m = g.S.WorldStore.meaning in
     let now = c.args.config.now in
     let f = c.args.frame.now in
-    if_some _ _ c.value_of.result (λ v d. comes_as m now f (λ t env. Eval (AtExpr c.in-Some-Paren.part.0) env Ret) (λ t env. entry (AtExpr c.args.node.0) env) v c.args.steps.now c.value_of.new.steps
-    (λ t more. expr_is m now f c.args.node (nodes.Paren c.in-Some-Paren.part) t (c.in-Some-Paren.ensures ∙ c.in-Some-Paren.field-0-is)) (comes_last m now f (AtExpr c.in-Some-Paren.part.0) v c.args.steps.now c.value_of.new.steps d)) c.value_of.ensures.does
+    if_some _ _ c.value_of.result (λ v d. comes_as m now f (λ t env. Eval (AtExpr c.in-Paren.part.0) env Ret) (λ t env. entry (AtExpr c.args.node.0) env) v c.args.steps.now c.value_of.new.steps
+    (λ t more. expr_is m now f c.args.node (nodes.Paren c.in-Paren.part) t (c.requires.node ∙ c.in-Paren.is)) (comes_last m now f (AtExpr c.in-Paren.part.0) v c.args.steps.now c.value_of.new.steps d)) c.value_of.ensures.does
 
-pub form-returns-in-Some-Binary-clause-does : goal.form-returns-in-Some-Binary-clause-does
-form-returns-in-Some-Binary-clause-does g t c =
+pub form_with-returns-in-Binary-clause-does : goal.form_with-returns-in-Binary-clause-does
+form_with-returns-in-Binary-clause-does g t c =
     let m = g.S.WorldStore.meaning in
     let now = c.args.config.now in
     let f = c.args.frame.now in
-    let s = c.in-Some-Binary in
+    let s = c.in-Binary in
     if_some _ _ c.binary.result (λ v d. comes_as m now f (λ t env. Eval (AtExpr s.left.0) env (then_value (line.binary_left s.operator s.right.0 env))) (λ t env. entry (AtExpr c.args.node.0) env) v c.args.steps.now c.binary.new.steps
-    (λ t more. expr_is m now f c.args.node (nodes.Binary s.left s.operator s.right) t (s.ensures ∙ s.field-0-is)) d) c.binary.ensures.does
+    (λ t more. expr_is m now f c.args.node (nodes.Binary s.left s.operator s.right) t (c.requires.node ∙ s.is)) d) c.binary.ensures.does
 
-pub form-returns-in-Some-Dot-clause-does : goal.form-returns-in-Some-Dot-clause-does
-form-returns-in-Some-Dot-clause-does g t c =
+pub form_with-returns-in-Dot-clause-does : goal.form_with-returns-in-Dot-clause-does
+form_with-returns-in-Dot-clause-does g t c =
     let m = g.S.WorldStore.meaning in
     let now = c.args.config.now in
     let f = c.args.frame.now in
-    let s = c.in-Some-Dot in
+    let s = c.in-Dot in
     if_some _ _ c.dot.result (λ v d. comes_as m now f (λ t env. Eval (AtExpr s.base.0) env (then_value (line.dot_base (spelt_in t s.name) env (line.give_value_of env)))) (λ t env. entry (AtExpr c.args.node.0) env) v c.args.steps.now c.dot.new.steps
-    (λ t more. expr_is m now f c.args.node (nodes.Dot s.base s.name) t (s.ensures ∙ s.field-0-is)) d) c.dot.ensures.does
+    (λ t more. expr_is m now f c.args.node (nodes.Dot s.base s.name) t (c.requires.node ∙ s.is)) d) c.dot.ensures.does
 
-pub form-dot-requires : goal.form-dot-requires
-form-dot-requires g t c =
+pub form_with-dot-requires : goal.form_with-dot-requires
+form_with-dot-requires g t c =
     let now = c.args.config.now in
-    let known : KnowsSpelt now.heap.texts c.in-Some-Dot.name = node_known now.heap.texts now.units.items c.args.frame.now.tree c.args.node (nodes.Dot c.in-Some-Dot.base c.in-Some-Dot.name) c.requires.base.units (c.in-Some-Dot.ensures ∙ c.in-Some-Dot.field-0-is) in
+    let known : KnowsSpelt now.heap.texts c.in-Dot.name = node_known now.heap.texts now.units.items c.args.frame.now.tree c.args.node (nodes.Dot c.in-Dot.base c.in-Dot.name) c.requires.base.units (c.requires.node ∙ c.in-Dot.is) in
     search (rules, known)
 
-pub form-returns-in-Some-At-clause-does : goal.form-returns-in-Some-At-clause-does
-form-returns-in-Some-At-clause-does g t c =
+pub form_with-returns-in-At-clause-does : goal.form_with-returns-in-At-clause-does
+form_with-returns-in-At-clause-does g t c =
     let m = g.S.WorldStore.meaning in
     let now = c.args.config.now in
     let f = c.args.frame.now in
-    let s = c.in-Some-At in
+    let s = c.in-At in
     if_some _ _ c.at.result (λ v d. comes_as m now f (λ t env. Eval (AtExpr s.base.0) env (then_value (line.at_base s.index.0 env (line.give_value_of env)))) (λ t env. entry (AtExpr c.args.node.0) env) v c.args.steps.now c.at.new.steps
-    (λ t more. expr_is m now f c.args.node (nodes.At s.base s.index) t (s.ensures ∙ s.field-0-is)) d) c.at.ensures.does
+    (λ t more. expr_is m now f c.args.node (nodes.At s.base s.index) t (c.requires.node ∙ s.is)) d) c.at.ensures.does
 
-pub form-returns-in-Some-Prefix-clause-does : goal.form-returns-in-Some-Prefix-clause-does
-form-returns-in-Some-Prefix-clause-does g t c =
+pub form_with-returns-in-Prefix-clause-does : goal.form_with-returns-in-Prefix-clause-does
+form_with-returns-in-Prefix-clause-does g t c =
     let m = g.S.WorldStore.meaning in
     let now = c.args.config.now in
     let f = c.args.frame.now in
-    let s = c.in-Some-Prefix in
+    let s = c.in-Prefix in
     if_some _ _ c.prefix.result (λ v d. comes_as m now f (λ t env. line.prefix_of s.operator s.part.0 env) (λ t env. entry (AtExpr c.args.node.0) env) v c.args.steps.now c.prefix.new.steps
-    (λ t more. expr_is m now f c.args.node (nodes.Prefix s.operator s.part) t (s.ensures ∙ s.field-0-is)) d) c.prefix.ensures.does
+    (λ t more. expr_is m now f c.args.node (nodes.Prefix s.operator s.part) t (c.requires.node ∙ s.is)) d) c.prefix.ensures.does
 
-pub form-returns-in-Some-Cond-clause-does : goal.form-returns-in-Some-Cond-clause-does
-form-returns-in-Some-Cond-clause-does g t c =
+pub form_with-returns-in-Cond-clause-does : goal.form_with-returns-in-Cond-clause-does
+form_with-returns-in-Cond-clause-does g t c =
     let m = g.S.WorldStore.meaning in
     let now = c.args.config.now in
     let f = c.args.frame.now in
-    let s = c.in-Some-Cond in
+    let s = c.in-Cond in
     if_some _ _ c.choice.result (λ v d. comes_as m now f (λ t env. Eval (AtExpr s.test.0) env (then_value (line.cond_test s.yes.0 s.no.0 env))) (λ t env. entry (AtExpr c.args.node.0) env) v c.args.steps.now c.choice.new.steps
-    (λ t more. expr_is m now f c.args.node (nodes.Cond s.test s.yes s.no) t (s.ensures ∙ s.field-0-is)) d) c.choice.ensures.does
+    (λ t more. expr_is m now f c.args.node (nodes.Cond s.test s.yes s.no) t (c.requires.node ∙ s.is)) d) c.choice.ensures.does
 
-pub form-returns-in-Some-Comma-clause-does : goal.form-returns-in-Some-Comma-clause-does
-form-returns-in-Some-Comma-clause-does g t c =
+pub form_with-returns-in-Comma-clause-does : goal.form_with-returns-in-Comma-clause-does
+form_with-returns-in-Comma-clause-does g t c =
     let m = g.S.WorldStore.meaning in
     let now = c.args.config.now in
     let f = c.args.frame.now in
-    let s = c.in-Some-Comma in
+    let s = c.in-Comma in
     if_some _ _ c.comma.result (λ v d. comes_as m now f (λ t env. Eval (AtExpr s.first.0) env (then_value (line.comma_left s.second.0 env))) (λ t env. entry (AtExpr c.args.node.0) env) v c.args.steps.now c.comma.new.steps
-    (λ t more. expr_is m now f c.args.node (nodes.Comma s.first s.second) t (s.ensures ∙ s.field-0-is)) d) c.comma.ensures.does
+    (λ t more. expr_is m now f c.args.node (nodes.Comma s.first s.second) t (c.requires.node ∙ s.is)) d) c.comma.ensures.does
 
 -- ---- operators between two operands
 
@@ -149,7 +182,7 @@ both-returns-clause-does g t c =
     let m = g.S.WorldStore.meaning in
     let now = c.args.config.now in
     let f = c.args.frame.now in
-    let steps = c.value_of.new.steps in
+    let steps = c.value_with.new.steps in
     if_some _ _ c.operated.result (λ v ends. comes_then m now f (AtExpr c.args.right.0) (λ t env. line.binary_right c.args.operator (value_in t c.args.first) env) c.in_ok-second.second v c.args.steps.now steps steps c.in_ok-second.ensures.does
     (comes_ended m now f (λ t env. line.binary_right c.args.operator (value_in t c.args.first) env (value_in t c.in_ok-second.second)) v steps ends)) c.operated.ensures.ends
 

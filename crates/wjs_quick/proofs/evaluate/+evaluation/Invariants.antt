@@ -2,10 +2,13 @@ use Rattle.std.proofs.Common.{◌+◌, ◌*◌}
 use Rattle.wjs_quick.proofs.evaluate.+evaluation.Given as goal
 
 abbrev pub decreases-value_of : goal.decreases-value_of
-decreases-value_of g l = l.height * 8
+decreases-value_of g l = l.height * 8 + 1
 
-abbrev pub decreases-form : goal.decreases-form
-decreases-form g l = l.height * 8 + 7
+abbrev pub decreases-value_with : goal.decreases-value_with
+decreases-value_with g l = l.height * 8
+
+abbrev pub decreases-form_with : goal.decreases-form_with
+decreases-form_with g l = l.height * 8 + 7
 
 abbrev pub decreases-binary : goal.decreases-binary
 decreases-binary g l = l.height * 8 + 6

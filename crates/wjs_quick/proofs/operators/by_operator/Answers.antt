@@ -1,4 +1,4 @@
-use Rattle.wjs_quick.proofs.operators.operated.Goals as goal
+use Rattle.wjs_quick.proofs.operators.by_operator.Goals as goal
 
 pub returns-in-StrictEqual-clause-ends : goal.returns-in-StrictEqual-clause-ends
 returns-in-StrictEqual-clause-ends g c = rw c.in-StrictEqual.is c.same.ensures.ends
