@@ -24,6 +24,6 @@ pub use declarations::Declarations;
 pub use laws::{bodies_are_there, places_are_of_texts, places_stay};
 pub use names::NameSet;
 pub use place::Place;
-pub use script::places;
+pub use script::{arguments_in, places};
 pub use shared::Declared;
 pub use table::Places;
