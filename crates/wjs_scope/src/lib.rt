@@ -22,7 +22,6 @@ pub use body_rows::declared_bodies;
 pub use body_table::BodyTable;
 pub use declarations::Declarations;
 pub use laws::{bodies_are_there, places_are_of_texts, places_stay};
-pub use names::NameSet;
 pub use place::Place;
 pub use script::{arguments_in, places};
 pub use shared::Declared;
