@@ -41,7 +41,8 @@ pub(crate) fn declared_at<S: WorldStore>(
         map (text_in t) d.variables ≡ (declared_by (tree_here (env_in S.meaning config.now t frame.now)) frame.now.node.0).vars) }
     ensures others { IfOk result
         (λ d. (t : Table) → IsTable t → Grows config.now.heap.texts t →
-        map (text_in t) d.others ≡ others_by (tree_here (env_in S.meaning config.now t frame.now)) (declared_by (tree_here (env_in S.meaning config.now t frame.now)) frame.now.node.0)) }
+        map (text_in t) d.others ≡ others_by (tree_here (env_in S.meaning config.now t frame.now))
+        (declared_by (tree_here (env_in S.meaning config.now t frame.now)) frame.now.node.0)) }
     ensures formals_found { IfOk result (λ d. All (Has config.now.heap.texts) d.formals) }
     ensures variables_found { IfOk result (λ d. All (Has config.now.heap.texts) d.variables) }
     ensures others_found { IfOk result (λ d. All (Has config.now.heap.texts) d.others) }

@@ -15,10 +15,10 @@ use Rattle.wjs_by_content.specs.Values.{Text, same_text, text_Decides}
 use Rattle.wjs_by_content.specs.Tables.{text_in}
 use Rattle.wjs_meaning.specs.Trees as content
 use Rattle.wjs_meaning.specs.Trees.{has_text}
-use Rattle.wjs_meaning.specs.Declarations.{Declared, declared_by}
+use Rattle.wjs_meaning.specs.Declarations.{declared_by}
 use Rattle.wjs_meaning.specs.Reading.{node_in, numbers}
 use Rattle.wjs_scope.specs.declared.declarations.Declarations.{Declarations}
-use Rattle.wjs_scope.specs.Declarations.{formals_of, elements_of, is_declaration, functions_among}
+use Rattle.wjs_scope.specs.Declarations.{formals_of, is_declaration, functions_among}
 use Rattle.wjs_scope.specs.Scopes.{is_in, none_of, some_name, declared_name, function_names}
 use Rattle.wjs_scope.specs.Places.{arguments_text}
 use Rattle.wjs_scope.specs.Bodies.{node_at, elements_at, others_in}

@@ -1,10 +1,8 @@
 -- A table that grows may come to have the text of `arguments`; the places of names that it had before stay as they are.
-use Rattle.std.specs.Prelude.{◌≡◌, ℕ, suc, zero, Bool, true, false, ◌<◌, if◌then◌else◌, List, [], ◌∷◌, ◌++◌, length, nat_eq, Option, None, Some, slice_get}
+use Rattle.std.specs.Prelude.{◌≡◌, ℕ, suc, zero, Bool, true, false, ◌<◌, if◌then◌else◌, List, [], ◌∷◌, length, Option, None, Some, slice_get}
 use Rattle.std.proofs.Common.{refl, sym, ap, subst, ◌∙◌, ◌||◌, get_or}
-use Rattle.std.specs.List.{list_any}
 use Rattle.std.specs.Str.{bytes_eq}
-use Rattle.std.proofs.lemmas.Bool.{both_ways, eqb-true, ne_eqb}
-use Rattle.std.proofs.lemmas.List.Folds.{list_any-append}
+use Rattle.std.proofs.lemmas.Bool.{both_ways, ne_eqb}
 use Rattle.std.proofs.lemmas.Option.{none-some, same_Some}
 use Rattle.std.proofs.lemmas.Slice.Eq.{bytes_eq-Decides}
 use Rattle.wjs_base.specs.declared.ids.TextId.{TextId}

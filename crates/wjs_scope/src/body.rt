@@ -66,14 +66,7 @@ fn of_body(
 {
     let functions = functions_of(alloc, nodes, elements)?;
     let vars = variables_of(alloc, nodes, elements)?;
-    let others = others_of(
-        alloc,
-        arguments,
-        formals,
-        nodes,
-        elements,
-        vars.as_slice(),
-    )?;
+    let others = others_of(alloc, arguments, formals, nodes, elements, vars.as_slice())?;
     let formals = Vec::from_slice(alloc, formals)?;
     Ok(Declarations {
         formals: Sequence::from_vec(formals),

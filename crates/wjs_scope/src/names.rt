@@ -71,7 +71,11 @@ impl NameSet {
     }
 
     /// Those names of the list that aren't there, in their order.
-    pub(crate) fn absent(&self, alloc: Global, list: &[TextId]) -> Result<Sequence<TextId>, OutOfMemory>
+    pub(crate) fn absent(
+        &self,
+        alloc: Global,
+        list: &[TextId],
+    ) -> Result<Sequence<TextId>, OutOfMemory>
         ensures { IfOk result (λ names. names ≡ none_of self.now list.now) }
     {
         let mut names = Vec::new(alloc);

@@ -133,8 +133,8 @@ returns g c =
     let ef = c.in_ok-declared.ensures.formals t ∙ ap (λ (k : Declared). k.formals) now in
     let en = c.in_ok-declared.ensures.functions t ∙ ap (λ (k : Declared). k.functions) now in
     let eo : others ≡ others_of env declared =
-        ap (map (text_in t)) c.others.ensures ∙ c.in_ok-declared.ensures.others t table grows
-        ∙ ap (λ (q : Frame). others_of (env_in m old t q) (declared_by (tree_here (env_in m old t q)) q.node.0)) c.set_node.ensures in
+    ap (map (text_in t)) c.others.ensures ∙ c.in_ok-declared.ensures.others t table grows
+    ∙ ap (λ (q : Frame). others_of (env_in m old t q) (declared_by (tree_here (env_in m old t q)) q.node.0)) c.set_node.ensures in
     let ea : args ≡ said = ap (map (value_in t)) (c.as_slice.ensures.value ∙ c.in_ok-values.ensures) ∙ earliest_each (value_in t) (values_held f.held) in
     let filled0 = c.in_ok-fill_scope.ensures.does.by (body_run body env) new (Ok tt) k in
     let filled : Follows m (arguments_written formals functions others fn args (env_in m mid t inner) (body_run body env)) mid new = subst (λ (h : Frame). Follows m (arguments_written formals functions others fn args (env_in m mid t h) (body_run body env)) mid new) held filled0 in

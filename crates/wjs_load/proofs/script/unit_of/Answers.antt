@@ -1,6 +1,3 @@
-use Rattle.std.proofs.Common.{sym}
-use Rattle.wjs_tree.specs.Trees.{Elements}
-use Rattle.wjs_order.specs.Order.{IsNumbered}
 use Rattle.wjs_programs.proofs.Reaching.{all_bodies_stand}
 use Rattle.wjs_programs.proofs.Declaring.{bodies_are_meant}
 use Rattle.wjs_load.proofs.script.unit_of.Goals as goal
