@@ -59,6 +59,9 @@ module _ (t : Table) (table : IsTable t) where
 
 -- ---- the names of a unit's functions
 
+with_one : (h : ℕ → Option Text) (k : ℕ) (ks : List ℕ) (x : Text) → h k ≡ Some x → filter_map h (k ∷ ks) ≡ x ∷ filter_map h ks
+with_one h k ks x e = rw e
+
 module _ (t : Table) (u : Program) where
   abbrev called : ℕ → Option Text
   called k = content.name_of (content.node_at (unit_in t u) k)
@@ -66,7 +69,7 @@ module _ (t : Table) (u : Program) where
   one_called : (o : Option Node) (s : NodeId) (names : List TextId) (more : List NodeId) → called s.0 ≡ content.name_of (node_in t (unwrap_or o form.Empty)) → each (text_in t) names ≡ filter_map called (numbers more)
       → each (text_in t) (declared_name o ++ names) ≡ filter_map called (numbers (cond (is_declaration o) (s ∷ more) more))
   one_called None s names more e h = h
-  one_called (Some (form.FunctionDecl x formals list)) s names more e h = (λ i. text_in t x ∷ h i) ∙ ap (λ (o : Option Text). elim o [ None ↦ filter_map called (numbers more) | Some y ↦ y ∷ filter_map called (numbers more) ]) (sym e)
+  one_called (Some (form.FunctionDecl x formals list)) s names more e h = (λ i. text_in t x ∷ h i) ∙ sym (with_one called s.0 (numbers more) (text_in t x) e)
   one_called (Some node) s names more e h = h
 
   functions_called : (list : List NodeId) → each (text_in t) (function_names u.program.nodes list) ≡ filter_map called (numbers (functions_among u.program.nodes list))

@@ -14,15 +14,15 @@ invariant_of-result c =
     let p = c.in_ok-program.program in
     record {
       body_is_last = c.in_ok-program.ensures.last;
-      bodies_are_meant = bodies_are_meant p.nodes script.tree p.body c.arguments_in.result c.in_ok-bodies.bodies (c.in_ok-program.ensures.numbered script.tree (record { list = script.list; used = script.used; has = script.has; shows = script.shows })) c.in_ok-program.ensures.script
+      bodies_are_meant = bodies_are_meant p.nodes script.tree p.body c.arguments_in-arguments.result c.in_ok-bodies.bodies (c.in_ok-program.ensures.numbered script.tree (record { list = script.list; used = script.used; has = script.has; shows = script.shows })) c.in_ok-program.ensures.script
           c.in_ok-bodies.ensures;
     }
 
 pub returns-clause-placed : goal.returns-clause-placed
 returns-clause-placed c = record {
   script = c.in_ok-program.ensures.script;
-  arguments = c.arguments_in.result;
-  found = c.arguments_in.ensures;
+  arguments = c.arguments_in-arguments.result;
+  found = c.arguments_in-arguments.ensures;
   places = c.in_ok-places.ensures;
   others = λ k. (c.in_ok-bodies.ensures k).others;
 }
