@@ -37,7 +37,11 @@ fn count_of(node: &Node) -> usize
 }
 
 /// A function's own name.
-pub fn own_name<S: WorldStore>(config: &Config<S>, frame: &Frame, id: NodeId) -> Option<TextId>
+pub(crate) fn own_name<S: WorldStore>(
+    config: &Config<S>,
+    frame: &Frame,
+    id: NodeId,
+) -> Option<TextId>
     requires { Base S.meaning config.now }
     ensures is { (t : Table) → name_of (node_here (env_in S.meaning config.now t frame.now) id.0) ≡ option_map (text_in t) result }
     ensures found { known.HasText config.now.heap.texts result }

@@ -14,7 +14,6 @@ mod news;
 mod pairs;
 
 pub use arrays::{make_array, whole_value, write_elements};
-pub use bodies::own_name;
 pub use calls::{call, call_below, call_held, call_value};
 pub use functions::{declare_functions, make_function};
 pub use news::construct;

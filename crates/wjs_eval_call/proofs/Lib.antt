@@ -1,7 +1,6 @@
 pub mod Asking
 pub mod StandingBodies
 pub mod GlobalVariables
-pub mod Names
 pub mod Filling
 pub mod Beginning
 pub mod UnitTrees

@@ -8,7 +8,8 @@ use Rattle.wjs_base.specs.Text.{Table, Grows}
 use Rattle.wjs_meaning.specs.Trees.{Tree, empty_tree, tree_at}
 use Rattle.wjs_model.specs.declared.loaded.LoadedProgram.{LoadedProgram as Program}
 use Rattle.wjs_model.specs.Units.{unit_in}
-use Rattle.wjs_model.specs.Texts.{KnowsUnit}
+use Rattle.wjs_model.specs.Texts.{KnowsUnit, PlacesUnit}
+use Rattle.wjs_model.proofs.Placed.{placed_stay}
 use Rattle.wjs_heap_steps.proofs.Staying.{units_stay}
 
 got : {A : Type 0} (xs : List A) (i : ℕ) (x : A) → i < length xs → x ≡ slice_index_or xs i x → slice_get xs i ≡ Some x
@@ -22,8 +23,14 @@ tree_some t units i u lt e = ap (λ (o : Option Tree). unwrap_or o empty_tree) (
 pub tree_none : (t : Table) (units : List Program) (i : ℕ) → length units ≤ i → tree_at (each (unit_in t) units) i ≡ empty_tree
 tree_none t units i le = ap (λ (o : Option Tree). unwrap_or o empty_tree) (slice_get-map (unit_in t) units i ∙ ap (option_map (unit_in t)) (slice_get_past units i le))
 
+pub unit_here : (P : Program → Type 0) (units : List Program) (i : ℕ) (u : Program) → i < length units → u ≡ slice_index_or units i u → All P units → P u
+unit_here P units i u lt e h = subst P (sym e) (All-get_or P units i u lt h)
+
 pub unit_known : (old t : Table) (grows : Grows old t) (units : List Program) (i : ℕ) (u : Program) → i < length units → u ≡ slice_index_or units i u → All (KnowsUnit old) units → KnowsUnit t u
-unit_known old t grows units i u lt e h = subst (KnowsUnit t) (sym e) (All-get_or (KnowsUnit t) units i u lt (units_stay old t grows units h))
+unit_known old t grows units i u lt e h = unit_here (KnowsUnit t) units i u lt e (units_stay old t grows units h)
+
+pub unit_placed : (old t : Table) (grows : Grows old t) (units : List Program) (i : ℕ) (u : Program) → i < length units → u ≡ slice_index_or units i u → All (KnowsUnit old) units → All (PlacesUnit old) units → PlacesUnit t u
+unit_placed old t grows units i u lt e h p = unit_here (PlacesUnit t) units i u lt e (placed_stay old t grows units h p)
 
 -- the unit of a number
 pub unit_is : (units : List Program) (i : ℕ) (u v : Program) → i < length units → v ≡ slice_index_or units i v → slice_get units i ≡ Some u → v ≡ u

@@ -15,7 +15,6 @@ ghost use Rattle.wjs_frames.specs.Handling.{Runs, GoesOn, Begins, Resumes};
 
 use crate::arguments::fill_scope;
 use crate::declarations::declared_at;
-use crate::variables::other_variables;
 use wjs_arena::Code;
 use wjs_base::{NodeId, ObjId, OutOfMemory};
 use wjs_effects::{Sequence, dropped, run_from};
@@ -83,7 +82,6 @@ fn begin_scope<S: WorldStore>(
     let mut frame = frame;
     frame.set_node(tree, node);
     let declared = declared_at(config, &frame)?;
-    let others = other_variables(config, &frame, &declared)?;
     let inner = create_scope(config, scope)?;
     frame.set_scope(inner);
     fill_scope(
@@ -91,7 +89,7 @@ fn begin_scope<S: WorldStore>(
         &frame,
         function,
         &declared,
-        others.as_slice(),
+        declared.others(),
         values.as_slice(),
     )?;
     begin_body(config, frame)

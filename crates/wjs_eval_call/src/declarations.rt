@@ -6,6 +6,7 @@ ghost use Rattle.wjs_meaning.specs.Deeds.{tree_here};
 ghost use Rattle.wjs_meaning.specs.Declarations.{declared_by};
 ghost use Rattle.wjs_meaning.specs.Functions as line;
 ghost use Rattle.wjs_meaning.specs.Reading.{numbers};
+ghost use Rattle.wjs_model.specs.Bodies.{others_by};
 ghost use Rattle.wjs_model.specs.declared.loaded.LoadedProgram.{LoadedProgram as Program};
 ghost use Rattle.wjs_model.specs.Soundness.{Base, IsThere};
 ghost use Rattle.wjs_scope.specs.Bodies.{elements_at};
@@ -38,8 +39,13 @@ pub(crate) fn declared_at<S: WorldStore>(
     ensures variables { IfOk result
         (λ d. (t : Table) → IsTable t → Grows config.now.heap.texts t →
         map (text_in t) d.variables ≡ (declared_by (tree_here (env_in S.meaning config.now t frame.now)) frame.now.node.0).vars) }
+    ensures others { IfOk result
+        (λ d. (t : Table) → IsTable t → Grows config.now.heap.texts t →
+        map (text_in t) d.others ≡ others_by (tree_here (env_in S.meaning config.now t frame.now))
+        (declared_by (tree_here (env_in S.meaning config.now t frame.now)) frame.now.node.0)) }
     ensures formals_found { IfOk result (λ d. All (Has config.now.heap.texts) d.formals) }
     ensures variables_found { IfOk result (λ d. All (Has config.now.heap.texts) d.variables) }
+    ensures others_found { IfOk result (λ d. All (Has config.now.heap.texts) d.others) }
 {
     match config.units.get(frame.tree() as usize) {
         Some(unit) => unit.declared(frame.node()),

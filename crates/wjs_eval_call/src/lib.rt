@@ -10,7 +10,6 @@ mod points;
 mod programs;
 mod scopes;
 mod values;
-mod variables;
 
 pub use bodies::body;
 pub use conversions::conversion;

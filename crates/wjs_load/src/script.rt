@@ -15,7 +15,7 @@ use wjs_model::LoadedProgram;
 use wjs_order::ordered;
 use wjs_parse::program;
 use wjs_parse_expr::ParseFault;
-use wjs_scope::{declared_bodies, places};
+use wjs_scope::{arguments_in, declared_bodies, places};
 use wjs_texts::Texts;
 use wjs_tree::{Program, Tok};
 
@@ -52,8 +52,9 @@ fn unit_of(alloc: Global, texts: &Texts, program: Program) -> Result<LoadedProgr
     ensures placed { IfOk result (PlacesUnit texts.now) }
 {
     let program = ordered(alloc, program)?;
-    let places = places(alloc, texts, &program)?;
-    let bodies = declared_bodies(alloc, &program)?;
+    let arguments = arguments_in(texts);
+    let places = places(alloc, arguments, &program)?;
+    let bodies = declared_bodies(alloc, arguments, &program)?;
     Ok(LoadedProgram {
         program,
         places,

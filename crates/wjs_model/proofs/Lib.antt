@@ -11,3 +11,4 @@ pub mod Others
 pub mod NamePlaces
 pub mod Naming
 pub mod Repeats
+pub mod OtherVariables

@@ -48,7 +48,7 @@ formals_named t (form.Function name formals elements) = refl
 formals_named t (form.FunctionDecl name formals elements) = refl
 formals_named t n = refl
 
-formals_known : (t : Table) (n : Node) → KnowsNode t n → All (Has t) (formals_of n)
+pub formals_known : (t : Table) (n : Node) → KnowsNode t n → All (Has t) (formals_of n)
 formals_known t (form.Function name formals elements) h = h.1
 formals_known t (form.FunctionDecl name formals elements) h = h.1
 formals_known t n h = All-nil (Has t)

@@ -46,4 +46,6 @@ placed_known t u h = nodes_placed t u.program.nodes h
 
 pub placed_stay : (old new : Table) → Grows old new → (us : List Program) → All (KnowsUnit old) us → All (PlacesUnit old) us → All (PlacesUnit new) us
 placed_stay old new grows us known placed =
-    λ k d lt. (let u = get_or us k d in places_stay old new u.program.nodes u.program.body u.places grows (placed_known old u (known k d lt)) (placed k d lt))
+    λ k d lt. (let u = get_or us k d in
+    let names = placed_known old u (known k d lt) in
+    places_stay old new u.program.nodes u.program.body u.places u.bodies grows names (λ i. (u.bodies_are_meant i).found old names) (placed k d lt))

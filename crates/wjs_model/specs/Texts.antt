@@ -56,6 +56,6 @@ module _ (texts : Table) where
   abbrev pub KnowsUnit : Program → Type 0
   KnowsUnit u = All KnowsNode u.program.nodes
 
-  -- the loaded program is a script, and its places are those of its names
+  -- the loaded program is a script, its places are those of its names, and the other variables of its bodies are right
   abbrev pub PlacesUnit : Program → Type 0
-  PlacesUnit u = IsPlaced texts u.program.nodes u.program.body u.places
+  PlacesUnit u = IsPlaced texts u.program.nodes u.program.body u.places u.bodies

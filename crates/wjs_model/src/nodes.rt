@@ -8,7 +8,8 @@ ghost use Rattle.wjs_scope.specs.Places.{placed_names};
 ghost use Rattle.wjs_meaning.specs.Declarations.{declared_by};
 ghost use Rattle.wjs_meaning.specs.Reading.{numbers};
 ghost use Rattle.wjs_meaning.specs.Trees.{name_place};
-ghost use Rattle.wjs_model.specs.Texts.{KnowsUnit};
+ghost use Rattle.wjs_model.specs.Bodies.{others_by};
+ghost use Rattle.wjs_model.specs.Texts.{KnowsUnit, PlacesUnit};
 ghost use Rattle.wjs_model.specs.Units.{node_of, place_in, place_or_global, unit_in};
 
 use crate::loaded::LoadedProgram;
@@ -45,8 +46,11 @@ impl LoadedProgram {
         ensures numbered { IfOk result (λ d. d.functions ≡ functions_among self.now.program.nodes (elements_at self.now.program.nodes body.0)) }
         ensures variables { IfOk result (λ d. (t : Table) → IsTable t → KnowsUnit t self.now
             → map (text_in t) d.variables ≡ (declared_by (unit_in t self.now) body.0).vars) }
+        ensures others { IfOk result (λ d. (t : Table) → IsTable t → KnowsUnit t self.now → PlacesUnit t self.now
+            → map (text_in t) d.others ≡ others_by (unit_in t self.now) (declared_by (unit_in t self.now) body.0)) }
         ensures formals_found { IfOk result (λ d. (t : Table) → KnowsUnit t self.now → All (Has t) d.formals) }
         ensures variables_found { IfOk result (λ d. (t : Table) → KnowsUnit t self.now → All (Has t) d.variables) }
+        ensures others_found { IfOk result (λ d. (t : Table) → KnowsUnit t self.now → PlacesUnit t self.now → All (Has t) d.others) }
     {
         let declared = self.bodies.get(body)?;
         Ok(declared)

@@ -168,7 +168,7 @@ module _ (ns : List Node) (stand : BodiesStand ns) where
       by (Some node) e = of_node (record { 0 = k }) node e (is_body node) refl
 
 pub bodies_are_meant : BodiesAreMeant
-bodies_are_meant ns program body table numbered script declared = λ k.
+bodies_are_meant ns program body arguments table numbered script declared = λ k.
     let d = declared k in
     let there = elements_there ns (all_bodies_stand ns program body numbered script) k in
     let es = there.0 in

@@ -37,7 +37,8 @@ AllBodiesStand = (ns : List Node) (tree : Elements) (body : NodeId) → IsNumber
 
 -- what a table has of the bodies of a numbered script by its tree is what they declare in the meaning
 abbrev pub BodiesAreMeant : Type 0
-BodiesAreMeant = (ns : List Node) (tree : Elements) (body : NodeId) (table : List Declarations × Declarations) → IsNumbered ns tree body → IsScript ns body → AreDeclared ns table → AreMeant ns table
+BodiesAreMeant =
+    (ns : List Node) (tree : Elements) (body : NodeId) (arguments : Option TextId) (table : List Declarations × Declarations) → IsNumbered ns tree body → IsScript ns body → AreDeclared ns arguments table → AreMeant ns table
 
 -- bytes spell one program at most
 abbrev pub OneProgram : Type 0

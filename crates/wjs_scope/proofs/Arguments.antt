@@ -1,22 +1,23 @@
 -- A table that grows may come to have the text of `arguments`; the places of names that it had before stay as they are.
-use Rattle.std.specs.Prelude.{◌≡◌, ℕ, suc, zero, Bool, true, false, ◌<◌, if◌then◌else◌, List, [], ◌∷◌, ◌++◌, length, nat_eq, Option, None, Some, slice_get}
-use Rattle.std.proofs.Common.{refl, sym, ap, subst, ◌∙◌, ◌||◌}
-use Rattle.std.specs.List.{list_any}
+use Rattle.std.specs.Prelude.{◌≡◌, ℕ, suc, zero, Bool, true, false, ◌<◌, if◌then◌else◌, List, [], ◌∷◌, length, Option, None, Some, slice_get}
+use Rattle.std.proofs.Common.{refl, sym, ap, subst, ◌∙◌, ◌||◌, get_or}
 use Rattle.std.specs.Str.{bytes_eq}
-use Rattle.std.proofs.lemmas.Bool.{both_ways, eqb-true, ne_eqb}
-use Rattle.std.proofs.lemmas.List.Folds.{list_any-append}
+use Rattle.std.proofs.lemmas.Bool.{both_ways, ne_eqb}
 use Rattle.std.proofs.lemmas.Option.{none-some, same_Some}
 use Rattle.std.proofs.lemmas.Slice.Eq.{bytes_eq-Decides}
 use Rattle.wjs_base.specs.declared.ids.TextId.{TextId}
-use Rattle.wjs_base.specs.Text.{Units, Table, Denotes, Finds, Grows}
+use Rattle.wjs_base.specs.Text.{Units, Table, Has, Denotes, Finds, Grows}
 use Rattle.wjs_base.proofs.TextLaws.{Grows-Denotes, Grows-Denotes-back}
 use Rattle.wjs_base.specs.declared.ids.NodeId.{NodeId}
 use Rattle.wjs_tree.specs.declared.node.Node.{Node}
 use Rattle.wjs_scope.specs.declared.place.Place.TheVariants.{Local}
+use Rattle.wjs_scope.specs.declared.declarations.Declarations.{Declarations}
 use Rattle.wjs_scope.specs.Declarations.{name_of, with_name, with_names, variables, formals_of, elements_of}
 use Rattle.wjs_scope.specs.Scopes.{Scope, is_in, place_past, function_names, own_name, with_own_name, in_function}
 use Rattle.wjs_scope.specs.Nesting.{Side, Around, Caught, Inside, Enters, Leads}
 use Rattle.wjs_scope.specs.Places.{Rows, IsScript, ArePlaces, IsPlaced, KnowsPlaced, PlacesStay, arguments_text}
+use Rattle.wjs_scope.specs.Bodies.{node_at, declared_in, AreOthers, KnowsVariables}
+use Rattle.wjs_scope.proofs.OtherNames.{in_with_name, others_come}
 
 -- ---- whether a table has a text
 
@@ -35,18 +36,6 @@ looked [] u = (None, λ id at. none-some u at)
 looked (x ∷ t) u = let o = looked t u in one_more x t u (bytes_eq x u) o.0 refl o.1
 
 -- ---- scopes in which but for one name all have the same places
-
-settled : (b c : Bool) → (c ≡ true → b ≡ true) → b ≡ (b || (c || false))
-settled true c h = refl
-settled false true h = h refl
-settled false false h = refl
-
-by_test : (b : Bool) (xs : Scope) (x y : TextId) → is_in xs x ≡ b → is_in (if b then xs else xs ++ x ∷ []) y ≡ (is_in xs y || is_in (x ∷ []) y)
-by_test true xs x y e = settled (is_in xs y) (nat_eq y.0 x.0) (λ same. ap (λ (k : ℕ). list_any (λ (z : TextId). nat_eq k z.0) xs) (eqb-true y.0 x.0 same) ∙ e)
-by_test false xs x y e = list_any-append (λ (z : TextId). nat_eq y.0 z.0) xs (x ∷ [])
-
-in_with_name : (xs : Scope) (x y : TextId) → is_in (with_name xs x) y ≡ (is_in xs y || is_in (x ∷ []) y)
-in_with_name xs x y = by_test (is_in xs x) xs x y refl
 
 module _ (id : TextId) where
   abbrev pub AlikeNames : Scope → Scope → Type 0
@@ -103,25 +92,34 @@ module _ (id : TextId) where
 
 -- ---- the places of a program
 
-module _ (old new : Table) (ns : List Node) (body : NodeId) (rows : Rows) (grows : Grows old new) (knows : KnowsPlaced old ns) (script : IsScript ns body) where
+module _ (old new : Table) (ns : List Node) (body : NodeId) (rows : Rows) (table : List Declarations × Declarations) (grows : Grows old new) (knows : KnowsPlaced old ns) (known : KnowsVariables old table) (script : IsScript ns body) where
+  -- a name that the table had is no new text's
+  other_than : (id : TextId) → Finds old arguments_text None → Denotes new id arguments_text → (x : TextId) → Has old x → x.0 ≡ id.0 → ⊥
+  other_than id none at x has e = none id (Grows-Denotes-back old new id arguments_text grows (subst (λ n. n < length old) e has) at)
+
   -- the text of `arguments` has come to the table
   come : (id : TextId) → Finds old arguments_text None → Denotes new id arguments_text → ArePlaces ns None body rows → ArePlaces ns (Some id) body rows
   come id none at places = record {
     right = λ i scopes node k x stands has name. (
         let without = leads id ns stands.0 body i [] [] scopes tt stands.1 in
-        let other : x.0 ≡ id.0 → ⊥ = λ e. none id (Grows-Denotes-back old new id arguments_text grows (subst (λ n. n < length old) e (knows i node k x has name)) at) in
+        let other = other_than id none at x (knows i node k x has name) in
         places.right i without.0 node k x (stands.0, without.1) has name ∙ ap (λ p. Some p) (sym (place_alike id 0 scopes without.0 x without.2 other))
         );
     each = places.each;
   }
 
-  still : (o : Option TextId) → Finds new arguments_text o → Finds old arguments_text None → ArePlaces ns None body rows → IsPlaced new ns body rows
-  still None found none places = record { script = script; arguments = None; found = found; places = places }
-  still (Some id) found none places = record { script = script; arguments = Some id; found = found; places = come id none found places }
+  others_too : (id : TextId) → Finds old arguments_text None → Denotes new id arguments_text → AreOthers ns None table → AreOthers ns (Some id) table
+  others_too id none at others = λ k.
+      let names = (declared_in table k).variables in
+      others k ∙ others_come ns id (node_at ns k) names (λ i d lt. other_than id none at (get_or names i d) (known k i d lt))
 
-  stay : (o : Option TextId) → Finds old arguments_text o → ArePlaces ns o body rows → IsPlaced new ns body rows
-  stay (Some id) found places = record { script = script; arguments = Some id; found = Grows-Denotes old new id arguments_text grows found; places = places }
-  stay None none places = let o = looked new arguments_text in still o.0 o.1 none places
+  still : (o : Option TextId) → Finds new arguments_text o → Finds old arguments_text None → ArePlaces ns None body rows → AreOthers ns None table → IsPlaced new ns body rows table
+  still None found none places others = record { script = script; arguments = None; found = found; places = places; others = others }
+  still (Some id) found none places others = record { script = script; arguments = Some id; found = found; places = come id none found places; others = others_too id none found others }
+
+  stay : (o : Option TextId) → Finds old arguments_text o → ArePlaces ns o body rows → AreOthers ns o table → IsPlaced new ns body rows table
+  stay (Some id) found places others = record { script = script; arguments = Some id; found = Grows-Denotes old new id arguments_text grows found; places = places; others = others }
+  stay None none places others = let o = looked new arguments_text in still o.0 o.1 none places others
 
 pub places_stay : PlacesStay
-places_stay old new ns body rows grows knows placed = stay old new ns body rows grows knows placed.script placed.arguments placed.found placed.places
+places_stay old new ns body rows table grows knows known placed = stay old new ns body rows table grows knows known placed.script placed.arguments placed.found placed.places placed.others

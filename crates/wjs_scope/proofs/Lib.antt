@@ -15,5 +15,6 @@ pub mod Keeping
 pub mod Placing
 pub mod Texts
 pub mod Bodies
+pub mod OtherNames
 pub mod Arguments
 pub mod Tabling

@@ -13,8 +13,10 @@ use Rattle.wjs_tree.specs.Height.{elements_height}
 use Rattle.wjs_tree.specs.Shows.{Has, ElementsShow}
 use Rattle.wjs_tree.specs.Used.{IsOnce}
 use Rattle.wjs_scope.specs.declared.place.Place.{Place}
+use Rattle.wjs_scope.specs.declared.declarations.Declarations.{Declarations}
 use Rattle.wjs_scope.specs.Declarations.{is_body}
 use Rattle.wjs_scope.specs.Answers.{BodyThere}
+use Rattle.wjs_scope.specs.Bodies.{AreOthers, KnowsVariables}
 use Rattle.wjs_scope.specs.Scopes.{Scope, resolve}
 use Rattle.wjs_scope.specs.declared.levels.Level.{Level}
 use Rattle.wjs_scope.specs.Levels.{Nests}
@@ -80,17 +82,21 @@ pub record ArePlaces (ns : List Node) (arguments : Option TextId) (body : NodeId
 abbrev pub BodiesAreThere : Type 0
 BodiesAreThere = (ns : List Node) (body i : NodeId) (node : Node) → IsScript ns body → StandsIn ns body i → Has ns i node → is_body node ≡ true → BodyThere ns i
 
--- a program's places are right: it is a script, and they are those of its names, with the text of `arguments` where the table has it
-pub record IsPlaced (texts : Table) (ns : List Node) (body : NodeId) (rows : Rows) : Type 0 where
+-- A program's places are right: it is a script, and they are those of its names, with the text of `arguments` where the table has
+-- it. So are the other variables of its bodies.
+pub record IsPlaced (texts : Table) (ns : List Node) (body : NodeId) (rows : Rows) (table : List Declarations × Declarations) : Type 0 where
   pub script : IsScript ns body
   pub arguments : Option TextId
   pub found : Finds texts arguments_text arguments
   pub places : ArePlaces ns arguments body rows
+  pub others : AreOthers ns arguments table
 
 -- all names that have places are in the table
 abbrev pub KnowsPlaced : Table → List Node → Type 0
 KnowsPlaced texts ns = (i : NodeId) (node : Node) (k : ℕ) (x : TextId) → Has ns i node → slice_get (placed_names node) k ≡ Some x → HasText texts x
 
--- as the table grows, a program whose names it knows keeps its places right
+-- as the table grows, a program whose names it knows keeps its places and its other variables right
 abbrev pub PlacesStay : Type 0
-PlacesStay = (old new : Table) (ns : List Node) (body : NodeId) (rows : Rows) → Grows old new → KnowsPlaced old ns → IsPlaced old ns body rows → IsPlaced new ns body rows
+PlacesStay =
+    (old new : Table) (ns : List Node) (body : NodeId) (rows : Rows) (table : List Declarations × Declarations) → Grows old new → KnowsPlaced old ns → KnowsVariables old table
+    → IsPlaced old ns body rows table → IsPlaced new ns body rows table

@@ -1,5 +1,5 @@
 -- Where a name is found (ECMA-262, 3rd edition, section 10.1.4): outwards through the scopes around it.
-use Rattle.std.specs.Prelude.{ℕ, suc, Bool, if◌then◌else◌, List, [], ◌∷◌, ◌++◌, nat_eq, Option, Some, None, slice_get}
+use Rattle.std.specs.Prelude.{ℕ, suc, Bool, not, if◌then◌else◌, List, [], ◌∷◌, ◌++◌, filter, nat_eq, Option, Some, None, slice_get}
 use Rattle.std.specs.List.{list_any}
 use Rattle.wjs_base.specs.declared.ids.TextId.{TextId}
 use Rattle.wjs_base.specs.declared.ids.NodeId.{NodeId}
@@ -16,6 +16,10 @@ Scope = List TextId
 
 abbrev pub is_in : Scope → TextId → Bool
 is_in names x = list_any (λ (y : TextId). nat_eq x.0 y.0) names
+
+-- those of the names that none of the others is
+abbrev pub none_of : List TextId → List TextId → List TextId
+none_of others names = filter (λ (x : TextId). not (is_in others x)) names
 
 -- the place of a name among scopes, the nearest first, some having been passed
 abbrev pub place_past : ℕ → List Scope → TextId → Place

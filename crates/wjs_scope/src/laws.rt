@@ -13,8 +13,8 @@ pub fn bodies_are_there()
     ensures { BodiesAreThere }
 {}
 
-/// The places of a program stay right as the table of texts grows, where the table has the names that have places: `arguments`
-/// may get a number, but then none of these names has it.
+/// The places and the other variables of a program stay right as the table of texts grows, where the table has the names that have
+/// places and the variables: `arguments` may get a number, but then none of these names has it.
 pub fn places_stay()
     ensures { PlacesStay }
 {}

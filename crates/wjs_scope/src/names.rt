@@ -1,7 +1,7 @@
 //! Names, each once.
-ghost use Rattle.std.specs.Prelude.{◌≡◌, [], IfOk, OnOk};
+ghost use Rattle.std.specs.Prelude.{◌≡◌, [], not, IfOk, OnOk};
 ghost use Rattle.wjs_scope.specs.Declarations.{with_name, with_names};
-ghost use Rattle.wjs_scope.specs.Scopes.{is_in, some_name};
+ghost use Rattle.wjs_scope.specs.Scopes.{is_in, none_of, some_name};
 
 use indexmap::IndexSet;
 use std::alloc::Global;
@@ -68,6 +68,29 @@ impl NameSet {
         ensures { result ≡ is_in self.now name }
     {
         self.numbers.contains(&name.0)
+    }
+
+    /// Those names of the list that aren't there, in their order.
+    pub(crate) fn absent(
+        &self,
+        alloc: Global,
+        list: &[TextId],
+    ) -> Result<Sequence<TextId>, OutOfMemory>
+        ensures { IfOk result (λ names. names ≡ none_of self.now list.now) }
+    {
+        let mut names = Vec::new(alloc);
+        for name in list {
+            if self.lacks(*name) {
+                names.push(*name)?;
+            }
+        }
+        Ok(Sequence::from_vec(names))
+    }
+
+    fn lacks(&self, name: TextId) -> bool
+        ensures { result ≡ not (is_in self.now name) }
+    {
+        !self.contains(name)
     }
 
     /// The names in their order.

@@ -39,6 +39,7 @@ impl Declared {
             formals: Sequence::from_vec(Vec::new(alloc)),
             functions: Sequence::from_vec(Vec::new(alloc)),
             variables: Sequence::from_vec(Vec::new(alloc)),
+            others: Sequence::from_vec(Vec::new(alloc)),
         };
         Declared::new(alloc, declarations)
     }
@@ -70,5 +71,12 @@ impl Declared {
         ensures { result.now ≡ self.now.variables }
     {
         self.shared.as_ref().variables.as_slice()
+    }
+
+    /// Those of the variables that are neither `arguments`, nor a formal's, nor a function's, in order.
+    pub fn others(&self) -> &[TextId]
+        ensures { result.now ≡ self.now.others }
+    {
+        self.shared.as_ref().others.as_slice()
     }
 }

@@ -1,5 +1,5 @@
-use Rattle.std.proofs.Common.{◌≡◌, ◌∷◌, ◌++◌, List, sym, ap, ◌∙◌, subst}
-use Rattle.std.specs.Prelude.{OnOk, Ok, Some, map, filter, not, slice_get, All}
+use Rattle.std.proofs.Common.{◌≡◌, List, sym, ap, ◌∙◌, subst}
+use Rattle.std.specs.Prelude.{OnOk, Ok, Some, map, slice_get, All}
 use Rattle.std.proofs.lemmas.Result.{on_ok_weaker}
 use Rattle.wjs_base.specs.declared.ids.ObjId.{ObjId}
 use Rattle.wjs_base.specs.declared.ids.TextId.{TextId}
@@ -7,12 +7,11 @@ use Rattle.wjs_base.specs.Text.{Has}
 use Rattle.wjs_base.specs.declared.values.Value.{Value}
 use Rattle.wjs_base.proofs.TextLaws.{Grows-trans}
 use Rattle.wjs_base.specs.declared.ids.NodeId.{NodeId}
-use Rattle.wjs_by_content.specs.Names.{arguments_name}
 use Rattle.wjs_by_content.specs.Tables.{text_in, value_in}
 use Rattle.wjs_meaning.specs.Declarations.{Declared, declared_by}
-use Rattle.wjs_meaning.specs.Trees.{Node, has_text, elements_of}
+use Rattle.wjs_meaning.specs.Trees.{Node, elements_of}
 use Rattle.wjs_meaning.specs.Deeds.{Env, Act, Do, Create, tree_here}
-use Rattle.wjs_meaning.specs.Functions.{arguments_object, function_names, body_declare, body_from, body_run}
+use Rattle.wjs_meaning.specs.Functions.{arguments_object, body_declare, body_from, body_run}
 use Rattle.wjs_meaning.specs.Reading.{numbers, node_in}
 use Rattle.wjs_model.specs.declared.frame.Activation.{Activation as Frame}
 use Rattle.wjs_model.specs.declared.loaded.LoadedProgram.{LoadedProgram as Program}
@@ -42,14 +41,14 @@ fill_scope-requires-clause-formals g c = texts_later g.S.WorldStore.meaning c.ar
 pub fill_scope-requires-clause-others : goal.fill_scope-requires-clause-others
 fill_scope-requires-clause-others g c =
     let old = c.args.config.now in
-    texts_later g.S.WorldStore.meaning old c.create_scope.new.config c.in_ok-inner.ensures.later c.as_slice.result.now
-    (subst (λ (ids : List TextId). All (Has old.heap.texts) ids) (sym c.as_slice.ensures.value) c.in_ok-others.ensures.found)
+    texts_later g.S.WorldStore.meaning old c.create_scope.new.config c.in_ok-inner.ensures.later c.others.result.now
+    (subst (λ (ids : List TextId). All (Has old.heap.texts) ids) (sym c.others.ensures) c.in_ok-declared.ensures.others_found)
 
 pub fill_scope-requires-clause-values : goal.fill_scope-requires-clause-values
 fill_scope-requires-clause-values g c =
     let old = c.args.config.now in
-    values_later g.S.WorldStore.meaning old c.create_scope.new.config c.in_ok-inner.ensures.later c.as_slice-2.result.now
-    (subst (λ (vs : List Value). All (HasValue old) vs) (sym (c.as_slice-2.ensures.value ∙ c.in_ok-values.ensures))
+    values_later g.S.WorldStore.meaning old c.create_scope.new.config c.in_ok-inner.ensures.later c.as_slice.result.now
+    (subst (λ (vs : List Value). All (HasValue old) vs) (sym (c.as_slice.ensures.value ∙ c.in_ok-values.ensures))
     (values_there old c.args.frame.held c.requires.runs.there.held))
 
 pub fill_scope-requires-clause-there : goal.fill_scope-requires-clause-there
@@ -128,15 +127,15 @@ returns g c =
     let grows = Grows-trans old.heap.texts c2.heap.texts t both.texts k.keeps.stays.texts in
     let formals = map (text_in t) d.formals in
     let functions = numbers d.functions in
-    let others = map (text_in t) c.as_slice.result.now in
-    let args = map (value_in t) c.as_slice-2.result.now in
+    let others = map (text_in t) c.others.result.now in
+    let args = map (value_in t) c.as_slice.result.now in
     let now : declared_by (tree_here (env_in m old t c.set_node.new.self)) c.set_node.new.self.node.0 ≡ declared = ap (λ (q : Frame). declared_by (tree_here (env_in m old t q)) q.node.0) c.set_node.ensures in
     let ef = c.in_ok-declared.ensures.formals t ∙ ap (λ (k : Declared). k.formals) now in
     let en = c.in_ok-declared.ensures.functions t ∙ ap (λ (k : Declared). k.functions) now in
-    let ev = c.in_ok-declared.ensures.variables t table grows ∙ ap (λ (k : Declared). k.vars) now in
-    let first_others = c.in_ok-others.ensures.is t table grows ∙ ap (λ (q : Frame). filter (λ name. not (has_text (arguments_name ∷ map (text_in t) d.formals ++ function_names (env_in m old t q) (numbers d.functions)) name)) (map (text_in t) d.variables)) c.set_node.ensures in
-    let eo : others ≡ others_of env declared = ap (map (text_in t)) c.as_slice.ensures.value ∙ first_others ∙ (λ i. filter (λ name. not (has_text (arguments_name ∷ ef i ++ function_names env (en i)) name)) (ev i)) in
-    let ea : args ≡ said = ap (map (value_in t)) (c.as_slice-2.ensures.value ∙ c.in_ok-values.ensures) ∙ earliest_each (value_in t) (values_held f.held) in
+    let eo : others ≡ others_of env declared =
+    ap (map (text_in t)) c.others.ensures ∙ c.in_ok-declared.ensures.others t table grows
+    ∙ ap (λ (q : Frame). others_of (env_in m old t q) (declared_by (tree_here (env_in m old t q)) q.node.0)) c.set_node.ensures in
+    let ea : args ≡ said = ap (map (value_in t)) (c.as_slice.ensures.value ∙ c.in_ok-values.ensures) ∙ earliest_each (value_in t) (values_held f.held) in
     let filled0 = c.in_ok-fill_scope.ensures.does.by (body_run body env) new (Ok tt) k in
     let filled : Follows m (arguments_written formals functions others fn args (env_in m mid t inner) (body_run body env)) mid new = subst (λ (h : Frame). Follows m (arguments_written formals functions others fn args (env_in m mid t h) (body_run body env)) mid new) held filled0 in
     let there : Follows m (arguments_written formals functions others fn args env (body_run body env)) mid new = subst (λ (e : Env). Follows m (arguments_written formals functions others fn args e (body_run body env)) mid new) (env_later m old mid t inner first) filled in

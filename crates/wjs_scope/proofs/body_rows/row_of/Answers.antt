@@ -9,5 +9,5 @@ body_row-requires c = c.requires.stand c.args.id c.node.result.now c.node.ensure
 pub returns-else-is_body : goal.returns-else-is_body
 returns-else-is_body c =
     IfOk-weaker c.share.result _ _
-    (λ d same. of_other c.args.nodes.now c.args.id c.node.result.now c.is_body.result d c.args.none.now c.node.ensures.there c.is_body.ensures c.if-is_body.false c.requires.none same)
+    (λ d same. of_other c.args.nodes.now c.args.arguments c.args.id c.node.result.now c.is_body.result d c.args.none.now c.node.ensures.there c.is_body.ensures c.if-is_body.false c.requires.none same)
     c.share.ensures

@@ -12,10 +12,6 @@ returns c =
     let marks = c.in_ok-nesting.nesting.marks.items in
     let levels = c.in_ok-nesting.nesting.levels.items in
     IfOk-weaker c.rows.result _ _
-    (λ rows kept. (
-      c.find-arguments.result,
-      c.find-arguments.ensures,
-      are_places ns c.find-arguments.result body marks levels rows c.in_ok-nesting.ensures
-          (subst (λ (z : List Level). KeepsPlaces ns marks z rows) c.as_slice-2.ensures.value (subst (λ (z : List (Option ℕ)). KeepsPlaces ns z c.as_slice-2.result.now rows) c.as_slice.ensures.value kept)),
-    ))
+    (λ rows kept. are_places ns c.args.arguments body marks levels rows c.in_ok-nesting.ensures
+    (subst (λ (z : List Level). KeepsPlaces ns marks z rows) c.as_slice-2.ensures.value (subst (λ (z : List (Option ℕ)). KeepsPlaces ns z c.as_slice-2.result.now rows) c.as_slice.ensures.value kept)))
     c.rows.ensures

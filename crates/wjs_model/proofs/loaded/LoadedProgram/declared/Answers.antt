@@ -1,5 +1,8 @@
-use Rattle.std.proofs.Common.{sym, subst}
+use Rattle.std.proofs.Common.{◌≡◌, sym, subst}
+use Rattle.wjs_scope.specs.declared.declarations.Declarations.{Declarations}
+use Rattle.wjs_scope.specs.Bodies.{node_at, others_in}
 use Rattle.wjs_model.specs.Bodies.{IsMeant}
+use Rattle.wjs_model.proofs.OtherVariables.{others_meant, others_found}
 use Rattle.wjs_model.proofs.Naming.{formals_meant, functions_meant, variables_meant, formals_found, variables_found}
 use Rattle.wjs_model.proofs.loaded.LoadedProgram.declared.Goals as goal
 
@@ -43,3 +46,19 @@ returns-clause-variables_found c = λ t.
     let k = c.args.body.0 in
     let d = c.in_ok-declared.declared in
     variables_found t u k d (subst (IsMeant u.program.nodes k) (sym c.in_ok-declared.ensures) (u.bodies_are_meant k))
+
+pub returns-clause-others : goal.returns-clause-others
+returns-clause-others c = λ t table known placed.
+    let u = c.args.self.now in
+    let k = c.args.body.0 in
+    let d = c.in_ok-declared.declared in
+    let others = subst (λ (x : Declarations). x.others ≡ others_in u.program.nodes placed.arguments (node_at u.program.nodes k) x.variables) (sym c.in_ok-declared.ensures) (placed.others k) in
+    others_meant t u k d (subst (IsMeant u.program.nodes k) (sym c.in_ok-declared.ensures) (u.bodies_are_meant k)) placed.arguments others known table placed.found
+
+pub returns-clause-others_found : goal.returns-clause-others_found
+returns-clause-others_found c = λ t known placed.
+    let u = c.args.self.now in
+    let k = c.args.body.0 in
+    let d = c.in_ok-declared.declared in
+    let others = subst (λ (x : Declarations). x.others ≡ others_in u.program.nodes placed.arguments (node_at u.program.nodes k) x.variables) (sym c.in_ok-declared.ensures) (placed.others k) in
+    others_found t u k d (subst (IsMeant u.program.nodes k) (sym c.in_ok-declared.ensures) (u.bodies_are_meant k)) placed.arguments others known
