@@ -26,11 +26,14 @@ WORDS = 20
 # The first world reads what a child has written but not yet committed, and a sibling reads what it writes itself.
 SIBLINGS = ('var a = thisWorld.sprout(), b = thisWorld.sprout(); in a { s = true; } in b { print(typeof t); t = true; } '
             'print(typeof s); a.commit(); print(s); b.commit(); print(t);')
+# A call with one variable and five formals, whose rows are gathered first, in the first world and in a child.
+CALLED = ('function f(a, b, c, d, e) { var x = a + e; return x; } var w = thisWorld.sprout(), x = f(1, 2, 3, 4, 5); '
+          'in w { x = f(2, 3, 4, 5, 6); print(x); } print(x); w.commit(); print(x);')
 # The second script's first try is dropped, since the fourth changes what it has read.
 PLAY = "var x = 1;\n---\nvar w = thisWorld.sprout(); in w { x = x + 1; print(x); } w.commit(); print(x);\n---\nx = 7; throw 'no';\n---\nx = 5;\n"
 PLAYED = ('6\n6\nactivity 1 committed tries 1\nactivity 2 committed tries 2\n'
           'activity 3 threw no tries 1\nactivity 4 committed tries 1\n')
-GATE = ('case-2', 'checked', 'refused-place')
+GATE = ('called', 'checked', 'refused-place')
 
 
 def runs():
@@ -39,6 +42,7 @@ def runs():
         for row in map(json.loads, table):
             if row['id'] in ('case-2', 'case-11a', 'case-11b', 'case-11c', 'case-18', 'case-26'):
                 yield row['id'], row['words'], row['stdin'], row['out'], row['err'], row['status']
+    yield 'called', [], CALLED, '8\n6\n8\n', '', 0
     yield 'siblings', [], SIBLINGS, 'undefined\nundefined\ntrue\ntrue\n', '', 0
     # Each world adds 7 to a slot of its own; every fifth has read its neighbour's, which has been committed: 0 + .. + 49 + 40 * 7.
     yield 'generated', ['--mode', 'gen', '--number', '50'], '', 'moved 40 refused 10 sum 1505\n', '', 0

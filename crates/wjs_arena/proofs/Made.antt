@@ -1,14 +1,14 @@
 -- An arena with one object more.
-use Rattle.std.proofs.Common.{◌≡◌, ℕ, ◌+◌, ◌<◌, ◌≤◌, max, Bool, true, false, cond, length, Option, None, Some, refl, sym, ap, ◌∙◌, subst, arith, IsTrue, ◌↔◌, is_some, IfSome}
+use Rattle.std.proofs.Common.{◌≡◌, ℕ, ◌+◌, ◌<◌, max, true, false, cond, Option, None, Some, refl, sym, ap, ◌∙◌, subst, arith, IsTrue, ◌↔◌, is_some, IfSome}
 use Rattle.std.specs.Option.{option_map_or, option_and_then}
 use Rattle.std.specs.FinMap as map
 use Rattle.std.specs.Ordering.{eq_by_cmp}
 use Rattle.std.specs.Cmp.{eq_by_cmp_equiv, Equal-is}
 use Rattle.wjs_base.specs.declared.ids.ObjId.{ObjId}
 use Rattle.wjs_base.specs.declared.ids.WorldId.{WorldId}
-use Rattle.wjs_base.specs.Order.{obj_cmp, obj_exact, obj_total, world_cmp, world_exact, world_total}
+use Rattle.wjs_base.specs.Order.{obj_cmp, obj_total, world_cmp, world_exact, world_total}
 use Rattle.wjs_base.proofs.Booleans.{by_bool}
-use Rattle.wjs_arena.specs.Entries.{Objects, Entry, has, prototype_of, scope_of, world_of, depth_at, depth_of, next_number, objects_of, entry_over, created, IsThere, IsBelow, IsArena, Keeps}
+use Rattle.wjs_arena.specs.Entries.{Objects, Entry, has, prototype_of, scope_of, world_of, depth_at, depth_of, next_number, entry_over, IsThere, IsBelow, IsArena, Keeps}
 use Rattle.wjs_arena.specs.declared.object.Object.{Object}
 use Rattle.wjs_arena.specs.Kept.{WorldObjects, IsKept, with_world, without_world}
 use Rattle.wjs_base.proofs.Trees.{put_and_taken}

@@ -1,17 +1,28 @@
 -- An entry put together of its parts.
-use Rattle.std.proofs.Common.{◌≡◌, ℕ, List, [], length, Option, None, sym, IsTrue, ◌==◌}
+use Rattle.std.proofs.Common.{◌≡◌, ℕ, List, [], length, Option, None, Some, refl, sym, ◌∙◌, IsTrue, ◌==◌}
 use Rattle.std.proofs.lemmas.Bool.{eqb-true}
 use Rattle.std.proofs.lemmas.List.{nil_from_length}
+use Rattle.std.proofs.lemmas.Option.{none-some}
 use Rattle.wjs_base.specs.declared.ids.ObjId.{ObjId}
 use Rattle.wjs_base.specs.declared.values.Name.{Name}
 use Rattle.wjs_base.specs.declared.values.Value.TheVariants as values
+use Rattle.wjs_arena.specs.declared.link.Linked.{Linked}
+use Rattle.wjs_arena.specs.declared.link.Linked.TheVariants as kept
 use Rattle.wjs_arena.specs.declared.object.Code.TheVariants as codes
 use Rattle.wjs_arena.specs.declared.object.Flags.{Flags}
 use Rattle.wjs_arena.specs.declared.object.Object.{Object}
 use Rattle.wjs_arena.specs.declared.hidden.Hidden.{Hidden}
 use Rattle.wjs_arena.specs.declared.rest.Rest.TheVariants as rests
 use Rattle.wjs_arena.specs.Hidden.{hidden_list}
+use Rattle.wjs_arena.specs.Links.{depth_in, link}
 use Rattle.wjs_arena.specs.Packed.{Few, plain, few_in, few_of, unpacked}
+
+-- a link that is kept in short isn't wide, and so the depth stands beside it
+pub depth_kept : (linked : Linked) (owner serial : ℕ) (x : Option ObjId) (depth wide : ℕ) → ((w : Option ObjId) → link linked owner serial w ≡ x)
+    → depth_in linked depth wide ≡ depth
+depth_kept kept.None owner serial x depth wide h = refl
+depth_kept kept.Short owner serial x depth wide h = refl
+depth_kept kept.Wide owner serial x depth wide h = absurd (none-some (record { owner = owner; serial = serial }) (h None ∙ sym (h (Some _))))
 
 pub packed_is : (depth : ℕ) (x : Object) (d : ℕ) (prototype scope : Option ObjId) (few : Few) → d ≡ depth → prototype ≡ x.prototype → scope ≡ x.scope → few ≡ few_of x
     → unpacked d x.class prototype scope few x.all_kept ≡ record { object = x; depth = depth }

@@ -1,8 +1,8 @@
 -- Chains end, since each prototype is less deep.
-use Rattle.std.proofs.Common.{◌≡◌, ℕ, zero, suc, ◌+◌, ◌<◌, ◌≤◌, Bool, true, false, cond, List, [], ◌∷◌, Option, None, Some, refl, sym, ap, ◌∙◌, subst, arith, IsTrue, is_some, IfSome}
+use Rattle.std.proofs.Common.{◌≡◌, ℕ, zero, suc, ◌<◌, ◌≤◌, true, false, cond, List, [], ◌∷◌, Option, None, Some, refl, sym, ap, ◌∙◌, subst, arith, IsTrue, is_some, IfSome}
 use Rattle.std.specs.FinMap as map
 use Rattle.wjs_base.specs.declared.ids.ObjId.{ObjId}
-use Rattle.wjs_arena.specs.Entries.{Objects, Entry, has, prototype_of, depth_at, depth_of, IsThere, IsBelow, IsArena}
+use Rattle.wjs_arena.specs.Entries.{Objects, Entry, has, prototype_of, depth_at, depth_of, IsThere, IsArena}
 use Rattle.std.specs.Option.{option_and_then}
 use Rattle.wjs_base.specs.declared.values.Name.{Name}
 use Rattle.wjs_arena.specs.declared.object.Object.{Object}

@@ -18,8 +18,7 @@ depth_in linked.None depth wide = depth
 depth_in linked.Short depth wide = depth
 depth_in linked.Wide depth wide = wide
 
--- an object's links are kept in short, and so is the depth
+-- an object's links are kept in short
 pub record AreLinks (l : ShortLinks) (x : Object) : Type 0 where
   pub prototype : (wide : Option ObjId) → link l.prototype.linked l.prototype.owner l.prototype.serial wide ≡ x.prototype
   pub scope : (wide : Option ObjId) → link l.scope.linked l.scope.owner l.scope.serial wide ≡ x.scope
-  pub depth : (wide : ℕ) → depth_in l.prototype.linked l.depth wide ≡ l.depth

@@ -1,7 +1,7 @@
 //! Links of an object and its depth, in short.
-ghost use Rattle.std.specs.Prelude.{◌≡◌, ℕ, IfSome, Option};
+ghost use Rattle.std.specs.Prelude.{◌≡◌, IfSome, Option};
 ghost use Rattle.wjs_base.specs.declared.ids.ObjId.{ObjId};
-ghost use Rattle.wjs_arena.specs.Links.{AreLinks, depth_in, link};
+ghost use Rattle.wjs_arena.specs.Links.{AreLinks, link};
 
 use crate::object::Object;
 use wjs_base::ObjId;
@@ -58,8 +58,7 @@ pub(crate) fn short_links(object: &Object, depth: u64) -> Option<ShortLinks>
 
 /// A number in short, if there is one; none where it is too great.
 fn short_link(id: Option<ObjId>) -> Option<ShortLink>
-    ensures link { IfSome result (λ l. (wide : Option ObjId) → link l.linked l.owner l.serial wide ≡ id) }
-    ensures depth { IfSome result (λ l. (depth wide : ℕ) → depth_in l.linked depth wide ≡ depth) }
+    ensures { IfSome result (λ l. (wide : Option ObjId) → link l.linked l.owner l.serial wide ≡ id) }
 {
     match id {
         None => Some(ShortLink {
@@ -73,8 +72,7 @@ fn short_link(id: Option<ObjId>) -> Option<ShortLink>
 
 /// A number in short; none where it is too great.
 fn short_number(id: ObjId) -> Option<ShortLink>
-    ensures link { IfSome result (λ l. (wide : Option ObjId) → link l.linked l.owner l.serial wide ≡ Some id) }
-    ensures depth { IfSome result (λ l. (depth wide : ℕ) → depth_in l.linked depth wide ≡ depth) }
+    ensures { IfSome result (λ l. (wide : Option ObjId) → link l.linked l.owner l.serial wide ≡ Some id) }
 {
     if id.serial > GREATEST {
         return None;

@@ -1,13 +1,9 @@
 -- Deeds that were done, and what they leave of the state.
 use Rattle.std.proofs.Common.{◌≡◌, ℕ, suc, ◌+◌, ◌≤◌, List, [], ◌++◌, false, Option, None, Some, refl, sym, ap, ◌∙◌, subst, append-nil}
 use Rattle.std.specs.Prelude.{is_some, unwrap_or}
-use Rattle.std.specs.FinMap as map
 use Rattle.std.proofs.lemmas.Result.{on_ok_weaker}
-use Rattle.wjs_base.specs.declared.ids.ObjId.{ObjId}
 use Rattle.wjs_base.specs.Text.{Table, Grows}
-use Rattle.wjs_base.proofs.TextLaws.{Grows-trans}
 use Rattle.wjs_store.specs.Meaning.{Meaning, PlainAct, PlainReply}
-use Rattle.wjs_arena.specs.Entries.{Entry}
 use Rattle.wjs_by_content.specs.Plans.{Told}
 use Rattle.wjs_by_content.specs.Worlds.{told_by}
 use Rattle.wjs_by_content.specs.Carried.{tell}
@@ -21,6 +17,7 @@ use Rattle.wjs_model.specs.Configurations.{seen, tells, run_in, state_in, frames
 use Rattle.wjs_frames.specs.Keeping.{rest_with, Keeps}
 use Rattle.wjs_frames.specs.Following.{Follows}
 use Rattle.wjs_frames.specs.Doing.{Does}
+use Rattle.wjs_frames.proofs.Reaching.{stays_on}
 use Rattle.wjs_heap_steps.proofs.Earlier.{rest_blind, turns_blind}
 
 -- the actions that a store tells are those that were done
@@ -37,25 +34,6 @@ told_same t None = refl
 told_same t (Some xs) = ap (λ l. Some l) (sym (append-nil _))
 
 module _ {S : Type 0} (meaning : S → Meaning) where
-  pub stays_twice : (old mid new : Config S) → Stays meaning old mid → Stays meaning mid new → Stays meaning old new
-  stays_twice old mid new f s = record {
-    units = s.units ∙ f.units;
-    global = s.global ∙ f.global;
-    world = s.world ∙ f.world;
-    owner = s.owner ∙ f.owner;
-    apart = s.apart ∙ f.apart;
-    texts = Grows-trans old.heap.texts mid.heap.texts new.heap.texts f.texts s.texts;
-    objects = λ o e h. s.objects o e (f.objects o e h);
-    made = λ o e h k. by o e h k (map.get mid.heap.arena o) refl;
-    own = s.own ∙ f.own;
-    around = s.around ∙ f.around;
-    narrows = λ v a. f.narrows v (s.narrows v a);
-  }
-    where
-      by : (o : ObjId) (e : Entry) → map.get old.heap.arena o ≡ None → map.get new.heap.arena o ≡ Some e → (r : Option Entry) → map.get mid.heap.arena o ≡ r → o.owner ≡ old.owner
-      by o e h k None q = s.made o e q k ∙ f.owner
-      by o e h k (Some x) q = f.made o x h q
-
   -- under a table and what stands outside: the deeds run to their answer and the middle configuration's state, with these actions told more
   pub record Runs {A : Type 0} (deeds : (A → Act) → Act) (answer : A) (t : Table) (v : Outside) (old mid : Config S) : Type 0 where
     pub acts : List Told
@@ -78,7 +56,7 @@ module _ {S : Type 0} (meaning : S → Meaning) where
         let fs = frames_in meaning t old in
         let runs : (v : Outside) → Admits meaning later v → Knows meaning old v → Runs (deeds t) (answer t) t v old mid = λ v a h. ran.by t k.stays.texts v a.texts (k.stays.narrows v a) h in
         record {
-          stays = stays_twice old mid later ran.stays k.stays;
+          stays = stays_on meaning old mid later ran.stays k.stays;
           cost = k.cost;
           left = ap (λ (c : Config S). c.left) (sym ran.same) ∙ k.left;
           alive = k.alive;

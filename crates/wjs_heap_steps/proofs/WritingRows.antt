@@ -1,8 +1,7 @@
 -- Several slots of an object are written.
-use Rattle.std.proofs.Common.{◌≡◌, List, [], ◌∷◌, Some, refl, sym, ap, subst}
-use Rattle.std.specs.Prelude.{Result, OnOk}
+use Rattle.std.proofs.Common.{◌≡◌, List, [], ◌∷◌, Some, refl, ap, subst}
+use Rattle.std.specs.Prelude.{OnOk}
 use Rattle.wjs_base.specs.declared.ids.ObjId.{ObjId}
-use Rattle.wjs_base.specs.declared.ids.OutOfMemory.{OutOfMemory}
 use Rattle.wjs_base.specs.declared.ids.WorldId.{WorldId}
 use Rattle.wjs_base.specs.declared.values.Name.{Name}
 use Rattle.wjs_base.specs.declared.values.Value.{Value as NumberedValue}
@@ -17,7 +16,7 @@ use Rattle.wjs_base.specs.Spelling.{IsName}
 use Rattle.wjs_props.specs.Several.{writes, rows_in}
 use Rattle.wjs_meaning.specs.Deeds.{Act, Do, Write, carry_out, write_all}
 use Rattle.wjs_model.specs.declared.config.Config.{Config}
-use Rattle.wjs_model.specs.Apart.{IsNear, NearValue}
+use Rattle.wjs_model.specs.Apart.{IsNear}
 use Rattle.wjs_frames.specs.Doing.{Does, DoesFirst}
 use Rattle.wjs_frames.specs.Following.{Follows}
 use Rattle.wjs_heap_steps.specs.HasRows.{HasRows}

@@ -1,18 +1,15 @@
 -- A play before its first part is sound, and is the library's run.
 use Rattle.std.proofs.Common.{◌≡◌, ℕ, ◌+◌, ◌<◌, Bool, not, List, [], ◌∷◌, ◌++◌, Option, None, Some, Vec, Global, length, get_or, take, refl, sym, ap, ◌∙◌, subst, arith, append_assoc, append-nil, IsTrue}
 use Rattle.std.specs.Prelude.{All, IfSome, map, is_some, slice_get, unwrap_or}
-use Rattle.std.specs.Option.{option_map, option_and_then}
-use Rattle.std.specs.FinMap as finite
+use Rattle.std.specs.Option.{option_map}
 use Rattle.std.proofs.lemmas.List.{map_more, map-append}
 use Rattle.std.proofs.lemmas.List.Elements.{All-nil, All-cons, All-same, All-append, All-get_or}
-use Rattle.wjs_base.specs.declared.ids.ObjId.{ObjId}
 use Rattle.wjs_base.specs.declared.ids.TextId.{TextId}
 use Rattle.wjs_base.specs.declared.ids.WorldId.{WorldId}
 use Rattle.wjs_base.specs.Text.{Table, Has, IsTable, Grows}
 use Rattle.wjs_base.proofs.TextLaws.{Grows-refl}
 use Rattle.wjs_base.proofs.Options.{some_map}
 use Rattle.wjs_store.specs.Meaning.{Meaning, View, PlainAct, PlainReply, worlds}
-use Rattle.wjs_arena.specs.Entries.{Entry, world_of}
 use Rattle.wjs_by_content.specs.Carried.{tell}
 use Rattle.wjs_by_content.specs.Plans.{Told}
 use Rattle.wjs_by_content.specs.Tables.{text_in, arena_in}
@@ -42,7 +39,7 @@ use Rattle.wjs_model.specs.Units.{unit_in}
 use Rattle.wjs_model.proofs.Placed.{placed_stay}
 use Rattle.wjs_heap_steps.proofs.Staying.{units_stay}
 use Rattle.wjs_start.proofs.NoneApart.{all_near, objects_near, slots_near}
-use Rattle.wjs_start.proofs.Readiness.{code_stands, silent_told, told_behind}
+use Rattle.wjs_start.proofs.Readiness.{code_stands, silent_told, told_behind, world_stands, worlds_by_owner}
 use Rattle.wjs_start.specs.Declaring.{declared_by_tree}
 use Rattle.wjs_start.specs.First.{IsNew, IsFirst, writes_told}
 use Rattle.wjs_start.specs.Starting.{body_of, begins, frame_at}
@@ -199,15 +196,6 @@ module _ {S : Type 0} (meaning : S → Meaning) (texts : Table) (before : Meanin
   some_frame None e f = cc
   some_frame (Some first) e f = cc
 
-  stands : (o : ObjId) (e : Entry) (w : WorldId) → finite.get h.arena o ≡ Some e → e.object.world ≡ Some w → world_of h.arena o ≡ Some w
-  stands o e w q r = ap (option_and_then (λ (x : Entry). (x.object).world)) q ∙ r
-
-  worlds_by_owner : (o : ObjId) (w : WorldId) → world_of h.arena o ≡ Some w → w.owner ≡ o.owner
-  worlds_by_owner o w at =
-      let first = is.own_worlds o w at in
-      let same = is.heap.arena.one_object o first_world_object first_world (at ∙ ap Some first) is.shown in
-      ap (λ (x : WorldId). x.owner) first ∙ sym (ap (λ (x : ObjId). x.owner) same)
-
   base_so : Base meaning c
   base_so = record {
     heap = is.heap;
@@ -219,8 +207,8 @@ module _ {S : Type 0} (meaning : S → Meaning) (texts : Table) (before : Meanin
     places = subst (All (PlacesUnit t)) (sym units_are) all_placed;
     functions = λ o e q. code_stands units.items h.arena (e.object).code (e.object).scope (is.codes o e q);
     worlds_own = λ w there. ap (λ (x : WorldId). x.owner) (is.no_other w there);
-    worlds_by = λ o e w q r. worlds_by_owner o w (stands o e w q r);
-    own_worlds = λ o e w q r s. subst (HasWorld meaning c) (sym (is.own_worlds o w (stands o e w q r))) is.first;
+    worlds_by = λ o e w q r. worlds_by_owner texts before ids (parts meaning h) is o w (world_stands h.arena o e w q r);
+    own_worlds = λ o e w q r s. subst (HasWorld meaning c) (sym (is.own_worlds o w (world_stands h.arena o e w q r))) is.first;
     own = all_near apart.items none_kept object_prototype;
     near_objects = λ o e q n. objects_near apart.items none_kept e.object;
     near_slots = slots_near apart.items none_kept (worlds (meaning h.store));

@@ -14,10 +14,10 @@ use Rattle.wjs_heap.specs.Means.{parts}
 use Rattle.wjs_model.specs.declared.config.Config.{Config}
 use Rattle.wjs_model.specs.Apart.{IsNear}
 use Rattle.wjs_model.specs.Soundness.{HasObject, Base}
+use Rattle.wjs_frames.proofs.Reaching.{stays_on}
 use Rattle.wjs_heap_steps.proofs.Later.{later_plan, later_texts}
 use Rattle.wjs_heap_steps.proofs.NearPlans.{NearContent, get_reaches}
 use Rattle.wjs_heap_steps.proofs.Nearing.{closed, plan_left}
-use Rattle.wjs_heap_steps.proofs.Running.{stays_twice}
 use Rattle.wjs_heap_steps.proofs.Steps.{stays_same, ran_actions, ran_nothing}
 use Rattle.wjs_reports.specs.Thrown.{Leaves}
 
@@ -34,7 +34,7 @@ module _ {S : Type 0} (meaning : S → Meaning) where
   leaves_twice old mid new f s = record {
     same = s.same ∙ ap (λ (c : Config S). record c { heap = new.heap }) f.same;
     objects = s.objects ∙ f.objects;
-    stays = stays_twice meaning old mid new f.stays s.stays;
+    stays = stays_on meaning old mid new f.stays s.stays;
     base = s.base;
   }
 

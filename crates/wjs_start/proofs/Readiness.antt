@@ -21,6 +21,7 @@ use Rattle.wjs_by_content.specs.Plans.{Told}
 use Rattle.wjs_by_content.specs.Tables.{text_in, arena_in}
 use Rattle.wjs_by_content.specs.Worlds.{told_in, told_by}
 use Rattle.wjs_heap.specs.declared.heap.Heap.{Heap}
+use Rattle.wjs_heap.specs.Heap.{Parts}
 use Rattle.wjs_heap.specs.Means.{parts}
 use Rattle.wjs_meaning.specs.Trees.{Tree}
 use Rattle.wjs_meaning.specs.Deeds.{St}
@@ -88,6 +89,16 @@ code_stands units arena (code.Native n) scope h = tt
 some_frame : (library : Option NodeId) (script : NodeId) → frames_of library script ≡ [] → ⊥
 some_frame None script e = cc
 some_frame (Some library) script e = cc
+
+-- the one object that stands for a world is the first world's
+pub world_stands : (arena : Objects) (o : ObjId) (e : Entry) (w : WorldId) → finite.get arena o ≡ Some e → e.object.world ≡ Some w → world_of arena o ≡ Some w
+world_stands arena o e w q r = ap (option_and_then (λ (x : Entry). (x.object).world)) q ∙ r
+
+pub worlds_by_owner : (texts : Table) (before : Meaning) (ids : List TextId) (h : Parts) → IsFirst texts before ids h → (o : ObjId) (w : WorldId) → world_of h.arena o ≡ Some w → w.owner ≡ o.owner
+worlds_by_owner texts before ids h is o w at =
+    let first = is.own_worlds o w at in
+    let same = is.heap.arena.one_object o first_world_object first_world (at ∙ ap Some first) is.shown in
+    ap (λ (x : WorldId). x.owner) first ∙ sym (ap (λ (x : ObjId). x.owner) same)
 
 -- ---- the actions
 
@@ -215,16 +226,6 @@ module _ {S : Type 0} (meaning : S → Meaning) (texts : Table) (before : Meanin
       All-cons (IsStacked meaning c) (frame_at 1 (body_of script) waits) (frame_at 0 (body_of first) begins ∷ []) (frame_there 1 script waits (program_at (Some first) 1 e) tt)
       (All-cons (IsStacked meaning c) (frame_at 0 (body_of first) begins) [] (frame_there 0 first begins (program_at (Some first) 0 e) tt) (All-nil (IsStacked meaning c)))
 
-  stands : (o : ObjId) (e : Entry) (w : WorldId) → finite.get h.arena o ≡ Some e → e.object.world ≡ Some w → world_of h.arena o ≡ Some w
-  stands o e w q r = ap (option_and_then (λ (x : Entry). (x.object).world)) q ∙ r
-
-  -- the one object that stands for a world is object 13
-  worlds_by_owner : (o : ObjId) (w : WorldId) → world_of h.arena o ≡ Some w → w.owner ≡ o.owner
-  worlds_by_owner o w at =
-      let first = is.own_worlds o w at in
-      let same = is.heap.arena.one_object o first_world_object first_world (at ∙ ap Some first) is.shown in
-      ap (λ (x : WorldId). x.owner) first ∙ sym (ap (λ (x : ObjId). x.owner) same)
-
   base_so : Base meaning c
   base_so = record {
     heap = is.heap;
@@ -236,8 +237,8 @@ module _ {S : Type 0} (meaning : S → Meaning) (texts : Table) (before : Meanin
     places = subst (All (PlacesUnit t)) (sym units_are) all_placed;
     functions = λ o e q. code_stands units.items h.arena (e.object).code (e.object).scope (is.codes o e q);
     worlds_own = λ w there. ap (λ (x : WorldId). x.owner) (is.no_other w there);
-    worlds_by = λ o e w q r. worlds_by_owner o w (stands o e w q r);
-    own_worlds = λ o e w q r s. subst (HasWorld meaning c) (sym (is.own_worlds o w (stands o e w q r))) is.first;
+    worlds_by = λ o e w q r. worlds_by_owner texts before ids (parts meaning h) is o w (world_stands h.arena o e w q r);
+    own_worlds = λ o e w q r s. subst (HasWorld meaning c) (sym (is.own_worlds o w (world_stands h.arena o e w q r))) is.first;
     own = all_near apart.items none_kept object_prototype;
     near_objects = λ o e q h. objects_near apart.items none_kept e.object;
     near_slots = slots_near apart.items none_kept (worlds (meaning h.store));

@@ -1,8 +1,7 @@
-use Rattle.std.proofs.Common.{◌≡◌, ◌+◌, ◌<◌, ◌↔◌, max, sym, ap, ◌∙◌, subst, Some, IsTrue, IfSome}
-use Rattle.std.specs.FinMap as map
+use Rattle.std.proofs.Common.{◌≡◌, ◌+◌, max, sym, ap, ◌∙◌, subst, Some, IfSome}
 use Rattle.wjs_base.specs.declared.ids.ObjId.{ObjId}
 use Rattle.wjs_arena.specs.Entries.{Objects, entry_over, depth_of, next_number, IsThere, Keeps, world_of}
-use Rattle.wjs_arena.proofs.Made.{IsMade, made, fresh_all}
+use Rattle.wjs_arena.proofs.Made.{made, fresh_all}
 use Rattle.wjs_arena.proofs.arena.Arena.create.Goals as goal
 
 pub put-requires-clause-world : goal.put-requires-clause-world

@@ -1,7 +1,7 @@
-use Rattle.std.proofs.Common.{◌≡◌, ◌∷◌, refl, sym, ap, ◌∙◌, subst, Some, None, is_some, ◌<◌}
+use Rattle.std.proofs.Common.{refl, sym, ap, ◌∙◌, subst, is_some, ◌<◌}
 use Rattle.std.specs.FinMap as map
-use Rattle.wjs_arena.specs.Entries.{depth_of, depth_at, prototype_of}
-use Rattle.wjs_arena.specs.Chains.{chain_from, none_fixed, fixed}
+use Rattle.wjs_arena.specs.Entries.{depth_of, prototype_of}
+use Rattle.wjs_arena.specs.Chains.{chain_from, none_fixed}
 use Rattle.wjs_arena.proofs.Fields.{prototyped, prototyped_is}
 use Rattle.wjs_arena.proofs.Walks.{chain_step, chain_none, link_is, there_by, there_next, less_deep, fixed_here, not_fixed_here, none_of}
 use Rattle.wjs_arena.proofs.arena.Arena.is_puttable.Goals as goal

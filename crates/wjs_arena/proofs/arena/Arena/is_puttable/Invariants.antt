@@ -1,5 +1,5 @@
 use Rattle.std.proofs.Common.{◌≡◌}
-use Rattle.wjs_arena.specs.Entries.{IsThere, IsArena, depth_of}
+use Rattle.wjs_arena.specs.Entries.{IsThere, depth_of}
 use Rattle.wjs_arena.specs.Chains.{chain_from, none_fixed, is_puttable}
 use Rattle.wjs_arena.proofs.arena.Arena.is_puttable.Given as goal
 

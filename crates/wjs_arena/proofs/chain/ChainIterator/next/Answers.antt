@@ -1,4 +1,4 @@
-use Rattle.std.proofs.Common.{◌≡◌, ◌∷◌, sym, ap, ◌∙◌, subst, Some, rules, length}
+use Rattle.std.proofs.Common.{◌≡◌, ◌∷◌, sym, ap, ◌∙◌, subst, rules, length}
 use Rattle.std.specs.FinMap as map
 use Rattle.std.specs.Iterator.{YieldsFirst}
 use Rattle.wjs_arena.specs.Rest.{rest}
