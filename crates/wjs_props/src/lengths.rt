@@ -8,7 +8,7 @@ ghost use Rattle.wjs_by_content.specs.Values as values;
 ghost use Rattle.wjs_by_content.specs.Properties as plan;
 
 use wjs_base::{Content, Name, OutOfMemory, TextId, Value, Whole};
-use wjs_texts::Texts;
+use wjs_texts::{Known, Texts};
 
 /// The code units of `length`.
 const LENGTH: [u16; 6] = [108, 101, 110, 103, 116, 104];
@@ -32,7 +32,7 @@ pub fn length_name(texts: &mut Texts) -> Result<Name, OutOfMemory>
     ensures table { IsTable texts.new }
     ensures grows { Grows texts.old texts.new }
 {
-    if let Some(id) = texts.find(&LENGTH) {
+    if let Some(id) = texts.known(Known::Length) {
         return Ok(Name::Text(id));
     }
     let id = texts.intern(&LENGTH)?;

@@ -30,4 +30,4 @@ pub returns-in-None-clause-later : goal.returns-in-None-clause-later
 returns-in-None-clause-later g c = rw c.find.ensures.same at c.new_name.ensures.later
 
 pub new_name-requires : goal.new_name-requires
-new_name-requires g c = rw c.find.ensures.same c.requires.base
+new_name-requires g c = rw c.find.ensures.same (record { base = c.requires.base })

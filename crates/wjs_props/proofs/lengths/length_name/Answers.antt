@@ -1,6 +1,3 @@
-use Rattle.std.proofs.Common.{subst}
-use Rattle.wjs_base.specs.Text.{Finds}
-use Rattle.wjs_by_content.specs.Names.{length_name}
 use Rattle.wjs_props.proofs.Putting.{length_is_name}
 use Rattle.wjs_props.proofs.lengths.length_name.Goals as goal
 
