@@ -15,18 +15,14 @@ use Rattle.wjs_by_content.specs.Tables.{text_in}
 use Rattle.wjs_by_content.specs.Values.{Text, Whole, Value, Number}
 use Rattle.wjs_meaning.specs.declared.trouble.Trouble.TheVariants.{NotAnObject}
 use Rattle.wjs_meaning.specs.Conversions.{to_text}
-use Rattle.wjs_meaning.specs.Deeds.{Env, AtStmt, AtTarget, Completion, Gives, Refers, Normal, Breaks, Continues, Returns, Throws, Reference, Member, Act, Ret, Eval, Sub, then_normal, then_text, then_value, give}
+use Rattle.wjs_meaning.specs.Deeds.{Env, AtStmt, AtTarget, Completion, Gives, Refers, Normal, Breaks, Continues, Returns, Throws, Reference, Member, Act, Ret, Eval, Sub, then_normal, then_text, give}
 use Rattle.wjs_meaning.specs.Errors.{throw}
 use Rattle.wjs_meaning.specs.Expressions.{Fix, dot_base, at_name, at_index, target_of, given, updated, update_value, update_number, update_store}
 use Rattle.wjs_meaning.specs.Programs.{entry}
 use Rattle.wjs_meaning.specs.Reading.{node_in, number, numbers, variable_in}
 use Rattle.wjs_meaning.specs.References.{store}
-use Rattle.wjs_meaning.specs.Statements.{expr_done, stmt_of, block_from, vars_from, else_of, if_test}
-use Rattle.wjs_base.specs.declared.values.Value.{Value as Numbered}
+use Rattle.wjs_meaning.specs.Statements.{stmt_of, block_from, vars_from, else_of, if_test}
 use Rattle.wjs_model.specs.declared.config.Config.{Config}
-use Rattle.wjs_model.specs.declared.frame.Completion.{Completion as NumberedCompletion}
-use Rattle.wjs_model.specs.declared.frame.Completion.TheVariants as completions
-use Rattle.wjs_model.specs.Contents.{completion_in}
 use Rattle.wjs_model.specs.declared.frame.Activation.{Activation as Frame}
 use Rattle.wjs_model.specs.Soundness.{HasLabel}
 use Rattle.wjs_model.specs.Texts.{HasText}
@@ -86,16 +82,6 @@ handed_on (Breaks label) = refl
 handed_on (Continues label) = refl
 handed_on (Returns v) = refl
 handed_on (Throws v) = refl
-
--- an expression's end but for its value is the statement's
-pub drops_nothing : (e : NumberedCompletion) (t : Table) → ((v : Numbered) → e ≡ completions.Gives v → ⊥) → then_value expr_done (completion_in t e) ≡ Ret (completion_in t e)
-drops_nothing (completions.Gives v) t h = absurd (h v refl)
-drops_nothing (completions.Refers r) t h = refl
-drops_nothing completions.Normal t h = refl
-drops_nothing (completions.Breaks label) t h = refl
-drops_nothing (completions.Continues label) t h = refl
-drops_nothing (completions.Returns v) t h = refl
-drops_nothing (completions.Throws v) t h = refl
 
 module _ (s : ℕ) (other : Option ℕ) (env : Env) (v : Value) where
   pub if_yes : to_boolean v ≡ true → if_test s other env v ≡ Eval (AtStmt s) env Ret

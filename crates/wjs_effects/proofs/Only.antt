@@ -87,7 +87,7 @@ value_there c f (points.Call (call.ProgramElement next)) waits e h =
 value_there c f _ waits e h = absurd (cc)
 
 -- how a statement ends by its expression
-dropped_is : (t : Table) (e : Completion) → then_value expr_done (completion_in t e) ≡ Ret (completion_in t (dropped e))
+pub dropped_is : (t : Table) (e : Completion) → then_value expr_done (completion_in t e) ≡ Ret (completion_in t (dropped e))
 dropped_is t (completions.Gives v) = refl
 dropped_is t (completions.Refers r) = refl
 dropped_is t completions.Normal = refl

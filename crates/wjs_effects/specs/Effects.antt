@@ -1,5 +1,6 @@
 -- What is left of deeds, and that it names what is there.
 use Rattle.std.specs.Prelude.{◌<◌, ◌∷◌, [], length, None, Some}
+use Rattle.wjs_base.specs.declared.values.Value.{Value as Numbered}
 use Rattle.wjs_base.specs.declared.values.Value.TheVariants as values
 use Rattle.wjs_base.specs.declared.number.Whole.{Whole}
 use Rattle.wjs_base.specs.Text.{Table, Has}
@@ -18,6 +19,7 @@ use Rattle.wjs_meaning.specs.Statements.{expr_done, return_value, vars_from}
 use Rattle.wjs_model.specs.declared.config.Config.{Config}
 use Rattle.wjs_model.specs.declared.frame.Activation.{Activation as Frame}
 use Rattle.wjs_model.specs.declared.frame.Completion.{Completion as NumberedCompletion}
+use Rattle.wjs_model.specs.declared.frame.Completion.TheVariants as completions
 use Rattle.wjs_model.specs.declared.frame.Reference.{Reference as NumberedReference}
 use Rattle.wjs_model.specs.Contents.{completion_in, reference_in}
 use Rattle.wjs_model.specs.Soundness.{HasCompletion}
@@ -26,6 +28,8 @@ use Rattle.wjs_effects.specs.declared.effect.Effect.{Effect}
 use Rattle.wjs_effects.specs.declared.effect.Effect.TheVariants as effects
 use Rattle.wjs_effects.specs.declared.effect.Made.{Made}
 use Rattle.wjs_effects.specs.declared.effect.Made.TheVariants.{There}
+use Rattle.wjs_effects.specs.declared.effect.Told.{Told}
+use Rattle.wjs_effects.specs.declared.effect.Told.TheVariants as told
 use Rattle.wjs_effects.specs.Making.{made_in}
 
 -- what follows a [[Put]] (ECMA-262, 3rd edition, section 8.7.2): a completion, or what is thrown
@@ -56,6 +60,15 @@ ends e = λ t env go. go (completion_in t e)
 -- the end of a `return` of a value
 abbrev pub returns : Made → Rest
 returns m = λ t env go. go (Returns (made_in t m))
+
+-- what is told of a store: the value, or nothing
+abbrev pub told_in : Told → Value → Completion
+told_in told.Stored v = Gives v
+told_in told.Nothing v = Normal
+
+abbrev pub told_of : Told → Numbered → NumberedCompletion
+told_of told.Stored v = completions.Gives v
+told_of told.Nothing v = completions.Normal
 
 -- a store, and then an end: of an assignment the value, of `++` and `--` a number, of a `var` none
 abbrev pub stores : NumberedReference → Made → (Table → Completion) → Rest

@@ -12,7 +12,8 @@ use wjs_model::{Config, Frame, Point};
 use wjs_store::WorldStore;
 use wjs_tree::NodeId;
 
-/// The frame waits at a point; another for above it, at a node around the same, with nothing held.
+/// The frame waits at a point, and another is made for above it, at a node around the same, with nothing held; where that one waits, its
+/// own move says.
 pub fn wait_below<S: WorldStore>(
     config: &mut Config<S>,
     frame: Frame,

@@ -1,22 +1,23 @@
 //! What is left of a statement is done: an expression is evaluated, a value is returned or stored (ECMA-262, 3rd edition, sections 8.7.2,
 //! 12.2, 12.4 and 12.9).
 ghost use Rattle.std.specs.Prelude.{◌≡◌, ◌<◌, ◌∷◌, [], Some, length, IfNone, IfOk, IfSome, OnOk};
-ghost use Rattle.wjs_base.specs.Text.{Table, Has};
+ghost use Rattle.wjs_base.specs.Text.{Has};
 ghost use Rattle.wjs_scope.specs.Places.{placed_names};
 ghost use Rattle.wjs_by_content.specs.Tables.{name_in, text_in, value_in};
 ghost use Rattle.wjs_by_content.specs.Values.{Object};
-ghost use Rattle.wjs_meaning.specs.Deeds.{Eval, Ret, Member, AtExpr, then_value};
+ghost use Rattle.wjs_meaning.specs.Deeds.{Eval, Member, AtExpr, then_value};
 ghost use Rattle.wjs_meaning.specs.Statements as line;
 ghost use Rattle.wjs_model.specs.Contents.{completion_in, reference_in};
 ghost use Rattle.wjs_model.specs.Soundness.{Base, IsThere, HasCompletion, HasName, HasObject, HasReference, HasValue};
 ghost use Rattle.wjs_frames.specs.Doing.{Does};
 ghost use Rattle.wjs_frames.specs.Following.{Later};
 ghost use Rattle.wjs_frames.specs.Parts.{env_in, node_among};
-ghost use Rattle.wjs_effects.specs.Effects.{assigns, carried, initialises, stored, HasEffect};
+ghost use Rattle.wjs_effects.specs.Effects.{carried, stored, stores, told_in, told_of, HasEffect};
 ghost use Rattle.wjs_effects.specs.Leaving.{ActEnds, Ends};
-ghost use Rattle.wjs_effects.specs.Making.{HasMade};
+ghost use Rattle.wjs_effects.specs.Making.{made_in, HasMade};
 
-use crate::effect::{Effect, Made};
+use crate::effect::{Effect, Made, Told};
+use crate::entries::dropped;
 use crate::joins::settle;
 use crate::makes::made_at;
 use crate::stores::expression_done;
@@ -73,22 +74,8 @@ fn evaluate<S: WorldStore>(
 {
     let done = expression_done(config, frame, e, left)?;
     match done {
-        Some(completion) => Ok(Some(dropped(config, completion))),
+        Some(completion) => Ok(Some(dropped(completion))),
         None => Ok(None),
-    }
-}
-
-/// How a statement ends whose expression ended so: its value is dropped.
-#[inline(always)]
-fn dropped<S: WorldStore>(config: &Config<S>, completion: Completion) -> Completion
-    requires { HasCompletion config.now completion }
-    ensures is { (t : Table) → then_value line.expr_done (completion_in t completion) ≡ Ret (completion_in t result) }
-    ensures found { HasCompletion config.now result }
-{
-    let _config = config;
-    match completion {
-        Completion::Gives(_) => Completion::Normal,
-        _ => completion,
     }
 }
 
@@ -142,55 +129,46 @@ fn initialise<S: WorldStore>(
         Some(made) => {
             let place = place_at(config, frame, node, 0);
             let reference = reference_at(config, frame, place, name);
-            let completion = store_unheard(config, frame, reference, made, left)?;
+            let completion = store_made(config, frame, reference, made, Told::Nothing, left)?;
             Ok(Some(completion))
         }
         None => Ok(None),
     }
 }
 
-/// A value is made where that is still to be done, and stored; nothing is given.
-#[inline(always)]
-fn store_unheard<S: WorldStore>(
-    config: &mut Config<S>,
-    frame: &Frame,
-    reference: Reference,
-    made: Made,
-    left: u64,
-) -> Result<Completion, OutOfMemory>
-    requires base { Base S.meaning config.old }
-    requires there { IsThere S.meaning config.old frame.now }
-    requires reference { HasReference config.old reference }
-    requires made { HasMade config.old made }
-    ensures does { IfOk result (λ e. Ends S.meaning (initialises reference made) e config.old frame.now left config.new) }
-    ensures later { OnOk result (Later S.meaning config.old config.new) }
-    ensures found { IfOk result (λ e. HasCompletion config.new e) }
-{
-    config.left = left;
-    let value = settle(config, made)?;
-    store_and_end(config, frame, reference, value, Completion::Normal)
-}
-
-/// A value is made where that is still to be done, stored and given.
+/// A value is made where that is still to be done, and stored; it is given, or nothing is.
 #[inline(always)]
 pub(crate) fn store_made<S: WorldStore>(
     config: &mut Config<S>,
     frame: &Frame,
     reference: Reference,
     made: Made,
+    told: Told,
     left: u64,
 ) -> Result<Completion, OutOfMemory>
     requires base { Base S.meaning config.old }
     requires there { IsThere S.meaning config.old frame.now }
     requires reference { HasReference config.old reference }
     requires made { HasMade config.old made }
-    ensures does { IfOk result (λ e. Ends S.meaning (assigns reference made) e config.old frame.now left config.new) }
+    ensures does { IfOk result (λ e. Ends S.meaning (stores reference made (λ t. told_in told (made_in t made))) e
+        config.old frame.now left config.new) }
     ensures later { OnOk result (Later S.meaning config.old config.new) }
     ensures found { IfOk result (λ e. HasCompletion config.new e) }
 {
     config.left = left;
     let value = settle(config, made)?;
-    store_and_end(config, frame, reference, value, Completion::Gives(value))
+    store_and_end(config, frame, reference, value, told_of(told, value))
+}
+
+/// How a store of a value ends.
+#[inline(always)]
+fn told_of(told: Told, value: Value) -> Completion
+    ensures { result ≡ told_of told value }
+{
+    match told {
+        Told::Stored => Completion::Gives(value),
+        Told::Nothing => Completion::Normal,
+    }
 }
 
 /// A store to a reference.

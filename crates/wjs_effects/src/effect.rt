@@ -20,6 +20,13 @@ pub(crate) enum Made {
     Joined(Pieces),
 }
 
+/// What is told of a store: what was stored, as of an assignment, or nothing, as of a `var`.
+#[derive(Clone, Copy)]
+pub(crate) enum Told {
+    Stored,
+    Nothing,
+}
+
 /// How a statement ends, or what it does last: nothing of that is evaluated yet.
 #[derive(Clone, Copy)]
 pub(crate) enum Effect {

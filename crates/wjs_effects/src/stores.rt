@@ -20,7 +20,7 @@ ghost use Rattle.wjs_effects.specs.Leaving.{ActLeaves, ActEnds, GoalEnds};
 ghost use Rattle.wjs_effects.specs.Making.{HasMade};
 
 use crate::carries::{store_and_end, store_made};
-use crate::effect::Made;
+use crate::effect::{Made, Told};
 use crate::makes::made_at;
 use crate::pieces::compound;
 use crate::targets::target_at;
@@ -192,7 +192,7 @@ fn assign_plain<S: WorldStore>(
     let mut left = left;
     match made_at(config, frame, right, &mut left) {
         Some(made) => {
-            let completion = store_made(config, frame, reference, made, left)?;
+            let completion = store_made(config, frame, reference, made, Told::Stored, left)?;
             Ok(Some(completion))
         }
         None => Ok(None),
@@ -220,7 +220,7 @@ fn assign_compound<S: WorldStore>(
     let mut left = left;
     match compounded(config, frame, operator, right, reference, &mut left) {
         Some(made) => {
-            let completion = store_made(config, frame, reference, made, left)?;
+            let completion = store_made(config, frame, reference, made, Told::Stored, left)?;
             Ok(Some(completion))
         }
         None => Ok(None),

@@ -24,7 +24,7 @@ returns-in_ok-completion-in-Some-clause-does g c =
     let before = c.args.left in
     let mid = c.made_at.new.steps in
     let done = c.in_ok-completion-in-Some in
-    leaves_done m (λ t env. Eval (AtExpr c.args.e.0) env (then_value (λ y. reference_at (name_place (tree_here env) here 0) (text_in t c.args.name) env (λ r. store r y env (Ret Normal))))) x done.completion old f before mid c.store_unheard.new.config
+    leaves_done m (λ t env. Eval (AtExpr c.args.e.0) env (then_value (λ y. reference_at (name_place (tree_here env) here 0) (text_in t c.args.name) env (λ r. store r y env (Ret Normal))))) x done.completion old f before mid c.store_made.new.config
     (leaves_yielded m old f (AtExpr c.args.e.0) (λ t env. then_value (λ y. reference_at (name_place (tree_here env) here 0) (text_in t c.args.name) env (λ r. store r y env (Ret Normal)))) (λ t. made_in t v) x before mid mid c.in-Some.ensures.does
     (leaves_as m old f (λ t env. reference_at (place_in place) (text_in t c.args.name) env (λ r. store r (made_in t v) env (Ret Normal))) (λ t env. reference_at (name_place (tree_here env) here 0) (text_in t c.args.name) env (λ r. store r (made_in t v) env (Ret Normal))) x mid mid
     (λ t more. let env = env_in m old t f in ap (λ (p : Place). reference_at p (text_in t c.args.name) env (λ r. store r (made_in t v) env (Ret Normal))) (c.place_at-place.ensures c.requires.named t))

@@ -1,10 +1,13 @@
+use Rattle.std.proofs.Common.{sym, subst}
 use Rattle.std.proofs.lemmas.Result.{on_ok_weaker}
-use Rattle.wjs_meaning.specs.Deeds.{Gives}
+use Rattle.wjs_model.specs.declared.frame.Completion.{Completion}
 use Rattle.wjs_model.specs.Contents.{completion_in}
+use Rattle.wjs_model.specs.Soundness.{HasCompletion}
 use Rattle.wjs_heap_steps.proofs.Composing.{if_ok}
 use Rattle.wjs_heap_steps.proofs.Later.{later_twice}
 use Rattle.wjs_quick.proofs.Coming.{later_left}
-use Rattle.wjs_effects.proofs.Carrying.{carry_made}
+use Rattle.wjs_effects.specs.Effects.{told_in}
+use Rattle.wjs_effects.proofs.Carrying.{carry_made, carry_told, told_there}
 use Rattle.wjs_effects.proofs.Leaving.{made_later}
 use Rattle.wjs_effects.proofs.carries.store_made.Goals as goal
 
@@ -12,7 +15,12 @@ pub returns-clause-does : goal.returns-clause-does
 returns-clause-does g c =
     let m = g.S.WorldStore.meaning in
     let old = record c.args.config.now { left = c.args.left } in
-    if_ok _ _ c.store_and_end.result (λ e d. carry_made m c.args.frame.now c.args.reference c.args.made (λ t x. Gives x) c.in_ok-value.value (λ t. completion_in t e) old c.settle.new.config c.store_and_end.new.config c.in_ok-value.ensures.does c.in_ok-value.ensures.later d) c.store_and_end.ensures.does
+    let mid = c.settle.new.config in
+    let new = c.store_and_end.new.config in
+    let f = c.args.frame.now in
+    let v = c.in_ok-value.value in
+    if_ok _ _ c.store_and_end.result (λ e d. carry_made m f c.args.reference c.args.made (λ t x. told_in c.args.told x) v (λ t. completion_in t e) old mid new c.in_ok-value.ensures.does c.in_ok-value.ensures.later
+    (carry_told m f c.args.reference v c.args.told c.told_of.result (λ t. completion_in t e) mid new c.told_of.ensures d)) c.store_and_end.ensures.does
 
 pub returns-clause-later : goal.returns-clause-later
 returns-clause-later g c =
@@ -41,3 +49,8 @@ store_and_end-requires-clause-there g c = c.in_ok-value.ensures.later.frames c.a
 
 pub store_and_end-requires-clause-reference : goal.store_and_end-requires-clause-reference
 store_and_end-requires-clause-reference g c = c.in_ok-value.ensures.later.references c.args.reference ((later_left g.S.WorldStore.meaning c.args.config.now c.args.left c.requires.base).references c.args.reference c.requires.reference)
+
+pub store_and_end-requires-clause-completion : goal.store_and_end-requires-clause-completion
+store_and_end-requires-clause-completion g c =
+    let mid = c.settle.new.config in
+    subst (λ (e : Completion). HasCompletion mid e) (sym c.told_of.ensures) (told_there mid c.args.told c.in_ok-value.value c.in_ok-value.ensures.found)

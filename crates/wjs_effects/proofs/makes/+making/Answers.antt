@@ -1,5 +1,4 @@
 use Rattle.std.proofs.Common.{◌<◌, arith}
-use Rattle.wjs_tree.specs.declared.node.Node.TheVariants as nodes
 use Rattle.wjs_tree.specs.declared.operators.BinaryOperator.TheVariants as binary
 use Rattle.wjs_by_content.specs.Tables.{value_in}
 use Rattle.wjs_meaning.specs.Deeds.{AtExpr}
