@@ -40,10 +40,10 @@ returns-in-len3 g c =
     let aa = c.short_row-in-len3 in
     let b = c.b-item-then-rows-lt4 in
     let bb = c.short_row-in-len3-2 in
-    let c = c.c-item in
+    let x = c.c-item in
     let cc = c.short_row-in-len3-3 in
-    let read : rows ≡ a.result ∷ b.result ∷ c.result ∷ [] = three_read rows a.result b.result c.result (omega (arith, c.in-len3.len_at_least)) (omega (arith, c.in-len3.len_below)) a.is b.is c.is in
-    let stand = more o aa.result a.result (bb.result ∷ cc.result ∷ []) (b.result ∷ c.result ∷ []) aa.ensures.name aa.ensures.content (more o bb.result b.result (cc.result ∷ []) (c.result ∷ []) bb.ensures.name bb.ensures.content (more o cc.result c.result ([]) ([]) cc.ensures.name cc.ensures.content (none o))) in
+    let read : rows ≡ a.result ∷ b.result ∷ x.result ∷ [] = three_read rows a.result b.result x.result (omega (arith, c.in-len3.len_at_least)) (omega (arith, c.in-len3.len_below)) a.is b.is x.is in
+    let stand = more o aa.result a.result (bb.result ∷ cc.result ∷ []) (b.result ∷ x.result ∷ []) aa.ensures.name aa.ensures.content (more o bb.result b.result (cc.result ∷ []) (x.result ∷ []) bb.ensures.name bb.ensures.content (more o cc.result x.result ([]) ([]) cc.ensures.name cc.ensures.content (none o))) in
     on_ok_weaker c.set_all-in-len3.result (λ e. ap (rows_by at_first) e ∙ stand.set m ∙ ap (λ l. first_rows o l (rows_by at_first m)) (sym read)) c.set_all-in-len3.ensures
 
 pub returns-in-len4 : goal.returns-in-len4
@@ -55,10 +55,10 @@ returns-in-len4 g c =
     let aa = c.short_row-in-len4 in
     let b = c.b-item-then-rows-lt5 in
     let bb = c.short_row-in-len4-2 in
-    let c = c.c-item-then-rows-lt5 in
+    let x = c.c-item-then-rows-lt5 in
     let cc = c.short_row-in-len4-3 in
     let d = c.d-item in
     let dd = c.short_row-in-len4-4 in
-    let read : rows ≡ a.result ∷ b.result ∷ c.result ∷ d.result ∷ [] = four_read rows a.result b.result c.result d.result (omega (arith, c.in-len4.len_at_least)) (omega (arith, c.in-len4.len_below)) a.is b.is c.is d.is in
-    let stand = more o aa.result a.result (bb.result ∷ cc.result ∷ dd.result ∷ []) (b.result ∷ c.result ∷ d.result ∷ []) aa.ensures.name aa.ensures.content (more o bb.result b.result (cc.result ∷ dd.result ∷ []) (c.result ∷ d.result ∷ []) bb.ensures.name bb.ensures.content (more o cc.result c.result (dd.result ∷ []) (d.result ∷ []) cc.ensures.name cc.ensures.content (more o dd.result d.result ([]) ([]) dd.ensures.name dd.ensures.content (none o)))) in
+    let read : rows ≡ a.result ∷ b.result ∷ x.result ∷ d.result ∷ [] = four_read rows a.result b.result x.result d.result (omega (arith, c.in-len4.len_at_least)) (omega (arith, c.in-len4.len_below)) a.is b.is x.is d.is in
+    let stand = more o aa.result a.result (bb.result ∷ cc.result ∷ dd.result ∷ []) (b.result ∷ x.result ∷ d.result ∷ []) aa.ensures.name aa.ensures.content (more o bb.result b.result (cc.result ∷ dd.result ∷ []) (x.result ∷ d.result ∷ []) bb.ensures.name bb.ensures.content (more o cc.result x.result (dd.result ∷ []) (d.result ∷ []) cc.ensures.name cc.ensures.content (more o dd.result d.result ([]) ([]) dd.ensures.name dd.ensures.content (none o)))) in
     on_ok_weaker c.set_all-in-len4.result (λ e. ap (rows_by at_first) e ∙ stand.set m ∙ ap (λ l. first_rows o l (rows_by at_first m)) (sym read)) c.set_all-in-len4.ensures
