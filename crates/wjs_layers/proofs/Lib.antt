@@ -23,3 +23,4 @@ pub mod Depths
 pub mod Moving
 pub mod Resetting
 pub mod Several
+pub mod Filled

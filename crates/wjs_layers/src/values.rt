@@ -1,6 +1,7 @@
 //! What the first world keeps, as contents and rows.
 ghost use Rattle.std.specs.Prelude.{◌≡◌, ◌+◌, OnOk};
 ghost use Rattle.std.specs.Option.{option_map, option_and_then, option_copied};
+ghost use Rattle.wjs_base.specs.declared.values.Content.TheVariants.{Present};
 ghost use Rattle.wjs_store.specs.State.{put};
 ghost use Rattle.wjs_store.specs.Shown.{content_of};
 ghost use Rattle.wjs_layers.specs.Look.{first_row_of};
@@ -88,6 +89,40 @@ pub fn set_value<L: Ledger>(
 
 /// Sets slots of an object of the first world, one after another.
 pub fn set_values<L: Ledger>(
+    values: &mut Table<ShortContent>,
+    object: ObjId,
+    rows: &[(Name, Value)],
+    steps: &mut Steps<L>,
+) -> Result<(), OutOfMemory>
+    ensures { OnOk result (rows_by at_first values.new ≡ first_rows object rows.now (rows_by at_first values.old)) }
+{
+    match rows {
+        [a] => values.set_all(object, &[short_row(*a)], steps),
+        [a, b] => values.set_all(object, &[short_row(*a), short_row(*b)], steps),
+        [a, b, c] => {
+            let shorts = [short_row(*a), short_row(*b), short_row(*c)];
+            values.set_all(object, &shorts, steps)
+        }
+        [a, b, c, d] => {
+            let shorts = [short_row(*a), short_row(*b), short_row(*c), short_row(*d)];
+            values.set_all(object, &shorts, steps)
+        }
+        _ => set_each(values, object, rows, steps),
+    }
+}
+
+/// A name, and its value in short.
+#[inline(always)]
+fn short_row(row: (Name, Value)) -> (Name, ShortContent)
+    ensures name { result.0 ≡ row.0 }
+    ensures content { content_in result.1 ≡ Present row.1 }
+{
+    (row.0, short_value(row.1, Mark::Read))
+}
+
+/// `set_values` by one `set_value` after another.
+#[inline(never)]
+fn set_each<L: Ledger>(
     values: &mut Table<ShortContent>,
     object: ObjId,
     rows: &[(Name, Value)],

@@ -1,5 +1,6 @@
 pub mod Basics
 pub mod Dense
+pub mod Filling
 pub mod Firsts
 pub mod Least
 pub mod Lists

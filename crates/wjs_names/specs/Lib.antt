@@ -4,6 +4,7 @@ pub mod Four
 pub mod Kept
 pub mod Least
 pub mod Lists
+pub mod Several
 pub mod ShortNames
 pub mod Starts
 pub mod TinyNames

@@ -1,11 +1,12 @@
 //! The rows of one object.
-ghost use Rattle.std.specs.Prelude.{◌≡◌, not, OnOk, OnErr, IfOk};
+ghost use Rattle.std.specs.Prelude.{◌≡◌, ◌+◌, not, length, OnOk, OnErr, IfOk, IsTrue, false};
 ghost use Rattle.std.specs.Option.{option_copied};
 ghost use Rattle.std.specs.FinMap as map;
 ghost use Rattle.std.specs.Map.{lookup_entry};
 ghost use Rattle.wjs_base.specs.Order.{name_cmp};
 ghost use Rattle.wjs_rows.specs.Order.{is_from, is_after};
 ghost use Rattle.wjs_names.specs.Least.{comes_past};
+ghost use Rattle.wjs_names.specs.Several.{with_rows};
 
 use crate::kept::Kept;
 use std::alloc::Global;
@@ -66,6 +67,17 @@ impl<V: Copy> RowsByName<V> {
         ensures err { OnErr result (self.new ≡ self.old) }
     {
         self.kept.set(name, value, alloc)
+    }
+
+    /// Puts rows where there are none, and says whether it did: elsewhere all stays as it is, and so where they are more than
+    /// stand in the object's place, or not in the order of their names.
+    #[inline(always)]
+    pub fn fill(&mut self, rows: &[(Name, V)]) -> bool
+        ensures filled { IsTrue result → self.new ≡ with_rows rows.now self.old }
+        ensures len { IsTrue result → map.len self.new ≡ map.len self.old + length rows.now }
+        ensures same { result ≡ false → self.new ≡ self.old }
+    {
+        self.kept.fill(rows)
     }
 
     /// Takes the row at a name out, and says whether there was one. After a refusal all is as it was.

@@ -56,7 +56,7 @@ impl<V: Copy> Four<V> {
     }
 
     /// Four rows with tiny names.
-    fn of_rows(
+    pub(crate) fn of_rows(
         first: (ShortName, V),
         second: (ShortName, V),
         third: (ShortName, V),

@@ -1,6 +1,7 @@
 //! The rows of one object, in a list or by their indices.
 ghost use Rattle.std.specs.Prelude.{◌≡◌, ◌++◌, ◌∷◌, [], not, is_some, OnOk, OnErr, IfOk, IfSome, IsTrue, None, true, false, cond};
 ghost use Rattle.std.specs.Option.{option_copied};
+ghost use Rattle.std.specs.Ordering.{is_gt};
 ghost use Rattle.std.specs.FinMap as map;
 ghost use Rattle.std.specs.FinMap.Entries.{put, find};
 ghost use Rattle.std.specs.Map.{lookup_entry};
@@ -79,6 +80,27 @@ impl<V: Copy> Kept<V> {
                 Ok(())
             }
             _ => Ok(()),
+        }
+    }
+
+    /// Puts rows where there are none, and says whether it did: elsewhere all stays as it is, and so where they don't stand in
+    /// the object's place.
+    #[inline(always)]
+    pub(crate) fn fill(&mut self, rows: &[(Name, V)]) -> bool
+        ensures none { IsTrue result → rows_of self.old ≡ [] }
+        ensures filled { IsTrue result → rows_of self.new ≡ rows.now }
+        ensures ordered { IsTrue result → IsInOrder name_cmp rows.now }
+        ensures same { result ≡ false → rows_of self.new ≡ rows_of self.old }
+    {
+        match self {
+            Kept::Zero => match in_place(rows) {
+                Some(kept) => {
+                    *self = kept;
+                    true
+                }
+                None => false,
+            },
+            _ => false,
         }
     }
 
@@ -408,6 +430,51 @@ fn kept_of<V: Copy>(short: Short<V>) -> Kept<V>
         Short::Two(first, second) => Kept::Two(first, second),
         Short::Three(first, second, third) => Kept::Three(first, second, third),
     }
+}
+
+/// Up to four rows in the object's place, where they are in the order of their names.
+#[inline(always)]
+fn in_place<V: Copy>(rows: &[(Name, V)]) -> Option<Kept<V>>
+    ensures { IfSome result (λ kept. (rows_of kept ≡ rows.now) × IsInOrder name_cmp rows.now) }
+{
+    match rows {
+        [a] => {
+            let first = few::row_of(a.0, a.1)?;
+            Some(Kept::One(first))
+        }
+        [a, b] => {
+            let first = few::row_of(a.0, a.1)?;
+            let second = next_row(first, *b)?;
+            Some(Kept::Two(first, second))
+        }
+        [a, b, c] => {
+            let first = few::row_of(a.0, a.1)?;
+            let second = next_row(first, *b)?;
+            let third = next_row(second, *c)?;
+            Some(Kept::Three(first, second, third))
+        }
+        [a, b, c, d] => {
+            let first = few::row_of(a.0, a.1)?;
+            let second = next_row(first, *b)?;
+            let third = next_row(second, *c)?;
+            let fourth = next_row(third, *d)?;
+            let four = Four::of_rows(first, second, third, fourth)?;
+            Some(Kept::Four(four))
+        }
+        _ => None,
+    }
+}
+
+/// A row with its name in short, where that comes after another row's.
+#[inline(always)]
+fn next_row<V: Copy>(before: (ShortName, V), row: (Name, V)) -> Option<(ShortName, V)>
+    ensures row { IfSome result (λ next. next ≡ row) }
+    ensures after { IfSome result (λ _. is_gt (name_cmp row.0 before.0) ≡ true) }
+{
+    if !before.0.is_before(row.0) {
+        return None;
+    }
+    few::row_of(row.0, row.1)
 }
 
 /// Four rows in a list; where a name can't be kept in short, by their indices.

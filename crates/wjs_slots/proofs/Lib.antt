@@ -6,3 +6,4 @@ pub mod Counts
 pub mod OnObjects
 pub mod Rowing
 pub mod Nexts
+pub mod Fills

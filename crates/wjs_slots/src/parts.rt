@@ -1,5 +1,5 @@
 //! Rows by slot, in two parts: those of objects of one owner that follow each other, and all others.
-ghost use Rattle.std.specs.Prelude.{◌≡◌, true, false, not, OnOk, OnErr, IfOk, None, Some};
+ghost use Rattle.std.specs.Prelude.{◌≡◌, ◌+◌, true, false, not, length, OnOk, OnErr, IfOk, IsTrue, None, Some};
 ghost use Rattle.std.specs.Option.{option_copied, option_map};
 ghost use Rattle.std.specs.Ordering.{is_le};
 ghost use Rattle.std.specs.FinMap as map;
@@ -9,6 +9,7 @@ ghost use Rattle.wjs_base.specs.Order.{obj_cmp, slot_cmp};
 ghost use Rattle.wjs_base.specs.declared.values.Slot.{Slot};
 ghost use Rattle.wjs_rows.specs.Order.{is_after};
 ghost use Rattle.wjs_slots.specs.Least.{is_next_on, row_on, entry_on};
+ghost use Rattle.wjs_slots.specs.Several.{with_rows_on};
 ghost use Rattle.wjs_names.specs.Least.{lesser_entry};
 ghost use Rattle.wjs_names.specs.Lists.{IsInOrder};
 
@@ -102,6 +103,30 @@ impl<V: Copy> Parts<V> {
                 names.set(slot.name, value, self.alloc)
             }
             None => tree::set(&mut self.far, slot, value),
+        }
+    }
+
+    /// Puts rows of an object that has none and is near, or can be, and says whether it did. Elsewhere all stays as it is, and so
+    /// where the rows don't stand in the object's place, or after a refusal.
+    #[inline(always)]
+    pub(crate) fn fill(
+        &mut self,
+        object: ObjId,
+        rows: &[(Name, V)],
+        start: Start,
+    ) -> Result<bool, OutOfMemory>
+        ensures filled { IfOk result (λ filled. IsTrue filled → self.new ≡ with_rows_on object rows.now self.old) }
+        ensures len { IfOk result (λ filled. IsTrue filled → map.len self.new ≡ map.len self.old + length rows.now) }
+        ensures same { IfOk result (λ filled. filled ≡ false → self.new ≡ self.old) }
+        ensures err { OnErr result (self.new ≡ self.old) }
+    {
+        self.reach(object, start)?;
+        match self.near.place(object) {
+            Some(place) => {
+                let names = &mut self.near.objects[place];
+                Ok(names.fill(rows))
+            }
+            None => Ok(false),
         }
     }
 

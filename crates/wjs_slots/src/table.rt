@@ -1,9 +1,10 @@
 //! Rows by slot, whose calls count their steps.
-ghost use Rattle.std.specs.Prelude.{◌≡◌, ◌+◌, length, OnOk, OnErr};
+ghost use Rattle.std.specs.Prelude.{◌≡◌, ◌+◌, false, length, OnOk, OnErr, IfOk, IsTrue};
 ghost use Rattle.std.specs.Option.{option_copied};
 ghost use Rattle.std.specs.FinMap as map;
 ghost use Rattle.std.specs.Map.{lookup_entry};
 ghost use Rattle.wjs_slots.specs.Least.{is_next_on};
+ghost use Rattle.wjs_slots.specs.Several.{with_rows_on};
 
 use crate::parts::{Parts, Start};
 use std::alloc::Global;
@@ -88,6 +89,60 @@ impl<V: Copy> Table<V> {
         let added = self.parts.set(slot, value, Start::First)?;
         if added {
             self.len += 1;
+        }
+        Ok(())
+    }
+
+    /// Puts values at names of an object, one after another. After a refusal some of them may stand there.
+    #[inline(always)]
+    pub fn set_all<L: Ledger>(
+        &mut self,
+        object: ObjId,
+        rows: &[(Name, V)],
+        steps: &mut Steps<L>,
+    ) -> Result<(), OutOfMemory>
+        ensures { OnOk result (self.new ≡ with_rows_on object rows.now self.old) }
+    {
+        steps.tick();
+        let filled = self.fill(object, rows)?;
+        if filled {
+            return Ok(());
+        }
+        self.set_each(object, rows, steps)
+    }
+
+    /// `set_all` of an object that has no rows, if it does it: else all stays as it is.
+    #[inline(always)]
+    fn fill(&mut self, object: ObjId, rows: &[(Name, V)]) -> Result<bool, OutOfMemory>
+        ensures filled { IfOk result (λ filled. IsTrue filled → self.new ≡ with_rows_on object rows.now self.old) }
+        ensures same { IfOk result (λ filled. filled ≡ false → self.new ≡ self.old) }
+    {
+        if usize::MAX - self.len < rows.len() {
+            return Ok(false);
+        }
+        let filled = self.parts.fill(object, rows, Start::First)?;
+        if filled {
+            self.len += rows.len();
+        }
+        Ok(filled)
+    }
+
+    /// `set_all` by one `set` after another.
+    #[inline(never)]
+    fn set_each<L: Ledger>(
+        &mut self,
+        object: ObjId,
+        rows: &[(Name, V)],
+        steps: &mut Steps<L>,
+    ) -> Result<(), OutOfMemory>
+        ensures { OnOk result (self.new ≡ with_rows_on object rows.now self.old) }
+    {
+        for row in rows {
+            let slot = Slot {
+                object,
+                name: row.0,
+            };
+            self.set(slot, row.1, steps)?;
         }
         Ok(())
     }
