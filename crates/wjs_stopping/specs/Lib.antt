@@ -1,0 +1,5 @@
+pub mod Stopping
+pub mod Ends
+pub mod Waiting
+pub mod Evaluating
+pub mod Composing

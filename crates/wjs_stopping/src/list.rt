@@ -1,0 +1,69 @@
+//! Frames that wait for one that stopped.
+ghost use Rattle.std.specs.Prelude.{◌≡◌, ◌++◌, ◌∷◌, [], OnOk};
+ghost use Rattle.wjs_model.specs.Frames.{Uncovers};
+
+use std::alloc::Global;
+use std::marker::Model;
+use wjs_base::OutOfMemory;
+use wjs_model::{Config, Frame};
+use wjs_store::WorldStore;
+
+/// Frames that wait. Contracts see the list with the outermost first, which is the latest.
+#[derive(Drop)]
+pub struct Waits {
+    list: Vec<Frame>,
+}
+
+impl Model for Waits {
+    ghost use Rattle.std.specs.Prelude.{List};
+    ghost use Rattle.wjs_model.specs.Frames.{latest_first};
+    ghost use Rattle.wjs_model.specs.declared.frame.Activation.{Activation};
+    ghost use Rattle.std.specs.Coded.{codes};
+    ghost use Rattle.wjs_model.specs.contracts.frame.Activation as activation_contract;
+
+    ghost Value = { List Activation };
+
+    ghost coded = { Prim.hlevel (codes, activation_contract.the_row.coded) };
+
+    ghost view = { λ w. latest_first w.list.items };
+}
+
+impl Waits {
+    /// None.
+    pub fn new(alloc: Global) -> Waits
+        ensures { result ≡ [] }
+    {
+        Waits {
+            list: Vec::new(alloc),
+        }
+    }
+
+    /// A frame waits below those that are there.
+    pub fn push(&mut self, frame: Frame) -> Result<(), OutOfMemory>
+        ensures { OnOk result (self.new ≡ frame ∷ self.old) }
+    {
+        self.list.push(frame)?;
+        Ok(())
+    }
+
+    /// The outermost, which is taken off; None exactly where there is none.
+    pub fn pop(&mut self) -> Option<Frame>
+        ensures { Uncovers self.old result self.new }
+    {
+        self.list.pop()
+    }
+}
+
+/// The frames that wait are put on the others.
+pub fn put_on<S: WorldStore>(config: &mut Config<S>, waits: Waits) -> Result<(), OutOfMemory>
+    ensures { OnOk result (config.new ≡ record config.old { frames = config.old.frames ++ waits }) }
+{
+    let mut waits = waits;
+    for _turn in 0..u64::MAX {
+        match waits.pop() {
+            Some(frame) => config.frames.push(frame)?,
+            None => return Ok(()),
+        }
+    }
+    Err(OutOfMemory)
+}
