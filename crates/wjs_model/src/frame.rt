@@ -492,6 +492,14 @@ impl Frames {
         give_top(&mut self.stack, completion)
     }
 
+    /// Keeps a frame that has ended and is none of these, which stay the same: another is made in its place.
+    #[inline(always)]
+    pub fn spare(&mut self, ended: Frame)
+        ensures { self.new ≡ self.old }
+    {
+        keep(&mut self.spare, ended);
+    }
+
     /// Puts a frame that waits on top, and one more above it, which begins at a node around the same, with a step due.
     #[inline(always)]
     pub fn push_begun(
