@@ -171,9 +171,9 @@ fn told_of(told: Told, value: Value) -> Completion
     }
 }
 
-/// A store to a reference.
+/// A store to a reference, and then an end: this completion, or what the store throws.
 #[inline(always)]
-pub(crate) fn store_and_end<S: WorldStore>(
+pub fn store_and_end<S: WorldStore>(
     config: &mut Config<S>,
     frame: &Frame,
     reference: Reference,

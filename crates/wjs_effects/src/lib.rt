@@ -24,6 +24,7 @@ mod updates;
 
 pub use above::wait_below;
 pub use blocks::statement_of_block;
+pub use carries::store_and_end;
 pub use elements::Sequence;
 pub use enters::{enter_at_once, enter_last_at_once};
 pub use entries::{dropped, enter_statement};
