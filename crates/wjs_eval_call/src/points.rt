@@ -2,11 +2,11 @@
 ghost use Rattle.wjs_model.specs.Soundness.{HasCompletion, HasPoint};
 ghost use Rattle.wjs_frames.specs.Handling.{Runs, Resumes};
 
-use crate::bodies::{after_body_element, after_body_value};
 use crate::conversions::{integer_of_primitive, number_of_primitive, text_of_primitive};
 use crate::methods::{after_first_method, after_second_method};
 use crate::programs::{after_program_element, after_program_value, next_program};
 use wjs_base::OutOfMemory;
+use wjs_direct::{after_body_element, after_body_value};
 use wjs_model::{CallPoint, Completion, Config, Frame, Point};
 use wjs_store::WorldStore;
 

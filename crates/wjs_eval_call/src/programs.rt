@@ -8,12 +8,12 @@ ghost use Rattle.wjs_model.specs.Soundness.{HasCompletion};
 ghost use Rattle.wjs_frames.specs.Parts.{node_now};
 ghost use Rattle.wjs_frames.specs.Handling.{Runs, GoesOn, Begins, Resumes};
 
-use crate::declarations::{declare_program, program_body};
 use wjs_base::OutOfMemory;
 use wjs_effects::{Sequence, dropped, run_from};
 use wjs_frames::{due_later, finish};
 use wjs_model::{CallPoint, Completion, Config, Frame, Point, Start};
 use wjs_store::WorldStore;
+use wjs_variables::{declare_program, program_body};
 
 /// The program of the tree at hand begins: what it declares on the global object, and then its elements.
 pub fn program<S: WorldStore>(config: &mut Config<S>, frame: Frame) -> Result<(), OutOfMemory>

@@ -104,7 +104,7 @@ module _ {S : Type 0} (meaning : S → Meaning) where
         subst (λ (k : Completion → Act). OnOk r (Follows meaning (Sub (k (completion_in t e)) go) c later)) (given_then meaning t c f point) h;
   }
 
-  stopped_left : {A : Type 0} (said : Table → A → Completion) (deeds : Table → (Completion → Act) → Act) (c : Config S) (f : Frame) (phase : Phase) (end : Broken) (waits : List Frame) (top : Option (Frame × Phase))
+  pub stopped_left : {A : Type 0} (said : Table → A → Completion) (deeds : Table → (Completion → Act) → Act) (c : Config S) (f : Frame) (phase : Phase) (end : Broken) (waits : List Frame) (top : Option (Frame × Phase))
       → Leaves meaning deeds (stops_in meaning c [] (with_phase (f, phase))) c c → StopsAt f phase end waits top → Evaluates meaning deeds said (Err end) waits top c c
   stopped_left said deeds c f phase ends.Stopped waits top l s =
       subst (λ (w : List Frame). Leaves meaning deeds (rest_in meaning c w top) c c) (sym s.0) (subst (λ (p : Option (Frame × Phase)). Leaves meaning deeds (rest_in meaning c [] p) c c) (sym s.1) l)

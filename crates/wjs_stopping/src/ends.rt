@@ -1,7 +1,7 @@
-//! How expressions and statements end that are evaluated at once.
+//! Why an evaluation has no end.
 ghost use Rattle.std.specs.Prelude.{◌≡◌};
 
-use wjs_base::{OutOfMemory, TextId, Value};
+use wjs_base::{OutOfMemory, Value};
 
 /// Why there is no value.
 #[derive(Clone, Copy)]
@@ -13,18 +13,11 @@ pub enum Broken {
 }
 
 impl From<OutOfMemory> for Broken {
-    fn from(_none: OutOfMemory) -> Broken
-        ensures { result ≡ Broken.OutOfMemory }
-    {
+    ghost use Rattle.wjs_stopping.specs.declared.ends.Broken.TheVariants.{OutOfMemory};
+
+    ghost from_gives = { λ _ end. end ≡ OutOfMemory };
+
+    fn from(_none: OutOfMemory) -> Broken {
         Broken::OutOfMemory
     }
-}
-
-/// How a statement ends that doesn't throw (ECMA-262, 3rd edition, section 8.9).
-#[derive(Clone, Copy)]
-pub enum Flow {
-    Normal,
-    Breaks(Option<TextId>),
-    Continues(Option<TextId>),
-    Returns(Value),
 }

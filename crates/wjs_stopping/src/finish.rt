@@ -5,10 +5,10 @@ ghost use Rattle.wjs_meaning.specs.Deeds.{Ret};
 ghost use Rattle.wjs_model.specs.Soundness.{HasValue};
 ghost use Rattle.wjs_frames.specs.Following.{Follows};
 ghost use Rattle.wjs_frames.specs.Handling.{IsRunning};
-ghost use Rattle.wjs_stopping.specs.Ends.{completion_of, flow_in, gives_in, HasFlow};
-ghost use Rattle.wjs_stopping.specs.Evaluating.{HasOutcome, HasMemory, broken_in, outcome_in, HasBroken};
+ghost use Rattle.wjs_stopping.specs.Ends.{gives_in};
+ghost use Rattle.wjs_stopping.specs.Evaluating.{HasOutcome, HasMemory, InMemory, broken_in, outcome_in, HasBroken};
 
-use crate::ends::{Broken, Flow};
+use crate::ends::Broken;
 use crate::stops::{Stops, settle};
 use wjs_base::{OutOfMemory, Value};
 use wjs_frames::finish;
@@ -22,31 +22,13 @@ pub fn finish_value<S: WorldStore>(
     done: Result<Value, Broken>,
     stops: Stops,
 ) -> Result<(), OutOfMemory>
-    requires running { IsRunning S.meaning config.old }
+    requires running { InMemory done (IsRunning S.meaning config.old) }
     requires outcome { HasOutcome S.meaning HasValue config.old done stops.waits stops.top }
     ensures memory { OnOk result (HasMemory done) }
     ensures follows { OnOk result (Follows S.meaning (outcome_in S.meaning config.old gives_in done stops.waits stops.top config.new.heap.texts Ret) config.old config.new) }
 {
     match done {
         Ok(value) => finish(config, frame, Completion::Gives(value)),
-        Err(end) => finish_broken(config, frame, end, stops),
-    }
-}
-
-/// The same of a statement.
-pub fn finish_flow<S: WorldStore>(
-    config: &mut Config<S>,
-    frame: Frame,
-    done: Result<Flow, Broken>,
-    stops: Stops,
-) -> Result<(), OutOfMemory>
-    requires running { IsRunning S.meaning config.old }
-    requires outcome { HasOutcome S.meaning HasFlow config.old done stops.waits stops.top }
-    ensures memory { OnOk result (HasMemory done) }
-    ensures follows { OnOk result (Follows S.meaning (outcome_in S.meaning config.old flow_in done stops.waits stops.top config.new.heap.texts Ret) config.old config.new) }
-{
-    match done {
-        Ok(flow) => finish(config, frame, completion_of(flow)),
         Err(end) => finish_broken(config, frame, end, stops),
     }
 }
@@ -58,26 +40,17 @@ fn finish_broken<S: WorldStore>(
     end: Broken,
     stops: Stops,
 ) -> Result<(), OutOfMemory>
-    requires running { IsRunning S.meaning config.old }
+    requires running { InMemory {A = Unit {0}} (Err end) (IsRunning S.meaning config.old) }
     requires outcome { HasBroken S.meaning config.old end stops.waits stops.top }
     ensures memory { OnOk result (HasMemory {A = Unit {0}} (Err end)) }
     ensures follows { OnOk result (Follows S.meaning (broken_in S.meaning config.old end stops.waits stops.top config.new.heap.texts Ret) config.old config.new) }
 {
     match end {
         Broken::Throws(value) => finish(config, frame, Completion::Throws(value)),
-        Broken::Stopped => settle(config, stops),
+        Broken::Stopped => {
+            config.frames.spare(frame);
+            settle(config, stops)
+        }
         Broken::OutOfMemory => Err(OutOfMemory),
-    }
-}
-
-/// The completion of a statement.
-fn completion_of(flow: Flow) -> Completion
-    ensures { result ≡ completion_of flow }
-{
-    match flow {
-        Flow::Normal => Completion::Normal,
-        Flow::Breaks(label) => Completion::Breaks(label),
-        Flow::Continues(label) => Completion::Continues(label),
-        Flow::Returns(value) => Completion::Returns(value),
     }
 }

@@ -8,14 +8,15 @@ use wjs_base::OutOfMemory;
 use wjs_model::{Config, Frame};
 use wjs_store::WorldStore;
 
-/// Frames that wait. Contracts see the list with the outermost first, which is the latest.
+/// Frames that wait. Contracts see the list with the outermost first, which is the latest. One alone takes no memory beside its own.
 #[derive(Drop)]
 pub struct Waits {
-    list: Vec<Frame>,
+    outermost: Option<Frame>,
+    inside: Vec<Frame>,
 }
 
 impl Model for Waits {
-    ghost use Rattle.std.specs.Prelude.{List};
+    ghost use Rattle.std.specs.Prelude.{List, ◌++◌, option_to_list};
     ghost use Rattle.wjs_model.specs.Frames.{latest_first};
     ghost use Rattle.wjs_model.specs.declared.frame.Activation.{Activation};
     ghost use Rattle.std.specs.Coded.{codes};
@@ -25,7 +26,7 @@ impl Model for Waits {
 
     ghost coded = { Prim.hlevel (codes, activation_contract.the_row.coded) };
 
-    ghost view = { λ w. latest_first w.list.items };
+    ghost view = { λ w. option_to_list w.outermost ++ latest_first w.inside.items };
 }
 
 impl Waits {
@@ -34,7 +35,8 @@ impl Waits {
         ensures { result ≡ [] }
     {
         Waits {
-            list: Vec::new(alloc),
+            outermost: None,
+            inside: Vec::new(alloc),
         }
     }
 
@@ -42,15 +44,27 @@ impl Waits {
     pub fn push(&mut self, frame: Frame) -> Result<(), OutOfMemory>
         ensures { OnOk result (self.new ≡ frame ∷ self.old) }
     {
-        self.list.push(frame)?;
-        Ok(())
+        match self.outermost.take() {
+            None => {
+                self.outermost = Some(frame);
+                Ok(())
+            }
+            Some(before) => {
+                self.inside.push(before)?;
+                self.outermost = Some(frame);
+                Ok(())
+            }
+        }
     }
 
     /// The outermost, which is taken off; None exactly where there is none.
     pub fn pop(&mut self) -> Option<Frame>
         ensures { Uncovers self.old result self.new }
     {
-        self.list.pop()
+        match self.outermost.take() {
+            Some(frame) => Some(frame),
+            None => self.inside.pop(),
+        }
     }
 }
 

@@ -15,8 +15,8 @@ use Rattle.wjs_frames.specs.Parts.{env_in, node_now, node_among}
 use Rattle.wjs_heap_steps.proofs.Composing.{env_later}
 use Rattle.wjs_calls.proofs.FunctionNodes.{node_is}
 use Rattle.wjs_calls.proofs.Rows.{same_units}
-use Rattle.wjs_eval_call.specs.Filling.{program_filled}
-use Rattle.wjs_eval_call.proofs.StandingBodies.{at_body, body_is, same_elements}
+use Rattle.wjs_variables.specs.Filling.{program_filled}
+use Rattle.wjs_variables.proofs.StandingBodies.{at_body, body_is, same_elements}
 use Rattle.wjs_frames.proofs.Handling.{runs_over}
 use Rattle.wjs_eval_call.proofs.programs.program.Goals as goal
 

@@ -1,9 +1,10 @@
-use Rattle.wjs_stopping.specs.Ends.{flow_in, gives_in}
+use Rattle.wjs_model.specs.Contents.{completion_in}
+use Rattle.wjs_stopping.specs.Ends.{gives_in}
 use Rattle.wjs_stopping.proofs.Evaluating.{form_is_nested}
 use Rattle.wjs_stopping.proofs.laws.form_is_nested.Goals as goal
 
 pub returns-clause-value : goal.returns-clause-value
 returns-clause-value g c = form_is_nested g.S.WorldStore.meaning gives_in
 
-pub returns-clause-flow : goal.returns-clause-flow
-returns-clause-flow g c = form_is_nested g.S.WorldStore.meaning flow_in
+pub returns-clause-completion : goal.returns-clause-completion
+returns-clause-completion g c = form_is_nested g.S.WorldStore.meaning completion_in

@@ -1,0 +1,150 @@
+use Rattle.std.proofs.Common.{◌≡◌, ◌+◌, ◌-◌, ◌*◌, []}
+use Rattle.std.specs.Prelude.{All}
+use Rattle.wjs_model.specs.Soundness.{HasValue}
+use Rattle.wjs_frames.specs.Following.{Later}
+use Rattle.wjs_effects.specs.declared.elements.Sequence.TheVariants as kinds
+use Rattle.wjs_stopping.specs.Evaluating.{Leaves}
+use Rattle.wjs_direct.specs.Deeds.{line_here}
+use Rattle.wjs_direct.proofs.Calling.{values_left}
+use Rattle.wjs_direct.proofs.Elements.{rest_from}
+use Rattle.wjs_direct.proofs.+direct.Given as goal
+
+-- how much room is left, and which function hands it on to which
+abbrev pub decreases-expressions::value : goal.decreases-expressions::value
+decreases-expressions::value g l = l.room * 32 + 0
+
+abbrev pub decreases-expressions::form : goal.decreases-expressions::form
+decreases-expressions::form g l = l.room * 32 + 31
+
+abbrev pub decreases-expressions::binary : goal.decreases-expressions::binary
+decreases-expressions::binary g l = l.room * 32 + 20
+
+abbrev pub decreases-expressions::after_left : goal.decreases-expressions::after_left
+decreases-expressions::after_left g l = l.room * 32 + 10
+
+abbrev pub decreases-expressions::and_right : goal.decreases-expressions::and_right
+decreases-expressions::and_right g l = l.room * 32 + 5
+
+abbrev pub decreases-expressions::or_right : goal.decreases-expressions::or_right
+decreases-expressions::or_right g l = l.room * 32 + 5
+
+abbrev pub decreases-expressions::both : goal.decreases-expressions::both
+decreases-expressions::both g l = l.room * 32 + 5
+
+abbrev pub decreases-calls::call : goal.decreases-calls::call
+decreases-calls::call g l = l.room * 32 + 30
+
+abbrev pub decreases-calls::target_called : goal.decreases-calls::target_called
+decreases-calls::target_called g l = l.room * 32 + 29
+
+abbrev pub decreases-calls::reference_called : goal.decreases-calls::reference_called
+decreases-calls::reference_called g l = l.room * 32 + 28
+
+abbrev pub decreases-calls::evaluate_arguments : goal.decreases-calls::evaluate_arguments
+decreases-calls::evaluate_arguments g l = l.room * 32 + 27
+
+abbrev pub decreases-calls::called : goal.decreases-calls::called
+decreases-calls::called g l = l.room * 32 + 26
+
+abbrev pub decreases-calls::script_called : goal.decreases-calls::script_called
+decreases-calls::script_called g l = l.room * 32 + 24
+
+abbrev pub decreases-calls::body_entered : goal.decreases-calls::body_entered
+decreases-calls::body_entered g l = l.room * 32 + 23
+
+abbrev pub decreases-bodies::body_called : goal.decreases-bodies::body_called
+decreases-bodies::body_called g l = l.room * 32 + 22
+
+abbrev pub decreases-bodies::body_inside : goal.decreases-bodies::body_inside
+decreases-bodies::body_inside g l = l.room * 32 + 21
+
+abbrev pub decreases-bodies::run_body : goal.decreases-bodies::run_body
+decreases-bodies::run_body g l = l.room * 32 + 20
+
+abbrev pub decreases-statements::statement : goal.decreases-statements::statement
+decreases-statements::statement g l = l.room * 32 + 0
+
+abbrev pub decreases-statements::statement_form : goal.decreases-statements::statement_form
+decreases-statements::statement_form g l = l.room * 32 + 31
+
+abbrev pub decreases-statements::expression : goal.decreases-statements::expression
+decreases-statements::expression g l = l.room * 32 + 20
+
+abbrev pub decreases-statements::result_of : goal.decreases-statements::result_of
+decreases-statements::result_of g l = l.room * 32 + 20
+
+abbrev pub decreases-statements::condition : goal.decreases-statements::condition
+decreases-statements::condition g l = l.room * 32 + 20
+
+abbrev pub decreases-statements::chosen : goal.decreases-statements::chosen
+decreases-statements::chosen g l = l.room * 32 + 10
+
+abbrev pub decreases-statements::run_block : goal.decreases-statements::run_block
+decreases-statements::run_block g l = l.room * 32 + 20
+
+abbrev pub decreases-stores::effect : goal.decreases-stores::effect
+decreases-stores::effect g l = l.room * 32 + 10
+
+abbrev pub decreases-stores::valued : goal.decreases-stores::valued
+decreases-stores::valued g l = l.room * 32 + 5
+
+abbrev pub decreases-stores::assignment : goal.decreases-stores::assignment
+decreases-stores::assignment g l = l.room * 32 + 31
+
+abbrev pub decreases-stores::assign : goal.decreases-stores::assign
+decreases-stores::assign g l = l.room * 32 + 30
+
+abbrev pub decreases-stores::assign_to : goal.decreases-stores::assign_to
+decreases-stores::assign_to g l = l.room * 32 + 28
+
+abbrev pub decreases-stores::assigned : goal.decreases-stores::assigned
+decreases-stores::assigned g l = l.room * 32 + 20
+
+abbrev pub decreases-stores::compounded : goal.decreases-stores::compounded
+decreases-stores::compounded g l = l.room * 32 + 25
+
+abbrev pub decreases-stores::compound_right : goal.decreases-stores::compound_right
+decreases-stores::compound_right g l = l.room * 32 + 20
+
+-- what is left of a list is what is left of its deeds
+abbrev pub decreases-bodies::run_body-loop-element : goal.decreases-bodies::run_body-loop-element
+decreases-bodies::run_body-loop-element g l = 4294967296 - l.at
+
+abbrev pub invariant-bodies::run_body-loop-element : goal.invariant-bodies::run_body-loop-element
+invariant-bodies::run_body-loop-element g l =
+    let m = g.S.WorldStore.meaning in
+    let old = l.initial.config in
+    let f = l.frame in
+    record {
+      left : Leaves m (line_here m old f (rest_from m kinds.Function f f.node old l.from)) (line_here m old f (rest_from m kinds.Function f f.node old l.at)) old l.config;
+      later : Later m old l.config;
+      empty : l.stops.waits ≡ [];
+    }
+
+abbrev pub decreases-statements::run_block-loop-part : goal.decreases-statements::run_block-loop-part
+decreases-statements::run_block-loop-part g l = 4294967296 - l.at
+
+abbrev pub invariant-statements::run_block-loop-part : goal.invariant-statements::run_block-loop-part
+invariant-statements::run_block-loop-part g l =
+    let m = g.S.WorldStore.meaning in
+    let old = l.initial.config in
+    let f = l.frame in
+    record {
+      left : Leaves m (line_here m old f (rest_from m kinds.Block f l.node old l.from)) (line_here m old f (rest_from m kinds.Block f l.node old l.at)) old l.config;
+      later : Later m old l.config;
+      empty : l.stops.waits ≡ [];
+    }
+
+abbrev pub decreases-calls::evaluate_arguments-loop-next : goal.decreases-calls::evaluate_arguments-loop-next
+decreases-calls::evaluate_arguments-loop-next g l = 4294967296 - l.at
+
+abbrev pub invariant-calls::evaluate_arguments-loop-next : goal.invariant-calls::evaluate_arguments-loop-next
+invariant-calls::evaluate_arguments-loop-next g l =
+    let m = g.S.WorldStore.meaning in
+    let old = l.initial.config in
+    record {
+      left : Leaves m (line_here m old l.frame (values_left m old l.frame l.node l.function l.this 0 [])) (line_here m old l.frame (values_left m old l.frame l.node l.function l.this l.at l.values.items)) old l.config;
+      later : Later m old l.config;
+      there : All (HasValue l.config) l.values.items;
+      empty : l.stops.waits ≡ [];
+    }

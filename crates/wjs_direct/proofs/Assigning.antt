@@ -1,0 +1,100 @@
+-- Assignments: a value that is read, stored, or the result of an operation.
+use Rattle.std.proofs.Common.{◌≡◌, List, refl}
+use Rattle.std.specs.Prelude.{Option, Result, Ok, Err}
+use Rattle.wjs_base.specs.Text.{Table, Grows}
+use Rattle.wjs_base.specs.declared.values.Value.{Value as Numbered}
+use Rattle.wjs_by_content.specs.Tables.{value_in}
+use Rattle.wjs_by_content.specs.Values.{Value}
+use Rattle.wjs_store.specs.Meaning.{Meaning}
+use Rattle.wjs_tree.specs.declared.operators.BinaryOperator.{BinaryOperator}
+use Rattle.wjs_meaning.specs.Deeds.{Env, Completion, Act, Ret, Gives, Sub, then_value}
+use Rattle.wjs_meaning.specs.Expressions.{assign_value, compound_value}
+use Rattle.wjs_meaning.specs.Operators.{operate}
+use Rattle.wjs_meaning.specs.References.{value_of}
+use Rattle.wjs_meaning.specs.Statements.{return_value}
+use Rattle.wjs_model.specs.declared.config.Config.{Config}
+use Rattle.wjs_model.specs.declared.frame.Activation.{Activation as Frame}
+use Rattle.wjs_model.specs.declared.frame.Phase.{Phase}
+use Rattle.wjs_model.specs.declared.frame.Reference.{Reference as NumberedReference}
+use Rattle.wjs_model.specs.declared.frame.Completion.{Completion as Said}
+use Rattle.wjs_model.specs.declared.frame.Completion.TheVariants as completions
+use Rattle.wjs_model.specs.Contents.{completion_in, reference_in}
+use Rattle.wjs_model.specs.Soundness.{HasCompletion}
+use Rattle.wjs_model.specs.Operands.{evaluated}
+use Rattle.wjs_frames.specs.Doing.{Does}
+use Rattle.wjs_frames.specs.Parts.{env_in}
+use Rattle.wjs_frames.specs.Shortening.{Shortens}
+use Rattle.wjs_frames.proofs.Shorter.{follows_shorter, shorten_ended, shorten_sub}
+use Rattle.wjs_heap_steps.specs.Peeking.{Peeks}
+use Rattle.wjs_effects.specs.Effects.{stored}
+use Rattle.wjs_effects.proofs.Storing.{value_goes, store_shortens}
+use Rattle.wjs_stopping.specs.declared.ends.Broken.{Broken}
+use Rattle.wjs_stopping.specs.declared.ends.Broken.TheVariants as ends
+use Rattle.wjs_stopping.specs.Evaluating.{Evaluates, InMemory}
+use Rattle.wjs_stopping.proofs.Evaluating.{in_memory}
+use Rattle.wjs_direct.specs.Deeds.{line_here, returned_by}
+use Rattle.wjs_direct.proofs.Parts.{did, shortened}
+
+-- what broke off did so, whatever the deeds would have ended with
+pub broken_as : (A B T : Type 0) (end : Broken) → InMemory {A = A} (Err end) T → InMemory {A = B} (Err end) T
+broken_as A B T (ends.Throws e) h = h
+broken_as A B T ends.Stopped h = h
+broken_as A B T ends.OutOfMemory h = h
+
+module _ {S : Type 0} (meaning : S → Meaning) {A : Type 0} (said : Table → A → Completion) (c new : Config S) (f : Frame) where
+  -- the value of a reference, which a look finds, and then more
+  pub read_then : (q : NumberedReference) (more : Table → Env → Value → Act) (v : Numbered) (done : Result A Broken) (waits : List Frame) (top : Option (Frame × Phase))
+      → Peeks meaning (λ t. evaluated (reference_in t q) (env_in meaning c t f)) (λ t. Gives (value_in t v)) c
+      → Evaluates meaning (line_here meaning c f (λ t env. more t env (value_in t v))) said done waits top c new
+      → Evaluates meaning (line_here meaning c f (λ t env. value_of (reference_in t q) env (more t env))) said done waits top c new
+  read_then q more v done waits top peeks d =
+      in_memory done (λ d'. record {
+        by = λ go later r h.
+            let t = later.heap.texts in
+            let env = env_in meaning c t f in
+            let k : Value → Act = more t env in
+            follows_shorter meaning (Sub (value_of (reference_in t q) env k) go) (evaluated (reference_in t q) env (λ e. Sub (then_value k e) go)) c later r (value_goes env k go (reference_in t q))
+            ((peeks c.left).by (λ e. Sub (then_value k e) go) later r (d'.by go later r h));
+      }) d
+
+  -- the result of an operation, and then its store
+  pub operated_then : (op : BinaryOperator) (q : NumberedReference) (a b v : Numbered) (done : Result A Broken) (waits : List Frame) (top : Option (Frame × Phase))
+      → ((t : Table) → Grows c.heap.texts t → (env : Env) → Shortens (operate op (value_in t a) (value_in t b) env) (Ret (Gives (value_in t v))))
+      → Evaluates meaning (line_here meaning c f (λ t env. assign_value (reference_in t q) env (value_in t v))) said done waits top c new
+      → Evaluates meaning (line_here meaning c f (λ t env. compound_value op (value_in t a) (reference_in t q) env (value_in t b))) said done waits top c new
+  operated_then op q a b v done waits top ends d =
+      shortened meaning said (line_here meaning c f (λ t env. compound_value op (value_in t a) (reference_in t q) env (value_in t b))) (line_here meaning c f (λ t env. assign_value (reference_in t q) env (value_in t v))) done waits top c new
+      (λ t more go. let env = env_in meaning c t f in
+      shorten_sub (compound_value op (value_in t a) (reference_in t q) env (value_in t b)) (assign_value (reference_in t q) env (value_in t v)) go
+      (shorten_ended (operate op (value_in t a) (value_in t b) env) (Gives (value_in t v)) (then_value (assign_value (reference_in t q) env)) (ends t more env))) d
+
+module _ {S : Type 0} (meaning : S → Meaning) (c new : Config S) (f : Frame) where
+  -- a store, whose end is that of the assignment
+  pub store_done : (q : NumberedReference) (v : Numbered) (e : Said) (waits : List Frame) (top : Option (Frame × Phase))
+      → Does meaning (λ t. stored (reference_in t q) (value_in t v) (env_in meaning c t f) (Gives (value_in t v))) (λ t. completion_in t e) c new
+      → Evaluates meaning (line_here meaning c f (λ t env. assign_value (reference_in t q) env (value_in t v))) completion_in (Ok e) waits top c new
+  store_done q v e waits top d =
+      shortened meaning completion_in (line_here meaning c f (λ t env. assign_value (reference_in t q) env (value_in t v)))
+      (λ t go. stored (reference_in t q) (value_in t v) (env_in meaning c t f) (Gives (value_in t v)) go) (Ok e) waits top c new
+      (λ t more go. store_shortens (value_in t v) (env_in meaning c t f) (Gives (value_in t v)) go (reference_in t q))
+      (did meaning completion_in (λ t go. stored (reference_in t q) (value_in t v) (env_in meaning c t f) (Gives (value_in t v)) go) e waits top c new d)
+
+-- ---- what a `return` ends with
+
+pub returned_is : (t : Table) (e : Said) → then_value return_value (completion_in t e) ≡ Ret (completion_in t (returned_by e))
+returned_is t (completions.Gives v) = refl
+returned_is t (completions.Refers r) = refl
+returned_is t completions.Normal = refl
+returned_is t (completions.Breaks label) = refl
+returned_is t (completions.Continues label) = refl
+returned_is t (completions.Returns v) = refl
+returned_is t (completions.Throws v) = refl
+
+pub returned_there : {S : Type 0} (c : Config S) (e : Said) → HasCompletion c e → HasCompletion c (returned_by e)
+returned_there c (completions.Gives v) h = h
+returned_there c (completions.Refers r) h = h
+returned_there c completions.Normal h = h
+returned_there c (completions.Breaks label) h = h
+returned_there c (completions.Continues label) h = h
+returned_there c (completions.Returns v) h = h
+returned_there c (completions.Throws v) h = h

@@ -1,0 +1,365 @@
+//! Calls (ECMA-262, 3rd edition, sections 10.2.3, 11.2.3 and 13.2.1).
+ghost use Rattle.std.specs.Prelude.{◌≡◌, ◌∷◌, ◌++◌, All, OnOk, [], map};
+ghost use Rattle.wjs_base.specs.Text.{Table};
+ghost use Rattle.wjs_by_content.specs.Objects.{Arena, object_at};
+ghost use Rattle.wjs_by_content.specs.Tables.{value_in};
+ghost use Rattle.wjs_by_content.specs.Values.{Object};
+ghost use Rattle.wjs_meaning.specs.Calls as calls;
+ghost use Rattle.wjs_meaning.specs.Deeds.{AtBody, AtExpr, AtTarget, Eval, Ret, then_reference};
+ghost use Rattle.wjs_meaning.specs.Expressions as line;
+ghost use Rattle.wjs_meaning.specs.Reading.{node_in};
+ghost use Rattle.wjs_model.specs.Contents.{reference_in};
+ghost use Rattle.wjs_model.specs.Lists.{arguments_of};
+ghost use Rattle.wjs_model.specs.Outside.{Sees};
+ghost use Rattle.wjs_model.specs.Soundness.{Base, HasObject, HasReference, HasValue, IsThere, StandsHere};
+ghost use Rattle.wjs_frames.specs.Following.{Later};
+ghost use Rattle.wjs_frames.specs.Parts.{node_among};
+ghost use Rattle.wjs_effects.specs.Sequences.{NextIs};
+ghost use Rattle.wjs_stopping.specs.Ends.{gives_in};
+ghost use Rattle.wjs_stopping.specs.Evaluating.{Evaluates, HasOutcome, InMemory};
+ghost use Rattle.wjs_direct.specs.Deeds.{IsCallee, IsScript, entry_here, form_here, goal_here, line_here, refers_in};
+
+use crate::bodies::body_called;
+use crate::expressions::value;
+use crate::holding::{argument_waits, body_stops, call_stops};
+use crate::lists::element_of;
+use crate::room::may_enter;
+use wjs_arena::Code;
+use wjs_base::{ObjId, OutOfMemory, Value};
+use wjs_effects::reference_at_once;
+use wjs_frames::node_at;
+use wjs_heap_steps::{code_of, peek_value_of};
+use wjs_members::is_target;
+use wjs_model::{Completion, Config, ExprPoint, Frame, Phase, Point, Reference, Start};
+use wjs_step_common::{number_after, this_or_global};
+use wjs_stopping::{Broken, Stops, stop, waits};
+use wjs_store::WorldStore;
+use wjs_tree::{Node, NodeId};
+
+/// A call, whose step is taken: its callee, and then its arguments; one whose callee is no target is left to a frame.
+#[cycle(direct)]
+pub(crate) fn call<S: WorldStore>(
+    config: &mut Config<S>,
+    frame: &Frame,
+    node: NodeId,
+    callee: NodeId,
+    room: u16,
+    stops: &mut Stops,
+) -> Result<Value, Broken>
+    requires base { Base S.meaning config.old }
+    requires there { IsThere S.meaning config.old frame.now }
+    requires node { StandsHere config.old frame.now node }
+    requires empty { stops.old.waits ≡ [] }
+    requires callee { IsCallee S.meaning config.old frame.now node callee }
+    ensures later { InMemory result (Later S.meaning config.old config.new) }
+    ensures found { HasOutcome S.meaning HasValue config.new result stops.new.waits stops.new.top }
+    ensures does { Evaluates S.meaning (entry_here S.meaning config.old frame.now (AtExpr node.0))
+        gives_in result stops.new.waits stops.new.top config.old config.new }
+{
+    if is_target(config, frame, callee) {
+        target_called(config, frame, node, callee, room, stops)
+    } else {
+        Err(stop(config, frame, node, Phase::Ready(Start::Expr), stops))
+    }
+}
+
+/// A callee that is a target.
+#[cycle(direct)]
+fn target_called<S: WorldStore>(
+    config: &mut Config<S>,
+    frame: &Frame,
+    node: NodeId,
+    callee: NodeId,
+    room: u16,
+    stops: &mut Stops,
+) -> Result<Value, Broken>
+    requires base { Base S.meaning config.old }
+    requires there { IsThere S.meaning config.old frame.now }
+    requires node { StandsHere config.old frame.now node }
+    requires empty { stops.old.waits ≡ [] }
+    requires callee { StandsHere config.old frame.now callee }
+    ensures later { InMemory result (Later S.meaning config.old config.new) }
+    ensures found { HasOutcome S.meaning HasValue config.new result stops.new.waits stops.new.top }
+    ensures does { Evaluates S.meaning (form_here S.meaning config.old frame.now (AtTarget callee.0)
+        (λ t env. then_reference (line.call_reference (arguments_of (node_in t (node_among config.old.units.items frame.now.tree node))) env)))
+        gives_in result stops.new.waits stops.new.top config.old config.new }
+{
+    match target(config, frame, callee, stops) {
+        Ok(reference) => reference_called(config, frame, node, reference, room, stops),
+        Err(end) => {
+            let point = Point::Expr(ExprPoint::CalleeTarget);
+            Err(waits(config, frame, node, point, end, stops))
+        }
+    }
+}
+
+/// The reference of a target whose parts have their values at once; every other one is left to a frame.
+pub(crate) fn target<S: WorldStore>(
+    config: &mut Config<S>,
+    frame: &Frame,
+    node: NodeId,
+    stops: &mut Stops,
+) -> Result<Reference, Broken>
+    requires base { Base S.meaning config.old }
+    requires there { IsThere S.meaning config.old frame.now }
+    requires node { StandsHere config.old frame.now node }
+    requires empty { stops.old.waits ≡ [] }
+    ensures later { InMemory result (Later S.meaning config.old config.new) }
+    ensures found { HasOutcome S.meaning HasReference config.new result stops.new.waits stops.new.top }
+    ensures does { Evaluates S.meaning (goal_here S.meaning config.old frame.now (AtTarget node.0))
+        refers_in result stops.new.waits stops.new.top config.old config.new }
+{
+    match reference_at_once(config, frame, node) {
+        Some(reference) => Ok(reference),
+        None => Err(stop(config, frame, node, Phase::Due(Start::Target), stops)),
+    }
+}
+
+/// The object that its reference holds is called; `this` is the base of a member. What is no object, and so no function, and what can't
+/// be told by a look is left to a frame, before the arguments.
+#[cycle(direct)]
+fn reference_called<S: WorldStore>(
+    config: &mut Config<S>,
+    frame: &Frame,
+    node: NodeId,
+    reference: Reference,
+    room: u16,
+    stops: &mut Stops,
+) -> Result<Value, Broken>
+    requires base { Base S.meaning config.old }
+    requires there { IsThere S.meaning config.old frame.now }
+    requires node { StandsHere config.old frame.now node }
+    requires empty { stops.old.waits ≡ [] }
+    requires reference { HasReference config.old reference }
+    ensures later { InMemory result (Later S.meaning config.old config.new) }
+    ensures found { HasOutcome S.meaning HasValue config.new result stops.new.waits stops.new.top }
+    ensures does { Evaluates S.meaning (line_here S.meaning config.old frame.now
+        (λ t env. line.call_reference (arguments_of (node_in t (node_among config.old.units.items frame.now.tree node))) env (reference_in t reference)))
+        gives_in result stops.new.waits stops.new.top config.old config.new }
+{
+    match peek_value_of(config, frame, reference) {
+        Some(Value::Object(function)) => {
+            let this = base_of(config, reference);
+            evaluate_arguments(config, frame, node, function, this, room, stops)
+        }
+        _ => {
+            let point = Point::Expr(ExprPoint::CalleeTarget);
+            let phase = Phase::Given(point, Completion::Refers(reference));
+            Err(stop(config, frame, node, phase, stops))
+        }
+    }
+}
+
+/// The base of a member, and undefined for every other reference.
+fn base_of<S: WorldStore>(config: &Config<S>, reference: Reference) -> Value
+    requires { HasReference config.now reference }
+    ensures is { (t : Table) → value_in t result ≡ line.base_of (reference_in t reference) }
+    ensures found { HasValue config.now result }
+{
+    let _config = config;
+    match reference {
+        Reference::Member(base, _) => base,
+        _ => Value::Undefined,
+    }
+}
+
+/// The argument of a number.
+#[inline(always)]
+fn argument<S: WorldStore>(
+    config: &Config<S>,
+    frame: &Frame,
+    node: NodeId,
+    at: u32,
+) -> Option<NodeId>
+    ensures { (t : Table) → NextIs (arguments_of (node_in t (node_among config.now.units.items frame.now.tree node))) at result }
+{
+    match node_at(config, frame, node) {
+        Some(Node::Call(_, arguments)) => element_of(arguments.as_slice(), at),
+        Some(Node::NewWith(_, arguments)) => element_of(arguments.as_slice(), at),
+        _ => None,
+    }
+}
+
+/// The arguments from left to right, and then the call.
+#[cycle(direct)]
+fn evaluate_arguments<S: WorldStore>(
+    config: &mut Config<S>,
+    frame: &Frame,
+    node: NodeId,
+    function: ObjId,
+    this: Value,
+    room: u16,
+    stops: &mut Stops,
+) -> Result<Value, Broken>
+    requires base { Base S.meaning config.old }
+    requires there { IsThere S.meaning config.old frame.now }
+    requires node { StandsHere config.old frame.now node }
+    requires empty { stops.old.waits ≡ [] }
+    requires function { HasObject config.old function }
+    requires this { HasValue config.old this }
+    ensures later { InMemory result (Later S.meaning config.old config.new) }
+    ensures found { HasOutcome S.meaning HasValue config.new result stops.new.waits stops.new.top }
+    ensures does { Evaluates S.meaning (line_here S.meaning config.old frame.now
+        (λ t env. line.call_callee (arguments_of (node_in t (node_among config.old.units.items frame.now.tree node))) (value_in t this) env (Object function)))
+        gives_in result stops.new.waits stops.new.top config.old config.new }
+{
+    let mut values = Vec::new(config.heap.arena.allocator());
+    let mut at = 0u32;
+    while let Some(next) = argument(config, frame, node, at) {
+        match value(config, frame, next, room, stops) {
+            Ok(given) => push(&mut values, given)?,
+            Err(end) => {
+                let callee = Value::Object(function);
+                let values = values.as_slice();
+                return Err(argument_waits(
+                    config, frame, node, callee, this, values, at, end, stops,
+                ));
+            }
+        }
+        at = number_after(at)?;
+    }
+    called(
+        config,
+        frame,
+        node,
+        function,
+        this,
+        values.as_slice(),
+        room,
+        stops,
+    )
+}
+
+fn push(values: &mut Vec<Value>, value: Value) -> Result<(), OutOfMemory>
+    ensures { OnOk result (values.new.items ≡ values.old.items ++ value ∷ []) }
+{
+    values.push(value)?;
+    Ok(())
+}
+
+/// The call of an object with its arguments: one that is no function of a script's is called by a frame.
+#[cycle(direct)]
+#[inline(always)]
+fn called<S: WorldStore>(
+    config: &mut Config<S>,
+    frame: &Frame,
+    node: NodeId,
+    function: ObjId,
+    this: Value,
+    values: &[Value],
+    room: u16,
+    stops: &mut Stops,
+) -> Result<Value, Broken>
+    requires base { Base S.meaning config.old }
+    requires there { IsThere S.meaning config.old frame.now }
+    requires node { StandsHere config.old frame.now node }
+    requires empty { stops.old.waits ≡ [] }
+    requires function { HasObject config.old function }
+    requires this { HasValue config.old this }
+    requires values { All (HasValue config.old) values.now }
+    ensures later { InMemory result (Later S.meaning config.old config.new) }
+    ensures found { HasOutcome S.meaning HasValue config.new result stops.new.waits stops.new.top }
+    ensures does { Evaluates S.meaning (line_here S.meaning config.old frame.now
+        (λ t env. line.call_values (Object function) (value_in t this) env (map (value_in t) values.now)))
+        gives_in result stops.new.waits stops.new.top config.old config.new }
+{
+    match code_of(config, function) {
+        Code::Script { tree, node: body } => script_called(
+            config, frame, node, function, tree, body, this, values, room, stops,
+        ),
+        _ => {
+            let callee = Value::Object(function);
+            let phase = Phase::Ready(Start::Call);
+            Err(call_stops(config, frame, node, callee, this, values, phase, stops))
+        }
+    }
+}
+
+/// A function that a script made, whose `this` is an object; one whose `this` becomes an object is called by a frame.
+#[cycle(direct)]
+#[inline(always)]
+fn script_called<S: WorldStore>(
+    config: &mut Config<S>,
+    frame: &Frame,
+    node: NodeId,
+    function: ObjId,
+    tree: u32,
+    body: NodeId,
+    this: Value,
+    values: &[Value],
+    room: u16,
+    stops: &mut Stops,
+) -> Result<Value, Broken>
+    requires base { Base S.meaning config.old }
+    requires there { IsThere S.meaning config.old frame.now }
+    requires node { StandsHere config.old frame.now node }
+    requires empty { stops.old.waits ≡ [] }
+    requires function { HasObject config.old function }
+    requires this { HasValue config.old this }
+    requires values { All (HasValue config.old) values.now }
+    requires code { IsScript config.old function tree body }
+    requires seen { (t : Table) (arena : Arena) → Sees S.meaning config.old t arena → (object_at arena function).code ≡ Code.Script tree body }
+    ensures later { InMemory result (Later S.meaning config.old config.new) }
+    ensures found { HasOutcome S.meaning HasValue config.new result stops.new.waits stops.new.top }
+    ensures does { Evaluates S.meaning (line_here S.meaning config.old frame.now
+        (λ t env. calls.call function (value_in t this) (map (value_in t) values.now) env))
+        gives_in result stops.new.waits stops.new.top config.old config.new }
+{
+    match this_or_global(config, frame, this) {
+        Value::Object(object) => body_entered(
+            config, frame, node, function, tree, body, object, values, room, stops,
+        ),
+        _ => {
+            let callee = Value::Object(function);
+            let phase = Phase::Ready(Start::Call);
+            Err(call_stops(config, frame, node, callee, this, values, phase, stops))
+        }
+    }
+}
+
+/// Its body, where a step and room are left.
+#[cycle(direct)]
+fn body_entered<S: WorldStore>(
+    config: &mut Config<S>,
+    frame: &Frame,
+    node: NodeId,
+    function: ObjId,
+    tree: u32,
+    body: NodeId,
+    this: ObjId,
+    values: &[Value],
+    room: u16,
+    stops: &mut Stops,
+) -> Result<Value, Broken>
+    requires base { Base S.meaning config.old }
+    requires there { IsThere S.meaning config.old frame.now }
+    requires node { StandsHere config.old frame.now node }
+    requires empty { stops.old.waits ≡ [] }
+    requires function { HasObject config.old function }
+    requires this { HasObject config.old this }
+    requires values { All (HasValue config.old) values.now }
+    requires code { IsScript config.old function tree body }
+    ensures later { InMemory result (Later S.meaning config.old config.new) }
+    ensures found { HasOutcome S.meaning HasValue config.new result stops.new.waits stops.new.top }
+    ensures does { Evaluates S.meaning (line_here S.meaning config.old frame.now
+        (λ t env. Eval (AtBody function (map (value_in t) values.now)) (record env { this = Object this }) Ret))
+        gives_in result stops.new.waits stops.new.top config.old config.new }
+{
+    if !may_enter(config, room) {
+        let phase = Phase::Due(Start::Body(function));
+        return Err(body_stops(config, frame, node, function, this, values, phase, stops));
+    }
+    config.left -= 1;
+    body_called(
+        config,
+        frame,
+        node,
+        function,
+        tree,
+        body,
+        this,
+        values,
+        room - 6,
+        stops,
+    )
+}
