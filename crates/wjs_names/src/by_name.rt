@@ -70,7 +70,7 @@ impl<V: Copy> RowsByName<V> {
     }
 
     /// Puts rows where there are none, and says whether it did: elsewhere all stays as it is, and so where they are more than
-    /// stand in the object's place, or not in the order of their names.
+    /// stand in the object's place, or two of them have one name.
     #[inline(always)]
     pub fn fill(&mut self, rows: &[(Name, V)]) -> bool
         ensures filled { IsTrue result → self.new ≡ with_rows rows.now self.old }

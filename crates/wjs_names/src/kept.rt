@@ -1,7 +1,6 @@
 //! The rows of one object, in a list or by their indices.
-ghost use Rattle.std.specs.Prelude.{◌≡◌, ◌++◌, ◌∷◌, [], not, is_some, OnOk, OnErr, IfOk, IfSome, IsTrue, None, true, false, cond};
+ghost use Rattle.std.specs.Prelude.{◌≡◌, ◌++◌, ◌∷◌, [], not, length, is_some, OnOk, OnErr, IfOk, IfSome, IsTrue, None, true, false, cond};
 ghost use Rattle.std.specs.Option.{option_copied};
-ghost use Rattle.std.specs.Ordering.{is_gt};
 ghost use Rattle.std.specs.FinMap as map;
 ghost use Rattle.std.specs.FinMap.Entries.{put, find};
 ghost use Rattle.std.specs.Map.{lookup_entry};
@@ -10,6 +9,7 @@ ghost use Rattle.wjs_rows.specs.Order.{is_from, is_after};
 ghost use Rattle.wjs_names.specs.Four.{rows_of_four};
 ghost use Rattle.wjs_names.specs.Kept.{rows_of, short_rows};
 ghost use Rattle.wjs_names.specs.Lists.{IsInOrder, without};
+ghost use Rattle.wjs_names.specs.Several.{put_all};
 
 use crate::few;
 use crate::four::Four;
@@ -88,8 +88,8 @@ impl<V: Copy> Kept<V> {
     #[inline(always)]
     pub(crate) fn fill(&mut self, rows: &[(Name, V)]) -> bool
         ensures none { IsTrue result → rows_of self.old ≡ [] }
-        ensures filled { IsTrue result → rows_of self.new ≡ rows.now }
-        ensures ordered { IsTrue result → IsInOrder name_cmp rows.now }
+        ensures filled { IsTrue result → rows_of self.new ≡ put_all rows.now [] }
+        ensures len { IsTrue result → length (rows_of self.new) ≡ length rows.now }
         ensures same { result ≡ false → rows_of self.new ≡ rows_of self.old }
     {
         match self {
@@ -432,49 +432,76 @@ fn kept_of<V: Copy>(short: Short<V>) -> Kept<V>
     }
 }
 
-/// Up to four rows in the object's place, where they are in the order of their names.
+/// Up to four rows in the object's place, in the order of their names; None where two have one name.
 #[inline(always)]
 fn in_place<V: Copy>(rows: &[(Name, V)]) -> Option<Kept<V>>
-    ensures { IfSome result (λ kept. (rows_of kept ≡ rows.now) × IsInOrder name_cmp rows.now) }
+    ensures put { IfSome result (λ kept. rows_of kept ≡ put_all rows.now []) }
+    ensures len { IfSome result (λ kept. length (rows_of kept) ≡ length rows.now) }
 {
     match rows {
         [a] => {
-            let first = few::row_of(a.0, a.1)?;
-            Some(Kept::One(first))
+            let row = few::row_of(a.0, a.1)?;
+            Some(Kept::One(row))
         }
         [a, b] => {
-            let first = few::row_of(a.0, a.1)?;
-            let second = next_row(first, *b)?;
-            Some(Kept::Two(first, second))
+            let short = two_of(*a, *b)?;
+            Some(kept_of(short))
         }
         [a, b, c] => {
-            let first = few::row_of(a.0, a.1)?;
-            let second = next_row(first, *b)?;
-            let third = next_row(second, *c)?;
-            Some(Kept::Three(first, second, third))
+            let short = three_of(*a, *b, *c)?;
+            Some(kept_of(short))
         }
         [a, b, c, d] => {
-            let first = few::row_of(a.0, a.1)?;
-            let second = next_row(first, *b)?;
-            let third = next_row(second, *c)?;
-            let fourth = next_row(third, *d)?;
-            let four = Four::of_rows(first, second, third, fourth)?;
+            let four = four_of(*a, *b, *c, *d)?;
             Some(Kept::Four(four))
         }
         _ => None,
     }
 }
 
-/// A row with its name in short, where that comes after another row's.
+/// Two rows in the order of their names; None where they have one name.
 #[inline(always)]
-fn next_row<V: Copy>(before: (ShortName, V), row: (Name, V)) -> Option<(ShortName, V)>
-    ensures row { IfSome result (λ next. next ≡ row) }
-    ensures after { IfSome result (λ _. is_gt (name_cmp row.0 before.0) ≡ true) }
+fn two_of<V: Copy>(a: (Name, V), b: (Name, V)) -> Option<Short<V>>
+    ensures put { IfSome result (λ short. short_rows short ≡ put_all (a ∷ b ∷ []) []) }
+    ensures len { IfSome result (λ short. length (short_rows short) ≡ 2) }
 {
-    if !before.0.is_before(row.0) {
-        return None;
+    let first = few::row_of(a.0, a.1)?;
+    let row = few::row_of(b.0, b.1)?;
+    match value_in(&first, b.0) {
+        Some(_) => None,
+        None => Some(two(first, row)),
     }
-    few::row_of(row.0, row.1)
+}
+
+/// `two_of` of three.
+#[inline(always)]
+fn three_of<V: Copy>(a: (Name, V), b: (Name, V), c: (Name, V)) -> Option<Short<V>>
+    ensures put { IfSome result (λ short. short_rows short ≡ put_all (a ∷ b ∷ c ∷ []) []) }
+    ensures len { IfSome result (λ short. length (short_rows short) ≡ 3) }
+{
+    let Short::Two(first, second) = two_of(a, b)? else {
+        return None;
+    };
+    let row = few::row_of(c.0, c.1)?;
+    match value_in_two(&first, &second, c.0) {
+        Some(_) => None,
+        None => Some(three(first, second, row)),
+    }
+}
+
+/// `two_of` of four; None also where a name isn't tiny.
+#[inline(always)]
+fn four_of<V: Copy>(a: (Name, V), b: (Name, V), c: (Name, V), d: (Name, V)) -> Option<Four<V>>
+    ensures { IfSome result (λ four. rows_of_four four ≡ put_all (a ∷ b ∷ c ∷ d ∷ []) []) }
+{
+    let Short::Three(first, second, third) = three_of(a, b, c)? else {
+        return None;
+    };
+    let row = few::row_of(d.0, d.1)?;
+    match value_in_three(&first, &second, &third, d.0) {
+        Some(_) => None,
+        None => Four::new(first, second, third, row),
+    }
 }
 
 /// Four rows in a list; where a name can't be kept in short, by their indices.

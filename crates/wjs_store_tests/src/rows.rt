@@ -18,7 +18,7 @@ const CHILD: WorldId = WorldId {
 };
 
 /// Names that ascend and some that don't, and one twice.
-const NAMES: [Name; 8] = [
+const NAMES: [Name; 11] = [
     Name::Index(0),
     Name::Index(1),
     Name::Text(TextId(3)),
@@ -27,10 +27,13 @@ const NAMES: [Name; 8] = [
     Name::Index(2),
     Name::Text(TextId(3)),
     Name::Text(TextId(9)),
+    Name::Text(TextId(9)),
+    Name::Text(TextId(40_000)),
+    Name::Text(TextId(8)),
 ];
 
 /// From which place on which names are written, and up to which: none, as many as stand in an object's place, and more.
-const CASES: [(usize, usize); 9] = [
+const CASES: [(usize, usize); 15] = [
     (0, 0),
     (0, 1),
     (1, 3),
@@ -40,6 +43,12 @@ const CASES: [(usize, usize); 9] = [
     (5, 8),
     (0, 4),
     (0, 8),
+    (1, 5),
+    (3, 7),
+    (4, 8),
+    (4, 7),
+    (7, 9),
+    (7, 11),
 ];
 
 /// The rows of a case, each with a value that tells its place.
