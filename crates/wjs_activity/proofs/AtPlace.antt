@@ -8,8 +8,8 @@ use Rattle.wjs_base.proofs.Booleans.{by_bool}
 use Rattle.wjs_io.specs.Streams.{Stream, stream, Got, Stops}
 use Rattle.wjs_io.proofs.Written.{Appends-nil, Appends-then}
 use Rattle.wjs_by_content.specs.Tables.{arena_in}
-use Rattle.wjs_machine.specs.declared.halt.Halt.{Halt}
-use Rattle.wjs_machine.specs.declared.halt.Halt.TheVariants as halts
+use Rattle.wjs_model.specs.declared.halt.Halt.{Halt}
+use Rattle.wjs_model.specs.declared.halt.Halt.TheVariants as halts
 use Rattle.wjs_meaning.specs.Trees.{Tree}
 use Rattle.wjs_alone.specs.Serial.{End}
 use Rattle.wjs_alone.specs.Playing as defined

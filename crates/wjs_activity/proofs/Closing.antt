@@ -11,8 +11,8 @@ use Rattle.wjs_io.proofs.Written.{Appends-nil, Appends-then}
 use Rattle.wjs_by_content.specs.Objects.{Arena}
 use Rattle.wjs_by_content.specs.Tables.{arena_in}
 use Rattle.wjs_heap.specs.declared.heap.Heap.{Heap}
-use Rattle.wjs_machine.specs.declared.halt.Halt.{Halt}
-use Rattle.wjs_machine.specs.declared.halt.Halt.TheVariants as halts
+use Rattle.wjs_model.specs.declared.halt.Halt.{Halt}
+use Rattle.wjs_model.specs.declared.halt.Halt.TheVariants as halts
 use Rattle.wjs_meaning.specs.Deeds.{St}
 use Rattle.wjs_meaning.specs.Programs.{Ending, Done, Threw, StepsSpent}
 use Rattle.wjs_meaning.specs.Trees.{Tree}

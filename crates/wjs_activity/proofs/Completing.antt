@@ -6,8 +6,8 @@ use Rattle.std.proofs.lemmas.Bool.{eqb-true, eqb-false, ne_eqb, cases_eq}
 use Rattle.std.proofs.lemmas.List.Elements.{All-nil, All-cons, All-weaker, All-push}
 use Rattle.wjs_io.specs.Streams.{Stream}
 use Rattle.wjs_by_content.specs.Objects.{Arena}
-use Rattle.wjs_machine.specs.declared.halt.Halt.{Halt}
-use Rattle.wjs_machine.specs.declared.halt.Halt.TheVariants as halts
+use Rattle.wjs_model.specs.declared.halt.Halt.{Halt}
+use Rattle.wjs_model.specs.declared.halt.Halt.TheVariants as halts
 use Rattle.wjs_meaning.specs.Trees.{Tree}
 use Rattle.wjs_alone.specs.Alone.{Copy, Outcome, outcome_of, copy_after, objects_after, printed}
 use Rattle.wjs_alone.specs.Serial.{Run, End, runs_of, run_at, outcomes_by, printed_by, copy_by, ObjectsGrow, IsSerial, out_of, lines_from}

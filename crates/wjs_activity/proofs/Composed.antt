@@ -5,8 +5,8 @@ use Rattle.wjs_io.specs.Streams.{Stream, stream, Got}
 use Rattle.wjs_io.proofs.Written.{Appends-nil, Appends-then}
 use Rattle.wjs_io.proofs.Rising.{later_rise}
 use Rattle.wjs_by_content.specs.Objects.{Arena}
-use Rattle.wjs_machine.specs.declared.halt.Halt.{Halt}
-use Rattle.wjs_machine.specs.declared.halt.Halt.TheVariants as halts
+use Rattle.wjs_model.specs.declared.halt.Halt.{Halt}
+use Rattle.wjs_model.specs.declared.halt.Halt.TheVariants as halts
 use Rattle.wjs_meaning.specs.Trees.{Tree}
 use Rattle.wjs_alone.specs.Alone.{Copy}
 use Rattle.wjs_alone.specs.Serial.{End, runs_of, printed_by}

@@ -5,8 +5,8 @@ use Rattle.wjs_io.specs.Streams.{Stream, Got, GotPrefix, Stops}
 use Rattle.wjs_store.specs.Meaning.{Meaning}
 use Rattle.wjs_by_content.specs.Tables.{arena_in}
 use Rattle.wjs_heap.specs.declared.heap.Heap.{Heap}
-use Rattle.wjs_machine.specs.declared.halt.Halt.{Halt}
-use Rattle.wjs_machine.specs.declared.halt.Halt.TheVariants as halts
+use Rattle.wjs_model.specs.declared.halt.Halt.{Halt}
+use Rattle.wjs_model.specs.declared.halt.Halt.TheVariants as halts
 use Rattle.wjs_meaning.specs.Trees.{Tree}
 use Rattle.wjs_meaning.specs.Programs.{StepsSpent}
 use Rattle.wjs_model.specs.declared.config.Config.{Config}

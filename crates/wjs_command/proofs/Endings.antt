@@ -16,8 +16,8 @@ use Rattle.wjs_model.specs.Soundness.{Sound}
 use Rattle.wjs_start.specs.First.{writes_told}
 use Rattle.wjs_reports.specs.Thrown.{ShowsIn}
 use Rattle.wjs_reports.proofs.Carried.{shows_first}
-use Rattle.wjs_machine.specs.declared.halt.Ending.{Ending as Outcome}
-use Rattle.wjs_machine.specs.declared.halt.Ending.TheVariants as outcomes
+use Rattle.wjs_model.specs.declared.halt.Ending.{Ending as Outcome}
+use Rattle.wjs_model.specs.declared.halt.Ending.TheVariants as outcomes
 use Rattle.wjs_machine.specs.Runs.{output_of, EndsAs, RunsTo}
 use Rattle.wjs_machine.proofs.Running.{stops_longer}
 use Rattle.wjs_options.specs.declared.mode.Mode.{Mode}

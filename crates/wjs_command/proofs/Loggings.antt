@@ -17,8 +17,8 @@ use Rattle.wjs_model.specs.declared.config.Config.{Config}
 use Rattle.wjs_model.specs.declared.loaded.LoadedProgram.{LoadedProgram as Program}
 use Rattle.wjs_model.specs.Units.{unit_in}
 use Rattle.wjs_start.specs.First.{IsNew, writes_told}
-use Rattle.wjs_machine.specs.declared.halt.Ending.{Ending as Outcome}
-use Rattle.wjs_machine.specs.declared.halt.Ending.TheVariants as outcomes
+use Rattle.wjs_model.specs.declared.halt.Ending.{Ending as Outcome}
+use Rattle.wjs_model.specs.declared.halt.Ending.TheVariants as outcomes
 use Rattle.wjs_machine.specs.Runs.{run_of, RunsTo}
 use Rattle.wjs_command.specs.declared.report.Report.{Report}
 use Rattle.wjs_command.specs.declared.report.Stop.{Stop}

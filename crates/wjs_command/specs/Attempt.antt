@@ -27,8 +27,8 @@ use Rattle.wjs_audit.specs.Deeds.{told_of}
 use Rattle.wjs_audit.specs.Recorded.{Recorded}
 use Rattle.wjs_audit.specs.declared.fault.AuditFault.{AuditFault}
 use Rattle.wjs_audit.specs.declared.fault.AuditFault.TheVariants as audits
-use Rattle.wjs_machine.specs.declared.halt.Ending.{Ending as Outcome}
-use Rattle.wjs_machine.specs.declared.halt.Ending.TheVariants as outcomes
+use Rattle.wjs_model.specs.declared.halt.Ending.{Ending as Outcome}
+use Rattle.wjs_model.specs.declared.halt.Ending.TheVariants as outcomes
 use Rattle.wjs_machine.specs.Runs.{run_of}
 use Rattle.wjs_options.specs.Command.{command}
 use Rattle.wjs_options.specs.declared.mode.Mode.{Mode}

@@ -10,3 +10,4 @@ mod values;
 pub use conversions::conversion;
 pub use points::call_after;
 pub use programs::program;
+pub use wjs_direct::body;

@@ -20,8 +20,8 @@ use Rattle.wjs_frames.specs.Reaching.{own_view}
 use Rattle.wjs_frames.proofs.Reaching.{stays_on}
 use Rattle.wjs_machine.specs.Flushing.{FlushesAll}
 use Rattle.wjs_machine.specs.Runs.{run_of, output_of, Reaches, EndsAs, RunsTo, ending_of}
-use Rattle.wjs_machine.specs.declared.halt.Ending.{Ending as Outcome}
-use Rattle.wjs_machine.specs.declared.halt.Ending.TheVariants as outcomes
+use Rattle.wjs_model.specs.declared.halt.Ending.{Ending as Outcome}
+use Rattle.wjs_model.specs.declared.halt.Ending.TheVariants as outcomes
 use Rattle.wjs_machine.proofs.Running.{out_run, pending_first, stops_longer}
 use Rattle.wjs_machine.proofs.Pending.{sound_out, stays_out}
 use Rattle.wjs_machine.proofs.Stepping.{stops_on, prefix_on}

@@ -12,8 +12,8 @@ use Rattle.wjs_frames.specs.Reaching.{Falls, turns_now}
 use Rattle.wjs_frames.proofs.Reaching.{stays_on}
 use Rattle.wjs_machine.specs.Flushing.{after_output}
 use Rattle.wjs_machine.specs.Runs.{run_of, output_of, Advances, Halts, HaltsAfter, Reaches, ReachesStep, weight, weight_by}
-use Rattle.wjs_machine.specs.declared.halt.Halt.{Halt}
-use Rattle.wjs_machine.specs.declared.halt.Halt.TheVariants as halts
+use Rattle.wjs_model.specs.declared.halt.Halt.{Halt}
+use Rattle.wjs_model.specs.declared.halt.Halt.TheVariants as halts
 use Rattle.wjs_machine.proofs.Pending.{stays_out}
 use Rattle.wjs_machine.proofs.Running.{after_both}
 

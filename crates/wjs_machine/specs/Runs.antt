@@ -12,10 +12,10 @@ use Rattle.wjs_model.specs.declared.config.State.TheVariants as states
 use Rattle.wjs_model.specs.Configurations.{rest, Stays, Turned}
 use Rattle.wjs_model.specs.Soundness.{HasValue, Sound}
 use Rattle.wjs_frames.specs.Reaching.{own_view, Falls}
-use Rattle.wjs_machine.specs.declared.halt.Halt.{Halt}
-use Rattle.wjs_machine.specs.declared.halt.Halt.TheVariants as halts
-use Rattle.wjs_machine.specs.declared.halt.Ending.{Ending as Outcome}
-use Rattle.wjs_machine.specs.declared.halt.Ending.TheVariants as outcomes
+use Rattle.wjs_model.specs.declared.halt.Halt.{Halt}
+use Rattle.wjs_model.specs.declared.halt.Halt.TheVariants as halts
+use Rattle.wjs_model.specs.declared.halt.Ending.{Ending as Outcome}
+use Rattle.wjs_model.specs.declared.halt.Ending.TheVariants as outcomes
 use Rattle.wjs_machine.specs.Flushing.{after_output, GoesOut}
 
 -- how a run ended that goes on no more

@@ -2,14 +2,13 @@
 #![tactic(auto)]
 
 mod flush;
-mod halt;
 mod laws;
 mod steps;
 mod turn;
 mod whole;
 
-pub use halt::{Ending, Halt};
 pub use laws::{output_goes_out, output_takes_no_turn};
 pub use steps::step;
 pub use turn::advance;
 pub use whole::run;
+pub use wjs_model::{Ending, Halt};

@@ -5,11 +5,10 @@ ghost use Rattle.wjs_model.specs.Soundness.{Sound};
 ghost use Rattle.wjs_machine.specs.Runs.{Advances, Halts};
 
 use crate::flush::flush;
-use crate::halt::Halt;
 use crate::steps::step;
 use wjs_base::OutOfMemory;
 use wjs_io::Sink;
-use wjs_model::{Config, State};
+use wjs_model::{Config, Halt, State};
 use wjs_store::WorldStore;
 
 /// Takes one turn, and writes pieces of exactly 4,096 bytes until fewer are pending.

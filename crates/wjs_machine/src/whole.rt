@@ -5,10 +5,9 @@ ghost use Rattle.wjs_model.specs.Soundness.{Sound};
 ghost use Rattle.wjs_machine.specs.Runs.{RunsTo, Reaches, ReachesStep, HaltsAfter, ending_of};
 
 use crate::flush::flush_all;
-use crate::halt::{Ending, Halt};
 use crate::turn::advance;
 use wjs_io::Sink;
-use wjs_model::{Config, State};
+use wjs_model::{Config, Ending, Halt, State};
 use wjs_store::WorldStore;
 
 /// Runs a configuration to its end, and writes its output as it comes, in pieces of at most 4,096 bytes.

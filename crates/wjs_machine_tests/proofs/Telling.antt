@@ -19,8 +19,8 @@ use Rattle.wjs_frames.proofs.NodesGrow.{unit_grows}
 use Rattle.wjs_frames.specs.Reaching.{AdmitsOwn}
 use Rattle.wjs_start.specs.First.{writes_told}
 use Rattle.wjs_start.specs.Starting.{Starts}
-use Rattle.wjs_machine.specs.declared.halt.Ending.{Ending as Outcome}
-use Rattle.wjs_machine.specs.declared.halt.Ending.TheVariants as outcomes
+use Rattle.wjs_model.specs.declared.halt.Ending.{Ending as Outcome}
+use Rattle.wjs_model.specs.declared.halt.Ending.TheVariants as outcomes
 use Rattle.wjs_machine.specs.Runs.{run_of, RunsTo}
 use Rattle.wjs_machine_tests.specs.Telling.{told_by_store, HasTold, told_of_run}
 

@@ -8,8 +8,8 @@ use Rattle.wjs_meaning.specs.Programs.{Ending}
 use Rattle.wjs_meaning.specs.Start.{properties}
 use Rattle.wjs_model.specs.declared.config.Config.{Config}
 use Rattle.wjs_start.specs.First.{writes_told}
-use Rattle.wjs_machine.specs.declared.halt.Ending.{Ending as Outcome}
-use Rattle.wjs_machine.specs.declared.halt.Ending.TheVariants as outcomes
+use Rattle.wjs_model.specs.declared.halt.Ending.{Ending as Outcome}
+use Rattle.wjs_model.specs.declared.halt.Ending.TheVariants as outcomes
 use Rattle.wjs_machine.specs.Runs.{run_of}
 
 module _ {S : Type 0} (meaning : S → Meaning) where

@@ -3,6 +3,7 @@
 
 mod config;
 mod frame;
+mod halt;
 mod held;
 mod laws;
 mod loaded;
@@ -13,6 +14,7 @@ mod stack;
 
 pub use config::{Config, State};
 pub use frame::{Activation, Completion, Frame, Frames, Held, Items, Phase, Reference};
+pub use halt::{Ending, Halt};
 pub use laws::{
     ends_go_down, kept_apart_stays, may_be_kept_apart, sound_keeps_apart, start_is_the_run,
 };

@@ -1,6 +1,6 @@
 use Rattle.std.proofs.Common.{subst}
 use Rattle.std.specs.Prelude.{Err}
-use Rattle.wjs_machine.specs.declared.halt.Halt.{Halt}
+use Rattle.wjs_model.specs.declared.halt.Halt.{Halt}
 use Rattle.wjs_activity.specs.Plays.{PlaysOut}
 use Rattle.wjs_activity.proofs.whole.halted.Goals as goal
 
