@@ -11,3 +11,6 @@ pub mod Nested
 pub mod Only
 pub mod Running
 pub mod StandingElements
+pub mod StandingFors
+pub mod Declared
+pub mod StandingVariables

@@ -5,3 +5,4 @@ pub mod Making
 pub mod Proceeding
 pub mod Only
 pub mod Sequences
+pub mod Variables

@@ -23,7 +23,7 @@ pub enum Sequence {
 
 /// The element of a number of the sequence that is the frame's node; None past the last.
 #[inline(always)]
-pub(crate) fn element_of_sequence<S: WorldStore>(
+pub fn element_of_sequence<S: WorldStore>(
     config: &Config<S>,
     frame: &Frame,
     kind: Sequence,
@@ -39,7 +39,7 @@ pub(crate) fn element_of_sequence<S: WorldStore>(
 }
 
 /// The element of a number of the body that is the frame's node; None exactly past the last.
-fn element_at<S: WorldStore>(config: &Config<S>, frame: &Frame, at: u32) -> Option<NodeId>
+pub fn element_at<S: WorldStore>(config: &Config<S>, frame: &Frame, at: u32) -> Option<NodeId>
     ensures { (t : Table) → NextIs (elements_of (node_in t (node_now S.meaning config.now frame.now))) at result }
 {
     match node_of(config, frame) {
@@ -61,7 +61,7 @@ fn program_element_at<S: WorldStore>(config: &Config<S>, frame: &Frame, at: u32)
 }
 
 /// The element of a number of a list, behind which the others come; None past the last.
-fn element_of(elements: &[NodeId], at: u32) -> Option<NodeId>
+pub fn element_of(elements: &[NodeId], at: u32) -> Option<NodeId>
     ensures { NextIs (numbers elements.now) at result }
 {
     listed(elements, at)

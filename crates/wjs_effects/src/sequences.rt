@@ -26,9 +26,10 @@ use wjs_tree::NodeId;
 
 /// How far a sequence has come.
 #[derive(Clone, Copy)]
-pub(crate) enum Reached {
+pub enum Reached {
     /// The element of this number comes next.
     Next(u32),
+    /// The sequence ended so before its last element.
     Ended(Completion),
 }
 
@@ -74,7 +75,7 @@ fn enter_from<S: WorldStore>(
 }
 
 /// Where the frame of a sequence waits for the element before this one.
-fn waiting_point(kind: Sequence, next: u32) -> Point
+pub fn waiting_point(kind: Sequence, next: u32) -> Point
     ensures { result ≡ element_point kind next }
 {
     match kind {
@@ -85,7 +86,7 @@ fn waiting_point(kind: Sequence, next: u32) -> Point
 }
 
 /// How a sequence ends past its last element.
-fn end_of(kind: Sequence) -> Completion
+pub fn end_of(kind: Sequence) -> Completion
     ensures { result ≡ sequence_end kind }
 {
     match kind {
@@ -97,7 +98,7 @@ fn end_of(kind: Sequence) -> Completion
 
 /// How far a sequence comes at once, from the element of a number on. It may go on from wherever this stops, so the bound is none
 /// that counts.
-fn elements_at_once<S: WorldStore>(
+pub fn elements_at_once<S: WorldStore>(
     config: &mut Config<S>,
     frame: &Frame,
     kind: Sequence,

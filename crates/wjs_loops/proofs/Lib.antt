@@ -1,6 +1,4 @@
-pub mod Declared
 pub mod Labelled
-pub mod Standing
 pub mod Storing
 pub mod Walks
 pub mod Knowing

@@ -12,7 +12,7 @@ use Rattle.wjs_model.specs.Soundness.{IsThere, StandsHere, StandsIf}
 use Rattle.wjs_frames.specs.Parts.{node_now}
 use Rattle.wjs_frames.proofs.Parting.{among_right, among_around, stands_here}
 use Rattle.wjs_effects.proofs.Parted.{option_among}
-use Rattle.wjs_loops.proofs.Standing.{maybe_stands}
+use Rattle.wjs_effects.proofs.StandingFors.{maybe_stands}
 
 module _ {S : Type 0} (meaning : S → Meaning) (c : Config S) (f : Frame) (here : IsThere meaning c f) where
   pub part_stands : (n : Node) (j : NodeId) → node_now meaning c f ≡ n → IsAmong (parts n) (j, Around) → StandsHere c f j

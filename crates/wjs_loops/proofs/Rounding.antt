@@ -1,15 +1,7 @@
 -- Where a loop is: what stands there stands later, and ends are handed on.
-use Rattle.std.proofs.Common.{◌≡◌, refl}
-use Rattle.wjs_base.specs.declared.values.Value.{Value as Numbered}
-use Rattle.wjs_base.specs.Text.{Table}
 use Rattle.wjs_store.specs.Meaning.{Meaning}
-use Rattle.wjs_by_content.specs.Values.{Value}
-use Rattle.wjs_meaning.specs.Deeds.{Act, Ret, then_value}
 use Rattle.wjs_model.specs.declared.config.Config.{Config}
 use Rattle.wjs_model.specs.declared.frame.Activation.{Activation as Frame}
-use Rattle.wjs_model.specs.declared.frame.Completion.{Completion}
-use Rattle.wjs_model.specs.declared.frame.Completion.TheVariants as completions
-use Rattle.wjs_model.specs.Contents.{completion_in}
 use Rattle.wjs_frames.specs.Following.{Later}
 use Rattle.wjs_frames.proofs.Parting.{stands_later, stands_if_later}
 use Rattle.wjs_loops.specs.declared.rounds.Position.{Position}
@@ -23,13 +15,3 @@ position_later meaning old new f (Body u s) l h = (stands_if_later meaning old f
 position_later meaning old new f (Within u s at) l h = (stands_if_later meaning old f new u l h.0, stands_later meaning old f new s l h.1)
 position_later meaning old new f (Update u) l h = stands_if_later meaning old f new u l h
 position_later meaning old new f (Ended e) l h = l.completions e h
-
--- a completion that gives no value
-pub value_passes : (go : Value → Act) (t : Table) (e : Completion) → ((v : Numbered) → e ≡ completions.Gives v → ⊥) → then_value go (completion_in t e) ≡ Ret (completion_in t e)
-value_passes go t (completions.Gives v) h = absurd (h v refl)
-value_passes go t (completions.Refers r) h = refl
-value_passes go t completions.Normal h = refl
-value_passes go t (completions.Breaks label) h = refl
-value_passes go t (completions.Continues label) h = refl
-value_passes go t (completions.Returns v) h = refl
-value_passes go t (completions.Throws v) h = refl

@@ -24,9 +24,9 @@ use Rattle.wjs_model.specs.Waiting.{store_variable}
 use Rattle.wjs_frames.specs.Parts.{env_in, node_now, node_among}
 use Rattle.wjs_frames.specs.Doing.{DoesFirst, FailsFirst}
 use Rattle.wjs_frames.specs.Following.{Follows, Later}
-use Rattle.wjs_loops.specs.Variables.{declarators_in}
+use Rattle.wjs_effects.specs.Variables.{declarators_in}
 use Rattle.wjs_heap_steps.proofs.Composing.{env_later}
-use Rattle.wjs_loops.proofs.Declared.{variable_stores}
+use Rattle.wjs_effects.proofs.Declared.{variable_stores}
 
 module _ {S : Type 0} (meaning : S → Meaning) (old mid later : Config S) (r : Result (Unit {0}) OutOfMemory) (f : Frame) (at : ℕ) (place : Found) (name : TextId) (v : NumberedValue) where
   abbrev texts : Table

@@ -4,7 +4,6 @@
 mod above;
 mod assigns;
 mod bodies;
-mod declarators;
 mod for_ins;
 mod fors;
 mod iterations;

@@ -15,11 +15,11 @@ ghost use Rattle.wjs_model.specs.Units.{place_in};
 ghost use Rattle.wjs_model.specs.Waiting.{after_variable, store_variable};
 ghost use Rattle.wjs_frames.specs.Parts.{env_in, node_now};
 ghost use Rattle.wjs_frames.specs.Handling.{Runs, GoesOn};
-ghost use Rattle.wjs_loops.specs.Variables.{declarators_in};
+ghost use Rattle.wjs_effects.specs.Variables.{declarators_in};
 
 use crate::assigns::assign;
-use crate::declarators::initialiser_from;
 use wjs_base::{OutOfMemory, TextId, Value};
+use wjs_effects::initialiser_from;
 use wjs_frames::{Part, enter, finish, node_of};
 use wjs_model::{Completion, Config, Frame, Point, StmtPoint};
 use wjs_quick::enter_quickly;

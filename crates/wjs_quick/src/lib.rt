@@ -14,7 +14,7 @@ mod parts;
 
 pub use enters::{enter_last_quickly, enter_quickly};
 pub use hopes::is_hopeless;
-pub use members::name_there;
+pub use members::{dotted, indexed, name_there};
 pub use numbers::{arithmetic, calculated};
-pub use operators::{is_so, operated};
+pub use operators::{is_of_value, is_so, operated, prefixed};
 pub use parts::{entered_at, quick, quick_entered, value_at};

@@ -18,7 +18,7 @@ use wjs_tree::Spelt;
 
 /// The member of a base by a name. None where it is not to be had at once, and of undefined and null.
 #[inline(always)]
-pub(crate) fn dotted<S: WorldStore>(
+pub fn dotted<S: WorldStore>(
     config: &Config<S>,
     frame: &Frame,
     base: Value,
@@ -43,7 +43,7 @@ pub(crate) fn dotted<S: WorldStore>(
 
 /// The member of a base by a value. None where it is not to be had at once, and where a text would be made for its name.
 #[inline(always)]
-pub(crate) fn indexed<S: WorldStore>(
+pub fn indexed<S: WorldStore>(
     config: &Config<S>,
     frame: &Frame,
     base: Value,

@@ -247,7 +247,7 @@ fn not_same<S: WorldStore>(config: &Config<S>, left: Value, right: Value) -> Opt
 
 /// Whether the operand of an operator before it is entered for its value (section 11.4).
 #[inline(always)]
-pub(crate) fn is_of_value(operator: PrefixOperator) -> bool
+pub fn is_of_value(operator: PrefixOperator) -> bool
     ensures { result ≡ is_of_value operator }
 {
     match operator {
@@ -262,7 +262,7 @@ pub(crate) fn is_of_value(operator: PrefixOperator) -> bool
 
 /// The value with which such an operator ends at once; None where a value that is no number would be converted.
 #[inline(always)]
-pub(crate) fn prefixed<S: WorldStore>(
+pub fn prefixed<S: WorldStore>(
     config: &Config<S>,
     operator: PrefixOperator,
     value: Value,

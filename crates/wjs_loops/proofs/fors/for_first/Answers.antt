@@ -1,5 +1,5 @@
 use Rattle.std.proofs.Common.{◌∙◌}
-use Rattle.wjs_loops.proofs.Standing.{for_stands}
+use Rattle.wjs_effects.proofs.StandingFors.{for_stands}
 use Rattle.wjs_loops.proofs.fors.for_first.Goals as goal
 
 pub for_from-requires-clause-test : goal.for_from-requires-clause-test

@@ -3,7 +3,7 @@ use Rattle.wjs_meaning.specs.Deeds.{then_value}
 use Rattle.wjs_meaning.specs.Loops.{loop_updated}
 use Rattle.wjs_model.specs.declared.frame.Completion.{Completion}
 use Rattle.wjs_model.specs.Contents.{completion_in}
-use Rattle.wjs_loops.proofs.Rounding.{value_passes}
+use Rattle.wjs_effects.proofs.Passing.{value_passes}
 use Rattle.wjs_loops.proofs.rounds.after_update.Goals as goal
 
 pub returns-in-Gives-clause-is : goal.returns-in-Gives-clause-is

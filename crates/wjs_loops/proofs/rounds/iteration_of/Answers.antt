@@ -5,7 +5,7 @@ use Rattle.wjs_meaning.specs.Statements.{again_of}
 use Rattle.wjs_frames.specs.Parts.{env_in}
 use Rattle.wjs_heap_steps.proofs.Peeking.{if_some}
 use Rattle.wjs_loops.proofs.Parts.{part_stands}
-use Rattle.wjs_loops.proofs.Standing.{for_stands}
+use Rattle.wjs_effects.proofs.StandingFors.{for_stands}
 use Rattle.wjs_loops.proofs.rounds.iteration_of.Goals as goal
 
 pub returns-in-Some-While-clause-is : goal.returns-in-Some-While-clause-is

@@ -1,7 +1,7 @@
 use Rattle.std.proofs.lemmas.Result.{MatchResult-at_ok, MatchResult-at_err}
 use Rattle.wjs_step_common.proofs.Following.{follows_as}
 use Rattle.wjs_frames.specs.Parts.{node_now}
-use Rattle.wjs_loops.proofs.Declared.{variable_named, no_variable_stores}
+use Rattle.wjs_effects.proofs.Declared.{variable_named, no_variable_stores}
 use Rattle.wjs_loops.proofs.Storing.{stored_follows, unstored_follows}
 use Rattle.wjs_frames.proofs.Handling.{runs_later}
 use Rattle.wjs_loops.proofs.variables.variable_stored.Goals as goal

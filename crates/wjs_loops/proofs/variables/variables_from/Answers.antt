@@ -4,11 +4,11 @@ use Rattle.wjs_tree.specs.declared.node.Declarator.{Declarator}
 use Rattle.wjs_meaning.specs.Reading.{variable_in}
 use Rattle.wjs_meaning.specs.Statements.{vars_from}
 use Rattle.wjs_frames.specs.Parts.{env_in, node_now}
-use Rattle.wjs_loops.specs.declared.declarators.Initialiser.{Initialiser}
-use Rattle.wjs_loops.specs.Variables.{declarators_in, initialiser_goes}
+use Rattle.wjs_effects.specs.declared.declarators.Initialiser.{Initialiser}
+use Rattle.wjs_effects.specs.Variables.{declarators_in, initialiser_goes}
 use Rattle.wjs_step_common.proofs.Following.{follows_as}
-use Rattle.wjs_loops.proofs.Declared.{found_same, found_enters}
-use Rattle.wjs_loops.proofs.Standing.{value_of, initialiser_stands}
+use Rattle.wjs_effects.proofs.Declared.{found_same, found_enters}
+use Rattle.wjs_effects.proofs.StandingVariables.{value_of, initialiser_stands}
 use Rattle.wjs_loops.proofs.variables.variables_from.Goals as goal
 
 pub returns-in_ok-at-in-Some : goal.returns-in_ok-at-in-Some

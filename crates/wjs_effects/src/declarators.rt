@@ -5,19 +5,21 @@ ghost use Rattle.wjs_base.specs.Text.{Table};
 ghost use Rattle.wjs_meaning.specs.Deeds.{Env};
 ghost use Rattle.wjs_meaning.specs.Reading.{variable_in};
 ghost use Rattle.wjs_meaning.specs.Statements.{vars_from};
-ghost use Rattle.wjs_loops.specs.Variables.{initialiser_goes};
+ghost use Rattle.wjs_effects.specs.Variables.{initialiser_goes};
 
 use wjs_tree::{Declarator, NodeId};
 
 /// An initialiser, and the number of its variable.
 #[derive(Clone, Copy)]
-pub(crate) struct Initialiser {
+pub struct Initialiser {
+    /// The number of its variable among those that the node declares, from 0.
     pub at: usize,
+    /// The expression.
     pub value: NodeId,
 }
 
 /// The first variable with an initialiser from one of a number on.
-pub(crate) fn initialiser_from(declarators: &[Declarator], from: usize) -> Option<Initialiser>
+pub fn initialiser_from(declarators: &[Declarator], from: usize) -> Option<Initialiser>
     ensures goes { (t : Table) (here : ℕ) (env : Env) → let all = map (variable_in t) declarators.now in
         vars_from here from (drop from all) env ≡ initialiser_goes here all result env }
     ensures within { IfSome result (λ x. x.at < length declarators.now) }

@@ -1,6 +1,6 @@
 use Rattle.std.proofs.Common.{◌≤◌, ◌∙◌, length, arith}
-use Rattle.wjs_loops.proofs.Declared.{variable_found, variable_passed, variable_none}
-use Rattle.wjs_loops.proofs.declarators.initialiser_from.Goals as goal
+use Rattle.wjs_effects.proofs.Declared.{variable_found, variable_passed, variable_none}
+use Rattle.wjs_effects.proofs.declarators.initialiser_from.Goals as goal
 
 pub returns-in-Some-clause-goes : goal.returns-in-Some-clause-goes
 returns-in-Some-clause-goes c = λ t here env. c.loop-at.invariant t here env ∙ variable_found t here env c.args.declarators.now c.loop-at.at _ c.in-Some.value c.loop-at-test.true c.in-Some.is

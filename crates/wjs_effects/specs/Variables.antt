@@ -7,7 +7,7 @@ use Rattle.wjs_tree.specs.declared.node.Node.TheVariants as nodes
 use Rattle.wjs_by_content.specs.Values.{Text}
 use Rattle.wjs_meaning.specs.Deeds.{Env, Act, Ret, Eval, AtExpr, Normal, then_value}
 use Rattle.wjs_model.specs.Waiting.{store_variable}
-use Rattle.wjs_loops.specs.declared.declarators.Initialiser.{Initialiser}
+use Rattle.wjs_effects.specs.declared.declarators.Initialiser.{Initialiser}
 
 abbrev pub declarators_in : NumberedNode → List Declarator
 declarators_in (nodes.Var xs end) = xs

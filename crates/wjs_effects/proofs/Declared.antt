@@ -20,8 +20,8 @@ use Rattle.wjs_meaning.specs.Reading.{node_in, variable_in, number}
 use Rattle.wjs_meaning.specs.Statements.{vars_from}
 use Rattle.wjs_model.specs.Lists.{variables_of}
 use Rattle.wjs_model.specs.Waiting.{after_variable, store_variable}
-use Rattle.wjs_loops.specs.declared.declarators.Initialiser.{Initialiser}
-use Rattle.wjs_loops.specs.Variables.{declarators_in, initialiser_goes}
+use Rattle.wjs_effects.specs.declared.declarators.Initialiser.{Initialiser}
+use Rattle.wjs_effects.specs.Variables.{declarators_in, initialiser_goes}
 use Rattle.wjs_step_common.proofs.Parts.{each_at, each_past}
 
 module _ (t : Table) (here : ℕ) (env : Env) (ds : List Declarator) (at : ℕ) where

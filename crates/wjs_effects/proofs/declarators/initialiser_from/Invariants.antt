@@ -4,7 +4,7 @@ use Rattle.wjs_base.specs.Text.{Table}
 use Rattle.wjs_meaning.specs.Deeds.{Env}
 use Rattle.wjs_meaning.specs.Reading.{variable_in}
 use Rattle.wjs_meaning.specs.Statements.{vars_from}
-use Rattle.wjs_loops.proofs.declarators.initialiser_from.Given as goal
+use Rattle.wjs_effects.proofs.declarators.initialiser_from.Given as goal
 
 -- no variable so far has an initialiser
 abbrev pub invariant-loop-at : goal.invariant-loop-at
