@@ -1,8 +1,7 @@
-//! Blocks, expression statements, conditions, `return`, `throw`, `switch`, `try` (ECMA-262, 3rd edition, sections 12.1, 12.4, 12.5,
-//! 12.9, 12.11, 12.13 and 12.14) and `in` ("Worlds: Controlling the Scope of Side Effects", ECOOP 2011, section 2).
+//! Expression statements, conditions, `return`, `throw`, `switch`, `try` (ECMA-262, 3rd edition, sections 12.4, 12.5, 12.9, 12.11, 12.13
+//! and 12.14) and `in` ("Worlds: Controlling the Scope of Side Effects", ECOOP 2011, section 2).
 #![tactic(auto)]
 
-mod blocks;
 mod clauses;
 mod enters;
 mod simple;
@@ -10,7 +9,6 @@ mod switches;
 mod tries;
 mod within;
 
-pub use blocks::{block_from, block_statement, block_value};
 pub use simple::{expr_value, if_test, return_value, throw_value};
 pub use switches::{case_value, clause_statement, switch_value};
 pub use tries::{try_block, try_finally, try_handler};

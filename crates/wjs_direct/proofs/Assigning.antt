@@ -10,7 +10,7 @@ use Rattle.wjs_tree.specs.declared.operators.BinaryOperator.{BinaryOperator}
 use Rattle.wjs_meaning.specs.Deeds.{Env, Completion, Act, Ret, Gives, Sub, then_value}
 use Rattle.wjs_meaning.specs.Expressions.{assign_value, compound_value}
 use Rattle.wjs_meaning.specs.Operators.{operate}
-use Rattle.wjs_meaning.specs.References.{value_of}
+use Rattle.wjs_meaning.specs.References.{value_of, store}
 use Rattle.wjs_meaning.specs.Statements.{return_value}
 use Rattle.wjs_model.specs.declared.config.Config.{Config}
 use Rattle.wjs_model.specs.declared.frame.Activation.{Activation as Frame}
@@ -69,15 +69,15 @@ module _ {S : Type 0} (meaning : S → Meaning) {A : Type 0} (said : Table → A
       (shorten_ended (operate op (value_in t a) (value_in t b) env) (Gives (value_in t v)) (then_value (assign_value (reference_in t q) env)) (ends t more env))) d
 
 module _ {S : Type 0} (meaning : S → Meaning) (c new : Config S) (f : Frame) where
-  -- a store, whose end is that of the assignment
-  pub store_done : (q : NumberedReference) (v : Numbered) (e : Said) (waits : List Frame) (top : Option (Frame × Phase))
-      → Does meaning (λ t. stored (reference_in t q) (value_in t v) (env_in meaning c t f) (Gives (value_in t v))) (λ t. completion_in t e) c new
-      → Evaluates meaning (line_here meaning c f (λ t env. assign_value (reference_in t q) env (value_in t v))) completion_in (Ok e) waits top c new
-  store_done q v e waits top d =
-      shortened meaning completion_in (line_here meaning c f (λ t env. assign_value (reference_in t q) env (value_in t v)))
-      (λ t go. stored (reference_in t q) (value_in t v) (env_in meaning c t f) (Gives (value_in t v)) go) (Ok e) waits top c new
-      (λ t more go. store_shortens (value_in t v) (env_in meaning c t f) (Gives (value_in t v)) go (reference_in t q))
-      (did meaning completion_in (λ t go. stored (reference_in t q) (value_in t v) (env_in meaning c t f) (Gives (value_in t v)) go) e waits top c new d)
+  -- a store, and then an end
+  pub store_done : (q : NumberedReference) (v : Numbered) (last : Said) (e : Said) (waits : List Frame) (top : Option (Frame × Phase))
+      → Does meaning (λ t. stored (reference_in t q) (value_in t v) (env_in meaning c t f) (completion_in t last)) (λ t. completion_in t e) c new
+      → Evaluates meaning (line_here meaning c f (λ t env. store (reference_in t q) (value_in t v) env (Ret (completion_in t last)))) completion_in (Ok e) waits top c new
+  store_done q v last e waits top d =
+      shortened meaning completion_in (line_here meaning c f (λ t env. store (reference_in t q) (value_in t v) env (Ret (completion_in t last))))
+      (λ t go. stored (reference_in t q) (value_in t v) (env_in meaning c t f) (completion_in t last) go) (Ok e) waits top c new
+      (λ t more go. store_shortens (value_in t v) (env_in meaning c t f) (completion_in t last) go (reference_in t q))
+      (did meaning completion_in (λ t go. stored (reference_in t q) (value_in t v) (env_in meaning c t f) (completion_in t last) go) e waits top c new d)
 
 -- ---- what a `return` ends with
 

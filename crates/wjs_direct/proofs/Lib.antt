@@ -5,3 +5,8 @@ pub mod Holdings
 pub mod Calling
 pub mod Entering
 pub mod Assigning
+pub mod Prefixing
+pub mod Membering
+pub mod Looping
+pub mod Behind
+pub mod Declaring

@@ -17,6 +17,11 @@ use Rattle.wjs_model.specs.declared.frame.Reference.{Reference}
 use Rattle.wjs_model.specs.Contents.{reference_in}
 use Rattle.wjs_model.specs.Frames.{latest_first}
 use Rattle.wjs_tree.specs.declared.node.Node.{Node}
+use Rattle.wjs_tree.specs.declared.node.Spelt.{Spelt}
+use Rattle.wjs_tree.specs.declared.operators.PrefixOperator.{PrefixOperator}
+use Rattle.wjs_tree.specs.declared.operators.PrefixOperator.TheVariants as prefix
+use Rattle.wjs_model.specs.declared.point.ExprPoint.{ExprPoint}
+use Rattle.wjs_model.specs.declared.point.ExprPoint.TheVariants as expr
 use Rattle.wjs_meaning.specs.Deeds.{Env, Goal, Completion, Act, Eval, Sub, Refers}
 use Rattle.wjs_meaning.specs.Programs.{entry}
 use Rattle.wjs_model.specs.declared.config.Config.{Config}
@@ -49,6 +54,18 @@ module _ {S : Type 0} (meaning : S → Meaning) where
   -- it is a call of this callee
   abbrev pub IsCallee : Config S → Frame → NodeId → NodeId → Type 0
   IsCallee c f node callee = (arguments : List NodeId) × IsNode c f node (nodes.Call callee arguments)
+
+  -- it is a member by this name
+  abbrev pub IsDot : Config S → Frame → NodeId → Spelt → Type 0
+  IsDot c f node name = (base : NodeId) × IsNode c f node (nodes.Dot base name)
+
+-- where the frame of an operator waits whose operand is entered for its value
+abbrev pub prefix_point : PrefixOperator → ExprPoint
+prefix_point prefix.Plus = expr.PlusValue
+prefix_point prefix.Minus = expr.MinusValue
+prefix_point prefix.BitNot = expr.ComplementValue
+prefix_point prefix.Not = expr.NotValue
+prefix_point _ = expr.VoidValue
 
 -- an object's code is the body at a node of a tree
 abbrev pub IsScript : {S : Type 0} → Config S → ObjId → ℕ → NodeId → Type 0

@@ -1,1 +1,4 @@
 pub mod Deeds
+pub mod Rounds
+pub mod Sequences
+pub mod Variables

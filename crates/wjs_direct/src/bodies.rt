@@ -1,9 +1,7 @@
 //! The bodies of functions (ECMA-262, 3rd edition, sections 10.2.3 and 13.2.1).
 ghost use Rattle.std.specs.Prelude.{◌≡◌, All, [], drop, map};
-ghost use Rattle.wjs_base.specs.Text.{Table};
 ghost use Rattle.wjs_by_content.specs.Tables.{value_in};
 ghost use Rattle.wjs_by_content.specs.Values.{Object};
-ghost use Rattle.wjs_effects.specs.Sequences.{NextIs};
 ghost use Rattle.wjs_meaning.specs.Functions as functions;
 ghost use Rattle.wjs_meaning.specs.Reading.{node_in};
 ghost use Rattle.wjs_meaning.specs.Trees.{elements_of};
@@ -17,16 +15,14 @@ ghost use Rattle.wjs_stopping.specs.Evaluating.{Evaluates, HasOutcome, InMemory}
 ghost use Rattle.wjs_direct.specs.Deeds.{IsScript, line_here};
 
 use crate::holding::body_stops;
-use crate::lists::element_of;
 use crate::statements::statement;
 use wjs_base::{NodeId, ObjId, Value};
-use wjs_frames::node_of;
+use wjs_effects::element_at;
 use wjs_heap_steps::scope_of;
 use wjs_model::{CallPoint, Completion, Config, Frame, Phase, Point, Start};
 use wjs_step_common::number_after;
 use wjs_stopping::{Broken, Stops, stop, waits};
 use wjs_store::WorldStore;
-use wjs_tree::Node;
 use wjs_variables::enter_scope;
 
 /// The body of a function that a script made, whose step is taken.
@@ -167,21 +163,5 @@ pub(crate) fn body_ended<S: WorldStore>(
             let phase = Phase::Given(Point::Call(CallPoint::BodyElement(next)), end);
             Err(stop(config, frame, frame.node(), phase, stops))
         }
-    }
-}
-
-/// The element of a number of the body that is the frame's node; None past the last.
-pub(crate) fn element_at<S: WorldStore>(
-    config: &Config<S>,
-    frame: &Frame,
-    at: u32,
-) -> Option<NodeId>
-    ensures { (t : Table) → NextIs (elements_of (node_in t (node_now S.meaning config.now frame.now))) at result }
-{
-    match node_of(config, frame) {
-        Some(Node::Function(_, _, elements)) => element_of(elements.as_slice(), at),
-        Some(Node::FunctionDecl(_, _, elements)) => element_of(elements.as_slice(), at),
-        Some(Node::Program(elements)) => element_of(elements.as_slice(), at),
-        _ => None,
     }
 }

@@ -22,11 +22,10 @@ ghost use Rattle.wjs_direct.specs.Deeds.{IsCallee, IsScript, entry_here, form_he
 use crate::bodies::body_called;
 use crate::expressions::value;
 use crate::holding::{argument_waits, body_stops, call_stops};
-use crate::lists::element_of;
 use crate::room::may_enter;
 use wjs_arena::Code;
 use wjs_base::{ObjId, OutOfMemory, Value};
-use wjs_effects::reference_at_once;
+use wjs_effects::{element_of, reference_at_once};
 use wjs_frames::node_at;
 use wjs_heap_steps::{code_of, peek_value_of};
 use wjs_members::is_target;

@@ -6,26 +6,26 @@ ghost use Rattle.wjs_base.specs.Text.{Table};
 ghost use Rattle.wjs_by_content.specs.Objects.{object_at};
 ghost use Rattle.wjs_by_content.specs.Tables.{arena_in};
 ghost use Rattle.wjs_effects.specs.Sequences.{NextIs};
-ghost use Rattle.wjs_meaning.specs.Deeds.{AtStmt};
+ghost use Rattle.wjs_meaning.specs.Deeds.{AtStmt, Eval};
 ghost use Rattle.wjs_meaning.specs.Functions as line;
 ghost use Rattle.wjs_meaning.specs.Reading.{node_in};
 ghost use Rattle.wjs_meaning.specs.Trees.{elements_of};
-ghost use Rattle.wjs_model.specs.Contents.{holding_in};
+ghost use Rattle.wjs_model.specs.Contents.{completion_in, holding_in};
 ghost use Rattle.wjs_model.specs.Soundness.{Base, HasObject, HasCompletion, HasValue, IsThere, StandsHere};
 ghost use Rattle.wjs_model.specs.Standing.{IsFunction};
 ghost use Rattle.wjs_frames.specs.Following.{Later};
 ghost use Rattle.wjs_frames.specs.Handling.{Runs, GoesOn, Begins, Resumes};
-ghost use Rattle.wjs_frames.specs.Parts.{node_now};
+ghost use Rattle.wjs_frames.specs.Parts.{node_now, then_at};
 ghost use Rattle.wjs_stopping.specs.Ends.{gives_in};
 ghost use Rattle.wjs_stopping.specs.Evaluating.{Evaluates, HasOutcome, InMemory};
-ghost use Rattle.wjs_direct.specs.Deeds.{form_here};
+ghost use Rattle.wjs_direct.specs.Deeds.{form_here, line_here};
 
-use crate::bodies::{body_ended, element_at, run_body};
+use crate::bodies::{body_ended, run_body};
 use crate::room::ROOM;
-use crate::statements::statement;
+use crate::statements::{by_form, may_evaluate};
 use wjs_arena::Code;
 use wjs_base::{NodeId, ObjId, OutOfMemory, Value};
-use wjs_effects::{Sequence, dropped, run_from};
+use wjs_effects::{dropped, element_at, enter_statement, statement_at_once};
 use wjs_frames::{finish, node_at};
 use wjs_heap_steps::{code_of, scope_of};
 use wjs_model::{CallPoint, Completion, Config, Frame, Point, Start, Trouble};
@@ -152,8 +152,7 @@ fn go_on<S: WorldStore>(config: &mut Config<S>, frame: Frame, from: u32) -> Resu
     }
 }
 
-/// The element of a number, which is this one, and those behind it. For a call that is a statement the frame waits by itself, so that a run
-/// which goes deep by `f();` keeps one frame a call.
+/// The element of a number, which is this one, and those behind it.
 fn go_on_with<S: WorldStore>(
     config: &mut Config<S>,
     frame: Frame,
@@ -166,11 +165,48 @@ fn go_on_with<S: WorldStore>(
     ensures { GoesOn S.meaning frame config.old config.new result (λ t env.
         line.body_from (drop at (elements_of (node_in t (node_now S.meaning config.old frame)))) env) }
 {
-    if is_call(config, &frame, element) {
-        run_from(config, frame, Sequence::Function, at)
-    } else {
-        evaluate_from(config, frame, at, element)
+    let next = number_after(at)?;
+    let done = statement_at_once(config, &frame, element)?;
+    match done {
+        Some(end) => {
+            let mut stops = Stops::new(config.heap.arena.allocator());
+            let value = rest_after(config, &frame, next, end, &mut stops);
+            finish_value(config, frame, value, stops)
+        }
+        None => enter_element(config, frame, next, element),
     }
+}
+
+/// An element that is not done at once, and those from a number on: by its form, or the frame waits for it.
+fn enter_element<S: WorldStore>(
+    config: &mut Config<S>,
+    frame: Frame,
+    next: u32,
+    element: NodeId,
+) -> Result<(), OutOfMemory>
+    requires runs { Runs S.meaning config.old frame }
+    requires body { IsFunction config.old.units.items config.old.heap.arena frame.tree frame.node frame.scope 1 }
+    requires element { StandsHere config.old frame element }
+    ensures { GoesOn S.meaning frame config.old config.new result (λ t env. Eval (AtStmt element.0) env
+        (then_at S.meaning config.old frame (Point.Call (CallPoint.BodyElement next)) t env)) }
+{
+    if is_evaluated(config, &frame, element) {
+        let mut stops = Stops::new(config.heap.arena.allocator());
+        let done = element_and_rest(config, &frame, next, element, &mut stops);
+        finish_value(config, frame, done, stops)
+    } else {
+        let point = Point::Call(CallPoint::BodyElement(next));
+        enter_statement(config, frame, point, element)
+    }
+}
+
+/// Whether an element is evaluated by recursion. A call that is a statement is not: its body's frame waits for it alone, so that a run
+/// which goes deep by `f();` keeps one frame a call.
+fn is_evaluated<S: WorldStore>(config: &Config<S>, frame: &Frame, element: NodeId) -> bool {
+    if is_call(config, frame, element) {
+        return false;
+    }
+    may_evaluate(config, frame, element, ROOM)
 }
 
 /// Whether a statement is a call.
@@ -181,26 +217,7 @@ fn is_call<S: WorldStore>(config: &Config<S>, frame: &Frame, statement: NodeId) 
     }
 }
 
-/// The element of a number, which is this one, and those behind it, by recursion.
-fn evaluate_from<S: WorldStore>(
-    config: &mut Config<S>,
-    frame: Frame,
-    at: u32,
-    element: NodeId,
-) -> Result<(), OutOfMemory>
-    requires runs { Runs S.meaning config.old frame }
-    requires body { IsFunction config.old.units.items config.old.heap.arena frame.tree frame.node frame.scope 1 }
-    requires element { (t : Table) → NextIs (elements_of (node_in t (node_now S.meaning config.old frame))) at (Some element) }
-    ensures { GoesOn S.meaning frame config.old config.new result (λ t env.
-        line.body_from (drop at (elements_of (node_in t (node_now S.meaning config.old frame)))) env) }
-{
-    let next = number_after(at)?;
-    let mut stops = Stops::new(config.heap.arena.allocator());
-    let done = element_and_rest(config, &frame, next, element, &mut stops);
-    finish_value(config, frame, done, stops)
-}
-
-/// An element of a body, and those from a number on.
+/// An element of a body by its form, and those from a number on.
 fn element_and_rest<S: WorldStore>(
     config: &mut Config<S>,
     frame: &Frame,
@@ -219,12 +236,36 @@ fn element_and_rest<S: WorldStore>(
         (λ t env. line.body_next (line.body_from (drop next (elements_of (node_in t (node_now S.meaning config.old frame.now)))) env)))
         gives_in result stops.new.waits stops.new.top config.old config.new }
 {
-    match statement(config, frame, element, ROOM, stops) {
-        Ok(Completion::Normal) => run_body(config, frame, next, ROOM, stops),
-        Ok(end) => body_ended(config, frame, next, end, stops),
+    match by_form(config, frame, element, ROOM, stops) {
+        Ok(end) => rest_after(config, frame, next, end, stops),
         Err(end) => {
             let point = Point::Call(CallPoint::BodyElement(next));
             Err(waits(config, frame, frame.node(), point, end, stops))
         }
+    }
+}
+
+/// The elements of a body from a number on, behind the end of the one before it.
+fn rest_after<S: WorldStore>(
+    config: &mut Config<S>,
+    frame: &Frame,
+    next: u32,
+    end: Completion,
+    stops: &mut Stops,
+) -> Result<Value, Broken>
+    requires base { Base S.meaning config.old }
+    requires there { IsThere S.meaning config.old frame.now }
+    requires body { IsFunction config.old.units.items config.old.heap.arena frame.now.tree frame.now.node frame.now.scope 1 }
+    requires end { HasCompletion config.old end }
+    requires empty { stops.old.waits ≡ [] }
+    ensures later { InMemory result (Later S.meaning config.old config.new) }
+    ensures found { HasOutcome S.meaning HasValue config.new result stops.new.waits stops.new.top }
+    ensures does { Evaluates S.meaning (line_here S.meaning config.old frame.now
+        (λ t env. line.body_next (line.body_from (drop next (elements_of (node_in t (node_now S.meaning config.old frame.now)))) env) (completion_in t end)))
+        gives_in result stops.new.waits stops.new.top config.old config.new }
+{
+    match end {
+        Completion::Normal => run_body(config, frame, next, ROOM, stops),
+        _ => body_ended(config, frame, next, end, stops),
     }
 }

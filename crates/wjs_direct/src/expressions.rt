@@ -10,12 +10,15 @@ ghost use Rattle.wjs_stopping.specs.Evaluating.{Evaluates, HasOutcome, InMemory}
 ghost use Rattle.wjs_direct.specs.Deeds.{IsNode, entry_here, form_here, goal_here, line_here};
 
 use crate::calls::call;
+use crate::choices::{choice, comma};
+use crate::members::{at, dot};
+use crate::prefixes::prefix;
 use crate::room::may_enter;
 use wjs_base::Value;
 use wjs_frames::{Part, node_at};
 use wjs_members::is_target;
 use wjs_model::{Completion, Config, ExprPoint, Frame, Held, Phase, Point, Start};
-use wjs_quick::{operated, quick};
+use wjs_quick::{is_of_value, operated, quick};
 use wjs_step_common::to_boolean;
 use wjs_stopping::{Broken, Stops, stop, stop_holding, waits, waits_holding};
 use wjs_store::WorldStore;
@@ -66,6 +69,9 @@ fn may_evaluate<S: WorldStore>(config: &Config<S>, frame: &Frame, node: NodeId, 
 fn is_known<S: WorldStore>(config: &Config<S>, frame: &Frame, node: NodeId) -> bool {
     match node_at(config, frame, node) {
         Some(Node::Paren(_) | Node::Binary(_, _, _)) => true,
+        Some(Node::Cond(_, _, _) | Node::Comma(_, _)) => true,
+        Some(Node::Dot(_, _) | Node::At(_, _)) => true,
+        Some(Node::Prefix(operator, _)) => is_of_value(*operator),
         Some(Node::Call(callee, _)) => is_target(config, frame, *callee),
         _ => false,
     }
@@ -101,6 +107,26 @@ pub(crate) fn form<S: WorldStore>(
         Some(Node::Call(callee, _)) => {
             let callee = *callee;
             call(config, frame, node, callee, room, stops)
+        }
+        Some(Node::Cond(test, yes, no)) => {
+            let (test, yes, no) = (*test, *yes, *no);
+            choice(config, frame, node, test, yes, no, room, stops)
+        }
+        Some(Node::Comma(first, second)) => {
+            let (first, second) = (*first, *second);
+            comma(config, frame, node, first, second, room, stops)
+        }
+        Some(Node::Prefix(operator, part)) => {
+            let (operator, part) = (*operator, *part);
+            prefix(config, frame, node, operator, part, room, stops)
+        }
+        Some(Node::Dot(base, name)) => {
+            let (base, name) = (*base, *name);
+            dot(config, frame, node, base, name, room, stops)
+        }
+        Some(Node::At(base, index)) => {
+            let (base, index) = (*base, *index);
+            at(config, frame, node, base, index, room, stops)
         }
         _ => Err(stop(config, frame, node, Phase::Ready(Start::Expr), stops)),
     }

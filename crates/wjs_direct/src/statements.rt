@@ -13,8 +13,10 @@ ghost use Rattle.wjs_meaning.specs.Statements as statements;
 ghost use Rattle.wjs_model.specs.Lists.{block_items};
 
 use crate::expressions::value;
+use crate::loops::{for_expression, run_loop};
 use crate::room::may_enter;
 use crate::stores::effect;
+use crate::variables::{for_variables, run_variables};
 use wjs_base::Value;
 use wjs_effects::{dropped, statement_at_once, statement_of_block};
 use wjs_frames::node_at;
@@ -22,7 +24,7 @@ use wjs_model::{Completion, Config, Frame, Phase, Point, Start, StmtPoint};
 use wjs_step_common::{number_after, to_boolean};
 use wjs_stopping::{Broken, Stops, stop, waits};
 use wjs_store::WorldStore;
-use wjs_tree::{Node, NodeId};
+use wjs_tree::{ForInit, Node, NodeId};
 
 /// How a statement ends, in so much room at most: at once, where all its parts have their values at once; else by its form.
 #[cycle(direct)]
@@ -46,6 +48,27 @@ pub(crate) fn statement<S: WorldStore>(
     if let Some(end) = done {
         return Ok(end);
     }
+    by_form(config, frame, node, room, stops)
+}
+
+/// How a statement ends by its form, in so much room at most.
+#[cycle(direct)]
+pub(crate) fn by_form<S: WorldStore>(
+    config: &mut Config<S>,
+    frame: &Frame,
+    node: NodeId,
+    room: u16,
+    stops: &mut Stops,
+) -> Result<Completion, Broken>
+    requires base { Base S.meaning config.old }
+    requires there { IsThere S.meaning config.old frame.now }
+    requires node { StandsHere config.old frame.now node }
+    requires empty { stops.old.waits ≡ [] }
+    ensures later { InMemory result (Later S.meaning config.old config.new) }
+    ensures found { HasOutcome S.meaning HasCompletion config.new result stops.new.waits stops.new.top }
+    ensures does { Evaluates S.meaning (goal_here S.meaning config.old frame.now (AtStmt node.0))
+        completion_in result stops.new.waits stops.new.top config.old config.new }
+{
     if !may_evaluate(config, frame, node, room) {
         return Err(stop(config, frame, node, Phase::Due(Start::Stmt), stops));
     }
@@ -55,7 +78,12 @@ pub(crate) fn statement<S: WorldStore>(
 
 /// Whether a statement may be entered here: there is a step and room for it, and it is of a form that is evaluated here. Every other
 /// one is left to a frame, before its step.
-fn may_evaluate<S: WorldStore>(config: &Config<S>, frame: &Frame, node: NodeId, room: u16) -> bool
+pub(crate) fn may_evaluate<S: WorldStore>(
+    config: &Config<S>,
+    frame: &Frame,
+    node: NodeId,
+    room: u16,
+) -> bool
     ensures left { result ≡ true → 0 < config.now.left }
     ensures room { result ≡ true → 8 ≤ room }
 {
@@ -68,10 +96,13 @@ fn may_evaluate<S: WorldStore>(config: &Config<S>, frame: &Frame, node: NodeId, 
 
 /// Whether a statement is of a form that is evaluated here.
 fn is_known<S: WorldStore>(config: &Config<S>, frame: &Frame, node: NodeId) -> bool {
-    matches!(
-        node_at(config, frame, node),
-        Some(Node::Expr(_, _) | Node::If(_, _, _) | Node::Return(Some(_), _) | Node::Block(_))
-    )
+    match node_at(config, frame, node) {
+        Some(Node::Expr(_, _) | Node::Return(Some(_), _) | Node::Var(_, _)) => true,
+        Some(Node::If(_, _, _) | Node::Block(_) | Node::While(_, _) | Node::For(_, _, _, _)) => {
+            true
+        }
+        _ => false,
+    }
 }
 
 /// What follows the step of its entry.
@@ -106,6 +137,23 @@ pub(crate) fn statement_form<S: WorldStore>(
             result_of(config, frame, node, e, room, stops)
         }
         Some(Node::Block(_)) => run_block(config, frame, node, 0, room, stops),
+        Some(Node::Var(_, _)) => run_variables(config, frame, node, 0, room, stops),
+        Some(Node::While(test, body)) => {
+            let (test, body) = (*test, *body);
+            run_loop(config, frame, node, Some(test), None, body, room, stops)
+        }
+        Some(Node::For(ForInit::Nothing, test, update, body)) => {
+            let (test, update, body) = (*test, *update, *body);
+            run_loop(config, frame, node, test, update, body, room, stops)
+        }
+        Some(Node::For(ForInit::Expr(e), test, update, body)) => {
+            let (e, test, update, body) = (*e, *test, *update, *body);
+            for_expression(config, frame, node, e, test, update, body, room, stops)
+        }
+        Some(Node::For(ForInit::Var(_), test, update, body)) => {
+            let (test, update, body) = (*test, *update, *body);
+            for_variables(config, frame, node, test, update, body, room, stops)
+        }
         _ => Err(stop(config, frame, node, Phase::Ready(Start::Stmt), stops)),
     }
 }

@@ -1,15 +1,11 @@
 //! The bodies of programs (ECMA-262, 3rd edition, sections 10.2.1 and 14).
-ghost use Rattle.std.specs.Prelude.{drop};
 ghost use Rattle.wjs_meaning.specs.Deeds.{Eval, AtProgram, Ret};
-ghost use Rattle.wjs_meaning.specs.Functions as line;
-ghost use Rattle.wjs_meaning.specs.Reading.{node_in};
-ghost use Rattle.wjs_model.specs.Lists.{program_elements};
 ghost use Rattle.wjs_model.specs.Soundness.{HasCompletion};
-ghost use Rattle.wjs_frames.specs.Parts.{node_now};
 ghost use Rattle.wjs_frames.specs.Handling.{Runs, GoesOn, Begins, Resumes};
 
 use wjs_base::OutOfMemory;
-use wjs_effects::{Sequence, dropped, run_from};
+use wjs_direct::run_elements;
+use wjs_effects::{Sequence, dropped};
 use wjs_frames::{due_later, finish};
 use wjs_model::{CallPoint, Completion, Config, Frame, Point, Start};
 use wjs_store::WorldStore;
@@ -25,7 +21,7 @@ pub fn program<S: WorldStore>(config: &mut Config<S>, frame: Frame) -> Result<()
     let tree = frame.tree();
     frame.set_node(tree, body);
     declare_program(config, &frame)?;
-    run_program(config, frame, 0)
+    run_elements(config, frame, Sequence::Program, 0)
 }
 
 /// After the program before it the body is entered, unless that one threw.
@@ -64,7 +60,7 @@ pub(crate) fn after_program_element<S: WorldStore>(
     ensures { Resumes S.meaning frame (Point.Call (CallPoint.ProgramElement next)) completion config.old config.new result }
 {
     match completion {
-        Completion::Normal => run_program(config, frame, next),
+        Completion::Normal => run_elements(config, frame, Sequence::Program, next),
         _ => finish(config, frame, completion),
     }
 }
@@ -81,17 +77,4 @@ pub(crate) fn after_program_value<S: WorldStore>(
     ensures { Resumes S.meaning frame (Point.Call (CallPoint.ProgramValue next)) completion config.old config.new result }
 {
     after_program_element(config, frame, next, dropped(completion))
-}
-
-/// The elements of a program from one on.
-fn run_program<S: WorldStore>(
-    config: &mut Config<S>,
-    frame: Frame,
-    from: u32,
-) -> Result<(), OutOfMemory>
-    requires runs { Runs S.meaning config.old frame }
-    ensures { GoesOn S.meaning frame config.old config.new result (λ t env.
-        line.program_from (drop from (program_elements (node_in t (node_now S.meaning config.old frame)))) env) }
-{
-    run_from(config, frame, Sequence::Program, from)
 }

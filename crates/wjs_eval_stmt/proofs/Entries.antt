@@ -18,7 +18,7 @@ use Rattle.wjs_frames.proofs.Places.{node_known}
 use Rattle.wjs_eval_stmt.specs.Beginnings.{CanBegin, beginning_of, goes}
 use Rattle.wjs_effects.proofs.Lines.{label_there}
 use Rattle.wjs_loops.proofs.Parts.{part_stands, other_stands, last_stands}
-use Rattle.wjs_loops.proofs.Standing.{for_stands}
+use Rattle.wjs_effects.proofs.StandingFors.{for_stands}
 
 pub begins_same : (t : Table) (here : ℕ) (n : Node) (held : Holding) (env : Env) → goes t here (node_in t n) held env (beginning_of n) ≡ stmt_of here (node_in t n) env
 begins_same t here (nodes.Block ss) held env = refl

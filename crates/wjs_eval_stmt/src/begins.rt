@@ -9,9 +9,9 @@ ghost use Rattle.wjs_frames.specs.Parts.{goal_of, env_in, node_of, then_at};
 ghost use Rattle.wjs_frames.specs.Handling.{Runs, Begins, GoesOn};
 
 use crate::beginnings::{Beginning, beginning_of};
+use crate::blocks::block_from;
 use crate::resumes::stmt_after;
 use wjs_base::{OutOfMemory, Value};
-use wjs_blocks::block_from;
 use wjs_frames::{Part, enter, finish, node_of};
 use wjs_loops::{for_again, for_from, for_variables, stmt_iteration, variables_from, while_again};
 use wjs_model::{Completion, Config, Frame, Point, Start, StmtPoint};

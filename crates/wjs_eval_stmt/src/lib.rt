@@ -4,6 +4,8 @@
 
 mod beginnings;
 mod begins;
+mod blocks;
+mod loops;
 mod resumes;
 
 pub use begins::{again, statement, variables};

@@ -2,7 +2,8 @@
 ghost use Rattle.std.specs.Prelude.{◌≡◌, OnOk, Err};
 ghost use Rattle.wjs_base.specs.Text.{Table};
 ghost use Rattle.wjs_meaning.specs.Deeds.{Ret};
-ghost use Rattle.wjs_model.specs.Soundness.{HasValue};
+ghost use Rattle.wjs_model.specs.Contents.{completion_in};
+ghost use Rattle.wjs_model.specs.Soundness.{HasCompletion, HasValue};
 ghost use Rattle.wjs_frames.specs.Following.{Follows};
 ghost use Rattle.wjs_frames.specs.Handling.{IsRunning};
 ghost use Rattle.wjs_stopping.specs.Ends.{gives_in};
@@ -29,6 +30,24 @@ pub fn finish_value<S: WorldStore>(
 {
     match done {
         Ok(value) => finish(config, frame, Completion::Gives(value)),
+        Err(end) => finish_broken(config, frame, end, stops),
+    }
+}
+
+/// The frame ends as its statement did, or what stopped is put in its place.
+pub fn finish_end<S: WorldStore>(
+    config: &mut Config<S>,
+    frame: Frame,
+    done: Result<Completion, Broken>,
+    stops: Stops,
+) -> Result<(), OutOfMemory>
+    requires running { InMemory done (IsRunning S.meaning config.old) }
+    requires outcome { HasOutcome S.meaning HasCompletion config.old done stops.waits stops.top }
+    ensures memory { OnOk result (HasMemory done) }
+    ensures follows { OnOk result (Follows S.meaning (outcome_in S.meaning config.old completion_in done stops.waits stops.top config.new.heap.texts Ret) config.old config.new) }
+{
+    match done {
+        Ok(end) => finish(config, frame, end),
         Err(end) => finish_broken(config, frame, end, stops),
     }
 }

@@ -9,7 +9,7 @@ mod list;
 mod stops;
 
 pub use ends::Broken;
-pub use finish::finish_value;
+pub use finish::{finish_end, finish_value};
 pub use laws::{
     due_stops, entry_is_paid, form_is_line, form_is_nested, frames_do_what_stopped,
     frames_take_no_more_turns, given_stops, line_ends, part_goes_on, part_waits, stopped_are_kept,

@@ -1,18 +1,29 @@
-use Rattle.std.proofs.Common.{◌≡◌, ◌-◌, rules, [], ◌∷◌, Option, None, Some, inl, inr, refl, ap, ◌∙◌, subst, sym, Vec, Global, ℕ, List, ◌++◌}
+use Rattle.std.proofs.Common.{◌≡◌, ◌+◌, ◌-◌, true, rules, [], ◌∷◌, Option, None, Some, inl, inr, refl, ap, ◌∙◌, subst, sym, Vec, Global, ℕ, List, ◌++◌}
 use Rattle.std.specs.Prelude.{Ok, Err, IfNone, IfSome, map, All}
 use Rattle.std.proofs.lemmas.List.Elements.{All-nil, All-push, All-same}
-use Rattle.wjs_base.specs.Text.{Table}
+use Rattle.wjs_base.specs.Text.{Has, Table}
+use Rattle.wjs_base.proofs.TextLaws.{Grows-Has}
 use Rattle.wjs_base.specs.declared.ids.NodeId.{NodeId}
 use Rattle.wjs_base.specs.declared.values.Value.{Value}
+use Rattle.wjs_base.specs.declared.values.Value.TheVariants as values
 use Rattle.wjs_arena.specs.Entries.{Entry}
 use Rattle.wjs_by_content.specs.Tables.{value_in}
-use Rattle.wjs_by_content.specs.Values.{Object}
-use Rattle.wjs_meaning.specs.Deeds.{AtExpr, AtStmt, then_value, AtTarget, then_reference, Gives, Ret}
+use Rattle.wjs_by_content.specs.Values.{Object, Value as Content}
+use Rattle.wjs_tree.specs.Operators.{compound}
+use Rattle.wjs_tree.specs.declared.operators.BinaryOperator.{BinaryOperator}
+use Rattle.wjs_tree.specs.declared.node.Node.TheVariants as nodes
+use Rattle.wjs_tree.specs.declared.node.ForInit.{ForInit}
+use Rattle.wjs_tree.specs.declared.node.ForInit.TheVariants as inits
+use Rattle.wjs_meaning.specs.Deeds.{AtExpr, AtStmt, then_normal, then_value, AtTarget, then_reference, Gives, Ret, Again, Act, Sub, Env, Completion as Meant}
 use Rattle.wjs_meaning.specs.Programs.{entry}
-use Rattle.wjs_meaning.specs.Reading.{number, node_in}
+use Rattle.wjs_meaning.specs.Reading.{number, node_in, spelt_in}
 use Rattle.wjs_meaning.specs.Functions.{body_of}
-use Rattle.wjs_meaning.specs.Expressions.{call_reference, call_values}
+use Rattle.wjs_meaning.specs.Expressions.{call_reference, call_values, expr_at}
 use Rattle.wjs_meaning.specs.Calls.{call}
+use Rattle.wjs_meaning.specs.Expressions as line
+use Rattle.wjs_meaning.specs.Statements as statements
+use Rattle.wjs_meaning.specs.Loops as loops
+use Rattle.wjs_meaning.specs.Statements.{iteration_from, stmt_at}
 use Rattle.wjs_model.specs.declared.frame.Completion.{Completion}
 use Rattle.wjs_model.specs.Contents.{completion_in, reference_in}
 use Rattle.wjs_model.specs.Lists.{block_items, arguments_of}
@@ -22,41 +33,7 @@ use Rattle.wjs_model.specs.declared.frame.Activation.{Activation as Frame}
 use Rattle.wjs_model.specs.declared.frame.Reference.{Reference}
 use Rattle.wjs_model.specs.declared.loaded.LoadedProgram.{LoadedProgram as Program}
 use Rattle.wjs_model.specs.Operands.{evaluated}
-use Rattle.wjs_frames.specs.Doing.{Does}
-use Rattle.wjs_frames.specs.Parts.{env_in, node_among}
-use Rattle.wjs_frames.proofs.OperandLines.{expr_is}
-use Rattle.wjs_frames.proofs.Parting.{stands_here, stands_if_later, stands_later}
-use Rattle.wjs_frames.specs.Following.{Later}
-use Rattle.wjs_frames.proofs.Shorter.{shorten_sub}
-use Rattle.wjs_heap_steps.proofs.Later.{later_same, later_twice}
-use Rattle.wjs_heap_steps.specs.Peeking.{Peeks}
-use Rattle.wjs_quick.proofs.Coming.{ends_as, later_left, one_less}
-use Rattle.wjs_quick.proofs.Operations.{left_is_held, and_goes_on, and_ends, or_goes_on, or_ends}
-use Rattle.wjs_effects.specs.Sequences.{NextIs}
-use Rattle.wjs_effects.proofs.Leaving.{shorten_as}
-use Rattle.wjs_effects.proofs.Lines.{stmt_is, if_yes, if_no}
-use Rattle.wjs_effects.proofs.Running.{statement_is}
-use Rattle.wjs_effects.proofs.StandingElements.{element_stands, sequence_later}
-use Rattle.wjs_variables.proofs.StandingBodies.{function_at}
-use Rattle.wjs_stopping.specs.Ends.{gives_in}
-use Rattle.wjs_stopping.specs.Evaluating.{Evaluates, HasBroken, HasOutcome, InMemory, Leaves, outcome_in}
-use Rattle.wjs_stopping.specs.Waiting.{WaitsAt, at_node}
-use Rattle.wjs_direct.specs.Deeds.{IsCallee, goal_here, line_here, refers_in, call_held}
-use Rattle.wjs_direct.proofs.Forming.{form_goes_on, line_ended, node_there}
-use Rattle.wjs_direct.proofs.Parts.{broke_does, broke_found, broke_later, did, due_does, else_stands, form_ends, later_stopped, later_then, line_as, line_form, line_last, ready_does, step_does, stepped, stop_found, given_does, shortened}
-use Rattle.wjs_direct.proofs.Elements.{block_begins, element_form, element_passed, element_then, not_normal, rest_all, rest_ended, rest_from, then_moved, waits_then}
-use Rattle.wjs_direct.proofs.Entering.{body_ready_there, body_looked, body_ready, body_inside}
-use Rattle.wjs_direct.proofs.Calling.{callee_stands, call_entered, callee_waits, reference_read, argument_stands, values_later, values_left, values_first, argument_given, argument_broken, arguments_done, call_looks, call_does, script_entered, body_does, body_found, body_paid}
-use Rattle.wjs_direct.proofs.Holdings.{call_there}
-use Rattle.wjs_tree.specs.Operators.{compound}
-use Rattle.wjs_tree.specs.declared.operators.BinaryOperator.{BinaryOperator}
-use Rattle.wjs_effects.proofs.Only.{dropped_is, dropped_there}
-use Rattle.wjs_direct.proofs.Assigning.{broken_as, read_then, returned_is, returned_there}
 use Rattle.wjs_model.specs.Standing.{IsFunction}
-use Rattle.wjs_base.specs.declared.values.Value.TheVariants as values
-use Rattle.wjs_tree.specs.declared.node.Node.TheVariants as nodes
-use Rattle.wjs_meaning.specs.Expressions as line
-use Rattle.wjs_meaning.specs.Statements as statements
 use Rattle.wjs_model.specs.declared.frame.Held.TheVariants as holds
 use Rattle.wjs_model.specs.declared.frame.Completion.TheVariants as completions
 use Rattle.wjs_model.specs.declared.frame.Phase.TheVariants as phases
@@ -65,8 +42,48 @@ use Rattle.wjs_model.specs.declared.point.Point.TheVariants as points
 use Rattle.wjs_model.specs.declared.point.ExprPoint.TheVariants as expr
 use Rattle.wjs_model.specs.declared.point.StmtPoint.TheVariants as stmt
 use Rattle.wjs_model.specs.declared.point.CallPoint.TheVariants as call_point
+use Rattle.wjs_frames.specs.Doing.{Does}
+use Rattle.wjs_frames.specs.Parts.{env_in, node_among}
+use Rattle.wjs_frames.proofs.OperandLines.{expr_is}
+use Rattle.wjs_frames.proofs.Parting.{stands_here, stands_if_later, stands_later}
+use Rattle.wjs_frames.specs.Following.{Later}
+use Rattle.wjs_frames.proofs.Shorter.{shorten_sub}
 use Rattle.wjs_frames.specs.declared.part.Part.TheVariants as part
+use Rattle.wjs_heap_steps.proofs.Later.{later_same, later_twice}
+use Rattle.wjs_heap_steps.specs.Peeking.{Peeks}
+use Rattle.wjs_quick.proofs.Coming.{ends_as, later_left, one_less}
+use Rattle.wjs_quick.specs.Operating.{after_prefix, is_of_value}
+use Rattle.wjs_direct.proofs.Membering.{dot_later, dot_waits}
+use Rattle.wjs_model.specs.declared.point.Purpose.TheVariants as purposes
+use Rattle.wjs_direct.proofs.Prefixing.{prefix_stands, prefix_waits}
+use Rattle.wjs_quick.proofs.Operations.{prefix_is, left_is_held, and_goes_on, and_ends, or_goes_on, or_ends}
+use Rattle.wjs_effects.specs.Sequences.{NextIs}
+use Rattle.wjs_effects.proofs.Leaving.{shorten_as}
+use Rattle.wjs_effects.proofs.Lines.{stmt_is, if_yes, if_no}
+use Rattle.wjs_effects.proofs.Running.{statement_is}
+use Rattle.wjs_effects.proofs.StandingElements.{element_stands, sequence_later}
+use Rattle.wjs_effects.proofs.Only.{dropped_is, dropped_there}
 use Rattle.wjs_effects.specs.declared.elements.Sequence.TheVariants as kinds
+use Rattle.wjs_effects.proofs.Passing.{value_passes}
+use Rattle.wjs_effects.proofs.StandingFors.{for_stands}
+use Rattle.wjs_variables.proofs.StandingBodies.{function_at}
+use Rattle.wjs_stopping.specs.Ends.{gives_in}
+use Rattle.wjs_stopping.specs.Evaluating.{Evaluates, HasBroken, HasOutcome, InMemory, Leaves, outcome_in}
+use Rattle.wjs_stopping.specs.Waiting.{WaitsAt, at_node}
+use Rattle.wjs_direct.specs.Deeds.{IsCallee, IsNode, goal_here, line_here, refers_in, call_held, entry_here, form_here}
+use Rattle.wjs_stopping.proofs.Evaluating.{in_memory, leaves_all}
+use Rattle.wjs_direct.proofs.Forming.{form_goes_on, line_ended, node_there}
+use Rattle.wjs_direct.proofs.Parts.{broke_does, broke_found, broke_later, did, due_does, else_stands, form_ends, later_stopped, later_then, line_as, line_form, line_last, ready_does, step_does, stepped, stop_found, given_does, shortened}
+use Rattle.wjs_direct.proofs.Elements.{block_begins, element_form, element_passed, element_then, not_normal, rest_all, rest_ended, rest_from, then_moved, waits_then}
+use Rattle.wjs_direct.proofs.Entering.{body_ready_there, body_looked, body_ready, body_inside}
+use Rattle.wjs_direct.proofs.Calling.{callee_stands, call_entered, callee_waits, reference_read, argument_stands, values_later, values_left, values_first, argument_given, argument_broken, arguments_done, call_looks, call_does, script_entered, body_does, body_found, body_paid}
+use Rattle.wjs_direct.proofs.Holdings.{call_there}
+use Rattle.wjs_direct.proofs.Declaring.{all_passed, declares_later, for_begins, for_variables_then, nested_broke, nested_left, next_as, next_broke, next_ended, next_passed, value_next, value_waits, var_begins, variable_begins, variable_passed, variable_stands}
+use Rattle.wjs_direct.proofs.Assigning.{broken_as, read_then, returned_is, returned_there}
+use Rattle.wjs_direct.proofs.Looping.{while_loops, after_is, entry_broke, entry_left, for_first_then, for_loops, if_here, if_stands, line_begins, line_same, loop_later, part_left, round_begun, round_behind, round_due, round_ended, round_there, round_updated, test_fails, test_holds}
+use Rattle.wjs_direct.specs.declared.loops.After.TheVariants as afters
+use Rattle.wjs_direct.specs.Rounds.{HasRound, IsLoop, round_left}
+use Rattle.wjs_direct.specs.Variables.{Declares, DeclaresFirst, variable_valued, variables_left}
 use Rattle.wjs_direct.proofs.+direct.Goals as goal
 
 -- ---- expressions
@@ -355,54 +372,71 @@ statements::statement-returns-in-Some-clause-found g t c =
     let H : Option Completion → Type 0 = λ o. IfSome o (λ e. HasCompletion c.statement_at_once.new.config e) in
     (subst H c.in-Some.is c.in_ok-done.ensures.found, c.requires.empty)
 
--- not entered
-pub statements::statement-returns-then-not-may_evaluate-clause-later : goal.statements::statement-returns-then-not-may_evaluate-clause-later
-statements::statement-returns-then-not-may_evaluate-clause-later g t c =
-    let same = subst (λ (o : Option Completion). IfNone o (c.statement_at_once.new.config ≡ c.args.config.now)) c.in_default.is c.in_ok-done.ensures.same in
-    later_stopped g.S.WorldStore.meaning {A = Completion} c.args.config.now c.stop.new.config (Err c.stop.result) c.requires.base (c.stop.ensures.same ∙ same)
-
-pub statements::statement-returns-then-not-may_evaluate-clause-found : goal.statements::statement-returns-then-not-may_evaluate-clause-found
-statements::statement-returns-then-not-may_evaluate-clause-found g t c =
-    let same = subst (λ (o : Option Completion). IfNone o (c.statement_at_once.new.config ≡ c.args.config.now)) c.in_default.is c.in_ok-done.ensures.same in
-    let s = c.stop.new.stops in
-    stop_found g.S.WorldStore.meaning c.args.config.now c.stop.new.config c.args.frame.now c.args.node [] (phases.Due starts.Stmt) c.stop.result s.waits s.top (c.stop.ensures.same ∙ same)
-    c.requires.there c.requires.node tt tt c.stop.ensures.stops
-
-pub statements::statement-returns-then-not-may_evaluate-clause-does : goal.statements::statement-returns-then-not-may_evaluate-clause-does
-statements::statement-returns-then-not-may_evaluate-clause-does g t c =
-    let same = subst (λ (o : Option Completion). IfNone o (c.statement_at_once.new.config ≡ c.args.config.now)) c.in_default.is c.in_ok-done.ensures.same in
-    let s = c.stop.new.stops in
-    due_does g.S.WorldStore.meaning completion_in c.args.config.now c.stop.new.config c.args.frame.now c.stop.result s.waits s.top (c.stop.ensures.same ∙ same) (part.Stmt c.args.node) c.stop.ensures.stops
-
--- entered
-pub statements::statement-statement_form-requires : goal.statements::statement-statement_form-requires
-statements::statement-statement_form-requires g t c =
-    let same = subst (λ (o : Option Completion). IfNone o (c.statement_at_once.new.config ≡ c.args.config.now)) c.in_default.is c.in_ok-done.ensures.same in
+-- by its form
+pub statements::statement-by_form-requires : goal.statements::statement-by_form-requires
+statements::statement-by_form-requires g t c =
     let m = g.S.WorldStore.meaning in
     let old = c.args.config.now in
     let f = c.args.frame.now in
     let mid = c.statement_at_once.new.config in
-    let now = record mid { left = mid.left - 1 } in
-    let l = stepped m old mid same c.in_ok-done.ensures.later.base in
+    let l = c.in_ok-done.ensures.later in
+    let base : Base m mid = l.base in
+    let there : IsThere m mid f = l.frames f c.requires.there in
+    let node : StandsHere mid f c.args.node = stands_later m old f mid c.args.node l c.requires.node in
+    search (rules, base, there, node)
+
+pub statements::statement-returns-clause-later : goal.statements::statement-returns-clause-later
+statements::statement-returns-clause-later g t c =
+    later_then g.S.WorldStore.meaning c.args.config.now c.statement_at_once.new.config c.by_form.new.config c.by_form.result c.in_ok-done.ensures.later c.by_form.ensures.later
+
+pub statements::statement-returns-clause-does : goal.statements::statement-returns-clause-does
+statements::statement-returns-clause-does g t c =
+    let same = subst (λ (o : Option Completion). IfNone o (c.statement_at_once.new.config ≡ c.args.config.now)) c.in_default.is c.in_ok-done.ensures.same in
+    let m = g.S.WorldStore.meaning in
+    let s = c.by_form.new.stops in
+    subst (λ (x : Config g.row.S.Denot). Evaluates m (goal_here m x c.args.frame.now (AtStmt c.args.node.0)) completion_in c.by_form.result s.waits s.top x c.by_form.new.config) same c.by_form.ensures.does
+
+-- not entered
+pub statements::by_form-returns-then-not-may_evaluate-clause-later : goal.statements::by_form-returns-then-not-may_evaluate-clause-later
+statements::by_form-returns-then-not-may_evaluate-clause-later g t c =
+    later_stopped g.S.WorldStore.meaning {A = Completion} c.args.config.now c.stop.new.config (Err c.stop.result) c.requires.base c.stop.ensures.same
+
+pub statements::by_form-returns-then-not-may_evaluate-clause-found : goal.statements::by_form-returns-then-not-may_evaluate-clause-found
+statements::by_form-returns-then-not-may_evaluate-clause-found g t c =
+    let s = c.stop.new.stops in
+    stop_found g.S.WorldStore.meaning c.args.config.now c.stop.new.config c.args.frame.now c.args.node [] (phases.Due starts.Stmt) c.stop.result s.waits s.top c.stop.ensures.same
+    c.requires.there c.requires.node tt tt c.stop.ensures.stops
+
+pub statements::by_form-returns-then-not-may_evaluate-clause-does : goal.statements::by_form-returns-then-not-may_evaluate-clause-does
+statements::by_form-returns-then-not-may_evaluate-clause-does g t c =
+    let s = c.stop.new.stops in
+    due_does g.S.WorldStore.meaning completion_in c.args.config.now c.stop.new.config c.args.frame.now c.stop.result s.waits s.top c.stop.ensures.same (part.Stmt c.args.node) c.stop.ensures.stops
+
+-- entered
+pub statements::by_form-statement_form-requires : goal.statements::by_form-statement_form-requires
+statements::by_form-statement_form-requires g t c =
+    let m = g.S.WorldStore.meaning in
+    let old = c.args.config.now in
+    let f = c.args.frame.now in
+    let now = record old { left = old.left - 1 } in
+    let l = later_left m old (old.left - 1) c.requires.base in
     let some = c.may_evaluate.ensures.room c.if-not-may_evaluate.false in
     let base : Base m now = l.base in
     let there : IsThere m now f = l.frames f c.requires.there in
     let node : StandsHere now f c.args.node = stands_later m old f now c.args.node l c.requires.node in
     search (rules, some, base, there, node)
 
-pub statements::statement-returns-clause-later : goal.statements::statement-returns-clause-later
-statements::statement-returns-clause-later g t c =
-    let same = subst (λ (o : Option Completion). IfNone o (c.statement_at_once.new.config ≡ c.args.config.now)) c.in_default.is c.in_ok-done.ensures.same in
+pub statements::by_form-returns-clause-later : goal.statements::by_form-returns-clause-later
+statements::by_form-returns-clause-later g t c =
     let m = g.S.WorldStore.meaning in
     let old = c.args.config.now in
-    let mid = c.statement_at_once.new.config in
-    later_then m old (record mid { left = mid.left - 1 }) c.statement_form.new.config c.statement_form.result (stepped m old mid same c.in_ok-done.ensures.later.base) c.statement_form.ensures.later
+    later_then m old (record old { left = old.left - 1 }) c.statement_form.new.config c.statement_form.result (later_left m old (old.left - 1) c.requires.base) c.statement_form.ensures.later
 
-pub statements::statement-returns-clause-does : goal.statements::statement-returns-clause-does
-statements::statement-returns-clause-does g t c =
-    let same = subst (λ (o : Option Completion). IfNone o (c.statement_at_once.new.config ≡ c.args.config.now)) c.in_default.is c.in_ok-done.ensures.same in
+pub statements::by_form-returns-clause-does : goal.statements::by_form-returns-clause-does
+statements::by_form-returns-clause-does g t c =
+    let old = c.args.config.now in
     let s = c.statement_form.new.stops in
-    step_does g.S.WorldStore.meaning completion_in c.args.config.now c.statement_at_once.new.config c.statement_form.new.config c.args.frame.now (AtStmt c.args.node.0) c.statement_form.result s.waits s.top same
+    step_does g.S.WorldStore.meaning completion_in old old c.statement_form.new.config c.args.frame.now (AtStmt c.args.node.0) c.statement_form.result s.waits s.top refl
     (c.may_evaluate.ensures.left c.if-not-may_evaluate.false) c.statement_form.ensures.does
 
 -- what follows the step of its entry
@@ -1089,6 +1123,749 @@ statements::result_of-returns-in-Err-clause-does g t c =
     broke_does m Completion Completion c.args.config.now c.effect.new.config c.waits.new.config c.args.frame.now c.args.node [] (points.Stmt stmt.ReturnValue) c.in-Err.end s.waits s.top c.waits.result k.waits k.top
     c.waits.ensures.same c.waits.ensures.waits completion_in completion_in (AtExpr c.args.e.0) (λ t env. then_value statements.return_value) (λ l t env. refl) (λ t env e. refl) c.in-Err.ensures.later c.in-Err.ensures.does
 
+-- ---- members
+
+pub expressions::form-returns-in-Some-Dot-clause-does : goal.expressions::form-returns-in-Some-Dot-clause-does
+expressions::form-returns-in-Some-Dot-clause-does g t c =
+    let m = g.S.WorldStore.meaning in
+    let old = c.args.config.now in
+    let f = c.args.frame.now in
+    let s = c.in-Some-Dot in
+    let k = c.dot.new.stops in
+    line_form m gives_in old c.dot.new.config f (λ t env. entry (AtExpr c.args.node.0) env) c.dot.result k.waits k.top (AtExpr s.base.0) (λ t env. then_value (line.dot_base (spelt_in t s.name) env (line.give_value_of env)))
+    (λ t more. expr_is m old f c.args.node (nodes.Dot s.base s.name) t (s.ensures ∙ s.field-0-is)) c.dot.ensures.does
+
+pub expressions::form-returns-in-Some-At-clause-does : goal.expressions::form-returns-in-Some-At-clause-does
+expressions::form-returns-in-Some-At-clause-does g t c =
+    let m = g.S.WorldStore.meaning in
+    let old = c.args.config.now in
+    let f = c.args.frame.now in
+    let s = c.in-Some-At in
+    let k = c.at.new.stops in
+    line_form m gives_in old c.at.new.config f (λ t env. entry (AtExpr c.args.node.0) env) c.at.result k.waits k.top (AtExpr s.base.0) (λ t env. then_value (line.at_base s.index.0 env (line.give_value_of env)))
+    (λ t more. expr_is m old f c.args.node (nodes.At s.base s.index) t (s.ensures ∙ s.field-0-is)) c.at.ensures.does
+
+pub members::dot-value-requires : goal.members::dot-value-requires
+members::dot-value-requires g t c =
+    let m = g.S.WorldStore.meaning in
+    let old = c.args.config.now in
+    let f = c.args.frame.now in
+    let part : StandsHere old f c.args.base = stands_here m old (at_node f c.args.node []) (nodes.Dot c.args.base c.args.name) c.args.base (node_there m old f c.args.node [] c.requires.there c.requires.node tt) c.requires.is (inl refl) in
+    search (rules, part)
+
+pub members::dot-member_by_name-requires : goal.members::dot-member_by_name-requires
+members::dot-member_by_name-requires g t c =
+    let m = g.S.WorldStore.meaning in
+    let old = c.args.config.now in
+    let f = c.args.frame.now in
+    let mid = c.value.new.config in
+    let l = c.in-Ok.ensures.later in
+    record {
+      base = l.base;
+      there = l.frames f c.requires.there;
+      node = stands_later m old f mid c.args.node l c.requires.node;
+      empty = c.in-Ok.ensures.found.1;
+      is = dot_later m old f c.args.node c.args.name (c.args.base, c.requires.is) mid l;
+      object = c.in-Ok.ensures.found.0;
+    }
+
+pub members::dot-returns-in-Ok-clause-later : goal.members::dot-returns-in-Ok-clause-later
+members::dot-returns-in-Ok-clause-later g t c =
+    later_then g.S.WorldStore.meaning c.args.config.now c.value.new.config c.member_by_name.new.config c.member_by_name.result c.in-Ok.ensures.later c.member_by_name.ensures.later
+
+pub members::dot-returns-in-Ok-clause-does : goal.members::dot-returns-in-Ok-clause-does
+members::dot-returns-in-Ok-clause-does g t c =
+    let s = c.value.new.stops in
+    let k = c.member_by_name.new.stops in
+    form_goes_on g.S.WorldStore.meaning gives_in gives_in c.args.config.now c.value.new.config c.member_by_name.new.config c.args.frame.now (AtExpr c.args.base.0) (λ t env. then_value (line.dot_base (spelt_in t c.args.name) env (line.give_value_of env))) c.in-Ok.object
+    c.member_by_name.result s.waits s.top k.waits k.top c.in-Ok.ensures.later c.in-Ok.ensures.does c.member_by_name.ensures.does
+
+pub members::dot-returns-in-Err-clause-later : goal.members::dot-returns-in-Err-clause-later
+members::dot-returns-in-Err-clause-later g t c =
+    let m = g.S.WorldStore.meaning in
+    let old = c.args.config.now in
+    let f = c.args.frame.now in
+    let s = c.value.new.stops in
+    let k = c.waits.new.stops in
+    broke_later m Value Value old c.value.new.config c.waits.new.config f c.args.node [] (points.Expr (expr.DotBase purposes.Value)) c.in-Err.end s.waits s.top c.waits.result k.waits k.top
+    c.waits.ensures.same c.waits.ensures.waits c.in-Err.ensures.later
+
+pub members::dot-returns-in-Err-clause-found : goal.members::dot-returns-in-Err-clause-found
+members::dot-returns-in-Err-clause-found g t c =
+    let m = g.S.WorldStore.meaning in
+    let old = c.args.config.now in
+    let f = c.args.frame.now in
+    let s = c.value.new.stops in
+    let k = c.waits.new.stops in
+    broke_found m Value Value old c.value.new.config c.waits.new.config f c.args.node [] (points.Expr (expr.DotBase purposes.Value)) c.in-Err.end s.waits s.top c.waits.result k.waits k.top
+    c.waits.ensures.same c.waits.ensures.waits c.in-Err.ensures.later c.requires.there c.requires.node tt (tt) c.in-Err.ensures.found
+
+pub members::dot-returns-in-Err-clause-does : goal.members::dot-returns-in-Err-clause-does
+members::dot-returns-in-Err-clause-does g t c =
+    let m = g.S.WorldStore.meaning in
+    let old = c.args.config.now in
+    let f = c.args.frame.now in
+    let s = c.value.new.stops in
+    let k = c.waits.new.stops in
+    broke_does m Value Value old c.value.new.config c.waits.new.config f c.args.node [] (points.Expr (expr.DotBase purposes.Value)) c.in-Err.end s.waits s.top c.waits.result k.waits k.top
+    c.waits.ensures.same c.waits.ensures.waits gives_in gives_in (AtExpr c.args.base.0) (λ t env. then_value (line.dot_base (spelt_in t c.args.name) env (line.give_value_of env))) (λ l t env. dot_waits m c.value.new.config f c.args.node c.args.name (dot_later m old f c.args.node c.args.name (c.args.base, c.requires.is) c.value.new.config l) t env) (λ t env e. refl) c.in-Err.ensures.later c.in-Err.ensures.does
+
+pub members::at-value-requires : goal.members::at-value-requires
+members::at-value-requires g t c =
+    let m = g.S.WorldStore.meaning in
+    let old = c.args.config.now in
+    let f = c.args.frame.now in
+    let part : StandsHere old f c.args.base = stands_here m old (at_node f c.args.node []) (nodes.At c.args.base c.args.index) c.args.base (node_there m old f c.args.node [] c.requires.there c.requires.node tt) c.requires.is (inl refl) in
+    search (rules, part)
+
+pub members::at-index_of_base-requires : goal.members::at-index_of_base-requires
+members::at-index_of_base-requires g t c =
+    let m = g.S.WorldStore.meaning in
+    let old = c.args.config.now in
+    let f = c.args.frame.now in
+    let mid = c.value.new.config in
+    let l = c.in-Ok.ensures.later in
+    let base : Base m mid = l.base in
+    let there : IsThere m mid f = l.frames f c.requires.there in
+    let node : StandsHere mid f c.args.node = stands_later m old f mid c.args.node l c.requires.node in
+    let empty : c.value.new.stops.waits ≡ [] = c.in-Ok.ensures.found.1 in
+    let object : HasValue mid c.in-Ok.object = c.in-Ok.ensures.found.0 in
+    let index : StandsHere mid f c.args.index = stands_later m old f mid c.args.index l (stands_here m old (at_node f c.args.node []) (nodes.At c.args.base c.args.index) c.args.index (node_there m old f c.args.node [] c.requires.there c.requires.node tt) c.requires.is (inr (inl refl))) in
+    search (rules, base, there, node, empty, object, index)
+
+pub members::at-returns-in-Ok-clause-later : goal.members::at-returns-in-Ok-clause-later
+members::at-returns-in-Ok-clause-later g t c =
+    later_then g.S.WorldStore.meaning c.args.config.now c.value.new.config c.index_of_base.new.config c.index_of_base.result c.in-Ok.ensures.later c.index_of_base.ensures.later
+
+pub members::at-returns-in-Ok-clause-does : goal.members::at-returns-in-Ok-clause-does
+members::at-returns-in-Ok-clause-does g t c =
+    let s = c.value.new.stops in
+    let k = c.index_of_base.new.stops in
+    form_goes_on g.S.WorldStore.meaning gives_in gives_in c.args.config.now c.value.new.config c.index_of_base.new.config c.args.frame.now (AtExpr c.args.base.0) (λ t env. then_value (line.at_base c.args.index.0 env (line.give_value_of env))) c.in-Ok.object
+    c.index_of_base.result s.waits s.top k.waits k.top c.in-Ok.ensures.later c.in-Ok.ensures.does
+    (line_form g.S.WorldStore.meaning gives_in c.value.new.config c.index_of_base.new.config c.args.frame.now (λ t env. line.at_base c.args.index.0 env (line.give_value_of env) (value_in t c.in-Ok.object)) c.index_of_base.result k.waits k.top (AtExpr c.args.index.0)
+    (λ t env. then_value (line.at_index (value_in t c.in-Ok.object) env (line.give_value_of env))) (λ t more. refl) c.index_of_base.ensures.does)
+
+pub members::at-returns-in-Err-clause-later : goal.members::at-returns-in-Err-clause-later
+members::at-returns-in-Err-clause-later g t c =
+    let m = g.S.WorldStore.meaning in
+    let old = c.args.config.now in
+    let f = c.args.frame.now in
+    let s = c.value.new.stops in
+    let k = c.waits.new.stops in
+    broke_later m Value Value old c.value.new.config c.waits.new.config f c.args.node [] (points.Expr (expr.IndexBase purposes.Value c.args.index)) c.in-Err.end s.waits s.top c.waits.result k.waits k.top
+    c.waits.ensures.same c.waits.ensures.waits c.in-Err.ensures.later
+
+pub members::at-returns-in-Err-clause-found : goal.members::at-returns-in-Err-clause-found
+members::at-returns-in-Err-clause-found g t c =
+    let m = g.S.WorldStore.meaning in
+    let old = c.args.config.now in
+    let f = c.args.frame.now in
+    let s = c.value.new.stops in
+    let k = c.waits.new.stops in
+    broke_found m Value Value old c.value.new.config c.waits.new.config f c.args.node [] (points.Expr (expr.IndexBase purposes.Value c.args.index)) c.in-Err.end s.waits s.top c.waits.result k.waits k.top
+    c.waits.ensures.same c.waits.ensures.waits c.in-Err.ensures.later c.requires.there c.requires.node tt (stands_here m old (at_node f c.args.node []) (nodes.At c.args.base c.args.index) c.args.index (node_there m old f c.args.node [] c.requires.there c.requires.node tt) c.requires.is (inr (inl refl))) c.in-Err.ensures.found
+
+pub members::at-returns-in-Err-clause-does : goal.members::at-returns-in-Err-clause-does
+members::at-returns-in-Err-clause-does g t c =
+    let m = g.S.WorldStore.meaning in
+    let old = c.args.config.now in
+    let f = c.args.frame.now in
+    let s = c.value.new.stops in
+    let k = c.waits.new.stops in
+    broke_does m Value Value old c.value.new.config c.waits.new.config f c.args.node [] (points.Expr (expr.IndexBase purposes.Value c.args.index)) c.in-Err.end s.waits s.top c.waits.result k.waits k.top
+    c.waits.ensures.same c.waits.ensures.waits gives_in gives_in (AtExpr c.args.base.0) (λ t env. then_value (line.at_base c.args.index.0 env (line.give_value_of env))) (λ l t env. refl) (λ t env e. refl) c.in-Err.ensures.later c.in-Err.ensures.does
+
+pub members::index_of_base-value-requires : goal.members::index_of_base-value-requires
+members::index_of_base-value-requires g t c =
+    let node : StandsHere c.args.config.now c.args.frame.now c.args.index = c.requires.index in
+    search (rules, node)
+
+pub members::index_of_base-member_by_value-requires : goal.members::index_of_base-member_by_value-requires
+members::index_of_base-member_by_value-requires g t c =
+    let m = g.S.WorldStore.meaning in
+    let old = c.args.config.now in
+    let f = c.args.frame.now in
+    let mid = c.value.new.config in
+    let l = c.in-Ok.ensures.later in
+    record {
+      base = l.base;
+      there = l.frames f c.requires.there;
+      node = stands_later m old f mid c.args.node l c.requires.node;
+      empty = c.in-Ok.ensures.found.1;
+      object = l.values c.args.object c.requires.object;
+      key = c.in-Ok.ensures.found.0;
+    }
+
+pub members::index_of_base-returns-in-Ok-clause-later : goal.members::index_of_base-returns-in-Ok-clause-later
+members::index_of_base-returns-in-Ok-clause-later g t c =
+    later_then g.S.WorldStore.meaning c.args.config.now c.value.new.config c.member_by_value.new.config c.member_by_value.result c.in-Ok.ensures.later c.member_by_value.ensures.later
+
+pub members::index_of_base-returns-in-Ok-clause-does : goal.members::index_of_base-returns-in-Ok-clause-does
+members::index_of_base-returns-in-Ok-clause-does g t c =
+    let s = c.value.new.stops in
+    let k = c.member_by_value.new.stops in
+    form_goes_on g.S.WorldStore.meaning gives_in gives_in c.args.config.now c.value.new.config c.member_by_value.new.config c.args.frame.now (AtExpr c.args.index.0) (λ t env. then_value (line.at_index (value_in t c.args.object) env (line.give_value_of env))) c.in-Ok.key
+    c.member_by_value.result s.waits s.top k.waits k.top c.in-Ok.ensures.later c.in-Ok.ensures.does c.member_by_value.ensures.does
+
+pub members::index_of_base-returns-in-Err-clause-later : goal.members::index_of_base-returns-in-Err-clause-later
+members::index_of_base-returns-in-Err-clause-later g t c =
+    let m = g.S.WorldStore.meaning in
+    let old = c.args.config.now in
+    let f = c.args.frame.now in
+    let s = c.value.new.stops in
+    let k = c.waits_holding.new.stops in
+    broke_later m Value Value old c.value.new.config c.waits_holding.new.config f c.args.node (holds.Value c.args.object ∷ []) (points.Expr (expr.Index purposes.Value)) c.in-Err.end s.waits s.top c.waits_holding.result k.waits k.top
+    c.waits_holding.ensures.same c.waits_holding.ensures.waits c.in-Err.ensures.later
+
+pub members::index_of_base-returns-in-Err-clause-found : goal.members::index_of_base-returns-in-Err-clause-found
+members::index_of_base-returns-in-Err-clause-found g t c =
+    let m = g.S.WorldStore.meaning in
+    let old = c.args.config.now in
+    let f = c.args.frame.now in
+    let s = c.value.new.stops in
+    let k = c.waits_holding.new.stops in
+    broke_found m Value Value old c.value.new.config c.waits_holding.new.config f c.args.node (holds.Value c.args.object ∷ []) (points.Expr (expr.Index purposes.Value)) c.in-Err.end s.waits s.top c.waits_holding.result k.waits k.top
+    c.waits_holding.ensures.same c.waits_holding.ensures.waits c.in-Err.ensures.later c.requires.there c.requires.node (c.requires.object, tt) tt c.in-Err.ensures.found
+
+pub members::index_of_base-returns-in-Err-clause-does : goal.members::index_of_base-returns-in-Err-clause-does
+members::index_of_base-returns-in-Err-clause-does g t c =
+    let m = g.S.WorldStore.meaning in
+    let old = c.args.config.now in
+    let f = c.args.frame.now in
+    let s = c.value.new.stops in
+    let k = c.waits_holding.new.stops in
+    broke_does m Value Value old c.value.new.config c.waits_holding.new.config f c.args.node (holds.Value c.args.object ∷ []) (points.Expr (expr.Index purposes.Value)) c.in-Err.end s.waits s.top c.waits_holding.result k.waits k.top
+    c.waits_holding.ensures.same c.waits_holding.ensures.waits gives_in gives_in (AtExpr c.args.index.0) (λ t env. then_value (line.at_index (value_in t c.args.object) env (line.give_value_of env))) (λ l t env. refl) (λ t env e. refl) c.in-Err.ensures.later c.in-Err.ensures.does
+
+-- ---- conditions and commas
+
+pub expressions::form-returns-in-Some-Cond-clause-does : goal.expressions::form-returns-in-Some-Cond-clause-does
+expressions::form-returns-in-Some-Cond-clause-does g t c =
+    let m = g.S.WorldStore.meaning in
+    let old = c.args.config.now in
+    let f = c.args.frame.now in
+    let s = c.in-Some-Cond in
+    let k = c.choice.new.stops in
+    line_form m gives_in old c.choice.new.config f (λ t env. entry (AtExpr c.args.node.0) env) c.choice.result k.waits k.top (AtExpr s.test.0) (λ t env. then_value (line.cond_test s.yes.0 s.no.0 env))
+    (λ t more. expr_is m old f c.args.node (nodes.Cond s.test s.yes s.no) t (s.ensures ∙ s.field-0-is)) c.choice.ensures.does
+
+pub expressions::form-returns-in-Some-Comma-clause-does : goal.expressions::form-returns-in-Some-Comma-clause-does
+expressions::form-returns-in-Some-Comma-clause-does g t c =
+    let m = g.S.WorldStore.meaning in
+    let old = c.args.config.now in
+    let f = c.args.frame.now in
+    let s = c.in-Some-Comma in
+    let k = c.comma.new.stops in
+    line_form m gives_in old c.comma.new.config f (λ t env. entry (AtExpr c.args.node.0) env) c.comma.result k.waits k.top (AtExpr s.first.0) (λ t env. then_value (line.comma_left s.second.0 env))
+    (λ t more. expr_is m old f c.args.node (nodes.Comma s.first s.second) t (s.ensures ∙ s.field-0-is)) c.comma.ensures.does
+
+pub choices::choice-value-requires : goal.choices::choice-value-requires
+choices::choice-value-requires g t c =
+    let m = g.S.WorldStore.meaning in
+    let old = c.args.config.now in
+    let f = c.args.frame.now in
+    let test : StandsHere old f c.args.test = stands_here m old (at_node f c.args.node []) (nodes.Cond c.args.test c.args.yes c.args.no) c.args.test (node_there m old f c.args.node [] c.requires.there c.requires.node tt) c.requires.is (inl refl) in
+    search (rules, test)
+
+pub choices::choice-chosen-requires : goal.choices::choice-chosen-requires
+choices::choice-chosen-requires g t c =
+    let m = g.S.WorldStore.meaning in
+    let old = c.args.config.now in
+    let f = c.args.frame.now in
+    let mid = c.value.new.config in
+    let l = c.in-Ok.ensures.later in
+    let base : Base m mid = l.base in
+    let there : IsThere m mid f = l.frames f c.requires.there in
+    let empty : c.value.new.stops.waits ≡ [] = c.in-Ok.ensures.found.1 in
+    let yes : StandsHere mid f c.args.yes = stands_later m old f mid c.args.yes l (stands_here m old (at_node f c.args.node []) (nodes.Cond c.args.test c.args.yes c.args.no) c.args.yes (node_there m old f c.args.node [] c.requires.there c.requires.node tt) c.requires.is (inr (inl refl))) in
+    let no : StandsHere mid f c.args.no = stands_later m old f mid c.args.no l (stands_here m old (at_node f c.args.node []) (nodes.Cond c.args.test c.args.yes c.args.no) c.args.no (node_there m old f c.args.node [] c.requires.there c.requires.node tt) c.requires.is (inr (inr (inl refl)))) in
+    let truth : HasValue mid c.in-Ok.truth = c.in-Ok.ensures.found.0 in
+    search (rules, base, there, empty, yes, no, truth)
+
+pub choices::choice-returns-in-Ok-clause-later : goal.choices::choice-returns-in-Ok-clause-later
+choices::choice-returns-in-Ok-clause-later g t c =
+    later_then g.S.WorldStore.meaning c.args.config.now c.value.new.config c.chosen.new.config c.chosen.result c.in-Ok.ensures.later c.chosen.ensures.later
+
+pub choices::choice-returns-in-Ok-clause-does : goal.choices::choice-returns-in-Ok-clause-does
+choices::choice-returns-in-Ok-clause-does g t c =
+    let s = c.value.new.stops in
+    let k = c.chosen.new.stops in
+    form_goes_on g.S.WorldStore.meaning gives_in gives_in c.args.config.now c.value.new.config c.chosen.new.config c.args.frame.now (AtExpr c.args.test.0) (λ t env. then_value (line.cond_test c.args.yes.0 c.args.no.0 env)) c.in-Ok.truth
+    c.chosen.result s.waits s.top k.waits k.top c.in-Ok.ensures.later c.in-Ok.ensures.does c.chosen.ensures.does
+
+pub choices::choice-returns-in-Err-clause-later : goal.choices::choice-returns-in-Err-clause-later
+choices::choice-returns-in-Err-clause-later g t c =
+    let m = g.S.WorldStore.meaning in
+    let old = c.args.config.now in
+    let f = c.args.frame.now in
+    let s = c.value.new.stops in
+    let k = c.waits.new.stops in
+    broke_later m Value Value old c.value.new.config c.waits.new.config f c.args.node [] (points.Expr (expr.CondTest c.args.yes c.args.no)) c.in-Err.end s.waits s.top c.waits.result k.waits k.top
+    c.waits.ensures.same c.waits.ensures.waits c.in-Err.ensures.later
+
+pub choices::choice-returns-in-Err-clause-found : goal.choices::choice-returns-in-Err-clause-found
+choices::choice-returns-in-Err-clause-found g t c =
+    let m = g.S.WorldStore.meaning in
+    let old = c.args.config.now in
+    let f = c.args.frame.now in
+    let s = c.value.new.stops in
+    let k = c.waits.new.stops in
+    broke_found m Value Value old c.value.new.config c.waits.new.config f c.args.node [] (points.Expr (expr.CondTest c.args.yes c.args.no)) c.in-Err.end s.waits s.top c.waits.result k.waits k.top
+    c.waits.ensures.same c.waits.ensures.waits c.in-Err.ensures.later c.requires.there c.requires.node tt (stands_here m old (at_node f c.args.node []) (nodes.Cond c.args.test c.args.yes c.args.no) c.args.yes (node_there m old f c.args.node [] c.requires.there c.requires.node tt) c.requires.is (inr (inl refl)), stands_here m old (at_node f c.args.node []) (nodes.Cond c.args.test c.args.yes c.args.no) c.args.no (node_there m old f c.args.node [] c.requires.there c.requires.node tt) c.requires.is (inr (inr (inl refl)))) c.in-Err.ensures.found
+
+pub choices::choice-returns-in-Err-clause-does : goal.choices::choice-returns-in-Err-clause-does
+choices::choice-returns-in-Err-clause-does g t c =
+    let m = g.S.WorldStore.meaning in
+    let old = c.args.config.now in
+    let f = c.args.frame.now in
+    let s = c.value.new.stops in
+    let k = c.waits.new.stops in
+    broke_does m Value Value old c.value.new.config c.waits.new.config f c.args.node [] (points.Expr (expr.CondTest c.args.yes c.args.no)) c.in-Err.end s.waits s.top c.waits.result k.waits k.top
+    c.waits.ensures.same c.waits.ensures.waits gives_in gives_in (AtExpr c.args.test.0) (λ t env. then_value (line.cond_test c.args.yes.0 c.args.no.0 env)) (λ l t env. refl) (λ t env e. refl) c.in-Err.ensures.later c.in-Err.ensures.does
+
+pub choices::chosen-value-requires : goal.choices::chosen-value-requires
+choices::chosen-value-requires g t c =
+    let m = g.S.WorldStore.meaning in
+    let old = c.args.config.now in
+    let f = c.args.frame.now in
+    let next : StandsHere old f c.picked-next.result = c.picked-next.ensures.stands in
+    search (rules, next)
+
+pub choices::chosen-returns-clause-does : goal.choices::chosen-returns-clause-does
+choices::chosen-returns-clause-does g t c =
+    let m = g.S.WorldStore.meaning in
+    let old = c.args.config.now in
+    let f = c.args.frame.now in
+    let k = c.value.new.stops in
+    line_last m gives_in old c.value.new.config f (λ t env. line.cond_test c.args.yes.0 c.args.no.0 env (value_in t c.args.truth)) c.value.result k.waits k.top (AtExpr c.picked-next.result.0)
+    (λ t more. c.picked-next.ensures.is t more (env_in m old t f)) c.value.ensures.does
+
+pub choices::comma-value-requires : goal.choices::comma-value-requires
+choices::comma-value-requires g t c =
+    let m = g.S.WorldStore.meaning in
+    let old = c.args.config.now in
+    let f = c.args.frame.now in
+    let first : StandsHere old f c.args.first = stands_here m old (at_node f c.args.node []) (nodes.Comma c.args.first c.args.second) c.args.first (node_there m old f c.args.node [] c.requires.there c.requires.node tt) c.requires.is (inl refl) in
+    search (rules, first)
+
+pub choices::comma-behind-requires : goal.choices::comma-behind-requires
+choices::comma-behind-requires g t c =
+    let m = g.S.WorldStore.meaning in
+    let old = c.args.config.now in
+    let f = c.args.frame.now in
+    let mid = c.value.new.config in
+    let l = c.in-Ok.ensures.later in
+    let base : Base m mid = l.base in
+    let there : IsThere m mid f = l.frames f c.requires.there in
+    let empty : c.value.new.stops.waits ≡ [] = c.in-Ok.ensures.found.1 in
+    let second : StandsHere mid f c.args.second = stands_later m old f mid c.args.second l (stands_here m old (at_node f c.args.node []) (nodes.Comma c.args.first c.args.second) c.args.second (node_there m old f c.args.node [] c.requires.there c.requires.node tt) c.requires.is (inr (inl refl))) in
+    search (rules, base, there, empty, second)
+
+pub choices::comma-returns-in-Ok-clause-later : goal.choices::comma-returns-in-Ok-clause-later
+choices::comma-returns-in-Ok-clause-later g t c =
+    later_then g.S.WorldStore.meaning c.args.config.now c.value.new.config c.behind.new.config c.behind.result c.in-Ok.ensures.later c.behind.ensures.later
+
+pub choices::comma-returns-in-Ok-clause-does : goal.choices::comma-returns-in-Ok-clause-does
+choices::comma-returns-in-Ok-clause-does g t c =
+    let s = c.value.new.stops in
+    let k = c.behind.new.stops in
+    form_goes_on g.S.WorldStore.meaning gives_in gives_in c.args.config.now c.value.new.config c.behind.new.config c.args.frame.now (AtExpr c.args.first.0) (λ t env. then_value (line.comma_left c.args.second.0 env)) c.in-Ok.before
+    c.behind.result s.waits s.top k.waits k.top c.in-Ok.ensures.later c.in-Ok.ensures.does c.behind.ensures.does
+
+pub choices::comma-returns-in-Err-clause-later : goal.choices::comma-returns-in-Err-clause-later
+choices::comma-returns-in-Err-clause-later g t c =
+    let m = g.S.WorldStore.meaning in
+    let old = c.args.config.now in
+    let f = c.args.frame.now in
+    let s = c.value.new.stops in
+    let k = c.waits.new.stops in
+    broke_later m Value Value old c.value.new.config c.waits.new.config f c.args.node [] (points.Expr (expr.CommaLeft c.args.second)) c.in-Err.end s.waits s.top c.waits.result k.waits k.top
+    c.waits.ensures.same c.waits.ensures.waits c.in-Err.ensures.later
+
+pub choices::comma-returns-in-Err-clause-found : goal.choices::comma-returns-in-Err-clause-found
+choices::comma-returns-in-Err-clause-found g t c =
+    let m = g.S.WorldStore.meaning in
+    let old = c.args.config.now in
+    let f = c.args.frame.now in
+    let s = c.value.new.stops in
+    let k = c.waits.new.stops in
+    broke_found m Value Value old c.value.new.config c.waits.new.config f c.args.node [] (points.Expr (expr.CommaLeft c.args.second)) c.in-Err.end s.waits s.top c.waits.result k.waits k.top
+    c.waits.ensures.same c.waits.ensures.waits c.in-Err.ensures.later c.requires.there c.requires.node tt (stands_here m old (at_node f c.args.node []) (nodes.Comma c.args.first c.args.second) c.args.second (node_there m old f c.args.node [] c.requires.there c.requires.node tt) c.requires.is (inr (inl refl))) c.in-Err.ensures.found
+
+pub choices::comma-returns-in-Err-clause-does : goal.choices::comma-returns-in-Err-clause-does
+choices::comma-returns-in-Err-clause-does g t c =
+    let m = g.S.WorldStore.meaning in
+    let old = c.args.config.now in
+    let f = c.args.frame.now in
+    let s = c.value.new.stops in
+    let k = c.waits.new.stops in
+    broke_does m Value Value old c.value.new.config c.waits.new.config f c.args.node [] (points.Expr (expr.CommaLeft c.args.second)) c.in-Err.end s.waits s.top c.waits.result k.waits k.top
+    c.waits.ensures.same c.waits.ensures.waits gives_in gives_in (AtExpr c.args.first.0) (λ t env. then_value (line.comma_left c.args.second.0 env)) (λ l t env. refl) (λ t env e. refl) c.in-Err.ensures.later c.in-Err.ensures.does
+
+pub choices::behind-returns-clause-does : goal.choices::behind-returns-clause-does
+choices::behind-returns-clause-does g t c =
+    let m = g.S.WorldStore.meaning in
+    let old = c.args.config.now in
+    let f = c.args.frame.now in
+    let k = c.value.new.stops in
+    line_last m gives_in old c.value.new.config f (λ t env. line.comma_left c.args.second.0 env (value_in t c.args.before)) c.value.result k.waits k.top (AtExpr c.args.second.0) (λ t more. refl) c.value.ensures.does
+
+-- ---- operators before an operand
+
+pub prefixes::prefix-operand-requires : goal.prefixes::prefix-operand-requires
+prefixes::prefix-operand-requires g t c =
+    let operator : is_of_value c.args.operator ≡ true = sym c.is_of_value.ensures ∙ c.if-is_of_value.true in
+    search (rules, operator)
+
+pub prefixes::prefix-returns-then-is_of_value-clause-does : goal.prefixes::prefix-returns-then-is_of_value-clause-does
+prefixes::prefix-returns-then-is_of_value-clause-does g t c =
+    let m = g.S.WorldStore.meaning in
+    let old = c.args.config.now in
+    let f = c.args.frame.now in
+    let k = c.operand.new.stops in
+    line_form m gives_in old c.operand.new.config f (λ t env. entry (AtExpr c.args.node.0) env) c.operand.result k.waits k.top (AtExpr c.args.part.0) (λ t env. then_value (after_prefix c.args.operator env))
+    (λ t more. expr_is m old f c.args.node (nodes.Prefix c.args.operator c.args.part) t c.requires.is ∙ prefix_is c.args.operator c.args.part.0 (env_in m old t f) (sym c.is_of_value.ensures ∙ c.if-is_of_value.true)) c.operand.ensures.does
+
+pub prefixes::prefix-returns-else-is_of_value-clause-later : goal.prefixes::prefix-returns-else-is_of_value-clause-later
+prefixes::prefix-returns-else-is_of_value-clause-later g t c =
+    later_stopped g.S.WorldStore.meaning {A = Value} c.args.config.now c.stop.new.config (Err c.stop.result) c.requires.base c.stop.ensures.same
+
+pub prefixes::prefix-returns-else-is_of_value-clause-found : goal.prefixes::prefix-returns-else-is_of_value-clause-found
+prefixes::prefix-returns-else-is_of_value-clause-found g t c =
+    let s = c.stop.new.stops in
+    stop_found g.S.WorldStore.meaning c.args.config.now c.stop.new.config c.args.frame.now c.args.node [] (phases.Ready starts.Expr) c.stop.result s.waits s.top c.stop.ensures.same
+    c.requires.there c.requires.node tt tt c.stop.ensures.stops
+
+pub prefixes::prefix-returns-else-is_of_value-clause-does : goal.prefixes::prefix-returns-else-is_of_value-clause-does
+prefixes::prefix-returns-else-is_of_value-clause-does g t c =
+    let s = c.stop.new.stops in
+    ready_does g.S.WorldStore.meaning gives_in c.args.config.now c.stop.new.config c.args.frame.now c.stop.result s.waits s.top c.stop.ensures.same (part.Expr c.args.node) c.stop.ensures.stops
+
+pub prefixes::operand-value-requires : goal.prefixes::operand-value-requires
+prefixes::operand-value-requires g t c =
+    let m = g.S.WorldStore.meaning in
+    let old = c.args.config.now in
+    let f = c.args.frame.now in
+    let part : StandsHere old f c.args.part = stands_here m old (at_node f c.args.node []) (nodes.Prefix c.args.operator c.args.part) c.args.part (node_there m old f c.args.node [] c.requires.there c.requires.node tt) c.requires.is (inl refl) in
+    search (rules, part)
+
+pub prefixes::operand-after_operand-requires : goal.prefixes::operand-after_operand-requires
+prefixes::operand-after_operand-requires g t c =
+    let m = g.S.WorldStore.meaning in
+    let old = c.args.config.now in
+    let f = c.args.frame.now in
+    let mid = c.value.new.config in
+    let l = c.in-Ok.ensures.later in
+    record {
+      base = l.base;
+      there = l.frames f c.requires.there;
+      node = stands_later m old f mid c.args.node l c.requires.node;
+      empty = c.in-Ok.ensures.found.1;
+      operator = c.requires.operator;
+      value = c.in-Ok.ensures.found.0;
+    }
+
+pub prefixes::operand-returns-in-Ok-clause-later : goal.prefixes::operand-returns-in-Ok-clause-later
+prefixes::operand-returns-in-Ok-clause-later g t c =
+    later_then g.S.WorldStore.meaning c.args.config.now c.value.new.config c.after_operand.new.config c.after_operand.result c.in-Ok.ensures.later c.after_operand.ensures.later
+
+pub prefixes::operand-returns-in-Ok-clause-does : goal.prefixes::operand-returns-in-Ok-clause-does
+prefixes::operand-returns-in-Ok-clause-does g t c =
+    let s = c.value.new.stops in
+    let k = c.after_operand.new.stops in
+    form_goes_on g.S.WorldStore.meaning gives_in gives_in c.args.config.now c.value.new.config c.after_operand.new.config c.args.frame.now (AtExpr c.args.part.0) (λ t env. then_value (after_prefix c.args.operator env)) c.in-Ok.value
+    c.after_operand.result s.waits s.top k.waits k.top c.in-Ok.ensures.later c.in-Ok.ensures.does c.after_operand.ensures.does
+
+pub prefixes::operand-returns-in-Err-clause-later : goal.prefixes::operand-returns-in-Err-clause-later
+prefixes::operand-returns-in-Err-clause-later g t c =
+    let m = g.S.WorldStore.meaning in
+    let old = c.args.config.now in
+    let f = c.args.frame.now in
+    let s = c.value.new.stops in
+    let k = c.waits.new.stops in
+    broke_later m Value Value old c.value.new.config c.waits.new.config f c.args.node [] (points.Expr c.point_of.result) c.in-Err.end s.waits s.top c.waits.result k.waits k.top
+    c.waits.ensures.same c.waits.ensures.waits c.in-Err.ensures.later
+
+pub prefixes::operand-returns-in-Err-clause-found : goal.prefixes::operand-returns-in-Err-clause-found
+prefixes::operand-returns-in-Err-clause-found g t c =
+    let m = g.S.WorldStore.meaning in
+    let old = c.args.config.now in
+    let f = c.args.frame.now in
+    let s = c.value.new.stops in
+    let k = c.waits.new.stops in
+    broke_found m Value Value old c.value.new.config c.waits.new.config f c.args.node [] (points.Expr c.point_of.result) c.in-Err.end s.waits s.top c.waits.result k.waits k.top
+    c.waits.ensures.same c.waits.ensures.waits c.in-Err.ensures.later c.requires.there c.requires.node tt (prefix_stands m old (at_node f c.args.node []) c.args.operator c.point_of.result c.point_of.ensures) c.in-Err.ensures.found
+
+pub prefixes::operand-returns-in-Err-clause-does : goal.prefixes::operand-returns-in-Err-clause-does
+prefixes::operand-returns-in-Err-clause-does g t c =
+    let m = g.S.WorldStore.meaning in
+    let old = c.args.config.now in
+    let f = c.args.frame.now in
+    let s = c.value.new.stops in
+    let k = c.waits.new.stops in
+    broke_does m Value Value old c.value.new.config c.waits.new.config f c.args.node [] (points.Expr c.point_of.result) c.in-Err.end s.waits s.top c.waits.result k.waits k.top
+    c.waits.ensures.same c.waits.ensures.waits gives_in gives_in (AtExpr c.args.part.0) (λ t env. then_value (after_prefix c.args.operator env)) (λ l t env. prefix_waits m c.value.new.config (at_node f c.args.node []) c.args.operator c.point_of.result c.point_of.ensures c.requires.operator t env) (λ t env e. refl) c.in-Err.ensures.later c.in-Err.ensures.does
+
+-- ---- variables
+
+-- one after the other
+pub variables::run_variables-loop-variable-init : goal.variables::run_variables-loop-variable-init
+variables::run_variables-loop-variable-init g t c = record {
+  left = record { by = λ go later r h. h };
+  later = later_same g.S.WorldStore.meaning c.args.config.now c.requires.base;
+  empty = c.requires.empty;
+}
+
+pub variables::run_variables-variable_at-requires : goal.variables::run_variables-variable_at-requires
+variables::run_variables-variable_at-requires g t c = c.loop-variable.invariant.later.base
+
+pub variables::run_variables-declared-requires : goal.variables::run_variables-declared-requires
+variables::run_variables-declared-requires g t c =
+    let m = g.S.WorldStore.meaning in
+    let old = c.args.config.now in
+    let f = c.args.frame.now in
+    let mid = c.loop-variable.config in
+    let l = c.loop-variable.invariant.later in
+    let base : Base m mid = l.base in
+    let there : IsThere m mid f = l.frames f c.requires.there in
+    let node : StandsHere mid f c.args.node = stands_later m old f mid c.args.node l c.requires.node in
+    let empty : c.loop-variable.stops.waits ≡ [] = c.loop-variable.invariant.empty in
+    let is : Declares mid f c.args.node c.loop-variable.at c.in-Some.variable = sym c.in-Some.ensures.is in
+    let name : Has mid.heap.texts c.in-Some.variable.name = c.in-Some.ensures.known in
+    search (rules, base, there, node, empty, is, name)
+
+pub variables::run_variables-loop-variable-preserved : goal.variables::run_variables-loop-variable-preserved
+variables::run_variables-loop-variable-preserved g t c =
+    let m = g.S.WorldStore.meaning in
+    let old = c.args.config.now in
+    let mid = c.loop-variable.config in
+    let new = c.declared.new.config in
+    let inv = c.loop-variable.invariant in
+    let e = c.in-Ok in
+    record {
+      left = next_passed m c.args.frame.now c.args.node old mid c.args.from c.loop-variable.at inv.later inv.left new e.end c.in_ok-next.next c.in_ok-next.ensures c.in-Normal.is e.ensures.does;
+      later = later_twice m old mid new inv.later e.ensures.later;
+      empty = e.ensures.found.1;
+    }
+
+pub variables::run_variables-returns-in_default-end-clause-later : goal.variables::run_variables-returns-in_default-end-clause-later
+variables::run_variables-returns-in_default-end-clause-later g t c = later_twice g.S.WorldStore.meaning c.args.config.now c.loop-variable.config c.declared.new.config c.loop-variable.invariant.later c.in-Ok.ensures.later
+
+pub variables::run_variables-returns-in_default-end-clause-does : goal.variables::run_variables-returns-in_default-end-clause-does
+variables::run_variables-returns-in_default-end-clause-does g t c =
+    let inv = c.loop-variable.invariant in
+    next_ended g.S.WorldStore.meaning c.args.frame.now c.args.node c.args.config.now c.loop-variable.config c.args.from c.loop-variable.at inv.later inv.left c.declared.new.config c.in-Ok.end c.in_default-end.not-Normal c.in-Ok.ensures.does
+
+pub variables::run_variables-returns-in-Err-clause-later : goal.variables::run_variables-returns-in-Err-clause-later
+variables::run_variables-returns-in-Err-clause-later g t c =
+    later_then g.S.WorldStore.meaning {A = Completion} c.args.config.now c.loop-variable.config c.declared.new.config (Err c.in-Err.end) c.loop-variable.invariant.later c.in-Err.ensures.later
+
+pub variables::run_variables-returns-in-Err-clause-does : goal.variables::run_variables-returns-in-Err-clause-does
+variables::run_variables-returns-in-Err-clause-does g t c =
+    let inv = c.loop-variable.invariant in
+    let k = c.declared.new.stops in
+    next_broke g.S.WorldStore.meaning c.args.frame.now c.args.node c.args.config.now c.loop-variable.config c.args.from c.loop-variable.at inv.later inv.left c.declared.new.config c.in-Err.end k.waits k.top c.in-Err.ensures.does
+
+pub variables::run_variables-returns-clause-does : goal.variables::run_variables-returns-clause-does
+variables::run_variables-returns-clause-does g t c =
+    let inv = c.loop-variable.invariant in
+    all_passed g.S.WorldStore.meaning c.args.frame.now c.args.node c.args.config.now c.loop-variable.config c.args.from c.loop-variable.at inv.later inv.left c.in_default.ensures.is
+
+-- one of them
+pub variables::declared-initialised-requires : goal.variables::declared-initialised-requires
+variables::declared-initialised-requires g t c =
+    let some : c.args.variable.value ≡ Some c.in-Some.e = c.in-Some.is in
+    search (rules, some)
+
+pub variables::declared-returns-in-Some-clause-does : goal.variables::declared-returns-in-Some-clause-does
+variables::declared-returns-in-Some-clause-does g t c =
+    let m = g.S.WorldStore.meaning in
+    let old = c.args.config.now in
+    let f = c.args.frame.now in
+    let x = c.args.variable in
+    let e = c.in-Some.e in
+    let k = c.initialised.new.stops in
+    next_as m f c.args.node (line_here m old f (variables_left old f c.args.node c.args.at)) (form_here m old f (AtExpr e.0) (λ t env. then_value (variable_valued old f c.args.node c.args.at t env)))
+    (variables_left old f c.args.node (c.args.at + 1)) c.initialised.result k.waits k.top old c.initialised.new.config
+    (variable_begins m f c.args.node old c.args.at x c.requires.is e c.in-Some.is) c.initialised.ensures.does
+
+pub variables::declared-returns-in-None-clause-does : goal.variables::declared-returns-in-None-clause-does
+variables::declared-returns-in-None-clause-does g t c =
+    variable_passed g.S.WorldStore.meaning c.args.frame.now c.args.node c.args.config.now c.args.at c.args.variable c.requires.is c.in-None.is
+
+-- its value
+pub variables::initialised-value-requires : goal.variables::initialised-value-requires
+variables::initialised-value-requires g t c =
+    let m = g.S.WorldStore.meaning in
+    let old = c.args.config.now in
+    let f = c.args.frame.now in
+    let node : StandsHere old f c.args.e = variable_stands m f c.args.node old c.args.at c.args.variable c.requires.is c.args.e c.requires.initialiser c.requires.there c.requires.node in
+    search (rules, node)
+
+pub variables::initialised-variable_stored-requires : goal.variables::initialised-variable_stored-requires
+variables::initialised-variable_stored-requires g t c =
+    let m = g.S.WorldStore.meaning in
+    let old = c.args.config.now in
+    let f = c.args.frame.now in
+    let mid = c.value.new.config in
+    let l = c.in-Ok.ensures.later in
+    record {
+      base = l.base;
+      there = l.frames f c.requires.there;
+      empty = c.in-Ok.ensures.found.1;
+      is = declares_later m f c.args.node old mid c.args.at c.args.variable l c.requires.is;
+      name = Grows-Has old.heap.texts mid.heap.texts c.args.variable.name l.texts c.requires.name;
+      value = c.in-Ok.ensures.found.0;
+    }
+
+pub variables::initialised-returns-in-Ok-clause-later : goal.variables::initialised-returns-in-Ok-clause-later
+variables::initialised-returns-in-Ok-clause-later g t c =
+    later_then g.S.WorldStore.meaning c.args.config.now c.value.new.config c.variable_stored.new.config c.variable_stored.result c.in-Ok.ensures.later c.variable_stored.ensures.later
+
+pub variables::initialised-returns-in-Ok-clause-does : goal.variables::initialised-returns-in-Ok-clause-does
+variables::initialised-returns-in-Ok-clause-does g t c =
+    let k = c.variable_stored.new.stops in
+    value_next g.S.WorldStore.meaning c.args.frame.now c.args.node c.args.config.now c.value.new.config c.variable_stored.new.config c.args.at c.args.e c.in-Ok.value c.variable_stored.result k.waits k.top
+    c.in-Ok.ensures.later c.in-Ok.ensures.does c.variable_stored.ensures.does
+
+pub variables::initialised-returns-in-Err-clause-later : goal.variables::initialised-returns-in-Err-clause-later
+variables::initialised-returns-in-Err-clause-later g t c =
+    let s = c.value.new.stops in
+    let k = c.waits.new.stops in
+    broke_later g.S.WorldStore.meaning Value Completion c.args.config.now c.value.new.config c.waits.new.config c.args.frame.now c.args.node [] (points.Stmt (stmt.VariableValue c.args.at)) c.in-Err.end s.waits s.top c.waits.result k.waits k.top
+    c.waits.ensures.same c.waits.ensures.waits c.in-Err.ensures.later
+
+pub variables::initialised-returns-in-Err-clause-found : goal.variables::initialised-returns-in-Err-clause-found
+variables::initialised-returns-in-Err-clause-found g t c =
+    let s = c.value.new.stops in
+    let k = c.waits.new.stops in
+    broke_found g.S.WorldStore.meaning Value Completion c.args.config.now c.value.new.config c.waits.new.config c.args.frame.now c.args.node [] (points.Stmt (stmt.VariableValue c.args.at)) c.in-Err.end s.waits s.top c.waits.result k.waits k.top
+    c.waits.ensures.same c.waits.ensures.waits c.in-Err.ensures.later c.requires.there c.requires.node tt tt c.in-Err.ensures.found
+
+pub variables::initialised-returns-in-Err-clause-does : goal.variables::initialised-returns-in-Err-clause-does
+variables::initialised-returns-in-Err-clause-does g t c =
+    let m = g.S.WorldStore.meaning in
+    let old = c.args.config.now in
+    let mid = c.value.new.config in
+    let f = c.args.frame.now in
+    let s = c.value.new.stops in
+    let k = c.waits.new.stops in
+    broke_does m Value Completion old mid c.waits.new.config f c.args.node [] (points.Stmt (stmt.VariableValue c.args.at)) c.in-Err.end s.waits s.top c.waits.result k.waits k.top
+    c.waits.ensures.same c.waits.ensures.waits gives_in completion_in (AtExpr c.args.e.0) (λ t env. then_value (variable_valued old f c.args.node c.args.at t env))
+    (value_waits m f c.args.node old mid c.args.at) (λ t env e. refl) c.in-Err.ensures.later c.in-Err.ensures.does
+
+-- a `for` that begins with them
+pub variables::for_variables-for_declared-requires : goal.variables::for_variables-for_declared-requires
+variables::for_variables-for_declared-requires g t c =
+    let m = g.S.WorldStore.meaning in
+    let old = c.args.config.now in
+    let f = c.args.frame.now in
+    let mid = c.run_variables.new.config in
+    let l = c.in-Ok.ensures.later in
+    let first = inits.Var c.requires.is.0 in
+    let parts = for_stands m old (at_node f c.args.node []) (node_there m old f c.args.node [] c.requires.there c.requires.node tt) first c.args.test c.args.update c.args.body c.requires.is.1 in
+    let base : Base m mid = l.base in
+    let there : IsThere m mid f = l.frames f c.requires.there in
+    let node : StandsHere mid f c.args.node = stands_later m old f mid c.args.node l c.requires.node in
+    let empty : c.run_variables.new.stops.waits ≡ [] = c.in-Ok.ensures.found.1 in
+    let is : IsLoop m mid f c.args.node c.args.test c.args.update c.args.body = loop_later m old mid f c.args.node c.args.test c.args.update c.args.body l (for_loops m old f c.args.node first c.args.test c.args.update c.args.body c.requires.is.1) in
+    let test : StandsIf mid f c.args.test = stands_if_later m old f mid c.args.test l (if_stands m old f c.args.node c.args.test parts.0) in
+    let update : StandsIf mid f c.args.update = stands_if_later m old f mid c.args.update l (if_stands m old f c.args.node c.args.update parts.1.0) in
+    let body : StandsHere mid f c.args.body = stands_later m old f mid c.args.body l parts.1.1 in
+    let end : HasCompletion mid c.in-Ok.end = c.in-Ok.ensures.found.0 in
+    search (rules, base, there, node, empty, is, test, update, body, end)
+
+pub variables::for_variables-returns-in-Ok-clause-later : goal.variables::for_variables-returns-in-Ok-clause-later
+variables::for_variables-returns-in-Ok-clause-later g t c =
+    later_then g.S.WorldStore.meaning c.args.config.now c.run_variables.new.config c.for_declared.new.config c.for_declared.result c.in-Ok.ensures.later c.for_declared.ensures.later
+
+pub variables::for_variables-returns-in-Ok-clause-does : goal.variables::for_variables-returns-in-Ok-clause-does
+variables::for_variables-returns-in-Ok-clause-does g t c =
+    let m = g.S.WorldStore.meaning in
+    let old = c.args.config.now in
+    let mid = c.run_variables.new.config in
+    let f = c.args.frame.now in
+    let k = c.for_declared.new.stops in
+    let next : Table → Env → Meant → Act = λ t env. then_normal (loops.loop_from c.args.node.0 (number c.args.test) (number c.args.update) c.args.body.0 env) in
+    let from = line_here m old f (λ t env. Sub (variables_left old f c.args.node 0 t env) (next t env)) in
+    let behind = line_here m mid f (λ t env. next t env (completion_in t c.in-Ok.end)) in
+    in_memory c.for_declared.result (leaves_all m from behind (outcome_in m c.for_declared.new.config completion_in c.for_declared.result k.waits k.top) old mid c.for_declared.new.config
+    (nested_left m completion_in old mid f (variables_left old f c.args.node 0) next c.in-Ok.end c.in-Ok.ensures.later c.in-Ok.ensures.does)) c.for_declared.ensures.does
+
+pub variables::for_variables-returns-in-Err-clause-later : goal.variables::for_variables-returns-in-Err-clause-later
+variables::for_variables-returns-in-Err-clause-later g t c =
+    let s = c.run_variables.new.stops in
+    let k = c.waits.new.stops in
+    broke_later g.S.WorldStore.meaning Completion Completion c.args.config.now c.run_variables.new.config c.waits.new.config c.args.frame.now c.args.node [] (points.Stmt stmt.ForVariables) c.in-Err.end s.waits s.top c.waits.result k.waits k.top
+    c.waits.ensures.same c.waits.ensures.waits c.in-Err.ensures.later
+
+pub variables::for_variables-returns-in-Err-clause-found : goal.variables::for_variables-returns-in-Err-clause-found
+variables::for_variables-returns-in-Err-clause-found g t c =
+    let s = c.run_variables.new.stops in
+    let k = c.waits.new.stops in
+    broke_found g.S.WorldStore.meaning Completion Completion c.args.config.now c.run_variables.new.config c.waits.new.config c.args.frame.now c.args.node [] (points.Stmt stmt.ForVariables) c.in-Err.end s.waits s.top c.waits.result k.waits k.top
+    c.waits.ensures.same c.waits.ensures.waits c.in-Err.ensures.later c.requires.there c.requires.node tt tt c.in-Err.ensures.found
+
+pub variables::for_variables-returns-in-Err-clause-does : goal.variables::for_variables-returns-in-Err-clause-does
+variables::for_variables-returns-in-Err-clause-does g t c =
+    let m = g.S.WorldStore.meaning in
+    let old = c.args.config.now in
+    let mid = c.run_variables.new.config in
+    let f = c.args.frame.now in
+    let s = c.run_variables.new.stops in
+    let k = c.waits.new.stops in
+    nested_broke m completion_in old mid f (variables_left old f c.args.node 0) (λ t env. then_normal (loops.loop_from c.args.node.0 (number c.args.test) (number c.args.update) c.args.body.0 env)) completion_in c.waits.new.config c.args.node [] (points.Stmt stmt.ForVariables)
+    c.in-Err.end s.waits s.top c.waits.result k.waits k.top c.waits.ensures.same c.waits.ensures.waits (for_variables_then m old mid f c.args.node c.requires.is.0 c.args.test c.args.update c.args.body c.requires.is.1) (λ t env e. refl) c.in-Err.ensures.later c.in-Err.ensures.does
+
+pub variables::for_declared-returns-in-Normal-clause-does : goal.variables::for_declared-returns-in-Normal-clause-does
+variables::for_declared-returns-in-Normal-clause-does g t c =
+    let m = g.S.WorldStore.meaning in
+    let old = c.args.config.now in
+    let k = c.run_loop.new.stops in
+    let loop : Env → Act = λ env. loops.loop_from c.args.node.0 (number c.args.test) (number c.args.update) c.args.body.0 env in
+    line_as m completion_in old c.run_loop.new.config c.args.frame.now (λ t env. then_normal (loop env) (completion_in t c.args.end)) c.run_loop.result k.waits k.top (λ t env. loop env)
+    (λ t more. ap (λ (e : Completion). then_normal (loop (env_in m old t c.args.frame.now)) (completion_in t e)) c.in-Normal.is) c.run_loop.ensures.does
+
+pub variables::for_declared-returns-in_default-clause-does : goal.variables::for_declared-returns-in_default-clause-does
+variables::for_declared-returns-in_default-clause-does g t c =
+    let s = c.args.stops.now in
+    let loop : Env → Act = λ env. loops.loop_from c.args.node.0 (number c.args.test) (number c.args.update) c.args.body.0 env in
+    line_ended g.S.WorldStore.meaning completion_in c.args.config.now c.args.frame.now (λ t env. then_normal (loop env) (completion_in t c.args.end)) c.args.end s.waits s.top
+    (λ t more env. shorten_as _ _ (not_normal t c.args.end (loop env) c.in_default.not-Normal))
+
+-- where they begin
+pub statements::statement_form-returns-in-Some-Var-clause-does : goal.statements::statement_form-returns-in-Some-Var-clause-does
+statements::statement_form-returns-in-Some-Var-clause-does g t c =
+    let m = g.S.WorldStore.meaning in
+    let old = c.args.config.now in
+    let f = c.args.frame.now in
+    let s = c.in-Some-Var in
+    let k = c.run_variables.new.stops in
+    line_as m completion_in old c.run_variables.new.config f (λ t env. entry (AtStmt c.args.node.0) env) c.run_variables.result k.waits k.top (variables_left old f c.args.node 0)
+    (λ t more. stmt_is m old f c.args.node _ t refl ∙ var_begins t _ _ _ c.args.node.0 (env_in m old t f) (s.ensures ∙ s.field-0-is)) c.run_variables.ensures.does
+
+pub statements::statement_form-for_variables-requires : goal.statements::statement_form-for_variables-requires
+statements::statement_form-for_variables-requires g t c =
+    let m = g.S.WorldStore.meaning in
+    let old = c.args.config.now in
+    let f = c.args.frame.now in
+    let s = c.in-Some-For-Var-default-default-default in
+    let is : DeclaresFirst m old f c.args.node s.test s.update s.body = (_, s.ensures ∙ s.field-0-is ∙ ap (λ (i : ForInit). nodes.For i s.test s.update s.body) s.field-0-0-is) in
+    search (rules, is)
+
+pub statements::statement_form-returns-in-Some-For-Var-default-default-default-clause-does : goal.statements::statement_form-returns-in-Some-For-Var-default-default-default-clause-does
+statements::statement_form-returns-in-Some-For-Var-default-default-default-clause-does g t c =
+    let m = g.S.WorldStore.meaning in
+    let old = c.args.config.now in
+    let f = c.args.frame.now in
+    let s = c.in-Some-For-Var-default-default-default in
+    let k = c.for_variables.new.stops in
+    let n = s.ensures ∙ s.field-0-is ∙ ap (λ (i : ForInit). nodes.For i s.test s.update s.body) s.field-0-0-is in
+    line_as m completion_in old c.for_variables.new.config f (λ t env. entry (AtStmt c.args.node.0) env) c.for_variables.result k.waits k.top
+    (λ t env. Sub (variables_left old f c.args.node 0 t env) (then_normal (loops.loop_from c.args.node.0 (number s.test) (number s.update) s.body.0 env)))
+    (λ t more. stmt_is m old f c.args.node _ t refl ∙ for_begins t _ _ s.test s.update s.body c.args.node.0 (env_in m old t f) n) c.for_variables.ensures.does
+
 -- ---- bodies
 
 pub bodies::run_body-loop-element-init : goal.bodies::run_body-loop-element-init
@@ -1611,3 +2388,777 @@ bodies::body_called-body_inside-requires g t c =
     let stands : IsFunction old.units.items old.heap.arena c.args.tree c.args.body c.in-Some.scope 0 = function_at m old c.args.function c.args.tree c.args.body c.in-Some.scope c.requires.base
     c.requires.function c.requires.code (λ (e : Entry) h. c.scope_of.ensures.entry e h ∙ c.in-Some.is) in
     search (rules, base, there, node, empty, function, scope, this, values, stands)
+
+-- ---- loops
+
+-- the first expression of a `for`
+pub loops::for_expression-for_begun-requires : goal.loops::for_expression-for_begun-requires
+loops::for_expression-for_begun-requires g t c =
+    let m = g.S.WorldStore.meaning in
+    let old = c.args.config.now in
+    let f = c.args.frame.now in
+    let mid = c.effect.new.config in
+    let l = c.in-Ok.ensures.later in
+    let parts = for_stands m old (at_node f c.args.node []) (node_there m old f c.args.node [] c.requires.there c.requires.node tt) (inits.Expr c.args.e) c.args.test c.args.update c.args.body c.requires.is in
+    let base : Base m mid = l.base in
+    let there : IsThere m mid f = l.frames f c.requires.there in
+    let node : StandsHere mid f c.args.node = stands_later m old f mid c.args.node l c.requires.node in
+    let empty : c.effect.new.stops.waits ≡ [] = c.in-Ok.ensures.found.1 in
+    let is : IsLoop m mid f c.args.node c.args.test c.args.update c.args.body = loop_later m old mid f c.args.node c.args.test c.args.update c.args.body l (for_loops m old f c.args.node (inits.Expr c.args.e) c.args.test c.args.update c.args.body c.requires.is) in
+    let test : StandsIf mid f c.args.test = stands_if_later m old f mid c.args.test l (if_stands m old f c.args.node c.args.test parts.0) in
+    let update : StandsIf mid f c.args.update = stands_if_later m old f mid c.args.update l (if_stands m old f c.args.node c.args.update parts.1.0) in
+    let body : StandsHere mid f c.args.body = stands_later m old f mid c.args.body l parts.1.1 in
+    let end : HasCompletion mid c.in-Ok.end = c.in-Ok.ensures.found.0 in
+    search (rules, base, there, node, empty, is, test, update, body, end)
+
+pub loops::for_expression-returns-in-Ok-clause-later : goal.loops::for_expression-returns-in-Ok-clause-later
+loops::for_expression-returns-in-Ok-clause-later g t c =
+    later_then g.S.WorldStore.meaning c.args.config.now c.effect.new.config c.for_begun.new.config c.for_begun.result c.in-Ok.ensures.later c.for_begun.ensures.later
+
+pub loops::for_expression-returns-in-Ok-clause-does : goal.loops::for_expression-returns-in-Ok-clause-does
+loops::for_expression-returns-in-Ok-clause-does g t c =
+    let s = c.effect.new.stops in
+    let k = c.for_begun.new.stops in
+    form_goes_on g.S.WorldStore.meaning completion_in completion_in c.args.config.now c.effect.new.config c.for_begun.new.config c.args.frame.now (AtExpr c.args.e.0) (λ t env. then_value (loops.for_started c.args.node.0 (number c.args.test) (number c.args.update) c.args.body.0 env)) c.in-Ok.end
+    c.for_begun.result s.waits s.top k.waits k.top c.in-Ok.ensures.later c.in-Ok.ensures.does c.for_begun.ensures.does
+
+pub loops::for_expression-returns-in-Err-clause-later : goal.loops::for_expression-returns-in-Err-clause-later
+loops::for_expression-returns-in-Err-clause-later g t c =
+    let m = g.S.WorldStore.meaning in
+    let s = c.effect.new.stops in
+    let k = c.waits.new.stops in
+    broke_later m Completion Completion c.args.config.now c.effect.new.config c.waits.new.config c.args.frame.now c.args.node [] (points.Stmt stmt.ForFirst) c.in-Err.end s.waits s.top c.waits.result k.waits k.top
+    c.waits.ensures.same c.waits.ensures.waits c.in-Err.ensures.later
+
+pub loops::for_expression-returns-in-Err-clause-found : goal.loops::for_expression-returns-in-Err-clause-found
+loops::for_expression-returns-in-Err-clause-found g t c =
+    let m = g.S.WorldStore.meaning in
+    let s = c.effect.new.stops in
+    let k = c.waits.new.stops in
+    broke_found m Completion Completion c.args.config.now c.effect.new.config c.waits.new.config c.args.frame.now c.args.node [] (points.Stmt stmt.ForFirst) c.in-Err.end s.waits s.top c.waits.result k.waits k.top
+    c.waits.ensures.same c.waits.ensures.waits c.in-Err.ensures.later c.requires.there c.requires.node tt tt c.in-Err.ensures.found
+
+pub loops::for_expression-returns-in-Err-clause-does : goal.loops::for_expression-returns-in-Err-clause-does
+loops::for_expression-returns-in-Err-clause-does g t c =
+    let m = g.S.WorldStore.meaning in
+    let old = c.args.config.now in
+    let f = c.args.frame.now in
+    let s = c.effect.new.stops in
+    let k = c.waits.new.stops in
+    broke_does m Completion Completion old c.effect.new.config c.waits.new.config f c.args.node [] (points.Stmt stmt.ForFirst) c.in-Err.end s.waits s.top c.waits.result k.waits k.top
+    c.waits.ensures.same c.waits.ensures.waits completion_in completion_in (AtExpr c.args.e.0) (λ t env. then_value (loops.for_started c.args.node.0 (number c.args.test) (number c.args.update) c.args.body.0 env))
+    (for_first_then m old c.effect.new.config f c.args.node (inits.Expr c.args.e) c.args.test c.args.update c.args.body c.requires.is) (λ t env e. refl) c.in-Err.ensures.later c.in-Err.ensures.does
+
+pub loops::for_begun-returns-in-Gives-clause-does : goal.loops::for_begun-returns-in-Gives-clause-does
+loops::for_begun-returns-in-Gives-clause-does g t c =
+    let m = g.S.WorldStore.meaning in
+    let old = c.args.config.now in
+    let k = c.run_loop.new.stops in
+    let started : Env → Content → Act = λ env v. loops.for_started c.args.node.0 (number c.args.test) (number c.args.update) c.args.body.0 env v in
+    line_as m completion_in old c.run_loop.new.config c.args.frame.now (λ t env. then_value (started env) (completion_in t c.args.end)) c.run_loop.result k.waits k.top
+    (λ t env. loops.loop_from c.args.node.0 (number c.args.test) (number c.args.update) c.args.body.0 env)
+    (λ t more. ap (λ (e : Completion). then_value (started (env_in m old t c.args.frame.now)) (completion_in t e)) c.in-Gives.is) c.run_loop.ensures.does
+
+pub loops::for_begun-returns-in_default-clause-does : goal.loops::for_begun-returns-in_default-clause-does
+loops::for_begun-returns-in_default-clause-does g t c =
+    let m = g.S.WorldStore.meaning in
+    let s = c.args.stops.now in
+    line_ended m completion_in c.args.config.now c.args.frame.now (λ t env. then_value (loops.for_started c.args.node.0 (number c.args.test) (number c.args.update) c.args.body.0 env) (completion_in t c.args.end)) c.args.end s.waits s.top
+    (λ t more env. shorten_as _ _ (value_passes (loops.for_started c.args.node.0 (number c.args.test) (number c.args.update) c.args.body.0 env) t c.args.end c.in_default.not-Gives))
+
+-- from the first iteration on
+pub loops::run_loop-iterations-requires : goal.loops::run_loop-iterations-requires
+loops::run_loop-iterations-requires g t c =
+    let m = g.S.WorldStore.meaning in
+    let old = c.args.config.now in
+    let f = c.args.frame.now in
+    let mid = c.first.new.config in
+    let l = c.in-Ok.ensures.later in
+    let base : Base m mid = l.base in
+    let there : IsThere m mid f = l.frames f c.requires.there in
+    let node : StandsHere mid f c.args.node = stands_later m old f mid c.args.node l c.requires.node in
+    let empty : c.first.new.stops.waits ≡ [] = c.in-Ok.ensures.found.1 in
+    let is : IsLoop m mid f c.args.node c.args.test c.args.update c.args.body = loop_later m old mid f c.args.node c.args.test c.args.update c.args.body l c.requires.is in
+    let test : StandsIf mid f c.args.test = stands_if_later m old f mid c.args.test l c.requires.test in
+    let update : StandsIf mid f c.args.update = stands_if_later m old f mid c.args.update l c.requires.update in
+    let body : StandsHere mid f c.args.body = stands_later m old f mid c.args.body l c.requires.body in
+    search (rules, base, there, node, empty, is, test, update, body)
+
+pub loops::run_loop-returns-in-Some-clause-later : goal.loops::run_loop-returns-in-Some-clause-later
+loops::run_loop-returns-in-Some-clause-later g t c = c.in-Ok.ensures.later
+
+pub loops::run_loop-returns-in-Some-clause-found : goal.loops::run_loop-returns-in-Some-clause-found
+loops::run_loop-returns-in-Some-clause-found g t c = (subst (λ (o : Option Completion). HasRound c.first.new.config o) c.in-Some.is c.in-Ok.ensures.found.0, c.in-Ok.ensures.found.1)
+
+pub loops::run_loop-returns-in-Some-clause-does : goal.loops::run_loop-returns-in-Some-clause-does
+loops::run_loop-returns-in-Some-clause-does g t c =
+    let m = g.S.WorldStore.meaning in
+    let new = c.first.new.config in
+    let old = c.args.config.now in
+    let f = c.args.frame.now in
+    subst (λ (o : Option Completion). Leaves m (line_here m old f (λ t env. loops.loop_from c.args.node.0 (number c.args.test) (number c.args.update) c.args.body.0 env)) (round_left m new f c.args.node o) old new) c.in-Some.is c.in-Ok.ensures.does
+
+pub loops::run_loop-returns-in-None-clause-later : goal.loops::run_loop-returns-in-None-clause-later
+loops::run_loop-returns-in-None-clause-later g t c =
+    later_then g.S.WorldStore.meaning c.args.config.now c.first.new.config c.iterations.new.config c.iterations.result c.in-Ok.ensures.later c.iterations.ensures.later
+
+pub loops::run_loop-returns-in-None-clause-does : goal.loops::run_loop-returns-in-None-clause-does
+loops::run_loop-returns-in-None-clause-does g t c =
+    let m = g.S.WorldStore.meaning in
+    let old = c.args.config.now in
+    let mid = c.first.new.config in
+    let f = c.args.frame.now in
+    let from = line_here m old f (λ t env. loops.loop_from c.args.node.0 (number c.args.test) (number c.args.update) c.args.body.0 env) in
+    let one = subst (λ (o : Option Completion). Leaves m from (round_left m mid f c.args.node o) old mid) c.in-None.is c.in-Ok.ensures.does in
+    let k = c.iterations.new.stops in
+    in_memory c.iterations.result (leaves_all m from (goal_here m mid f (Again c.args.node.0)) (outcome_in m c.iterations.new.config completion_in c.iterations.result k.waits k.top) old mid c.iterations.new.config one) c.iterations.ensures.does
+
+pub loops::run_loop-returns-in-Err-clause-later : goal.loops::run_loop-returns-in-Err-clause-later
+loops::run_loop-returns-in-Err-clause-later g t c =
+    broken_as (Option Completion) Completion (Later g.S.WorldStore.meaning c.args.config.now c.first.new.config) c.in-Err.end c.in-Err.ensures.later
+
+pub loops::run_loop-returns-in-Err-clause-does : goal.loops::run_loop-returns-in-Err-clause-does
+loops::run_loop-returns-in-Err-clause-does g t c = c.in-Err.ensures.does
+
+-- the first iteration
+pub loops::first-first_tested-requires : goal.loops::first-first_tested-requires
+loops::first-first_tested-requires g t c =
+    let test : StandsHere c.args.config.now c.args.frame.now c.in-Some.e = subst (λ (o : Option NodeId). StandsIf c.args.config.now c.args.frame.now o) c.in-Some.is c.requires.test in
+    search (rules, test)
+
+pub loops::first-returns-in-Some-clause-does : goal.loops::first-returns-in-Some-clause-does
+loops::first-returns-in-Some-clause-does g t c =
+    let m = g.S.WorldStore.meaning in
+    let old = c.args.config.now in
+    let f = c.args.frame.now in
+    let k = c.first_tested.new.stops in
+    round_behind m (line_here m old f (λ t env. loops.loop_from c.args.node.0 (number c.args.test) (number c.args.update) c.args.body.0 env))
+    (form_here m old f (AtExpr c.in-Some.e.0) (λ t env. then_value (loops.loop_test c.args.node.0 (number c.args.update) c.args.body.0 env))) f c.args.node c.first_tested.result k.waits k.top old old c.first_tested.new.config
+    (line_begins m old f (λ t env. loops.loop_from c.args.node.0 (number c.args.test) (number c.args.update) c.args.body.0 env) (AtExpr c.in-Some.e.0) (λ t env. then_value (loops.loop_test c.args.node.0 (number c.args.update) c.args.body.0 env))
+    (λ t more. ap (λ (o : Option NodeId). loops.loop_from c.args.node.0 (number o) (number c.args.update) c.args.body.0 (env_in m old t f)) c.in-Some.is)) c.first_tested.ensures.does
+
+pub loops::first-returns-in-None-clause-does : goal.loops::first-returns-in-None-clause-does
+loops::first-returns-in-None-clause-does g t c =
+    let m = g.S.WorldStore.meaning in
+    let old = c.args.config.now in
+    let f = c.args.frame.now in
+    let k = c.body_run.new.stops in
+    round_behind m (line_here m old f (λ t env. loops.loop_from c.args.node.0 (number c.args.test) (number c.args.update) c.args.body.0 env))
+    (form_here m old f (AtStmt c.args.body.0) (λ t env. loops.loop_body c.args.node.0 (number c.args.update) env)) f c.args.node c.body_run.result k.waits k.top old old c.body_run.new.config
+    (line_begins m old f (λ t env. loops.loop_from c.args.node.0 (number c.args.test) (number c.args.update) c.args.body.0 env) (AtStmt c.args.body.0) (λ t env. loops.loop_body c.args.node.0 (number c.args.update) env)
+    (λ t more. ap (λ (o : Option NodeId). loops.loop_from c.args.node.0 (number o) (number c.args.update) c.args.body.0 (env_in m old t f)) c.in-None.is)) c.body_run.ensures.does
+
+pub loops::first_tested-tested-requires : goal.loops::first_tested-tested-requires
+loops::first_tested-tested-requires g t c =
+    let m = g.S.WorldStore.meaning in
+    let old = c.args.config.now in
+    let f = c.args.frame.now in
+    let mid = c.value.new.config in
+    let l = c.in-Ok.ensures.later in
+    let base : Base m mid = l.base in
+    let there : IsThere m mid f = l.frames f c.requires.there in
+    let node : StandsHere mid f c.args.node = stands_later m old f mid c.args.node l c.requires.node in
+    let empty : c.value.new.stops.waits ≡ [] = c.in-Ok.ensures.found.1 in
+    let update : StandsIf mid f c.args.update = stands_if_later m old f mid c.args.update l c.requires.update in
+    let body : StandsHere mid f c.args.body = stands_later m old f mid c.args.body l c.requires.body in
+    let truth : HasValue mid c.in-Ok.truth = c.in-Ok.ensures.found.0 in
+    search (rules, base, there, node, empty, update, body, truth)
+
+pub loops::first_tested-returns-in-Ok-clause-later : goal.loops::first_tested-returns-in-Ok-clause-later
+loops::first_tested-returns-in-Ok-clause-later g t c =
+    later_then g.S.WorldStore.meaning c.args.config.now c.value.new.config c.tested.new.config c.tested.result c.in-Ok.ensures.later c.tested.ensures.later
+
+pub loops::first_tested-returns-in-Ok-clause-does : goal.loops::first_tested-returns-in-Ok-clause-does
+loops::first_tested-returns-in-Ok-clause-does g t c =
+    let m = g.S.WorldStore.meaning in
+    let old = c.args.config.now in
+    let mid = c.value.new.config in
+    let f = c.args.frame.now in
+    let k = c.tested.new.stops in
+    let next : Table → Env → Meant → Act = λ t env. then_value (loops.loop_test c.args.node.0 (number c.args.update) c.args.body.0 env) in
+    round_behind m (form_here m old f (AtExpr c.args.test.0) next) (line_here m mid f (λ t env. next t env (gives_in t c.in-Ok.truth))) f c.args.node c.tested.result k.waits k.top old mid c.tested.new.config
+    (part_left m gives_in old mid f (AtExpr c.args.test.0) next c.in-Ok.truth c.in-Ok.ensures.later c.in-Ok.ensures.does) c.tested.ensures.does
+
+pub loops::first_tested-returns-in-Err-clause-later : goal.loops::first_tested-returns-in-Err-clause-later
+loops::first_tested-returns-in-Err-clause-later g t c =
+    let m = g.S.WorldStore.meaning in
+    let s = c.value.new.stops in
+    let k = c.waits.new.stops in
+    broke_later m Value (Option Completion) c.args.config.now c.value.new.config c.waits.new.config c.args.frame.now c.args.node [] (points.Stmt (stmt.ForTest c.args.update c.args.body)) c.in-Err.end s.waits s.top c.waits.result k.waits k.top
+    c.waits.ensures.same c.waits.ensures.waits c.in-Err.ensures.later
+
+pub loops::first_tested-returns-in-Err-clause-found : goal.loops::first_tested-returns-in-Err-clause-found
+loops::first_tested-returns-in-Err-clause-found g t c =
+    let m = g.S.WorldStore.meaning in
+    let old = c.args.config.now in
+    let f = c.args.frame.now in
+    let s = c.value.new.stops in
+    let k = c.waits.new.stops in
+    broke_found m Value (Option Completion) old c.value.new.config c.waits.new.config f c.args.node [] (points.Stmt (stmt.ForTest c.args.update c.args.body)) c.in-Err.end s.waits s.top c.waits.result k.waits k.top
+    c.waits.ensures.same c.waits.ensures.waits c.in-Err.ensures.later c.requires.there c.requires.node tt (if_here m old f c.args.node c.args.update c.requires.update, c.requires.body) c.in-Err.ensures.found
+
+pub loops::first_tested-returns-in-Err-clause-does : goal.loops::first_tested-returns-in-Err-clause-does
+loops::first_tested-returns-in-Err-clause-does g t c =
+    let m = g.S.WorldStore.meaning in
+    let s = c.value.new.stops in
+    let k = c.waits.new.stops in
+    broke_does m Value Completion c.args.config.now c.value.new.config c.waits.new.config c.args.frame.now c.args.node [] (points.Stmt (stmt.ForTest c.args.update c.args.body)) c.in-Err.end s.waits s.top c.waits.result k.waits k.top
+    c.waits.ensures.same c.waits.ensures.waits gives_in completion_in (AtExpr c.args.test.0) (λ t env. then_value (loops.loop_test c.args.node.0 (number c.args.update) c.args.body.0 env)) (λ l t env. refl) (λ t env e. refl) c.in-Err.ensures.later c.in-Err.ensures.does
+
+-- the later ones
+pub loops::iterations-loop-test-init : goal.loops::iterations-loop-test-init
+loops::iterations-loop-test-init g t c = record {
+  left = record { by = λ go later r h. h };
+  later = later_same g.S.WorldStore.meaning c.args.config.now c.requires.base;
+  empty = c.requires.empty;
+}
+
+pub loops::iterations-iteration-requires : goal.loops::iterations-iteration-requires
+loops::iterations-iteration-requires g t c =
+    let m = g.S.WorldStore.meaning in
+    let old = c.args.config.now in
+    let f = c.args.frame.now in
+    let mid = c.loop-test.config in
+    let now = record mid { left = mid.left - 1 } in
+    let l = later_twice m old mid now c.loop-test.invariant.later (later_left m mid (mid.left - 1) c.loop-test.invariant.later.base) in
+    let some = c.may_go_round.ensures.room c.loop-test-test.true in
+    let base : Base m now = l.base in
+    let there : IsThere m now f = l.frames f c.requires.there in
+    let node : StandsHere now f c.args.node = stands_later m old f now c.args.node l c.requires.node in
+    let empty : c.loop-test.stops.waits ≡ [] = c.loop-test.invariant.empty in
+    let test : StandsIf now f c.args.test = stands_if_later m old f now c.args.test l c.requires.test in
+    let update : StandsIf now f c.args.update = stands_if_later m old f now c.args.update l c.requires.update in
+    let body : StandsHere now f c.args.body = stands_later m old f now c.args.body l c.requires.body in
+    search (rules, some, base, there, node, empty, test, update, body)
+
+pub loops::iterations-loop-test-preserved : goal.loops::iterations-loop-test-preserved
+loops::iterations-loop-test-preserved g t c =
+    let m = g.S.WorldStore.meaning in
+    let old = c.args.config.now in
+    let f = c.args.frame.now in
+    let mid = c.loop-test.config in
+    let now = record mid { left = mid.left - 1 } in
+    let new = c.iteration.new.config in
+    let inv = c.loop-test.invariant in
+    let l = later_left m mid (mid.left - 1) inv.later.base in
+    let line = line_here m now f (λ t env. iteration_from c.args.node.0 (number c.args.test) (number c.args.update) c.args.body.0 env) in
+    let goal_at : Config g.row.S.Denot → Table → (Meant → Act) → Act = λ x. goal_here m x f (Again c.args.node.0) in
+    let begun = round_begun m mid f c.args.node c.args.test c.args.update c.args.body (c.may_go_round.ensures.left c.loop-test-test.true) (loop_later m old mid f c.args.node c.args.test c.args.update c.args.body inv.later c.requires.is) in
+    let one = subst (λ (o : Option Completion). Leaves m line (round_left m new f c.args.node o) now new) c.in-None.is c.in-Ok.ensures.does in
+    record {
+      left = leaves_all m (goal_at old) (goal_at mid) (goal_at new) old mid new inv.left (leaves_all m (goal_at mid) line (goal_at new) mid now new begun one);
+      later = later_twice m old mid new inv.later (later_twice m mid now new l c.in-Ok.ensures.later);
+      empty = c.in-Ok.ensures.found.1;
+    }
+
+pub loops::iterations-returns-in-Some-clause-later : goal.loops::iterations-returns-in-Some-clause-later
+loops::iterations-returns-in-Some-clause-later g t c =
+    let m = g.S.WorldStore.meaning in
+    let old = c.args.config.now in
+    let mid = c.loop-test.config in
+    let now = record mid { left = mid.left - 1 } in
+    let new = c.iteration.new.config in
+    let inv = c.loop-test.invariant in
+    later_twice m old mid new inv.later (later_twice m mid now new (later_left m mid (mid.left - 1) inv.later.base) c.in-Ok.ensures.later)
+
+pub loops::iterations-returns-in-Some-clause-found : goal.loops::iterations-returns-in-Some-clause-found
+loops::iterations-returns-in-Some-clause-found g t c = (subst (λ (o : Option Completion). HasRound c.iteration.new.config o) c.in-Some.is c.in-Ok.ensures.found.0, c.in-Ok.ensures.found.1)
+
+pub loops::iterations-returns-in-Some-clause-does : goal.loops::iterations-returns-in-Some-clause-does
+loops::iterations-returns-in-Some-clause-does g t c =
+    let m = g.S.WorldStore.meaning in
+    let old = c.args.config.now in
+    let f = c.args.frame.now in
+    let mid = c.loop-test.config in
+    let now = record mid { left = mid.left - 1 } in
+    let new = c.iteration.new.config in
+    let inv = c.loop-test.invariant in
+    let line = line_here m now f (λ t env. iteration_from c.args.node.0 (number c.args.test) (number c.args.update) c.args.body.0 env) in
+    let goal_at : Config g.row.S.Denot → Table → (Meant → Act) → Act = λ x. goal_here m x f (Again c.args.node.0) in
+    let begun = round_begun m mid f c.args.node c.args.test c.args.update c.args.body (c.may_go_round.ensures.left c.loop-test-test.true) (loop_later m old mid f c.args.node c.args.test c.args.update c.args.body inv.later c.requires.is) in
+    let one = subst (λ (o : Option Completion). Leaves m line (round_left m new f c.args.node o) now new) c.in-Some.is c.in-Ok.ensures.does in
+    leaves_all m (goal_at old) (goal_at mid) (round_left m new f c.args.node (Some c.in-Some.end)) old mid new inv.left (leaves_all m (goal_at mid) line (round_left m new f c.args.node (Some c.in-Some.end)) mid now new begun one)
+
+pub loops::iterations-returns-in-Err-clause-later : goal.loops::iterations-returns-in-Err-clause-later
+loops::iterations-returns-in-Err-clause-later g t c =
+    let m = g.S.WorldStore.meaning in
+    let old = c.args.config.now in
+    let mid = c.loop-test.config in
+    let now = record mid { left = mid.left - 1 } in
+    let new = c.iteration.new.config in
+    let inv = c.loop-test.invariant in
+    later_then m {A = Completion} old mid new (Err c.in-Err.end) inv.later
+    (later_then m {A = Completion} mid now new (Err c.in-Err.end) (later_left m mid (mid.left - 1) inv.later.base) (broken_as (Option Completion) Completion (Later m now new) c.in-Err.end c.in-Err.ensures.later))
+
+pub loops::iterations-returns-in-Err-clause-does : goal.loops::iterations-returns-in-Err-clause-does
+loops::iterations-returns-in-Err-clause-does g t c =
+    let m = g.S.WorldStore.meaning in
+    let old = c.args.config.now in
+    let f = c.args.frame.now in
+    let mid = c.loop-test.config in
+    let now = record mid { left = mid.left - 1 } in
+    let new = c.iteration.new.config in
+    let inv = c.loop-test.invariant in
+    let k = c.iteration.new.stops in
+    let line = line_here m now f (λ t env. iteration_from c.args.node.0 (number c.args.test) (number c.args.update) c.args.body.0 env) in
+    let goal_at : Config g.row.S.Denot → Table → (Meant → Act) → Act = λ x. goal_here m x f (Again c.args.node.0) in
+    let begun = round_begun m mid f c.args.node c.args.test c.args.update c.args.body (c.may_go_round.ensures.left c.loop-test-test.true) (loop_later m old mid f c.args.node c.args.test c.args.update c.args.body inv.later c.requires.is) in
+    round_behind m (goal_at old) (goal_at mid) f c.args.node (Err c.in-Err.end) k.waits k.top old mid new inv.left
+    (round_behind m (goal_at mid) line f c.args.node (Err c.in-Err.end) k.waits k.top mid now new begun c.in-Err.ensures.does)
+
+pub loops::iterations-returns-clause-later : goal.loops::iterations-returns-clause-later
+loops::iterations-returns-clause-later g t c =
+    let m = g.S.WorldStore.meaning in
+    let old = c.args.config.now in
+    let mid = c.loop-test.config in
+    let inv = c.loop-test.invariant in
+    later_then m {A = Completion} old mid c.stop.new.config (Err c.stop.result) inv.later (later_stopped m {A = Completion} mid c.stop.new.config (Err c.stop.result) inv.later.base c.stop.ensures.same)
+
+pub loops::iterations-returns-clause-found : goal.loops::iterations-returns-clause-found
+loops::iterations-returns-clause-found g t c =
+    let m = g.S.WorldStore.meaning in
+    let old = c.args.config.now in
+    let f = c.args.frame.now in
+    let mid = c.loop-test.config in
+    let l = c.loop-test.invariant.later in
+    let s = c.stop.new.stops in
+    stop_found m mid c.stop.new.config f c.args.node [] (phases.Due starts.Again) c.stop.result s.waits s.top c.stop.ensures.same
+    (l.frames f c.requires.there) (stands_later m old f mid c.args.node l c.requires.node) tt tt c.stop.ensures.stops
+
+pub loops::iterations-returns-clause-does : goal.loops::iterations-returns-clause-does
+loops::iterations-returns-clause-does g t c =
+    let m = g.S.WorldStore.meaning in
+    let old = c.args.config.now in
+    let f = c.args.frame.now in
+    let mid = c.loop-test.config in
+    let s = c.stop.new.stops in
+    let goal_at : Config g.row.S.Denot → Table → (Meant → Act) → Act = λ x. goal_here m x f (Again c.args.node.0) in
+    round_behind m (goal_at old) (goal_at mid) f c.args.node (Err c.stop.result) s.waits s.top old mid c.stop.new.config c.loop-test.invariant.left
+    (due_does m {A = Completion} completion_in mid c.stop.new.config f c.stop.result s.waits s.top c.stop.ensures.same (part.Again c.args.node) c.stop.ensures.stops)
+
+pub loops::iteration-next_tested-requires : goal.loops::iteration-next_tested-requires
+loops::iteration-next_tested-requires g t c =
+    let test : StandsHere c.args.config.now c.args.frame.now c.in-Some.e = subst (λ (o : Option NodeId). StandsIf c.args.config.now c.args.frame.now o) c.in-Some.is c.requires.test in
+    search (rules, test)
+
+pub loops::iteration-returns-in-Some-clause-does : goal.loops::iteration-returns-in-Some-clause-does
+loops::iteration-returns-in-Some-clause-does g t c =
+    let m = g.S.WorldStore.meaning in
+    let old = c.args.config.now in
+    let f = c.args.frame.now in
+    let k = c.next_tested.new.stops in
+    let other : Table → Env → Act = λ t env. Sub (expr_at c.in-Some.e.0 env) (then_value (loops.loop_test c.args.node.0 (number c.args.update) c.args.body.0 env)) in
+    round_behind m (line_here m old f (λ t env. iteration_from c.args.node.0 (number c.args.test) (number c.args.update) c.args.body.0 env)) (line_here m old f other) f c.args.node c.next_tested.result k.waits k.top old old c.next_tested.new.config
+    (line_same m old f (λ t env. iteration_from c.args.node.0 (number c.args.test) (number c.args.update) c.args.body.0 env) other (λ t more. ap (λ (o : Option NodeId). iteration_from c.args.node.0 (number o) (number c.args.update) c.args.body.0 (env_in m old t f)) c.in-Some.is)) c.next_tested.ensures.does
+
+pub loops::iteration-returns-in-None-clause-does : goal.loops::iteration-returns-in-None-clause-does
+loops::iteration-returns-in-None-clause-does g t c =
+    let m = g.S.WorldStore.meaning in
+    let old = c.args.config.now in
+    let f = c.args.frame.now in
+    let k = c.body_entered.new.stops in
+    let other : Table → Env → Act = λ t env. Sub (stmt_at c.args.body.0 env) (loops.loop_body c.args.node.0 (number c.args.update) env) in
+    round_behind m (line_here m old f (λ t env. iteration_from c.args.node.0 (number c.args.test) (number c.args.update) c.args.body.0 env)) (line_here m old f other) f c.args.node c.body_entered.result k.waits k.top old old c.body_entered.new.config
+    (line_same m old f (λ t env. iteration_from c.args.node.0 (number c.args.test) (number c.args.update) c.args.body.0 env) other (λ t more. ap (λ (o : Option NodeId). iteration_from c.args.node.0 (number o) (number c.args.update) c.args.body.0 (env_in m old t f)) c.in-None.is)) c.body_entered.ensures.does
+
+pub loops::next_tested-tested-requires : goal.loops::next_tested-tested-requires
+loops::next_tested-tested-requires g t c =
+    let m = g.S.WorldStore.meaning in
+    let old = c.args.config.now in
+    let f = c.args.frame.now in
+    let mid = c.entered.new.config in
+    let l = c.in-Ok.ensures.later in
+    let base : Base m mid = l.base in
+    let there : IsThere m mid f = l.frames f c.requires.there in
+    let node : StandsHere mid f c.args.node = stands_later m old f mid c.args.node l c.requires.node in
+    let empty : c.entered.new.stops.waits ≡ [] = c.in-Ok.ensures.found.1 in
+    let update : StandsIf mid f c.args.update = stands_if_later m old f mid c.args.update l c.requires.update in
+    let body : StandsHere mid f c.args.body = stands_later m old f mid c.args.body l c.requires.body in
+    let truth : HasValue mid c.in-Ok.truth = c.in-Ok.ensures.found.0 in
+    search (rules, base, there, node, empty, update, body, truth)
+
+pub loops::next_tested-returns-in-Ok-clause-later : goal.loops::next_tested-returns-in-Ok-clause-later
+loops::next_tested-returns-in-Ok-clause-later g t c =
+    later_then g.S.WorldStore.meaning c.args.config.now c.entered.new.config c.tested.new.config c.tested.result c.in-Ok.ensures.later c.tested.ensures.later
+
+pub loops::next_tested-returns-in-Ok-clause-does : goal.loops::next_tested-returns-in-Ok-clause-does
+loops::next_tested-returns-in-Ok-clause-does g t c =
+    let m = g.S.WorldStore.meaning in
+    let old = c.args.config.now in
+    let mid = c.entered.new.config in
+    let f = c.args.frame.now in
+    let k = c.tested.new.stops in
+    let next : Table → Env → Meant → Act = λ t env. then_value (loops.loop_test c.args.node.0 (number c.args.update) c.args.body.0 env) in
+    round_behind m (line_here m old f (λ t env. Sub (entry (AtExpr c.args.test.0) env) (next t env))) (line_here m mid f (λ t env. next t env (gives_in t c.in-Ok.truth))) f c.args.node c.tested.result k.waits k.top old mid c.tested.new.config
+    (entry_left m gives_in old mid f (AtExpr c.args.test.0) next c.in-Ok.truth c.in-Ok.ensures.later c.in-Ok.ensures.does) c.tested.ensures.does
+
+pub loops::next_tested-returns-in-Err-clause-later : goal.loops::next_tested-returns-in-Err-clause-later
+loops::next_tested-returns-in-Err-clause-later g t c =
+    let m = g.S.WorldStore.meaning in
+    let s = c.entered.new.stops in
+    let k = c.waits.new.stops in
+    broke_later m Value (Option Completion) c.args.config.now c.entered.new.config c.waits.new.config c.args.frame.now c.args.node [] (points.Stmt (stmt.ForTest c.args.update c.args.body)) c.in-Err.end s.waits s.top c.waits.result k.waits k.top
+    c.waits.ensures.same c.waits.ensures.waits c.in-Err.ensures.later
+
+pub loops::next_tested-returns-in-Err-clause-found : goal.loops::next_tested-returns-in-Err-clause-found
+loops::next_tested-returns-in-Err-clause-found g t c =
+    let m = g.S.WorldStore.meaning in
+    let old = c.args.config.now in
+    let f = c.args.frame.now in
+    let s = c.entered.new.stops in
+    let k = c.waits.new.stops in
+    broke_found m Value (Option Completion) old c.entered.new.config c.waits.new.config f c.args.node [] (points.Stmt (stmt.ForTest c.args.update c.args.body)) c.in-Err.end s.waits s.top c.waits.result k.waits k.top
+    c.waits.ensures.same c.waits.ensures.waits c.in-Err.ensures.later c.requires.there c.requires.node tt (if_here m old f c.args.node c.args.update c.requires.update, c.requires.body) c.in-Err.ensures.found
+
+pub loops::next_tested-returns-in-Err-clause-does : goal.loops::next_tested-returns-in-Err-clause-does
+loops::next_tested-returns-in-Err-clause-does g t c =
+    let m = g.S.WorldStore.meaning in
+    let s = c.entered.new.stops in
+    let k = c.waits.new.stops in
+    entry_broke m {A = Value} {B = Completion} gives_in completion_in c.args.config.now c.entered.new.config c.waits.new.config c.args.frame.now (AtExpr c.args.test.0) (λ t env. then_value (loops.loop_test c.args.node.0 (number c.args.update) c.args.body.0 env)) c.args.node [] (points.Stmt (stmt.ForTest c.args.update c.args.body))
+    c.in-Err.end s.waits s.top c.waits.result k.waits k.top c.waits.ensures.same c.waits.ensures.waits (λ l t env. refl) (λ t env e. refl) c.in-Err.ensures.later c.in-Err.ensures.does
+
+-- what is entered already
+pub loops::entered-returns-in-Some-clause-does : goal.loops::entered-returns-in-Some-clause-does
+loops::entered-returns-in-Some-clause-does g t c =
+    let m = g.S.WorldStore.meaning in
+    let old = c.args.config.now in
+    let s = c.args.stops.now in
+    did m gives_in (entry_here m old c.args.frame.now (AtExpr c.args.node.0)) c.in-Some.value s.waits s.top old c.quick_entered.new.config c.in-Some.ensures.does
+
+pub loops::entered-form-requires : goal.loops::entered-form-requires
+loops::entered-form-requires g t c =
+    let m = g.S.WorldStore.meaning in
+    let old = c.args.config.now in
+    let f = c.args.frame.now in
+    let mid = c.quick_entered.new.config in
+    let l = c.quick_entered.ensures.later in
+    let base : Base m mid = l.base in
+    let there : IsThere m mid f = l.frames f c.requires.there in
+    let node : StandsHere mid f c.args.node = stands_later m old f mid c.args.node l c.requires.node in
+    search (rules, base, there, node)
+
+pub loops::entered-returns-clause-later : goal.loops::entered-returns-clause-later
+loops::entered-returns-clause-later g t c =
+    later_then g.S.WorldStore.meaning c.args.config.now c.quick_entered.new.config c.form.new.config c.form.result c.quick_entered.ensures.later c.form.ensures.later
+
+pub loops::entered-returns-clause-does : goal.loops::entered-returns-clause-does
+loops::entered-returns-clause-does g t c =
+    let m = g.S.WorldStore.meaning in
+    let s = c.form.new.stops in
+    subst (λ (x : Config g.row.S.Denot). Evaluates m (entry_here m x c.args.frame.now (AtExpr c.args.node.0)) gives_in c.form.result s.waits s.top x c.form.new.config) c.in_default.ensures.same c.form.ensures.does
+
+pub loops::body_entered-body_ended-requires : goal.loops::body_entered-body_ended-requires
+loops::body_entered-body_ended-requires g t c =
+    let m = g.S.WorldStore.meaning in
+    let old = c.args.config.now in
+    let f = c.args.frame.now in
+    let mid = c.statement_form.new.config in
+    let l = c.in-Ok.ensures.later in
+    let base : Base m mid = l.base in
+    let there : IsThere m mid f = l.frames f c.requires.there in
+    let node : StandsHere mid f c.args.node = stands_later m old f mid c.args.node l c.requires.node in
+    let empty : c.statement_form.new.stops.waits ≡ [] = c.in-Ok.ensures.found.1 in
+    let update : StandsIf mid f c.args.update = stands_if_later m old f mid c.args.update l c.requires.update in
+    let end : HasCompletion mid c.in-Ok.end = c.in-Ok.ensures.found.0 in
+    search (rules, base, there, node, empty, update, end)
+
+pub loops::body_entered-returns-in-Ok-clause-later : goal.loops::body_entered-returns-in-Ok-clause-later
+loops::body_entered-returns-in-Ok-clause-later g t c =
+    later_then g.S.WorldStore.meaning c.args.config.now c.statement_form.new.config c.body_ended.new.config c.body_ended.result c.in-Ok.ensures.later c.body_ended.ensures.later
+
+pub loops::body_entered-returns-in-Ok-clause-does : goal.loops::body_entered-returns-in-Ok-clause-does
+loops::body_entered-returns-in-Ok-clause-does g t c =
+    let m = g.S.WorldStore.meaning in
+    let old = c.args.config.now in
+    let mid = c.statement_form.new.config in
+    let f = c.args.frame.now in
+    let k = c.body_ended.new.stops in
+    let next : Table → Env → Meant → Act = λ t env. loops.loop_body c.args.node.0 (number c.args.update) env in
+    round_behind m (line_here m old f (λ t env. Sub (entry (AtStmt c.args.body.0) env) (next t env))) (line_here m mid f (λ t env. next t env (completion_in t c.in-Ok.end))) f c.args.node c.body_ended.result k.waits k.top old mid c.body_ended.new.config
+    (entry_left m completion_in old mid f (AtStmt c.args.body.0) next c.in-Ok.end c.in-Ok.ensures.later c.in-Ok.ensures.does) c.body_ended.ensures.does
+
+pub loops::body_entered-returns-in-Err-clause-later : goal.loops::body_entered-returns-in-Err-clause-later
+loops::body_entered-returns-in-Err-clause-later g t c =
+    let m = g.S.WorldStore.meaning in
+    let s = c.statement_form.new.stops in
+    let k = c.waits.new.stops in
+    broke_later m Completion (Option Completion) c.args.config.now c.statement_form.new.config c.waits.new.config c.args.frame.now c.args.node [] (points.Stmt (stmt.ForBody c.args.update)) c.in-Err.end s.waits s.top c.waits.result k.waits k.top
+    c.waits.ensures.same c.waits.ensures.waits c.in-Err.ensures.later
+
+pub loops::body_entered-returns-in-Err-clause-found : goal.loops::body_entered-returns-in-Err-clause-found
+loops::body_entered-returns-in-Err-clause-found g t c =
+    let m = g.S.WorldStore.meaning in
+    let old = c.args.config.now in
+    let f = c.args.frame.now in
+    let s = c.statement_form.new.stops in
+    let k = c.waits.new.stops in
+    broke_found m Completion (Option Completion) old c.statement_form.new.config c.waits.new.config f c.args.node [] (points.Stmt (stmt.ForBody c.args.update)) c.in-Err.end s.waits s.top c.waits.result k.waits k.top
+    c.waits.ensures.same c.waits.ensures.waits c.in-Err.ensures.later c.requires.there c.requires.node tt (if_here m old f c.args.node c.args.update c.requires.update) c.in-Err.ensures.found
+
+pub loops::body_entered-returns-in-Err-clause-does : goal.loops::body_entered-returns-in-Err-clause-does
+loops::body_entered-returns-in-Err-clause-does g t c =
+    let m = g.S.WorldStore.meaning in
+    let s = c.statement_form.new.stops in
+    let k = c.waits.new.stops in
+    entry_broke m {A = Completion} {B = Completion} completion_in completion_in c.args.config.now c.statement_form.new.config c.waits.new.config c.args.frame.now (AtStmt c.args.body.0) (λ t env. loops.loop_body c.args.node.0 (number c.args.update) env) c.args.node [] (points.Stmt (stmt.ForBody c.args.update))
+    c.in-Err.end s.waits s.top c.waits.result k.waits k.top c.waits.ensures.same c.waits.ensures.waits (λ l t env. refl) (λ t env e. refl) c.in-Err.ensures.later c.in-Err.ensures.does
+
+-- after the test
+pub loops::tested-returns-then-to_boolean-clause-does : goal.loops::tested-returns-then-to_boolean-clause-does
+loops::tested-returns-then-to_boolean-clause-does g t c =
+    let m = g.S.WorldStore.meaning in
+    let old = c.args.config.now in
+    let f = c.args.frame.now in
+    let k = c.body_run.new.stops in
+    round_behind m (line_here m old f (λ t env. loops.loop_test c.args.node.0 (number c.args.update) c.args.body.0 env (value_in t c.args.truth)))
+    (form_here m old f (AtStmt c.args.body.0) (λ t env. loops.loop_body c.args.node.0 (number c.args.update) env)) f c.args.node c.body_run.result k.waits k.top old old c.body_run.new.config
+    (line_begins m old f (λ t env. loops.loop_test c.args.node.0 (number c.args.update) c.args.body.0 env (value_in t c.args.truth)) (AtStmt c.args.body.0) (λ t env. loops.loop_body c.args.node.0 (number c.args.update) env)
+    (λ t more. test_holds c.args.node.0 (number c.args.update) c.args.body.0 (env_in m old t f) (value_in t c.args.truth) (c.to_boolean.ensures t more ∙ c.if-to_boolean.true))) c.body_run.ensures.does
+
+pub loops::tested-returns-else-to_boolean-clause-does : goal.loops::tested-returns-else-to_boolean-clause-does
+loops::tested-returns-else-to_boolean-clause-does g t c =
+    let m = g.S.WorldStore.meaning in
+    let old = c.args.config.now in
+    let f = c.args.frame.now in
+    round_ended m old f c.args.node (λ t env. loops.loop_test c.args.node.0 (number c.args.update) c.args.body.0 env (value_in t c.args.truth)) completions.Normal
+    (λ t more. test_fails c.args.node.0 (number c.args.update) c.args.body.0 (env_in m old t f) (value_in t c.args.truth) (c.to_boolean.ensures t more ∙ c.if-to_boolean.false))
+
+-- the body
+pub loops::body_run-body_ended-requires : goal.loops::body_run-body_ended-requires
+loops::body_run-body_ended-requires g t c =
+    let m = g.S.WorldStore.meaning in
+    let old = c.args.config.now in
+    let f = c.args.frame.now in
+    let mid = c.statement.new.config in
+    let l = c.in-Ok.ensures.later in
+    let base : Base m mid = l.base in
+    let there : IsThere m mid f = l.frames f c.requires.there in
+    let node : StandsHere mid f c.args.node = stands_later m old f mid c.args.node l c.requires.node in
+    let empty : c.statement.new.stops.waits ≡ [] = c.in-Ok.ensures.found.1 in
+    let update : StandsIf mid f c.args.update = stands_if_later m old f mid c.args.update l c.requires.update in
+    let end : HasCompletion mid c.in-Ok.end = c.in-Ok.ensures.found.0 in
+    search (rules, base, there, node, empty, update, end)
+
+pub loops::body_run-returns-in-Ok-clause-later : goal.loops::body_run-returns-in-Ok-clause-later
+loops::body_run-returns-in-Ok-clause-later g t c =
+    later_then g.S.WorldStore.meaning c.args.config.now c.statement.new.config c.body_ended.new.config c.body_ended.result c.in-Ok.ensures.later c.body_ended.ensures.later
+
+pub loops::body_run-returns-in-Ok-clause-does : goal.loops::body_run-returns-in-Ok-clause-does
+loops::body_run-returns-in-Ok-clause-does g t c =
+    let m = g.S.WorldStore.meaning in
+    let old = c.args.config.now in
+    let mid = c.statement.new.config in
+    let f = c.args.frame.now in
+    let k = c.body_ended.new.stops in
+    let next : Table → Env → Meant → Act = λ t env. loops.loop_body c.args.node.0 (number c.args.update) env in
+    round_behind m (form_here m old f (AtStmt c.args.body.0) next) (line_here m mid f (λ t env. next t env (completion_in t c.in-Ok.end))) f c.args.node c.body_ended.result k.waits k.top old mid c.body_ended.new.config
+    (part_left m completion_in old mid f (AtStmt c.args.body.0) next c.in-Ok.end c.in-Ok.ensures.later c.in-Ok.ensures.does) c.body_ended.ensures.does
+
+pub loops::body_run-returns-in-Err-clause-later : goal.loops::body_run-returns-in-Err-clause-later
+loops::body_run-returns-in-Err-clause-later g t c =
+    let m = g.S.WorldStore.meaning in
+    let s = c.statement.new.stops in
+    let k = c.waits.new.stops in
+    broke_later m Completion (Option Completion) c.args.config.now c.statement.new.config c.waits.new.config c.args.frame.now c.args.node [] (points.Stmt (stmt.ForBody c.args.update)) c.in-Err.end s.waits s.top c.waits.result k.waits k.top
+    c.waits.ensures.same c.waits.ensures.waits c.in-Err.ensures.later
+
+pub loops::body_run-returns-in-Err-clause-found : goal.loops::body_run-returns-in-Err-clause-found
+loops::body_run-returns-in-Err-clause-found g t c =
+    let m = g.S.WorldStore.meaning in
+    let old = c.args.config.now in
+    let f = c.args.frame.now in
+    let s = c.statement.new.stops in
+    let k = c.waits.new.stops in
+    broke_found m Completion (Option Completion) old c.statement.new.config c.waits.new.config f c.args.node [] (points.Stmt (stmt.ForBody c.args.update)) c.in-Err.end s.waits s.top c.waits.result k.waits k.top
+    c.waits.ensures.same c.waits.ensures.waits c.in-Err.ensures.later c.requires.there c.requires.node tt (if_here m old f c.args.node c.args.update c.requires.update) c.in-Err.ensures.found
+
+pub loops::body_run-returns-in-Err-clause-does : goal.loops::body_run-returns-in-Err-clause-does
+loops::body_run-returns-in-Err-clause-does g t c =
+    let m = g.S.WorldStore.meaning in
+    let s = c.statement.new.stops in
+    let k = c.waits.new.stops in
+    broke_does m Completion Completion c.args.config.now c.statement.new.config c.waits.new.config c.args.frame.now c.args.node [] (points.Stmt (stmt.ForBody c.args.update)) c.in-Err.end s.waits s.top c.waits.result k.waits k.top
+    c.waits.ensures.same c.waits.ensures.waits completion_in completion_in (AtStmt c.args.body.0) (λ t env. loops.loop_body c.args.node.0 (number c.args.update) env) (λ l t env. refl) (λ t env e. refl) c.in-Err.ensures.later c.in-Err.ensures.does
+
+-- after the body
+pub loops::body_ended-returns-in-Again-clause-does : goal.loops::body_ended-returns-in-Again-clause-does
+loops::body_ended-returns-in-Again-clause-does g t c =
+    let m = g.S.WorldStore.meaning in
+    let old = c.args.config.now in
+    let f = c.args.frame.now in
+    let k = c.updated.new.stops in
+    let other : Table → Env → Act = λ t env. loops.loop_update c.args.node.0 (number c.args.update) env in
+    round_behind m (line_here m old f (λ t env. loops.loop_body c.args.node.0 (number c.args.update) env (completion_in t c.args.end))) (line_here m old f other) f c.args.node c.updated.result k.waits k.top old old c.updated.new.config
+    (line_same m old f (λ t env. loops.loop_body c.args.node.0 (number c.args.update) env (completion_in t c.args.end)) other (λ t more. after_is t c.args.node.0 (env_in m old t f) (other t (env_in m old t f)) c.args.end c.after_body.result afters.Again c.after_body.ensures c.in-Again.is)) c.updated.ensures.does
+
+pub loops::body_ended-returns-in-Asks-clause-later : goal.loops::body_ended-returns-in-Asks-clause-later
+loops::body_ended-returns-in-Asks-clause-later g t c = later_stopped g.S.WorldStore.meaning {A = Option Completion} c.args.config.now c.stop.new.config (Err c.stop.result) c.requires.base c.stop.ensures.same
+
+pub loops::body_ended-returns-in-Asks-clause-found : goal.loops::body_ended-returns-in-Asks-clause-found
+loops::body_ended-returns-in-Asks-clause-found g t c =
+    let m = g.S.WorldStore.meaning in
+    let old = c.args.config.now in
+    let f = c.args.frame.now in
+    let s = c.stop.new.stops in
+    stop_found m old c.stop.new.config f c.args.node [] (phases.Given (points.Stmt (stmt.ForBody c.args.update)) c.args.end) c.stop.result s.waits s.top c.stop.ensures.same
+    c.requires.there c.requires.node tt (if_here m old f c.args.node c.args.update c.requires.update, c.requires.end) c.stop.ensures.stops
+
+pub loops::body_ended-returns-in-Asks-clause-does : goal.loops::body_ended-returns-in-Asks-clause-does
+loops::body_ended-returns-in-Asks-clause-does g t c =
+    let s = c.stop.new.stops in
+    given_does g.S.WorldStore.meaning {A = Completion} completion_in c.args.config.now c.stop.new.config c.args.frame.now c.stop.result s.waits s.top c.stop.ensures.same c.args.node [] (points.Stmt (stmt.ForBody c.args.update)) c.args.end c.stop.ensures.stops
+
+pub loops::body_ended-returns-in-Breaks-clause-does : goal.loops::body_ended-returns-in-Breaks-clause-does
+loops::body_ended-returns-in-Breaks-clause-does g t c =
+    let m = g.S.WorldStore.meaning in
+    let old = c.args.config.now in
+    let f = c.args.frame.now in
+    round_ended m old f c.args.node (λ t env. loops.loop_body c.args.node.0 (number c.args.update) env (completion_in t c.args.end)) completions.Normal
+    (λ t more. after_is t c.args.node.0 (env_in m old t f) (loops.loop_update c.args.node.0 (number c.args.update) (env_in m old t f)) c.args.end c.after_body.result afters.Breaks c.after_body.ensures c.in-Breaks.is)
+
+pub loops::body_ended-returns-in-Passes-clause-does : goal.loops::body_ended-returns-in-Passes-clause-does
+loops::body_ended-returns-in-Passes-clause-does g t c =
+    let m = g.S.WorldStore.meaning in
+    let old = c.args.config.now in
+    let f = c.args.frame.now in
+    round_ended m old f c.args.node (λ t env. loops.loop_body c.args.node.0 (number c.args.update) env (completion_in t c.args.end)) c.args.end
+    (λ t more. after_is t c.args.node.0 (env_in m old t f) (loops.loop_update c.args.node.0 (number c.args.update) (env_in m old t f)) c.args.end c.after_body.result afters.Passes c.after_body.ensures c.in-Passes.is)
+
+-- the update
+pub loops::updated-update_run-requires : goal.loops::updated-update_run-requires
+loops::updated-update_run-requires g t c =
+    let update : StandsHere c.args.config.now c.args.frame.now c.in-Some.e = subst (λ (o : Option NodeId). StandsIf c.args.config.now c.args.frame.now o) c.in-Some.is c.requires.update in
+    search (rules, update)
+
+pub loops::updated-returns-in-Some-clause-does : goal.loops::updated-returns-in-Some-clause-does
+loops::updated-returns-in-Some-clause-does g t c =
+    let m = g.S.WorldStore.meaning in
+    let old = c.args.config.now in
+    let f = c.args.frame.now in
+    let k = c.update_run.new.stops in
+    round_behind m (line_here m old f (λ t env. loops.loop_update c.args.node.0 (number c.args.update) env))
+    (form_here m old f (AtExpr c.in-Some.e.0) (λ t env. then_value (loops.loop_updated c.args.node.0 env))) f c.args.node c.update_run.result k.waits k.top old old c.update_run.new.config
+    (line_begins m old f (λ t env. loops.loop_update c.args.node.0 (number c.args.update) env) (AtExpr c.in-Some.e.0) (λ t env. then_value (loops.loop_updated c.args.node.0 env))
+    (λ t more. ap (λ (o : Option NodeId). loops.loop_update c.args.node.0 (number o) (env_in m old t f)) c.in-Some.is)) c.update_run.ensures.does
+
+pub loops::updated-returns-in-None-clause-later : goal.loops::updated-returns-in-None-clause-later
+loops::updated-returns-in-None-clause-later g t c = later_same g.S.WorldStore.meaning c.args.config.now c.requires.base
+
+pub loops::updated-returns-in-None-clause-does : goal.loops::updated-returns-in-None-clause-does
+loops::updated-returns-in-None-clause-does g t c =
+    let m = g.S.WorldStore.meaning in
+    let old = c.args.config.now in
+    let f = c.args.frame.now in
+    round_due m old f c.args.node (λ t env. loops.loop_update c.args.node.0 (number c.args.update) env)
+    (λ t more. ap (λ (o : Option NodeId). loops.loop_update c.args.node.0 (number o) (env_in m old t f)) c.in-None.is)
+
+pub loops::update_run-returns-in-Ok-clause-found : goal.loops::update_run-returns-in-Ok-clause-found
+loops::update_run-returns-in-Ok-clause-found g t c =
+    (round_there c.effect.new.config c.after_update.result c.in-Ok.end c.after_update.ensures.same c.in-Ok.ensures.found.0, c.in-Ok.ensures.found.1)
+
+pub loops::update_run-returns-in-Ok-clause-does : goal.loops::update_run-returns-in-Ok-clause-does
+loops::update_run-returns-in-Ok-clause-does g t c =
+    let m = g.S.WorldStore.meaning in
+    let old = c.args.config.now in
+    let mid = c.effect.new.config in
+    let f = c.args.frame.now in
+    let next : Table → Env → Meant → Act = λ t env. then_value (loops.loop_updated c.args.node.0 env) in
+    leaves_all m (form_here m old f (AtExpr c.args.update.0) next) (line_here m mid f (λ t env. next t env (completion_in t c.in-Ok.end))) (round_left m mid f c.args.node c.after_update.result) old mid mid
+    (part_left m completion_in old mid f (AtExpr c.args.update.0) next c.in-Ok.end c.in-Ok.ensures.later c.in-Ok.ensures.does)
+    (round_updated m mid f c.args.node (λ t env. next t env (completion_in t c.in-Ok.end)) c.after_update.result (λ t env. c.after_update.ensures.is t c.args.node.0 env))
+
+pub loops::update_run-returns-in-Err-clause-later : goal.loops::update_run-returns-in-Err-clause-later
+loops::update_run-returns-in-Err-clause-later g t c =
+    let m = g.S.WorldStore.meaning in
+    let s = c.effect.new.stops in
+    let k = c.waits.new.stops in
+    broke_later m Completion (Option Completion) c.args.config.now c.effect.new.config c.waits.new.config c.args.frame.now c.args.node [] (points.Stmt stmt.ForUpdate) c.in-Err.end s.waits s.top c.waits.result k.waits k.top
+    c.waits.ensures.same c.waits.ensures.waits c.in-Err.ensures.later
+
+pub loops::update_run-returns-in-Err-clause-found : goal.loops::update_run-returns-in-Err-clause-found
+loops::update_run-returns-in-Err-clause-found g t c =
+    let m = g.S.WorldStore.meaning in
+    let s = c.effect.new.stops in
+    let k = c.waits.new.stops in
+    broke_found m Completion (Option Completion) c.args.config.now c.effect.new.config c.waits.new.config c.args.frame.now c.args.node [] (points.Stmt stmt.ForUpdate) c.in-Err.end s.waits s.top c.waits.result k.waits k.top
+    c.waits.ensures.same c.waits.ensures.waits c.in-Err.ensures.later c.requires.there c.requires.node tt tt c.in-Err.ensures.found
+
+pub loops::update_run-returns-in-Err-clause-does : goal.loops::update_run-returns-in-Err-clause-does
+loops::update_run-returns-in-Err-clause-does g t c =
+    let m = g.S.WorldStore.meaning in
+    let s = c.effect.new.stops in
+    let k = c.waits.new.stops in
+    broke_does m Completion Completion c.args.config.now c.effect.new.config c.waits.new.config c.args.frame.now c.args.node [] (points.Stmt stmt.ForUpdate) c.in-Err.end s.waits s.top c.waits.result k.waits k.top
+    c.waits.ensures.same c.waits.ensures.waits completion_in completion_in (AtExpr c.args.update.0) (λ t env. then_value (loops.loop_updated c.args.node.0 env)) (λ l t env. refl) (λ t env e. refl) c.in-Err.ensures.later c.in-Err.ensures.does
+
+-- loops
+pub statements::statement_form-run_loop-requires : goal.statements::statement_form-run_loop-requires
+statements::statement_form-run_loop-requires g t c =
+    let m = g.S.WorldStore.meaning in
+    let old = c.args.config.now in
+    let f = c.args.frame.now in
+    let s = c.in-Some-While in
+    let n = s.ensures ∙ s.field-0-is in
+    let is : IsLoop m old f c.args.node (Some s.test) None s.body = while_loops m old f c.args.node s.test s.body n in
+    let there = node_there m old f c.args.node [] c.requires.there c.requires.node tt in
+    let test : StandsHere old f s.test = stands_here m old (at_node f c.args.node []) (nodes.While s.test s.body) s.test there n (inl refl) in
+    let body : StandsHere old f s.body = stands_here m old (at_node f c.args.node []) (nodes.While s.test s.body) s.body there n (inr (inl refl)) in
+    search (rules, is, test, body)
+
+pub statements::statement_form-returns-in-Some-While-clause-does : goal.statements::statement_form-returns-in-Some-While-clause-does
+statements::statement_form-returns-in-Some-While-clause-does g t c =
+    let m = g.S.WorldStore.meaning in
+    let old = c.args.config.now in
+    let f = c.args.frame.now in
+    let s = c.in-Some-While in
+    let k = c.run_loop.new.stops in
+    line_as m completion_in old c.run_loop.new.config f (λ t env. entry (AtStmt c.args.node.0) env) c.run_loop.result k.waits k.top (λ t env. loops.loop_from c.args.node.0 (Some s.test.0) None s.body.0 env)
+    (λ t more. stmt_is m old f c.args.node (nodes.While s.test s.body) t (s.ensures ∙ s.field-0-is)) c.run_loop.ensures.does
+
+pub statements::statement_form-run_loop-requires-in-Some-For-Nothing-default-default-default : goal.statements::statement_form-run_loop-requires-in-Some-For-Nothing-default-default-default
+statements::statement_form-run_loop-requires-in-Some-For-Nothing-default-default-default g t c =
+    let m = g.S.WorldStore.meaning in
+    let old = c.args.config.now in
+    let f = c.args.frame.now in
+    let s = c.in-Some-For-Nothing-default-default-default in
+    let n = s.ensures ∙ s.field-0-is ∙ ap (λ (i : ForInit). nodes.For i s.test s.update s.body) s.field-0-0-is in
+    let is : IsLoop m old f c.args.node s.test s.update s.body = for_loops m old f c.args.node inits.Nothing s.test s.update s.body n in
+    let parts = for_stands m old (at_node f c.args.node []) (node_there m old f c.args.node [] c.requires.there c.requires.node tt) inits.Nothing s.test s.update s.body n in
+    let test : StandsIf old f s.test = if_stands m old f c.args.node s.test parts.0 in
+    let update : StandsIf old f s.update = if_stands m old f c.args.node s.update parts.1.0 in
+    let body : StandsHere old f s.body = parts.1.1 in
+    search (rules, is, test, update, body)
+
+pub statements::statement_form-returns-in-Some-For-Nothing-default-default-default-clause-does : goal.statements::statement_form-returns-in-Some-For-Nothing-default-default-default-clause-does
+statements::statement_form-returns-in-Some-For-Nothing-default-default-default-clause-does g t c =
+    let m = g.S.WorldStore.meaning in
+    let old = c.args.config.now in
+    let f = c.args.frame.now in
+    let s = c.in-Some-For-Nothing-default-default-default in
+    let r = c.run_loop-in-Some-For-Nothing-default-default-default in
+    let k = r.new.stops in
+    let n = s.ensures ∙ s.field-0-is ∙ ap (λ (i : ForInit). nodes.For i s.test s.update s.body) s.field-0-0-is in
+    line_as m completion_in old r.new.config f (λ t env. entry (AtStmt c.args.node.0) env) r.result k.waits k.top (λ t env. loops.loop_from c.args.node.0 (number s.test) (number s.update) s.body.0 env)
+    (λ t more. stmt_is m old f c.args.node (nodes.For inits.Nothing s.test s.update s.body) t n) r.ensures.does
+
+pub statements::statement_form-for_expression-requires : goal.statements::statement_form-for_expression-requires
+statements::statement_form-for_expression-requires g t c =
+    let m = g.S.WorldStore.meaning in
+    let old = c.args.config.now in
+    let f = c.args.frame.now in
+    let s = c.in-Some-For-Expr-default-default-default in
+    let is : IsNode m old f c.args.node (nodes.For (inits.Expr s.e) s.test s.update s.body) = s.ensures ∙ s.field-0-is ∙ ap (λ (i : ForInit). nodes.For i s.test s.update s.body) s.field-0-0-is in
+    let first : StandsHere old f s.e = stands_here m old (at_node f c.args.node []) (nodes.For (inits.Expr s.e) s.test s.update s.body) s.e (node_there m old f c.args.node [] c.requires.there c.requires.node tt) is (inl refl) in
+    search (rules, is, first)
+
+pub statements::statement_form-returns-in-Some-For-Expr-default-default-default-clause-does : goal.statements::statement_form-returns-in-Some-For-Expr-default-default-default-clause-does
+statements::statement_form-returns-in-Some-For-Expr-default-default-default-clause-does g t c =
+    let m = g.S.WorldStore.meaning in
+    let old = c.args.config.now in
+    let f = c.args.frame.now in
+    let s = c.in-Some-For-Expr-default-default-default in
+    let k = c.for_expression.new.stops in
+    let n = s.ensures ∙ s.field-0-is ∙ ap (λ (i : ForInit). nodes.For i s.test s.update s.body) s.field-0-0-is in
+    line_form m completion_in old c.for_expression.new.config f (λ t env. entry (AtStmt c.args.node.0) env) c.for_expression.result k.waits k.top (AtExpr s.e.0) (λ t env. then_value (loops.for_started c.args.node.0 (number s.test) (number s.update) s.body.0 env))
+    (λ t more. stmt_is m old f c.args.node (nodes.For (inits.Expr s.e) s.test s.update s.body) t n) c.for_expression.ensures.does

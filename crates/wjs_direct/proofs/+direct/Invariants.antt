@@ -1,10 +1,12 @@
 use Rattle.std.proofs.Common.{◌≡◌, ◌+◌, ◌-◌, ◌*◌, []}
 use Rattle.std.specs.Prelude.{All}
+use Rattle.wjs_meaning.specs.Deeds.{Again}
 use Rattle.wjs_model.specs.Soundness.{HasValue}
 use Rattle.wjs_frames.specs.Following.{Later}
 use Rattle.wjs_effects.specs.declared.elements.Sequence.TheVariants as kinds
 use Rattle.wjs_stopping.specs.Evaluating.{Leaves}
-use Rattle.wjs_direct.specs.Deeds.{line_here}
+use Rattle.wjs_direct.specs.Deeds.{goal_here, line_here}
+use Rattle.wjs_direct.specs.Variables.{variables_left}
 use Rattle.wjs_direct.proofs.Calling.{values_left}
 use Rattle.wjs_direct.proofs.Elements.{rest_from}
 use Rattle.wjs_direct.proofs.+direct.Given as goal
@@ -62,7 +64,10 @@ abbrev pub decreases-bodies::run_body : goal.decreases-bodies::run_body
 decreases-bodies::run_body g l = l.room * 32 + 20
 
 abbrev pub decreases-statements::statement : goal.decreases-statements::statement
-decreases-statements::statement g l = l.room * 32 + 0
+decreases-statements::statement g l = l.room * 32 + 1
+
+abbrev pub decreases-statements::by_form : goal.decreases-statements::by_form
+decreases-statements::by_form g l = l.room * 32 + 0
 
 abbrev pub decreases-statements::statement_form : goal.decreases-statements::statement_form
 decreases-statements::statement_form g l = l.room * 32 + 31
@@ -81,6 +86,48 @@ decreases-statements::chosen g l = l.room * 32 + 10
 
 abbrev pub decreases-statements::run_block : goal.decreases-statements::run_block
 decreases-statements::run_block g l = l.room * 32 + 20
+
+abbrev pub decreases-variables::for_variables : goal.decreases-variables::for_variables
+decreases-variables::for_variables g l = l.room * 32 + 30
+
+abbrev pub decreases-variables::for_declared : goal.decreases-variables::for_declared
+decreases-variables::for_declared g l = l.room * 32 + 27
+
+abbrev pub decreases-variables::run_variables : goal.decreases-variables::run_variables
+decreases-variables::run_variables g l = l.room * 32 + 29
+
+abbrev pub decreases-variables::declared : goal.decreases-variables::declared
+decreases-variables::declared g l = l.room * 32 + 25
+
+abbrev pub decreases-variables::initialised : goal.decreases-variables::initialised
+decreases-variables::initialised g l = l.room * 32 + 20
+
+abbrev pub decreases-choices::choice : goal.decreases-choices::choice
+decreases-choices::choice g l = l.room * 32 + 20
+
+abbrev pub decreases-choices::chosen : goal.decreases-choices::chosen
+decreases-choices::chosen g l = l.room * 32 + 10
+
+abbrev pub decreases-choices::comma : goal.decreases-choices::comma
+decreases-choices::comma g l = l.room * 32 + 20
+
+abbrev pub decreases-choices::behind : goal.decreases-choices::behind
+decreases-choices::behind g l = l.room * 32 + 10
+
+abbrev pub decreases-prefixes::prefix : goal.decreases-prefixes::prefix
+decreases-prefixes::prefix g l = l.room * 32 + 30
+
+abbrev pub decreases-prefixes::operand : goal.decreases-prefixes::operand
+decreases-prefixes::operand g l = l.room * 32 + 20
+
+abbrev pub decreases-members::dot : goal.decreases-members::dot
+decreases-members::dot g l = l.room * 32 + 20
+
+abbrev pub decreases-members::at : goal.decreases-members::at
+decreases-members::at g l = l.room * 32 + 20
+
+abbrev pub decreases-members::index_of_base : goal.decreases-members::index_of_base
+decreases-members::index_of_base g l = l.room * 32 + 10
 
 abbrev pub decreases-stores::effect : goal.decreases-stores::effect
 decreases-stores::effect g l = l.room * 32 + 10
@@ -105,6 +152,65 @@ decreases-stores::compounded g l = l.room * 32 + 25
 
 abbrev pub decreases-stores::compound_right : goal.decreases-stores::compound_right
 decreases-stores::compound_right g l = l.room * 32 + 20
+
+-- loops: a round of a later iteration has its step, and so the room below the loop's
+abbrev pub decreases-loops::for_expression : goal.decreases-loops::for_expression
+decreases-loops::for_expression g l = l.room * 32 + 28
+
+abbrev pub decreases-loops::for_begun : goal.decreases-loops::for_begun
+decreases-loops::for_begun g l = l.room * 32 + 27
+
+abbrev pub decreases-loops::run_loop : goal.decreases-loops::run_loop
+decreases-loops::run_loop g l = l.room * 32 + 26
+
+abbrev pub decreases-loops::first : goal.decreases-loops::first
+decreases-loops::first g l = l.room * 32 + 25
+
+abbrev pub decreases-loops::first_tested : goal.decreases-loops::first_tested
+decreases-loops::first_tested g l = l.room * 32 + 24
+
+abbrev pub decreases-loops::iterations : goal.decreases-loops::iterations
+decreases-loops::iterations g l = l.room * 32 + 25
+
+abbrev pub decreases-loops::iteration : goal.decreases-loops::iteration
+decreases-loops::iteration g l = l.room * 32 + 34
+
+abbrev pub decreases-loops::next_tested : goal.decreases-loops::next_tested
+decreases-loops::next_tested g l = l.room * 32 + 33
+
+abbrev pub decreases-loops::entered : goal.decreases-loops::entered
+decreases-loops::entered g l = l.room * 32 + 32
+
+abbrev pub decreases-loops::body_entered : goal.decreases-loops::body_entered
+decreases-loops::body_entered g l = l.room * 32 + 33
+
+abbrev pub decreases-loops::tested : goal.decreases-loops::tested
+decreases-loops::tested g l = l.room * 32 + 23
+
+abbrev pub decreases-loops::body_run : goal.decreases-loops::body_run
+decreases-loops::body_run g l = l.room * 32 + 22
+
+abbrev pub decreases-loops::body_ended : goal.decreases-loops::body_ended
+decreases-loops::body_ended g l = l.room * 32 + 21
+
+abbrev pub decreases-loops::updated : goal.decreases-loops::updated
+decreases-loops::updated g l = l.room * 32 + 20
+
+abbrev pub decreases-loops::update_run : goal.decreases-loops::update_run
+decreases-loops::update_run g l = l.room * 32 + 19
+
+abbrev pub decreases-loops::iterations-loop-test : goal.decreases-loops::iterations-loop-test
+decreases-loops::iterations-loop-test g l = l.turns
+
+abbrev pub invariant-loops::iterations-loop-test : goal.invariant-loops::iterations-loop-test
+invariant-loops::iterations-loop-test g l =
+    let m = g.S.WorldStore.meaning in
+    let old = l.initial.config in
+    record {
+      left : Leaves m (goal_here m old l.frame (Again l.node.0)) (goal_here m l.config l.frame (Again l.node.0)) old l.config;
+      later : Later m old l.config;
+      empty : l.stops.waits ≡ [];
+    }
 
 -- what is left of a list is what is left of its deeds
 abbrev pub decreases-bodies::run_body-loop-element : goal.decreases-bodies::run_body-loop-element
@@ -131,6 +237,20 @@ invariant-statements::run_block-loop-part g l =
     let f = l.frame in
     record {
       left : Leaves m (line_here m old f (rest_from m kinds.Block f l.node old l.from)) (line_here m old f (rest_from m kinds.Block f l.node old l.at)) old l.config;
+      later : Later m old l.config;
+      empty : l.stops.waits ≡ [];
+    }
+
+abbrev pub decreases-variables::run_variables-loop-variable : goal.decreases-variables::run_variables-loop-variable
+decreases-variables::run_variables-loop-variable g l = 4294967296 - l.at
+
+abbrev pub invariant-variables::run_variables-loop-variable : goal.invariant-variables::run_variables-loop-variable
+invariant-variables::run_variables-loop-variable g l =
+    let m = g.S.WorldStore.meaning in
+    let old = l.initial.config in
+    let f = l.frame in
+    record {
+      left : Leaves m (line_here m old f (variables_left old f l.node l.from)) (line_here m old f (variables_left old f l.node l.at)) old l.config;
       later : Later m old l.config;
       empty : l.stops.waits ≡ [];
     }

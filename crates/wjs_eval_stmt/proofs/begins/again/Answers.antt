@@ -1,6 +1,6 @@
 use Rattle.std.proofs.Common.{inl, inr, refl, ◌∙◌}
 use Rattle.wjs_loops.proofs.Parts.{part_stands}
-use Rattle.wjs_loops.proofs.Standing.{for_stands}
+use Rattle.wjs_effects.proofs.StandingFors.{for_stands}
 use Rattle.wjs_eval_stmt.proofs.begins.again.Goals as goal
 
 pub while_again-requires-clause-test : goal.while_again-requires-clause-test

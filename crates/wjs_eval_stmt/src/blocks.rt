@@ -10,13 +10,14 @@ ghost use Rattle.wjs_frames.specs.Parts.{node_now};
 ghost use Rattle.wjs_frames.specs.Handling.{Runs, GoesOn, Resumes};
 
 use wjs_base::OutOfMemory;
-use wjs_effects::{Sequence, dropped, run_from};
+use wjs_direct::run_elements;
+use wjs_effects::{Sequence, dropped};
 use wjs_frames::finish;
 use wjs_model::{Completion, Config, Frame, Point, StmtPoint};
 use wjs_store::WorldStore;
 
-/// The statements of a block, from the one of this number on: those that are done at once, and then the next one by a frame.
-pub fn block_from<S: WorldStore>(
+/// The statements of a block, from the one of this number on: those that are done at once, and the next one by recursion or by a frame.
+pub(crate) fn block_from<S: WorldStore>(
     config: &mut Config<S>,
     frame: Frame,
     at: u32,
@@ -25,11 +26,11 @@ pub fn block_from<S: WorldStore>(
     ensures { GoesOn S.meaning frame config.old config.new result (λ t env.
         block_from (drop at (block_items (node_in t (node_now S.meaning config.old frame)))) env) }
 {
-    run_from(config, frame, Sequence::Block, at)
+    run_elements(config, frame, Sequence::Block, at)
 }
 
 /// After a statement of a block, before the one of this number.
-pub fn block_statement<S: WorldStore>(
+pub(crate) fn block_statement<S: WorldStore>(
     config: &mut Config<S>,
     frame: Frame,
     at: u32,
@@ -47,7 +48,7 @@ pub fn block_statement<S: WorldStore>(
 }
 
 /// After the expression of a block's statement, before the statement of this number.
-pub fn block_value<S: WorldStore>(
+pub(crate) fn block_value<S: WorldStore>(
     config: &mut Config<S>,
     frame: Frame,
     at: u32,

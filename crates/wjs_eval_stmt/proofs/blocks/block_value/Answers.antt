@@ -11,7 +11,7 @@ use Rattle.wjs_frames.specs.Following.{Follows}
 use Rattle.wjs_frames.specs.Parts.{env_in, node_now}
 use Rattle.wjs_frames.proofs.Shorter.{follows_shorter}
 use Rattle.wjs_effects.proofs.Only.{dropped_there, dropped_shortens}
-use Rattle.wjs_blocks.proofs.blocks.block_value.Goals as goal
+use Rattle.wjs_eval_stmt.proofs.blocks.block_value.Goals as goal
 
 pub block_statement-requires-clause-completion : goal.block_statement-requires-clause-completion
 block_statement-requires-clause-completion g c =
