@@ -27,14 +27,15 @@ declare_program-requires-clause-there g c =
     let is : c.set_node.new.self ≡ record c.args.frame { node = c.program_body-body.result } = c.set_node.ensures ∙ ap (λ (k : ℕ). record c.args.frame { tree = k; node = c.program_body-body.result }) c.tree-tree.ensures in
     subst (IsThere m old) (sym is) (at_body m old c.args.frame c.program_body-body.result c.requires.runs.there c.program_body-body.ensures.body)
 
-pub run_program-requires : goal.run_program-requires
-run_program-requires g c =
+pub run_elements-requires : goal.run_elements-requires
+run_elements-requires g c =
     let m = g.S.WorldStore.meaning in
     let old = c.args.config.now in
     let is : c.set_node.new.self ≡ record c.args.frame { node = c.program_body-body.result } = c.set_node.ensures ∙ ap (λ (k : ℕ). record c.args.frame { tree = k; node = c.program_body-body.result }) c.tree-tree.ensures in
     record {
       runs = runs_over _ _ _ _ _ c.requires.runs c.in_ok-declare_program.ensures.later (c.in_ok-declare_program.ensures.later.frames c.set_node.new.self
           (subst (IsThere m old) (sym is) (at_body m old c.args.frame c.program_body-body.result c.requires.runs.there c.program_body-body.ensures.body)));
+      stands = tt;
     }
 
 pub returns : goal.returns
@@ -42,8 +43,8 @@ returns g c =
     let m = g.S.WorldStore.meaning in
     let old = c.args.config.now in
     let mid = c.declare_program.new.config in
-    let new = c.run_program.new.config in
-    let r = c.run_program.result in
+    let new = c.run_elements.new.config in
+    let r = c.run_elements.result in
     let t = new.heap.texts in
     let at : Frame = record c.args.frame { node = c.program_body-body.result } in
     let is : c.set_node.new.self ≡ at = c.set_node.ensures ∙ ap (λ (k : ℕ). record c.args.frame { tree = k; node = c.program_body-body.result }) c.tree-tree.ensures in
@@ -55,7 +56,7 @@ returns g c =
     let body = body_is m old c.args.frame c.program_body-body.result c.requires.runs.running.base c.requires.runs.there c.program_body-body.ensures.body in
     let elements = same_elements t (node_now m mid at) body.0 (same ∙ body.1) in
     let run0 : OnOk r (Follows m (program_from (program_elements (node_in t (node_now m mid at))) env) mid new) = subst (λ (e : Env). OnOk r (Follows m (program_from (program_elements (node_in t (node_now m mid at))) e) mid new)) (env_later m old mid t at later)
-    (subst (λ (q : Frame). OnOk r (Follows m (program_from (program_elements (node_in t (node_now m mid q))) (env_in m mid t q)) mid new)) is c.run_program.ensures) in
+    (subst (λ (q : Frame). OnOk r (Follows m (program_from (program_elements (node_in t (node_now m mid q))) (env_in m mid t q)) mid new)) is c.run_elements.ensures) in
     let run1 : OnOk r (Follows m (program_from (elements_of (node_in t (node_now m mid at))) env) mid new) = subst (λ (l : List ℕ). OnOk r (Follows m (program_from l env) mid new)) (sym elements) run0 in
     let run2 : OnOk r (Follows m (program_from (elements_of (node_here env at.node.0)) env) mid new) = subst (λ (n : Node). OnOk r (Follows m (program_from (elements_of n) env) mid new)) (sym node) run1 in
     let filled = subst (λ (q : Frame). DoesFirst m (λ u. program_filled (declared_by (tree_here (env_in m old u q)) q.node.0) (env_in m old u q)) old mid) is c.in_ok-declare_program.ensures.does in
