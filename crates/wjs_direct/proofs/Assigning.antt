@@ -22,6 +22,7 @@ use Rattle.wjs_model.specs.Contents.{completion_in, reference_in}
 use Rattle.wjs_model.specs.Soundness.{HasCompletion}
 use Rattle.wjs_model.specs.Operands.{evaluated}
 use Rattle.wjs_frames.specs.Doing.{Does}
+use Rattle.wjs_frames.specs.Following.{Later}
 use Rattle.wjs_frames.specs.Parts.{env_in}
 use Rattle.wjs_frames.specs.Shortening.{Shortens}
 use Rattle.wjs_frames.proofs.Shorter.{follows_shorter, shorten_ended, shorten_sub}
@@ -33,6 +34,8 @@ use Rattle.wjs_stopping.specs.declared.ends.Broken.TheVariants as ends
 use Rattle.wjs_stopping.specs.Evaluating.{Evaluates, InMemory}
 use Rattle.wjs_stopping.proofs.Evaluating.{in_memory}
 use Rattle.wjs_direct.specs.Deeds.{line_here, returned_by}
+use Rattle.wjs_direct.proofs.Forming.{line_moved}
+use Rattle.wjs_direct.proofs.Looping.{shorten_within}
 use Rattle.wjs_direct.proofs.Parts.{did, shortened}
 
 -- what broke off did so, whatever the deeds would have ended with
@@ -57,16 +60,21 @@ module _ {S : Type 0} (meaning : S → Meaning) {A : Type 0} (said : Table → A
             ((peeks c.left).by (λ e. Sub (then_value k e) go) later r (d'.by go later r h));
       }) d
 
+module _ {S : Type 0} (meaning : S → Meaning) {A : Type 0} (said : Table → A → Completion) (old mid new : Config S) (f : Frame) where
   -- the result of an operation, and then its store
-  pub operated_then : (op : BinaryOperator) (q : NumberedReference) (a b v : Numbered) (done : Result A Broken) (waits : List Frame) (top : Option (Frame × Phase))
-      → ((t : Table) → Grows c.heap.texts t → (env : Env) → Shortens (operate op (value_in t a) (value_in t b) env) (Ret (Gives (value_in t v))))
-      → Evaluates meaning (line_here meaning c f (λ t env. assign_value (reference_in t q) env (value_in t v))) said done waits top c new
-      → Evaluates meaning (line_here meaning c f (λ t env. compound_value op (value_in t a) (reference_in t q) env (value_in t b))) said done waits top c new
-  operated_then op q a b v done waits top ends d =
-      shortened meaning said (line_here meaning c f (λ t env. compound_value op (value_in t a) (reference_in t q) env (value_in t b))) (line_here meaning c f (λ t env. assign_value (reference_in t q) env (value_in t v))) done waits top c new
-      (λ t more go. let env = env_in meaning c t f in
-      shorten_sub (compound_value op (value_in t a) (reference_in t q) env (value_in t b)) (assign_value (reference_in t q) env (value_in t v)) go
-      (shorten_ended (operate op (value_in t a) (value_in t b) env) (Gives (value_in t v)) (then_value (assign_value (reference_in t q) env)) (ends t more env))) d
+  pub operated_then : (op : BinaryOperator) (q : NumberedReference) (a b v : Numbered) (done : Result A Broken) (waits : List Frame) (top : Option (Frame × Phase)) → Later meaning old mid
+      → Does meaning (λ t go. Sub (operate op (value_in t a) (value_in t b) (env_in meaning old t f)) go) (λ t. Gives (value_in t v)) old mid
+      → Evaluates meaning (line_here meaning mid f (λ t env. assign_value (reference_in t q) env (value_in t v))) said done waits top mid new
+      → Evaluates meaning (line_here meaning old f (λ t env. compound_value op (value_in t a) (reference_in t q) env (value_in t b))) said done waits top old new
+  operated_then op q a b v done waits top l one d =
+      in_memory done (λ d'. record {
+        by = λ go later r h.
+            let t = later.heap.texts in
+            let env = env_in meaning old t f in
+            let act = operate op (value_in t a) (value_in t b) env in
+            let next : Completion → Act = then_value (assign_value (reference_in t q) env) in
+            follows_shorter meaning (Sub (Sub act next) go) (Sub act (λ e. Sub (next e) go)) old later r (shorten_within act next go) (one.by (λ e. Sub (next e) go) later r (d'.by go later r h));
+      }) (line_moved meaning said old mid new f (λ t env. assign_value (reference_in t q) env (value_in t v)) done waits top l d)
 
 module _ {S : Type 0} (meaning : S → Meaning) (c new : Config S) (f : Frame) where
   -- a store, and then an end

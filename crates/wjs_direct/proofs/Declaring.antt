@@ -52,7 +52,7 @@ use Rattle.wjs_heap_steps.specs.Peeking.{Peeks}
 use Rattle.wjs_quick.proofs.MemberLines.{plan_after}
 use Rattle.wjs_effects.specs.Effects.{put_ended, stored}
 use Rattle.wjs_effects.specs.Variables.{declarators_in}
-use Rattle.wjs_effects.proofs.Declared.{variable_stores}
+use Rattle.wjs_effects.proofs.Declared.{variables_same, variable_stores}
 use Rattle.wjs_effects.proofs.Leaving.{shorten_as}
 use Rattle.wjs_effects.proofs.StandingVariables.{initialiser_stands, value_of}
 use Rattle.wjs_effects.proofs.Storing.{referred_goes}
@@ -69,14 +69,6 @@ use Rattle.wjs_direct.proofs.Forming.{node_there}
 use Rattle.wjs_direct.proofs.Looping.{leaves_shorter, line_begins, part_left, shorten_within, within_broke, within_left}
 
 -- ---- the variables of a node
-
--- under a table
-variables_same : (t : Table) (n : Node) → variables_of (node_in t n) ≡ map (variable_in t) (declarators_in n)
-variables_same t (nodes.Var xs end) = refl
-variables_same t (nodes.For (inits.Var xs) test u s) = refl
-variables_same t (nodes.For (inits.Expr e) test u s) = refl
-variables_same t (nodes.For inits.Nothing test u s) = refl
-variables_same t _ = refl
 
 module _ (t : Table) (n : Node) (here at : ℕ) (env : Env) where
   abbrev all : List (Text × Option ℕ)

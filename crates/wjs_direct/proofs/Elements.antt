@@ -24,14 +24,14 @@ use Rattle.wjs_frames.proofs.Handling.{env_later}
 use Rattle.wjs_quick.proofs.Coming.{shorten_goal}
 use Rattle.wjs_effects.specs.declared.elements.Sequence.{Sequence}
 use Rattle.wjs_effects.specs.Sequences.{NextIs, element_next, elements_from, elements_in, sequence_end}
-use Rattle.wjs_effects.proofs.Leaving.{shorten_as}
+use Rattle.wjs_effects.proofs.Leaving.{follows_when, shorten_as}
 use Rattle.wjs_effects.proofs.Running.{element_goes, elements_end, ends_normally}
 use Rattle.wjs_stopping.specs.declared.ends.Broken.{Broken}
 use Rattle.wjs_stopping.specs.Evaluating.{Evaluates, Leaves}
 use Rattle.wjs_stopping.proofs.Evaluating.{in_memory, leaves_all}
 use Rattle.wjs_direct.specs.Deeds.{form_here, goal_here, line_here}
 use Rattle.wjs_direct.proofs.Forming.{line_ended, line_moved}
-use Rattle.wjs_direct.proofs.Parts.{follows_when, line_form}
+use Rattle.wjs_direct.proofs.Parts.{line_form}
 
 -- after a statement of a block that ended otherwise than normally
 pub not_normal : (t : Table) (e : Said) (rest : Act) → (e ≡ completions.Normal → ⊥) → then_normal rest (completion_in t e) ≡ Ret (completion_in t e)

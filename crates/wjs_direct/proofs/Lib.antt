@@ -3,6 +3,8 @@ pub mod Parts
 pub mod Elements
 pub mod Holdings
 pub mod Calling
+pub mod NativeCalls
+pub mod FunctionMaking
 pub mod Entering
 pub mod Assigning
 pub mod Prefixing

@@ -39,7 +39,7 @@ use Rattle.wjs_frames.proofs.Paying.{step_paid}
 use Rattle.wjs_frames.proofs.Places.{node_same}
 use Rattle.wjs_frames.proofs.Shorter.{follows_shorter, shorten_ended, shorten_sub}
 use Rattle.wjs_quick.proofs.Coming.{one_less, shorten_goal, shorten_last}
-use Rattle.wjs_effects.proofs.Leaving.{shorten_as}
+use Rattle.wjs_effects.proofs.Leaving.{follows_when, shorten_as}
 use Rattle.wjs_stopping.specs.declared.ends.Broken.{Broken}
 use Rattle.wjs_stopping.specs.declared.ends.Broken.TheVariants as ends
 use Rattle.wjs_stopping.specs.Stopping.{stopped_then}
@@ -49,7 +49,6 @@ use Rattle.wjs_stopping.proofs.Evaluating.{in_memory, leaves_all}
 use Rattle.wjs_direct.specs.Deeds.{entry_here, form_here, goal_here, line_here}
 use Rattle.wjs_direct.specs.Rounds.{GoesRound, HasRound, IsLoop, after_in, round_left, updated_in}
 use Rattle.wjs_direct.specs.declared.loops.After.{After}
-use Rattle.wjs_direct.proofs.Parts.{follows_when}
 
 -- ---- nested deeds, in fewer turns
 

@@ -1,4 +1,4 @@
--- Members for their value: their node, what its frame waits for, and the value that a look found.
+-- Members: their node, what its frame waits for, and the value that a look found.
 use Rattle.std.proofs.Common.{◌≡◌, ℕ, List, Vec, Global, [], ap, ◌∙◌}
 use Rattle.std.specs.Prelude.{Option, Ok}
 use Rattle.wjs_base.specs.declared.ids.NodeId.{NodeId}
@@ -9,6 +9,7 @@ use Rattle.wjs_tree.specs.declared.node.Node.{Node}
 use Rattle.wjs_tree.specs.declared.node.Node.TheVariants as nodes
 use Rattle.wjs_tree.specs.declared.node.Spelt.{Spelt}
 use Rattle.wjs_meaning.specs.Deeds.{Env, Act, then_value}
+use Rattle.wjs_model.specs.Waiting.{refer}
 use Rattle.wjs_meaning.specs.Expressions.{dot_base, give_value_of}
 use Rattle.wjs_meaning.specs.Reading.{node_in, spelt_in}
 use Rattle.wjs_model.specs.declared.config.Config.{Config}
@@ -41,6 +42,10 @@ module _ {S : Type 0} (meaning : S → Meaning) (c : Config S) (f : Frame) where
     -- what its frame waits for
     pub dot_waits : (t : Table) (env : Env) → then_at meaning c (at_node f node []) (points.Expr (expr.DotBase purposes.Value)) t env ≡ then_value (dot_base (spelt_in t name) env (give_value_of env))
     dot_waits t env = ap (λ (n : Node). then_value (λ v. if_dot (node_in t n) (λ x. dot_base x env (give_value_of env) v))) is.1
+
+    -- and for its reference
+    pub target_waits : (t : Table) (env : Env) → then_at meaning c (at_node f node []) (points.Expr (expr.DotBase purposes.Target)) t env ≡ then_value (dot_base (spelt_in t name) env refer)
+    target_waits t env = ap (λ (n : Node). then_value (λ v. if_dot (node_in t n) (λ x. dot_base x env refer v))) is.1
 
   -- a line whose value a look found
   pub line_came : (act : Table → Env → Act) (v : Numbered) (w : List Frame) (p : Option (Frame × Phase)) → ((left : ℕ) → Comes meaning act v c f left left) → Evaluates meaning (line_here meaning c f act) gives_in (Ok v) w p c c

@@ -30,7 +30,7 @@ use Rattle.wjs_frames.proofs.Parting.{point_later, stands_here, stands_later}
 use Rattle.wjs_frames.proofs.Shorter.{follows_shorter, shorten_ended, shorten_sub}
 use Rattle.wjs_heap_steps.proofs.Later.{later_same, later_twice}
 use Rattle.wjs_quick.proofs.Coming.{later_left, one_less, shorten_last}
-use Rattle.wjs_effects.proofs.Leaving.{shorten_as}
+use Rattle.wjs_effects.proofs.Leaving.{follows_when, shorten_as}
 use Rattle.wjs_stopping.specs.declared.ends.Broken.{Broken}
 use Rattle.wjs_stopping.specs.declared.ends.Broken.TheVariants as ends
 use Rattle.wjs_stopping.specs.Waiting.{at_node, StopsAt, WaitsAt}
@@ -132,10 +132,6 @@ module _ {S : Type 0} (meaning : S → Meaning) where
 
   -- ---- deeds
 
-  pub follows_when : (c later : Config S) (r : Result (Unit {0}) OutOfMemory) (long short : Act) → (Grows c.heap.texts later.heap.texts → Shortens long short) → OnOk r (Follows meaning short c later) → OnOk r (Follows meaning long c later)
-  follows_when c later (Ok u) long short s h = follows_shorter meaning long short c later (Ok u) (s h.keeps.stays.texts) h
-  follows_when c later (Err x) long short s h = h
-
   module _ {A : Type 0} (said : Table → A → Completion) where
     -- they were done at once
     pub did : (deeds : Table → (Completion → Act) → Act) (v : A) (w : List Frame) (p : Option (Frame × Phase)) (old mid : Config S) → Does meaning deeds (λ t. said t v) old mid → Evaluates meaning deeds said (Ok v) w p old mid
@@ -145,7 +141,7 @@ module _ {S : Type 0} (meaning : S → Meaning) where
     pub shortened : (long short : Table → (Completion → Act) → Act) (done : Result A Broken) (w : List Frame) (p : Option (Frame × Phase)) (c new : Config S)
         → ((t : Table) → Grows c.heap.texts t → (go : Completion → Act) → Shortens (long t go) (short t go)) → Evaluates meaning short said done w p c new → Evaluates meaning long said done w p c new
     shortened long short done w p c new s d =
-        in_memory done (λ l. record { by = λ go later r h. follows_when c later r (long later.heap.texts go) (short later.heap.texts go) (λ more. s later.heap.texts more go) (l.by go later r h) }) d
+        in_memory done (λ l. record { by = λ go later r h. follows_when meaning c later r (long later.heap.texts go) (short later.heap.texts go) (λ more. s later.heap.texts more go) (l.by go later r h) }) d
 
     module _ (c new : Config S) (f : Frame) (act : Table → Env → Act) (done : Result A Broken) (w : List Frame) (p : Option (Frame × Phase)) where
       -- a line that is another one

@@ -1,8 +1,9 @@
 -- The deeds that are evaluated at once: of goals, of what follows the step of their entry, and of lines.
-use Rattle.std.specs.Prelude.{◌≡◌, ℕ, List, [], ◌∷◌, ◌++◌, Some, map as each}
+use Rattle.std.specs.Prelude.{◌≡◌, ℕ, List, [], ◌∷◌, ◌++◌, Option, Some, map as each}
 use Rattle.wjs_base.specs.Text.{Table}
 use Rattle.wjs_base.specs.declared.ids.NodeId.{NodeId}
 use Rattle.wjs_base.specs.declared.ids.ObjId.{ObjId}
+use Rattle.wjs_base.specs.declared.ids.TextId.{TextId}
 use Rattle.wjs_base.specs.declared.values.Value.{Value}
 use Rattle.std.specs.FinMap as map
 use Rattle.wjs_arena.specs.Entries.{Entry}
@@ -58,6 +59,10 @@ module _ {S : Type 0} (meaning : S → Meaning) where
   -- it is a member by this name
   abbrev pub IsDot : Config S → Frame → NodeId → Spelt → Type 0
   IsDot c f node name = (base : NodeId) × IsNode c f node (nodes.Dot base name)
+
+  -- it is a function expression of this name
+  abbrev pub IsFunctionExpression : Config S → Frame → NodeId → Option TextId → Type 0
+  IsFunctionExpression c f node name = (formals : List TextId) × ((elements : List NodeId) × IsNode c f node (nodes.Function name formals elements))
 
 -- where the frame of an operator waits whose operand is entered for its value
 abbrev pub prefix_point : PrefixOperator → ExprPoint

@@ -14,7 +14,7 @@ ghost use Rattle.wjs_stopping.specs.Ends.{gives_in};
 ghost use Rattle.wjs_stopping.specs.Evaluating.{Evaluates, HasOutcome, InMemory};
 ghost use Rattle.wjs_direct.specs.Deeds.{IsScript, line_here};
 
-use crate::holding::body_stops;
+use crate::holding::function_stops;
 use crate::statements::statement;
 use wjs_base::{NodeId, ObjId, Value};
 use wjs_effects::element_at;
@@ -59,7 +59,8 @@ pub(crate) fn body_called<S: WorldStore>(
         ),
         None => {
             let phase = Phase::Ready(Start::Body(function));
-            Err(body_stops(config, frame, node, function, this, values, phase, stops))
+            let this = Value::Object(this);
+            Err(function_stops(config, frame, node, function, this, values, phase, stops))
         }
     }
 }

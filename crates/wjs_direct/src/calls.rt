@@ -17,15 +17,17 @@ ghost use Rattle.wjs_frames.specs.Parts.{node_among};
 ghost use Rattle.wjs_effects.specs.Sequences.{NextIs};
 ghost use Rattle.wjs_stopping.specs.Ends.{gives_in};
 ghost use Rattle.wjs_stopping.specs.Evaluating.{Evaluates, HasOutcome, InMemory};
-ghost use Rattle.wjs_direct.specs.Deeds.{IsCallee, IsScript, entry_here, form_here, goal_here, line_here, refers_in};
+ghost use Rattle.wjs_direct.specs.Deeds.{IsCallee, IsScript, entry_here, form_here, line_here};
 
 use crate::bodies::body_called;
 use crate::expressions::value;
-use crate::holding::{argument_waits, body_stops, call_stops};
+use crate::holding::{argument_waits, call_stops, function_stops};
+use crate::natives::native_called;
 use crate::room::may_enter;
+use crate::targets::target;
 use wjs_arena::Code;
 use wjs_base::{ObjId, OutOfMemory, Value};
-use wjs_effects::{element_of, reference_at_once};
+use wjs_effects::element_of;
 use wjs_frames::node_at;
 use wjs_heap_steps::{code_of, peek_value_of};
 use wjs_members::is_target;
@@ -83,34 +85,12 @@ fn target_called<S: WorldStore>(
         (λ t env. then_reference (line.call_reference (arguments_of (node_in t (node_among config.old.units.items frame.now.tree node))) env)))
         gives_in result stops.new.waits stops.new.top config.old config.new }
 {
-    match target(config, frame, callee, stops) {
+    match target(config, frame, callee, room, stops) {
         Ok(reference) => reference_called(config, frame, node, reference, room, stops),
         Err(end) => {
             let point = Point::Expr(ExprPoint::CalleeTarget);
             Err(waits(config, frame, node, point, end, stops))
         }
-    }
-}
-
-/// The reference of a target whose parts have their values at once; every other one is left to a frame.
-pub(crate) fn target<S: WorldStore>(
-    config: &mut Config<S>,
-    frame: &Frame,
-    node: NodeId,
-    stops: &mut Stops,
-) -> Result<Reference, Broken>
-    requires base { Base S.meaning config.old }
-    requires there { IsThere S.meaning config.old frame.now }
-    requires node { StandsHere config.old frame.now node }
-    requires empty { stops.old.waits ≡ [] }
-    ensures later { InMemory result (Later S.meaning config.old config.new) }
-    ensures found { HasOutcome S.meaning HasReference config.new result stops.new.waits stops.new.top }
-    ensures does { Evaluates S.meaning (goal_here S.meaning config.old frame.now (AtTarget node.0))
-        refers_in result stops.new.waits stops.new.top config.old config.new }
-{
-    match reference_at_once(config, frame, node) {
-        Some(reference) => Ok(reference),
-        None => Err(stop(config, frame, node, Phase::Due(Start::Target), stops)),
     }
 }
 
@@ -236,7 +216,7 @@ fn push(values: &mut Vec<Value>, value: Value) -> Result<(), OutOfMemory>
     Ok(())
 }
 
-/// The call of an object with its arguments: one that is no function of a script's is called by a frame.
+/// The call of an object with its arguments: one that is no function is called by a frame.
 #[cycle(direct)]
 #[inline(always)]
 fn called<S: WorldStore>(
@@ -266,7 +246,11 @@ fn called<S: WorldStore>(
         Code::Script { tree, node: body } => script_called(
             config, frame, node, function, tree, body, this, values, room, stops,
         ),
-        _ => {
+        Code::Native(native) => {
+            let this = this_or_global(config, frame, this);
+            native_called(config, frame, node, function, native, this, values, stops)
+        }
+        Code::None => {
             let callee = Value::Object(function);
             let phase = Phase::Ready(Start::Call);
             Err(call_stops(config, frame, node, callee, this, values, phase, stops))
@@ -346,7 +330,8 @@ fn body_entered<S: WorldStore>(
 {
     if !may_enter(config, room) {
         let phase = Phase::Due(Start::Body(function));
-        return Err(body_stops(config, frame, node, function, this, values, phase, stops));
+        let this = Value::Object(this);
+        return Err(function_stops(config, frame, node, function, this, values, phase, stops));
     }
     config.left -= 1;
     body_called(

@@ -22,17 +22,16 @@ ghost use Rattle.wjs_direct.specs.Deeds.{form_here, line_here};
 
 use crate::bodies::{body_ended, run_body};
 use crate::room::ROOM;
-use crate::statements::{by_form, may_evaluate};
+use crate::statements::{by_form, is_evaluated};
 use wjs_arena::Code;
 use wjs_base::{NodeId, ObjId, OutOfMemory, Value};
-use wjs_effects::{dropped, element_at, enter_statement, statement_at_once};
-use wjs_frames::{finish, node_at};
+use wjs_effects::{Sequence, dropped, element_at, enter_statement, statement_at_once};
+use wjs_frames::finish;
 use wjs_heap_steps::{code_of, scope_of};
 use wjs_model::{CallPoint, Completion, Config, Frame, Point, Start, Trouble};
 use wjs_step_common::{number_after, throw};
 use wjs_stopping::{Broken, Stops, finish_value, waits};
 use wjs_store::WorldStore;
-use wjs_tree::Node;
 use wjs_variables::enter_scope;
 
 /// A function's body begins, by its code and its scope; the values that the frame holds are the arguments.
@@ -190,30 +189,13 @@ fn enter_element<S: WorldStore>(
     ensures { GoesOn S.meaning frame config.old config.new result (λ t env. Eval (AtStmt element.0) env
         (then_at S.meaning config.old frame (Point.Call (CallPoint.BodyElement next)) t env)) }
 {
-    if is_evaluated(config, &frame, element) {
+    if is_evaluated(config, &frame, Sequence::Function, element) {
         let mut stops = Stops::new(config.heap.arena.allocator());
         let done = element_and_rest(config, &frame, next, element, &mut stops);
         finish_value(config, frame, done, stops)
     } else {
         let point = Point::Call(CallPoint::BodyElement(next));
         enter_statement(config, frame, point, element)
-    }
-}
-
-/// Whether an element is evaluated by recursion. A call that is a statement is not: its body's frame waits for it alone, so that a run
-/// which goes deep by `f();` keeps one frame a call.
-fn is_evaluated<S: WorldStore>(config: &Config<S>, frame: &Frame, element: NodeId) -> bool {
-    if is_call(config, frame, element) {
-        return false;
-    }
-    may_evaluate(config, frame, element, ROOM)
-}
-
-/// Whether a statement is a call.
-fn is_call<S: WorldStore>(config: &Config<S>, frame: &Frame, statement: NodeId) -> bool {
-    match node_at(config, frame, statement) {
-        Some(Node::Expr(e, _)) => matches!(node_at(config, frame, *e), Some(Node::Call(_, _))),
-        _ => false,
     }
 }
 

@@ -11,14 +11,16 @@ ghost use Rattle.wjs_direct.specs.Deeds.{IsNode, entry_here, form_here, goal_her
 
 use crate::calls::call;
 use crate::choices::{choice, comma};
+use crate::functions::function;
 use crate::members::{at, dot};
 use crate::prefixes::prefix;
 use crate::room::may_enter;
 use wjs_base::Value;
+use wjs_effects::result_at_once;
 use wjs_frames::{Part, node_at};
 use wjs_members::is_target;
 use wjs_model::{Completion, Config, ExprPoint, Frame, Held, Phase, Point, Start};
-use wjs_quick::{is_of_value, operated, quick};
+use wjs_quick::{is_of_value, quick};
 use wjs_step_common::to_boolean;
 use wjs_stopping::{Broken, Stops, stop, stop_holding, waits, waits_holding};
 use wjs_store::WorldStore;
@@ -68,7 +70,7 @@ fn may_evaluate<S: WorldStore>(config: &Config<S>, frame: &Frame, node: NodeId, 
 /// Whether an expression is of a form that is evaluated here.
 fn is_known<S: WorldStore>(config: &Config<S>, frame: &Frame, node: NodeId) -> bool {
     match node_at(config, frame, node) {
-        Some(Node::Paren(_) | Node::Binary(_, _, _)) => true,
+        Some(Node::Paren(_) | Node::Binary(_, _, _) | Node::Function(_, _, _)) => true,
         Some(Node::Cond(_, _, _) | Node::Comma(_, _)) => true,
         Some(Node::Dot(_, _) | Node::At(_, _)) => true,
         Some(Node::Prefix(operator, _)) => is_of_value(*operator),
@@ -127,6 +129,10 @@ pub(crate) fn form<S: WorldStore>(
         Some(Node::At(base, index)) => {
             let (base, index) = (*base, *index);
             at(config, frame, node, base, index, room, stops)
+        }
+        Some(Node::Function(name, _, _)) => {
+            let name = *name;
+            function(config, frame, node, name, stops)
         }
         _ => Err(stop(config, frame, node, Phase::Ready(Start::Expr), stops)),
     }
@@ -283,7 +289,7 @@ fn both<S: WorldStore>(
     }
 }
 
-/// The operation on both; one that asks for a conversion or makes a text is done by a frame.
+/// The operation on both; one that asks for a conversion of an object or a look at one is done by a frame.
 #[inline(always)]
 fn operation<S: WorldStore>(
     config: &mut Config<S>,
@@ -305,7 +311,8 @@ fn operation<S: WorldStore>(
     ensures does { Evaluates S.meaning (line_here S.meaning config.old frame.now (λ t env. line.binary_right operator (value_in t first) env (value_in t second)))
         gives_in result stops.new.waits stops.new.top config.old config.new }
 {
-    match operated(config, operator, first, second) {
+    let done = result_at_once(config, frame, operator, first, second)?;
+    match done {
         Some(value) => Ok(value),
         None => {
             let point = Point::Expr(ExprPoint::BinaryRight(operator));

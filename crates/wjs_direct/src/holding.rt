@@ -99,25 +99,24 @@ pub(crate) fn call_stops<S: WorldStore>(
     }
 }
 
-/// A function's body stops, with its arguments held, and `this`.
+/// A function stops, with its arguments held, and `this`.
 #[inline(never)]
-pub(crate) fn body_stops<S: WorldStore>(
+pub(crate) fn function_stops<S: WorldStore>(
     config: &mut Config<S>,
     frame: &Frame,
     node: NodeId,
     function: ObjId,
-    this: ObjId,
+    this: Value,
     values: &[Value],
     phase: Phase,
     stops: &mut Stops,
 ) -> Broken
     requires { stops.old.waits ≡ [] }
     ensures same { config.new ≡ config.old }
-    ensures stops { StopsAt (record (at_node frame.now node (call_held (Value.Object function) (Value.Object this) values.now)) { this = Value.Object this })
+    ensures stops { StopsAt (record (at_node frame.now node (call_held (Value.Object function) this values.now)) { this = this })
         phase result stops.new.waits stops.new.top }
 {
     let callee = Value::Object(function);
-    let this = Value::Object(this);
     match holding(config, frame, node, callee, this, values) {
         Ok(inner) => {
             let mut inner = inner;

@@ -1,7 +1,7 @@
-//! Expressions, statements and calls of functions that scripts made, evaluated by recursion: a frame is made only where one stops.
+//! Expressions, statements and calls, evaluated by recursion: a frame is made only where one stops.
 //!
-//! Each function is given a frame that says where it runs: its tree, its scope, its `this` and its world. What is not evaluated here
-//! stops at its entry, before its step, and is left to a frame; those around it wait for it in frames of their own.
+//! Each function is given a frame that says where it runs: its tree, its scope, its `this` and its world. What is not evaluated here is
+//! left to a frame, most of it at its entry, before its step; the nodes around it wait for it in frames of their own.
 #![tactic(auto)]
 
 mod bodies;
@@ -9,15 +9,18 @@ mod calls;
 mod choices;
 mod entries;
 mod expressions;
+mod functions;
 mod holding;
 mod loops;
 mod members;
+mod natives;
 mod prefixes;
 mod room;
 mod rounds;
 mod sequences;
 mod statements;
 mod stores;
+mod targets;
 mod variables;
 
 pub use entries::{after_body_element, after_body_value, body};

@@ -14,7 +14,7 @@ ghost use Rattle.wjs_direct.specs.Deeds.{form_here, line_here};
 ghost use Rattle.wjs_direct.specs.Sequences.{behind};
 
 use crate::room::ROOM;
-use crate::statements::{by_form, may_evaluate};
+use crate::statements::{by_form, is_evaluated};
 use wjs_base::{NodeId, OutOfMemory};
 use wjs_effects::{
     Reached, Sequence, element_of_sequence, elements_at_once, end_of, enter_statement,
@@ -79,7 +79,7 @@ fn run_element<S: WorldStore>(
     requires element { StandsHere config.old frame element }
     ensures { GoesOn S.meaning frame config.old config.new result (λ t env. Eval (AtStmt element.0) env (behind S.meaning config.old frame kind next t env)) }
 {
-    if may_evaluate(config, &frame, element, ROOM) {
+    if is_evaluated(config, &frame, kind, element) {
         let mut stops = Stops::new(config.heap.arena.allocator());
         let done = element_by_form(config, &frame, kind, next, element, &mut stops);
         finish_end(config, frame, done, stops)

@@ -14,11 +14,11 @@ ghost use Rattle.wjs_model.specs.Lists.{block_items};
 
 use crate::expressions::value;
 use crate::loops::{for_expression, run_loop};
-use crate::room::may_enter;
+use crate::room::{ROOM, may_enter};
 use crate::stores::effect;
 use crate::variables::{for_variables, run_variables};
 use wjs_base::Value;
-use wjs_effects::{dropped, statement_at_once, statement_of_block};
+use wjs_effects::{Sequence, dropped, statement_at_once, statement_of_block};
 use wjs_frames::node_at;
 use wjs_model::{Completion, Config, Frame, Phase, Point, Start, StmtPoint};
 use wjs_step_common::{number_after, to_boolean};
@@ -91,6 +91,28 @@ pub(crate) fn may_evaluate<S: WorldStore>(
         is_known(config, frame, node)
     } else {
         false
+    }
+}
+
+/// Whether an element is evaluated by recursion from the frame of its sequence. Of a block or a body a call that is a statement is not:
+/// the sequence's frame waits for it alone, so that a run which goes deep by `f();` keeps one frame a call.
+pub(crate) fn is_evaluated<S: WorldStore>(
+    config: &Config<S>,
+    frame: &Frame,
+    kind: Sequence,
+    element: NodeId,
+) -> bool {
+    match kind {
+        Sequence::Program => may_evaluate(config, frame, element, ROOM),
+        _ => !is_call(config, frame, element) && may_evaluate(config, frame, element, ROOM),
+    }
+}
+
+/// Whether a statement is a call.
+fn is_call<S: WorldStore>(config: &Config<S>, frame: &Frame, statement: NodeId) -> bool {
+    match node_at(config, frame, statement) {
+        Some(Node::Expr(e, _)) => matches!(node_at(config, frame, *e), Some(Node::Call(_, _))),
+        _ => false,
     }
 }
 

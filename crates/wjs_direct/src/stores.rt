@@ -10,16 +10,15 @@ ghost use Rattle.wjs_stopping.specs.Evaluating.{Evaluates, HasOutcome, InMemory}
 ghost use Rattle.wjs_direct.specs.Deeds.{IsNode, entry_here, form_here, goal_here, line_here};
 ghost use Rattle.wjs_tree.specs.Operators.{compound};
 
-use crate::calls::target;
 use crate::expressions::value;
 use crate::holding::{stop_compound, wait_compound};
 use crate::room::may_enter;
+use crate::targets::target;
 use wjs_base::Value;
-use wjs_effects::{expression_at_once, store_and_end};
+use wjs_effects::{expression_at_once, result_at_once, store_and_end};
 use wjs_frames::node_at;
 use wjs_heap_steps::peek_value_of;
 use wjs_model::{Completion, Config, ExprPoint, Frame, Held, Phase, Point, Reference, Start};
-use wjs_quick::operated;
 use wjs_stopping::{Broken, Stops, stop, waits, waits_holding};
 use wjs_store::WorldStore;
 use wjs_tree::{AssignOperator, BinaryOperator, Node, NodeId};
@@ -145,7 +144,7 @@ fn assign<S: WorldStore>(
         (λ t env. then_reference (line.assign_reference (compound sign) right.0 env)))
         completion_in result stops.new.waits stops.new.top config.old config.new }
 {
-    match target(config, frame, t, stops) {
+    match target(config, frame, t, room, stops) {
         Ok(reference) => assign_to(config, frame, node, sign, right, reference, room, stops),
         Err(end) => {
             let point = Point::Expr(ExprPoint::AssignTarget(sign, right));
@@ -316,7 +315,7 @@ fn compound_right<S: WorldStore>(
     }
 }
 
-/// The operation on both, and the store of its result; one that asks for a conversion or makes a text is done by a frame.
+/// The operation on both, and the store of its result; one that asks for a conversion of an object or a look at one is done by a frame.
 fn compound_stored<S: WorldStore>(
     config: &mut Config<S>,
     frame: &Frame,
@@ -340,7 +339,8 @@ fn compound_stored<S: WorldStore>(
         (λ t env. line.compound_value operator (value_in t old) (reference_in t reference) env (value_in t value)))
         completion_in result stops.new.waits stops.new.top config.old config.new }
 {
-    match operated(config, operator, old, value) {
+    let done = result_at_once(config, frame, operator, old, value)?;
+    match done {
         Some(new) => stored(config, frame, reference, new, stops),
         None => {
             let point = Point::Expr(ExprPoint::CompoundValue(operator));

@@ -53,7 +53,7 @@ module _ (t : Table) (here : ℕ) (env : Env) (ds : List Declarator) (at : ℕ) 
   variable_none past = ap (λ (xs : List (Text × Option ℕ)). vars_from here at xs env) (each_past (variable_in t) ds at (slice_get_past ds at past))
 
 -- the variables under a table
-variables_same : (t : Table) (node : NumberedNode) → variables_of (node_in t node) ≡ map (variable_in t) (declarators_in node)
+pub variables_same : (t : Table) (node : NumberedNode) → variables_of (node_in t node) ≡ map (variable_in t) (declarators_in node)
 variables_same t (nodes.Var xs end) = refl
 variables_same t (nodes.For (inits.Var xs) test u s) = refl
 variables_same t (nodes.For (inits.Expr e) test u s) = refl

@@ -1,7 +1,8 @@
 -- Deeds of which an effect is left, one after another.
 use Rattle.std.proofs.Common.{◌≡◌, ℕ, ◌-◌, ◌<◌, refl, sym, subst}
-use Rattle.std.specs.Prelude.{Option, None, Some, Ok}
+use Rattle.std.specs.Prelude.{Option, None, Some, Result, Ok, Err, OnOk}
 use Rattle.std.proofs.lemmas.Result.{on_ok_weaker}
+use Rattle.wjs_base.specs.declared.ids.OutOfMemory.{OutOfMemory}
 use Rattle.wjs_base.specs.declared.ids.TextId.{TextId}
 use Rattle.wjs_base.specs.declared.values.Value.{Value as Numbered}
 use Rattle.wjs_base.specs.Text.{Table, Grows}
@@ -64,6 +65,11 @@ module _ {S : Type 0} (meaning : S → Meaning) where
   pub made_later : (old new : Config S) (m : Made) → Later meaning old new → HasMade old m → HasMade new m
   made_later old new (There v) l h = l.values v h
   made_later old new (Joined p) l h = pieces_later old new p l h
+
+  -- deeds that come to the same in fewer turns, under a table that has grown
+  pub follows_when : (c later : Config S) (r : Result (Unit {0}) OutOfMemory) (long short : Act) → (Grows c.heap.texts later.heap.texts → Shortens long short) → OnOk r (Follows meaning short c later) → OnOk r (Follows meaning long c later)
+  follows_when c later (Ok u) long short s h = follows_shorter meaning long short c later (Ok u) (s h.keeps.stays.texts) h
+  follows_when c later (Err x) long short s h = h
 
   -- what is left is done, and so what it was left of
   pub leaves_done : (act : Table → Env → Act) (x : Rest) (e : NumberedCompletion) (c : Config S) (f : Frame) (before after : ℕ) (new : Config S) → ActLeaves meaning act x c f before after → Ends meaning x e c f after new → ActEnds meaning act e c f before new

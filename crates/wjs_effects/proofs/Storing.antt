@@ -10,7 +10,7 @@ use Rattle.wjs_by_content.specs.Values.{Text, Value, Undefined, Null, Boolean, N
 use Rattle.wjs_meaning.specs.Builtins.{class_prototype}
 use Rattle.wjs_meaning.specs.Trees.{Place}
 use Rattle.wjs_meaning.specs.Deeds.{Env, Reference, Local, Global, Member, Goal, AtExpr, St, Outcome, Ends, Spent, Completion, Gives, Throws, Act, Ret, Eval, Sub, Do, Read, Write, interp, then_do, then_value}
-use Rattle.wjs_meaning.specs.Properties.{get_value, put}
+use Rattle.wjs_meaning.specs.Properties.{get_value, has, put}
 use Rattle.wjs_meaning.specs.Programs.{eval}
 use Rattle.wjs_meaning.specs.References.{reference_at, value_of, member_value, defined_value, store, after_put}
 use Rattle.wjs_meaning.specs.Statements.{expr_done, return_value}
@@ -58,6 +58,10 @@ module _ (env : Env) (k : Value → Act) (go : Completion → Act) where
   value_goes (Local scope name) = shorten_trans _ _ _ (shorten_deed _ _ go) (shorten_do _ _ _ (λ arena. slot_goes scope name (fixed arena scope name)))
   value_goes (Global name) = shorten_trans _ _ _ (shorten_deed _ _ go) (shorten_do _ _ _ (λ arena. shorten_trans _ _ _ (shorten_plan _ _ _ go) (plan_after _ _ _ _ (defined_goes name))))
   value_goes (Member base name) = member_goes base name
+
+-- whether an object has a name, and then more
+pub has_goes : (o : ObjId) (name : Text) (env : Env) (k : Bool → Act) (go : Completion → Act) → Shortens (Sub (has o name env k) go) (has o name env (λ b. Sub (k b) go))
+has_goes o name env k go = shorten_trans _ _ _ (shorten_deed _ _ go) (shorten_do _ _ _ (λ arena. shorten_plan _ _ _ go))
 
 -- the reference of a name, and then more
 pub referred_goes : (place : Place) (name : Text) (env : Env) (k : Reference → Act) (go : Completion → Act) → Shortens (Sub (reference_at place name env k) go) (reference_at place name env (λ r. Sub (k r) go))

@@ -8,17 +8,14 @@ ghost use Rattle.wjs_meaning.specs.Trees as trees;
 ghost use Rattle.wjs_model.specs.Contents.{completion_in};
 ghost use Rattle.wjs_model.specs.Soundness.{Base, IsThere, HasCompletion};
 ghost use Rattle.wjs_frames.specs.Following.{Later};
-ghost use Rattle.wjs_frames.specs.Handling.{Runs, GoesOn};
 ghost use Rattle.wjs_frames.specs.Parts.{node_now};
 ghost use Rattle.wjs_effects.specs.Proceeding.{Proceeds};
-ghost use Rattle.wjs_effects.specs.Sequences.{SequenceStands, HasReached, NextIs, sequence_left, reached_in};
+ghost use Rattle.wjs_effects.specs.Sequences.{HasReached, NextIs, sequence_left, reached_in};
 ghost use Rattle.wjs_effects.specs.Sequences.{elements_in, elements_from, element_next, element_point, sequence_end, returned};
 
 use crate::elements::{Sequence, element_of_sequence};
-use crate::entries::enter_statement;
 use crate::parts::statement_at_once;
 use wjs_base::{OutOfMemory, Value};
-use wjs_frames::finish;
 use wjs_model::{CallPoint, Completion, Config, Frame, Point, StmtPoint};
 use wjs_step_common::number_after;
 use wjs_store::WorldStore;
@@ -31,47 +28,6 @@ pub enum Reached {
     Next(u32),
     /// The sequence ended so before its last element.
     Ended(Completion),
-}
-
-/// The elements of a sequence from one on: those that are done at once, and then the next one by a frame.
-pub fn run_from<S: WorldStore>(
-    config: &mut Config<S>,
-    frame: Frame,
-    kind: Sequence,
-    from: u32,
-) -> Result<(), OutOfMemory>
-    requires runs { Runs S.meaning config.old frame }
-    requires stands { SequenceStands config.old frame kind }
-    ensures { GoesOn S.meaning frame config.old config.new result (λ t env.
-        elements_from kind (drop from (elements_in kind (node_in t (node_now S.meaning config.old frame)))) env) }
-{
-    let reached = elements_at_once(config, &frame, kind, from)?;
-    match reached {
-        Reached::Next(at) => enter_from(config, frame, kind, at),
-        Reached::Ended(completion) => finish(config, frame, completion),
-    }
-}
-
-/// The element of this number is entered, and the frame waits to go on with the next; past the last the sequence ends.
-fn enter_from<S: WorldStore>(
-    config: &mut Config<S>,
-    frame: Frame,
-    kind: Sequence,
-    at: u32,
-) -> Result<(), OutOfMemory>
-    requires runs { Runs S.meaning config.old frame }
-    requires stands { SequenceStands config.old frame kind }
-    ensures { GoesOn S.meaning frame config.old config.new result (λ t env.
-        elements_from kind (drop at (elements_in kind (node_in t (node_now S.meaning config.old frame)))) env) }
-{
-    match element_of_sequence(config, &frame, kind, at) {
-        Some(element) => {
-            let next = number_after(at)?;
-            let point = waiting_point(kind, next);
-            enter_statement(config, frame, point, element)
-        }
-        None => finish(config, frame, end_of(kind)),
-    }
 }
 
 /// Where the frame of a sequence waits for the element before this one.

@@ -226,7 +226,7 @@ fn variable<S: WorldStore>(
 }
 
 /// The variable of a list of one; None of every other list.
-pub fn only_variable(variables: &[Declarator]) -> Option<Declarator>
+fn only_variable(variables: &[Declarator]) -> Option<Declarator>
     ensures first { IfSome result (λ d. slice_get variables.now 0 ≡ Some d) }
     ensures one { IfSome result (λ _. length variables.now ≡ 1) }
 {

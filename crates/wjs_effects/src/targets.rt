@@ -86,7 +86,7 @@ fn dot<S: WorldStore>(
     ensures found { IfSome result (λ r. HasReference config.now r) }
 {
     let object = value_at(config, frame, base, steps)?;
-    by_name(config, object, name)
+    dot_reference(config, object, name)
 }
 
 /// A member by value.
@@ -106,12 +106,16 @@ fn at<S: WorldStore>(
 {
     let object = value_at(config, frame, base, steps)?;
     let key = value_at(config, frame, index, steps)?;
-    by_value(config, object, key)
+    index_reference(config, object, key)
 }
 
 /// The member of a base by a name; None of undefined and null.
 #[inline(always)]
-fn by_name<S: WorldStore>(config: &Config<S>, base: Value, name: Spelt) -> Option<Reference>
+pub fn dot_reference<S: WorldStore>(
+    config: &Config<S>,
+    base: Value,
+    name: Spelt,
+) -> Option<Reference>
     requires base { Base S.meaning config.now }
     requires value { HasValue config.now base }
     requires name { KnowsSpelt config.now.heap.texts name }
@@ -130,7 +134,11 @@ fn by_name<S: WorldStore>(config: &Config<S>, base: Value, name: Spelt) -> Optio
 
 /// The member of a base by a value; None of undefined and null, and where a text would be made for its name.
 #[inline(always)]
-fn by_value<S: WorldStore>(config: &Config<S>, base: Value, key: Value) -> Option<Reference>
+pub fn index_reference<S: WorldStore>(
+    config: &Config<S>,
+    base: Value,
+    key: Value,
+) -> Option<Reference>
     requires base { Base S.meaning config.now }
     requires value { HasValue config.now base }
     requires key { HasValue config.now key }

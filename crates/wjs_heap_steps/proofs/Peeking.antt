@@ -2,13 +2,16 @@
 use Rattle.std.proofs.Common.{◌≡◌, ℕ, Bool, true, false, Option, None, Some, refl, sym, ap, ◌∙◌, length}
 use Rattle.std.specs.Prelude.{IfSome}
 use Rattle.wjs_base.specs.declared.ids.ObjId.{ObjId}
+use Rattle.wjs_base.specs.declared.ids.TextId.{TextId}
+use Rattle.wjs_base.specs.declared.values.Value.{Value as Numbered}
+use Rattle.wjs_base.specs.declared.values.Value.TheVariants as values
 use Rattle.wjs_base.specs.declared.ids.WorldId.{WorldId}
 use Rattle.wjs_base.specs.Text.{Table, Grows}
 use Rattle.wjs_store.specs.Meaning.{Meaning}
 use Rattle.wjs_by_content.specs.Names.{length_name}
 use Rattle.wjs_by_content.specs.Objects.{Arena, scope_up}
 use Rattle.wjs_by_content.specs.Plans.{Plan}
-use Rattle.wjs_by_content.specs.Tables.{arena_in}
+use Rattle.wjs_by_content.specs.Tables.{arena_in, value_in}
 use Rattle.wjs_by_content.specs.Values.{Text, Value, String, whole, same_text}
 use Rattle.wjs_heap.specs.Heap.{Performs}
 use Rattle.wjs_heap.specs.Means.{parts}
@@ -16,7 +19,7 @@ use Rattle.wjs_meaning.specs.Builtins.{class_prototype}
 use Rattle.wjs_meaning.specs.Trees.{Place}
 use Rattle.wjs_meaning.specs.Deeds.{Env, Act, Do, Look, Local, Global, Completion, carry_out}
 use Rattle.wjs_meaning.specs.Properties.{get_value}
-use Rattle.wjs_meaning.specs.References.{text_member}
+use Rattle.wjs_meaning.specs.References.{member_value, text_member}
 use Rattle.wjs_model.specs.declared.config.Config.{Config}
 use Rattle.wjs_model.specs.declared.frame.Activation.{Activation as Frame}
 use Rattle.wjs_model.specs.Operands.{evaluated, named}
@@ -35,6 +38,19 @@ if_some P Q None f h = tt
 -- a text's own `length`
 pub length_is : (text name : Text) (v : Value) (env : Env) (go : Value → Act) → same_text name length_name ≡ true → v ≡ whole (length text) → go v ≡ text_member text name env go
 length_is text name v env go e is = ap go is ∙ sym (ap (λ (b : Bool). elim b [ true ↦ go (whole (length text)) | false ↦ get_value (class_prototype (String text)) name env go ]) e)
+
+-- every other name is that of its prototype
+pub other_is : (text name : Text) (env : Env) (go : Value → Act) → same_text name length_name ≡ false → get_value (class_prototype (String text)) name env go ≡ text_member text name env go
+other_is text name env go e = sym (ap (λ (b : Bool). elim b [ true ↦ go (whole (length text)) | false ↦ get_value (class_prototype (String text)) name env go ]) e)
+
+-- and of every other primitive each name
+pub primitive_is : (v : Numbered) (t : Table) (name : Text) (env : Env) (go : Value → Act) → ((id : TextId) → ¬ (v ≡ values.Text id)) → ((o : ObjId) → ¬ (v ≡ values.Object o)) → get_value (class_prototype (value_in t v)) name env go ≡ member_value (value_in t v) name env go
+primitive_is values.Undefined t name env go no_text no_object = refl
+primitive_is values.Null t name env go no_text no_object = refl
+primitive_is (values.Bool b) t name env go no_text no_object = refl
+primitive_is (values.Number x) t name env go no_text no_object = refl
+primitive_is (values.Text id) t name env go no_text no_object = absurd (no_text id refl)
+primitive_is (values.Object o) t name env go no_text no_object = absurd (no_object o refl)
 
 module _ {S : Type 0} (meaning : S → Meaning) where
   abbrev with_left : Config S → ℕ → Config S

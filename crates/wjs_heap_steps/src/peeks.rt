@@ -17,10 +17,12 @@ ghost use Rattle.wjs_frames.specs.Parts.{env_in};
 ghost use Rattle.wjs_heap_steps.specs.Peeking.{Peeks};
 
 use crate::looks::{fixed, scope_up};
+use crate::makes::builtin;
 use crate::references::reference_at;
 use crate::texts::{name_of, units_of};
-use crate::values::{is_length, length_value};
+use crate::values::{class_prototype, is_length, length_value};
 use wjs_base::{Content, Name, ObjId, Slot, TextId, Value};
+use wjs_meaning::Builtin;
 use wjs_model::{Config, Frame, Operand, Reference};
 use wjs_scope::Place;
 use wjs_store::WorldStore;
@@ -68,8 +70,7 @@ fn peek_value<S: WorldStore>(
     }
 }
 
-/// The value of a member: of an object what [[Get]] finds, of a text its own `length`. None of another primitive, and of what
-/// texts have of their prototype.
+/// The value of a member: of an object what [[Get]] finds, of a primitive what its prototype object has, and of a text its own `length`.
 #[inline(always)]
 pub fn peek_member<S: WorldStore>(
     config: &Config<S>,
@@ -87,8 +88,11 @@ pub fn peek_member<S: WorldStore>(
 {
     match base {
         Value::Object(object) => peek_value(config, frame, object, name),
-        Value::Text(id) => peek_length(config, id, name),
-        _ => None,
+        Value::Text(id) => peek_text_member(config, frame, id, name),
+        _ => {
+            let prototype = class_prototype(config, base);
+            peek_value(config, frame, prototype, name)
+        }
     }
 }
 
@@ -155,20 +159,26 @@ fn member_spelled<S: WorldStore>(
     peek_member(config, frame, base, name)
 }
 
-/// A text's own `length`; None of every other name.
-fn peek_length<S: WorldStore>(config: &Config<S>, id: TextId, name: Name) -> Option<Value>
+/// A text's own `length`; every other name is looked up on the prototype object of texts.
+fn peek_text_member<S: WorldStore>(
+    config: &Config<S>,
+    frame: &Frame,
+    id: TextId,
+    name: Name,
+) -> Option<Value>
     requires base { Base S.meaning config.now }
+    requires there { IsThere S.meaning config.now frame.now }
     requires text { Has config.now.heap.texts id }
     requires name { HasName config.now name }
-    ensures peeks { (env : Table → Env) → IfSome result (λ value. Peeks S.meaning (λ t. references.text_member (text_in t id) (name_in t name) (env t))
-        (λ t. value_in t value) config.now) }
+    ensures peeks { IfSome result (λ value. Peeks S.meaning
+        (λ t. references.text_member (text_in t id) (name_in t name) (env_in S.meaning config.now t frame.now)) (λ t. value_in t value) config.now) }
     ensures found { IfSome result (λ value. HasValue config.now value) }
 {
     if is_length(config, name) {
-        Some(length_value(units_of(config, id).len()))
-    } else {
-        None
+        return Some(length_value(units_of(config, id).len()));
     }
+    let prototype = builtin(config, Builtin::StringPrototype);
+    peek_value(config, frame, prototype, name)
 }
 
 /// The value of an operand that is a value or a name; None of a target, and of a name that is not there.
@@ -212,7 +222,7 @@ pub fn peek_target<S: WorldStore>(
     }
 }
 
-/// The value of a reference (section 8.7.1); None of a global name that is not there, and of what texts have of their prototype.
+/// The value of a reference (section 8.7.1); None of a global name that is not there.
 #[inline(always)]
 pub fn peek_value_of<S: WorldStore>(
     config: &Config<S>,

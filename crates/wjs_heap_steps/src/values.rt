@@ -91,7 +91,7 @@ pub(crate) fn is_length<S: WorldStore>(config: &Config<S>, name: Name) -> bool
 }
 
 /// The prototype object of a primitive's class.
-fn class_prototype<S: WorldStore>(config: &Config<S>, value: Value) -> ObjId
+pub(crate) fn class_prototype<S: WorldStore>(config: &Config<S>, value: Value) -> ObjId
     requires { Base S.meaning config.now }
     ensures is { (t : Table) → first.class_prototype (value_in t value) ≡ result }
     ensures found { HasObject config.now result }

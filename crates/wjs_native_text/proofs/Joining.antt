@@ -1,7 +1,7 @@
 -- Texts of several values, one after another.
-use Rattle.std.proofs.Common.{◌≡◌, ℕ, ◌+◌, ◌%◌, ◌<◌, Bool, true, false, List, [], ◌∷◌, ◌++◌, length, get_or, take, drop, refl, sym, ap, ◌∙◌, arith}
+use Rattle.std.proofs.Common.{◌≡◌, ℕ, ◌+◌, ◌%◌, ◌<◌, ◌≤◌, Bool, true, false, List, [], ◌∷◌, ◌++◌, length, get_or, take, drop, refl, sym, ap, ◌∙◌, arith}
 use Rattle.std.specs.Prelude.{map}
-use Rattle.std.proofs.lemmas.Bool.{lt-ltb}
+use Rattle.std.proofs.lemmas.Bool.{lt-ltb, le-ltb}
 use Rattle.std.proofs.lemmas.List.{take_more, take-append-drop, map-append, append_assoc, append-nil, length-append}
 use Rattle.wjs_base.specs.Text.{longest}
 use Rattle.wjs_num.specs.Bits.{uint32}
@@ -46,6 +46,9 @@ given_by t env long = elim long as (λ b. Act) [ true ↦ throw TextTooLong env 
 
 too_long : (t : Text) (env : Env) → longest < length t → give_text t env ≡ throw TextTooLong env
 too_long t env h = ap (given_by t env) (lt-ltb longest (length t) h)
+
+pub short_given : (t : Text) (env : Env) → length t ≤ longest → give_text t env ≡ give (String t)
+short_given t env h = ap (given_by t env) (le-ltb longest (length t) h)
 
 -- whatever stands behind it
 pub still_too_long : (s t : Text) (env : Env) → longest < length s → give_text s env ≡ give_text (s ++ t) env

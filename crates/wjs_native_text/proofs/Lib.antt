@@ -4,3 +4,4 @@ pub mod Lengths
 pub mod Joining
 pub mod Limits
 pub mod Interning
+pub mod Telling

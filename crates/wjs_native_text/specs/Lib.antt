@@ -1,2 +1,3 @@
 pub mod Receivers
 pub mod Limits
+pub mod AtOnce

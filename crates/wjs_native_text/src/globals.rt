@@ -1,9 +1,14 @@
 //! The global functions (ECMA-262, 3rd edition, section 15.1.2).
-ghost use Rattle.std.specs.Prelude.{◌≡◌, All, map, false};
+ghost use Rattle.std.specs.Prelude.{◌≡◌, IfSome, All, map, false};
+ghost use Rattle.wjs_base.specs.Text.{Table};
+ghost use Rattle.wjs_base.specs.declared.values.Value.{Value as NumberedValue};
 ghost use Rattle.wjs_by_content.specs.Tables.{value_in};
+ghost use Rattle.wjs_by_content.specs.Values.{Boolean};
 ghost use Rattle.wjs_num.specs.Bits.{int32};
 ghost use Rattle.wjs_num.specs.Exact.{answer};
 ghost use Rattle.wjs_num.specs.Numerals.{integer_of_text};
+ghost use Rattle.wjs_meaning.specs.Deeds as line;
+ghost use Rattle.wjs_meaning.specs.Deeds.{Env};
 ghost use Rattle.wjs_meaning.specs.Natives.{native_line};
 ghost use Rattle.wjs_model.specs.Soundness.{HasValue};
 ghost use Rattle.wjs_frames.specs.Handling.{IsRunning, GoesOn};
@@ -70,6 +75,25 @@ pub(crate) fn is_nan<S: WorldStore>(
     ensures { GoesOn S.meaning frame config.old config.new result (λ t env.
         native_line (Native.Global GlobalNative.IsNaN) false (value_in t this) (map (value_in t) args.now) env) }
 {
-    let answer = whole_at(args, 0).get().is_none();
+    let answer = nan_given(args);
     give(config, frame, Value::Bool(answer))
+}
+
+/// What a global function gives, where that is told at once.
+pub(crate) fn truth_given(native: GlobalNative, args: &[Value]) -> Option<bool>
+    ensures { IfSome result (λ truth. (t : Table) (this : NumberedValue) (env : Env) →
+        native_line (Native.Global native) false (value_in t this) (map (value_in t) args.now) env ≡ line.give (Boolean truth)) }
+{
+    match native {
+        GlobalNative::IsNaN => Some(nan_given(args)),
+        GlobalNative::Print | GlobalNative::ParseInt => None,
+    }
+}
+
+/// What `isNaN` gives.
+fn nan_given(args: &[Value]) -> bool
+    ensures { (t : Table) (this : NumberedValue) (env : Env) →
+        native_line (Native.Global GlobalNative.IsNaN) false (value_in t this) (map (value_in t) args.now) env ≡ line.give (Boolean result) }
+{
+    whole_at(args, 0).get().is_none()
 }

@@ -2,6 +2,7 @@
 //! (ECMA-262, 3rd edition, sections 15.1.2 and 15.5 to 15.8).
 #![tactic(auto)]
 
+mod at_once;
 mod globals;
 mod glue;
 mod math;
@@ -14,5 +15,6 @@ mod strings;
 mod turns;
 mod units;
 
+pub use at_once::native_at_once;
 pub use glue::glue_element;
 pub use turns::{begin_text, resume_text};

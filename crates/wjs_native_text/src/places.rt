@@ -1,11 +1,12 @@
 //! What stands at places of texts (ECMA-262, 3rd edition, section 15.5.4).
-ghost use Rattle.std.specs.Prelude.{◌≡◌, ◌≤◌, IfOk, All, map, false};
+ghost use Rattle.std.specs.Prelude.{◌≡◌, ◌≤◌, IfOk, All, map, length, false};
 ghost use Rattle.wjs_by_content.specs.Tables.{value_in};
-ghost use Rattle.wjs_base.specs.Text.{Table};
-ghost use Rattle.wjs_by_content.specs.Values.{Number};
+ghost use Rattle.wjs_base.specs.Text.{Table, Grows, longest};
+ghost use Rattle.wjs_by_content.specs.Values.{Number, String};
 ghost use Rattle.wjs_meaning.specs.Natives.{native_line};
+ghost use Rattle.wjs_meaning.specs.NativesOfObjects as read;
 ghost use Rattle.wjs_meaning.specs.NativesOfTexts as line;
-ghost use Rattle.wjs_meaning.specs.Deeds.{give};
+ghost use Rattle.wjs_meaning.specs.Deeds.{Env, give};
 ghost use Rattle.wjs_model.specs.Soundness.{HasValue};
 ghost use Rattle.wjs_frames.specs.Handling.{IsRunning, GoesOn};
 
@@ -32,8 +33,17 @@ pub(crate) fn char_at<S: WorldStore>(
     ensures { GoesOn S.meaning frame config.old config.new result (λ t env.
         native_line (Native.String StringNative.CharAt) false (value_in t this) (map (value_in t) args.now) env) }
 {
-    let unit = unit_at(text_of(config, this), whole_at(args, 0));
+    let unit = unit_of(config, this, args);
     give_unit(config, frame, unit)
+}
+
+/// The code unit of the receiver at the place that is asked for; None where there is none.
+pub(crate) fn unit_of<S: WorldStore>(config: &Config<S>, this: Value, args: &[Value]) -> Option<u16>
+    requires { HasValue config.now this }
+    ensures { (t : Table) → Grows config.now.heap.texts t →
+        line.unit_at (read.text_of (value_in t this)) (read.whole_at (map (value_in t) args.now) 0) ≡ result }
+{
+    unit_at(text_of(config, this), whole_at(args, 0))
 }
 
 /// Ends with a code unit as a text, which is empty where there is none.
@@ -63,8 +73,17 @@ pub(crate) fn char_code_at<S: WorldStore>(
     ensures { GoesOn S.meaning frame config.old config.new result (λ t env.
         native_line (Native.String StringNative.CharCodeAt) false (value_in t this) (map (value_in t) args.now) env) }
 {
-    let code = code_of(unit_at(text_of(config, this), whole_at(args, 0)));
+    let code = code_at(config, this, args);
     give(config, frame, Value::Number(code))
+}
+
+/// The number that `charCodeAt` gives.
+pub(crate) fn code_at<S: WorldStore>(config: &Config<S>, this: Value, args: &[Value]) -> Whole
+    requires { HasValue config.now this }
+    ensures { (t : Table) → Grows config.now.heap.texts t → (env : Env) →
+        native_line (Native.String StringNative.CharCodeAt) false (value_in t this) (map (value_in t) args.now) env ≡ give (Number result.number) }
+{
+    code_of(unit_of(config, this, args))
 }
 
 /// A code unit as a number; NaN where there is none.
@@ -90,12 +109,26 @@ pub(crate) fn index_of<S: WorldStore>(
     ensures { GoesOn S.meaning frame config.old config.new result (λ t env.
         native_line (Native.String StringNative.IndexOf) false (value_in t this) (map (value_in t) args.now) env) }
 {
+    let place = first_place(config, this, args)?;
+    give(config, frame, Value::Number(place))
+}
+
+/// The number that `indexOf` gives.
+pub(crate) fn first_place<S: WorldStore>(
+    config: &Config<S>,
+    this: Value,
+    args: &[Value],
+) -> Result<Whole, OutOfMemory>
+    requires this { HasValue config.now this }
+    requires args { All (HasValue config.now) args.now }
+    ensures { IfOk result (λ place. (t : Table) → Grows config.now.heap.texts t → (env : Env) →
+        native_line (Native.String StringNative.IndexOf) false (value_in t this) (map (value_in t) args.now) env ≡ give (Number place.number)) }
+{
     let alloc = config.heap.arena.allocator();
     let text = text_of(config, this);
     let from = place_of(whole_at(args, 1), text.len());
     let place = first_from(alloc, text, text_at(config, args, 0), from)?;
-    let answer = place_value(place)?;
-    give(config, frame, Value::Number(answer))
+    place_value(place)
 }
 
 /// The last place at or before another where a text stands (section 15.5.4.8).
@@ -111,12 +144,26 @@ pub(crate) fn last_index_of<S: WorldStore>(
     ensures { GoesOn S.meaning frame config.old config.new result (λ t env.
         native_line (Native.String StringNative.LastIndexOf) false (value_in t this) (map (value_in t) args.now) env) }
 {
+    let place = final_place(config, this, args)?;
+    give(config, frame, Value::Number(place))
+}
+
+/// The number that `lastIndexOf` gives.
+pub(crate) fn final_place<S: WorldStore>(
+    config: &Config<S>,
+    this: Value,
+    args: &[Value],
+) -> Result<Whole, OutOfMemory>
+    requires this { HasValue config.now this }
+    requires args { All (HasValue config.now) args.now }
+    ensures { IfOk result (λ place. (t : Table) → Grows config.now.heap.texts t → (env : Env) →
+        native_line (Native.String StringNative.LastIndexOf) false (value_in t this) (map (value_in t) args.now) env ≡ give (Number place.number)) }
+{
     let alloc = config.heap.arena.allocator();
     let text = text_of(config, this);
     let limit = limit_of(whole_at(args, 1), text.len());
     let place = last_place(alloc, text, text_at(config, args, 0), limit)?;
-    let answer = place_value(place)?;
-    give(config, frame, Value::Number(answer))
+    place_value(place)
 }
 
 /// The place that a number counts as in a text of a length.
@@ -154,10 +201,24 @@ pub(crate) fn give_substring<S: WorldStore>(
     ensures { GoesOn S.meaning frame config.old config.new result (λ t env.
         native_line (Native.String StringNative.Substring) false (value_in t this) (map (value_in t) args.now) env) }
 {
+    let units = substring_units(config, this, args)?;
+    give_short(config, frame, units.as_slice())
+}
+
+/// The code units of the text that `substring` gives.
+pub(crate) fn substring_units<S: WorldStore>(
+    config: &Config<S>,
+    this: Value,
+    args: &[Value],
+) -> Result<Vec<u16>, OutOfMemory>
+    requires { HasValue config.now this }
+    ensures short { IfOk result (λ units. length units.items ≤ longest) }
+    ensures units { IfOk result (λ units. (t : Table) → Grows config.now.heap.texts t → (env : Env) →
+        native_line (Native.String StringNative.Substring) false (value_in t this) (map (value_in t) args.now) env ≡ give (String units.items)) }
+{
     let alloc = config.heap.arena.allocator();
     let text = text_of(config, this);
-    let part = copied(alloc, substring(text, whole_at(args, 0), value_at(args, 1)))?;
-    give_short(config, frame, part.as_slice())
+    copied(alloc, substring(text, whole_at(args, 0), value_at(args, 1)))
 }
 
 /// The part from a place to before another, where places below 0 count from the end (section 15.5.4.13).
@@ -172,8 +233,22 @@ pub(crate) fn give_slice<S: WorldStore>(
     ensures { GoesOn S.meaning frame config.old config.new result (λ t env.
         native_line (Native.String StringNative.Slice) false (value_in t this) (map (value_in t) args.now) env) }
 {
+    let units = slice_units(config, this, args)?;
+    give_short(config, frame, units.as_slice())
+}
+
+/// The code units of the text that `slice` gives.
+pub(crate) fn slice_units<S: WorldStore>(
+    config: &Config<S>,
+    this: Value,
+    args: &[Value],
+) -> Result<Vec<u16>, OutOfMemory>
+    requires { HasValue config.now this }
+    ensures short { IfOk result (λ units. length units.items ≤ longest) }
+    ensures units { IfOk result (λ units. (t : Table) → Grows config.now.heap.texts t → (env : Env) →
+        native_line (Native.String StringNative.Slice) false (value_in t this) (map (value_in t) args.now) env ≡ give (String units.items)) }
+{
     let alloc = config.heap.arena.allocator();
     let text = text_of(config, this);
-    let part = copied(alloc, slice(text, whole_at(args, 0), value_at(args, 1)))?;
-    give_short(config, frame, part.as_slice())
+    copied(alloc, slice(text, whole_at(args, 0), value_at(args, 1)))
 }

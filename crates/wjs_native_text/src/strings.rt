@@ -71,7 +71,7 @@ pub(crate) fn from_char_code<S: WorldStore>(
 }
 
 /// A code unit for each number.
-fn units_of_numbers(alloc: Global, numbers: &[Value]) -> Result<Vec<u16>, OutOfMemory>
+pub(crate) fn units_of_numbers(alloc: Global, numbers: &[Value]) -> Result<Vec<u16>, OutOfMemory>
     ensures { IfOk result (λ units. (t : Table) → map (λ v. uint32 (whole_of v) % 65536) (map (value_in t) numbers.now) ≡ units.items) }
 {
     let mut units = Vec::new(alloc);

@@ -24,7 +24,7 @@ drop_get [] n = refl
 drop_get (v ∷ vs) n = refl
 
 -- the pair at a place, and those past it
-pairs_next : (ks : List Kind) (vs : List Value) (at : ℕ) (k : Kind) → slice_get ks at ≡ Some k → drop at (with_kinds ks vs) ≡ (k, get_or vs at Undefined) ∷ drop (suc at) (with_kinds ks vs)
+pub pairs_next : (ks : List Kind) (vs : List Value) (at : ℕ) (k : Kind) → slice_get ks at ≡ Some k → drop at (with_kinds ks vs) ≡ (k, get_or vs at Undefined) ∷ drop (suc at) (with_kinds ks vs)
 pairs_next [] vs at k h = absurd (cc)
 pairs_next (x ∷ ks) vs zero k h =
     let e : x ≡ k = cc in
@@ -36,7 +36,7 @@ pairs_next (x ∷ ks) vs (suc n) k h =
     ∙ ap (λ l. (k, get_or vs (suc n) Undefined) ∷ drop (suc (suc n)) l) (sym (pairs_head x ks vs))
 
 -- no pair is past the last
-pairs_end : (ks : List Kind) (vs : List Value) (at : ℕ) → slice_get ks at ≡ None → drop at (with_kinds ks vs) ≡ []
+pub pairs_end : (ks : List Kind) (vs : List Value) (at : ℕ) → slice_get ks at ≡ None → drop at (with_kinds ks vs) ≡ []
 pairs_end [] vs zero h = refl
 pairs_end [] vs (suc n) h = refl
 pairs_end (x ∷ ks) vs zero h = absurd (cc)

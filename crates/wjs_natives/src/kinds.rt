@@ -24,8 +24,8 @@ pub(crate) fn kind_at(native: Native, given: usize, at: usize) -> Option<Kind>
     }
 }
 
-/// The kind at a place among kinds.
-fn argument_kind(kinds: Kinds, given: usize, at: usize) -> Option<Kind>
+/// The kind at a place among kinds, of so many arguments that are given.
+pub(crate) fn argument_kind(kinds: Kinds, given: usize, at: usize) -> Option<Kind>
     ensures { result ≡ slice_get (kinds_of kinds given) at }
 {
     match kinds {

@@ -8,10 +8,12 @@ mod cores;
 mod items;
 mod kinds;
 mod primitives;
+mod stays;
 mod turns;
 
 pub use arguments::{number_of, text_at, text_of, value_at, whole_at};
 pub use conversions::Progress;
 pub use cores::is_core;
 pub use items::items_of;
+pub use stays::stay;
 pub use turns::{begin, resume};

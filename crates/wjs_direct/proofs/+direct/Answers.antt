@@ -15,6 +15,7 @@ use Rattle.wjs_tree.specs.declared.node.Node.TheVariants as nodes
 use Rattle.wjs_tree.specs.declared.node.ForInit.{ForInit}
 use Rattle.wjs_tree.specs.declared.node.ForInit.TheVariants as inits
 use Rattle.wjs_meaning.specs.Deeds.{AtExpr, AtStmt, then_normal, then_value, AtTarget, then_reference, Gives, Ret, Again, Act, Sub, Env, Completion as Meant}
+use Rattle.wjs_model.specs.Waiting.{refer}
 use Rattle.wjs_meaning.specs.Programs.{entry}
 use Rattle.wjs_meaning.specs.Reading.{number, node_in, spelt_in}
 use Rattle.wjs_meaning.specs.Functions.{body_of}
@@ -53,13 +54,13 @@ use Rattle.wjs_heap_steps.proofs.Later.{later_same, later_twice}
 use Rattle.wjs_heap_steps.specs.Peeking.{Peeks}
 use Rattle.wjs_quick.proofs.Coming.{ends_as, later_left, one_less}
 use Rattle.wjs_quick.specs.Operating.{after_prefix, is_of_value}
-use Rattle.wjs_direct.proofs.Membering.{dot_later, dot_waits}
+use Rattle.wjs_direct.proofs.Membering.{dot_later, dot_waits, target_waits}
 use Rattle.wjs_model.specs.declared.point.Purpose.TheVariants as purposes
 use Rattle.wjs_direct.proofs.Prefixing.{prefix_stands, prefix_waits}
 use Rattle.wjs_quick.proofs.Operations.{prefix_is, left_is_held, and_goes_on, and_ends, or_goes_on, or_ends}
 use Rattle.wjs_effects.specs.Sequences.{NextIs}
 use Rattle.wjs_effects.proofs.Leaving.{shorten_as}
-use Rattle.wjs_effects.proofs.Lines.{stmt_is, if_yes, if_no}
+use Rattle.wjs_effects.proofs.Lines.{stmt_is, target_is, if_yes, if_no}
 use Rattle.wjs_effects.proofs.Running.{statement_is}
 use Rattle.wjs_effects.proofs.StandingElements.{element_stands, sequence_later}
 use Rattle.wjs_effects.proofs.Only.{dropped_is, dropped_there}
@@ -70,12 +71,13 @@ use Rattle.wjs_variables.proofs.StandingBodies.{function_at}
 use Rattle.wjs_stopping.specs.Ends.{gives_in}
 use Rattle.wjs_stopping.specs.Evaluating.{Evaluates, HasBroken, HasOutcome, InMemory, Leaves, outcome_in}
 use Rattle.wjs_stopping.specs.Waiting.{WaitsAt, at_node}
-use Rattle.wjs_direct.specs.Deeds.{IsCallee, IsNode, goal_here, line_here, refers_in, call_held, entry_here, form_here}
+use Rattle.wjs_direct.specs.Deeds.{IsCallee, IsFunctionExpression, IsNode, goal_here, line_here, refers_in, call_held, entry_here, form_here}
 use Rattle.wjs_stopping.proofs.Evaluating.{in_memory, leaves_all}
 use Rattle.wjs_direct.proofs.Forming.{form_goes_on, line_ended, node_there}
 use Rattle.wjs_direct.proofs.Parts.{broke_does, broke_found, broke_later, did, due_does, else_stands, form_ends, later_stopped, later_then, line_as, line_form, line_last, ready_does, step_does, stepped, stop_found, given_does, shortened}
 use Rattle.wjs_direct.proofs.Elements.{block_begins, element_form, element_passed, element_then, not_normal, rest_all, rest_ended, rest_from, then_moved, waits_then}
 use Rattle.wjs_direct.proofs.Entering.{body_ready_there, body_looked, body_ready, body_inside}
+use Rattle.wjs_direct.proofs.NativeCalls.{native_entered}
 use Rattle.wjs_direct.proofs.Calling.{callee_stands, call_entered, callee_waits, reference_read, argument_stands, values_later, values_left, values_first, argument_given, argument_broken, arguments_done, call_looks, call_does, script_entered, body_does, body_found, body_paid}
 use Rattle.wjs_direct.proofs.Holdings.{call_there}
 use Rattle.wjs_direct.proofs.Declaring.{all_passed, declares_later, for_begins, for_variables_then, nested_broke, nested_left, next_as, next_broke, next_ended, next_passed, value_next, value_waits, var_begins, variable_begins, variable_passed, variable_stands}
@@ -178,6 +180,15 @@ expressions::form-call-requires g t c =
     let s = c.in-Some-Call in
     let callee : IsCallee m old f c.args.node s.callee = (s.field-0-1, s.ensures ∙ s.field-0-is) in
     search (rules, callee)
+
+pub expressions::form-function-requires : goal.expressions::form-function-requires
+expressions::form-function-requires g t c =
+    let m = g.S.WorldStore.meaning in
+    let old = c.args.config.now in
+    let f = c.args.frame.now in
+    let s = c.in-Some-Function in
+    let is : IsFunctionExpression m old f c.args.node s.name = (s.field-0-1, (s.field-0-2, s.ensures ∙ s.field-0-is)) in
+    search (rules, is)
 
 pub expressions::form-returns-in_default-clause-later : goal.expressions::form-returns-in_default-clause-later
 expressions::form-returns-in_default-clause-later g t c = later_stopped g.S.WorldStore.meaning {A = Value} c.args.config.now c.stop.new.config (Err c.stop.result) c.requires.base c.stop.ensures.same
@@ -829,12 +840,13 @@ stores::assignment-returns-in_default-clause-does g t c =
     let s = c.stop.new.stops in
     ready_does g.S.WorldStore.meaning completion_in c.args.config.now c.stop.new.config c.args.frame.now c.stop.result s.waits s.top c.stop.ensures.same (part.Expr c.args.node) c.stop.ensures.stops
 
-pub stores::assign-target-requires-clause-node : goal.stores::assign-target-requires-clause-node
-stores::assign-target-requires-clause-node g t c =
+pub stores::assign-target-requires : goal.stores::assign-target-requires
+stores::assign-target-requires g t c =
     let m = g.S.WorldStore.meaning in
     let old = c.args.config.now in
     let f = c.args.frame.now in
-    stands_here m old (at_node f c.args.node []) (nodes.Assign c.args.t c.args.sign c.args.right) c.args.t (node_there m old f c.args.node [] c.requires.there c.requires.node tt) c.requires.is (inl refl)
+    let node : StandsHere old f c.args.t = stands_here m old (at_node f c.args.node []) (nodes.Assign c.args.t c.args.sign c.args.right) c.args.t (node_there m old f c.args.node [] c.requires.there c.requires.node tt) c.requires.is (inl refl) in
+    search (rules, node)
 
 pub stores::assign-assign_to-requires : goal.stores::assign-assign_to-requires
 stores::assign-assign_to-requires g t c =
@@ -1337,6 +1349,288 @@ members::index_of_base-returns-in-Err-clause-does g t c =
     let k = c.waits_holding.new.stops in
     broke_does m Value Value old c.value.new.config c.waits_holding.new.config f c.args.node (holds.Value c.args.object ∷ []) (points.Expr (expr.Index purposes.Value)) c.in-Err.end s.waits s.top c.waits_holding.result k.waits k.top
     c.waits_holding.ensures.same c.waits_holding.ensures.waits gives_in gives_in (AtExpr c.args.index.0) (λ t env. then_value (line.at_index (value_in t c.args.object) env (line.give_value_of env))) (λ l t env. refl) (λ t env e. refl) c.in-Err.ensures.later c.in-Err.ensures.does
+
+-- ---- targets
+
+-- at once
+pub targets::target-returns-in-Some-clause-does : goal.targets::target-returns-in-Some-clause-does
+targets::target-returns-in-Some-clause-does g t c =
+    let m = g.S.WorldStore.meaning in
+    let old = c.args.config.now in
+    let s = c.args.stops.now in
+    did m refers_in (goal_here m old c.args.frame.now (AtTarget c.args.node.0)) c.in-Some.reference s.waits s.top old c.reference_at_once.new.config c.in-Some.ensures.does
+
+-- not entered
+pub targets::target-returns-then-not-may_refer-clause-later : goal.targets::target-returns-then-not-may_refer-clause-later
+targets::target-returns-then-not-may_refer-clause-later g t c =
+    later_stopped g.S.WorldStore.meaning {A = Reference} c.args.config.now c.stop.new.config (Err c.stop.result) c.requires.base (c.stop.ensures.same ∙ c.in_default.ensures.same)
+
+pub targets::target-returns-then-not-may_refer-clause-found : goal.targets::target-returns-then-not-may_refer-clause-found
+targets::target-returns-then-not-may_refer-clause-found g t c =
+    let s = c.stop.new.stops in
+    stop_found g.S.WorldStore.meaning c.args.config.now c.stop.new.config c.args.frame.now c.args.node [] (phases.Due starts.Target) c.stop.result s.waits s.top (c.stop.ensures.same ∙ c.in_default.ensures.same)
+    c.requires.there c.requires.node tt tt c.stop.ensures.stops
+
+pub targets::target-returns-then-not-may_refer-clause-does : goal.targets::target-returns-then-not-may_refer-clause-does
+targets::target-returns-then-not-may_refer-clause-does g t c =
+    let s = c.stop.new.stops in
+    due_does g.S.WorldStore.meaning refers_in c.args.config.now c.stop.new.config c.args.frame.now c.stop.result s.waits s.top (c.stop.ensures.same ∙ c.in_default.ensures.same) (part.Target c.args.node) c.stop.ensures.stops
+
+-- entered
+pub targets::target-member-requires : goal.targets::target-member-requires
+targets::target-member-requires g t c =
+    let m = g.S.WorldStore.meaning in
+    let old = c.args.config.now in
+    let f = c.args.frame.now in
+    let mid = c.reference_at_once.new.config in
+    let now = record mid { left = mid.left - 1 } in
+    let l = stepped m old mid c.in_default.ensures.same c.reference_at_once.ensures.later.base in
+    let some = c.may_refer.ensures.room c.if-not-may_refer.false in
+    let base : Base m now = l.base in
+    let there : IsThere m now f = l.frames f c.requires.there in
+    let node : StandsHere now f c.args.node = stands_later m old f now c.args.node l c.requires.node in
+    search (rules, some, base, there, node)
+
+pub targets::target-returns-clause-later : goal.targets::target-returns-clause-later
+targets::target-returns-clause-later g t c =
+    let m = g.S.WorldStore.meaning in
+    let old = c.args.config.now in
+    let mid = c.reference_at_once.new.config in
+    later_then m old (record mid { left = mid.left - 1 }) c.member.new.config c.member.result (stepped m old mid c.in_default.ensures.same c.reference_at_once.ensures.later.base) c.member.ensures.later
+
+pub targets::target-returns-clause-does : goal.targets::target-returns-clause-does
+targets::target-returns-clause-does g t c =
+    let s = c.member.new.stops in
+    step_does g.S.WorldStore.meaning refers_in c.args.config.now c.reference_at_once.new.config c.member.new.config c.args.frame.now (AtTarget c.args.node.0) c.member.result s.waits s.top c.in_default.ensures.same
+    (c.may_refer.ensures.left c.if-not-may_refer.false) c.member.ensures.does
+
+-- what follows its step
+pub targets::member-returns-in-Some-Dot-clause-does : goal.targets::member-returns-in-Some-Dot-clause-does
+targets::member-returns-in-Some-Dot-clause-does g t c =
+    let m = g.S.WorldStore.meaning in
+    let old = c.args.config.now in
+    let f = c.args.frame.now in
+    let s = c.in-Some-Dot in
+    let k = c.dot.new.stops in
+    line_form m refers_in old c.dot.new.config f (λ t env. entry (AtTarget c.args.node.0) env) c.dot.result k.waits k.top (AtExpr s.base.0) (λ t env. then_value (line.dot_base (spelt_in t s.name) env refer))
+    (λ t more. target_is m old f c.args.node (nodes.Dot s.base s.name) t (s.ensures ∙ s.field-0-is)) c.dot.ensures.does
+
+pub targets::member-returns-in-Some-At-clause-does : goal.targets::member-returns-in-Some-At-clause-does
+targets::member-returns-in-Some-At-clause-does g t c =
+    let m = g.S.WorldStore.meaning in
+    let old = c.args.config.now in
+    let f = c.args.frame.now in
+    let s = c.in-Some-At in
+    let k = c.at.new.stops in
+    line_form m refers_in old c.at.new.config f (λ t env. entry (AtTarget c.args.node.0) env) c.at.result k.waits k.top (AtExpr s.base.0) (λ t env. then_value (line.at_base s.index.0 env refer))
+    (λ t more. target_is m old f c.args.node (nodes.At s.base s.index) t (s.ensures ∙ s.field-0-is)) c.at.ensures.does
+
+pub targets::member-returns-in_default-clause-later : goal.targets::member-returns-in_default-clause-later
+targets::member-returns-in_default-clause-later g t c = later_stopped g.S.WorldStore.meaning {A = Reference} c.args.config.now c.stop.new.config (Err c.stop.result) c.requires.base c.stop.ensures.same
+
+pub targets::member-returns-in_default-clause-found : goal.targets::member-returns-in_default-clause-found
+targets::member-returns-in_default-clause-found g t c =
+    let s = c.stop.new.stops in
+    stop_found g.S.WorldStore.meaning c.args.config.now c.stop.new.config c.args.frame.now c.args.node [] (phases.Ready starts.Target) c.stop.result s.waits s.top c.stop.ensures.same
+    c.requires.there c.requires.node tt tt c.stop.ensures.stops
+
+pub targets::member-returns-in_default-clause-does : goal.targets::member-returns-in_default-clause-does
+targets::member-returns-in_default-clause-does g t c =
+    let s = c.stop.new.stops in
+    ready_does g.S.WorldStore.meaning refers_in c.args.config.now c.stop.new.config c.args.frame.now c.stop.result s.waits s.top c.stop.ensures.same (part.Target c.args.node) c.stop.ensures.stops
+
+pub targets::dot-value-requires : goal.targets::dot-value-requires
+targets::dot-value-requires g t c =
+    let m = g.S.WorldStore.meaning in
+    let old = c.args.config.now in
+    let f = c.args.frame.now in
+    let part : StandsHere old f c.args.base = stands_here m old (at_node f c.args.node []) (nodes.Dot c.args.base c.args.name) c.args.base (node_there m old f c.args.node [] c.requires.there c.requires.node tt) c.requires.is (inl refl) in
+    search (rules, part)
+
+pub targets::dot-referred_by_name-requires : goal.targets::dot-referred_by_name-requires
+targets::dot-referred_by_name-requires g t c =
+    let m = g.S.WorldStore.meaning in
+    let old = c.args.config.now in
+    let f = c.args.frame.now in
+    let mid = c.value.new.config in
+    let l = c.in-Ok.ensures.later in
+    record {
+      base = l.base;
+      there = l.frames f c.requires.there;
+      node = stands_later m old f mid c.args.node l c.requires.node;
+      empty = c.in-Ok.ensures.found.1;
+      is = dot_later m old f c.args.node c.args.name (c.args.base, c.requires.is) mid l;
+      object = c.in-Ok.ensures.found.0;
+    }
+
+pub targets::dot-returns-in-Ok-clause-later : goal.targets::dot-returns-in-Ok-clause-later
+targets::dot-returns-in-Ok-clause-later g t c =
+    later_then g.S.WorldStore.meaning c.args.config.now c.value.new.config c.referred_by_name.new.config c.referred_by_name.result c.in-Ok.ensures.later c.referred_by_name.ensures.later
+
+pub targets::dot-returns-in-Ok-clause-does : goal.targets::dot-returns-in-Ok-clause-does
+targets::dot-returns-in-Ok-clause-does g t c =
+    let s = c.value.new.stops in
+    let k = c.referred_by_name.new.stops in
+    form_goes_on g.S.WorldStore.meaning gives_in refers_in c.args.config.now c.value.new.config c.referred_by_name.new.config c.args.frame.now (AtExpr c.args.base.0) (λ t env. then_value (line.dot_base (spelt_in t c.args.name) env refer)) c.in-Ok.object
+    c.referred_by_name.result s.waits s.top k.waits k.top c.in-Ok.ensures.later c.in-Ok.ensures.does c.referred_by_name.ensures.does
+
+pub targets::dot-returns-in-Err-clause-later : goal.targets::dot-returns-in-Err-clause-later
+targets::dot-returns-in-Err-clause-later g t c =
+    let m = g.S.WorldStore.meaning in
+    let old = c.args.config.now in
+    let f = c.args.frame.now in
+    let s = c.value.new.stops in
+    let k = c.waits.new.stops in
+    broke_later m Value Reference old c.value.new.config c.waits.new.config f c.args.node [] (points.Expr (expr.DotBase purposes.Target)) c.in-Err.end s.waits s.top c.waits.result k.waits k.top
+    c.waits.ensures.same c.waits.ensures.waits c.in-Err.ensures.later
+
+pub targets::dot-returns-in-Err-clause-found : goal.targets::dot-returns-in-Err-clause-found
+targets::dot-returns-in-Err-clause-found g t c =
+    let m = g.S.WorldStore.meaning in
+    let old = c.args.config.now in
+    let f = c.args.frame.now in
+    let s = c.value.new.stops in
+    let k = c.waits.new.stops in
+    broke_found m Value Reference old c.value.new.config c.waits.new.config f c.args.node [] (points.Expr (expr.DotBase purposes.Target)) c.in-Err.end s.waits s.top c.waits.result k.waits k.top
+    c.waits.ensures.same c.waits.ensures.waits c.in-Err.ensures.later c.requires.there c.requires.node tt (tt) c.in-Err.ensures.found
+
+pub targets::dot-returns-in-Err-clause-does : goal.targets::dot-returns-in-Err-clause-does
+targets::dot-returns-in-Err-clause-does g t c =
+    let m = g.S.WorldStore.meaning in
+    let old = c.args.config.now in
+    let f = c.args.frame.now in
+    let s = c.value.new.stops in
+    let k = c.waits.new.stops in
+    broke_does m Value Reference old c.value.new.config c.waits.new.config f c.args.node [] (points.Expr (expr.DotBase purposes.Target)) c.in-Err.end s.waits s.top c.waits.result k.waits k.top
+    c.waits.ensures.same c.waits.ensures.waits gives_in refers_in (AtExpr c.args.base.0) (λ t env. then_value (line.dot_base (spelt_in t c.args.name) env refer)) (λ l t env. target_waits m c.value.new.config f c.args.node c.args.name (dot_later m old f c.args.node c.args.name (c.args.base, c.requires.is) c.value.new.config l) t env) (λ t env e. refl) c.in-Err.ensures.later c.in-Err.ensures.does
+
+pub targets::at-value-requires : goal.targets::at-value-requires
+targets::at-value-requires g t c =
+    let m = g.S.WorldStore.meaning in
+    let old = c.args.config.now in
+    let f = c.args.frame.now in
+    let part : StandsHere old f c.args.base = stands_here m old (at_node f c.args.node []) (nodes.At c.args.base c.args.index) c.args.base (node_there m old f c.args.node [] c.requires.there c.requires.node tt) c.requires.is (inl refl) in
+    search (rules, part)
+
+pub targets::at-index_of_base-requires : goal.targets::at-index_of_base-requires
+targets::at-index_of_base-requires g t c =
+    let m = g.S.WorldStore.meaning in
+    let old = c.args.config.now in
+    let f = c.args.frame.now in
+    let mid = c.value.new.config in
+    let l = c.in-Ok.ensures.later in
+    let base : Base m mid = l.base in
+    let there : IsThere m mid f = l.frames f c.requires.there in
+    let node : StandsHere mid f c.args.node = stands_later m old f mid c.args.node l c.requires.node in
+    let empty : c.value.new.stops.waits ≡ [] = c.in-Ok.ensures.found.1 in
+    let object : HasValue mid c.in-Ok.object = c.in-Ok.ensures.found.0 in
+    let index : StandsHere mid f c.args.index = stands_later m old f mid c.args.index l (stands_here m old (at_node f c.args.node []) (nodes.At c.args.base c.args.index) c.args.index (node_there m old f c.args.node [] c.requires.there c.requires.node tt) c.requires.is (inr (inl refl))) in
+    search (rules, base, there, node, empty, object, index)
+
+pub targets::at-returns-in-Ok-clause-later : goal.targets::at-returns-in-Ok-clause-later
+targets::at-returns-in-Ok-clause-later g t c =
+    later_then g.S.WorldStore.meaning c.args.config.now c.value.new.config c.index_of_base.new.config c.index_of_base.result c.in-Ok.ensures.later c.index_of_base.ensures.later
+
+pub targets::at-returns-in-Ok-clause-does : goal.targets::at-returns-in-Ok-clause-does
+targets::at-returns-in-Ok-clause-does g t c =
+    let s = c.value.new.stops in
+    let k = c.index_of_base.new.stops in
+    form_goes_on g.S.WorldStore.meaning gives_in refers_in c.args.config.now c.value.new.config c.index_of_base.new.config c.args.frame.now (AtExpr c.args.base.0) (λ t env. then_value (line.at_base c.args.index.0 env refer)) c.in-Ok.object
+    c.index_of_base.result s.waits s.top k.waits k.top c.in-Ok.ensures.later c.in-Ok.ensures.does
+    (line_form g.S.WorldStore.meaning refers_in c.value.new.config c.index_of_base.new.config c.args.frame.now (λ t env. line.at_base c.args.index.0 env refer (value_in t c.in-Ok.object)) c.index_of_base.result k.waits k.top (AtExpr c.args.index.0)
+    (λ t env. then_value (line.at_index (value_in t c.in-Ok.object) env refer)) (λ t more. refl) c.index_of_base.ensures.does)
+
+pub targets::at-returns-in-Err-clause-later : goal.targets::at-returns-in-Err-clause-later
+targets::at-returns-in-Err-clause-later g t c =
+    let m = g.S.WorldStore.meaning in
+    let old = c.args.config.now in
+    let f = c.args.frame.now in
+    let s = c.value.new.stops in
+    let k = c.waits.new.stops in
+    broke_later m Value Reference old c.value.new.config c.waits.new.config f c.args.node [] (points.Expr (expr.IndexBase purposes.Target c.args.index)) c.in-Err.end s.waits s.top c.waits.result k.waits k.top
+    c.waits.ensures.same c.waits.ensures.waits c.in-Err.ensures.later
+
+pub targets::at-returns-in-Err-clause-found : goal.targets::at-returns-in-Err-clause-found
+targets::at-returns-in-Err-clause-found g t c =
+    let m = g.S.WorldStore.meaning in
+    let old = c.args.config.now in
+    let f = c.args.frame.now in
+    let s = c.value.new.stops in
+    let k = c.waits.new.stops in
+    broke_found m Value Reference old c.value.new.config c.waits.new.config f c.args.node [] (points.Expr (expr.IndexBase purposes.Target c.args.index)) c.in-Err.end s.waits s.top c.waits.result k.waits k.top
+    c.waits.ensures.same c.waits.ensures.waits c.in-Err.ensures.later c.requires.there c.requires.node tt (stands_here m old (at_node f c.args.node []) (nodes.At c.args.base c.args.index) c.args.index (node_there m old f c.args.node [] c.requires.there c.requires.node tt) c.requires.is (inr (inl refl))) c.in-Err.ensures.found
+
+pub targets::at-returns-in-Err-clause-does : goal.targets::at-returns-in-Err-clause-does
+targets::at-returns-in-Err-clause-does g t c =
+    let m = g.S.WorldStore.meaning in
+    let old = c.args.config.now in
+    let f = c.args.frame.now in
+    let s = c.value.new.stops in
+    let k = c.waits.new.stops in
+    broke_does m Value Reference old c.value.new.config c.waits.new.config f c.args.node [] (points.Expr (expr.IndexBase purposes.Target c.args.index)) c.in-Err.end s.waits s.top c.waits.result k.waits k.top
+    c.waits.ensures.same c.waits.ensures.waits gives_in refers_in (AtExpr c.args.base.0) (λ t env. then_value (line.at_base c.args.index.0 env refer)) (λ l t env. refl) (λ t env e. refl) c.in-Err.ensures.later c.in-Err.ensures.does
+
+pub targets::index_of_base-value-requires : goal.targets::index_of_base-value-requires
+targets::index_of_base-value-requires g t c =
+    let node : StandsHere c.args.config.now c.args.frame.now c.args.index = c.requires.index in
+    search (rules, node)
+
+pub targets::index_of_base-referred_by_value-requires : goal.targets::index_of_base-referred_by_value-requires
+targets::index_of_base-referred_by_value-requires g t c =
+    let m = g.S.WorldStore.meaning in
+    let old = c.args.config.now in
+    let f = c.args.frame.now in
+    let mid = c.value.new.config in
+    let l = c.in-Ok.ensures.later in
+    record {
+      base = l.base;
+      there = l.frames f c.requires.there;
+      node = stands_later m old f mid c.args.node l c.requires.node;
+      empty = c.in-Ok.ensures.found.1;
+      object = l.values c.args.object c.requires.object;
+      key = c.in-Ok.ensures.found.0;
+    }
+
+pub targets::index_of_base-returns-in-Ok-clause-later : goal.targets::index_of_base-returns-in-Ok-clause-later
+targets::index_of_base-returns-in-Ok-clause-later g t c =
+    later_then g.S.WorldStore.meaning c.args.config.now c.value.new.config c.referred_by_value.new.config c.referred_by_value.result c.in-Ok.ensures.later c.referred_by_value.ensures.later
+
+pub targets::index_of_base-returns-in-Ok-clause-does : goal.targets::index_of_base-returns-in-Ok-clause-does
+targets::index_of_base-returns-in-Ok-clause-does g t c =
+    let s = c.value.new.stops in
+    let k = c.referred_by_value.new.stops in
+    form_goes_on g.S.WorldStore.meaning gives_in refers_in c.args.config.now c.value.new.config c.referred_by_value.new.config c.args.frame.now (AtExpr c.args.index.0) (λ t env. then_value (line.at_index (value_in t c.args.object) env refer)) c.in-Ok.key
+    c.referred_by_value.result s.waits s.top k.waits k.top c.in-Ok.ensures.later c.in-Ok.ensures.does c.referred_by_value.ensures.does
+
+pub targets::index_of_base-returns-in-Err-clause-later : goal.targets::index_of_base-returns-in-Err-clause-later
+targets::index_of_base-returns-in-Err-clause-later g t c =
+    let m = g.S.WorldStore.meaning in
+    let old = c.args.config.now in
+    let f = c.args.frame.now in
+    let s = c.value.new.stops in
+    let k = c.waits_holding.new.stops in
+    broke_later m Value Reference old c.value.new.config c.waits_holding.new.config f c.args.node (holds.Value c.args.object ∷ []) (points.Expr (expr.Index purposes.Target)) c.in-Err.end s.waits s.top c.waits_holding.result k.waits k.top
+    c.waits_holding.ensures.same c.waits_holding.ensures.waits c.in-Err.ensures.later
+
+pub targets::index_of_base-returns-in-Err-clause-found : goal.targets::index_of_base-returns-in-Err-clause-found
+targets::index_of_base-returns-in-Err-clause-found g t c =
+    let m = g.S.WorldStore.meaning in
+    let old = c.args.config.now in
+    let f = c.args.frame.now in
+    let s = c.value.new.stops in
+    let k = c.waits_holding.new.stops in
+    broke_found m Value Reference old c.value.new.config c.waits_holding.new.config f c.args.node (holds.Value c.args.object ∷ []) (points.Expr (expr.Index purposes.Target)) c.in-Err.end s.waits s.top c.waits_holding.result k.waits k.top
+    c.waits_holding.ensures.same c.waits_holding.ensures.waits c.in-Err.ensures.later c.requires.there c.requires.node (c.requires.object, tt) tt c.in-Err.ensures.found
+
+pub targets::index_of_base-returns-in-Err-clause-does : goal.targets::index_of_base-returns-in-Err-clause-does
+targets::index_of_base-returns-in-Err-clause-does g t c =
+    let m = g.S.WorldStore.meaning in
+    let old = c.args.config.now in
+    let f = c.args.frame.now in
+    let s = c.value.new.stops in
+    let k = c.waits_holding.new.stops in
+    broke_does m Value Reference old c.value.new.config c.waits_holding.new.config f c.args.node (holds.Value c.args.object ∷ []) (points.Expr (expr.Index purposes.Target)) c.in-Err.end s.waits s.top c.waits_holding.result k.waits k.top
+    c.waits_holding.ensures.same c.waits_holding.ensures.waits gives_in refers_in (AtExpr c.args.index.0) (λ t env. then_value (line.at_index (value_in t c.args.object) env refer)) (λ l t env. refl) (λ t env e. refl) c.in-Err.ensures.later c.in-Err.ensures.does
 
 -- ---- conditions and commas
 
@@ -2016,23 +2310,23 @@ bodies::body_called-returns-in-Some-clause-does g t c =
 
 pub bodies::body_called-returns-in-None-clause-later : goal.bodies::body_called-returns-in-None-clause-later
 bodies::body_called-returns-in-None-clause-later g t c =
-    later_stopped g.S.WorldStore.meaning {A = Value} c.args.config.now c.body_stops.new.config (Err c.body_stops.result) c.requires.base c.body_stops.ensures.same
+    later_stopped g.S.WorldStore.meaning {A = Value} c.args.config.now c.function_stops.new.config (Err c.function_stops.result) c.requires.base c.function_stops.ensures.same
 
 pub bodies::body_called-returns-in-None-clause-found : goal.bodies::body_called-returns-in-None-clause-found
 bodies::body_called-returns-in-None-clause-found g t c =
     let m = g.S.WorldStore.meaning in
-    let s = c.body_stops.new.stops in
-    subst (λ x. HasBroken m x c.body_stops.result s.waits s.top) (sym c.body_stops.ensures.same)
-    (body_ready_there m c.args.config.now c.args.frame.now c.args.node c.args.function c.args.this c.args.values.now c.body_stops.result s.waits s.top c.requires.there c.requires.node c.requires.function c.requires.this c.requires.values c.body_stops.ensures.stops)
+    let s = c.function_stops.new.stops in
+    subst (λ x. HasBroken m x c.function_stops.result s.waits s.top) (sym c.function_stops.ensures.same)
+    (body_ready_there m c.args.config.now c.args.frame.now c.args.node c.args.function c.args.this c.args.values.now c.function_stops.result s.waits s.top c.requires.there c.requires.node c.requires.function c.requires.this c.requires.values c.function_stops.ensures.stops)
 
 pub bodies::body_called-returns-in-None-clause-does : goal.bodies::body_called-returns-in-None-clause-does
 bodies::body_called-returns-in-None-clause-does g t c =
     let m = g.S.WorldStore.meaning in
     let old = c.args.config.now in
     let f = c.args.frame.now in
-    let s = c.body_stops.new.stops in
-    subst (λ x. Evaluates m (line_here m old f (λ t env. body_of c.args.function (map (value_in t) c.args.values.now) (record env { this = Object c.args.this }))) gives_in (Err c.body_stops.result) s.waits s.top old x) (sym c.body_stops.ensures.same)
-    (body_ready m old f c.args.node c.args.function c.args.this c.args.values.now c.body_stops.result s.waits s.top gives_in c.body_stops.ensures.stops)
+    let s = c.function_stops.new.stops in
+    subst (λ x. Evaluates m (line_here m old f (λ t env. body_of c.args.function (map (value_in t) c.args.values.now) (record env { this = Object c.args.this }))) gives_in (Err c.function_stops.result) s.waits s.top old x) (sym c.function_stops.ensures.same)
+    (body_ready m old f c.args.node c.args.function c.args.this c.args.values.now c.function_stops.result s.waits s.top gives_in c.function_stops.ensures.stops)
 
 pub bodies::body_inside-enter_scope-requires-clause-base : goal.bodies::body_inside-enter_scope-requires-clause-base
 bodies::body_inside-enter_scope-requires-clause-base g t c =
@@ -2294,8 +2588,14 @@ calls::called-returns-in-Script-clause-does g t c =
     shortened m gives_in (line_here m old f (λ t env. call_values (Object c.args.function) (value_in t c.args.this) env (map (value_in t) vs))) (line_here m old f (λ t env. call c.args.function (value_in t c.args.this) (map (value_in t) vs) env))
     c.script_called.result new.stops.waits new.stops.top old new.config (λ t more go. shorten_sub _ _ go (call_looks c.args.function (value_in t c.args.this) (map (value_in t) vs) (env_in m old t f))) c.script_called.ensures.does
 
-pub calls::called-returns-in_default : goal.calls::called-returns-in_default
-calls::called-returns-in_default g t c =
+pub calls::called-returns-in-Native-clause-does : goal.calls::called-returns-in-Native-clause-does
+calls::called-returns-in-Native-clause-does g t c =
+    let new = c.native_called.new in
+    native_entered g.S.WorldStore.meaning gives_in c.args.config.now new.config c.args.frame.now c.args.function c.in-Native.native c.args.this c.this_or_global-this.result c.args.values.now c.native_called.result new.stops.waits new.stops.top
+    (λ u arena sees. c.code_of.ensures.is u arena sees ∙ c.in-Native.is) c.this_or_global-this.ensures.is c.native_called.ensures.does
+
+pub calls::called-returns-in-None : goal.calls::called-returns-in-None
+calls::called-returns-in-None g t c =
     let m = g.S.WorldStore.meaning in
     let old = c.args.config.now in
     let f = c.args.frame.now in
@@ -2338,15 +2638,15 @@ calls::script_called-returns-in_default g t c =
 
 pub calls::body_entered-returns-then-not-may_enter-clause-found : goal.calls::body_entered-returns-then-not-may_enter-clause-found
 calls::body_entered-returns-then-not-may_enter-clause-found g t c =
-    let new = c.body_stops.new in
-    body_found g.S.WorldStore.meaning c.args.config.now new.config c.args.frame.now c.args.node c.args.function c.args.values.now c.body_stops.result new.stops.waits new.stops.top c.body_stops.ensures.same c.args.this
-    c.requires.there c.requires.node c.requires.function c.requires.this c.requires.values c.body_stops.ensures.stops
+    let new = c.function_stops.new in
+    body_found g.S.WorldStore.meaning c.args.config.now new.config c.args.frame.now c.args.node c.args.function c.args.values.now c.function_stops.result new.stops.waits new.stops.top c.function_stops.ensures.same c.args.this
+    c.requires.there c.requires.node c.requires.function c.requires.this c.requires.values c.function_stops.ensures.stops
 
 pub calls::body_entered-returns-then-not-may_enter-clause-does : goal.calls::body_entered-returns-then-not-may_enter-clause-does
 calls::body_entered-returns-then-not-may_enter-clause-does g t c =
-    let new = c.body_stops.new in
-    body_does g.S.WorldStore.meaning c.args.config.now new.config c.args.frame.now c.args.node c.args.function c.args.values.now c.body_stops.result new.stops.waits new.stops.top c.body_stops.ensures.same c.args.this
-    gives_in c.body_stops.ensures.stops
+    let new = c.function_stops.new in
+    body_does g.S.WorldStore.meaning c.args.config.now new.config c.args.frame.now c.args.node c.args.function c.args.values.now c.function_stops.result new.stops.waits new.stops.top c.function_stops.ensures.same c.args.this
+    gives_in c.function_stops.ensures.stops
 
 pub calls::body_entered-body_called-requires : goal.calls::body_entered-body_called-requires
 calls::body_entered-body_called-requires g t c =

@@ -33,6 +33,21 @@ decreases-expressions::or_right g l = l.room * 32 + 5
 abbrev pub decreases-expressions::both : goal.decreases-expressions::both
 decreases-expressions::both g l = l.room * 32 + 5
 
+abbrev pub decreases-targets::target : goal.decreases-targets::target
+decreases-targets::target g l = l.room * 32 + 1
+
+abbrev pub decreases-targets::member : goal.decreases-targets::member
+decreases-targets::member g l = l.room * 32 + 31
+
+abbrev pub decreases-targets::dot : goal.decreases-targets::dot
+decreases-targets::dot g l = l.room * 32 + 30
+
+abbrev pub decreases-targets::at : goal.decreases-targets::at
+decreases-targets::at g l = l.room * 32 + 30
+
+abbrev pub decreases-targets::index_of_base : goal.decreases-targets::index_of_base
+decreases-targets::index_of_base g l = l.room * 32 + 20
+
 abbrev pub decreases-calls::call : goal.decreases-calls::call
 decreases-calls::call g l = l.room * 32 + 30
 

@@ -17,8 +17,8 @@ pub finish_end-requires-clause-running : goal.finish_end-requires-clause-running
 finish_end-requires-clause-running g c =
     in_memory c.element_by_form-done.result (running_later g.S.WorldStore.meaning c.args.config.now c.element_by_form-done.new.config c.requires.runs.running) c.element_by_form-done.ensures.later
 
-pub returns-then-may_evaluate : goal.returns-then-may_evaluate
-returns-then-may_evaluate g c =
+pub returns-then-is_evaluated : goal.returns-then-is_evaluated
+returns-then-is_evaluated g c =
     let m = g.S.WorldStore.meaning in
     let old = c.args.config.now in
     let mid = c.element_by_form-done.new.config in
@@ -33,8 +33,8 @@ enter_statement-requires-clause-point g c =
     let f = c.args.frame in
     subst (λ (p : Point). HasPoint old f p) (sym c.waiting_point-point.ensures) (point_there old f c.args.kind c.args.next c.requires.stands)
 
-pub returns-else-may_evaluate : goal.returns-else-may_evaluate
-returns-else-may_evaluate g c =
+pub returns-else-is_evaluated : goal.returns-else-is_evaluated
+returns-else-is_evaluated g c =
     let m = g.S.WorldStore.meaning in
     let old = c.args.config.now in
     let f = c.args.frame in

@@ -1,4 +1,5 @@
-use Rattle.std.proofs.Common.{refl}
+use Rattle.std.proofs.Common.{sym}
+use Rattle.wjs_frames.specs.Parts.{env_in}
 use Rattle.wjs_step_common.proofs.Following.{follows_as}
 use Rattle.wjs_native_text.proofs.math.power.Goals as goal
 
@@ -8,4 +9,4 @@ returns g c =
     let old = c.args.config.now in
     let new = c.give_result.new.config in
     let t = new.heap.texts in
-    follows_as m _ _ old new c.give_result.result (λ grows. rw (c.whole_at.ensures t, c.whole_at-2.ensures t, c.pow-outcome.ensures) refl) c.give_result.ensures
+    follows_as m _ _ old new c.give_result.result (λ grows. sym (c.power_of-outcome.ensures t (env_in m old t c.args.frame))) c.give_result.ensures

@@ -1,4 +1,5 @@
-use Rattle.std.proofs.Common.{refl}
+use Rattle.std.proofs.Common.{sym, ap}
+use Rattle.wjs_meaning.specs.NativesOfTexts as line
 use Rattle.wjs_step_common.proofs.Following.{follows_as}
 use Rattle.wjs_native_text.proofs.places.char_at.Goals as goal
 
@@ -8,4 +9,4 @@ returns g c =
     let old = c.args.config.now in
     let new = c.give_unit.new.config in
     let t = new.heap.texts in
-    follows_as m _ _ old new c.give_unit.result (λ grows. rw (c.text_of.ensures.text t grows, c.whole_at.ensures t, c.unit_at-unit.ensures) refl) c.give_unit.ensures
+    follows_as m _ _ old new c.give_unit.result (λ grows. ap line.char_at (sym (c.unit_of-unit.ensures t grows))) c.give_unit.ensures

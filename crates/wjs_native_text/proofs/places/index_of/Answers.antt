@@ -1,9 +1,4 @@
-use Rattle.std.proofs.Common.{length, sym, ap, ◌∙◌}
-use Rattle.std.specs.Prelude.{map}
-use Rattle.wjs_by_content.specs.Tables.{value_in}
-use Rattle.wjs_meaning.specs.Deeds.{give}
-use Rattle.wjs_meaning.specs.NativesOfObjects.{text_at, whole_at, text_of}
-use Rattle.wjs_meaning.specs.NativesOfTexts as line
+use Rattle.std.proofs.Common.{sym}
 use Rattle.wjs_frames.specs.Parts.{env_in}
 use Rattle.wjs_step_common.proofs.Following.{follows_as}
 use Rattle.wjs_native_text.proofs.places.index_of.Goals as goal
@@ -14,20 +9,4 @@ returns g c =
     let old = c.args.config.now in
     let new = c.give.new.config in
     let t = new.heap.texts in
-    let vs = map (value_in t) c.args.args.now in
-    let env = env_in m old t c.args.frame in
-    let x = text_of (value_in t c.args.this) in
-    let p = text_at vs 0 in
-    follows_as m _ _ old new c.give.result
-    (λ grows.
-    let ex = c.text_of-text.ensures.text t grows in
-    let ep = c.text_at.ensures.text t grows in
-    let ew = c.whole_at.ensures t in
-    let ek = c.place_of-from.ensures.is in
-    ap give (sym c.in_ok-answer.ensures)
-    ∙ ap (λ z. give (line.place_value z)) c.in_ok-place.ensures
-    ∙ ap (λ k. give (line.place_value (line.first_from c.text_of-text.result.now c.text_at.result.now k))) ek
-    ∙ ap (λ w. give (line.place_value (line.first_from c.text_of-text.result.now c.text_at.result.now (line.kept_within (line.or_zero w) (length c.text_of-text.result.now))))) (sym ew)
-    ∙ ap (λ s. give (line.place_value (line.first_from c.text_of-text.result.now s (line.kept_within (line.or_zero (whole_at vs 1)) (length c.text_of-text.result.now))))) (sym ep)
-    ∙ ap (λ u. give (line.place_value (line.first_from u p (line.kept_within (line.or_zero (whole_at vs 1)) (length u))))) (sym ex))
-    c.give.ensures
+    follows_as m _ _ old new c.give.result (λ grows. sym (c.in_ok-place.ensures t grows (env_in m old t c.args.frame))) c.give.ensures
