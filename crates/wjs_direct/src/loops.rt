@@ -388,6 +388,7 @@ fn body_entered<S: WorldStore>(
 
 /// After the test: the body, or the loop's end.
 #[cycle(direct)]
+#[inline(always)]
 fn tested<S: WorldStore>(
     config: &mut Config<S>,
     frame: &Frame,
@@ -420,6 +421,7 @@ fn tested<S: WorldStore>(
 
 /// The body of an iteration, and what follows it.
 #[cycle(direct)]
+#[inline(always)]
 fn body_run<S: WorldStore>(
     config: &mut Config<S>,
     frame: &Frame,
@@ -452,6 +454,7 @@ fn body_run<S: WorldStore>(
 
 /// After the body: the update, or the loop's end. A `continue` with a label is left to a frame, which asks for the loop's labels.
 #[cycle(direct)]
+#[inline(always)]
 fn body_ended<S: WorldStore>(
     config: &mut Config<S>,
     frame: &Frame,
@@ -526,6 +529,7 @@ fn updated<S: WorldStore>(
 
 /// The expression of the update, and what follows it.
 #[cycle(direct)]
+#[inline(always)]
 pub(crate) fn update_run<S: WorldStore>(
     config: &mut Config<S>,
     frame: &Frame,

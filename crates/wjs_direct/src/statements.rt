@@ -314,6 +314,7 @@ fn chosen<S: WorldStore>(
 
 /// The statements of a block from one on (section 12.1).
 #[cycle(direct)]
+#[inline(always)]
 fn run_block<S: WorldStore>(
     config: &mut Config<S>,
     frame: &Frame,

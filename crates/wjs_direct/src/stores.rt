@@ -26,6 +26,7 @@ use wjs_tree::{AssignOperator, BinaryOperator, Node, NodeId};
 /// How an expression ends whose value no further expression asks for, in so much room at most: at once, where it stores and all its
 /// parts have their values at once; else by its form.
 #[cycle(direct)]
+#[inline(always)]
 pub(crate) fn effect<S: WorldStore>(
     config: &mut Config<S>,
     frame: &Frame,
@@ -55,6 +56,7 @@ pub(crate) fn effect<S: WorldStore>(
 
 /// How an expression ends by its value.
 #[cycle(direct)]
+#[inline(always)]
 fn valued<S: WorldStore>(
     config: &mut Config<S>,
     frame: &Frame,
