@@ -1,7 +1,7 @@
 -- Assignments: a value that is read, stored, or the result of an operation.
-use Rattle.std.proofs.Common.{◌≡◌, List, refl}
-use Rattle.std.specs.Prelude.{Option, Result, Ok, Err}
-use Rattle.wjs_base.specs.Text.{Table, Grows}
+use Rattle.std.proofs.Common.{◌≡◌, List, [], inl, inr, refl, subst, sym}
+use Rattle.std.specs.Prelude.{Option, Result, Ok, Err, MatchResult}
+use Rattle.wjs_base.specs.Text.{Table}
 use Rattle.wjs_base.specs.declared.values.Value.{Value as Numbered}
 use Rattle.wjs_by_content.specs.Tables.{value_in}
 use Rattle.wjs_by_content.specs.Values.{Value}
@@ -19,21 +19,22 @@ use Rattle.wjs_model.specs.declared.frame.Reference.{Reference as NumberedRefere
 use Rattle.wjs_model.specs.declared.frame.Completion.{Completion as Said}
 use Rattle.wjs_model.specs.declared.frame.Completion.TheVariants as completions
 use Rattle.wjs_model.specs.Contents.{completion_in, reference_in}
-use Rattle.wjs_model.specs.Soundness.{HasCompletion}
+use Rattle.wjs_model.specs.Soundness.{HasCompletion, HasValue}
 use Rattle.wjs_model.specs.Operands.{evaluated}
 use Rattle.wjs_frames.specs.Doing.{Does}
 use Rattle.wjs_frames.specs.Following.{Later}
 use Rattle.wjs_frames.specs.Parts.{env_in}
-use Rattle.wjs_frames.specs.Shortening.{Shortens}
-use Rattle.wjs_frames.proofs.Shorter.{follows_shorter, shorten_ended, shorten_sub}
+use Rattle.wjs_frames.proofs.Shorter.{follows_shorter}
 use Rattle.wjs_heap_steps.specs.Peeking.{Peeks}
-use Rattle.wjs_effects.specs.Effects.{stored}
+use Rattle.wjs_heap_steps.specs.Reads.{GivesOrThrows}
+use Rattle.wjs_effects.specs.Effects.{stored, EndsOrThrows}
 use Rattle.wjs_effects.proofs.Storing.{value_goes, store_shortens}
 use Rattle.wjs_stopping.specs.declared.ends.Broken.{Broken}
 use Rattle.wjs_stopping.specs.declared.ends.Broken.TheVariants as ends
-use Rattle.wjs_stopping.specs.Evaluating.{Evaluates, InMemory}
+use Rattle.wjs_stopping.specs.Ends.{gives_in}
+use Rattle.wjs_stopping.specs.Evaluating.{Evaluates, HasOutcome, InMemory}
 use Rattle.wjs_stopping.proofs.Evaluating.{in_memory}
-use Rattle.wjs_direct.specs.Deeds.{line_here, returned_by}
+use Rattle.wjs_direct.specs.Deeds.{IsThrown, line_here, returned_by}
 use Rattle.wjs_direct.proofs.Forming.{line_moved}
 use Rattle.wjs_direct.proofs.Looping.{shorten_within}
 use Rattle.wjs_direct.proofs.Parts.{did, shortened}
@@ -86,6 +87,29 @@ module _ {S : Type 0} (meaning : S → Meaning) (c new : Config S) (f : Frame) w
       (λ t go. stored (reference_in t q) (value_in t v) (env_in meaning c t f) (completion_in t last) go) (Ok e) waits top c new
       (λ t more go. store_shortens (value_in t v) (env_in meaning c t f) (completion_in t last) go (reference_in t q))
       (did meaning completion_in (λ t go. stored (reference_in t q) (value_in t v) (env_in meaning c t f) (completion_in t last) go) e waits top c new d)
+
+-- ---- what a store ends with
+
+pub ends_so : (v : Numbered) (e : Said) → EndsOrThrows (completions.Gives v) e → GivesOrThrows e
+ends_so v e (inl is) = inl (v, is)
+ends_so v e (inr (x, is)) = inr (x, is)
+
+abbrev pub IsValueOf : Said → Result Numbered Broken → Type 0
+IsValueOf e r = MatchResult r (λ v. e ≡ completions.Gives v) (λ broken. IsThrown e broken)
+
+-- deeds that end with a value or throw come to it, or break off by it
+pub value_does : {S : Type 0} (meaning : S → Meaning) (deeds : Table → (Completion → Act) → Act) (e : Said) (r : Result Numbered Broken) (waits : List Frame) (top : Option (Frame × Phase)) (c new : Config S)
+    → IsValueOf e r → Evaluates meaning deeds completion_in (Ok e) waits top c new → Evaluates meaning deeds gives_in r waits top c new
+value_does meaning deeds e (Ok v) waits top c new is d = subst (λ (x : Said). Evaluates meaning deeds completion_in (Ok x) waits top c new) is d
+value_does meaning deeds e (Err broken) waits top c new (x, (thrown, is)) d =
+    subst (λ (b : Broken). Evaluates meaning deeds gives_in (Err b) waits top c new) (sym thrown)
+    (subst (λ (y : Said). Evaluates meaning deeds completion_in (Ok y) waits top c new) is d)
+
+pub value_found : {S : Type 0} (meaning : S → Meaning) (e : Said) (r : Result Numbered Broken) (waits : List Frame) (top : Option (Frame × Phase)) (c : Config S)
+    → IsValueOf e r → HasCompletion c e → waits ≡ [] → HasOutcome meaning HasValue c r waits top
+value_found meaning e (Ok v) waits top c is h empty = (subst (λ (x : Said). HasCompletion c x) is h, empty)
+value_found meaning e (Err broken) waits top c (x, (thrown, is)) h empty =
+    subst (λ (b : Broken). HasOutcome meaning HasValue c (Err b) waits top) (sym thrown) (subst (λ (y : Said). HasCompletion c y) is h, empty)
 
 -- ---- what a `return` ends with
 

@@ -12,3 +12,10 @@ pub mod Membering
 pub mod Looping
 pub mod Behind
 pub mod Declaring
+pub mod ObjectLiterals
+pub mod ArrayLiterals
+pub mod Constructing
+pub mod InWorlds
+pub mod NameReading
+pub mod MemberReading
+pub mod Trying

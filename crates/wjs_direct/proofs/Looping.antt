@@ -146,7 +146,7 @@ module _ {S : Type 0} (meaning : S → Meaning) where
     then_next t = next t (env_in meaning old t f)
 
     -- where it waits
-    within_stopped : (waits : List Frame) (top : Option (Frame × Phase)) → ((t : Table) (env : Env) → then_at meaning mid (at_node f node held) point t env ≡ next t env) → Later meaning old mid
+    pub within_stopped : (waits : List Frame) (top : Option (Frame × Phase)) → ((t : Table) (env : Env) → then_at meaning mid (at_node f node held) point t env ≡ next t env) → Later meaning old mid
         → Leaves meaning deeds (rest_in meaning mid waits top) old mid → Leaves meaning (within_then deeds then_next) (rest_in meaning mid (waiting_at (at_node f node held) point ∷ waits) top) old mid
     within_stopped waits top en l d =
         let k = at_node f node held in

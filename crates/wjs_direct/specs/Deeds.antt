@@ -28,6 +28,8 @@ use Rattle.wjs_meaning.specs.Programs.{entry}
 use Rattle.wjs_model.specs.declared.config.Config.{Config}
 use Rattle.wjs_model.specs.declared.frame.Activation.{Activation as Frame}
 use Rattle.wjs_frames.specs.Parts.{env_in, node_now}
+use Rattle.wjs_stopping.specs.declared.ends.Broken.{Broken}
+use Rattle.wjs_stopping.specs.declared.ends.Broken.TheVariants as ends
 use Rattle.wjs_stopping.specs.Waiting.{at_node}
 use Rattle.wjs_stopping.specs.Evaluating.{part_then}
 
@@ -88,3 +90,7 @@ refers_in t r = Refers (reference_in t r)
 abbrev pub returned_by : Said → Said
 returned_by (completions.Gives v) = completions.Returns v
 returned_by e = e
+
+-- what broke off is what was thrown
+abbrev pub IsThrown : Said → Broken → Type 0
+IsThrown e broken = (x : Value) × ((broken ≡ ends.Throws x) × (e ≡ completions.Throws x))

@@ -144,7 +144,7 @@ fn base_of<S: WorldStore>(config: &Config<S>, reference: Reference) -> Value
 
 /// The argument of a number.
 #[inline(always)]
-fn argument<S: WorldStore>(
+pub(crate) fn argument<S: WorldStore>(
     config: &Config<S>,
     frame: &Frame,
     node: NodeId,
@@ -190,8 +190,9 @@ fn evaluate_arguments<S: WorldStore>(
             Err(end) => {
                 let callee = Value::Object(function);
                 let values = values.as_slice();
+                let point = Point::Expr(ExprPoint::Argument(at));
                 return Err(argument_waits(
-                    config, frame, node, callee, this, values, at, end, stops,
+                    config, frame, node, callee, this, values, point, end, stops,
                 ));
             }
         }
@@ -209,7 +210,7 @@ fn evaluate_arguments<S: WorldStore>(
     )
 }
 
-fn push(values: &mut Vec<Value>, value: Value) -> Result<(), OutOfMemory>
+pub(crate) fn push(values: &mut Vec<Value>, value: Value) -> Result<(), OutOfMemory>
     ensures { OnOk result (values.new.items ≡ values.old.items ++ value ∷ []) }
 {
     values.push(value)?;
@@ -302,7 +303,7 @@ fn script_called<S: WorldStore>(
 
 /// Its body, where a step and room are left.
 #[cycle(direct)]
-fn body_entered<S: WorldStore>(
+pub(crate) fn body_entered<S: WorldStore>(
     config: &mut Config<S>,
     frame: &Frame,
     node: NodeId,

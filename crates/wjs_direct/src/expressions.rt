@@ -9,24 +9,29 @@ ghost use Rattle.wjs_stopping.specs.Ends.{gives_in};
 ghost use Rattle.wjs_stopping.specs.Evaluating.{Evaluates, HasOutcome, InMemory};
 ghost use Rattle.wjs_direct.specs.Deeds.{IsNode, entry_here, form_here, goal_here, line_here};
 
+use crate::arrays::array;
 use crate::calls::call;
 use crate::choices::{choice, comma};
 use crate::functions::function;
 use crate::members::{at, dot};
-use crate::prefixes::prefix;
+use crate::names::read;
+use crate::news::new_object;
+use crate::objects::object;
+use crate::prefixes::{is_update, prefix};
 use crate::room::may_enter;
+use crate::stores::{assign, update};
 use wjs_base::Value;
 use wjs_effects::result_at_once;
 use wjs_frames::{Part, node_at};
 use wjs_members::is_target;
-use wjs_model::{Completion, Config, ExprPoint, Frame, Held, Phase, Point, Start};
+use wjs_model::{Completion, Config, ExprPoint, Fix, Frame, Held, Phase, Point, Start};
 use wjs_quick::{is_of_value, quick};
 use wjs_step_common::to_boolean;
 use wjs_stopping::{Broken, Stops, stop, stop_holding, waits, waits_holding};
 use wjs_store::WorldStore;
 use wjs_tree::{BinaryOperator, Node, NodeId};
 
-/// The value of an expression, in so much room at most: at once, where it has no effect; else by its form.
+/// The value of an expression, in so much room at most: at once, where it has no effect; else by its form, as a name that is read.
 #[cycle(direct)]
 pub(crate) fn value<S: WorldStore>(
     config: &mut Config<S>,
@@ -48,14 +53,13 @@ pub(crate) fn value<S: WorldStore>(
         return Ok(value);
     }
     if !may_evaluate(config, frame, node, room) {
-        return Err(stop(config, frame, node, Phase::Due(Start::Expr), stops));
+        return read(config, frame, node, stops);
     }
     config.left -= 1;
     form(config, frame, node, room - 2, stops)
 }
 
-/// Whether an expression may be entered here: there is a step and room for it, and it is of a form that is evaluated here. Every other
-/// one is left to a frame, before its step.
+/// Whether an expression may be entered here: there is a step and room for it, and it is of a form that is evaluated here.
 fn may_evaluate<S: WorldStore>(config: &Config<S>, frame: &Frame, node: NodeId, room: u16) -> bool
     ensures left { result ≡ true → 0 < config.now.left }
     ensures room { result ≡ true → 8 ≤ room }
@@ -73,7 +77,10 @@ fn is_known<S: WorldStore>(config: &Config<S>, frame: &Frame, node: NodeId) -> b
         Some(Node::Paren(_) | Node::Binary(_, _, _) | Node::Function(_, _, _)) => true,
         Some(Node::Cond(_, _, _) | Node::Comma(_, _)) => true,
         Some(Node::Dot(_, _) | Node::At(_, _)) => true,
-        Some(Node::Prefix(operator, _)) => is_of_value(*operator),
+        Some(Node::ObjectLit(_, _) | Node::ArrayLit(_, _)) => true,
+        Some(Node::NewWith(_, _) | Node::NewBare(_)) => true,
+        Some(Node::Assign(_, _, _) | Node::Postfix(_, _)) => true,
+        Some(Node::Prefix(operator, _)) => is_of_value(*operator) || is_update(*operator),
         Some(Node::Call(callee, _)) => is_target(config, frame, *callee),
         _ => false,
     }
@@ -122,6 +129,14 @@ pub(crate) fn form<S: WorldStore>(
             let (operator, part) = (*operator, *part);
             prefix(config, frame, node, operator, part, room, stops)
         }
+        Some(Node::Postfix(part, operator)) => {
+            let (part, operator) = (*part, *operator);
+            update(config, frame, node, part, Fix::Post, operator, room, stops)
+        }
+        Some(Node::Assign(part, sign, right)) => {
+            let (part, sign, right) = (*part, *sign, *right);
+            assign(config, frame, node, part, sign, right, room, stops)
+        }
         Some(Node::Dot(base, name)) => {
             let (base, name) = (*base, *name);
             dot(config, frame, node, base, name, room, stops)
@@ -134,6 +149,16 @@ pub(crate) fn form<S: WorldStore>(
             let name = *name;
             function(config, frame, node, name, stops)
         }
+        Some(Node::NewWith(callee, _)) => {
+            let callee = *callee;
+            new_object(config, frame, node, callee, room, stops)
+        }
+        Some(Node::NewBare(callee)) => {
+            let callee = *callee;
+            new_object(config, frame, node, callee, room, stops)
+        }
+        Some(Node::ArrayLit(_, _)) => array(config, frame, node, room, stops),
+        Some(Node::ObjectLit(_, _)) => object(config, frame, node, room, stops),
         _ => Err(stop(config, frame, node, Phase::Ready(Start::Expr), stops)),
     }
 }

@@ -1,15 +1,16 @@
-//! The frames of calls that stop: they hold their callee and their arguments so far.
+//! The frames of calls and of `new` that stop: they hold their callee and their arguments so far.
 ghost use Rattle.std.specs.Prelude.{◌≡◌, ◌∷◌, IfOk, OnOk, [], map};
 ghost use Rattle.wjs_stopping.specs.Waiting.{StopsAt, WaitsAt, at_node, waiting_at};
 ghost use Rattle.wjs_direct.specs.Deeds.{call_held};
 
 use wjs_base::{ObjId, OutOfMemory, Value};
-use wjs_model::{Config, ExprPoint, Frame, Held, Phase, Point, Reference};
+use wjs_model::{Config, Frame, Held, Phase, Point, Reference};
 use wjs_stopping::{Broken, Stops};
 use wjs_store::WorldStore;
 use wjs_tree::NodeId;
 
-/// Where an argument stopped, the call waits with its callee and the arguments so far; what was thrown is handed on.
+/// Where an argument stopped, the call or the `new` waits at this point with its callee and the arguments so far; what was thrown is
+/// handed on.
 #[inline(never)]
 pub(crate) fn argument_waits<S: WorldStore>(
     config: &mut Config<S>,
@@ -18,16 +19,16 @@ pub(crate) fn argument_waits<S: WorldStore>(
     callee: Value,
     this: Value,
     values: &[Value],
-    at: u32,
+    point: Point,
     end: Broken,
     stops: &mut Stops,
 ) -> Broken
     ensures same { config.new ≡ config.old }
-    ensures waits { WaitsAt (at_node frame.now node (call_held callee this values.now)) (Point.Expr (ExprPoint.Argument at))
+    ensures waits { WaitsAt (at_node frame.now node (call_held callee this values.now)) point
         end stops.old.waits stops.old.top result stops.new.waits stops.new.top }
 {
     match end {
-        Broken::Stopped => match put_call(config, frame, node, callee, this, values, at, stops) {
+        Broken::Stopped => match put_call(config, frame, node, callee, this, values, point, stops) {
             Ok(()) => end,
             Err(OutOfMemory) => Broken::OutOfMemory,
         },
@@ -42,16 +43,16 @@ fn put_call<S: WorldStore>(
     callee: Value,
     this: Value,
     values: &[Value],
-    at: u32,
+    point: Point,
     stops: &mut Stops,
 ) -> Result<(), OutOfMemory>
     ensures same { config.new ≡ config.old }
     ensures waits { OnOk result (stops.new.waits
-        ≡ waiting_at (at_node frame.now node (call_held callee this values.now)) (Point.Expr (ExprPoint.Argument at)) ∷ stops.old.waits) }
+        ≡ waiting_at (at_node frame.now node (call_held callee this values.now)) point ∷ stops.old.waits) }
     ensures top { OnOk result (stops.new.top ≡ stops.old.top) }
 {
     let inner = holding(config, frame, node, callee, this, values)?;
-    stops.below(inner, Point::Expr(ExprPoint::Argument(at)))
+    stops.below(inner, point)
 }
 
 /// The frame of a call that holds its callee and the arguments so far.

@@ -4,6 +4,7 @@
 //! left to a frame, most of it at its entry, before its step; the nodes around it wait for it in frames of their own.
 #![tactic(auto)]
 
+mod arrays;
 mod bodies;
 mod calls;
 mod choices;
@@ -13,15 +14,21 @@ mod functions;
 mod holding;
 mod loops;
 mod members;
+mod names;
 mod natives;
+mod news;
+mod objects;
 mod prefixes;
+mod reads;
 mod room;
 mod rounds;
 mod sequences;
 mod statements;
 mod stores;
 mod targets;
+mod tries;
 mod variables;
+mod within;
 
 pub use entries::{after_body_element, after_body_value, body};
 pub use rounds::{LoopParts, after_loop_body, is_followed, parts_of};

@@ -11,10 +11,11 @@ ghost use Rattle.wjs_stopping.specs.Evaluating.{Evaluates, HasOutcome, InMemory}
 ghost use Rattle.wjs_direct.specs.Deeds.{IsDot, IsNode, form_here, line_here};
 
 use crate::expressions::value;
+use crate::reads::{read_by_name, read_by_value};
 use wjs_base::Value;
-use wjs_model::{Completion, Config, ExprPoint, Frame, Held, Phase, Point, Purpose};
+use wjs_model::{Config, ExprPoint, Frame, Held, Point, Purpose};
 use wjs_quick::{dotted, indexed};
-use wjs_stopping::{Broken, Stops, stop, stop_holding, waits, waits_holding};
+use wjs_stopping::{Broken, Stops, waits, waits_holding};
 use wjs_store::WorldStore;
 use wjs_tree::{Node, NodeId, Spelt};
 
@@ -50,7 +51,7 @@ pub(crate) fn dot<S: WorldStore>(
     }
 }
 
-/// The member of its base; one that can't be told by a look is left to a frame.
+/// The member of its base: by a look, where that tells it; else it is read.
 fn member_by_name<S: WorldStore>(
     config: &mut Config<S>,
     frame: &Frame,
@@ -73,11 +74,7 @@ fn member_by_name<S: WorldStore>(
 {
     match dotted(config, frame, object, name) {
         Some(member) => Ok(member),
-        None => {
-            let point = Point::Expr(ExprPoint::DotBase(Purpose::Value));
-            let phase = Phase::Given(point, Completion::Gives(object));
-            Err(stop(config, frame, node, phase, stops))
-        }
+        None => read_by_name(config, frame, node, name, object, stops),
     }
 }
 
@@ -146,7 +143,7 @@ fn index_of_base<S: WorldStore>(
     }
 }
 
-/// The member of its base; one that can't be told by a look is left to a frame.
+/// The member of its base: by a look, where that tells it; else it is read.
 fn member_by_value<S: WorldStore>(
     config: &mut Config<S>,
     frame: &Frame,
@@ -169,10 +166,6 @@ fn member_by_value<S: WorldStore>(
 {
     match indexed(config, frame, object, key) {
         Some(member) => Ok(member),
-        None => {
-            let point = Point::Expr(ExprPoint::Index(Purpose::Value));
-            let phase = Phase::Given(point, Completion::Gives(key));
-            Err(stop_holding(config, frame, node, Held::Value(object), phase, stops))
-        }
+        None => read_by_value(config, frame, node, object, key, stops),
     }
 }

@@ -10,12 +10,13 @@ ghost use Rattle.wjs_stopping.specs.Evaluating.{Evaluates, HasOutcome, InMemory}
 ghost use Rattle.wjs_direct.specs.Deeds.{IsNode, entry_here, form_here, line_here, prefix_point};
 
 use crate::expressions::value;
+use crate::stores::update;
 use wjs_base::Value;
-use wjs_model::{Completion, Config, ExprPoint, Frame, Phase, Point, Start};
+use wjs_model::{Completion, Config, ExprPoint, Fix, Frame, Phase, Point, Start};
 use wjs_quick::{is_of_value, prefixed};
 use wjs_stopping::{Broken, Stops, stop, waits};
 use wjs_store::WorldStore;
-use wjs_tree::{Node, NodeId, PrefixOperator};
+use wjs_tree::{Node, NodeId, PrefixOperator, UpdateOperator};
 
 /// Where its frame waits for its operand.
 fn point_of(operator: PrefixOperator) -> ExprPoint
@@ -30,7 +31,15 @@ fn point_of(operator: PrefixOperator) -> ExprPoint
     }
 }
 
-/// An operator before an operand, whose step is taken; one whose operand is a target is left to a frame.
+/// Whether it is `++` or `--`.
+pub(crate) fn is_update(operator: PrefixOperator) -> bool {
+    matches!(
+        operator,
+        PrefixOperator::Increment | PrefixOperator::Decrement
+    )
+}
+
+/// An operator before an operand, whose step is taken.
 #[cycle(direct)]
 #[inline(never)]
 pub(crate) fn prefix<S: WorldStore>(
@@ -55,7 +64,41 @@ pub(crate) fn prefix<S: WorldStore>(
     if is_of_value(operator) {
         operand(config, frame, node, operator, part, room, stops)
     } else {
-        Err(stop(config, frame, node, Phase::Ready(Start::Expr), stops))
+        on_target(config, frame, node, operator, part, room, stops)
+    }
+}
+
+/// `++` and `--`; every other operator whose operand is a target is left to a frame.
+#[cycle(direct)]
+fn on_target<S: WorldStore>(
+    config: &mut Config<S>,
+    frame: &Frame,
+    node: NodeId,
+    operator: PrefixOperator,
+    part: NodeId,
+    room: u16,
+    stops: &mut Stops,
+) -> Result<Value, Broken>
+    requires base { Base S.meaning config.old }
+    requires there { IsThere S.meaning config.old frame.now }
+    requires node { StandsHere config.old frame.now node }
+    requires empty { stops.old.waits ≡ [] }
+    requires is { IsNode S.meaning config.old frame.now node (Node.Prefix operator part) }
+    ensures later { InMemory result (Later S.meaning config.old config.new) }
+    ensures found { HasOutcome S.meaning HasValue config.new result stops.new.waits stops.new.top }
+    ensures does { Evaluates S.meaning (entry_here S.meaning config.old frame.now (AtExpr node.0))
+        gives_in result stops.new.waits stops.new.top config.old config.new }
+{
+    match operator {
+        PrefixOperator::Increment => {
+            let next = UpdateOperator::Increment;
+            update(config, frame, node, part, Fix::Pre, next, room, stops)
+        }
+        PrefixOperator::Decrement => {
+            let next = UpdateOperator::Decrement;
+            update(config, frame, node, part, Fix::Pre, next, room, stops)
+        }
+        _ => Err(stop(config, frame, node, Phase::Ready(Start::Expr), stops)),
     }
 }
 

@@ -16,7 +16,9 @@ use crate::expressions::value;
 use crate::loops::{for_expression, run_loop};
 use crate::room::{ROOM, may_enter};
 use crate::stores::effect;
+use crate::tries::{attempt, throw_of};
 use crate::variables::{for_variables, run_variables};
+use crate::within::within;
 use wjs_base::Value;
 use wjs_effects::{Sequence, dropped, statement_at_once, statement_of_block};
 use wjs_frames::node_at;
@@ -123,6 +125,8 @@ fn is_known<S: WorldStore>(config: &Config<S>, frame: &Frame, node: NodeId) -> b
         Some(Node::If(_, _, _) | Node::Block(_) | Node::While(_, _) | Node::For(_, _, _, _)) => {
             true
         }
+        Some(Node::Within(_, _)) => true,
+        Some(Node::Throw(_, _) | Node::Try(_, _, _)) => true,
         _ => false,
     }
 }
@@ -175,6 +179,18 @@ pub(crate) fn statement_form<S: WorldStore>(
         Some(Node::For(ForInit::Var(_), test, update, body)) => {
             let (test, update, body) = (*test, *update, *body);
             for_variables(config, frame, node, test, update, body, room, stops)
+        }
+        Some(Node::Within(e, block)) => {
+            let (e, block) = (*e, *block);
+            within(config, frame, node, e, block, room, stops)
+        }
+        Some(Node::Throw(e, _)) => {
+            let e = *e;
+            throw_of(config, frame, node, e, room, stops)
+        }
+        Some(Node::Try(block, _, last)) => {
+            let (block, last) = (*block, *last);
+            attempt(config, frame, node, block, last, room, stops)
         }
         _ => Err(stop(config, frame, node, Phase::Ready(Start::Stmt), stops)),
     }

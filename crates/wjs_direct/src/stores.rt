@@ -1,27 +1,28 @@
-//! Expressions whose value no further expression asks for, and assignments among them (ECMA-262, 3rd edition, section 11.13).
-ghost use Rattle.std.specs.Prelude.{◌≡◌, ◌<◌, ◌≤◌, true, [], Some};
+//! Expressions that store (ECMA-262, 3rd edition, sections 11.3, 11.4.4, 11.4.5 and 11.13), and those whose value no further expression asks for.
+ghost use Rattle.std.specs.Prelude.{◌≡◌, [], Some, MatchResult};
 ghost use Rattle.wjs_by_content.specs.Tables.{value_in};
 ghost use Rattle.wjs_meaning.specs.Deeds.{AtExpr, AtTarget, then_reference, then_value};
 ghost use Rattle.wjs_meaning.specs.Expressions as line;
 ghost use Rattle.wjs_model.specs.Contents.{completion_in, reference_in};
 ghost use Rattle.wjs_model.specs.Soundness.{Base, HasCompletion, HasReference, HasValue, IsThere, StandsHere};
+ghost use Rattle.wjs_model.specs.Waiting.{fix_in};
 ghost use Rattle.wjs_frames.specs.Following.{Later};
+ghost use Rattle.wjs_stopping.specs.Ends.{gives_in};
 ghost use Rattle.wjs_stopping.specs.Evaluating.{Evaluates, HasOutcome, InMemory};
-ghost use Rattle.wjs_direct.specs.Deeds.{IsNode, entry_here, form_here, goal_here, line_here};
+ghost use Rattle.wjs_heap_steps.specs.Reads.{GivesOrThrows};
+ghost use Rattle.wjs_direct.specs.Deeds.{IsNode, IsThrown, form_here, goal_here, line_here};
 ghost use Rattle.wjs_tree.specs.Operators.{compound};
 
 use crate::expressions::value;
 use crate::holding::{stop_compound, wait_compound};
-use crate::room::may_enter;
 use crate::targets::target;
 use wjs_base::Value;
-use wjs_effects::{expression_at_once, result_at_once, store_and_end};
-use wjs_frames::node_at;
+use wjs_effects::{expression_at_once, result_at_once, store_and_end, update_at};
 use wjs_heap_steps::peek_value_of;
-use wjs_model::{Completion, Config, ExprPoint, Frame, Held, Phase, Point, Reference, Start};
+use wjs_model::{Completion, Config, ExprPoint, Fix, Frame, Held, Phase, Point, Reference};
 use wjs_stopping::{Broken, Stops, stop, waits, waits_holding};
 use wjs_store::WorldStore;
-use wjs_tree::{AssignOperator, BinaryOperator, Node, NodeId};
+use wjs_tree::{AssignOperator, BinaryOperator, Node, NodeId, UpdateOperator};
 
 /// How an expression ends whose value no further expression asks for, in so much room at most: at once, where it stores and all its
 /// parts have their values at once; else by its form.
@@ -47,11 +48,7 @@ pub(crate) fn effect<S: WorldStore>(
     if let Some(end) = done {
         return Ok(end);
     }
-    if !may_assign(config, frame, node, room) {
-        return valued(config, frame, node, room, stops);
-    }
-    config.left -= 1;
-    assignment(config, frame, node, room - 2, stops)
+    valued(config, frame, node, room, stops)
 }
 
 /// How an expression ends by its value.
@@ -79,53 +76,9 @@ fn valued<S: WorldStore>(
     }
 }
 
-/// Whether an assignment may be entered here: there is a step and room for it, and it is one.
-fn may_assign<S: WorldStore>(config: &Config<S>, frame: &Frame, node: NodeId, room: u16) -> bool
-    ensures left { result ≡ true → 0 < config.now.left }
-    ensures room { result ≡ true → 8 ≤ room }
-{
-    if may_enter(config, room) {
-        is_assignment(config, frame, node)
-    } else {
-        false
-    }
-}
-
-/// Whether an expression is an assignment.
-fn is_assignment<S: WorldStore>(config: &Config<S>, frame: &Frame, node: NodeId) -> bool {
-    matches!(node_at(config, frame, node), Some(Node::Assign(_, _, _)))
-}
-
-/// An assignment, whose step is taken.
+/// An assignment, whose step is taken: its target, and then the right side.
 #[cycle(direct)]
-fn assignment<S: WorldStore>(
-    config: &mut Config<S>,
-    frame: &Frame,
-    node: NodeId,
-    room: u16,
-    stops: &mut Stops,
-) -> Result<Completion, Broken>
-    requires base { Base S.meaning config.old }
-    requires there { IsThere S.meaning config.old frame.now }
-    requires node { StandsHere config.old frame.now node }
-    requires empty { stops.old.waits ≡ [] }
-    ensures later { InMemory result (Later S.meaning config.old config.new) }
-    ensures found { HasOutcome S.meaning HasCompletion config.new result stops.new.waits stops.new.top }
-    ensures does { Evaluates S.meaning (entry_here S.meaning config.old frame.now (AtExpr node.0))
-        completion_in result stops.new.waits stops.new.top config.old config.new }
-{
-    match node_at(config, frame, node) {
-        Some(Node::Assign(t, sign, right)) => {
-            let (t, sign, right) = (*t, *sign, *right);
-            assign(config, frame, node, t, sign, right, room, stops)
-        }
-        _ => Err(stop(config, frame, node, Phase::Ready(Start::Expr), stops)),
-    }
-}
-
-/// Its target, and then the right side.
-#[cycle(direct)]
-fn assign<S: WorldStore>(
+pub(crate) fn assign<S: WorldStore>(
     config: &mut Config<S>,
     frame: &Frame,
     node: NodeId,
@@ -134,17 +87,17 @@ fn assign<S: WorldStore>(
     right: NodeId,
     room: u16,
     stops: &mut Stops,
-) -> Result<Completion, Broken>
+) -> Result<Value, Broken>
     requires base { Base S.meaning config.old }
     requires there { IsThere S.meaning config.old frame.now }
     requires node { StandsHere config.old frame.now node }
     requires empty { stops.old.waits ≡ [] }
     requires is { IsNode S.meaning config.old frame.now node (Node.Assign t sign right) }
     ensures later { InMemory result (Later S.meaning config.old config.new) }
-    ensures found { HasOutcome S.meaning HasCompletion config.new result stops.new.waits stops.new.top }
+    ensures found { HasOutcome S.meaning HasValue config.new result stops.new.waits stops.new.top }
     ensures does { Evaluates S.meaning (form_here S.meaning config.old frame.now (AtTarget t.0)
         (λ t env. then_reference (line.assign_reference (compound sign) right.0 env)))
-        completion_in result stops.new.waits stops.new.top config.old config.new }
+        gives_in result stops.new.waits stops.new.top config.old config.new }
 {
     match target(config, frame, t, room, stops) {
         Ok(reference) => assign_to(config, frame, node, sign, right, reference, room, stops),
@@ -166,7 +119,7 @@ fn assign_to<S: WorldStore>(
     reference: Reference,
     room: u16,
     stops: &mut Stops,
-) -> Result<Completion, Broken>
+) -> Result<Value, Broken>
     requires base { Base S.meaning config.old }
     requires there { IsThere S.meaning config.old frame.now }
     requires node { StandsHere config.old frame.now node }
@@ -174,10 +127,10 @@ fn assign_to<S: WorldStore>(
     requires right { StandsHere config.old frame.now right }
     requires reference { HasReference config.old reference }
     ensures later { InMemory result (Later S.meaning config.old config.new) }
-    ensures found { HasOutcome S.meaning HasCompletion config.new result stops.new.waits stops.new.top }
+    ensures found { HasOutcome S.meaning HasValue config.new result stops.new.waits stops.new.top }
     ensures does { Evaluates S.meaning (line_here S.meaning config.old frame.now
         (λ t env. line.assign_reference (compound sign) right.0 env (reference_in t reference)))
-        completion_in result stops.new.waits stops.new.top config.old config.new }
+        gives_in result stops.new.waits stops.new.top config.old config.new }
 {
     match sign.compound() {
         None => assigned(config, frame, node, right, reference, room, stops),
@@ -197,7 +150,7 @@ fn assigned<S: WorldStore>(
     reference: Reference,
     room: u16,
     stops: &mut Stops,
-) -> Result<Completion, Broken>
+) -> Result<Value, Broken>
     requires base { Base S.meaning config.old }
     requires there { IsThere S.meaning config.old frame.now }
     requires node { StandsHere config.old frame.now node }
@@ -205,10 +158,10 @@ fn assigned<S: WorldStore>(
     requires right { StandsHere config.old frame.now right }
     requires reference { HasReference config.old reference }
     ensures later { InMemory result (Later S.meaning config.old config.new) }
-    ensures found { HasOutcome S.meaning HasCompletion config.new result stops.new.waits stops.new.top }
+    ensures found { HasOutcome S.meaning HasValue config.new result stops.new.waits stops.new.top }
     ensures does { Evaluates S.meaning (form_here S.meaning config.old frame.now (AtExpr right.0)
         (λ t env. then_value (line.assign_value (reference_in t reference) env)))
-        completion_in result stops.new.waits stops.new.top config.old config.new }
+        gives_in result stops.new.waits stops.new.top config.old config.new }
 {
     match value(config, frame, right, room, stops) {
         Ok(value) => stored(config, frame, reference, value, stops),
@@ -227,25 +180,38 @@ fn stored<S: WorldStore>(
     reference: Reference,
     value: Value,
     stops: &mut Stops,
-) -> Result<Completion, Broken>
+) -> Result<Value, Broken>
     requires base { Base S.meaning config.old }
     requires there { IsThere S.meaning config.old frame.now }
     requires empty { stops.old.waits ≡ [] }
     requires reference { HasReference config.old reference }
     requires value { HasValue config.old value }
     ensures later { InMemory result (Later S.meaning config.old config.new) }
-    ensures found { HasOutcome S.meaning HasCompletion config.new result stops.new.waits stops.new.top }
+    ensures found { HasOutcome S.meaning HasValue config.new result stops.new.waits stops.new.top }
     ensures does { Evaluates S.meaning (line_here S.meaning config.old frame.now
         (λ t env. line.assign_value (reference_in t reference) env (value_in t value)))
-        completion_in result stops.new.waits stops.new.top config.old config.new }
+        gives_in result stops.new.waits stops.new.top config.old config.new }
 {
     let _stops = stops;
     let end = store_and_end(config, frame, reference, value, Completion::Gives(value))?;
-    Ok(end)
+    value_or_thrown(end)
+}
+
+/// The value that a read or a store ends with, or what it throws.
+pub(crate) fn value_or_thrown(end: Completion) -> Result<Value, Broken>
+    requires { GivesOrThrows end }
+    ensures { MatchResult result (λ value. end ≡ Completion.Gives value) (λ broken. IsThrown end broken) }
+{
+    match end {
+        Completion::Gives(value) => Ok(value),
+        Completion::Throws(error) => Err(Broken::Throws(error)),
+        _ => unreachable!(),
+    }
 }
 
 /// The target's value, the right side of an operator with `=`, and the store of the result.
 #[cycle(direct)]
+#[inline(never)]
 fn compounded<S: WorldStore>(
     config: &mut Config<S>,
     frame: &Frame,
@@ -256,7 +222,7 @@ fn compounded<S: WorldStore>(
     reference: Reference,
     room: u16,
     stops: &mut Stops,
-) -> Result<Completion, Broken>
+) -> Result<Value, Broken>
     requires base { Base S.meaning config.old }
     requires there { IsThere S.meaning config.old frame.now }
     requires node { StandsHere config.old frame.now node }
@@ -265,10 +231,10 @@ fn compounded<S: WorldStore>(
     requires reference { HasReference config.old reference }
     requires sign { compound sign ≡ Some operator }
     ensures later { InMemory result (Later S.meaning config.old config.new) }
-    ensures found { HasOutcome S.meaning HasCompletion config.new result stops.new.waits stops.new.top }
+    ensures found { HasOutcome S.meaning HasValue config.new result stops.new.waits stops.new.top }
     ensures does { Evaluates S.meaning (line_here S.meaning config.old frame.now
         (λ t env. line.assign_reference (Some operator) right.0 env (reference_in t reference)))
-        completion_in result stops.new.waits stops.new.top config.old config.new }
+        gives_in result stops.new.waits stops.new.top config.old config.new }
 {
     match peek_value_of(config, frame, reference) {
         Some(old) => compound_right(
@@ -294,7 +260,7 @@ fn compound_right<S: WorldStore>(
     old: Value,
     room: u16,
     stops: &mut Stops,
-) -> Result<Completion, Broken>
+) -> Result<Value, Broken>
     requires base { Base S.meaning config.old }
     requires there { IsThere S.meaning config.old frame.now }
     requires node { StandsHere config.old frame.now node }
@@ -303,10 +269,10 @@ fn compound_right<S: WorldStore>(
     requires reference { HasReference config.old reference }
     requires old { HasValue config.old old }
     ensures later { InMemory result (Later S.meaning config.old config.new) }
-    ensures found { HasOutcome S.meaning HasCompletion config.new result stops.new.waits stops.new.top }
+    ensures found { HasOutcome S.meaning HasValue config.new result stops.new.waits stops.new.top }
     ensures does { Evaluates S.meaning (form_here S.meaning config.old frame.now (AtExpr right.0)
         (λ t env. then_value (line.compound_value operator (value_in t old) (reference_in t reference) env)))
-        completion_in result stops.new.waits stops.new.top config.old config.new }
+        gives_in result stops.new.waits stops.new.top config.old config.new }
 {
     match value(config, frame, right, room, stops) {
         Ok(value) => compound_stored(config, frame, node, operator, reference, old, value, stops),
@@ -327,7 +293,7 @@ fn compound_stored<S: WorldStore>(
     old: Value,
     value: Value,
     stops: &mut Stops,
-) -> Result<Completion, Broken>
+) -> Result<Value, Broken>
     requires base { Base S.meaning config.old }
     requires there { IsThere S.meaning config.old frame.now }
     requires node { StandsHere config.old frame.now node }
@@ -336,10 +302,10 @@ fn compound_stored<S: WorldStore>(
     requires old { HasValue config.old old }
     requires value { HasValue config.old value }
     ensures later { InMemory result (Later S.meaning config.old config.new) }
-    ensures found { HasOutcome S.meaning HasCompletion config.new result stops.new.waits stops.new.top }
+    ensures found { HasOutcome S.meaning HasValue config.new result stops.new.waits stops.new.top }
     ensures does { Evaluates S.meaning (line_here S.meaning config.old frame.now
         (λ t env. line.compound_value operator (value_in t old) (reference_in t reference) env (value_in t value)))
-        completion_in result stops.new.waits stops.new.top config.old config.new }
+        gives_in result stops.new.waits stops.new.top config.old config.new }
 {
     let done = result_at_once(config, frame, operator, old, value)?;
     match done {
@@ -348,6 +314,71 @@ fn compound_stored<S: WorldStore>(
             let point = Point::Expr(ExprPoint::CompoundValue(operator));
             let phase = Phase::Given(point, Completion::Gives(value));
             Err(stop_compound(config, frame, node, reference, old, phase, stops))
+        }
+    }
+}
+
+/// `++` or `--`, whose step is taken: its target, and then the next or the previous number (sections 11.3, 11.4.4 and 11.4.5).
+#[cycle(direct)]
+pub(crate) fn update<S: WorldStore>(
+    config: &mut Config<S>,
+    frame: &Frame,
+    node: NodeId,
+    t: NodeId,
+    fix: Fix,
+    operator: UpdateOperator,
+    room: u16,
+    stops: &mut Stops,
+) -> Result<Value, Broken>
+    requires base { Base S.meaning config.old }
+    requires there { IsThere S.meaning config.old frame.now }
+    requires node { StandsHere config.old frame.now node }
+    requires empty { stops.old.waits ≡ [] }
+    requires target { StandsHere config.old frame.now t }
+    ensures later { InMemory result (Later S.meaning config.old config.new) }
+    ensures found { HasOutcome S.meaning HasValue config.new result stops.new.waits stops.new.top }
+    ensures does { Evaluates S.meaning (form_here S.meaning config.old frame.now (AtTarget t.0)
+        (λ t env. then_reference (line.update_reference (fix_in fix) operator env)))
+        gives_in result stops.new.waits stops.new.top config.old config.new }
+{
+    match target(config, frame, t, room, stops) {
+        Ok(reference) => updated(config, frame, node, fix, operator, reference, stops),
+        Err(end) => {
+            let point = Point::Expr(ExprPoint::UpdateTarget(fix, operator));
+            Err(waits(config, frame, node, point, end, stops))
+        }
+    }
+}
+
+/// What follows the reference of its target; where a look tells no number that has a next one, a frame goes on.
+fn updated<S: WorldStore>(
+    config: &mut Config<S>,
+    frame: &Frame,
+    node: NodeId,
+    fix: Fix,
+    operator: UpdateOperator,
+    reference: Reference,
+    stops: &mut Stops,
+) -> Result<Value, Broken>
+    requires base { Base S.meaning config.old }
+    requires there { IsThere S.meaning config.old frame.now }
+    requires node { StandsHere config.old frame.now node }
+    requires empty { stops.old.waits ≡ [] }
+    requires reference { HasReference config.old reference }
+    ensures later { InMemory result (Later S.meaning config.old config.new) }
+    ensures found { HasOutcome S.meaning HasValue config.new result stops.new.waits stops.new.top }
+    ensures does { Evaluates S.meaning (line_here S.meaning config.old frame.now
+        (λ t env. line.update_reference (fix_in fix) operator env (reference_in t reference)))
+        gives_in result stops.new.waits stops.new.top config.old config.new }
+{
+    let left = config.left;
+    let done = update_at(config, frame, fix, operator, reference, left)?;
+    match done {
+        Some(end) => value_or_thrown(end),
+        None => {
+            let point = Point::Expr(ExprPoint::UpdateTarget(fix, operator));
+            let phase = Phase::Given(point, Completion::Refers(reference));
+            Err(stop(config, frame, node, phase, stops))
         }
     }
 }

@@ -1,5 +1,5 @@
 -- What is left of deeds, and that it names what is there.
-use Rattle.std.specs.Prelude.{◌<◌, ◌∷◌, [], length, None, Some}
+use Rattle.std.specs.Prelude.{◌≡◌, ◌<◌, ◌∷◌, ◌⊎◌, [], length, None, Some}
 use Rattle.wjs_base.specs.declared.values.Value.{Value as Numbered}
 use Rattle.wjs_base.specs.declared.values.Value.TheVariants as values
 use Rattle.wjs_base.specs.declared.number.Whole.{Whole}
@@ -47,6 +47,10 @@ stored (Local scope name) v env e go = Do Look (λ arena. elim (fixed arena scop
 stored (Global name) v env e go = put env.global name v env (put_ended env e go)
 stored (Member (Object o) name) v env e go = put o name v env (put_ended env e go)
 stored (Member base name) v env e go = go e
+
+-- an end: this completion, or something is thrown
+abbrev pub EndsOrThrows : NumberedCompletion → NumberedCompletion → Type 0
+EndsOrThrows told e = (e ≡ told) ⊎ ((x : Numbered) × (e ≡ completions.Throws x))
 
 -- ---- what is left of deeds, with what follows their completion
 

@@ -12,7 +12,7 @@ ghost use Rattle.wjs_model.specs.Soundness.{Base, IsThere, HasCompletion, HasNam
 ghost use Rattle.wjs_frames.specs.Doing.{Does};
 ghost use Rattle.wjs_frames.specs.Following.{Later};
 ghost use Rattle.wjs_frames.specs.Parts.{env_in, node_among};
-ghost use Rattle.wjs_effects.specs.Effects.{carried, stored, stores, told_in, told_of, HasEffect};
+ghost use Rattle.wjs_effects.specs.Effects.{carried, stored, stores, told_in, told_of, EndsOrThrows, HasEffect};
 ghost use Rattle.wjs_effects.specs.Leaving.{ActEnds, Ends};
 ghost use Rattle.wjs_effects.specs.Making.{made_in, HasMade};
 
@@ -190,6 +190,7 @@ pub fn store_and_end<S: WorldStore>(
         (λ t. completion_in t e) config.old config.new) }
     ensures later { OnOk result (Later S.meaning config.old config.new) }
     ensures found { IfOk result (λ e. HasCompletion config.new e) }
+    ensures ends { IfOk result (λ e. EndsOrThrows completion e) }
 {
     match reference {
         Reference::Local(scope, name) => {
@@ -227,6 +228,7 @@ fn member_and_end<S: WorldStore>(
         (λ t. completion_in t e) config.old config.new) }
     ensures later { OnOk result (Later S.meaning config.old config.new) }
     ensures found { IfOk result (λ e. HasCompletion config.new e) }
+    ensures ends { IfOk result (λ e. EndsOrThrows completion e) }
 {
     match base {
         Value::Object(object) => put_and_end(config, frame, object, name, value, completion),
@@ -254,6 +256,7 @@ fn put_and_end<S: WorldStore>(
         (λ t. completion_in t e) config.old config.new) }
     ensures later { OnOk result (Later S.meaning config.old config.new) }
     ensures found { IfOk result (λ e. HasCompletion config.new e) }
+    ensures ends { IfOk result (λ e. EndsOrThrows completion e) }
 {
     let answer = put(config, frame, object, name, value)?;
     match answer {

@@ -34,5 +34,6 @@ pub use entries::{dropped, enter_statement};
 pub use parts::{expression_at_once, reference_at_once, statement_at_once};
 pub use results::result_at_once;
 pub use sequences::{Reached, elements_at_once, end_of, waiting_point};
+pub use stores::update_at;
 pub use targets::{dot_reference, index_reference};
 pub use updates::{given, updated};

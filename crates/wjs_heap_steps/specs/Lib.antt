@@ -3,3 +3,4 @@ pub mod Worlds
 pub mod Visits
 pub mod Peeking
 pub mod HasRows
+pub mod Reads

@@ -27,7 +27,7 @@ pub use looks::{
 pub use makes::{
     builtin, create, create_array, create_plain, create_scope, create_wrapper, object_of, one_fixed,
 };
-pub use operands::operand_completion;
+pub use operands::{name_completion, operand_completion};
 pub use output::emit;
 pub use peeks::{peek_member, peek_operand, peek_target, peek_value_of, peek_word};
 pub use properties::{delete, get, get_value, has, put, visits};
@@ -36,4 +36,4 @@ pub use slots::{read, read_content, write, write_rows};
 pub use texts::{extend, intern, name_of, text_of, units_of};
 pub use values::member_value;
 pub use wjs_texts::Known;
-pub use worlds::{commit, create_world_object, has_world, sprout, world_of};
+pub use worlds::{commit, create_world_object, sprout, world_at, world_of};

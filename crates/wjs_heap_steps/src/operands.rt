@@ -10,6 +10,7 @@ ghost use Rattle.wjs_model.specs.Units.{place_in};
 ghost use Rattle.wjs_frames.specs.Doing.{Does};
 ghost use Rattle.wjs_frames.specs.Following.{Later};
 ghost use Rattle.wjs_frames.specs.Parts.{env_in};
+ghost use Rattle.wjs_heap_steps.specs.Reads.{GivesOrThrows};
 
 use crate::errors::create_undefined;
 use crate::properties::get;
@@ -44,9 +45,9 @@ pub fn operand_completion<S: WorldStore>(
     }
 }
 
-/// The value of a name at its place, or what is thrown.
+/// The value of a name at its place, or what is thrown; OutOfMemory where memory ran out (ECMA-262, 3rd edition, section 11.1.2).
 #[inline(always)]
-fn name_completion<S: WorldStore>(
+pub fn name_completion<S: WorldStore>(
     config: &mut Config<S>,
     frame: &Frame,
     place: Place,
@@ -59,6 +60,7 @@ fn name_completion<S: WorldStore>(
         (λ t. completion_in t completion) config.old config.new) }
     ensures later { OnOk result (Later S.meaning config.old config.new) }
     ensures found { IfOk result (λ completion. HasCompletion config.new completion) }
+    ensures ends { IfOk result (λ completion. GivesOrThrows completion) }
 {
     let reference = reference_at(config, frame, place, id);
     match reference {
@@ -87,6 +89,7 @@ fn local_completion<S: WorldStore>(
         (λ t. completion_in t completion) config.old config.new) }
     ensures later { OnOk result (Later S.meaning config.old config.new) }
     ensures found { IfOk result (λ completion. HasCompletion config.new completion) }
+    ensures ends { IfOk result (λ completion. GivesOrThrows completion) }
 {
     let value = local_value(config, frame, scope, name)?;
     Ok(Completion::Gives(value))
@@ -106,6 +109,7 @@ fn global_completion<S: WorldStore>(
         (λ t. completion_in t completion) config.old config.new) }
     ensures later { OnOk result (Later S.meaning config.old config.new) }
     ensures found { IfOk result (λ completion. HasCompletion config.new completion) }
+    ensures ends { IfOk result (λ completion. GivesOrThrows completion) }
 {
     let global = config.global;
     let found = get(config, frame, global, name)?;

@@ -26,7 +26,7 @@ use wjs_model::{Config, Frame};
 use wjs_store::{Verdict, WorldStore};
 
 /// Whether a world is there.
-pub fn has_world<S: WorldStore>(config: &Config<S>, world: WorldId) -> Result<bool, OutOfMemory>
+fn has_world<S: WorldStore>(config: &Config<S>, world: WorldId) -> Result<bool, OutOfMemory>
     ensures does { IfOk result (λ answer. Does S.meaning (λ t go. Do (deed.HasWorld world) go) (λ t. answer) config.now config.now) }
     ensures found { IfOk result (λ answer. answer ≡ true → HasWorld S.meaning config.now world) }
 {
@@ -114,8 +114,11 @@ pub fn world_of<S: WorldStore>(
     }
 }
 
-/// The world for which a value stands and which is there, if there is one.
-fn world_at<S: WorldStore>(config: &Config<S>, value: Value) -> Result<Option<WorldId>, OutOfMemory>
+/// The world for which a value stands and which is there, if there is one; OutOfMemory where memory ran out.
+pub fn world_at<S: WorldStore>(
+    config: &Config<S>,
+    value: Value,
+) -> Result<Option<WorldId>, OutOfMemory>
     requires { HasValue config.now value }
     ensures does { IfOk result (λ found. Does S.meaning (λ t go. world_then (value_in t value) go) (λ t. found) config.now config.now) }
     ensures found { IfOk result (λ found. IfSome found (λ world. HasWorld S.meaning config.now world)) }

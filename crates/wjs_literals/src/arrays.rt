@@ -1,8 +1,9 @@
 //! Literals of arrays (ECMA-262, 3rd edition, section 11.1.4): the items from left to right, and then the length.
-ghost use Rattle.std.specs.Prelude.{◌≡◌, ◌+◌, ◌==◌, [], drop, length, slice_get, unwrap_or, Some, IfOk, OnOk};
-ghost use Rattle.wjs_by_content.specs.Names.{slot, index_name};
+ghost use Rattle.std.specs.Prelude.{◌≡◌, ◌+◌, ◌==◌, [], ◌∷◌, drop, length, slice_get, unwrap_or, Some, IfOk, OnOk};
+ghost use Rattle.wjs_by_content.specs.Names.{slot, index_name, length_name};
 ghost use Rattle.wjs_by_content.specs.Tables.{value_in};
-ghost use Rattle.wjs_meaning.specs.Deeds.{Do, Create, Write};
+ghost use Rattle.wjs_by_content.specs.Values.{whole};
+ghost use Rattle.wjs_meaning.specs.Deeds.{Do, Create, Write, write_all};
 ghost use Rattle.wjs_meaning.specs.Expressions as line;
 ghost use Rattle.wjs_meaning.specs.NewObjects.{array_object};
 ghost use Rattle.wjs_meaning.specs.Reading.{node_in};
@@ -10,6 +11,7 @@ ghost use Rattle.wjs_model.specs.Contents.{holding_in, value_held};
 ghost use Rattle.wjs_model.specs.Lists.{items_of};
 ghost use Rattle.wjs_model.specs.Soundness.{Base, IsThere, HasObject, HasValue};
 ghost use Rattle.wjs_model.specs.Waiting as after;
+ghost use Rattle.wjs_frames.specs.Doing.{DoesFirst};
 ghost use Rattle.wjs_frames.specs.Following.{Later};
 ghost use Rattle.wjs_frames.specs.Parts.{node_now};
 ghost use Rattle.wjs_literals.specs.Parts.{items_in, items_left, Skips};
@@ -28,7 +30,7 @@ use wjs_tree::{Node, NodeId};
 
 /// What comes next of the items from a number on.
 #[derive(Clone, Copy)]
-pub(crate) enum Next {
+pub enum Next {
     /// The first that is there, with its number.
     Item(usize, NodeId),
     /// The same, and it is the last of all.
@@ -158,7 +160,7 @@ fn last_item<S: WorldStore>(
     }
 }
 
-/// The last item is written and the length, by one call, and the array given.
+/// The last item is written and the length, and the array given.
 fn array_last<S: WorldStore>(
     config: &mut Config<S>,
     frame: Frame,
@@ -172,12 +174,33 @@ fn array_last<S: WorldStore>(
     ensures { GoesOn S.meaning frame config.old config.new result (λ t env.
         Do (Write env.world (slot array (index_name at)) (Some (value_in t value))) (λ done. line.array_from [] (at + 1) array env)) }
 {
+    write_last(config, &frame, array, at, value)?;
+    finish(config, frame, Completion::Gives(Value::Object(array)))
+}
+
+/// The last item of an array is written and the length, by one call.
+pub fn write_last<S: WorldStore>(
+    config: &mut Config<S>,
+    frame: &Frame,
+    array: ObjId,
+    at: u32,
+    value: Value,
+) -> Result<(), OutOfMemory>
+    requires base { Base S.meaning config.old }
+    requires there { IsThere S.meaning config.old frame.now }
+    requires array { HasObject config.old array }
+    requires value { HasValue config.old value }
+    ensures does { OnOk result (DoesFirst S.meaning
+        (λ t. write_all frame.now.world ((slot array (index_name at), value_in t value) ∷ (slot array length_name, whole (at + 1)) ∷ []))
+        config.old config.new) }
+    ensures later { OnOk result (Later S.meaning config.old config.new) }
+{
     let next = number_after(at)?;
     let length = whole_value(next as usize)?;
     let name = known_name(config, Known::Length)?;
     let rows = [(Name::Index(at), value), (name, length)];
-    write_rows(config, &frame, array, &rows)?;
-    finish(config, frame, Completion::Gives(Value::Object(array)))
+    write_rows(config, frame, array, &rows)?;
+    Ok(())
 }
 
 /// The items from a number on that have their values at once, one after another, but for the last: they are written then. Gives the
@@ -268,9 +291,27 @@ fn array_end<S: WorldStore>(
     requires array { HasObject config.old array }
     ensures { GoesOn S.meaning frame config.old config.new result (λ t env. line.array_from [] length array env) }
 {
-    let value = whole_value(length)?;
-    write_known(config, &frame, array, Known::Length, value)?;
+    write_length(config, &frame, array, length)?;
     finish(config, frame, Completion::Gives(Value::Object(array)))
+}
+
+/// The length of an array is written.
+pub fn write_length<S: WorldStore>(
+    config: &mut Config<S>,
+    frame: &Frame,
+    array: ObjId,
+    length: usize,
+) -> Result<(), OutOfMemory>
+    requires base { Base S.meaning config.old }
+    requires there { IsThere S.meaning config.old frame.now }
+    requires array { HasObject config.old array }
+    ensures does { OnOk result (DoesFirst S.meaning (λ t. write_all frame.now.world ((slot array length_name, whole length) ∷ []))
+        config.old config.new) }
+    ensures later { OnOk result (Later S.meaning config.old config.new) }
+{
+    let value = whole_value(length)?;
+    write_known(config, frame, array, Known::Length, value)?;
+    Ok(())
 }
 
 /// What comes next of the items of the frame's node, from a number on.
@@ -284,7 +325,7 @@ fn next_item<S: WorldStore>(config: &Config<S>, frame: &Frame, from: u32) -> Nex
 }
 
 /// What comes next of items, from a number on.
-fn next_among(items: &[Option<NodeId>], from: usize) -> Next
+pub fn next_among(items: &[Option<NodeId>], from: usize) -> Next
     ensures { Skips items.now from result }
 {
     let mut at = from;

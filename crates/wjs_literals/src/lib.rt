@@ -10,9 +10,9 @@ mod literals;
 mod news;
 mod objects;
 
-pub use arrays::{array_item, array_start};
+pub use arrays::{Next, array_item, array_start, next_among, write_last, write_length};
 pub use calls::{call_argument, call_callee, call_reference, call_start};
 pub use functions::function_start;
 pub use literals::{text, this, this_world};
 pub use news::{new_argument, new_callee, new_made, new_start};
-pub use objects::{object_item, object_start};
+pub use objects::{object_item, object_start, write_property};

@@ -104,8 +104,8 @@ fn object_write<S: WorldStore>(
     object_next(config, frame, object, next)
 }
 
-/// The value is written under its key.
-fn write_property<S: WorldStore>(
+/// A value is written under a key of a property.
+pub fn write_property<S: WorldStore>(
     config: &mut Config<S>,
     frame: &Frame,
     object: ObjId,

@@ -9,6 +9,8 @@ use Rattle.wjs_direct.specs.Deeds.{goal_here, line_here}
 use Rattle.wjs_direct.specs.Variables.{variables_left}
 use Rattle.wjs_direct.proofs.Calling.{values_left}
 use Rattle.wjs_direct.proofs.Elements.{rest_from}
+use Rattle.wjs_direct.specs.Literals.{items_left, pairs_left}
+use Rattle.wjs_direct.proofs.Constructing.{news_left}
 use Rattle.wjs_direct.proofs.+direct.Given as goal
 
 -- how much room is left, and which function hands it on to which
@@ -150,11 +152,8 @@ decreases-stores::effect g l = l.room * 32 + 10
 abbrev pub decreases-stores::valued : goal.decreases-stores::valued
 decreases-stores::valued g l = l.room * 32 + 5
 
-abbrev pub decreases-stores::assignment : goal.decreases-stores::assignment
-decreases-stores::assignment g l = l.room * 32 + 31
-
 abbrev pub decreases-stores::assign : goal.decreases-stores::assign
-decreases-stores::assign g l = l.room * 32 + 30
+decreases-stores::assign g l = l.room * 32 + 29
 
 abbrev pub decreases-stores::assign_to : goal.decreases-stores::assign_to
 decreases-stores::assign_to g l = l.room * 32 + 28
@@ -169,6 +168,7 @@ abbrev pub decreases-stores::compound_right : goal.decreases-stores::compound_ri
 decreases-stores::compound_right g l = l.room * 32 + 20
 
 -- loops: a round of a later iteration has its step, and so the room below the loop's
+
 abbrev pub decreases-loops::for_expression : goal.decreases-loops::for_expression
 decreases-loops::for_expression g l = l.room * 32 + 28
 
@@ -228,6 +228,7 @@ invariant-loops::iterations-loop-test g l =
     }
 
 -- what is left of a list is what is left of its deeds
+
 abbrev pub decreases-bodies::run_body-loop-element : goal.decreases-bodies::run_body-loop-element
 decreases-bodies::run_body-loop-element g l = 4294967296 - l.at
 
@@ -283,3 +284,127 @@ invariant-calls::evaluate_arguments-loop-next g l =
       there : All (HasValue l.config) l.values.items;
       empty : l.stops.waits ≡ [];
     }
+
+abbrev pub decreases-stores::update : goal.decreases-stores::update
+decreases-stores::update g l = l.room * 32 + 25
+
+abbrev pub decreases-prefixes::on_target : goal.decreases-prefixes::on_target
+decreases-prefixes::on_target g l = l.room * 32 + 28
+
+abbrev pub decreases-objects::object : goal.decreases-objects::object
+decreases-objects::object g l = l.room * 32 + 30
+
+abbrev pub decreases-objects::run_properties : goal.decreases-objects::run_properties
+decreases-objects::run_properties g l = l.room * 32 + 20
+
+abbrev pub decreases-objects::run_properties-loop-next : goal.decreases-objects::run_properties-loop-next
+decreases-objects::run_properties-loop-next g l = 4294967296 - l.at
+
+abbrev pub invariant-objects::run_properties-loop-next : goal.invariant-objects::run_properties-loop-next
+invariant-objects::run_properties-loop-next g l =
+    let m = g.S.WorldStore.meaning in
+    let old = l.initial.config in
+    let f = l.frame in
+    record {
+      left : Leaves m (line_here m old f (pairs_left old f l.node l.object 0)) (line_here m old f (pairs_left old f l.node l.object l.at)) old l.config;
+      later : Later m old l.config;
+      empty : l.stops.waits ≡ [];
+    }
+
+-- literals of arrays
+
+abbrev pub decreases-arrays::array : goal.decreases-arrays::array
+decreases-arrays::array g l = l.room * 32 + 30
+
+abbrev pub decreases-arrays::run_items : goal.decreases-arrays::run_items
+decreases-arrays::run_items g l = l.room * 32 + 20
+
+abbrev pub decreases-arrays::last_item : goal.decreases-arrays::last_item
+decreases-arrays::last_item g l = l.room * 32 + 10
+
+abbrev pub invariant-arrays::run_items-loop-turn : goal.invariant-arrays::run_items-loop-turn
+invariant-arrays::run_items-loop-turn g l =
+    let m = g.S.WorldStore.meaning in
+    let old = l.initial.config in
+    let f = l.frame in
+    record {
+      left : Leaves m (line_here m old f (items_left old f l.node l.array 0)) (line_here m old f (items_left old f l.node l.array l.from)) old l.config;
+      later : Later m old l.config;
+      empty : l.stops.waits ≡ [];
+    }
+
+-- `new`
+
+abbrev pub decreases-news::new_object : goal.decreases-news::new_object
+decreases-news::new_object g l = l.room * 32 + 30
+
+abbrev pub decreases-news::new_callee : goal.decreases-news::new_callee
+decreases-news::new_callee g l = l.room * 32 + 29
+
+abbrev pub decreases-news::new_function : goal.decreases-news::new_function
+decreases-news::new_function g l = l.room * 32 + 28
+
+abbrev pub decreases-news::new_arguments : goal.decreases-news::new_arguments
+decreases-news::new_arguments g l = l.room * 32 + 27
+
+abbrev pub decreases-news::constructed : goal.decreases-news::constructed
+decreases-news::constructed g l = l.room * 32 + 26
+
+abbrev pub decreases-news::made_on : goal.decreases-news::made_on
+decreases-news::made_on g l = l.room * 32 + 25
+
+abbrev pub decreases-news::called_on : goal.decreases-news::called_on
+decreases-news::called_on g l = l.room * 32 + 24
+
+abbrev pub decreases-news::new_arguments-loop-next : goal.decreases-news::new_arguments-loop-next
+decreases-news::new_arguments-loop-next g l = 4294967296 - l.at
+
+abbrev pub invariant-news::new_arguments-loop-next : goal.invariant-news::new_arguments-loop-next
+invariant-news::new_arguments-loop-next g l =
+    let m = g.S.WorldStore.meaning in
+    let old = l.initial.config in
+    record {
+      left : Leaves m (line_here m old l.frame (news_left m old l.frame l.node l.function 0 [])) (line_here m old l.frame (news_left m old l.frame l.node l.function l.at l.values.items)) old l.config;
+      later : Later m old l.config;
+      there : All (HasValue l.config) l.values.items;
+      empty : l.stops.waits ≡ [];
+    }
+
+abbrev pub decreases-within::within : goal.decreases-within::within
+decreases-within::within g l = l.room * 32 + 20
+
+abbrev pub decreases-within::opened : goal.decreases-within::opened
+decreases-within::opened g l = l.room * 32 + 10
+
+abbrev pub decreases-within::inside : goal.decreases-within::inside
+decreases-within::inside g l = l.room * 32 + 5
+
+abbrev pub decreases-tries::throw_of : goal.decreases-tries::throw_of
+decreases-tries::throw_of g l = l.room * 32 + 20
+
+abbrev pub decreases-tries::attempt : goal.decreases-tries::attempt
+decreases-tries::attempt g l = l.room * 32 + 30
+
+abbrev pub decreases-tries::attempted : goal.decreases-tries::attempted
+decreases-tries::attempted g l = l.room * 32 + 2
+
+abbrev pub decreases-tries::block_ended : goal.decreases-tries::block_ended
+decreases-tries::block_ended g l = l.room * 32 + 28
+
+abbrev pub decreases-tries::caught : goal.decreases-tries::caught
+decreases-tries::caught g l = l.room * 32 + 27
+
+abbrev pub decreases-tries::catch : goal.decreases-tries::catch
+decreases-tries::catch g l = l.room * 32 + 26
+
+abbrev pub decreases-tries::handled : goal.decreases-tries::handled
+decreases-tries::handled g l = l.room * 32 + 25
+
+abbrev pub decreases-tries::in_scope : goal.decreases-tries::in_scope
+decreases-tries::in_scope g l = l.room * 32 + 20
+
+abbrev pub decreases-tries::lastly : goal.decreases-tries::lastly
+decreases-tries::lastly g l = l.room * 32 + 15
+
+abbrev pub decreases-tries::finish_by : goal.decreases-tries::finish_by
+decreases-tries::finish_by g l = l.room * 32 + 10

@@ -1,19 +1,6 @@
-use Rattle.std.proofs.Common.{Some, ap}
-use Rattle.wjs_by_content.specs.Names.{slot, length_name}
 use Rattle.wjs_by_content.specs.Values.{Object}
-use Rattle.wjs_meaning.specs.Deeds.{Do, Write, give}
-use Rattle.wjs_heap_steps.proofs.Having.{value_both}
-use Rattle.wjs_heap_steps.proofs.Making.{number_there, number_near}
-use Rattle.wjs_step_common.proofs.Following.{follows_as}
+use Rattle.wjs_meaning.specs.Deeds.{give}
 use Rattle.wjs_literals.proofs.arrays.array_end.Goals as goal
 
-pub write_known-requires-clause-value : goal.write_known-requires-clause-value
-write_known-requires-clause-value g c =
-    let mid = c.args.config.now in
-    value_both mid c.in_ok-value.value (number_there mid.heap.texts mid.heap.texts mid.heap.arena c.in_ok-value.value c.args.length (c.in_ok-value.ensures mid.heap.texts)) (number_near mid.apart.items mid.heap.texts c.in_ok-value.value c.args.length (c.in_ok-value.ensures mid.heap.texts))
-
 pub returns : goal.returns
-returns g c =
-    let o = c.args.array in
-    let t = c.finish.new.config.heap.texts in
-    follows_as _ _ _ _ _ _ (λ grows. ap (λ v. Do (Write c.args.frame.world (slot o length_name) (Some v)) (λ done. give (Object o))) (c.in_ok-value.ensures t)) (c.in_ok-write_known.ensures.does.by (λ done. give (Object o)) _ _ c.finish.ensures)
+returns g c = c.in_ok-write_length.ensures.does.by (give (Object c.args.array)) c.finish.new.config c.finish.result c.finish.ensures

@@ -1,0 +1,371 @@
+-- What holds of the functions of `stores`.
+use Rattle.std.proofs.Common.{◌≡◌, ◌+◌, ◌-◌, rules, [], ◌∷◌, Option, Some, inl, inr, refl, ap, ◌∙◌, subst, sym, ◌++◌}
+use Rattle.std.specs.Prelude.{Err, IfNone, IfSome}
+use Rattle.wjs_base.specs.declared.values.Value.{Value}
+use Rattle.wjs_by_content.specs.Tables.{value_in}
+use Rattle.wjs_tree.specs.Operators.{compound}
+use Rattle.wjs_tree.specs.declared.operators.BinaryOperator.{BinaryOperator}
+use Rattle.wjs_tree.specs.declared.node.Node.TheVariants as nodes
+use Rattle.wjs_meaning.specs.Deeds.{AtExpr, then_value, AtTarget, then_reference}
+use Rattle.wjs_model.specs.Waiting.{fix_in}
+use Rattle.wjs_meaning.specs.Expressions as line
+use Rattle.wjs_model.specs.declared.frame.Completion.{Completion}
+use Rattle.wjs_model.specs.Contents.{completion_in, reference_in}
+use Rattle.wjs_model.specs.Soundness.{Base, HasCompletion, IsThere, StandsHere, HasReference}
+use Rattle.wjs_model.specs.declared.config.Config.{Config}
+use Rattle.wjs_model.specs.declared.frame.Reference.{Reference}
+use Rattle.wjs_model.specs.declared.frame.Held.TheVariants as holds
+use Rattle.wjs_model.specs.declared.frame.Completion.TheVariants as completions
+use Rattle.wjs_model.specs.declared.frame.Phase.TheVariants as phases
+use Rattle.wjs_model.specs.declared.point.Point.TheVariants as points
+use Rattle.wjs_model.specs.declared.point.ExprPoint.TheVariants as expr
+use Rattle.wjs_frames.specs.Doing.{Does}
+use Rattle.wjs_frames.specs.Parts.{env_in}
+use Rattle.wjs_frames.proofs.Parting.{stands_here, stands_later}
+use Rattle.wjs_frames.specs.Following.{Later}
+use Rattle.wjs_stopping.specs.Ends.{gives_in}
+use Rattle.wjs_stopping.specs.Evaluating.{Evaluates, Leaves, outcome_in}
+use Rattle.wjs_stopping.specs.Waiting.{at_node}
+use Rattle.wjs_direct.specs.Deeds.{goal_here, refers_in}
+use Rattle.wjs_direct.proofs.Forming.{form_goes_on, node_there}
+use Rattle.wjs_direct.proofs.Parts.{broke_does, broke_found, broke_later, did, later_stopped, later_then, line_as, line_form, stop_found, given_does}
+use Rattle.wjs_direct.proofs.Assigning.{broken_as, read_then}
+use Rattle.wjs_direct.proofs.+direct.Goals as goal
+
+-- ---- expressions whose value no further one asks for
+
+pub effect-returns-in-Some-clause-does : goal.stores::effect-returns-in-Some-clause-does
+effect-returns-in-Some-clause-does g t c =
+    let m = g.S.WorldStore.meaning in
+    let old = c.args.config.now in
+    let s = c.args.stops.now in
+    let f = c.args.frame.now in
+    let mid = c.expression_at_once.new.config in
+    let D : Option Completion → Type 0 = λ o. IfSome o (λ e. Does m (goal_here m old f (AtExpr c.args.node.0)) (λ t. completion_in t e) old mid) in
+    did m completion_in (goal_here m old f (AtExpr c.args.node.0)) c.in-Some.end s.waits s.top old mid (subst D c.in-Some.is c.in_ok-done.ensures.does)
+
+pub effect-returns-in-Some-clause-later : goal.stores::effect-returns-in-Some-clause-later
+effect-returns-in-Some-clause-later g t c =
+    c.in_ok-done.ensures.later
+
+pub effect-returns-in-Some-clause-found : goal.stores::effect-returns-in-Some-clause-found
+effect-returns-in-Some-clause-found g t c =
+    let H : Option Completion → Type 0 = λ o. IfSome o (λ e. HasCompletion c.expression_at_once.new.config e) in
+    (subst H c.in-Some.is c.in_ok-done.ensures.found, c.requires.empty)
+
+pub effect-valued-requires : goal.stores::effect-valued-requires
+effect-valued-requires g t c =
+    let m = g.S.WorldStore.meaning in
+    let old = c.args.config.now in
+    let f = c.args.frame.now in
+    let mid = c.expression_at_once.new.config in
+    let l = c.in_ok-done.ensures.later in
+    let base : Base m mid = l.base in
+    let there : IsThere m mid f = l.frames f c.requires.there in
+    let node : StandsHere mid f c.args.node = stands_later m old f mid c.args.node l c.requires.node in
+    search (rules, base, there, node)
+
+pub effect-returns-clause-later : goal.stores::effect-returns-clause-later
+effect-returns-clause-later g t c =
+    later_then g.S.WorldStore.meaning c.args.config.now c.expression_at_once.new.config c.valued.new.config c.valued.result c.in_ok-done.ensures.later c.valued.ensures.later
+
+pub effect-returns-clause-does : goal.stores::effect-returns-clause-does
+effect-returns-clause-does g t c =
+    let same = subst (λ (o : Option Completion). IfNone o (c.expression_at_once.new.config ≡ c.args.config.now)) c.in_default.is c.in_ok-done.ensures.same in
+    let m = g.S.WorldStore.meaning in
+    let s = c.valued.new.stops in
+    subst (λ (x : Config g.row.S.Denot). Evaluates m (goal_here m x c.args.frame.now (AtExpr c.args.node.0)) completion_in c.valued.result s.waits s.top x c.valued.new.config) same c.valued.ensures.does
+
+pub valued-returns-in-Ok-clause-does : goal.stores::valued-returns-in-Ok-clause-does
+valued-returns-in-Ok-clause-does g t c =
+    c.in-Ok.ensures.does
+
+pub valued-returns-in-Err-clause-later : goal.stores::valued-returns-in-Err-clause-later
+valued-returns-in-Err-clause-later g t c =
+    broken_as Value Completion (Later g.S.WorldStore.meaning c.args.config.now c.value.new.config) c.in-Err.end c.in-Err.ensures.later
+
+pub valued-returns-in-Err-clause-does : goal.stores::valued-returns-in-Err-clause-does
+valued-returns-in-Err-clause-does g t c =
+    let m = g.S.WorldStore.meaning in
+    let old = c.args.config.now in
+    let s = c.value.new.stops in
+    broken_as Value Completion (Leaves m (goal_here m old c.args.frame.now (AtExpr c.args.node.0)) (outcome_in m c.value.new.config gives_in (Err c.in-Err.end) s.waits s.top) old c.value.new.config) c.in-Err.end c.in-Err.ensures.does
+
+pub assign-target-requires : goal.stores::assign-target-requires
+assign-target-requires g t c =
+    let m = g.S.WorldStore.meaning in
+    let old = c.args.config.now in
+    let f = c.args.frame.now in
+    let node : StandsHere old f c.args.t = stands_here m old (at_node f c.args.node []) (nodes.Assign c.args.t c.args.sign c.args.right) c.args.t (node_there m old f c.args.node [] c.requires.there c.requires.node tt) c.requires.is (inl refl) in
+    search (rules, node)
+
+pub assign-assign_to-requires : goal.stores::assign-assign_to-requires
+assign-assign_to-requires g t c =
+    let m = g.S.WorldStore.meaning in
+    let old = c.args.config.now in
+    let f = c.args.frame.now in
+    let mid = c.target.new.config in
+    let l = c.in-Ok.ensures.later in
+    let base : Base m mid = l.base in
+    let there : IsThere m mid f = l.frames f c.requires.there in
+    let node : StandsHere mid f c.args.node = stands_later m old f mid c.args.node l c.requires.node in
+    let empty : c.target.new.stops.waits ≡ [] = c.in-Ok.ensures.found.1 in
+    let right : StandsHere mid f c.args.right = stands_later m old f mid c.args.right l
+    (stands_here m old (at_node f c.args.node []) (nodes.Assign c.args.t c.args.sign c.args.right) c.args.right (node_there m old f c.args.node [] c.requires.there c.requires.node tt) c.requires.is (inr (inl refl))) in
+    let reference : HasReference mid c.in-Ok.reference = c.in-Ok.ensures.found.0 in
+    search (rules, base, there, node, empty, right, reference)
+
+pub assign-returns-in-Ok-clause-later : goal.stores::assign-returns-in-Ok-clause-later
+assign-returns-in-Ok-clause-later g t c =
+    later_then g.S.WorldStore.meaning c.args.config.now c.target.new.config c.assign_to.new.config c.assign_to.result c.in-Ok.ensures.later c.assign_to.ensures.later
+
+pub assign-returns-in-Ok-clause-does : goal.stores::assign-returns-in-Ok-clause-does
+assign-returns-in-Ok-clause-does g t c =
+    let s = c.target.new.stops in
+    let k = c.assign_to.new.stops in
+    form_goes_on g.S.WorldStore.meaning refers_in gives_in c.args.config.now c.target.new.config c.assign_to.new.config c.args.frame.now (AtTarget c.args.t.0) (λ t env. then_reference (line.assign_reference (compound c.args.sign) c.args.right.0 env)) c.in-Ok.reference
+    c.assign_to.result s.waits s.top k.waits k.top c.in-Ok.ensures.later c.in-Ok.ensures.does c.assign_to.ensures.does
+
+pub assign-returns-in-Err-clause-later : goal.stores::assign-returns-in-Err-clause-later
+assign-returns-in-Err-clause-later g t c =
+    let m = g.S.WorldStore.meaning in
+    let old = c.args.config.now in
+    let f = c.args.frame.now in
+    let s = c.target.new.stops in
+    let k = c.waits.new.stops in
+    broke_later m Reference Value old c.target.new.config c.waits.new.config f c.args.node [] (points.Expr (expr.AssignTarget c.args.sign c.args.right)) c.in-Err.end s.waits s.top c.waits.result k.waits k.top
+    c.waits.ensures.same c.waits.ensures.waits c.in-Err.ensures.later
+
+pub assign-returns-in-Err-clause-found : goal.stores::assign-returns-in-Err-clause-found
+assign-returns-in-Err-clause-found g t c =
+    let m = g.S.WorldStore.meaning in
+    let old = c.args.config.now in
+    let f = c.args.frame.now in
+    let s = c.target.new.stops in
+    let k = c.waits.new.stops in
+    broke_found m Reference Value old c.target.new.config c.waits.new.config f c.args.node [] (points.Expr (expr.AssignTarget c.args.sign c.args.right)) c.in-Err.end s.waits s.top c.waits.result k.waits k.top
+    c.waits.ensures.same c.waits.ensures.waits c.in-Err.ensures.later c.requires.there c.requires.node tt (stands_here m old (at_node f c.args.node []) (nodes.Assign c.args.t c.args.sign c.args.right) c.args.right (node_there m old f c.args.node [] c.requires.there c.requires.node tt) c.requires.is (inr (inl refl))) c.in-Err.ensures.found
+
+pub assign-returns-in-Err-clause-does : goal.stores::assign-returns-in-Err-clause-does
+assign-returns-in-Err-clause-does g t c =
+    let m = g.S.WorldStore.meaning in
+    let old = c.args.config.now in
+    let f = c.args.frame.now in
+    let s = c.target.new.stops in
+    let k = c.waits.new.stops in
+    broke_does m Reference Value old c.target.new.config c.waits.new.config f c.args.node [] (points.Expr (expr.AssignTarget c.args.sign c.args.right)) c.in-Err.end s.waits s.top c.waits.result k.waits k.top
+    c.waits.ensures.same c.waits.ensures.waits refers_in gives_in (AtTarget c.args.t.0) (λ t env. then_reference (line.assign_reference (compound c.args.sign) c.args.right.0 env)) (λ l t env. refl) (λ t env e. refl) c.in-Err.ensures.later c.in-Err.ensures.does
+
+pub assign_to-returns-in-None-clause-does : goal.stores::assign_to-returns-in-None-clause-does
+assign_to-returns-in-None-clause-does g t c =
+    let m = g.S.WorldStore.meaning in
+    let k = c.assigned.new.stops in
+    line_form m gives_in c.args.config.now c.assigned.new.config c.args.frame.now (λ t env. line.assign_reference (compound c.args.sign) c.args.right.0 env (reference_in t c.args.reference)) c.assigned.result k.waits k.top (AtExpr c.args.right.0)
+    (λ t env. then_value (line.assign_value (reference_in t c.args.reference) env))
+    (λ t more. ap (λ (o : Option BinaryOperator). line.assign_reference o c.args.right.0 (env_in m c.args.config.now t c.args.frame.now) (reference_in t c.args.reference)) (sym c.compound.ensures ∙ c.in-None.is)) c.assigned.ensures.does
+
+pub assign_to-compounded-requires : goal.stores::assign_to-compounded-requires
+assign_to-compounded-requires g t c =
+    let sign : compound c.args.sign ≡ Some c.in-Some.operator = sym c.compound.ensures ∙ c.in-Some.is in
+    search (rules, sign)
+
+pub assign_to-returns-in-Some-clause-does : goal.stores::assign_to-returns-in-Some-clause-does
+assign_to-returns-in-Some-clause-does g t c =
+    let m = g.S.WorldStore.meaning in
+    let k = c.compounded.new.stops in
+    line_as m gives_in c.args.config.now c.compounded.new.config c.args.frame.now (λ t env. line.assign_reference (compound c.args.sign) c.args.right.0 env (reference_in t c.args.reference)) c.compounded.result k.waits k.top
+    (λ t env. line.assign_reference (Some c.in-Some.operator) c.args.right.0 env (reference_in t c.args.reference))
+    (λ t more. ap (λ (o : Option BinaryOperator). line.assign_reference o c.args.right.0 (env_in m c.args.config.now t c.args.frame.now) (reference_in t c.args.reference)) (sym c.compound.ensures ∙ c.in-Some.is)) c.compounded.ensures.does
+
+pub assigned-stored-requires : goal.stores::assigned-stored-requires
+assigned-stored-requires g t c =
+    let m = g.S.WorldStore.meaning in
+    let old = c.args.config.now in
+    let mid = c.value.new.config in
+    let f = c.args.frame.now in
+    let l = c.in-Ok.ensures.later in
+    record {
+      base = l.base;
+      there = l.frames f c.requires.there;
+      empty = c.in-Ok.ensures.found.1;
+      reference = l.references c.args.reference c.requires.reference;
+      value = c.in-Ok.ensures.found.0;
+    }
+
+pub assigned-returns-in-Ok-clause-later : goal.stores::assigned-returns-in-Ok-clause-later
+assigned-returns-in-Ok-clause-later g t c =
+    later_then g.S.WorldStore.meaning c.args.config.now c.value.new.config c.stored.new.config c.stored.result c.in-Ok.ensures.later c.stored.ensures.later
+
+pub assigned-returns-in-Ok-clause-does : goal.stores::assigned-returns-in-Ok-clause-does
+assigned-returns-in-Ok-clause-does g t c =
+    let s = c.value.new.stops in
+    let k = c.stored.new.stops in
+    form_goes_on g.S.WorldStore.meaning gives_in gives_in c.args.config.now c.value.new.config c.stored.new.config c.args.frame.now (AtExpr c.args.right.0) (λ t env. then_value (line.assign_value (reference_in t c.args.reference) env)) c.in-Ok.value
+    c.stored.result s.waits s.top k.waits k.top c.in-Ok.ensures.later c.in-Ok.ensures.does c.stored.ensures.does
+
+pub assigned-returns-in-Err-clause-later : goal.stores::assigned-returns-in-Err-clause-later
+assigned-returns-in-Err-clause-later g t c =
+    let m = g.S.WorldStore.meaning in
+    let old = c.args.config.now in
+    let f = c.args.frame.now in
+    let s = c.value.new.stops in
+    let k = c.waits_holding.new.stops in
+    broke_later m Value Value old c.value.new.config c.waits_holding.new.config f c.args.node (holds.Reference c.args.reference ∷ []) (points.Expr expr.AssignValue) c.in-Err.end s.waits s.top c.waits_holding.result k.waits k.top
+    c.waits_holding.ensures.same c.waits_holding.ensures.waits c.in-Err.ensures.later
+
+pub assigned-returns-in-Err-clause-found : goal.stores::assigned-returns-in-Err-clause-found
+assigned-returns-in-Err-clause-found g t c =
+    let m = g.S.WorldStore.meaning in
+    let old = c.args.config.now in
+    let f = c.args.frame.now in
+    let s = c.value.new.stops in
+    let k = c.waits_holding.new.stops in
+    broke_found m Value Value old c.value.new.config c.waits_holding.new.config f c.args.node (holds.Reference c.args.reference ∷ []) (points.Expr expr.AssignValue) c.in-Err.end s.waits s.top c.waits_holding.result k.waits k.top
+    c.waits_holding.ensures.same c.waits_holding.ensures.waits c.in-Err.ensures.later c.requires.there c.requires.node (c.requires.reference, tt) tt c.in-Err.ensures.found
+
+pub assigned-returns-in-Err-clause-does : goal.stores::assigned-returns-in-Err-clause-does
+assigned-returns-in-Err-clause-does g t c =
+    let m = g.S.WorldStore.meaning in
+    let old = c.args.config.now in
+    let f = c.args.frame.now in
+    let s = c.value.new.stops in
+    let k = c.waits_holding.new.stops in
+    broke_does m Value Value old c.value.new.config c.waits_holding.new.config f c.args.node (holds.Reference c.args.reference ∷ []) (points.Expr expr.AssignValue) c.in-Err.end s.waits s.top c.waits_holding.result k.waits k.top
+    c.waits_holding.ensures.same c.waits_holding.ensures.waits gives_in gives_in (AtExpr c.args.right.0) (λ t env. then_value (line.assign_value (reference_in t c.args.reference) env)) (λ l t env. refl) (λ t env e. refl) c.in-Err.ensures.later c.in-Err.ensures.does
+
+pub compound_right-compound_stored-requires : goal.stores::compound_right-compound_stored-requires
+compound_right-compound_stored-requires g t c =
+    let m = g.S.WorldStore.meaning in
+    let old = c.args.config.now in
+    let mid = c.value.new.config in
+    let f = c.args.frame.now in
+    let l = c.in-Ok.ensures.later in
+    record {
+      base = l.base;
+      there = l.frames f c.requires.there;
+      node = stands_later m old f mid c.args.node l c.requires.node;
+      old = l.values c.args.old c.requires.old;
+      empty = c.in-Ok.ensures.found.1;
+      reference = l.references c.args.reference c.requires.reference;
+      value = c.in-Ok.ensures.found.0;
+    }
+
+pub compound_right-returns-in-Ok-clause-later : goal.stores::compound_right-returns-in-Ok-clause-later
+compound_right-returns-in-Ok-clause-later g t c =
+    later_then g.S.WorldStore.meaning c.args.config.now c.value.new.config c.compound_stored.new.config c.compound_stored.result c.in-Ok.ensures.later c.compound_stored.ensures.later
+
+pub compound_right-returns-in-Ok-clause-does : goal.stores::compound_right-returns-in-Ok-clause-does
+compound_right-returns-in-Ok-clause-does g t c =
+    let s = c.value.new.stops in
+    let k = c.compound_stored.new.stops in
+    form_goes_on g.S.WorldStore.meaning gives_in gives_in c.args.config.now c.value.new.config c.compound_stored.new.config c.args.frame.now (AtExpr c.args.right.0) (λ t env. then_value (line.compound_value c.args.operator (value_in t c.args.old) (reference_in t c.args.reference) env)) c.in-Ok.value
+    c.compound_stored.result s.waits s.top k.waits k.top c.in-Ok.ensures.later c.in-Ok.ensures.does c.compound_stored.ensures.does
+
+pub compound_right-returns-in-Err-clause-later : goal.stores::compound_right-returns-in-Err-clause-later
+compound_right-returns-in-Err-clause-later g t c =
+    let m = g.S.WorldStore.meaning in
+    let old = c.args.config.now in
+    let f = c.args.frame.now in
+    let s = c.value.new.stops in
+    let k = c.wait_compound.new.stops in
+    broke_later m Value Value old c.value.new.config c.wait_compound.new.config f c.args.node (holds.Value c.args.old ∷ holds.Reference c.args.reference ∷ []) (points.Expr (expr.CompoundValue c.args.operator)) c.in-Err.end s.waits s.top c.wait_compound.result k.waits k.top
+    c.wait_compound.ensures.same c.wait_compound.ensures.waits c.in-Err.ensures.later
+
+pub compound_right-returns-in-Err-clause-found : goal.stores::compound_right-returns-in-Err-clause-found
+compound_right-returns-in-Err-clause-found g t c =
+    let m = g.S.WorldStore.meaning in
+    let old = c.args.config.now in
+    let f = c.args.frame.now in
+    let s = c.value.new.stops in
+    let k = c.wait_compound.new.stops in
+    broke_found m Value Value old c.value.new.config c.wait_compound.new.config f c.args.node (holds.Value c.args.old ∷ holds.Reference c.args.reference ∷ []) (points.Expr (expr.CompoundValue c.args.operator)) c.in-Err.end s.waits s.top c.wait_compound.result k.waits k.top
+    c.wait_compound.ensures.same c.wait_compound.ensures.waits c.in-Err.ensures.later c.requires.there c.requires.node (c.requires.old, (c.requires.reference, tt)) tt c.in-Err.ensures.found
+
+pub compound_right-returns-in-Err-clause-does : goal.stores::compound_right-returns-in-Err-clause-does
+compound_right-returns-in-Err-clause-does g t c =
+    let m = g.S.WorldStore.meaning in
+    let old = c.args.config.now in
+    let f = c.args.frame.now in
+    let s = c.value.new.stops in
+    let k = c.wait_compound.new.stops in
+    broke_does m Value Value old c.value.new.config c.wait_compound.new.config f c.args.node (holds.Value c.args.old ∷ holds.Reference c.args.reference ∷ []) (points.Expr (expr.CompoundValue c.args.operator)) c.in-Err.end s.waits s.top c.wait_compound.result k.waits k.top
+    c.wait_compound.ensures.same c.wait_compound.ensures.waits gives_in gives_in (AtExpr c.args.right.0) (λ t env. then_value (line.compound_value c.args.operator (value_in t c.args.old) (reference_in t c.args.reference) env)) (λ l t env. refl) (λ t env e. refl) c.in-Err.ensures.later c.in-Err.ensures.does
+
+pub compounded-returns-in-Some-clause-does : goal.stores::compounded-returns-in-Some-clause-does
+compounded-returns-in-Some-clause-does g t c =
+    let m = g.S.WorldStore.meaning in
+    let k = c.compound_right.new.stops in
+    read_then m gives_in c.args.config.now c.compound_right.new.config c.args.frame.now c.args.reference (λ t env. line.compound_old c.args.operator c.args.right.0 (reference_in t c.args.reference) env) c.in-Some.old c.compound_right.result k.waits k.top c.in-Some.ensures.peeks
+    (line_form m gives_in c.args.config.now c.compound_right.new.config c.args.frame.now (λ t env. line.compound_old c.args.operator c.args.right.0 (reference_in t c.args.reference) env (value_in t c.in-Some.old)) c.compound_right.result k.waits k.top (AtExpr c.args.right.0)
+    (λ t env. then_value (line.compound_value c.args.operator (value_in t c.in-Some.old) (reference_in t c.args.reference) env)) (λ t more. refl) c.compound_right.ensures.does)
+
+pub compounded-returns-in-None-clause-later : goal.stores::compounded-returns-in-None-clause-later
+compounded-returns-in-None-clause-later g t c =
+    later_stopped g.S.WorldStore.meaning {A = Value} c.args.config.now c.stop.new.config (Err c.stop.result) c.requires.base c.stop.ensures.same
+
+pub compounded-returns-in-None-clause-found : goal.stores::compounded-returns-in-None-clause-found
+compounded-returns-in-None-clause-found g t c =
+    let s = c.stop.new.stops in
+    stop_found g.S.WorldStore.meaning c.args.config.now c.stop.new.config c.args.frame.now c.args.node [] (phases.Given (points.Expr (expr.AssignTarget c.args.sign c.args.right)) (completions.Refers c.args.reference)) c.stop.result s.waits s.top c.stop.ensures.same
+    c.requires.there c.requires.node tt (c.requires.right, c.requires.reference) c.stop.ensures.stops
+
+pub compounded-returns-in-None-clause-does : goal.stores::compounded-returns-in-None-clause-does
+compounded-returns-in-None-clause-does g t c =
+    let m = g.S.WorldStore.meaning in
+    let s = c.stop.new.stops in
+    line_as m gives_in c.args.config.now c.stop.new.config c.args.frame.now (λ t env. line.assign_reference (Some c.args.operator) c.args.right.0 env (reference_in t c.args.reference)) (Err c.stop.result) s.waits s.top
+    (λ t env. line.assign_reference (compound c.args.sign) c.args.right.0 env (reference_in t c.args.reference))
+    (λ t more. ap (λ (o : Option BinaryOperator). line.assign_reference o c.args.right.0 (env_in m c.args.config.now t c.args.frame.now) (reference_in t c.args.reference)) (sym c.requires.sign))
+    (given_does m gives_in c.args.config.now c.stop.new.config c.args.frame.now c.stop.result s.waits s.top c.stop.ensures.same c.args.node [] (points.Expr (expr.AssignTarget c.args.sign c.args.right)) (completions.Refers c.args.reference) c.stop.ensures.stops)
+
+-- ---- `++` and `--`
+
+pub update-updated-requires : goal.stores::update-updated-requires
+update-updated-requires g t c =
+    let m = g.S.WorldStore.meaning in
+    let old = c.args.config.now in
+    let f = c.args.frame.now in
+    let mid = c.target.new.config in
+    let l = c.in-Ok.ensures.later in
+    record {
+      base = l.base;
+      there = l.frames f c.requires.there;
+      node = stands_later m old f mid c.args.node l c.requires.node;
+      empty = c.in-Ok.ensures.found.1;
+      reference = c.in-Ok.ensures.found.0;
+    }
+
+pub update-returns-in-Ok-clause-later : goal.stores::update-returns-in-Ok-clause-later
+update-returns-in-Ok-clause-later g t c =
+    later_then g.S.WorldStore.meaning c.args.config.now c.target.new.config c.updated.new.config c.updated.result c.in-Ok.ensures.later c.updated.ensures.later
+
+pub update-returns-in-Ok-clause-does : goal.stores::update-returns-in-Ok-clause-does
+update-returns-in-Ok-clause-does g t c =
+    let s = c.target.new.stops in
+    let k = c.updated.new.stops in
+    form_goes_on g.S.WorldStore.meaning refers_in gives_in c.args.config.now c.target.new.config c.updated.new.config c.args.frame.now (AtTarget c.args.t.0) (λ t env. then_reference (line.update_reference (fix_in c.args.fix) c.args.operator env)) c.in-Ok.reference
+    c.updated.result s.waits s.top k.waits k.top c.in-Ok.ensures.later c.in-Ok.ensures.does c.updated.ensures.does
+
+pub update-returns-in-Err-clause-later : goal.stores::update-returns-in-Err-clause-later
+update-returns-in-Err-clause-later g t c =
+    let m = g.S.WorldStore.meaning in
+    let s = c.target.new.stops in
+    let k = c.waits.new.stops in
+    broke_later m Reference Value c.args.config.now c.target.new.config c.waits.new.config c.args.frame.now c.args.node [] (points.Expr (expr.UpdateTarget c.args.fix c.args.operator)) c.in-Err.end s.waits s.top c.waits.result k.waits k.top
+    c.waits.ensures.same c.waits.ensures.waits c.in-Err.ensures.later
+
+pub update-returns-in-Err-clause-found : goal.stores::update-returns-in-Err-clause-found
+update-returns-in-Err-clause-found g t c =
+    let m = g.S.WorldStore.meaning in
+    let s = c.target.new.stops in
+    let k = c.waits.new.stops in
+    broke_found m Reference Value c.args.config.now c.target.new.config c.waits.new.config c.args.frame.now c.args.node [] (points.Expr (expr.UpdateTarget c.args.fix c.args.operator)) c.in-Err.end s.waits s.top c.waits.result k.waits k.top
+    c.waits.ensures.same c.waits.ensures.waits c.in-Err.ensures.later c.requires.there c.requires.node tt tt c.in-Err.ensures.found
+
+pub update-returns-in-Err-clause-does : goal.stores::update-returns-in-Err-clause-does
+update-returns-in-Err-clause-does g t c =
+    let m = g.S.WorldStore.meaning in
+    let s = c.target.new.stops in
+    let k = c.waits.new.stops in
+    broke_does m Reference Value c.args.config.now c.target.new.config c.waits.new.config c.args.frame.now c.args.node [] (points.Expr (expr.UpdateTarget c.args.fix c.args.operator)) c.in-Err.end s.waits s.top c.waits.result k.waits k.top
+    c.waits.ensures.same c.waits.ensures.waits refers_in gives_in (AtTarget c.args.t.0) (λ t env. then_reference (line.update_reference (fix_in c.args.fix) c.args.operator env)) (λ l t env. refl) (λ t env e. refl) c.in-Err.ensures.later c.in-Err.ensures.does
