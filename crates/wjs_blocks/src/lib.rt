@@ -9,6 +9,7 @@ mod switches;
 mod tries;
 mod within;
 
+pub use clauses::{Case, case_from, clauses_at, default_of, statement_at, statements_before};
 pub use simple::{expr_value, if_test, return_value, throw_value};
 pub use switches::{case_value, clause_statement, switch_value};
 pub use tries::{try_block, try_finally, try_handler};

@@ -12,24 +12,21 @@ ghost use Rattle.wjs_frames.specs.Parts.{node_now};
 ghost use Rattle.wjs_frames.specs.Handling.{Runs, GoesOn};
 ghost use Rattle.wjs_step_common.specs.Lists.{clauses_in};
 
-use crate::clauses::{case_from, default_of, statement_at, statements_before};
+use crate::clauses::{case_from, clauses_at, default_of, statement_at, statements_before};
 use wjs_base::{OutOfMemory, Value};
 use wjs_effects::enter_at_once;
-use wjs_frames::{Part, finish, hold, node_of};
+use wjs_frames::{Part, finish, hold};
 use wjs_model::{Completion, Config, Frame, Held, Point, StmtPoint};
 use wjs_quick::enter_quickly;
 use wjs_step_common::{held_value, number_after, number_of, strictly_equal};
 use wjs_store::WorldStore;
-use wjs_tree::{Clause, Node};
+use wjs_tree::Clause;
 
 /// The clauses of the `switch` that the frame runs; none where it runs none.
 fn clauses_of<'a, S: WorldStore>(config: &'a Config<S>, frame: &Frame) -> &'a [Clause]
     ensures { result.now ≡ clauses_in (node_now S.meaning config.now frame.now) }
 {
-    match node_of(config, frame) {
-        Some(Node::Switch(_, clauses)) => clauses.as_slice(),
-        _ => &[],
-    }
+    clauses_at(config, frame, frame.node())
 }
 
 /// After the value of a `switch`: its cases come.

@@ -1,16 +1,15 @@
--- Assignments: a value that is read, stored, or the result of an operation.
+-- Assignments: a value that is stored, or the result of an operation.
 use Rattle.std.proofs.Common.{◌≡◌, List, [], inl, inr, refl, subst, sym}
 use Rattle.std.specs.Prelude.{Option, Result, Ok, Err, MatchResult}
 use Rattle.wjs_base.specs.Text.{Table}
 use Rattle.wjs_base.specs.declared.values.Value.{Value as Numbered}
 use Rattle.wjs_by_content.specs.Tables.{value_in}
-use Rattle.wjs_by_content.specs.Values.{Value}
 use Rattle.wjs_store.specs.Meaning.{Meaning}
 use Rattle.wjs_tree.specs.declared.operators.BinaryOperator.{BinaryOperator}
-use Rattle.wjs_meaning.specs.Deeds.{Env, Completion, Act, Ret, Gives, Sub, then_value}
+use Rattle.wjs_meaning.specs.Deeds.{Completion, Act, Ret, Gives, Sub, then_value}
 use Rattle.wjs_meaning.specs.Expressions.{assign_value, compound_value}
 use Rattle.wjs_meaning.specs.Operators.{operate}
-use Rattle.wjs_meaning.specs.References.{value_of, store}
+use Rattle.wjs_meaning.specs.References.{store}
 use Rattle.wjs_meaning.specs.Statements.{return_value}
 use Rattle.wjs_model.specs.declared.config.Config.{Config}
 use Rattle.wjs_model.specs.declared.frame.Activation.{Activation as Frame}
@@ -20,15 +19,13 @@ use Rattle.wjs_model.specs.declared.frame.Completion.{Completion as Said}
 use Rattle.wjs_model.specs.declared.frame.Completion.TheVariants as completions
 use Rattle.wjs_model.specs.Contents.{completion_in, reference_in}
 use Rattle.wjs_model.specs.Soundness.{HasCompletion, HasValue}
-use Rattle.wjs_model.specs.Operands.{evaluated}
 use Rattle.wjs_frames.specs.Doing.{Does}
 use Rattle.wjs_frames.specs.Following.{Later}
 use Rattle.wjs_frames.specs.Parts.{env_in}
 use Rattle.wjs_frames.proofs.Shorter.{follows_shorter}
-use Rattle.wjs_heap_steps.specs.Peeking.{Peeks}
 use Rattle.wjs_heap_steps.specs.Reads.{GivesOrThrows}
 use Rattle.wjs_effects.specs.Effects.{stored, EndsOrThrows}
-use Rattle.wjs_effects.proofs.Storing.{value_goes, store_shortens}
+use Rattle.wjs_effects.proofs.Storing.{store_shortens}
 use Rattle.wjs_stopping.specs.declared.ends.Broken.{Broken}
 use Rattle.wjs_stopping.specs.declared.ends.Broken.TheVariants as ends
 use Rattle.wjs_stopping.specs.Ends.{gives_in}
@@ -44,22 +41,6 @@ pub broken_as : (A B T : Type 0) (end : Broken) → InMemory {A = A} (Err end) T
 broken_as A B T (ends.Throws e) h = h
 broken_as A B T ends.Stopped h = h
 broken_as A B T ends.OutOfMemory h = h
-
-module _ {S : Type 0} (meaning : S → Meaning) {A : Type 0} (said : Table → A → Completion) (c new : Config S) (f : Frame) where
-  -- the value of a reference, which a look finds, and then more
-  pub read_then : (q : NumberedReference) (more : Table → Env → Value → Act) (v : Numbered) (done : Result A Broken) (waits : List Frame) (top : Option (Frame × Phase))
-      → Peeks meaning (λ t. evaluated (reference_in t q) (env_in meaning c t f)) (λ t. Gives (value_in t v)) c
-      → Evaluates meaning (line_here meaning c f (λ t env. more t env (value_in t v))) said done waits top c new
-      → Evaluates meaning (line_here meaning c f (λ t env. value_of (reference_in t q) env (more t env))) said done waits top c new
-  read_then q more v done waits top peeks d =
-      in_memory done (λ d'. record {
-        by = λ go later r h.
-            let t = later.heap.texts in
-            let env = env_in meaning c t f in
-            let k : Value → Act = more t env in
-            follows_shorter meaning (Sub (value_of (reference_in t q) env k) go) (evaluated (reference_in t q) env (λ e. Sub (then_value k e) go)) c later r (value_goes env k go (reference_in t q))
-            ((peeks c.left).by (λ e. Sub (then_value k e) go) later r (d'.by go later r h));
-      }) d
 
 module _ {S : Type 0} (meaning : S → Meaning) {A : Type 0} (said : Table → A → Completion) (old mid new : Config S) (f : Frame) where
   -- the result of an operation, and then its store

@@ -17,29 +17,25 @@ use Rattle.wjs_by_content.specs.Objects.{Arena, object_at, has_code}
 use Rattle.wjs_by_content.specs.Tables.{value_in}
 use Rattle.wjs_by_content.specs.Values.{Value, Undefined, Object}
 use Rattle.wjs_meaning.specs.Calls.{this_or_global, call, call_code, call_found}
-use Rattle.wjs_meaning.specs.Deeds.{St, Env, Goal, AtExpr, AtTarget, AtBody, Completion, Gives, Act, Ret, Tick, Eval, Sub, Do, Look, interp, then_do, then_value, then_reference, tree_here}
-use Rattle.wjs_meaning.specs.Expressions.{expr_of, base_of, values_from, call_values, call_callee, call_reference}
+use Rattle.wjs_meaning.specs.Deeds.{St, Env, Goal, AtExpr, AtTarget, AtBody, Completion, Act, Ret, Tick, Eval, Sub, Do, Look, interp, then_do, then_value, then_reference, tree_here}
+use Rattle.wjs_meaning.specs.Expressions.{expr_of, values_from, call_values, call_callee, call_reference}
 use Rattle.wjs_meaning.specs.Functions.{body_of}
 use Rattle.wjs_meaning.specs.NewObjects.{to_object}
 use Rattle.wjs_meaning.specs.Programs.{eval, entry}
 use Rattle.wjs_meaning.specs.Reading.{node_in, numbers}
-use Rattle.wjs_meaning.specs.References.{value_of}
 use Rattle.wjs_meaning.specs.Trees.{is_target}
 use Rattle.wjs_meaning.proofs.Steps.{entries_lem}
 use Rattle.wjs_model.specs.declared.config.Config.{Config}
 use Rattle.wjs_model.specs.declared.frame.Activation.{Activation as Frame}
 use Rattle.wjs_model.specs.declared.frame.Phase.{Phase}
 use Rattle.wjs_model.specs.declared.frame.Phase.TheVariants as phases
-use Rattle.wjs_model.specs.declared.frame.Reference.{Reference as NumberedReference}
 use Rattle.wjs_model.specs.declared.loaded.LoadedProgram.{LoadedProgram as Program}
 use Rattle.wjs_model.specs.declared.point.ExprPoint.TheVariants as exprs
 use Rattle.wjs_model.specs.declared.point.Point.TheVariants as points
 use Rattle.wjs_model.specs.declared.point.Start.{Start}
 use Rattle.wjs_model.specs.declared.point.Start.TheVariants as starts
 use Rattle.wjs_model.specs.Begun.{with_phase}
-use Rattle.wjs_model.specs.Contents.{reference_in}
 use Rattle.wjs_model.specs.Lists.{arguments_of}
-use Rattle.wjs_model.specs.Operands.{evaluated}
 use Rattle.wjs_model.specs.Outside.{Sees}
 use Rattle.wjs_model.specs.Rest.{call_if, turns_act}
 use Rattle.wjs_model.specs.Soundness.{HasObject, HasValue, IsThere, StandsHere}
@@ -53,10 +49,8 @@ use Rattle.wjs_frames.proofs.Parting.{among_around, stands_here}
 use Rattle.wjs_frames.proofs.Paying.{step_paid}
 use Rattle.wjs_frames.proofs.Places.{node_same}
 use Rattle.wjs_frames.proofs.Shorter.{follows_look, follows_shorter, shorten_deed}
-use Rattle.wjs_heap_steps.specs.Peeking.{Peeks}
 use Rattle.wjs_quick.proofs.Coming.{shorten_goal, shorten_last}
 use Rattle.wjs_effects.specs.Sequences.{NextIs}
-use Rattle.wjs_effects.proofs.Storing.{value_goes}
 use Rattle.wjs_stopping.specs.declared.ends.Broken.{Broken}
 use Rattle.wjs_stopping.specs.Ends.{gives_in}
 use Rattle.wjs_stopping.specs.Waiting.{at_node, StopsAt, WaitsAt}
@@ -223,21 +217,25 @@ module _ {S : Type 0} (meaning : S → Meaning) where
         let env = env_in meaning c t f in
         subst (λ (a : Act). Shortens (Sub a go) (Eval (AtTarget callee.0) env (λ e. Sub (line t env e) go))) (sym (call_entry t (target t))) (shorten_goal (AtTarget callee.0) env (line t env) go)) d
 
-  -- its value, which a look finds
-  pub reference_read : {A : Type 0} (said : Table → A → Completion) (c new : Config S) (f : Frame) (q : NumberedReference) (args : Table → List ℕ) (callee : ObjId) (this : Numbered) (done : Result A Broken) (waits : List Frame) (top : Option (Frame × Phase))
-      → Peeks meaning (λ t. evaluated (reference_in t q) (env_in meaning c t f)) (λ t. Gives (Object callee)) c → ((t : Table) → value_in t this ≡ base_of (reference_in t q))
-      → Evaluates meaning (line_here meaning c f (λ t env. call_callee (args t) (value_in t this) env (Object callee))) said done waits top c new
-      → Evaluates meaning (line_here meaning c f (λ t env. call_reference (args t) env (reference_in t q))) said done waits top c new
-  reference_read said c new f q args callee this done waits top peeks is d =
-      in_memory done (λ d'. record {
-        by = λ go later r h.
-            let t = later.heap.texts in
-            let env = env_in meaning c t f in
-            let k : Value → Act = call_callee (args t) (base_of (reference_in t q)) env in
-            follows_shorter meaning (Sub (value_of (reference_in t q) env k) go) (evaluated (reference_in t q) env (λ e. Sub (then_value k e) go)) c later r (value_goes env k go (reference_in t q))
-            ((peeks c.left).by (λ e. Sub (then_value k e) go) later r
-            (subst (λ (v : Value). OnOk r (Follows meaning (Sub (call_callee (args t) v env (Object callee)) go) c later)) (is t) (d'.by go later r h)));
-      }) d
+    -- a call whose callee is none
+    value_entry : (t : Table) → is_target (tree_here (env_in meaning c t f)) callee.0 ≡ false
+        → entry (AtExpr node.0) (env_in meaning c t f) ≡ Eval (AtExpr callee.0) (env_in meaning c t f) (then_value (call_callee (arguments_of (node_in t (node_among c.units.items f.tree node))) Undefined (env_in meaning c t f)))
+    value_entry t target =
+        let env = env_in meaning c t f in
+        let next : List ℕ → Completion → Act = λ l. then_value (call_callee l Undefined env) in
+        ap (λ n. expr_of node.0 n env) (node_same t c.units.items f.tree node ∙ ap (node_in t) is)
+        ∙ ap (λ b. elim b [ true ↦ Eval (AtTarget callee.0) env (then_reference (call_reference (numbers args) env)) | false ↦ Eval (AtExpr callee.0) env (next (numbers args)) ]) target
+        ∙ sym (ap (λ n. Eval (AtExpr callee.0) env (next (arguments_of (node_in t n)))) is)
+
+    pub value_entered : {A : Type 0} (said : Table → A → Completion) (done : Result A Broken) (waits : List Frame) (top : Option (Frame × Phase)) (new : Config S) → ((t : Table) → is_target (tree_here (env_in meaning c t f)) callee.0 ≡ false)
+        → Evaluates meaning (form_here meaning c f (AtExpr callee.0) (λ t env. then_value (call_callee (arguments_of (node_in t (node_among c.units.items f.tree node))) Undefined env))) said done waits top c new
+        → Evaluates meaning (entry_here meaning c f (AtExpr node.0)) said done waits top c new
+    value_entered said done waits top new target d =
+        let line : Table → Env → Completion → Act = λ t env. then_value (call_callee (arguments_of (node_in t (node_among c.units.items f.tree node))) Undefined env) in
+        shortened meaning said (entry_here meaning c f (AtExpr node.0)) (form_here meaning c f (AtExpr callee.0) line) done waits top c new
+        (λ t more go.
+        let env = env_in meaning c t f in
+        subst (λ (a : Act). Shortens (Sub a go) (Eval (AtExpr callee.0) env (λ e. Sub (line t env e) go))) (sym (value_entry t (target t))) (shorten_goal (AtExpr callee.0) env (line t env) go)) d
 
   -- a function that a script made, whose `this` is an object
   pub script_entered : {A : Type 0} (said : Table → A → Completion) (c new : Config S) (f : Frame) (callee object : ObjId) (this : Numbered) (vs : List Numbered) (tree : ℕ) (body : NodeId) (done : Result A Broken) (waits : List Frame) (top : Option (Frame × Phase))
@@ -263,6 +261,11 @@ module _ {S : Type 0} (meaning : S → Meaning) where
   pub callee_waits : (old mid : Config S) (f : Frame) (node : NodeId) → Later meaning old mid → (t : Table) (env : Env)
       → then_at meaning mid (at_node f node []) (points.Expr exprs.CalleeTarget) t env ≡ then_reference (call_reference (arguments_of (node_in t (node_among old.units.items f.tree node))) env)
   callee_waits old mid f node l t env = ap (λ (us : Vec Program Global). then_reference (call_reference (arguments_of (node_in t (node_among us.items f.tree node))) env)) l.units
+
+  -- where another callee's value is asked for
+  pub callee_valued : (old mid : Config S) (f : Frame) (node : NodeId) → Later meaning old mid → (t : Table) (env : Env)
+      → then_at meaning mid (at_node f node []) (points.Expr exprs.CalleeValue) t env ≡ then_value (call_callee (arguments_of (node_in t (node_among old.units.items f.tree node))) Undefined env)
+  callee_valued old mid f node l t env = ap (λ (us : Vec Program Global). then_value (call_callee (arguments_of (node_in t (node_among us.items f.tree node))) Undefined env)) l.units
 
   -- ---- from one argument to the next
 

@@ -1,17 +1,15 @@
 -- Function expressions: the deeds that make a function, within nested deeds.
-use Rattle.std.proofs.Common.{◌≡◌, ℕ, List, Option, None, Some, sym, subst}
+use Rattle.std.proofs.Common.{ℕ, List, Option, None, Some, sym, subst}
 use Rattle.std.specs.Prelude.{Ok, OnOk}
 use Rattle.wjs_base.specs.declared.ids.NodeId.{NodeId}
 use Rattle.wjs_base.specs.declared.ids.ObjId.{ObjId}
 use Rattle.wjs_base.specs.declared.ids.TextId.{TextId}
 use Rattle.wjs_base.specs.declared.values.Value.TheVariants as values
-use Rattle.wjs_base.specs.Text.{Table}
 use Rattle.wjs_store.specs.Meaning.{Meaning}
 use Rattle.wjs_tree.specs.declared.node.Node.TheVariants as nodes
 use Rattle.wjs_by_content.specs.Values.{Text, Object}
 use Rattle.wjs_meaning.specs.Deeds.{Env, AtExpr, Completion, Gives, Act, Sub, give}
 use Rattle.wjs_meaning.specs.Functions.{make_function, make_function_in}
-use Rattle.wjs_meaning.specs.Programs.{entry}
 use Rattle.wjs_meaning.specs.Reading.{label_in}
 use Rattle.wjs_model.specs.declared.config.Config.{Config}
 use Rattle.wjs_model.specs.declared.frame.Activation.{Activation as Frame}

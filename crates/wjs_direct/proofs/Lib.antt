@@ -18,4 +18,9 @@ pub mod Constructing
 pub mod InWorlds
 pub mod NameReading
 pub mod MemberReading
+pub mod ReferenceReading
+pub mod Updating
 pub mod Trying
+pub mod Switching
+pub mod Labelling
+pub mod DoLoops

@@ -11,7 +11,7 @@ use Rattle.wjs_tree.specs.declared.node.Node.{Node}
 use Rattle.wjs_tree.specs.declared.node.Node.TheVariants as nodes
 use Rattle.wjs_tree.specs.declared.node.ForInit.{ForInit}
 use Rattle.wjs_meaning.specs.Deeds.{St, Env, Goal, Again, AtStmt, Completion, Normal, Throws, Act, Ret, Tick, Eval, Sub, Do, then_value, Outcome, Ends, Spent, interp, then_do, answer_of, state_after}
-use Rattle.wjs_meaning.specs.Loops.{after_body, for_started, loop_body, loop_test}
+use Rattle.wjs_meaning.specs.Loops.{for_started, loop_body, loop_test}
 use Rattle.wjs_meaning.specs.Programs.{eval, entry}
 use Rattle.wjs_meaning.specs.Reading.{node_in, number}
 use Rattle.wjs_meaning.specs.Statements.{again_of, iteration_from}
@@ -47,7 +47,7 @@ use Rattle.wjs_stopping.specs.Waiting.{at_node, waiting_at, WaitsAt}
 use Rattle.wjs_stopping.specs.Evaluating.{Evaluates, InMemory, Leaves, broken_in, rest_in}
 use Rattle.wjs_stopping.proofs.Evaluating.{in_memory, leaves_all}
 use Rattle.wjs_direct.specs.Deeds.{entry_here, form_here, goal_here, line_here}
-use Rattle.wjs_direct.specs.Rounds.{GoesRound, HasRound, IsLoop, after_in, round_left, updated_in}
+use Rattle.wjs_direct.specs.Rounds.{GoesRound, HasRound, IsLoop, after_in, round_left, next_in}
 use Rattle.wjs_direct.specs.declared.loops.After.{After}
 
 -- ---- nested deeds, in fewer turns
@@ -214,7 +214,7 @@ module _ {S : Type 0} (meaning : S → Meaning) where
       subst (λ (x : Act). Shortens (Sub x go) (Eval (Again node.0) env go)) (sym (is t more)) (shorten_last (Again node.0) env go))
 
   -- after the update
-  pub round_updated : (c : Config S) (f : Frame) (node : NodeId) (act : Table → Env → Act) (ended : Option Said) → ((t : Table) (env : Env) → act t env ≡ updated_in t node.0 env ended)
+  pub round_updated : (c : Config S) (f : Frame) (node : NodeId) (act : Table → Env → Act) (ended : Option Said) → ((t : Table) (env : Env) → act t env ≡ next_in t node.0 env ended)
       → Leaves meaning (line_here meaning c f act) (round_left meaning c f node ended) c c
   round_updated c f node act None is = round_due c f node act (λ t more. is t (env_in meaning c t f))
   round_updated c f node act (Some e) is = round_ended c f node act e (λ t more. is t (env_in meaning c t f))
@@ -271,9 +271,8 @@ pub test_fails : (here : ℕ) (u : Option ℕ) (s : ℕ) (env : Env) (v : Value)
 test_fails here u s env v e = ap (λ (b : Bool). elim b [ true ↦ Eval (AtStmt s) env (loop_body here u env) | false ↦ Ret Normal ]) e
 
 -- what follows the body by how it ended
-pub after_is : (t : Table) (here : ℕ) (env : Env) (again : Act) (e : Said) (a b : After) → ((t : Table) (here : ℕ) (env : Env) (again : Act) → after_body here env again (completion_in t e) ≡ after_in t here env again e a) → a ≡ b
-    → after_body here env again (completion_in t e) ≡ after_in t here env again e b
-after_is t here env again e a b is same = is t here env again ∙ ap (λ (x : After). after_in t here env again e x) same
+pub after_is : (t : Table) (again : Act) (e : Said) (act : Act) (a b : After) → act ≡ after_in t again e a → a ≡ b → act ≡ after_in t again e b
+after_is t again e act a b is same = is ∙ ap (λ (x : After). after_in t again e x) same
 
 -- what an update ended with is there
 pub round_there : {S : Type 0} (c : Config S) (ended : Option Said) (e : Said) → IfSome ended (λ x. x ≡ e) → HasCompletion c e → HasRound c ended

@@ -1,5 +1,5 @@
 -- Calls of native functions, and the frames that are left where one is run by a frame.
-use Rattle.std.proofs.Common.{◌≡◌, ℕ, suc, ◌≤◌, false, List, [], ◌∷◌, Option, refl, sym, ap, ◌∙◌, subst, arith}
+use Rattle.std.proofs.Common.{◌≡◌, ℕ, suc, false, List, [], Option, refl, sym, ap, ◌∙◌, subst}
 use Rattle.std.specs.Prelude.{All, Result, Err, OnOk, map as each}
 use Rattle.wjs_base.specs.declared.ids.NodeId.{NodeId}
 use Rattle.wjs_base.specs.declared.ids.ObjId.{ObjId}
@@ -13,7 +13,7 @@ use Rattle.wjs_store.specs.Meaning.{Meaning}
 use Rattle.wjs_by_content.specs.Objects.{Arena, object_at}
 use Rattle.wjs_by_content.specs.Tables.{value_in}
 use Rattle.wjs_by_content.specs.Values.{Value, Object}
-use Rattle.wjs_meaning.specs.Calls.{this_or_global, call, call_code}
+use Rattle.wjs_meaning.specs.Calls.{this_or_global, call_code}
 use Rattle.wjs_meaning.specs.Deeds.{Env, AtNative, Completion, Act, Ret, Tick, Eval, Sub, Do, Look}
 use Rattle.wjs_meaning.specs.Expressions.{call_values}
 use Rattle.wjs_meaning.specs.Natives.{native_of}

@@ -1,8 +1,7 @@
 -- What the clauses of a form ask for, by the way that it takes: a part that broke off, a node that stops, a step that is taken, a line.
 use Rattle.std.proofs.Common.{◌≡◌, ◌-◌, ◌<◌, List, [], inl, inr, refl, sym, subst}
-use Rattle.std.specs.Prelude.{Option, None, Some, Result, Ok, Err, OnOk}
+use Rattle.std.specs.Prelude.{Option, None, Some, Result, Ok, Err}
 use Rattle.wjs_base.specs.declared.ids.NodeId.{NodeId}
-use Rattle.wjs_base.specs.declared.ids.OutOfMemory.{OutOfMemory}
 use Rattle.wjs_base.specs.Text.{Table, Grows}
 use Rattle.wjs_base.specs.declared.values.Value.{Value as Numbered}
 use Rattle.wjs_by_content.specs.Tables.{value_in}
@@ -23,7 +22,7 @@ use Rattle.wjs_model.specs.Standing.{IfStands}
 use Rattle.wjs_frames.specs.declared.part.Part.{Part}
 use Rattle.wjs_frames.specs.declared.part.Part.TheVariants as part
 use Rattle.wjs_frames.specs.Doing.{Does}
-use Rattle.wjs_frames.specs.Following.{Follows, Later}
+use Rattle.wjs_frames.specs.Following.{Later}
 use Rattle.wjs_frames.specs.Parts.{goal_of, start_of, node_of, env_in, node_among, then_at}
 use Rattle.wjs_frames.specs.Shortening.{Shortens}
 use Rattle.wjs_frames.proofs.Parting.{point_later, stands_here, stands_later}

@@ -5,3 +5,5 @@ pub mod Variables
 pub mod Literals
 pub mod News
 pub mod Tries
+pub mod Switches
+pub mod References

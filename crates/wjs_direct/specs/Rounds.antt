@@ -1,23 +1,24 @@
 -- The iterations of loops: what is left of a loop behind one.
 use Rattle.std.specs.Prelude.{◌≡◌, ℕ, List, Option, None, Some, IfSome, Result, Ok, Err}
-use Rattle.wjs_base.specs.Text.{Table}
+use Rattle.wjs_base.specs.Text.{Table, Grows}
 use Rattle.wjs_base.specs.declared.ids.NodeId.{NodeId}
 use Rattle.wjs_store.specs.Meaning.{Meaning}
-use Rattle.wjs_meaning.specs.Deeds.{Again, Act, Completion, Env, Ret, Normal}
-use Rattle.wjs_meaning.specs.Loops.{after_body, loop_again}
+use Rattle.wjs_meaning.specs.Deeds.{Again, Act, Completion, Env, Ret, Normal, Sub}
+use Rattle.wjs_meaning.specs.Loops.{after_body, do_body, loop_again}
 use Rattle.wjs_meaning.specs.Reading.{node_in, number}
-use Rattle.wjs_meaning.specs.Statements.{again_of, iteration_from}
+use Rattle.wjs_meaning.specs.Statements.{again_of, iteration_from, stmt_at}
 use Rattle.wjs_model.specs.declared.config.Config.{Config}
 use Rattle.wjs_model.specs.declared.frame.Activation.{Activation as Frame}
 use Rattle.wjs_model.specs.declared.frame.Completion.{Completion as Said}
 use Rattle.wjs_model.specs.declared.frame.Phase.{Phase}
 use Rattle.wjs_model.specs.Contents.{completion_in}
 use Rattle.wjs_model.specs.Soundness.{HasCompletion, StandsHere, StandsIf}
-use Rattle.wjs_frames.specs.Parts.{node_among}
+use Rattle.wjs_frames.specs.Parts.{env_in, node_among}
 use Rattle.wjs_stopping.specs.declared.ends.Broken.{Broken}
 use Rattle.wjs_stopping.specs.Evaluating.{Evaluates, Leaves}
 use Rattle.wjs_direct.specs.Deeds.{goal_here}
 use Rattle.wjs_direct.specs.declared.rounds.LoopParts.{LoopParts}
+use Rattle.wjs_direct.specs.declared.do_rounds.DoParts.{DoParts}
 use Rattle.wjs_direct.specs.declared.loops.After.{After}
 use Rattle.wjs_direct.specs.declared.loops.After.TheVariants as afters
 
@@ -25,6 +26,10 @@ module _ {S : Type 0} (meaning : S → Meaning) where
   -- the node is a loop whose later iterations have these parts
   pub record IsLoop (c : Config S) (f : Frame) (node : NodeId) (test update : Option NodeId) (body : NodeId) : Type 0 where
     pub again : (t : Table) (env : Env) → again_of node.0 (node_in t (node_among c.units.items f.tree node)) env ≡ iteration_from node.0 (number test) (number update) body.0 env
+
+  -- the node is a `do` whose later iterations have these parts
+  pub record IsDo (c : Config S) (f : Frame) (node body test : NodeId) : Type 0 where
+    pub again : (t : Table) (env : Env) → again_of node.0 (node_in t (node_among c.units.items f.tree node)) env ≡ Sub (stmt_at body.0 env) (do_body node.0 test.0 env)
 
   -- after an iteration: the next one is due, or the loop ended
   abbrev pub round_left : Config S → Frame → NodeId → Option Said → Table → (Completion → Act) → Act
@@ -43,22 +48,27 @@ module _ {S : Type 0} (meaning : S → Meaning) where
     pub update : StandsIf c f parts.update
     pub body : StandsHere c f parts.body
 
--- a body that ended so is followed by what comes between iterations
-abbrev pub ends_round : Said → Type 0
-ends_round end = (t : Table) (here : ℕ) (env : Env) (again : Act) → after_body here env again (completion_in t end) ≡ again
+  -- the node of a frame is a `do` with these parts, which stand there
+  pub record HasDoParts (c : Config S) (f : Frame) (parts : DoParts) : Type 0 where
+    pub is : IsDo c f f.node parts.body parts.test
+    pub body : StandsHere c f parts.body
+    pub test : StandsHere c f parts.test
+
+  -- a body of the frame's loop that ended so is followed by what comes between iterations
+  abbrev pub ends_round : Config S → Frame → Said → Type 0
+  ends_round c f end = (t : Table) → Grows c.heap.texts t → (again : Act) → after_body f.node.0 (env_in meaning c t f) again (completion_in t end) ≡ again
 
 -- what a loop ended with is there
 abbrev pub HasRound : {S : Type 0} → Config S → Option Said → Type 0
 HasRound c ended = IfSome ended (λ e. HasCompletion c e)
 
 -- what follows a loop's body
-abbrev pub after_in : Table → ℕ → Env → Act → Said → After → Act
-after_in t here env again end afters.Again = again
-after_in t here env again end afters.Asks = after_body here env again (completion_in t end)
-after_in t here env again end afters.Breaks = Ret Normal
-after_in t here env again end afters.Passes = Ret (completion_in t end)
+abbrev pub after_in : Table → Act → Said → After → Act
+after_in t again end afters.Again = again
+after_in t again end afters.Breaks = Ret Normal
+after_in t again end afters.Passes = Ret (completion_in t end)
 
--- and its update
-abbrev pub updated_in : Table → ℕ → Env → Option Said → Act
-updated_in t here env None = loop_again here env
-updated_in t here env (Some e) = Ret (completion_in t e)
+-- and its update, or the test of a `do`
+abbrev pub next_in : Table → ℕ → Env → Option Said → Act
+next_in t here env None = loop_again here env
+next_in t here env (Some e) = Ret (completion_in t e)

@@ -3,9 +3,9 @@ ghost use Rattle.std.specs.Prelude.{◌≡◌, ◌∷◌, ◌++◌, All, OnOk, [
 ghost use Rattle.wjs_base.specs.Text.{Table};
 ghost use Rattle.wjs_by_content.specs.Objects.{Arena, object_at};
 ghost use Rattle.wjs_by_content.specs.Tables.{value_in};
-ghost use Rattle.wjs_by_content.specs.Values.{Object};
+ghost use Rattle.wjs_by_content.specs.Values.{Object, Undefined};
 ghost use Rattle.wjs_meaning.specs.Calls as calls;
-ghost use Rattle.wjs_meaning.specs.Deeds.{AtBody, AtExpr, AtTarget, Eval, Ret, then_reference};
+ghost use Rattle.wjs_meaning.specs.Deeds.{AtBody, AtExpr, AtTarget, Eval, Ret, then_reference, then_value};
 ghost use Rattle.wjs_meaning.specs.Expressions as line;
 ghost use Rattle.wjs_meaning.specs.Reading.{node_in};
 ghost use Rattle.wjs_model.specs.Contents.{reference_in};
@@ -20,6 +20,7 @@ ghost use Rattle.wjs_stopping.specs.Evaluating.{Evaluates, HasOutcome, InMemory}
 ghost use Rattle.wjs_direct.specs.Deeds.{IsCallee, IsScript, entry_here, form_here, line_here};
 
 use crate::bodies::body_called;
+use crate::callees::{callee_object, callee_of};
 use crate::expressions::value;
 use crate::holding::{argument_waits, call_stops, function_stops};
 use crate::natives::native_called;
@@ -31,13 +32,13 @@ use wjs_effects::element_of;
 use wjs_frames::node_at;
 use wjs_heap_steps::{code_of, peek_value_of};
 use wjs_members::is_target;
-use wjs_model::{Completion, Config, ExprPoint, Frame, Phase, Point, Reference, Start};
+use wjs_model::{Config, ExprPoint, Frame, Phase, Point, Reference, Start};
 use wjs_step_common::{number_after, this_or_global};
 use wjs_stopping::{Broken, Stops, stop, waits};
 use wjs_store::WorldStore;
 use wjs_tree::{Node, NodeId};
 
-/// A call, whose step is taken: its callee, and then its arguments; one whose callee is no target is left to a frame.
+/// A call, whose step is taken: its callee, and then its arguments.
 #[cycle(direct)]
 pub(crate) fn call<S: WorldStore>(
     config: &mut Config<S>,
@@ -60,7 +61,7 @@ pub(crate) fn call<S: WorldStore>(
     if is_target(config, frame, callee) {
         target_called(config, frame, node, callee, room, stops)
     } else {
-        Err(stop(config, frame, node, Phase::Ready(Start::Expr), stops))
+        value_called(config, frame, node, callee, room, stops)
     }
 }
 
@@ -94,8 +95,7 @@ fn target_called<S: WorldStore>(
     }
 }
 
-/// The object that its reference holds is called; `this` is the base of a member. What is no object, and so no function, and what can't
-/// be told by a look is left to a frame, before the arguments.
+/// The object that its reference holds is called; `this` is the base of a member. Mostly a look tells that object.
 #[cycle(direct)]
 fn reference_called<S: WorldStore>(
     config: &mut Config<S>,
@@ -121,11 +121,97 @@ fn reference_called<S: WorldStore>(
             let this = base_of(config, reference);
             evaluate_arguments(config, frame, node, function, this, room, stops)
         }
-        _ => {
-            let point = Point::Expr(ExprPoint::CalleeTarget);
-            let phase = Phase::Given(point, Completion::Refers(reference));
-            Err(stop(config, frame, node, phase, stops))
+        _ => callee_read(config, frame, node, reference, room, stops),
+    }
+}
+
+/// The same, where no look tells an object: its value is read.
+#[cycle(direct)]
+#[inline(never)]
+fn callee_read<S: WorldStore>(
+    config: &mut Config<S>,
+    frame: &Frame,
+    node: NodeId,
+    reference: Reference,
+    room: u16,
+    stops: &mut Stops,
+) -> Result<Value, Broken>
+    requires base { Base S.meaning config.old }
+    requires there { IsThere S.meaning config.old frame.now }
+    requires node { StandsHere config.old frame.now node }
+    requires empty { stops.old.waits ≡ [] }
+    requires reference { HasReference config.old reference }
+    ensures later { InMemory result (Later S.meaning config.old config.new) }
+    ensures found { HasOutcome S.meaning HasValue config.new result stops.new.waits stops.new.top }
+    ensures does { Evaluates S.meaning (line_here S.meaning config.old frame.now
+        (λ t env. line.call_reference (arguments_of (node_in t (node_among config.old.units.items frame.now.tree node))) env (reference_in t reference)))
+        gives_in result stops.new.waits stops.new.top config.old config.new }
+{
+    let this = base_of(config, reference);
+    match callee_of(config, frame, node, reference, stops) {
+        Ok(function) => evaluate_arguments(config, frame, node, function, this, room, stops),
+        Err(end) => Err(end),
+    }
+}
+
+/// A callee that is no target.
+#[cycle(direct)]
+#[inline(never)]
+fn value_called<S: WorldStore>(
+    config: &mut Config<S>,
+    frame: &Frame,
+    node: NodeId,
+    callee: NodeId,
+    room: u16,
+    stops: &mut Stops,
+) -> Result<Value, Broken>
+    requires base { Base S.meaning config.old }
+    requires there { IsThere S.meaning config.old frame.now }
+    requires node { StandsHere config.old frame.now node }
+    requires empty { stops.old.waits ≡ [] }
+    requires callee { StandsHere config.old frame.now callee }
+    ensures later { InMemory result (Later S.meaning config.old config.new) }
+    ensures found { HasOutcome S.meaning HasValue config.new result stops.new.waits stops.new.top }
+    ensures does { Evaluates S.meaning (form_here S.meaning config.old frame.now (AtExpr callee.0)
+        (λ t env. then_value (line.call_callee (arguments_of (node_in t (node_among config.old.units.items frame.now.tree node))) Undefined env)))
+        gives_in result stops.new.waits stops.new.top config.old config.new }
+{
+    match value(config, frame, callee, room, stops) {
+        Ok(given) => callee_given(config, frame, node, given, room, stops),
+        Err(end) => {
+            let point = Point::Expr(ExprPoint::CalleeValue);
+            Err(waits(config, frame, node, point, end, stops))
         }
+    }
+}
+
+/// After its value, with `this` undefined.
+#[cycle(direct)]
+fn callee_given<S: WorldStore>(
+    config: &mut Config<S>,
+    frame: &Frame,
+    node: NodeId,
+    callee: Value,
+    room: u16,
+    stops: &mut Stops,
+) -> Result<Value, Broken>
+    requires base { Base S.meaning config.old }
+    requires there { IsThere S.meaning config.old frame.now }
+    requires node { StandsHere config.old frame.now node }
+    requires empty { stops.old.waits ≡ [] }
+    requires callee { HasValue config.old callee }
+    ensures later { InMemory result (Later S.meaning config.old config.new) }
+    ensures found { HasOutcome S.meaning HasValue config.new result stops.new.waits stops.new.top }
+    ensures does { Evaluates S.meaning (line_here S.meaning config.old frame.now
+        (λ t env. line.call_callee (arguments_of (node_in t (node_among config.old.units.items frame.now.tree node))) Undefined env (value_in t callee)))
+        gives_in result stops.new.waits stops.new.top config.old config.new }
+{
+    match callee_object(config, frame, node, callee, stops) {
+        Ok(function) => {
+            let this = Value::Undefined;
+            evaluate_arguments(config, frame, node, function, this, room, stops)
+        }
+        Err(end) => Err(end),
     }
 }
 
@@ -161,6 +247,7 @@ pub(crate) fn argument<S: WorldStore>(
 
 /// The arguments from left to right, and then the call.
 #[cycle(direct)]
+#[inline(always)]
 fn evaluate_arguments<S: WorldStore>(
     config: &mut Config<S>,
     frame: &Frame,

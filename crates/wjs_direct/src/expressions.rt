@@ -23,7 +23,6 @@ use crate::stores::{assign, update};
 use wjs_base::Value;
 use wjs_effects::result_at_once;
 use wjs_frames::{Part, node_at};
-use wjs_members::is_target;
 use wjs_model::{Completion, Config, ExprPoint, Fix, Frame, Held, Phase, Point, Start};
 use wjs_quick::{is_of_value, quick};
 use wjs_step_common::to_boolean;
@@ -78,10 +77,9 @@ fn is_known<S: WorldStore>(config: &Config<S>, frame: &Frame, node: NodeId) -> b
         Some(Node::Cond(_, _, _) | Node::Comma(_, _)) => true,
         Some(Node::Dot(_, _) | Node::At(_, _)) => true,
         Some(Node::ObjectLit(_, _) | Node::ArrayLit(_, _)) => true,
-        Some(Node::NewWith(_, _) | Node::NewBare(_)) => true,
+        Some(Node::Call(_, _) | Node::NewWith(_, _) | Node::NewBare(_)) => true,
         Some(Node::Assign(_, _, _) | Node::Postfix(_, _)) => true,
         Some(Node::Prefix(operator, _)) => is_of_value(*operator) || is_update(*operator),
-        Some(Node::Call(callee, _)) => is_target(config, frame, *callee),
         _ => false,
     }
 }

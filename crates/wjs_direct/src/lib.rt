@@ -6,12 +6,16 @@
 
 mod arrays;
 mod bodies;
+mod callees;
 mod calls;
 mod choices;
+mod do_loops;
+mod do_rounds;
 mod entries;
 mod expressions;
 mod functions;
 mod holding;
+mod labels;
 mod loops;
 mod members;
 mod names;
@@ -20,16 +24,20 @@ mod news;
 mod objects;
 mod prefixes;
 mod reads;
+mod references;
 mod room;
 mod rounds;
 mod sequences;
 mod statements;
 mod stores;
+mod switches;
 mod targets;
 mod tries;
+mod updates;
 mod variables;
 mod within;
 
+pub use do_rounds::{DoParts, after_do_body, do_parts_of};
 pub use entries::{after_body_element, after_body_value, body};
 pub use rounds::{LoopParts, after_loop_body, is_followed, parts_of};
 pub use sequences::run_elements;

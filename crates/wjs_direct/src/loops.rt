@@ -1,6 +1,6 @@
 //! The loops `while` and `for` (ECMA-262, 3rd edition, sections 12.6.2 and 12.6.3), but for those that declare variables.
 ghost use Rattle.std.specs.Prelude.{◌≡◌, ◌<◌, ◌≤◌, ℕ, IfSome, None, Some, true, []};
-ghost use Rattle.wjs_base.specs.Text.{Table};
+ghost use Rattle.wjs_base.specs.Text.{Table, Grows};
 ghost use Rattle.wjs_by_content.specs.Tables.{value_in};
 ghost use Rattle.wjs_meaning.specs.Deeds.{Act, Again, AtExpr, AtStmt, Env, Sub, then_value};
 ghost use Rattle.wjs_meaning.specs.Expressions.{expr_at};
@@ -10,16 +10,18 @@ ghost use Rattle.wjs_meaning.specs.Statements.{iteration_from, stmt_at};
 ghost use Rattle.wjs_model.specs.Contents.{completion_in};
 ghost use Rattle.wjs_model.specs.Soundness.{Base, HasCompletion, HasValue, IsThere, StandsHere, StandsIf};
 ghost use Rattle.wjs_frames.specs.Following.{Later};
+ghost use Rattle.wjs_frames.specs.Parts.{env_in};
 ghost use Rattle.wjs_stopping.specs.Ends.{gives_in};
 ghost use Rattle.wjs_stopping.specs.Evaluating.{Evaluates, HasOutcome, InMemory};
 ghost use Rattle.wjs_direct.specs.Deeds.{IsNode, entry_here, form_here, goal_here, line_here};
-ghost use Rattle.wjs_direct.specs.Rounds.{GoesRound, HasRound, IsLoop, after_in, updated_in};
+ghost use Rattle.wjs_direct.specs.Rounds.{GoesRound, HasRound, IsLoop, after_in, next_in};
 
 use crate::expressions::{form, value};
 use crate::room::may_enter;
 use crate::statements::{statement, statement_form};
 use crate::stores::effect;
 use wjs_base::Value;
+use wjs_loops::is_labelled;
 use wjs_model::{Completion, Config, Frame, Phase, Point, Start, StmtPoint};
 use wjs_quick::quick_entered;
 use wjs_step_common::to_boolean;
@@ -30,10 +32,8 @@ use wjs_tree::{ForInit, Node, NodeId};
 /// What follows a loop's body.
 #[derive(Clone, Copy)]
 pub(crate) enum After {
-    /// The update, and the next iteration.
+    /// What comes between iterations, and the next one.
     Again,
-    /// What the loop's labels tell.
-    Asks,
     /// The loop's end.
     Breaks,
     /// The loop ends as its body did.
@@ -249,12 +249,12 @@ pub(crate) fn iterations<S: WorldStore>(
 }
 
 /// More iterations than are counted: behind so many the next one is due again.
-fn many() -> u64 {
+pub(crate) fn many() -> u64 {
     u64::MAX
 }
 
 /// Whether an iteration may be entered: there is a step and room for it. The number only shows that the loop comes to an end.
-fn may_go_round<S: WorldStore>(config: &Config<S>, room: u16, turns: u64) -> bool
+pub(crate) fn may_go_round<S: WorldStore>(config: &Config<S>, room: u16, turns: u64) -> bool
     ensures left { result ≡ true → 0 < config.now.left }
     ensures room { result ≡ true → 8 ≤ room }
     ensures turns { result ≡ true → 0 < turns }
@@ -452,7 +452,7 @@ fn body_run<S: WorldStore>(
     }
 }
 
-/// After the body: the update, or the loop's end. A `continue` with a label is left to a frame, which asks for the loop's labels.
+/// After the body: the update, or the loop's end.
 #[cycle(direct)]
 #[inline(always)]
 fn body_ended<S: WorldStore>(
@@ -476,25 +476,36 @@ fn body_ended<S: WorldStore>(
         (λ t env. loops.loop_body node.0 (number update) env (completion_in t end)))
         frame.now node result stops.new.waits stops.new.top config.old config.new }
 {
-    match after_body(end) {
+    match after_body(config, frame, node, end) {
         After::Again => updated(config, frame, node, update, room, stops),
-        After::Asks => {
-            let phase = Phase::Given(Point::Stmt(StmtPoint::ForBody(update)), end);
-            Err(stop(config, frame, node, phase, stops))
-        }
         After::Breaks => Ok(Some(Completion::Normal)),
         After::Passes => Ok(Some(end)),
     }
 }
 
-/// What follows the body by how it ended.
-fn after_body(end: Completion) -> After
-    ensures { (t : Table) (here : ℕ) (env : Env) (again : Act) → loops.after_body here env again (completion_in t end) ≡ after_in t here env again end result }
+/// What follows the body of the loop at a node by how it ended (sections 12.6, 12.7 and 12.8). The loop's labels are asked for where the
+/// body continues one.
+#[inline(always)]
+pub(crate) fn after_body<S: WorldStore>(
+    config: &Config<S>,
+    frame: &Frame,
+    node: NodeId,
+    end: Completion,
+) -> After
+    requires base { Base S.meaning config.now }
+    requires end { HasCompletion config.now end }
+    ensures { (t : Table) → Grows config.now.heap.texts t → (again : Act) →
+        loops.after_body node.0 (env_in S.meaning config.now t frame.now) again (completion_in t end) ≡ after_in t again end result }
 {
     match end {
-        Completion::Normal => After::Again,
-        Completion::Continues(None) => After::Again,
-        Completion::Continues(Some(_)) => After::Asks,
+        Completion::Normal | Completion::Continues(None) => After::Again,
+        Completion::Continues(Some(label)) => {
+            if is_labelled(config, frame, node, label) {
+                After::Again
+            } else {
+                After::Passes
+            }
+        }
         Completion::Breaks(None) => After::Breaks,
         _ => After::Passes,
     }
@@ -560,7 +571,7 @@ pub(crate) fn update_run<S: WorldStore>(
 
 /// What follows the update by how it ended: the next iteration, or what was thrown.
 fn after_update(end: Completion) -> Option<Completion>
-    ensures is { (t : Table) (here : ℕ) (env : Env) → then_value (loops.loop_updated here env) (completion_in t end) ≡ updated_in t here env result }
+    ensures is { (t : Table) (here : ℕ) (env : Env) → then_value (loops.loop_updated here env) (completion_in t end) ≡ next_in t here env result }
     ensures same { IfSome result (λ e. e ≡ end) }
 {
     match end {

@@ -11,7 +11,7 @@ ghost use Rattle.wjs_stopping.specs.Evaluating.{Evaluates, HasOutcome, InMemory}
 ghost use Rattle.wjs_direct.specs.Deeds.{form_here};
 ghost use Rattle.wjs_direct.specs.Rounds.{HasParts, ends_round};
 
-use crate::loops::{iterations, update_run};
+use crate::loops::{After, after_body, iterations, update_run};
 use crate::room::ROOM;
 use wjs_base::OutOfMemory;
 use wjs_frames::node_of;
@@ -48,11 +48,17 @@ pub fn parts_of<S: WorldStore>(config: &Config<S>, frame: &Frame) -> Option<Loop
     }
 }
 
-/// Whether a body that ended so is followed by the next iteration, whatever the loop's labels are.
-pub fn is_followed(end: Completion) -> bool
-    ensures { result ≡ true → ends_round end }
+/// Whether a body of the frame's loop that ended so is followed by the next iteration.
+pub fn is_followed<S: WorldStore>(config: &Config<S>, frame: &Frame, end: Completion) -> bool
+    requires base { Base S.meaning config.now }
+    requires end { HasCompletion config.now end }
+    ensures { result ≡ true → ends_round S.meaning config.now frame.now end }
 {
-    matches!(end, Completion::Normal | Completion::Continues(None))
+    let node = frame.node();
+    match after_body(config, frame, node, end) {
+        After::Again => true,
+        _ => false,
+    }
 }
 
 /// After the body of a loop that ended so: the update, if there is one, and the next iterations.
@@ -66,7 +72,7 @@ pub fn after_loop_body<S: WorldStore>(
     requires runs { Runs S.meaning config.old frame }
     requires parts { HasParts S.meaning config.old frame parts }
     requires update { StandsIf config.old frame update }
-    requires followed { ends_round end }
+    requires followed { ends_round S.meaning config.old frame end }
     ensures { Resumes S.meaning frame (Point.Stmt (StmtPoint.ForBody update)) end config.old config.new result }
 {
     let _end = end;

@@ -12,10 +12,13 @@ ghost use Rattle.wjs_meaning.specs.Reading.{number, node_in};
 ghost use Rattle.wjs_meaning.specs.Statements as statements;
 ghost use Rattle.wjs_model.specs.Lists.{block_items};
 
+use crate::do_loops::run_do;
 use crate::expressions::value;
+use crate::labels::labelled;
 use crate::loops::{for_expression, run_loop};
 use crate::room::{ROOM, may_enter};
 use crate::stores::effect;
+use crate::switches::switch;
 use crate::tries::{attempt, throw_of};
 use crate::variables::{for_variables, run_variables};
 use crate::within::within;
@@ -125,8 +128,8 @@ fn is_known<S: WorldStore>(config: &Config<S>, frame: &Frame, node: NodeId) -> b
         Some(Node::If(_, _, _) | Node::Block(_) | Node::While(_, _) | Node::For(_, _, _, _)) => {
             true
         }
-        Some(Node::Within(_, _)) => true,
-        Some(Node::Throw(_, _) | Node::Try(_, _, _)) => true,
+        Some(Node::Within(_, _) | Node::DoWhile(_, _, _) | Node::Label(_, _)) => true,
+        Some(Node::Throw(_, _) | Node::Try(_, _, _) | Node::Switch(_, _)) => true,
         _ => false,
     }
 }
@@ -180,6 +183,14 @@ pub(crate) fn statement_form<S: WorldStore>(
             let (test, update, body) = (*test, *update, *body);
             for_variables(config, frame, node, test, update, body, room, stops)
         }
+        Some(Node::DoWhile(body, test, _)) => {
+            let (body, test) = (*body, *test);
+            run_do(config, frame, node, body, test, room, stops)
+        }
+        Some(Node::Label(name, part)) => {
+            let (name, part) = (*name, *part);
+            labelled(config, frame, node, name, part, room, stops)
+        }
         Some(Node::Within(e, block)) => {
             let (e, block) = (*e, *block);
             within(config, frame, node, e, block, room, stops)
@@ -191,6 +202,10 @@ pub(crate) fn statement_form<S: WorldStore>(
         Some(Node::Try(block, _, last)) => {
             let (block, last) = (*block, *last);
             attempt(config, frame, node, block, last, room, stops)
+        }
+        Some(Node::Switch(e, _)) => {
+            let e = *e;
+            switch(config, frame, node, e, room, stops)
         }
         _ => Err(stop(config, frame, node, Phase::Ready(Start::Stmt), stops)),
     }

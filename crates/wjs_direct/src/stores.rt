@@ -15,12 +15,13 @@ ghost use Rattle.wjs_tree.specs.Operators.{compound};
 
 use crate::expressions::value;
 use crate::holding::{stop_compound, wait_compound};
+use crate::references::target_value;
 use crate::targets::target;
+use crate::updates::update_read;
 use wjs_base::Value;
 use wjs_effects::{expression_at_once, result_at_once, store_and_end, update_at};
-use wjs_heap_steps::peek_value_of;
 use wjs_model::{Completion, Config, ExprPoint, Fix, Frame, Held, Phase, Point, Reference};
-use wjs_stopping::{Broken, Stops, stop, waits, waits_holding};
+use wjs_stopping::{Broken, Stops, waits, waits_holding};
 use wjs_store::WorldStore;
 use wjs_tree::{AssignOperator, BinaryOperator, Node, NodeId, UpdateOperator};
 
@@ -236,15 +237,12 @@ fn compounded<S: WorldStore>(
         (λ t env. line.assign_reference (Some operator) right.0 env (reference_in t reference)))
         gives_in result stops.new.waits stops.new.top config.old config.new }
 {
-    match peek_value_of(config, frame, reference) {
-        Some(old) => compound_right(
+    let point = Point::Expr(ExprPoint::AssignTarget(sign, right));
+    match target_value(config, frame, node, point, reference, stops) {
+        Ok(old) => compound_right(
             config, frame, node, operator, right, reference, old, room, stops,
         ),
-        None => {
-            let point = Point::Expr(ExprPoint::AssignTarget(sign, right));
-            let phase = Phase::Given(point, Completion::Refers(reference));
-            Err(stop(config, frame, node, phase, stops))
-        }
+        Err(end) => Err(end),
     }
 }
 
@@ -350,7 +348,7 @@ pub(crate) fn update<S: WorldStore>(
     }
 }
 
-/// What follows the reference of its target; where a look tells no number that has a next one, a frame goes on.
+/// What follows the reference of its target; where a look tells no number that has a next one, its value is read.
 fn updated<S: WorldStore>(
     config: &mut Config<S>,
     frame: &Frame,
@@ -375,10 +373,6 @@ fn updated<S: WorldStore>(
     let done = update_at(config, frame, fix, operator, reference, left)?;
     match done {
         Some(end) => value_or_thrown(end),
-        None => {
-            let point = Point::Expr(ExprPoint::UpdateTarget(fix, operator));
-            let phase = Phase::Given(point, Completion::Refers(reference));
-            Err(stop(config, frame, node, phase, stops))
-        }
+        None => update_read(config, frame, node, fix, operator, reference, stops),
     }
 }

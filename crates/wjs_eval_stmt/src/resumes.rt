@@ -3,14 +3,14 @@ ghost use Rattle.wjs_model.specs.Soundness.{HasPoint, HasCompletion};
 ghost use Rattle.wjs_frames.specs.Handling.{Runs, Resumes};
 
 use crate::blocks::{block_statement, block_value};
-use crate::loops::for_body;
+use crate::loops::{do_body, for_body};
 use wjs_base::OutOfMemory;
 use wjs_blocks::{
     case_value, clause_statement, expr_value, if_test, return_value, switch_value, throw_value,
     try_block, try_finally, try_handler, within_world,
 };
 use wjs_loops::{
-    do_body, do_test, for_declared, for_started, for_test, for_updated, label_body, variable_value,
+    do_test, for_declared, for_started, for_test, for_updated, label_body, variable_value,
     visit_body, visit_target, visits_object, while_body, while_test,
 };
 use wjs_model::{Completion, Config, Frame, Point, StmtPoint};

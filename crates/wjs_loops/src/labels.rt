@@ -19,7 +19,7 @@ use wjs_texts::Texts;
 use wjs_tree::{Node, NodeId};
 
 /// Whether two labels are one, in every table that grows from the texts.
-pub(crate) fn same_label(texts: &Texts, a: TextId, b: TextId) -> bool
+pub fn same_label(texts: &Texts, a: TextId, b: TextId) -> bool
     requires table { IsTable texts.now }
     requires first { Has texts.now a }
     requires second { Has texts.now b }
@@ -35,8 +35,23 @@ pub(crate) fn has_label<S: WorldStore>(config: &Config<S>, frame: &Frame, label:
     ensures { (t : Table) → Grows config.now.heap.texts t →
         has_text (labels (tree_here (env_in S.meaning config.now t frame.now)) frame.now.node.0) (text_in t label) ≡ result }
 {
+    is_labelled(config, frame, frame.node(), label)
+}
+
+/// Whether a label is one of the statement's at a node of the frame's tree, in every table that grows from the texts.
+pub fn is_labelled<S: WorldStore>(
+    config: &Config<S>,
+    frame: &Frame,
+    node: NodeId,
+    label: TextId,
+) -> bool
+    requires base { Base S.meaning config.now }
+    requires label { Has config.now.heap.texts label }
+    ensures { (t : Table) → Grows config.now.heap.texts t →
+        has_text (labels (tree_here (env_in S.meaning config.now t frame.now)) node.0) (text_in t label) ≡ result }
+{
     match config.units.get(frame.tree() as usize) {
-        Some(unit) => is_label(&config.heap.texts, unit, frame.node(), label),
+        Some(unit) => is_label(&config.heap.texts, unit, node, label),
         None => false,
     }
 }

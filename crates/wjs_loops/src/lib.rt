@@ -21,5 +21,6 @@ pub use fors::{
 };
 pub use iterations::stmt_iteration;
 pub use jumps::label_body;
+pub use labels::{is_labelled, same_label};
 pub use variables::{variable_value, variables_from};
 pub use whiles::{do_body, do_test, while_again, while_body, while_test};

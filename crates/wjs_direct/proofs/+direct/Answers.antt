@@ -14,6 +14,9 @@ mod Arrays
 mod News
 mod Within
 mod Tries
+mod Switches
+mod Labels
+mod DoLoops
 use Rattle.wjs_direct.proofs.+direct.Answers.Expressions as expressions
 use Rattle.wjs_direct.proofs.+direct.Answers.Statements as statements
 use Rattle.wjs_direct.proofs.+direct.Answers.Stores as stores
@@ -30,6 +33,9 @@ use Rattle.wjs_direct.proofs.+direct.Answers.Arrays as arrays
 use Rattle.wjs_direct.proofs.+direct.Answers.News as news
 use Rattle.wjs_direct.proofs.+direct.Answers.Within as within
 use Rattle.wjs_direct.proofs.+direct.Answers.Tries as tries
+use Rattle.wjs_direct.proofs.+direct.Answers.Switches as switches
+use Rattle.wjs_direct.proofs.+direct.Answers.Labels as labels
+use Rattle.wjs_direct.proofs.+direct.Answers.DoLoops as do_loops
 use Rattle.wjs_direct.proofs.+direct.Goals as goal
 
 -- ---- `expressions`
@@ -372,6 +378,12 @@ statements::statement_form-attempt-requires = statements.statement_form-attempt-
 pub statements::statement_form-returns-in-Some-Try-clause-does : goal.statements::statement_form-returns-in-Some-Try-clause-does
 statements::statement_form-returns-in-Some-Try-clause-does = statements.statement_form-returns-in-Some-Try-clause-does
 
+pub statements::statement_form-switch-requires : goal.statements::statement_form-switch-requires
+statements::statement_form-switch-requires = statements.statement_form-switch-requires
+
+pub statements::statement_form-returns-in-Some-Switch-clause-does : goal.statements::statement_form-returns-in-Some-Switch-clause-does
+statements::statement_form-returns-in-Some-Switch-clause-does = statements.statement_form-returns-in-Some-Switch-clause-does
+
 -- ---- `stores`
 
 pub stores::effect-returns-in-Some-clause-does : goal.stores::effect-returns-in-Some-clause-does
@@ -467,17 +479,26 @@ stores::compound_right-returns-in-Err-clause-found = stores.compound_right-retur
 pub stores::compound_right-returns-in-Err-clause-does : goal.stores::compound_right-returns-in-Err-clause-does
 stores::compound_right-returns-in-Err-clause-does = stores.compound_right-returns-in-Err-clause-does
 
-pub stores::compounded-returns-in-Some-clause-does : goal.stores::compounded-returns-in-Some-clause-does
-stores::compounded-returns-in-Some-clause-does = stores.compounded-returns-in-Some-clause-does
+pub stores::compounded-target_value-requires : goal.stores::compounded-target_value-requires
+stores::compounded-target_value-requires = stores.compounded-target_value-requires
 
-pub stores::compounded-returns-in-None-clause-later : goal.stores::compounded-returns-in-None-clause-later
-stores::compounded-returns-in-None-clause-later = stores.compounded-returns-in-None-clause-later
+pub stores::compounded-compound_right-requires : goal.stores::compounded-compound_right-requires
+stores::compounded-compound_right-requires = stores.compounded-compound_right-requires
 
-pub stores::compounded-returns-in-None-clause-found : goal.stores::compounded-returns-in-None-clause-found
-stores::compounded-returns-in-None-clause-found = stores.compounded-returns-in-None-clause-found
+pub stores::compounded-returns-in-Ok-clause-later : goal.stores::compounded-returns-in-Ok-clause-later
+stores::compounded-returns-in-Ok-clause-later = stores.compounded-returns-in-Ok-clause-later
 
-pub stores::compounded-returns-in-None-clause-does : goal.stores::compounded-returns-in-None-clause-does
-stores::compounded-returns-in-None-clause-does = stores.compounded-returns-in-None-clause-does
+pub stores::compounded-returns-in-Ok-clause-does : goal.stores::compounded-returns-in-Ok-clause-does
+stores::compounded-returns-in-Ok-clause-does = stores.compounded-returns-in-Ok-clause-does
+
+pub stores::compounded-returns-in-Err-clause-later : goal.stores::compounded-returns-in-Err-clause-later
+stores::compounded-returns-in-Err-clause-later = stores.compounded-returns-in-Err-clause-later
+
+pub stores::compounded-returns-in-Err-clause-found : goal.stores::compounded-returns-in-Err-clause-found
+stores::compounded-returns-in-Err-clause-found = stores.compounded-returns-in-Err-clause-found
+
+pub stores::compounded-returns-in-Err-clause-does : goal.stores::compounded-returns-in-Err-clause-does
+stores::compounded-returns-in-Err-clause-does = stores.compounded-returns-in-Err-clause-does
 
 pub stores::update-updated-requires : goal.stores::update-updated-requires
 stores::update-updated-requires = stores.update-updated-requires
@@ -919,6 +940,12 @@ calls::call-target_called-requires = calls.call-target_called-requires
 pub calls::call-returns-then-is_target-clause-does : goal.calls::call-returns-then-is_target-clause-does
 calls::call-returns-then-is_target-clause-does = calls.call-returns-then-is_target-clause-does
 
+pub calls::call-value_called-requires : goal.calls::call-value_called-requires
+calls::call-value_called-requires = calls.call-value_called-requires
+
+pub calls::call-returns-else-is_target-clause-does : goal.calls::call-returns-else-is_target-clause-does
+calls::call-returns-else-is_target-clause-does = calls.call-returns-else-is_target-clause-does
+
 pub calls::target_called-reference_called-requires : goal.calls::target_called-reference_called-requires
 calls::target_called-reference_called-requires = calls.target_called-reference_called-requires
 
@@ -937,8 +964,56 @@ calls::target_called-returns-in-Err-clause-does = calls.target_called-returns-in
 pub calls::reference_called-returns-in-Some-Object-clause-does : goal.calls::reference_called-returns-in-Some-Object-clause-does
 calls::reference_called-returns-in-Some-Object-clause-does = calls.reference_called-returns-in-Some-Object-clause-does
 
-pub calls::reference_called-returns-in_default-clause-does : goal.calls::reference_called-returns-in_default-clause-does
-calls::reference_called-returns-in_default-clause-does = calls.reference_called-returns-in_default-clause-does
+pub calls::callee_read-evaluate_arguments-requires : goal.calls::callee_read-evaluate_arguments-requires
+calls::callee_read-evaluate_arguments-requires = calls.callee_read-evaluate_arguments-requires
+
+pub calls::callee_read-returns-in-Ok-clause-later : goal.calls::callee_read-returns-in-Ok-clause-later
+calls::callee_read-returns-in-Ok-clause-later = calls.callee_read-returns-in-Ok-clause-later
+
+pub calls::callee_read-returns-in-Ok-clause-does : goal.calls::callee_read-returns-in-Ok-clause-does
+calls::callee_read-returns-in-Ok-clause-does = calls.callee_read-returns-in-Ok-clause-does
+
+pub calls::callee_read-returns-in-Err-clause-later : goal.calls::callee_read-returns-in-Err-clause-later
+calls::callee_read-returns-in-Err-clause-later = calls.callee_read-returns-in-Err-clause-later
+
+pub calls::callee_read-returns-in-Err-clause-found : goal.calls::callee_read-returns-in-Err-clause-found
+calls::callee_read-returns-in-Err-clause-found = calls.callee_read-returns-in-Err-clause-found
+
+pub calls::callee_read-returns-in-Err-clause-does : goal.calls::callee_read-returns-in-Err-clause-does
+calls::callee_read-returns-in-Err-clause-does = calls.callee_read-returns-in-Err-clause-does
+
+pub calls::value_called-callee_given-requires : goal.calls::value_called-callee_given-requires
+calls::value_called-callee_given-requires = calls.value_called-callee_given-requires
+
+pub calls::value_called-returns-in-Ok-clause-later : goal.calls::value_called-returns-in-Ok-clause-later
+calls::value_called-returns-in-Ok-clause-later = calls.value_called-returns-in-Ok-clause-later
+
+pub calls::value_called-returns-in-Ok-clause-does : goal.calls::value_called-returns-in-Ok-clause-does
+calls::value_called-returns-in-Ok-clause-does = calls.value_called-returns-in-Ok-clause-does
+
+pub calls::value_called-returns-in-Err-clause-found : goal.calls::value_called-returns-in-Err-clause-found
+calls::value_called-returns-in-Err-clause-found = calls.value_called-returns-in-Err-clause-found
+
+pub calls::value_called-returns-in-Err-clause-does : goal.calls::value_called-returns-in-Err-clause-does
+calls::value_called-returns-in-Err-clause-does = calls.value_called-returns-in-Err-clause-does
+
+pub calls::callee_given-evaluate_arguments-requires : goal.calls::callee_given-evaluate_arguments-requires
+calls::callee_given-evaluate_arguments-requires = calls.callee_given-evaluate_arguments-requires
+
+pub calls::callee_given-returns-in-Ok-clause-later : goal.calls::callee_given-returns-in-Ok-clause-later
+calls::callee_given-returns-in-Ok-clause-later = calls.callee_given-returns-in-Ok-clause-later
+
+pub calls::callee_given-returns-in-Ok-clause-does : goal.calls::callee_given-returns-in-Ok-clause-does
+calls::callee_given-returns-in-Ok-clause-does = calls.callee_given-returns-in-Ok-clause-does
+
+pub calls::callee_given-returns-in-Err-clause-later : goal.calls::callee_given-returns-in-Err-clause-later
+calls::callee_given-returns-in-Err-clause-later = calls.callee_given-returns-in-Err-clause-later
+
+pub calls::callee_given-returns-in-Err-clause-found : goal.calls::callee_given-returns-in-Err-clause-found
+calls::callee_given-returns-in-Err-clause-found = calls.callee_given-returns-in-Err-clause-found
+
+pub calls::callee_given-returns-in-Err-clause-does : goal.calls::callee_given-returns-in-Err-clause-does
+calls::callee_given-returns-in-Err-clause-does = calls.callee_given-returns-in-Err-clause-does
 
 pub calls::evaluate_arguments-loop-next-init : goal.calls::evaluate_arguments-loop-next-init
 calls::evaluate_arguments-loop-next-init = calls.evaluate_arguments-loop-next-init
@@ -1190,15 +1265,6 @@ loops::body_run-returns-in-Err-clause-does = loops.body_run-returns-in-Err-claus
 
 pub loops::body_ended-returns-in-Again-clause-does : goal.loops::body_ended-returns-in-Again-clause-does
 loops::body_ended-returns-in-Again-clause-does = loops.body_ended-returns-in-Again-clause-does
-
-pub loops::body_ended-returns-in-Asks-clause-later : goal.loops::body_ended-returns-in-Asks-clause-later
-loops::body_ended-returns-in-Asks-clause-later = loops.body_ended-returns-in-Asks-clause-later
-
-pub loops::body_ended-returns-in-Asks-clause-found : goal.loops::body_ended-returns-in-Asks-clause-found
-loops::body_ended-returns-in-Asks-clause-found = loops.body_ended-returns-in-Asks-clause-found
-
-pub loops::body_ended-returns-in-Asks-clause-does : goal.loops::body_ended-returns-in-Asks-clause-does
-loops::body_ended-returns-in-Asks-clause-does = loops.body_ended-returns-in-Asks-clause-does
 
 pub loops::body_ended-returns-in-Breaks-clause-does : goal.loops::body_ended-returns-in-Breaks-clause-does
 loops::body_ended-returns-in-Breaks-clause-does = loops.body_ended-returns-in-Breaks-clause-does
@@ -1635,3 +1701,257 @@ tries::finish_by-returns-in-Err-clause-found = tries.finish_by-returns-in-Err-cl
 
 pub tries::finish_by-returns-in-Err-clause-does : goal.tries::finish_by-returns-in-Err-clause-does
 tries::finish_by-returns-in-Err-clause-does = tries.finish_by-returns-in-Err-clause-does
+
+-- ---- `switches`
+
+pub switches::switch-cases-requires : goal.switches::switch-cases-requires
+switches::switch-cases-requires = switches.switch-cases-requires
+
+pub switches::switch-returns-in-Ok-clause-later : goal.switches::switch-returns-in-Ok-clause-later
+switches::switch-returns-in-Ok-clause-later = switches.switch-returns-in-Ok-clause-later
+
+pub switches::switch-returns-in-Ok-clause-does : goal.switches::switch-returns-in-Ok-clause-does
+switches::switch-returns-in-Ok-clause-does = switches.switch-returns-in-Ok-clause-does
+
+pub switches::switch-returns-in-Err-clause-later : goal.switches::switch-returns-in-Err-clause-later
+switches::switch-returns-in-Err-clause-later = switches.switch-returns-in-Err-clause-later
+
+pub switches::switch-returns-in-Err-clause-found : goal.switches::switch-returns-in-Err-clause-found
+switches::switch-returns-in-Err-clause-found = switches.switch-returns-in-Err-clause-found
+
+pub switches::switch-returns-in-Err-clause-does : goal.switches::switch-returns-in-Err-clause-does
+switches::switch-returns-in-Err-clause-does = switches.switch-returns-in-Err-clause-does
+
+pub switches::cases-loop-case-init : goal.switches::cases-loop-case-init
+switches::cases-loop-case-init = switches.cases-loop-case-init
+
+pub switches::cases-value-requires : goal.switches::cases-value-requires
+switches::cases-value-requires = switches.cases-value-requires
+
+pub switches::cases-strictly_equal-requires : goal.switches::cases-strictly_equal-requires
+switches::cases-strictly_equal-requires = switches.cases-strictly_equal-requires
+
+pub switches::cases-loop-case-preserved : goal.switches::cases-loop-case-preserved
+switches::cases-loop-case-preserved = switches.cases-loop-case-preserved
+
+pub switches::cases-loop-case-smaller : goal.switches::cases-loop-case-smaller
+switches::cases-loop-case-smaller = switches.cases-loop-case-smaller
+
+pub switches::cases-run_clauses-requires : goal.switches::cases-run_clauses-requires
+switches::cases-run_clauses-requires = switches.cases-run_clauses-requires
+
+pub switches::cases-returns-then-strictly_equal-clause-later : goal.switches::cases-returns-then-strictly_equal-clause-later
+switches::cases-returns-then-strictly_equal-clause-later = switches.cases-returns-then-strictly_equal-clause-later
+
+pub switches::cases-returns-then-strictly_equal-clause-does : goal.switches::cases-returns-then-strictly_equal-clause-does
+switches::cases-returns-then-strictly_equal-clause-does = switches.cases-returns-then-strictly_equal-clause-does
+
+pub switches::cases-returns-in-Err-clause-later : goal.switches::cases-returns-in-Err-clause-later
+switches::cases-returns-in-Err-clause-later = switches.cases-returns-in-Err-clause-later
+
+pub switches::cases-returns-in-Err-clause-found : goal.switches::cases-returns-in-Err-clause-found
+switches::cases-returns-in-Err-clause-found = switches.cases-returns-in-Err-clause-found
+
+pub switches::cases-returns-in-Err-clause-does : goal.switches::cases-returns-in-Err-clause-does
+switches::cases-returns-in-Err-clause-does = switches.cases-returns-in-Err-clause-does
+
+pub switches::cases-run_default-requires : goal.switches::cases-run_default-requires
+switches::cases-run_default-requires = switches.cases-run_default-requires
+
+pub switches::cases-returns-clause-later : goal.switches::cases-returns-clause-later
+switches::cases-returns-clause-later = switches.cases-returns-clause-later
+
+pub switches::cases-returns-clause-does : goal.switches::cases-returns-clause-does
+switches::cases-returns-clause-does = switches.cases-returns-clause-does
+
+pub switches::run_clauses-returns-clause-does : goal.switches::run_clauses-returns-clause-does
+switches::run_clauses-returns-clause-does = switches.run_clauses-returns-clause-does
+
+pub switches::run_default-returns-clause-does : goal.switches::run_default-returns-clause-does
+switches::run_default-returns-clause-does = switches.run_default-returns-clause-does
+
+pub switches::run_statements-loop-part-init : goal.switches::run_statements-loop-part-init
+switches::run_statements-loop-part-init = switches.run_statements-loop-part-init
+
+pub switches::run_statements-statement-requires : goal.switches::run_statements-statement-requires
+switches::run_statements-statement-requires = switches.run_statements-statement-requires
+
+pub switches::run_statements-loop-part-preserved : goal.switches::run_statements-loop-part-preserved
+switches::run_statements-loop-part-preserved = switches.run_statements-loop-part-preserved
+
+pub switches::run_statements-returns-in_default-end-clause-later : goal.switches::run_statements-returns-in_default-end-clause-later
+switches::run_statements-returns-in_default-end-clause-later = switches.run_statements-returns-in_default-end-clause-later
+
+pub switches::run_statements-returns-in_default-end-clause-found : goal.switches::run_statements-returns-in_default-end-clause-found
+switches::run_statements-returns-in_default-end-clause-found = switches.run_statements-returns-in_default-end-clause-found
+
+pub switches::run_statements-returns-in_default-end-clause-does : goal.switches::run_statements-returns-in_default-end-clause-does
+switches::run_statements-returns-in_default-end-clause-does = switches.run_statements-returns-in_default-end-clause-does
+
+pub switches::run_statements-returns-in-Err-clause-later : goal.switches::run_statements-returns-in-Err-clause-later
+switches::run_statements-returns-in-Err-clause-later = switches.run_statements-returns-in-Err-clause-later
+
+pub switches::run_statements-returns-in-Err-clause-found : goal.switches::run_statements-returns-in-Err-clause-found
+switches::run_statements-returns-in-Err-clause-found = switches.run_statements-returns-in-Err-clause-found
+
+pub switches::run_statements-returns-in-Err-clause-does : goal.switches::run_statements-returns-in-Err-clause-does
+switches::run_statements-returns-in-Err-clause-does = switches.run_statements-returns-in-Err-clause-does
+
+pub switches::run_statements-returns-clause-does : goal.switches::run_statements-returns-clause-does
+switches::run_statements-returns-clause-does = switches.run_statements-returns-clause-does
+
+-- ---- `labels`
+
+pub labels::labelled-statement-requires : goal.labels::labelled-statement-requires
+labels::labelled-statement-requires = labels.labelled-statement-requires
+
+pub labels::labelled-behind_label-requires : goal.labels::labelled-behind_label-requires
+labels::labelled-behind_label-requires = labels.labelled-behind_label-requires
+
+pub labels::labelled-returns-in-Ok-clause-found : goal.labels::labelled-returns-in-Ok-clause-found
+labels::labelled-returns-in-Ok-clause-found = labels.labelled-returns-in-Ok-clause-found
+
+pub labels::labelled-returns-in-Ok-clause-does : goal.labels::labelled-returns-in-Ok-clause-does
+labels::labelled-returns-in-Ok-clause-does = labels.labelled-returns-in-Ok-clause-does
+
+pub labels::labelled-returns-in-Err-clause-later : goal.labels::labelled-returns-in-Err-clause-later
+labels::labelled-returns-in-Err-clause-later = labels.labelled-returns-in-Err-clause-later
+
+pub labels::labelled-returns-in-Err-clause-found : goal.labels::labelled-returns-in-Err-clause-found
+labels::labelled-returns-in-Err-clause-found = labels.labelled-returns-in-Err-clause-found
+
+pub labels::labelled-returns-in-Err-clause-does : goal.labels::labelled-returns-in-Err-clause-does
+labels::labelled-returns-in-Err-clause-does = labels.labelled-returns-in-Err-clause-does
+
+-- ---- `do_loops`
+
+pub do_loops::run_do-iterations-requires : goal.do_loops::run_do-iterations-requires
+do_loops::run_do-iterations-requires = do_loops.run_do-iterations-requires
+
+pub do_loops::run_do-returns-in-Some-clause-later : goal.do_loops::run_do-returns-in-Some-clause-later
+do_loops::run_do-returns-in-Some-clause-later = do_loops.run_do-returns-in-Some-clause-later
+
+pub do_loops::run_do-returns-in-Some-clause-found : goal.do_loops::run_do-returns-in-Some-clause-found
+do_loops::run_do-returns-in-Some-clause-found = do_loops.run_do-returns-in-Some-clause-found
+
+pub do_loops::run_do-returns-in-Some-clause-does : goal.do_loops::run_do-returns-in-Some-clause-does
+do_loops::run_do-returns-in-Some-clause-does = do_loops.run_do-returns-in-Some-clause-does
+
+pub do_loops::run_do-returns-in-None-clause-later : goal.do_loops::run_do-returns-in-None-clause-later
+do_loops::run_do-returns-in-None-clause-later = do_loops.run_do-returns-in-None-clause-later
+
+pub do_loops::run_do-returns-in-None-clause-does : goal.do_loops::run_do-returns-in-None-clause-does
+do_loops::run_do-returns-in-None-clause-does = do_loops.run_do-returns-in-None-clause-does
+
+pub do_loops::run_do-returns-in-Err-clause-later : goal.do_loops::run_do-returns-in-Err-clause-later
+do_loops::run_do-returns-in-Err-clause-later = do_loops.run_do-returns-in-Err-clause-later
+
+pub do_loops::run_do-returns-in-Err-clause-does : goal.do_loops::run_do-returns-in-Err-clause-does
+do_loops::run_do-returns-in-Err-clause-does = do_loops.run_do-returns-in-Err-clause-does
+
+pub do_loops::iterations-rounds-init : goal.do_loops::iterations-rounds-init
+do_loops::iterations-rounds-init = do_loops.iterations-rounds-init
+
+pub do_loops::iterations-iteration-requires : goal.do_loops::iterations-iteration-requires
+do_loops::iterations-iteration-requires = do_loops.iterations-iteration-requires
+
+pub do_loops::iterations-rounds-preserved : goal.do_loops::iterations-rounds-preserved
+do_loops::iterations-rounds-preserved = do_loops.iterations-rounds-preserved
+
+pub do_loops::iterations-returns-in-Some-clause-later : goal.do_loops::iterations-returns-in-Some-clause-later
+do_loops::iterations-returns-in-Some-clause-later = do_loops.iterations-returns-in-Some-clause-later
+
+pub do_loops::iterations-returns-in-Some-clause-found : goal.do_loops::iterations-returns-in-Some-clause-found
+do_loops::iterations-returns-in-Some-clause-found = do_loops.iterations-returns-in-Some-clause-found
+
+pub do_loops::iterations-returns-in-Some-clause-does : goal.do_loops::iterations-returns-in-Some-clause-does
+do_loops::iterations-returns-in-Some-clause-does = do_loops.iterations-returns-in-Some-clause-does
+
+pub do_loops::iterations-returns-in-Err-clause-later : goal.do_loops::iterations-returns-in-Err-clause-later
+do_loops::iterations-returns-in-Err-clause-later = do_loops.iterations-returns-in-Err-clause-later
+
+pub do_loops::iterations-returns-in-Err-clause-does : goal.do_loops::iterations-returns-in-Err-clause-does
+do_loops::iterations-returns-in-Err-clause-does = do_loops.iterations-returns-in-Err-clause-does
+
+pub do_loops::iterations-returns-clause-later : goal.do_loops::iterations-returns-clause-later
+do_loops::iterations-returns-clause-later = do_loops.iterations-returns-clause-later
+
+pub do_loops::iterations-returns-clause-found : goal.do_loops::iterations-returns-clause-found
+do_loops::iterations-returns-clause-found = do_loops.iterations-returns-clause-found
+
+pub do_loops::iterations-returns-clause-does : goal.do_loops::iterations-returns-clause-does
+do_loops::iterations-returns-clause-does = do_loops.iterations-returns-clause-does
+
+pub do_loops::first-body_ended-requires : goal.do_loops::first-body_ended-requires
+do_loops::first-body_ended-requires = do_loops.first-body_ended-requires
+
+pub do_loops::first-returns-in-Ok-clause-later : goal.do_loops::first-returns-in-Ok-clause-later
+do_loops::first-returns-in-Ok-clause-later = do_loops.first-returns-in-Ok-clause-later
+
+pub do_loops::first-returns-in-Ok-clause-does : goal.do_loops::first-returns-in-Ok-clause-does
+do_loops::first-returns-in-Ok-clause-does = do_loops.first-returns-in-Ok-clause-does
+
+pub do_loops::first-returns-in-Err-clause-later : goal.do_loops::first-returns-in-Err-clause-later
+do_loops::first-returns-in-Err-clause-later = do_loops.first-returns-in-Err-clause-later
+
+pub do_loops::first-returns-in-Err-clause-found : goal.do_loops::first-returns-in-Err-clause-found
+do_loops::first-returns-in-Err-clause-found = do_loops.first-returns-in-Err-clause-found
+
+pub do_loops::first-returns-in-Err-clause-does : goal.do_loops::first-returns-in-Err-clause-does
+do_loops::first-returns-in-Err-clause-does = do_loops.first-returns-in-Err-clause-does
+
+pub do_loops::iteration-body_ended-requires : goal.do_loops::iteration-body_ended-requires
+do_loops::iteration-body_ended-requires = do_loops.iteration-body_ended-requires
+
+pub do_loops::iteration-returns-in-Ok-clause-later : goal.do_loops::iteration-returns-in-Ok-clause-later
+do_loops::iteration-returns-in-Ok-clause-later = do_loops.iteration-returns-in-Ok-clause-later
+
+pub do_loops::iteration-returns-in-Ok-clause-does : goal.do_loops::iteration-returns-in-Ok-clause-does
+do_loops::iteration-returns-in-Ok-clause-does = do_loops.iteration-returns-in-Ok-clause-does
+
+pub do_loops::iteration-returns-in-Err-clause-later : goal.do_loops::iteration-returns-in-Err-clause-later
+do_loops::iteration-returns-in-Err-clause-later = do_loops.iteration-returns-in-Err-clause-later
+
+pub do_loops::iteration-returns-in-Err-clause-found : goal.do_loops::iteration-returns-in-Err-clause-found
+do_loops::iteration-returns-in-Err-clause-found = do_loops.iteration-returns-in-Err-clause-found
+
+pub do_loops::iteration-returns-in-Err-clause-does : goal.do_loops::iteration-returns-in-Err-clause-does
+do_loops::iteration-returns-in-Err-clause-does = do_loops.iteration-returns-in-Err-clause-does
+
+pub do_loops::body_ended-returns-in-Again-clause-does : goal.do_loops::body_ended-returns-in-Again-clause-does
+do_loops::body_ended-returns-in-Again-clause-does = do_loops.body_ended-returns-in-Again-clause-does
+
+pub do_loops::body_ended-returns-in-Breaks-clause-does : goal.do_loops::body_ended-returns-in-Breaks-clause-does
+do_loops::body_ended-returns-in-Breaks-clause-does = do_loops.body_ended-returns-in-Breaks-clause-does
+
+pub do_loops::body_ended-returns-in-Passes-clause-does : goal.do_loops::body_ended-returns-in-Passes-clause-does
+do_loops::body_ended-returns-in-Passes-clause-does = do_loops.body_ended-returns-in-Passes-clause-does
+
+pub do_loops::asked-tested-requires : goal.do_loops::asked-tested-requires
+do_loops::asked-tested-requires = do_loops.asked-tested-requires
+
+pub do_loops::asked-returns-in-Ok-clause-found : goal.do_loops::asked-returns-in-Ok-clause-found
+do_loops::asked-returns-in-Ok-clause-found = do_loops.asked-returns-in-Ok-clause-found
+
+pub do_loops::asked-returns-in-Ok-clause-does : goal.do_loops::asked-returns-in-Ok-clause-does
+do_loops::asked-returns-in-Ok-clause-does = do_loops.asked-returns-in-Ok-clause-does
+
+pub do_loops::asked-returns-in-Err-clause-later : goal.do_loops::asked-returns-in-Err-clause-later
+do_loops::asked-returns-in-Err-clause-later = do_loops.asked-returns-in-Err-clause-later
+
+pub do_loops::asked-returns-in-Err-clause-found : goal.do_loops::asked-returns-in-Err-clause-found
+do_loops::asked-returns-in-Err-clause-found = do_loops.asked-returns-in-Err-clause-found
+
+pub do_loops::asked-returns-in-Err-clause-does : goal.do_loops::asked-returns-in-Err-clause-does
+do_loops::asked-returns-in-Err-clause-does = do_loops.asked-returns-in-Err-clause-does
+
+-- ---- `statements`: labels and `do`
+
+pub statements::statement_form-returns-in-Some-Label-clause-does : goal.statements::statement_form-returns-in-Some-Label-clause-does
+statements::statement_form-returns-in-Some-Label-clause-does = statements.statement_form-returns-in-Some-Label-clause-does
+
+pub statements::statement_form-run_do-requires : goal.statements::statement_form-run_do-requires
+statements::statement_form-run_do-requires = statements.statement_form-run_do-requires
+
+pub statements::statement_form-returns-in-Some-DoWhile-clause-does : goal.statements::statement_form-returns-in-Some-DoWhile-clause-does
+statements::statement_form-returns-in-Some-DoWhile-clause-does = statements.statement_form-returns-in-Some-DoWhile-clause-does

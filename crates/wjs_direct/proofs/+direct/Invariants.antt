@@ -10,6 +10,7 @@ use Rattle.wjs_direct.specs.Variables.{variables_left}
 use Rattle.wjs_direct.proofs.Calling.{values_left}
 use Rattle.wjs_direct.proofs.Elements.{rest_from}
 use Rattle.wjs_direct.specs.Literals.{items_left, pairs_left}
+use Rattle.wjs_direct.specs.Switches.{cases_left, statements_left}
 use Rattle.wjs_direct.proofs.Constructing.{news_left}
 use Rattle.wjs_direct.proofs.+direct.Given as goal
 
@@ -59,11 +60,20 @@ decreases-calls::target_called g l = l.room * 32 + 29
 abbrev pub decreases-calls::reference_called : goal.decreases-calls::reference_called
 decreases-calls::reference_called g l = l.room * 32 + 28
 
+abbrev pub decreases-calls::value_called : goal.decreases-calls::value_called
+decreases-calls::value_called g l = l.room * 32 + 29
+
+abbrev pub decreases-calls::callee_given : goal.decreases-calls::callee_given
+decreases-calls::callee_given g l = l.room * 32 + 28
+
+abbrev pub decreases-calls::callee_read : goal.decreases-calls::callee_read
+decreases-calls::callee_read g l = l.room * 32 + 27
+
 abbrev pub decreases-calls::evaluate_arguments : goal.decreases-calls::evaluate_arguments
-decreases-calls::evaluate_arguments g l = l.room * 32 + 27
+decreases-calls::evaluate_arguments g l = l.room * 32 + 26
 
 abbrev pub decreases-calls::called : goal.decreases-calls::called
-decreases-calls::called g l = l.room * 32 + 26
+decreases-calls::called g l = l.room * 32 + 25
 
 abbrev pub decreases-calls::script_called : goal.decreases-calls::script_called
 decreases-calls::script_called g l = l.room * 32 + 24
@@ -408,3 +418,84 @@ decreases-tries::lastly g l = l.room * 32 + 15
 
 abbrev pub decreases-tries::finish_by : goal.decreases-tries::finish_by
 decreases-tries::finish_by g l = l.room * 32 + 10
+
+-- `switch`
+
+abbrev pub decreases-switches::switch : goal.decreases-switches::switch
+decreases-switches::switch g l = l.room * 32 + 30
+
+abbrev pub decreases-switches::cases : goal.decreases-switches::cases
+decreases-switches::cases g l = l.room * 32 + 29
+
+abbrev pub decreases-switches::run_clauses : goal.decreases-switches::run_clauses
+decreases-switches::run_clauses g l = l.room * 32 + 20
+
+abbrev pub decreases-switches::run_default : goal.decreases-switches::run_default
+decreases-switches::run_default g l = l.room * 32 + 20
+
+abbrev pub decreases-switches::run_statements : goal.decreases-switches::run_statements
+decreases-switches::run_statements g l = l.room * 32 + 10
+
+abbrev pub decreases-switches::cases-loop-case : goal.decreases-switches::cases-loop-case
+decreases-switches::cases-loop-case g l = 4294967296 - l.from
+
+abbrev pub invariant-switches::cases-loop-case : goal.invariant-switches::cases-loop-case
+invariant-switches::cases-loop-case g l =
+    let m = g.S.WorldStore.meaning in
+    let old = l.initial.config in
+    let f = l.frame in
+    record {
+      left : Leaves m (line_here m old f (cases_left old f l.node l.sought 0)) (line_here m l.config f (cases_left l.config f l.node l.sought l.from)) old l.config;
+      later : Later m old l.config;
+      empty : l.stops.waits ≡ [];
+    }
+
+abbrev pub decreases-switches::run_statements-loop-part : goal.decreases-switches::run_statements-loop-part
+decreases-switches::run_statements-loop-part g l = 4294967296 - l.at
+
+abbrev pub invariant-switches::run_statements-loop-part : goal.invariant-switches::run_statements-loop-part
+invariant-switches::run_statements-loop-part g l =
+    let m = g.S.WorldStore.meaning in
+    let old = l.initial.config in
+    let f = l.frame in
+    record {
+      left : Leaves m (line_here m old f (statements_left old f l.node l.from)) (line_here m l.config f (statements_left l.config f l.node l.at)) old l.config;
+      later : Later m old l.config;
+      empty : l.stops.waits ≡ [];
+    }
+
+-- labelled statements
+abbrev pub decreases-labels::labelled : goal.decreases-labels::labelled
+decreases-labels::labelled g l = l.room * 32 + 20
+
+-- the loop `do`
+abbrev pub decreases-do_loops::run_do : goal.decreases-do_loops::run_do
+decreases-do_loops::run_do g l = l.room * 32 + 26
+
+abbrev pub decreases-do_loops::first : goal.decreases-do_loops::first
+decreases-do_loops::first g l = l.room * 32 + 25
+
+abbrev pub decreases-do_loops::iterations : goal.decreases-do_loops::iterations
+decreases-do_loops::iterations g l = l.room * 32 + 25
+
+abbrev pub decreases-do_loops::iteration : goal.decreases-do_loops::iteration
+decreases-do_loops::iteration g l = l.room * 32 + 33
+
+abbrev pub decreases-do_loops::body_ended : goal.decreases-do_loops::body_ended
+decreases-do_loops::body_ended g l = l.room * 32 + 21
+
+abbrev pub decreases-do_loops::asked : goal.decreases-do_loops::asked
+decreases-do_loops::asked g l = l.room * 32 + 20
+
+abbrev pub decreases-do_loops::iterations-rounds : goal.decreases-do_loops::iterations-rounds
+decreases-do_loops::iterations-rounds g l = l.turns
+
+abbrev pub invariant-do_loops::iterations-rounds : goal.invariant-do_loops::iterations-rounds
+invariant-do_loops::iterations-rounds g l =
+    let m = g.S.WorldStore.meaning in
+    let old = l.initial.config in
+    record {
+      left : Leaves m (goal_here m old l.frame (Again l.node.0)) (goal_here m l.config l.frame (Again l.node.0)) old l.config;
+      later : Later m old l.config;
+      empty : l.stops.waits ≡ [];
+    }

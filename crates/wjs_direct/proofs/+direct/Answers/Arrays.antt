@@ -1,10 +1,8 @@
 -- What holds of the functions of `arrays`.
-use Rattle.std.proofs.Common.{◌≡◌, ◌+◌, ◌-◌, rules, [], ◌∷◌, Some, length, refl, ap, ◌∙◌, subst, sym, ℕ}
+use Rattle.std.proofs.Common.{◌≡◌, ◌+◌, rules, [], ◌∷◌, Some, length, refl, ap, ◌∙◌, subst, sym, ℕ}
 use Rattle.std.specs.Prelude.{Ok, Err, slice_get}
 use Rattle.wjs_base.specs.declared.values.Value.{Value}
 use Rattle.wjs_base.specs.declared.values.Value.TheVariants as values
-use Rattle.wjs_by_content.specs.Values.{Object}
-use Rattle.wjs_meaning.specs.Reading.{number}
 use Rattle.wjs_model.specs.Soundness.{Base, HasValue, IsThere, StandsHere, HasObject}
 use Rattle.wjs_model.specs.declared.frame.Held.TheVariants as holds
 use Rattle.wjs_model.specs.declared.point.Point.TheVariants as points

@@ -1,5 +1,5 @@
 -- What holds of the functions of `bodies`.
-use Rattle.std.proofs.Common.{◌≡◌, ◌-◌, rules, [], refl, ap, ◌∙◌, subst, sym}
+use Rattle.std.proofs.Common.{◌≡◌, rules, [], refl, ap, ◌∙◌, subst, sym}
 use Rattle.std.specs.Prelude.{Ok, Err, map, All}
 use Rattle.wjs_base.specs.declared.ids.NodeId.{NodeId}
 use Rattle.wjs_base.specs.declared.values.Value.{Value}
@@ -8,7 +8,6 @@ use Rattle.wjs_arena.specs.Entries.{Entry}
 use Rattle.wjs_by_content.specs.Tables.{value_in}
 use Rattle.wjs_by_content.specs.Values.{Object}
 use Rattle.wjs_meaning.specs.Deeds.{AtStmt}
-use Rattle.wjs_meaning.specs.Programs.{entry}
 use Rattle.wjs_meaning.specs.Functions.{body_of}
 use Rattle.wjs_model.specs.declared.frame.Completion.{Completion}
 use Rattle.wjs_model.specs.Contents.{completion_in}
@@ -20,7 +19,6 @@ use Rattle.wjs_model.specs.declared.point.Point.TheVariants as points
 use Rattle.wjs_model.specs.declared.point.CallPoint.TheVariants as call_point
 use Rattle.wjs_frames.specs.Parts.{env_in}
 use Rattle.wjs_frames.specs.Following.{Later}
-use Rattle.wjs_frames.specs.declared.part.Part.TheVariants as part
 use Rattle.wjs_heap_steps.proofs.Later.{later_same, later_twice}
 use Rattle.wjs_effects.proofs.StandingElements.{element_stands, sequence_later}
 use Rattle.wjs_effects.specs.declared.elements.Sequence.TheVariants as kinds

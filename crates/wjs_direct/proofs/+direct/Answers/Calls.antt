@@ -1,41 +1,46 @@
 -- What holds of the functions of `calls`.
-use Rattle.std.proofs.Common.{◌≡◌, ◌+◌, ◌-◌, true, rules, [], ◌∷◌, refl, ◌∙◌, subst, sym, Vec, Global, ℕ, List, ◌++◌}
+use Rattle.std.proofs.Common.{◌≡◌, ◌-◌, rules, [], ◌∷◌, refl, ◌∙◌, subst, sym, Vec, Global, ℕ, List, ◌++◌}
 use Rattle.std.specs.Prelude.{Err, map, All}
 use Rattle.std.proofs.lemmas.List.Elements.{All-nil, All-push, All-same}
+use Rattle.wjs_base.specs.declared.ids.ObjId.{ObjId}
 use Rattle.wjs_base.specs.declared.values.Value.{Value}
 use Rattle.wjs_base.specs.declared.values.Value.TheVariants as values
+use Rattle.wjs_base.specs.Text.{Table}
 use Rattle.wjs_by_content.specs.Tables.{value_in}
-use Rattle.wjs_by_content.specs.Values.{Object}
-use Rattle.wjs_meaning.specs.Deeds.{AtTarget, then_reference, Gives}
+use Rattle.wjs_by_content.specs.Values.{Object, Undefined}
+use Rattle.wjs_meaning.specs.Deeds.{Act, AtExpr, AtTarget, Env, Gives, then_reference, then_value}
 use Rattle.wjs_meaning.specs.Reading.{node_in}
-use Rattle.wjs_meaning.specs.Expressions.{call_reference, call_values}
+use Rattle.wjs_meaning.specs.Expressions.{call_callee, call_reference, call_values}
 use Rattle.wjs_meaning.specs.Calls.{call}
 use Rattle.wjs_model.specs.Contents.{reference_in}
 use Rattle.wjs_model.specs.Lists.{arguments_of}
+use Rattle.wjs_model.specs.Operands.{evaluated}
 use Rattle.wjs_model.specs.Soundness.{Base, HasValue, IsThere, StandsHere, HasObject, HasReference}
+use Rattle.wjs_model.specs.declared.config.Config.{Config}
 use Rattle.wjs_model.specs.declared.frame.Reference.{Reference}
 use Rattle.wjs_model.specs.declared.loaded.LoadedProgram.{LoadedProgram as Program}
-use Rattle.wjs_model.specs.Operands.{evaluated}
-use Rattle.wjs_model.specs.declared.frame.Completion.TheVariants as completions
 use Rattle.wjs_model.specs.declared.frame.Phase.TheVariants as phases
 use Rattle.wjs_model.specs.declared.point.Start.TheVariants as starts
 use Rattle.wjs_model.specs.declared.point.Point.TheVariants as points
 use Rattle.wjs_model.specs.declared.point.ExprPoint.TheVariants as expr
+use Rattle.wjs_frames.specs.Following.{Later}
 use Rattle.wjs_frames.specs.Parts.{env_in, node_among}
 use Rattle.wjs_frames.proofs.Parting.{stands_later}
 use Rattle.wjs_frames.proofs.Shorter.{shorten_sub}
-use Rattle.wjs_heap_steps.proofs.Later.{later_same, later_twice}
 use Rattle.wjs_heap_steps.specs.Peeking.{Peeks}
+use Rattle.wjs_heap_steps.proofs.Later.{later_same, later_twice}
 use Rattle.wjs_quick.proofs.Coming.{later_left, one_less}
 use Rattle.wjs_stopping.specs.Ends.{gives_in}
 use Rattle.wjs_stopping.specs.Evaluating.{Evaluates, Leaves}
 use Rattle.wjs_stopping.specs.Waiting.{WaitsAt, at_node}
 use Rattle.wjs_direct.specs.Deeds.{line_here, refers_in, call_held}
 use Rattle.wjs_direct.proofs.Forming.{form_goes_on}
-use Rattle.wjs_direct.proofs.Parts.{broke_does, broke_found, broke_later, later_stopped, later_then, stop_found, given_does, shortened}
+use Rattle.wjs_direct.proofs.Parts.{broke_does, broke_found, broke_later, later_stopped, later_then, stop_found, shortened}
 use Rattle.wjs_direct.proofs.NativeCalls.{native_entered}
-use Rattle.wjs_direct.proofs.Calling.{callee_stands, call_entered, callee_waits, reference_read, argument_stands, values_later, values_left, values_first, argument_given, argument_broken, arguments_done, call_looks, call_does, script_entered, body_does, body_found, body_paid}
+use Rattle.wjs_direct.proofs.Calling.{callee_stands, call_entered, value_entered, callee_waits, callee_valued, argument_stands, values_later, values_left, values_first, argument_given, argument_broken, arguments_done, call_looks, call_does, script_entered, body_does, body_found, body_paid}
 use Rattle.wjs_direct.proofs.Holdings.{call_there}
+use Rattle.wjs_direct.proofs.Assigning.{broken_as}
+use Rattle.wjs_direct.proofs.ReferenceReading.{callee_goes, look_reads}
 use Rattle.wjs_direct.proofs.+direct.Goals as goal
 
 -- ---- calls: the callee
@@ -53,6 +58,20 @@ call-returns-then-is_target-clause-does g t c =
     let new = c.target_called.new in
     call_entered g.S.WorldStore.meaning c.args.config.now c.args.frame.now c.args.node c.args.callee c.requires.callee.0 c.requires.callee.1 gives_in c.target_called.result new.stops.waits new.stops.top new.config
     (λ t. c.is_target.ensures t ∙ c.if-is_target.true) c.target_called.ensures.does
+
+pub call-value_called-requires : goal.calls::call-value_called-requires
+call-value_called-requires g t c =
+    let m = g.S.WorldStore.meaning in
+    let old = c.args.config.now in
+    let f = c.args.frame.now in
+    let callee : StandsHere old f c.args.callee = callee_stands m old f c.args.node c.args.callee c.requires.callee.0 c.requires.callee.1 c.requires.there c.requires.node in
+    search (rules, callee)
+
+pub call-returns-else-is_target-clause-does : goal.calls::call-returns-else-is_target-clause-does
+call-returns-else-is_target-clause-does g t c =
+    let new = c.value_called.new in
+    value_entered g.S.WorldStore.meaning c.args.config.now c.args.frame.now c.args.node c.args.callee c.requires.callee.0 c.requires.callee.1 gives_in c.value_called.result new.stops.waits new.stops.top new.config
+    (λ t. c.is_target.ensures t ∙ c.if-is_target.false) c.value_called.ensures.does
 
 pub target_called-reference_called-requires : goal.calls::target_called-reference_called-requires
 target_called-reference_called-requires g t c =
@@ -107,15 +126,140 @@ reference_called-returns-in-Some-Object-clause-does g t c =
     let m = g.S.WorldStore.meaning in
     let old = c.args.config.now in
     let f = c.args.frame.now in
-    let new = c.evaluate_arguments.new in
-    reference_read m gives_in old new.config f c.args.reference (λ t. arguments_of (node_in t (node_among old.units.items f.tree c.args.node))) c.in-Some-Object.function c.base_of-this.result c.evaluate_arguments.result new.stops.waits new.stops.top
-    (subst (λ (v : Value). Peeks m (λ t. evaluated (reference_in t c.args.reference) (env_in m old t f)) (λ t. Gives (value_in t v)) old) c.in-Some-Object.field-0-is c.in-Some-Object.ensures.peeks)
+    let k = c.evaluate_arguments.new in
+    let found = values.Object c.in-Some-Object.function in
+    callee_goes m old old k.config f c.args.reference (λ u. arguments_of (node_in u (node_among old.units.items f.tree c.args.node))) found c.base_of-this.result c.evaluate_arguments.result k.stops.waits k.stops.top
+    (later_same m old c.requires.base) (look_reads m old f c.args.reference found
+    (subst (λ (v : Value). Peeks m (λ u. evaluated (reference_in u c.args.reference) (env_in m old u f)) (λ u. Gives (value_in u v)) old) c.in-Some-Object.field-0-is c.in-Some-Object.ensures.peeks))
     c.base_of-this.ensures.is c.evaluate_arguments.ensures.does
 
-pub reference_called-returns-in_default-clause-does : goal.calls::reference_called-returns-in_default-clause-does
-reference_called-returns-in_default-clause-does g t c =
-    let new = c.stop.new in
-    given_does g.S.WorldStore.meaning gives_in c.args.config.now new.config c.args.frame.now c.stop.result new.stops.waits new.stops.top c.stop.ensures.same c.args.node [] (points.Expr expr.CalleeTarget) (completions.Refers c.args.reference) c.stop.ensures.stops
+pub callee_read-evaluate_arguments-requires : goal.calls::callee_read-evaluate_arguments-requires
+callee_read-evaluate_arguments-requires g t c =
+    let m = g.S.WorldStore.meaning in
+    let old = c.args.config.now in
+    let f = c.args.frame.now in
+    let mid = c.callee_of.new.config in
+    let l = c.in-Ok.ensures.later in
+    let base : Base m mid = l.base in
+    let there : IsThere m mid f = l.frames f c.requires.there in
+    let node : StandsHere mid f c.args.node = stands_later m old f mid c.args.node l c.requires.node in
+    let empty : c.callee_of.new.stops.waits ≡ [] = c.in-Ok.ensures.found.1 in
+    let function : HasObject mid c.in-Ok.function = c.in-Ok.ensures.found.0 in
+    let this : HasValue mid c.base_of-this.result = l.values c.base_of-this.result c.base_of-this.ensures.found in
+    search (rules, base, there, node, empty, function, this)
+
+pub callee_read-returns-in-Ok-clause-later : goal.calls::callee_read-returns-in-Ok-clause-later
+callee_read-returns-in-Ok-clause-later g t c =
+    later_then g.S.WorldStore.meaning c.args.config.now c.callee_of.new.config c.evaluate_arguments.new.config c.evaluate_arguments.result c.in-Ok.ensures.later c.evaluate_arguments.ensures.later
+
+pub callee_read-returns-in-Ok-clause-does : goal.calls::callee_read-returns-in-Ok-clause-does
+callee_read-returns-in-Ok-clause-does g t c =
+    let m = g.S.WorldStore.meaning in
+    let old = c.args.config.now in
+    let mid = c.callee_of.new.config in
+    let f = c.args.frame.now in
+    let k = c.evaluate_arguments.new in
+    let this = c.base_of-this.result in
+    callee_goes m old mid k.config f c.args.reference (λ u. arguments_of (node_in u (node_among old.units.items f.tree c.args.node))) (values.Object c.in-Ok.function) this c.evaluate_arguments.result k.stops.waits k.stops.top
+    c.in-Ok.ensures.later c.in-Ok.ensures.does c.base_of-this.ensures.is
+    (subst (λ (us : Vec Program Global). Evaluates m (line_here m mid f (λ u env. call_callee (arguments_of (node_in u (node_among us.items f.tree c.args.node))) (value_in u this) env (Object c.in-Ok.function))) gives_in c.evaluate_arguments.result k.stops.waits k.stops.top mid k.config)
+    c.in-Ok.ensures.later.units c.evaluate_arguments.ensures.does)
+
+pub callee_read-returns-in-Err-clause-later : goal.calls::callee_read-returns-in-Err-clause-later
+callee_read-returns-in-Err-clause-later g t c = broken_as ObjId Value (Later g.S.WorldStore.meaning c.args.config.now c.callee_of.new.config) c.in-Err.end c.in-Err.ensures.later
+
+pub callee_read-returns-in-Err-clause-found : goal.calls::callee_read-returns-in-Err-clause-found
+callee_read-returns-in-Err-clause-found g t c = c.in-Err.ensures.found
+
+pub callee_read-returns-in-Err-clause-does : goal.calls::callee_read-returns-in-Err-clause-does
+callee_read-returns-in-Err-clause-does g t c = c.in-Err.ensures.does
+
+-- ---- calls: a callee that is no target
+
+pub value_called-callee_given-requires : goal.calls::value_called-callee_given-requires
+value_called-callee_given-requires g t c =
+    let m = g.S.WorldStore.meaning in
+    let old = c.args.config.now in
+    let f = c.args.frame.now in
+    let mid = c.value.new.config in
+    let l = c.in-Ok.ensures.later in
+    let base : Base m mid = l.base in
+    let there : IsThere m mid f = l.frames f c.requires.there in
+    let node : StandsHere mid f c.args.node = stands_later m old f mid c.args.node l c.requires.node in
+    let empty : c.value.new.stops.waits ≡ [] = c.in-Ok.ensures.found.1 in
+    let given : HasValue mid c.in-Ok.given = c.in-Ok.ensures.found.0 in
+    search (rules, base, there, node, empty, given)
+
+pub value_called-returns-in-Ok-clause-later : goal.calls::value_called-returns-in-Ok-clause-later
+value_called-returns-in-Ok-clause-later g t c = later_then g.S.WorldStore.meaning c.args.config.now c.value.new.config c.callee_given.new.config c.callee_given.result c.in-Ok.ensures.later c.callee_given.ensures.later
+
+pub value_called-returns-in-Ok-clause-does : goal.calls::value_called-returns-in-Ok-clause-does
+value_called-returns-in-Ok-clause-does g t c =
+    let m = g.S.WorldStore.meaning in
+    let old = c.args.config.now in
+    let mid = c.value.new.config in
+    let new = c.callee_given.new in
+    let f = c.args.frame.now in
+    let v = c.in-Ok.given in
+    form_goes_on m gives_in gives_in old mid new.config f (AtExpr c.args.callee.0) (λ t env. then_value (call_callee (arguments_of (node_in t (node_among old.units.items f.tree c.args.node))) Undefined env)) v
+    c.callee_given.result c.value.new.stops.waits c.value.new.stops.top new.stops.waits new.stops.top c.in-Ok.ensures.later c.in-Ok.ensures.does
+    (subst (λ (us : Vec Program Global). Evaluates m (line_here m mid f (λ t env. call_callee (arguments_of (node_in t (node_among us.items f.tree c.args.node))) Undefined env (value_in t v))) gives_in c.callee_given.result new.stops.waits new.stops.top mid new.config)
+    c.in-Ok.ensures.later.units c.callee_given.ensures.does)
+
+pub value_called-returns-in-Err-clause-found : goal.calls::value_called-returns-in-Err-clause-found
+value_called-returns-in-Err-clause-found g t c =
+    let stops = c.value.new.stops in
+    let new = c.waits.new in
+    broke_found g.S.WorldStore.meaning Value Value c.args.config.now c.value.new.config new.config c.args.frame.now c.args.node [] (points.Expr expr.CalleeValue) c.in-Err.end stops.waits stops.top c.waits.result new.stops.waits new.stops.top
+    c.waits.ensures.same c.waits.ensures.waits c.in-Err.ensures.later c.requires.there c.requires.node tt tt c.in-Err.ensures.found
+
+pub value_called-returns-in-Err-clause-does : goal.calls::value_called-returns-in-Err-clause-does
+value_called-returns-in-Err-clause-does g t c =
+    let m = g.S.WorldStore.meaning in
+    let old = c.args.config.now in
+    let f = c.args.frame.now in
+    let stops = c.value.new.stops in
+    let new = c.waits.new in
+    broke_does m Value Value old c.value.new.config new.config f c.args.node [] (points.Expr expr.CalleeValue) c.in-Err.end stops.waits stops.top c.waits.result new.stops.waits new.stops.top
+    c.waits.ensures.same c.waits.ensures.waits gives_in gives_in (AtExpr c.args.callee.0) (λ t env. then_value (call_callee (arguments_of (node_in t (node_among old.units.items f.tree c.args.node))) Undefined env))
+    (callee_valued m old c.value.new.config f c.args.node) (λ t env e. refl) c.in-Err.ensures.later c.in-Err.ensures.does
+
+pub callee_given-evaluate_arguments-requires : goal.calls::callee_given-evaluate_arguments-requires
+callee_given-evaluate_arguments-requires g t c =
+    let m = g.S.WorldStore.meaning in
+    let old = c.args.config.now in
+    let f = c.args.frame.now in
+    let mid = c.callee_object.new.config in
+    let l = c.in-Ok.ensures.later in
+    let base : Base m mid = l.base in
+    let there : IsThere m mid f = l.frames f c.requires.there in
+    let node : StandsHere mid f c.args.node = stands_later m old f mid c.args.node l c.requires.node in
+    let empty : c.callee_object.new.stops.waits ≡ [] = c.in-Ok.ensures.found.1 in
+    let function : HasObject mid c.in-Ok.function = c.in-Ok.ensures.found.0 in
+    search (rules, base, there, node, empty, function)
+
+pub callee_given-returns-in-Ok-clause-later : goal.calls::callee_given-returns-in-Ok-clause-later
+callee_given-returns-in-Ok-clause-later g t c =
+    later_then g.S.WorldStore.meaning c.args.config.now c.callee_object.new.config c.evaluate_arguments.new.config c.evaluate_arguments.result c.in-Ok.ensures.later c.evaluate_arguments.ensures.later
+
+pub callee_given-returns-in-Ok-clause-does : goal.calls::callee_given-returns-in-Ok-clause-does
+callee_given-returns-in-Ok-clause-does g t c =
+    let m = g.S.WorldStore.meaning in
+    let mid = c.callee_object.new.config in
+    let f = c.args.frame.now in
+    let k = c.evaluate_arguments.new in
+    let act : Config g.row.S.Denot → Value → Table → Env → Act = λ x v t env. call_callee (arguments_of (node_in t (node_among x.units.items f.tree c.args.node))) Undefined env (value_in t v) in
+    subst (λ (x : Config g.row.S.Denot). Evaluates m (line_here m x f (act x c.args.callee)) gives_in c.evaluate_arguments.result k.stops.waits k.stops.top x k.config) c.callee_object.ensures.same
+    (subst (λ (v : Value). Evaluates m (line_here m mid f (act mid v)) gives_in c.evaluate_arguments.result k.stops.waits k.stops.top mid k.config) (sym c.in-Ok.ensures.is) c.evaluate_arguments.ensures.does)
+
+pub callee_given-returns-in-Err-clause-later : goal.calls::callee_given-returns-in-Err-clause-later
+callee_given-returns-in-Err-clause-later g t c = broken_as ObjId Value (Later g.S.WorldStore.meaning c.args.config.now c.callee_object.new.config) c.in-Err.end c.in-Err.ensures.later
+
+pub callee_given-returns-in-Err-clause-found : goal.calls::callee_given-returns-in-Err-clause-found
+callee_given-returns-in-Err-clause-found g t c = c.in-Err.ensures.found
+
+pub callee_given-returns-in-Err-clause-does : goal.calls::callee_given-returns-in-Err-clause-does
+callee_given-returns-in-Err-clause-does g t c = c.in-Err.ensures.is (λ t. Undefined)
 
 -- ---- calls: the arguments
 

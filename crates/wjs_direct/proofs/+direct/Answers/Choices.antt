@@ -1,5 +1,5 @@
 -- What holds of the functions of `choices`.
-use Rattle.std.proofs.Common.{◌≡◌, ◌-◌, rules, [], inl, inr, refl}
+use Rattle.std.proofs.Common.{◌≡◌, rules, [], inl, inr, refl}
 use Rattle.wjs_base.specs.declared.values.Value.{Value}
 use Rattle.wjs_by_content.specs.Tables.{value_in}
 use Rattle.wjs_tree.specs.declared.node.Node.TheVariants as nodes

@@ -1,5 +1,5 @@
 -- What holds of the functions of `expressions`.
-use Rattle.std.proofs.Common.{◌≡◌, ◌-◌, true, rules, [], ◌∷◌, inl, inr, refl, ap, ◌∙◌, subst, sym}
+use Rattle.std.proofs.Common.{◌≡◌, ◌-◌, rules, [], ◌∷◌, inl, inr, refl, ap, ◌∙◌, subst, sym}
 use Rattle.std.specs.Prelude.{Err}
 use Rattle.wjs_base.specs.declared.values.Value.{Value}
 use Rattle.wjs_by_content.specs.Tables.{value_in}

@@ -1,5 +1,5 @@
 -- What holds of the functions of `loops`.
-use Rattle.std.proofs.Common.{◌≡◌, ◌-◌, true, rules, [], Option, Some, refl, ap, ◌∙◌, subst}
+use Rattle.std.proofs.Common.{◌≡◌, ◌-◌, rules, [], Option, Some, refl, ap, ◌∙◌, subst}
 use Rattle.std.specs.Prelude.{Err}
 use Rattle.wjs_base.specs.Text.{Table}
 use Rattle.wjs_base.specs.declared.ids.NodeId.{NodeId}
@@ -37,7 +37,7 @@ use Rattle.wjs_stopping.specs.Waiting.{at_node}
 use Rattle.wjs_direct.specs.Deeds.{goal_here, line_here, entry_here, form_here}
 use Rattle.wjs_stopping.proofs.Evaluating.{in_memory, leaves_all}
 use Rattle.wjs_direct.proofs.Forming.{form_goes_on, line_ended, node_there}
-use Rattle.wjs_direct.proofs.Parts.{broke_does, broke_found, broke_later, did, due_does, later_stopped, later_then, line_as, stop_found, given_does}
+use Rattle.wjs_direct.proofs.Parts.{broke_does, broke_found, broke_later, did, due_does, later_stopped, later_then, line_as, stop_found}
 use Rattle.wjs_direct.proofs.Assigning.{broken_as}
 use Rattle.wjs_direct.proofs.Looping.{after_is, entry_broke, entry_left, for_first_then, for_loops, if_here, if_stands, line_begins, line_same, loop_later, part_left, round_begun, round_behind, round_due, round_ended, round_there, round_updated, test_fails, test_holds}
 use Rattle.wjs_direct.specs.declared.loops.After.TheVariants as afters
@@ -651,42 +651,36 @@ body_ended-returns-in-Again-clause-does g t c =
     let old = c.args.config.now in
     let f = c.args.frame.now in
     let k = c.updated.new.stops in
+    let act : Table → Env → Act = λ t env. loops.loop_body c.args.node.0 (number c.args.update) env (completion_in t c.args.end) in
     let other : Table → Env → Act = λ t env. loops.loop_update c.args.node.0 (number c.args.update) env in
-    round_behind m (line_here m old f (λ t env. loops.loop_body c.args.node.0 (number c.args.update) env (completion_in t c.args.end))) (line_here m old f other) f c.args.node c.updated.result k.waits k.top old old c.updated.new.config
-    (line_same m old f (λ t env. loops.loop_body c.args.node.0 (number c.args.update) env (completion_in t c.args.end)) other (λ t more. after_is t c.args.node.0 (env_in m old t f) (other t (env_in m old t f)) c.args.end c.after_body.result afters.Again c.after_body.ensures c.in-Again.is)) c.updated.ensures.does
-
-pub body_ended-returns-in-Asks-clause-later : goal.loops::body_ended-returns-in-Asks-clause-later
-body_ended-returns-in-Asks-clause-later g t c = later_stopped g.S.WorldStore.meaning {A = Option Completion} c.args.config.now c.stop.new.config (Err c.stop.result) c.requires.base c.stop.ensures.same
-
-pub body_ended-returns-in-Asks-clause-found : goal.loops::body_ended-returns-in-Asks-clause-found
-body_ended-returns-in-Asks-clause-found g t c =
-    let m = g.S.WorldStore.meaning in
-    let old = c.args.config.now in
-    let f = c.args.frame.now in
-    let s = c.stop.new.stops in
-    stop_found m old c.stop.new.config f c.args.node [] (phases.Given (points.Stmt (stmt.ForBody c.args.update)) c.args.end) c.stop.result s.waits s.top c.stop.ensures.same
-    c.requires.there c.requires.node tt (if_here m old f c.args.node c.args.update c.requires.update, c.requires.end) c.stop.ensures.stops
-
-pub body_ended-returns-in-Asks-clause-does : goal.loops::body_ended-returns-in-Asks-clause-does
-body_ended-returns-in-Asks-clause-does g t c =
-    let s = c.stop.new.stops in
-    given_does g.S.WorldStore.meaning {A = Completion} completion_in c.args.config.now c.stop.new.config c.args.frame.now c.stop.result s.waits s.top c.stop.ensures.same c.args.node [] (points.Stmt (stmt.ForBody c.args.update)) c.args.end c.stop.ensures.stops
+    round_behind m (line_here m old f act) (line_here m old f other) f c.args.node c.updated.result k.waits k.top old old c.updated.new.config
+    (line_same m old f act other (λ t more.
+    let env = env_in m old t f in
+    after_is t (other t env) c.args.end (act t env) c.after_body.result afters.Again (c.after_body.ensures t more (other t env)) c.in-Again.is)) c.updated.ensures.does
 
 pub body_ended-returns-in-Breaks-clause-does : goal.loops::body_ended-returns-in-Breaks-clause-does
 body_ended-returns-in-Breaks-clause-does g t c =
     let m = g.S.WorldStore.meaning in
     let old = c.args.config.now in
     let f = c.args.frame.now in
-    round_ended m old f c.args.node (λ t env. loops.loop_body c.args.node.0 (number c.args.update) env (completion_in t c.args.end)) completions.Normal
-    (λ t more. after_is t c.args.node.0 (env_in m old t f) (loops.loop_update c.args.node.0 (number c.args.update) (env_in m old t f)) c.args.end c.after_body.result afters.Breaks c.after_body.ensures c.in-Breaks.is)
+    let act : Table → Env → Act = λ t env. loops.loop_body c.args.node.0 (number c.args.update) env (completion_in t c.args.end) in
+    let other : Table → Env → Act = λ t env. loops.loop_update c.args.node.0 (number c.args.update) env in
+    round_ended m old f c.args.node act completions.Normal
+    (λ t more.
+    let env = env_in m old t f in
+    after_is t (other t env) c.args.end (act t env) c.after_body.result afters.Breaks (c.after_body.ensures t more (other t env)) c.in-Breaks.is)
 
 pub body_ended-returns-in-Passes-clause-does : goal.loops::body_ended-returns-in-Passes-clause-does
 body_ended-returns-in-Passes-clause-does g t c =
     let m = g.S.WorldStore.meaning in
     let old = c.args.config.now in
     let f = c.args.frame.now in
-    round_ended m old f c.args.node (λ t env. loops.loop_body c.args.node.0 (number c.args.update) env (completion_in t c.args.end)) c.args.end
-    (λ t more. after_is t c.args.node.0 (env_in m old t f) (loops.loop_update c.args.node.0 (number c.args.update) (env_in m old t f)) c.args.end c.after_body.result afters.Passes c.after_body.ensures c.in-Passes.is)
+    let act : Table → Env → Act = λ t env. loops.loop_body c.args.node.0 (number c.args.update) env (completion_in t c.args.end) in
+    let other : Table → Env → Act = λ t env. loops.loop_update c.args.node.0 (number c.args.update) env in
+    round_ended m old f c.args.node act c.args.end
+    (λ t more.
+    let env = env_in m old t f in
+    after_is t (other t env) c.args.end (act t env) c.after_body.result afters.Passes (c.after_body.ensures t more (other t env)) c.in-Passes.is)
 
 -- the update
 

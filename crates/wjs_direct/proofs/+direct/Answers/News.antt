@@ -1,14 +1,13 @@
 -- What holds of the functions of `news`.
-use Rattle.std.proofs.Common.{◌≡◌, ◌+◌, ◌-◌, rules, [], ◌∷◌, Some, refl, ap, subst, sym, Vec, Global, ℕ, List, ◌++◌}
+use Rattle.std.proofs.Common.{◌≡◌, rules, [], ◌∷◌, Some, refl, ap, subst, sym, Vec, Global, ℕ, List, ◌++◌}
 use Rattle.std.specs.Prelude.{All, Err, map}
 use Rattle.std.proofs.lemmas.List.Elements.{All-nil, All-push, All-same}
 use Rattle.wjs_base.specs.declared.values.Value.{Value}
 use Rattle.wjs_base.specs.declared.values.Value.TheVariants as values
 use Rattle.wjs_by_content.specs.Tables.{value_in, object_in}
 use Rattle.wjs_by_content.specs.Values.{Object}
-use Rattle.wjs_meaning.specs.Deeds.{AtExpr, then_value, Gives}
+use Rattle.wjs_meaning.specs.Deeds.{AtExpr, then_value}
 use Rattle.wjs_meaning.specs.Reading.{node_in}
-use Rattle.wjs_meaning.specs.Calls.{call}
 use Rattle.wjs_meaning.specs.Expressions as line
 use Rattle.wjs_model.specs.Lists.{arguments_of}
 use Rattle.wjs_model.specs.Soundness.{Base, HasObject, HasValue, IsThere, StandsHere}

@@ -1,9 +1,8 @@
 -- What holds of the functions of `objects`.
-use Rattle.std.proofs.Common.{◌≡◌, ◌-◌, rules, [], ◌∷◌, subst, sym, ℕ}
+use Rattle.std.proofs.Common.{◌≡◌, rules, [], ◌∷◌, subst, sym, ℕ}
 use Rattle.std.specs.Prelude.{Err}
 use Rattle.wjs_base.specs.declared.values.Value.{Value}
 use Rattle.wjs_base.specs.declared.values.Value.TheVariants as values
-use Rattle.wjs_by_content.specs.Values.{Object}
 use Rattle.wjs_model.specs.Soundness.{Base, HasObject, IsThere, StandsHere}
 use Rattle.wjs_model.specs.declared.frame.Held.TheVariants as holds
 use Rattle.wjs_model.specs.declared.point.Point.TheVariants as points

@@ -1,5 +1,5 @@
 -- What holds of the functions of `prefixes`.
-use Rattle.std.proofs.Common.{◌≡◌, ◌+◌, ◌-◌, true, rules, [], inl, refl, ap, ◌∙◌, sym, ◌++◌}
+use Rattle.std.proofs.Common.{◌≡◌, true, rules, [], inl, refl, ap, ◌∙◌, sym}
 use Rattle.std.specs.Prelude.{Err}
 use Rattle.wjs_base.specs.declared.values.Value.{Value}
 use Rattle.wjs_tree.specs.declared.node.Node.TheVariants as nodes

@@ -1,10 +1,10 @@
 -- What holds of the functions of `statements`.
-use Rattle.std.proofs.Common.{◌≡◌, ◌-◌, true, rules, [], Option, None, Some, inl, inr, refl, ap, ◌∙◌, subst, sym}
+use Rattle.std.proofs.Common.{◌≡◌, ◌-◌, rules, [], Option, None, Some, inl, inr, refl, ap, ◌∙◌, subst, sym}
 use Rattle.std.specs.Prelude.{Ok, Err, IfNone, IfSome}
 use Rattle.wjs_base.specs.Text.{Table}
 use Rattle.wjs_base.specs.declared.ids.NodeId.{NodeId}
 use Rattle.wjs_base.specs.declared.values.Value.{Value}
-use Rattle.wjs_by_content.specs.Tables.{value_in}
+use Rattle.wjs_by_content.specs.Tables.{text_in, value_in}
 use Rattle.wjs_tree.specs.declared.node.Node.TheVariants as nodes
 use Rattle.wjs_tree.specs.declared.node.ForInit.{ForInit}
 use Rattle.wjs_tree.specs.declared.node.ForInit.TheVariants as inits
@@ -47,10 +47,13 @@ use Rattle.wjs_direct.proofs.Elements.{block_begins, element_form, element_passe
 use Rattle.wjs_direct.proofs.Declaring.{for_begins, var_begins}
 use Rattle.wjs_direct.proofs.Assigning.{returned_is, returned_there}
 use Rattle.wjs_direct.proofs.Looping.{while_loops, for_loops, if_stands}
-use Rattle.wjs_direct.specs.Rounds.{IsLoop}
+use Rattle.wjs_direct.specs.Rounds.{IsDo, IsLoop}
 use Rattle.wjs_direct.specs.Variables.{DeclaresFirst, variables_left}
 use Rattle.wjs_direct.specs.Tries.{caught_here}
+use Rattle.wjs_direct.specs.Switches.{sought_then}
 use Rattle.wjs_direct.proofs.Trying.{last_stands, try_begins}
+use Rattle.wjs_direct.proofs.Switching.{switch_begins}
+use Rattle.wjs_direct.proofs.DoLoops.{do_is}
 use Rattle.wjs_direct.proofs.+direct.Goals as goal
 
 -- ---- statements
@@ -648,3 +651,59 @@ statement_form-returns-in-Some-Try-clause-does g t c =
     let k = c.attempt.new.stops in
     line_form m completion_in old c.attempt.new.config f (λ t env. entry (AtStmt c.args.node.0) env) c.attempt.result k.waits k.top (AtStmt s.block.0) (caught_here old f c.args.node s.last)
     (λ t more. stmt_is m old f c.args.node _ t refl ∙ try_begins t _ s.block s.field-0-1 s.last c.args.node.0 (env_in m old t f) (s.ensures ∙ s.field-0-is)) c.attempt.ensures.does
+
+-- `switch`
+
+pub statement_form-switch-requires : goal.statements::statement_form-switch-requires
+statement_form-switch-requires g t c =
+    let m = g.S.WorldStore.meaning in
+    let old = c.args.config.now in
+    let f = c.args.frame.now in
+    let s = c.in-Some-Switch in
+    let part : StandsHere old f s.e = stands_here m old (at_node f c.args.node []) _ s.e (node_there m old f c.args.node [] c.requires.there c.requires.node tt) (s.ensures ∙ s.field-0-is) (inl refl) in
+    search (rules, part)
+
+pub statement_form-returns-in-Some-Switch-clause-does : goal.statements::statement_form-returns-in-Some-Switch-clause-does
+statement_form-returns-in-Some-Switch-clause-does g t c =
+    let m = g.S.WorldStore.meaning in
+    let old = c.args.config.now in
+    let f = c.args.frame.now in
+    let s = c.in-Some-Switch in
+    let k = c.switch.new.stops in
+    line_form m completion_in old c.switch.new.config f (λ t env. entry (AtStmt c.args.node.0) env) c.switch.result k.waits k.top (AtExpr s.e.0) (sought_then old f c.args.node)
+    (λ t more. stmt_is m old f c.args.node _ t refl ∙ switch_begins t _ s.e _ c.args.node.0 (env_in m old t f) (s.ensures ∙ s.field-0-is)) c.switch.ensures.does
+
+-- labels, and the loop `do`
+
+pub statement_form-returns-in-Some-Label-clause-does : goal.statements::statement_form-returns-in-Some-Label-clause-does
+statement_form-returns-in-Some-Label-clause-does g t c =
+    let m = g.S.WorldStore.meaning in
+    let old = c.args.config.now in
+    let f = c.args.frame.now in
+    let s = c.in-Some-Label in
+    let k = c.labelled.new.stops in
+    line_form m completion_in old c.labelled.new.config f (λ t env. entry (AtStmt c.args.node.0) env) c.labelled.result k.waits k.top (AtStmt s.part.0) (λ t env. statements.label_done (text_in t s.name))
+    (λ t more. stmt_is m old f c.args.node _ t (s.ensures ∙ s.field-0-is)) c.labelled.ensures.does
+
+pub statement_form-run_do-requires : goal.statements::statement_form-run_do-requires
+statement_form-run_do-requires g t c =
+    let m = g.S.WorldStore.meaning in
+    let old = c.args.config.now in
+    let f = c.args.frame.now in
+    let s = c.in-Some-DoWhile in
+    let n = s.ensures ∙ s.field-0-is in
+    let here = node_there m old f c.args.node [] c.requires.there c.requires.node tt in
+    let is : IsDo m old f c.args.node s.body s.test = do_is m old f c.args.node s.body s.test s.field-0-2 n in
+    let body : StandsHere old f s.body = stands_here m old (at_node f c.args.node []) (nodes.DoWhile s.body s.test s.field-0-2) s.body here n (inl refl) in
+    let test : StandsHere old f s.test = stands_here m old (at_node f c.args.node []) (nodes.DoWhile s.body s.test s.field-0-2) s.test here n (inr (inl refl)) in
+    search (rules, is, body, test)
+
+pub statement_form-returns-in-Some-DoWhile-clause-does : goal.statements::statement_form-returns-in-Some-DoWhile-clause-does
+statement_form-returns-in-Some-DoWhile-clause-does g t c =
+    let m = g.S.WorldStore.meaning in
+    let old = c.args.config.now in
+    let f = c.args.frame.now in
+    let s = c.in-Some-DoWhile in
+    let k = c.run_do.new.stops in
+    line_form m completion_in old c.run_do.new.config f (λ t env. entry (AtStmt c.args.node.0) env) c.run_do.result k.waits k.top (AtStmt s.body.0) (λ t env. loops.do_body c.args.node.0 s.test.0 env)
+    (λ t more. stmt_is m old f c.args.node _ t (s.ensures ∙ s.field-0-is)) c.run_do.ensures.does

@@ -1,5 +1,5 @@
 -- What holds of the functions of `stores`.
-use Rattle.std.proofs.Common.{◌≡◌, ◌+◌, ◌-◌, rules, [], ◌∷◌, Option, Some, inl, inr, refl, ap, ◌∙◌, subst, sym, ◌++◌}
+use Rattle.std.proofs.Common.{◌≡◌, rules, [], ◌∷◌, Option, Some, inl, inr, refl, ap, ◌∙◌, subst, sym}
 use Rattle.std.specs.Prelude.{Err, IfNone, IfSome}
 use Rattle.wjs_base.specs.declared.values.Value.{Value}
 use Rattle.wjs_by_content.specs.Tables.{value_in}
@@ -11,12 +11,10 @@ use Rattle.wjs_model.specs.Waiting.{fix_in}
 use Rattle.wjs_meaning.specs.Expressions as line
 use Rattle.wjs_model.specs.declared.frame.Completion.{Completion}
 use Rattle.wjs_model.specs.Contents.{completion_in, reference_in}
-use Rattle.wjs_model.specs.Soundness.{Base, HasCompletion, IsThere, StandsHere, HasReference}
+use Rattle.wjs_model.specs.Soundness.{Base, HasCompletion, HasReference, HasValue, IsThere, StandsHere}
 use Rattle.wjs_model.specs.declared.config.Config.{Config}
 use Rattle.wjs_model.specs.declared.frame.Reference.{Reference}
 use Rattle.wjs_model.specs.declared.frame.Held.TheVariants as holds
-use Rattle.wjs_model.specs.declared.frame.Completion.TheVariants as completions
-use Rattle.wjs_model.specs.declared.frame.Phase.TheVariants as phases
 use Rattle.wjs_model.specs.declared.point.Point.TheVariants as points
 use Rattle.wjs_model.specs.declared.point.ExprPoint.TheVariants as expr
 use Rattle.wjs_frames.specs.Doing.{Does}
@@ -28,8 +26,9 @@ use Rattle.wjs_stopping.specs.Evaluating.{Evaluates, Leaves, outcome_in}
 use Rattle.wjs_stopping.specs.Waiting.{at_node}
 use Rattle.wjs_direct.specs.Deeds.{goal_here, refers_in}
 use Rattle.wjs_direct.proofs.Forming.{form_goes_on, node_there}
-use Rattle.wjs_direct.proofs.Parts.{broke_does, broke_found, broke_later, did, later_stopped, later_then, line_as, line_form, stop_found, given_does}
-use Rattle.wjs_direct.proofs.Assigning.{broken_as, read_then}
+use Rattle.wjs_direct.proofs.Parts.{broke_does, broke_found, broke_later, did, later_then, line_as, line_form}
+use Rattle.wjs_direct.proofs.Assigning.{broken_as}
+use Rattle.wjs_direct.proofs.ReferenceReading.{read_goes}
 use Rattle.wjs_direct.proofs.+direct.Goals as goal
 
 -- ---- expressions whose value no further one asks for
@@ -291,32 +290,66 @@ compound_right-returns-in-Err-clause-does g t c =
     broke_does m Value Value old c.value.new.config c.wait_compound.new.config f c.args.node (holds.Value c.args.old ∷ holds.Reference c.args.reference ∷ []) (points.Expr (expr.CompoundValue c.args.operator)) c.in-Err.end s.waits s.top c.wait_compound.result k.waits k.top
     c.wait_compound.ensures.same c.wait_compound.ensures.waits gives_in gives_in (AtExpr c.args.right.0) (λ t env. then_value (line.compound_value c.args.operator (value_in t c.args.old) (reference_in t c.args.reference) env)) (λ l t env. refl) (λ t env e. refl) c.in-Err.ensures.later c.in-Err.ensures.does
 
-pub compounded-returns-in-Some-clause-does : goal.stores::compounded-returns-in-Some-clause-does
-compounded-returns-in-Some-clause-does g t c =
+pub compounded-target_value-requires : goal.stores::compounded-target_value-requires
+compounded-target_value-requires g t c = record {
+  base = c.requires.base;
+  there = c.requires.there;
+  node = c.requires.node;
+  empty = c.requires.empty;
+  point = c.requires.right;
+  reads = λ u env. (line.compound_old c.args.operator c.args.right.0 (reference_in u c.args.reference) env, ap (λ (o : Option BinaryOperator). line.assign_reference o c.args.right.0 env (reference_in u c.args.reference)) c.requires.sign);
+  reference = c.requires.reference;
+}
+
+pub compounded-compound_right-requires : goal.stores::compounded-compound_right-requires
+compounded-compound_right-requires g t c =
     let m = g.S.WorldStore.meaning in
-    let k = c.compound_right.new.stops in
-    read_then m gives_in c.args.config.now c.compound_right.new.config c.args.frame.now c.args.reference (λ t env. line.compound_old c.args.operator c.args.right.0 (reference_in t c.args.reference) env) c.in-Some.old c.compound_right.result k.waits k.top c.in-Some.ensures.peeks
-    (line_form m gives_in c.args.config.now c.compound_right.new.config c.args.frame.now (λ t env. line.compound_old c.args.operator c.args.right.0 (reference_in t c.args.reference) env (value_in t c.in-Some.old)) c.compound_right.result k.waits k.top (AtExpr c.args.right.0)
-    (λ t env. then_value (line.compound_value c.args.operator (value_in t c.in-Some.old) (reference_in t c.args.reference) env)) (λ t more. refl) c.compound_right.ensures.does)
+    let old = c.args.config.now in
+    let f = c.args.frame.now in
+    let mid = c.target_value.new.config in
+    let l = c.in-Ok.ensures.later in
+    let base : Base m mid = l.base in
+    let there : IsThere m mid f = l.frames f c.requires.there in
+    let node : StandsHere mid f c.args.node = stands_later m old f mid c.args.node l c.requires.node in
+    let empty : c.target_value.new.stops.waits ≡ [] = c.in-Ok.ensures.found.1 in
+    let right : StandsHere mid f c.args.right = stands_later m old f mid c.args.right l c.requires.right in
+    let reference : HasReference mid c.args.reference = l.references c.args.reference c.requires.reference in
+    let value : HasValue mid c.in-Ok.old = c.in-Ok.ensures.found.0 in
+    search (rules, base, there, node, empty, right, reference, value)
 
-pub compounded-returns-in-None-clause-later : goal.stores::compounded-returns-in-None-clause-later
-compounded-returns-in-None-clause-later g t c =
-    later_stopped g.S.WorldStore.meaning {A = Value} c.args.config.now c.stop.new.config (Err c.stop.result) c.requires.base c.stop.ensures.same
+pub compounded-returns-in-Ok-clause-later : goal.stores::compounded-returns-in-Ok-clause-later
+compounded-returns-in-Ok-clause-later g t c =
+    later_then g.S.WorldStore.meaning c.args.config.now c.target_value.new.config c.compound_right.new.config c.compound_right.result c.in-Ok.ensures.later c.compound_right.ensures.later
 
-pub compounded-returns-in-None-clause-found : goal.stores::compounded-returns-in-None-clause-found
-compounded-returns-in-None-clause-found g t c =
-    let s = c.stop.new.stops in
-    stop_found g.S.WorldStore.meaning c.args.config.now c.stop.new.config c.args.frame.now c.args.node [] (phases.Given (points.Expr (expr.AssignTarget c.args.sign c.args.right)) (completions.Refers c.args.reference)) c.stop.result s.waits s.top c.stop.ensures.same
-    c.requires.there c.requires.node tt (c.requires.right, c.requires.reference) c.stop.ensures.stops
-
-pub compounded-returns-in-None-clause-does : goal.stores::compounded-returns-in-None-clause-does
-compounded-returns-in-None-clause-does g t c =
+pub compounded-returns-in-Ok-clause-does : goal.stores::compounded-returns-in-Ok-clause-does
+compounded-returns-in-Ok-clause-does g t c =
     let m = g.S.WorldStore.meaning in
-    let s = c.stop.new.stops in
-    line_as m gives_in c.args.config.now c.stop.new.config c.args.frame.now (λ t env. line.assign_reference (Some c.args.operator) c.args.right.0 env (reference_in t c.args.reference)) (Err c.stop.result) s.waits s.top
-    (λ t env. line.assign_reference (compound c.args.sign) c.args.right.0 env (reference_in t c.args.reference))
-    (λ t more. ap (λ (o : Option BinaryOperator). line.assign_reference o c.args.right.0 (env_in m c.args.config.now t c.args.frame.now) (reference_in t c.args.reference)) (sym c.requires.sign))
-    (given_does m gives_in c.args.config.now c.stop.new.config c.args.frame.now c.stop.result s.waits s.top c.stop.ensures.same c.args.node [] (points.Expr (expr.AssignTarget c.args.sign c.args.right)) (completions.Refers c.args.reference) c.stop.ensures.stops)
+    let mid = c.target_value.new.config in
+    let f = c.args.frame.now in
+    let k = c.compound_right.new in
+    let q = c.args.reference in
+    let v = c.in-Ok.old in
+    read_goes m gives_in c.args.config.now mid k.config f q (λ u env. line.compound_old c.args.operator c.args.right.0 (reference_in u q) env) v c.compound_right.result k.stops.waits k.stops.top c.in-Ok.ensures.later c.in-Ok.ensures.does
+    (line_form m gives_in mid k.config f (λ u env. line.compound_old c.args.operator c.args.right.0 (reference_in u q) env (value_in u v)) c.compound_right.result k.stops.waits k.stops.top (AtExpr c.args.right.0)
+    (λ u env. then_value (line.compound_value c.args.operator (value_in u v) (reference_in u q) env)) (λ u more. refl) c.compound_right.ensures.does)
+
+-- it broke off
+
+pub compounded-returns-in-Err-clause-later : goal.stores::compounded-returns-in-Err-clause-later
+compounded-returns-in-Err-clause-later g t c = c.in-Err.ensures.later
+
+pub compounded-returns-in-Err-clause-found : goal.stores::compounded-returns-in-Err-clause-found
+compounded-returns-in-Err-clause-found g t c = c.in-Err.ensures.found
+
+pub compounded-returns-in-Err-clause-does : goal.stores::compounded-returns-in-Err-clause-does
+compounded-returns-in-Err-clause-does g t c =
+    let m = g.S.WorldStore.meaning in
+    let old = c.args.config.now in
+    let f = c.args.frame.now in
+    let k = c.target_value.new in
+    line_as m gives_in old k.config f (λ u env. line.assign_reference (Some c.args.operator) c.args.right.0 env (reference_in u c.args.reference)) (Err c.in-Err.end) k.stops.waits k.stops.top
+    (λ u env. line.assign_reference (compound c.args.sign) c.args.right.0 env (reference_in u c.args.reference))
+    (λ u more. ap (λ (o : Option BinaryOperator). line.assign_reference o c.args.right.0 (env_in m old u f) (reference_in u c.args.reference)) (sym c.requires.sign)) c.in-Err.ensures.does
 
 -- ---- `++` and `--`
 

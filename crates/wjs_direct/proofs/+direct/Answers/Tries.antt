@@ -1,5 +1,5 @@
 -- What holds of the functions of `tries`.
-use Rattle.std.proofs.Common.{◌≡◌, ◌-◌, rules, [], ◌∷◌, Option, Some, refl, ap, ◌∙◌, subst, sym}
+use Rattle.std.proofs.Common.{◌≡◌, rules, [], ◌∷◌, Option, Some, refl, ap, ◌∙◌, subst, sym}
 use Rattle.std.specs.Prelude.{Err, IfSome, Result}
 use Rattle.wjs_base.specs.Text.{Has}
 use Rattle.wjs_base.specs.declared.ids.NodeId.{NodeId}

@@ -1,5 +1,5 @@
 -- What holds of the functions of `variables`.
-use Rattle.std.proofs.Common.{◌≡◌, ◌+◌, ◌-◌, rules, [], Some, refl, ap, sym}
+use Rattle.std.proofs.Common.{◌≡◌, ◌+◌, rules, [], Some, refl, ap, sym}
 use Rattle.std.specs.Prelude.{Err}
 use Rattle.wjs_base.specs.Text.{Has, Table}
 use Rattle.wjs_base.proofs.TextLaws.{Grows-Has}

@@ -1,10 +1,10 @@
 -- What holds of the functions of `within`.
-use Rattle.std.proofs.Common.{◌≡◌, ◌-◌, rules, [], Option, inl, inr, refl, ap, ◌∙◌, subst, sym}
+use Rattle.std.proofs.Common.{◌≡◌, rules, [], Option, inl, inr, refl, ap, ◌∙◌, subst, sym}
 use Rattle.std.specs.Prelude.{Err, IfSome}
 use Rattle.wjs_base.specs.declared.values.Value.{Value}
 use Rattle.wjs_by_content.specs.Tables.{value_in}
 use Rattle.wjs_tree.specs.declared.node.Node.TheVariants as nodes
-use Rattle.wjs_meaning.specs.Deeds.{AtExpr, then_value, Gives}
+use Rattle.wjs_meaning.specs.Deeds.{AtExpr, then_value}
 use Rattle.wjs_meaning.specs.Statements as statements
 use Rattle.wjs_model.specs.declared.frame.Completion.{Completion}
 use Rattle.wjs_model.specs.Contents.{completion_in}

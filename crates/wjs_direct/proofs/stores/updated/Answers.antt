@@ -1,23 +1,21 @@
-use Rattle.std.proofs.Common.{◌≡◌, [], Option, ◌∙◌, subst}
-use Rattle.std.specs.Prelude.{Err, IfNone, IfSome}
+use Rattle.std.proofs.Common.{◌≡◌, Option, subst}
+use Rattle.std.specs.Prelude.{IfNone, IfSome}
 use Rattle.wjs_base.specs.declared.number.Whole.{Whole}
-use Rattle.wjs_base.specs.declared.values.Value.{Value}
 use Rattle.wjs_base.specs.declared.values.Value.TheVariants as values
 use Rattle.wjs_meaning.specs.Expressions as line
 use Rattle.wjs_model.specs.declared.frame.Completion.{Completion}
 use Rattle.wjs_model.specs.declared.frame.Completion.TheVariants as completions
-use Rattle.wjs_model.specs.declared.frame.Phase.TheVariants as phases
-use Rattle.wjs_model.specs.declared.point.ExprPoint.TheVariants as expr
-use Rattle.wjs_model.specs.declared.point.Point.TheVariants as points
 use Rattle.wjs_model.specs.Contents.{completion_in, reference_in}
 use Rattle.wjs_model.specs.Soundness.{HasCompletion}
 use Rattle.wjs_model.specs.Waiting.{fix_in}
+use Rattle.wjs_frames.proofs.Parting.{stands_later}
 use Rattle.wjs_effects.specs.Effects.{EndsOrThrows}
 use Rattle.wjs_effects.specs.Leaving.{ActEnds}
 use Rattle.wjs_stopping.specs.Ends.{gives_in}
 use Rattle.wjs_direct.specs.Deeds.{line_here}
 use Rattle.wjs_direct.proofs.Assigning.{ends_so, value_does, value_found}
-use Rattle.wjs_direct.proofs.Parts.{did, given_does, in_all, later_stopped, stop_found}
+use Rattle.wjs_direct.proofs.Parts.{did, in_all, later_then}
+use Rattle.wjs_direct.proofs.ReferenceReading.{line_from}
 use Rattle.wjs_direct.proofs.stores.updated.Goals as goal
 
 -- a number is stored
@@ -48,25 +46,26 @@ returns-in-Some-clause-does g c =
     value_does m deeds c.in-Some.end c.value_or_thrown.result s.waits s.top old new c.value_or_thrown.ensures
     (did m completion_in deeds c.in-Some.end s.waits s.top old new (subst D c.in-Some.is c.in_ok-done.ensures.does))
 
--- a frame goes on with it
-pub returns-in-None-clause-later : goal.returns-in-None-clause-later
-returns-in-None-clause-later g c =
-    let old = c.args.config.now in
-    let same = c.stop.ensures.same ∙ subst (λ (o : Option Completion). IfNone o (c.update_at.new.config ≡ old)) c.in-None.is c.in_ok-done.ensures.same in
-    later_stopped g.S.WorldStore.meaning {A = Value} old c.stop.new.config (Err c.stop.result) c.requires.base same
+-- its target's value is read
+pub update_read-requires-clause-base : goal.update_read-requires-clause-base
+update_read-requires-clause-base g c = c.in_ok-done.ensures.later.base
 
-pub returns-in-None-clause-found : goal.returns-in-None-clause-found
-returns-in-None-clause-found g c =
-    let old = c.args.config.now in
-    let same = c.stop.ensures.same ∙ subst (λ (o : Option Completion). IfNone o (c.update_at.new.config ≡ old)) c.in-None.is c.in_ok-done.ensures.same in
-    let s = c.stop.new.stops in
-    let phase = phases.Given (points.Expr (expr.UpdateTarget c.args.fix c.args.operator)) (completions.Refers c.args.reference) in
-    stop_found g.S.WorldStore.meaning old c.stop.new.config c.args.frame.now c.args.node [] phase c.stop.result s.waits s.top same c.requires.there c.requires.node tt (tt, c.requires.reference) c.stop.ensures.stops
+pub update_read-requires-clause-there : goal.update_read-requires-clause-there
+update_read-requires-clause-there g c = c.in_ok-done.ensures.later.frames c.args.frame.now c.requires.there
+
+pub update_read-requires-clause-node : goal.update_read-requires-clause-node
+update_read-requires-clause-node g c = stands_later g.S.WorldStore.meaning c.args.config.now c.args.frame.now c.update_at.new.config c.args.node c.in_ok-done.ensures.later c.requires.node
+
+pub update_read-requires-clause-reference : goal.update_read-requires-clause-reference
+update_read-requires-clause-reference g c = c.in_ok-done.ensures.later.references c.args.reference c.requires.reference
+
+pub returns-in-None-clause-later : goal.returns-in-None-clause-later
+returns-in-None-clause-later g c = later_then g.S.WorldStore.meaning c.args.config.now c.update_at.new.config c.update_read.new.config c.update_read.result c.in_ok-done.ensures.later c.update_read.ensures.later
 
 pub returns-in-None-clause-does : goal.returns-in-None-clause-does
 returns-in-None-clause-does g c =
     let old = c.args.config.now in
-    let same = c.stop.ensures.same ∙ subst (λ (o : Option Completion). IfNone o (c.update_at.new.config ≡ old)) c.in-None.is c.in_ok-done.ensures.same in
-    let s = c.stop.new.stops in
-    given_does g.S.WorldStore.meaning gives_in old c.stop.new.config c.args.frame.now c.stop.result s.waits s.top same
-    c.args.node [] (points.Expr (expr.UpdateTarget c.args.fix c.args.operator)) (completions.Refers c.args.reference) c.stop.ensures.stops
+    let same = subst (λ (o : Option Completion). IfNone o (c.update_at.new.config ≡ old)) c.in-None.is c.in_ok-done.ensures.same in
+    let k = c.update_read.new in
+    line_from g.S.WorldStore.meaning gives_in old c.update_at.new.config k.config c.args.frame.now (λ t env. line.update_reference (fix_in c.args.fix) c.args.operator env (reference_in t c.args.reference)) c.update_read.result k.stops.waits k.stops.top same
+    c.update_read.ensures.does
