@@ -201,12 +201,6 @@ module _ {S : Type 0} (meaning : S → Meaning) where
 
     -- ---- one after the other
 
-    -- what comes before one
-    pub next_as : (one two : Deeds) (next : Table → Env → Act) (done : Result Said Broken) (w : List Frame) (p : Option (Frame × Phase)) (old new : Config S)
-        → Leaves meaning one two old old → GoesNext meaning two f next done w p old new → GoesNext meaning one f next done w p old new
-    next_as one two next (Ok e) w p old new l d = leaves_all meaning one two _ old old new l d
-    next_as one two next (Err e) w p old new l d = in_memory {A = Said} (Err e) (λ h. leaves_all meaning one two (broken_in meaning new e w p) old old new l h) d
-
     -- behind the value of an initialiser
     valued_left : (old mid : Config S) (at : ℕ) (e : NodeId) (v : Numbered) → Later meaning old mid → Leaves meaning (goal_here meaning old f (AtExpr e.0)) (λ t go. go (gives_in t v)) old mid
         → Leaves meaning (form_here meaning old f (AtExpr e.0) (λ t env. then_value (variable_valued old f node at t env))) (line_here meaning mid f (valued_in at v mid.units)) old mid

@@ -23,4 +23,4 @@ pub mod Updating
 pub mod Trying
 pub mod Switching
 pub mod Labelling
-pub mod DoLoops
+pub mod Ending

@@ -10,11 +10,11 @@ use Rattle.wjs_store.specs.Meaning.{Meaning}
 use Rattle.wjs_tree.specs.declared.node.Node.{Node}
 use Rattle.wjs_tree.specs.declared.node.Node.TheVariants as nodes
 use Rattle.wjs_tree.specs.declared.node.ForInit.{ForInit}
-use Rattle.wjs_meaning.specs.Deeds.{St, Env, Goal, Again, AtStmt, Completion, Normal, Throws, Act, Ret, Tick, Eval, Sub, Do, then_value, Outcome, Ends, Spent, interp, then_do, answer_of, state_after}
-use Rattle.wjs_meaning.specs.Loops.{for_started, loop_body, loop_test}
+use Rattle.wjs_meaning.specs.Deeds.{St, Env, Goal, Again, AtExpr, AtStmt, Completion, Normal, Throws, Act, Ret, Tick, Eval, Sub, Do, then_value, Outcome, Ends, Spent, interp, then_do, answer_of, state_after}
+use Rattle.wjs_meaning.specs.Loops.{do_test, for_started, loop_body, loop_test}
 use Rattle.wjs_meaning.specs.Programs.{eval, entry}
 use Rattle.wjs_meaning.specs.Reading.{node_in, number}
-use Rattle.wjs_meaning.specs.Statements.{again_of, iteration_from}
+use Rattle.wjs_meaning.specs.Statements.{again_of}
 use Rattle.wjs_model.specs.declared.config.Config.{Config}
 use Rattle.wjs_model.specs.declared.frame.Activation.{Activation as Frame}
 use Rattle.wjs_model.specs.declared.frame.Completion.{Completion as Said}
@@ -46,9 +46,8 @@ use Rattle.wjs_stopping.specs.Stopping.{stopped_then}
 use Rattle.wjs_stopping.specs.Waiting.{at_node, waiting_at, WaitsAt}
 use Rattle.wjs_stopping.specs.Evaluating.{Evaluates, InMemory, Leaves, broken_in, rest_in}
 use Rattle.wjs_stopping.proofs.Evaluating.{in_memory, leaves_all}
-use Rattle.wjs_direct.specs.Deeds.{entry_here, form_here, goal_here, line_here}
-use Rattle.wjs_direct.specs.Rounds.{GoesRound, HasRound, IsLoop, after_in, round_left, next_in}
-use Rattle.wjs_direct.specs.declared.loops.After.{After}
+use Rattle.wjs_direct.specs.Deeds.{ComesTo, entry_here, form_here, goal_here, line_here}
+use Rattle.wjs_direct.specs.Rounds.{HasRound, Iterates, round_left, next_in}
 
 -- ---- nested deeds, in fewer turns
 
@@ -184,11 +183,11 @@ module _ {S : Type 0} (meaning : S → Meaning) where
 
   -- ---- iterations
 
-  -- what comes before one
-  pub round_behind : (one two : Deeds) (f : Frame) (node : NodeId) (done : Result (Option Said) Broken) (w : List Frame) (p : Option (Frame × Phase)) (old mid new : Config S) → Leaves meaning one two old mid
-      → GoesRound meaning two f node done w p mid new → GoesRound meaning one f node done w p old new
-  round_behind one two f node (Ok ended) w p old mid new l d = leaves_all meaning one two (round_left meaning new f node ended) old mid new l d
-  round_behind one two f node (Err end) w p old mid new l d = in_memory {A = Said} (Err end) (λ h. leaves_all meaning one two (broken_in meaning new end w p) old mid new l h) d
+  -- what comes before deeds
+  pub comes_behind : {A : Type 0} (one two : Deeds) (left : A → Deeds) (done : Result A Broken) (w : List Frame) (p : Option (Frame × Phase)) (old mid new : Config S) → Leaves meaning one two old mid
+      → ComesTo meaning two left done w p mid new → ComesTo meaning one left done w p old new
+  comes_behind one two left (Ok v) w p old mid new l d = leaves_all meaning one two (left v) old mid new l d
+  comes_behind one two left (Err end) w p old mid new l d = in_memory {A = Said} (Err end) (λ h. leaves_all meaning one two (broken_in meaning new end w p) old mid new l h) d
 
   -- a line that is a form, or a goal
   pub line_begins : (c : Config S) (f : Frame) (act : Table → Env → Act) (goal : Goal) (next : Table → Env → Completion → Act)
@@ -213,35 +212,33 @@ module _ {S : Type 0} (meaning : S → Meaning) where
       let env = env_in meaning c t f in
       subst (λ (x : Act). Shortens (Sub x go) (Eval (Again node.0) env go)) (sym (is t more)) (shorten_last (Again node.0) env go))
 
-  -- after the update
-  pub round_updated : (c : Config S) (f : Frame) (node : NodeId) (act : Table → Env → Act) (ended : Option Said) → ((t : Table) (env : Env) → act t env ≡ next_in t node.0 env ended)
+  -- after the update, or the test of a `do`
+  pub round_next : (c : Config S) (f : Frame) (node : NodeId) (act : Table → Env → Act) (ended : Option Said) → ((t : Table) → Grows c.heap.texts t → (env : Env) → act t env ≡ next_in t node.0 env ended)
       → Leaves meaning (line_here meaning c f act) (round_left meaning c f node ended) c c
-  round_updated c f node act None is = round_due c f node act (λ t more. is t (env_in meaning c t f))
-  round_updated c f node act (Some e) is = round_ended c f node act e (λ t more. is t (env_in meaning c t f))
+  round_next c f node act None is = round_due c f node act (λ t more. is t more (env_in meaning c t f))
+  round_next c f node act (Some e) is = round_ended c f node act e (λ t more. is t more (env_in meaning c t f))
 
   -- the step of one is taken
-  pub round_begun : (c : Config S) (f : Frame) (node : NodeId) (test update : Option NodeId) (body : NodeId) → 0 < c.left → IsLoop meaning c f node test update body
-      → Leaves meaning (goal_here meaning c f (Again node.0)) (line_here meaning (record c { left = c.left - 1 }) f (λ t env. iteration_from node.0 (number test) (number update) body.0 env)) c (record c { left = c.left - 1 })
-  round_begun c f node test update body some is = record {
+  pub round_begun : (c : Config S) (f : Frame) (node : NodeId) (round : Env → Act) → 0 < c.left → Iterates meaning c f node round
+      → Leaves meaning (goal_here meaning c f (Again node.0)) (line_here meaning (record c { left = c.left - 1 }) f (λ t env. round env)) c (record c { left = c.left - 1 })
+  round_begun c f node round some is = record {
     by = λ go later r h.
         let t = later.heap.texts in
         let env = env_in meaning c t f in
-        let same : entry (Again node.0) env ≡ iteration_from node.0 (number test) (number update) body.0 env = ap (λ n. again_of node.0 n env) (node_same t c.units.items f.tree node) ∙ is.again t env in
-        step_paid meaning (Again node.0) env go (Sub (iteration_from node.0 (number test) (number update) body.0 env) go) c later (c.left - 1) r (one_less c.left some)
+        let same : entry (Again node.0) env ≡ round env = ap (λ n. again_of node.0 n env) (node_same t c.units.items f.tree node) ∙ is.again t env in
+        step_paid meaning (Again node.0) env go (Sub (round env) go) c later (c.left - 1) r (one_less c.left some)
         (λ st n. ap (λ (a : Act). interp eval (Sub a go) st n) same) h;
   }
 
-  -- the parts of a loop are those that they were
-  pub loop_later : (old new : Config S) (f : Frame) (node : NodeId) (test update : Option NodeId) (body : NodeId) → Later meaning old new → IsLoop meaning old f node test update body → IsLoop meaning new f node test update body
-  loop_later old new f node test update body l is = record {
-    again = subst (λ (us : Vec Program Global). (t : Table) (env : Env) → again_of node.0 (node_in t (node_among us.items f.tree node)) env ≡ iteration_from node.0 (number test) (number update) body.0 env) (sym l.units) is.again;
+  -- they are what they were
+  pub round_later : (old new : Config S) (f : Frame) (node : NodeId) (round : Env → Act) → Later meaning old new → Iterates meaning old f node round → Iterates meaning new f node round
+  round_later old new f node round l is = record {
+    again = subst (λ (us : Vec Program Global). (t : Table) (env : Env) → again_of node.0 (node_in t (node_among us.items f.tree node)) env ≡ round env) (sym l.units) is.again;
   }
 
-  pub while_loops : (c : Config S) (f : Frame) (node test body : NodeId) → node_among c.units.items f.tree node ≡ nodes.While test body → IsLoop meaning c f node (Some test) None body
-  while_loops c f node test body e = record { again = λ t env. ap (λ (n : Node). again_of node.0 (node_in t n) env) e }
-
-  pub for_loops : (c : Config S) (f : Frame) (node : NodeId) (first : ForInit) (test update : Option NodeId) (body : NodeId) → node_among c.units.items f.tree node ≡ nodes.For first test update body → IsLoop meaning c f node test update body
-  for_loops c f node first test update body e = record { again = λ t env. ap (λ (n : Node). again_of node.0 (node_in t n) env) e }
+  -- by the form of the node
+  pub round_is : (c : Config S) (f : Frame) (node : NodeId) (n : Node) (round : Env → Act) → ((t : Table) (env : Env) → again_of node.0 (node_in t n) env ≡ round env) → node_among c.units.items f.tree node ≡ n → Iterates meaning c f node round
+  round_is c f node n round does e = record { again = λ t env. ap (λ (x : Node). again_of node.0 (node_in t x) env) e ∙ does t env }
 
   -- ---- parts that stand there
 
@@ -270,9 +267,9 @@ test_holds here u s env v e = ap (λ (b : Bool). elim b [ true ↦ Eval (AtStmt 
 pub test_fails : (here : ℕ) (u : Option ℕ) (s : ℕ) (env : Env) (v : Value) → to_boolean v ≡ false → loop_test here u s env v ≡ Ret Normal
 test_fails here u s env v e = ap (λ (b : Bool). elim b [ true ↦ Eval (AtStmt s) env (loop_body here u env) | false ↦ Ret Normal ]) e
 
--- what follows the body by how it ended
-pub after_is : (t : Table) (again : Act) (e : Said) (act : Act) (a b : After) → act ≡ after_in t again e a → a ≡ b → act ≡ after_in t again e b
-after_is t again e act a b is same = is ∙ ap (λ (x : After). after_in t again e x) same
+-- what is asked behind the body of a `do`
+abbrev pub asks_test : ℕ → ℕ → Env → Act
+asks_test here e env = Eval (AtExpr e) env (then_value (do_test here env))
 
 -- what an update ended with is there
 pub round_there : {S : Type 0} (c : Config S) (ended : Option Said) (e : Said) → IfSome ended (λ x. x ≡ e) → HasCompletion c e → HasRound c ended

@@ -1,14 +1,16 @@
--- `++` and `--`: a value that is converted above the frame of its node.
-use Rattle.std.proofs.Common.{◌≡◌, List, [], ◌∷◌, refl, sym, ◌∙◌, subst}
-use Rattle.std.specs.Prelude.{Option, Err, OnOk}
+-- `++` and `--`: a number that is stored, and a value that is converted above the frame of its node.
+use Rattle.std.proofs.Common.{◌≡◌, List, [], ◌∷◌, refl, sym, ap, ◌∙◌, subst}
+use Rattle.std.specs.Prelude.{Option, Ok, Err, OnOk}
 use Rattle.wjs_base.specs.declared.ids.NodeId.{NodeId}
 use Rattle.wjs_base.specs.declared.values.Value.{Value as Numbered}
 use Rattle.wjs_by_content.specs.Tables.{value_in}
+use Rattle.wjs_by_content.specs.Values.{Number, Whole}
 use Rattle.wjs_store.specs.Meaning.{Meaning}
 use Rattle.wjs_tree.specs.declared.operators.UpdateOperator.{UpdateOperator}
 use Rattle.wjs_meaning.specs.Conversions.{to_number}
-use Rattle.wjs_meaning.specs.Deeds.{Act, Sub, then_number}
-use Rattle.wjs_meaning.specs.Expressions.{update_number, update_value}
+use Rattle.wjs_meaning.specs.Deeds.{Act, Env, Reference, Sub, give, then_number}
+use Rattle.wjs_meaning.specs.Expressions.{Fix as MeantFix, given, update_number, update_store, update_value, updated}
+use Rattle.wjs_meaning.specs.References.{store}
 use Rattle.wjs_model.specs.declared.config.Config.{Config}
 use Rattle.wjs_model.specs.declared.frame.Activation.{Activation as Frame}
 use Rattle.wjs_model.specs.declared.frame.Held.TheVariants as holds
@@ -36,6 +38,10 @@ use Rattle.wjs_stopping.proofs.Evaluating.{stopped_left}
 use Rattle.wjs_direct.specs.Deeds.{line_here}
 use Rattle.wjs_direct.proofs.Looping.{shorten_within, within_broke}
 use Rattle.wjs_direct.proofs.Parts.{broke_found, broke_later, in_all, later_stopped, shortened, stop_found}
+
+-- a number that has a next one
+pub update_stores : (fix : MeantFix) (op : UpdateOperator) (env : Env) (r : Reference) (x y told : Whole) → updated op x ≡ Ok y → told ≡ given fix x y → update_number fix op env r x ≡ store r (Number y) env (give (Number told))
+update_stores fix op env r x y told e is = ap (λ next. update_store fix env r x next) e ∙ ap (λ (z : Whole). store r (Number y) env (give (Number z))) (sym is)
 
 module _ {S : Type 0} (meaning : S → Meaning) where
   -- the frame that converts it

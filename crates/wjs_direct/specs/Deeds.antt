@@ -1,5 +1,5 @@
 -- The deeds that are evaluated at once: of goals, of what follows the step of their entry, and of lines.
-use Rattle.std.specs.Prelude.{◌≡◌, ℕ, List, [], ◌∷◌, ◌++◌, Option, Some, map as each}
+use Rattle.std.specs.Prelude.{◌≡◌, ℕ, List, [], ◌∷◌, ◌++◌, Option, Some, Result, Ok, Err, map as each}
 use Rattle.wjs_base.specs.Text.{Table}
 use Rattle.wjs_base.specs.declared.ids.NodeId.{NodeId}
 use Rattle.wjs_base.specs.declared.ids.ObjId.{ObjId}
@@ -14,8 +14,9 @@ use Rattle.wjs_model.specs.declared.frame.Completion.{Completion as Said}
 use Rattle.wjs_model.specs.declared.frame.Completion.TheVariants as completions
 use Rattle.wjs_model.specs.declared.frame.Held.{Held}
 use Rattle.wjs_model.specs.declared.frame.Held.TheVariants as holds
+use Rattle.wjs_model.specs.declared.frame.Phase.{Phase}
 use Rattle.wjs_model.specs.declared.frame.Reference.{Reference}
-use Rattle.wjs_model.specs.Contents.{reference_in}
+use Rattle.wjs_model.specs.Contents.{completion_in, reference_in}
 use Rattle.wjs_model.specs.Frames.{latest_first}
 use Rattle.wjs_tree.specs.declared.node.Node.{Node}
 use Rattle.wjs_tree.specs.declared.node.Spelt.{Spelt}
@@ -31,7 +32,7 @@ use Rattle.wjs_frames.specs.Parts.{env_in, node_now}
 use Rattle.wjs_stopping.specs.declared.ends.Broken.{Broken}
 use Rattle.wjs_stopping.specs.declared.ends.Broken.TheVariants as ends
 use Rattle.wjs_stopping.specs.Waiting.{at_node}
-use Rattle.wjs_stopping.specs.Evaluating.{part_then}
+use Rattle.wjs_stopping.specs.Evaluating.{Evaluates, Leaves, part_then}
 
 module _ {S : Type 0} (meaning : S → Meaning) where
   -- a goal, where a frame is run
@@ -49,6 +50,11 @@ module _ {S : Type 0} (meaning : S → Meaning) where
   -- a form that begins with a part, before the line that comes next
   abbrev pub form_here : Config S → Frame → Goal → (Table → Env → Completion → Act) → Table → (Completion → Act) → Act
   form_here c f goal next = part_then meaning goal (λ t. env_in meaning c t f) (λ t. next t (env_in meaning c t f))
+
+  -- the deeds came to this, before what is left by it; or they broke off
+  abbrev pub ComesTo : {A : Type 0} → (Table → (Completion → Act) → Act) → (A → Table → (Completion → Act) → Act) → Result A Broken → List Frame → Option (Frame × Phase) → Config S → Config S → Type 0
+  ComesTo deeds left (Ok v) waits top old new = Leaves meaning deeds (left v) old new
+  ComesTo deeds left (Err end) waits top old new = Evaluates meaning {A = Said} deeds completion_in (Err end) waits top old new
 
   -- the node of a number is this one
   abbrev pub IsNode : Config S → Frame → NodeId → Node → Type 0

@@ -1,5 +1,5 @@
 -- The variables that a node declares: what is left of them behind one.
-use Rattle.std.specs.Prelude.{◌≡◌, ℕ, List, Option, Some, Result, Ok, Err, drop, slice_get}
+use Rattle.std.specs.Prelude.{◌≡◌, ℕ, List, Option, Some, Result, drop, slice_get}
 use Rattle.wjs_base.specs.Text.{Table}
 use Rattle.wjs_base.specs.declared.ids.NodeId.{NodeId}
 use Rattle.wjs_by_content.specs.Values.{Value}
@@ -20,8 +20,7 @@ use Rattle.wjs_model.specs.Waiting.{after_variable}
 use Rattle.wjs_frames.specs.Parts.{node_among}
 use Rattle.wjs_effects.specs.Variables.{declarators_in}
 use Rattle.wjs_stopping.specs.declared.ends.Broken.{Broken}
-use Rattle.wjs_stopping.specs.Evaluating.{Evaluates, Leaves}
-use Rattle.wjs_direct.specs.Deeds.{IsNode, line_here}
+use Rattle.wjs_direct.specs.Deeds.{ComesTo, IsNode, line_here}
 
 module _ {S : Type 0} (c : Config S) (f : Frame) (node : NodeId) where
   -- the variable of a number among those that the node declares
@@ -43,5 +42,4 @@ module _ {S : Type 0} (meaning : S → Meaning) where
 
   -- the deeds came to this, before what is due where they end normally
   abbrev pub GoesNext : (Table → (Completion → Act) → Act) → Frame → (Table → Env → Act) → Result Said Broken → List Frame → Option (Frame × Phase) → Config S → Config S → Type 0
-  GoesNext deeds f next (Ok end) waits top old new = Leaves meaning deeds (line_here meaning old f (λ t env. then_normal (next t env) (completion_in t end))) old new
-  GoesNext deeds f next (Err end) waits top old new = Evaluates meaning {A = Said} deeds completion_in (Err end) waits top old new
+  GoesNext deeds f next done waits top old new = ComesTo meaning deeds (λ end. line_here meaning old f (λ t env. then_normal (next t env) (completion_in t end))) done waits top old new

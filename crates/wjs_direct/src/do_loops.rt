@@ -13,9 +13,10 @@ ghost use Rattle.wjs_direct.specs.Deeds.{form_here, goal_here, line_here};
 ghost use Rattle.wjs_direct.specs.Rounds.{GoesRound, HasRound, IsDo, next_in};
 
 use crate::expressions::value;
-use crate::loops::{After, after_body, many, may_go_round};
+use crate::loops::{many, may_go_round};
 use crate::statements::{statement, statement_form};
 use wjs_base::{NodeId, Value};
+use wjs_loops::{AfterBody, after_body};
 use wjs_model::{Completion, Config, Frame, Phase, Point, Start, StmtPoint};
 use wjs_step_common::to_boolean;
 use wjs_stopping::{Broken, Stops, stop, waits};
@@ -181,9 +182,8 @@ fn body_ended<S: WorldStore>(
         frame.now node result stops.new.waits stops.new.top config.old config.new }
 {
     match after_body(config, frame, node, end) {
-        After::Again => asked(config, frame, node, test, room, stops),
-        After::Breaks => Ok(Some(Completion::Normal)),
-        After::Passes => Ok(Some(end)),
+        AfterBody::Again => asked(config, frame, node, test, room, stops),
+        AfterBody::Ends(ended) => Ok(Some(ended)),
     }
 }
 

@@ -1,8 +1,8 @@
 //! The loops `while` and `for` (ECMA-262, 3rd edition, sections 12.6.2 and 12.6.3), but for those that declare variables.
 ghost use Rattle.std.specs.Prelude.{◌≡◌, ◌<◌, ◌≤◌, ℕ, IfSome, None, Some, true, []};
-ghost use Rattle.wjs_base.specs.Text.{Table, Grows};
+ghost use Rattle.wjs_base.specs.Text.{Table};
 ghost use Rattle.wjs_by_content.specs.Tables.{value_in};
-ghost use Rattle.wjs_meaning.specs.Deeds.{Act, Again, AtExpr, AtStmt, Env, Sub, then_value};
+ghost use Rattle.wjs_meaning.specs.Deeds.{Again, AtExpr, AtStmt, Env, Sub, then_value};
 ghost use Rattle.wjs_meaning.specs.Expressions.{expr_at};
 ghost use Rattle.wjs_meaning.specs.Loops as loops;
 ghost use Rattle.wjs_meaning.specs.Reading.{number};
@@ -10,35 +10,23 @@ ghost use Rattle.wjs_meaning.specs.Statements.{iteration_from, stmt_at};
 ghost use Rattle.wjs_model.specs.Contents.{completion_in};
 ghost use Rattle.wjs_model.specs.Soundness.{Base, HasCompletion, HasValue, IsThere, StandsHere, StandsIf};
 ghost use Rattle.wjs_frames.specs.Following.{Later};
-ghost use Rattle.wjs_frames.specs.Parts.{env_in};
 ghost use Rattle.wjs_stopping.specs.Ends.{gives_in};
 ghost use Rattle.wjs_stopping.specs.Evaluating.{Evaluates, HasOutcome, InMemory};
 ghost use Rattle.wjs_direct.specs.Deeds.{IsNode, entry_here, form_here, goal_here, line_here};
-ghost use Rattle.wjs_direct.specs.Rounds.{GoesRound, HasRound, IsLoop, after_in, next_in};
+ghost use Rattle.wjs_direct.specs.Rounds.{GoesRound, HasRound, IsLoop, next_in};
 
 use crate::expressions::{form, value};
 use crate::room::may_enter;
 use crate::statements::{statement, statement_form};
 use crate::stores::effect;
 use wjs_base::Value;
-use wjs_loops::is_labelled;
+use wjs_loops::{AfterBody, after_body};
 use wjs_model::{Completion, Config, Frame, Phase, Point, Start, StmtPoint};
 use wjs_quick::quick_entered;
 use wjs_step_common::to_boolean;
 use wjs_stopping::{Broken, Stops, stop, waits};
 use wjs_store::WorldStore;
 use wjs_tree::{ForInit, Node, NodeId};
-
-/// What follows a loop's body.
-#[derive(Clone, Copy)]
-pub(crate) enum After {
-    /// What comes between iterations, and the next one.
-    Again,
-    /// The loop's end.
-    Breaks,
-    /// The loop ends as its body did.
-    Passes,
-}
 
 /// A `for` that begins with an expression.
 #[cycle(direct)]
@@ -477,37 +465,8 @@ fn body_ended<S: WorldStore>(
         frame.now node result stops.new.waits stops.new.top config.old config.new }
 {
     match after_body(config, frame, node, end) {
-        After::Again => updated(config, frame, node, update, room, stops),
-        After::Breaks => Ok(Some(Completion::Normal)),
-        After::Passes => Ok(Some(end)),
-    }
-}
-
-/// What follows the body of the loop at a node by how it ended (sections 12.6, 12.7 and 12.8). The loop's labels are asked for where the
-/// body continues one.
-#[inline(always)]
-pub(crate) fn after_body<S: WorldStore>(
-    config: &Config<S>,
-    frame: &Frame,
-    node: NodeId,
-    end: Completion,
-) -> After
-    requires base { Base S.meaning config.now }
-    requires end { HasCompletion config.now end }
-    ensures { (t : Table) → Grows config.now.heap.texts t → (again : Act) →
-        loops.after_body node.0 (env_in S.meaning config.now t frame.now) again (completion_in t end) ≡ after_in t again end result }
-{
-    match end {
-        Completion::Normal | Completion::Continues(None) => After::Again,
-        Completion::Continues(Some(label)) => {
-            if is_labelled(config, frame, node, label) {
-                After::Again
-            } else {
-                After::Passes
-            }
-        }
-        Completion::Breaks(None) => After::Breaks,
-        _ => After::Passes,
+        AfterBody::Again => updated(config, frame, node, update, room, stops),
+        AfterBody::Ends(ended) => Ok(Some(ended)),
     }
 }
 

@@ -11,10 +11,11 @@ ghost use Rattle.wjs_stopping.specs.Evaluating.{Evaluates, HasOutcome, InMemory}
 ghost use Rattle.wjs_direct.specs.Deeds.{form_here};
 ghost use Rattle.wjs_direct.specs.Rounds.{HasParts, ends_round};
 
-use crate::loops::{After, after_body, iterations, update_run};
+use crate::loops::{iterations, update_run};
 use crate::room::ROOM;
 use wjs_base::OutOfMemory;
 use wjs_frames::node_of;
+use wjs_loops::{AfterBody, after_body};
 use wjs_model::{Completion, Config, Frame, Point, StmtPoint};
 use wjs_stopping::{Broken, Stops, finish_end};
 use wjs_store::WorldStore;
@@ -56,7 +57,7 @@ pub fn is_followed<S: WorldStore>(config: &Config<S>, frame: &Frame, end: Comple
 {
     let node = frame.node();
     match after_body(config, frame, node, end) {
-        After::Again => true,
+        AfterBody::Again => true,
         _ => false,
     }
 }

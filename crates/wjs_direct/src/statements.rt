@@ -207,6 +207,10 @@ pub(crate) fn statement_form<S: WorldStore>(
             let e = *e;
             switch(config, frame, node, e, room, stops)
         }
+        Some(Node::Empty) => Ok(Completion::Normal),
+        Some(Node::Break(label, _)) => Ok(Completion::Breaks(*label)),
+        Some(Node::Continue(label, _)) => Ok(Completion::Continues(*label)),
+        Some(Node::Return(None, _)) => Ok(Completion::Returns(Value::Undefined)),
         _ => Err(stop(config, frame, node, Phase::Ready(Start::Stmt), stops)),
     }
 }

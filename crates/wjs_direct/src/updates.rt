@@ -21,6 +21,7 @@ use wjs_effects::{given, store_and_end, updated};
 use wjs_model::{
     Completion, Config, Conversion, ExprPoint, Fix, Frame, Held, Phase, Point, Reference, Start,
 };
+use wjs_step_common::{is_object, to_number};
 use wjs_stopping::{Broken, Stops, stop_holding, waits_holding};
 use wjs_store::WorldStore;
 use wjs_tree::UpdateOperator;
@@ -54,7 +55,7 @@ pub(crate) fn update_read<S: WorldStore>(
     }
 }
 
-/// What follows its value: what is no number is converted to one by a frame.
+/// What follows its value: of a primitive its number, and an object is converted to one by a frame.
 fn value_updated<S: WorldStore>(
     config: &mut Config<S>,
     frame: &Frame,
@@ -77,11 +78,11 @@ fn value_updated<S: WorldStore>(
         (λ t env. line.update_value (fix_in fix) operator env (reference_in t reference) (value_in t old)))
         gives_in result stops.new.waits stops.new.top config.old config.new }
 {
-    match old {
-        Value::Number(number) => {
-            number_updated(config, frame, node, fix, operator, reference, number, stops)
-        }
-        _ => converted(config, frame, node, fix, operator, reference, old, stops),
+    if is_object(old) {
+        converted(config, frame, node, fix, operator, reference, old, stops)
+    } else {
+        let number = to_number(config, old);
+        number_updated(config, frame, node, fix, operator, reference, number, stops)
     }
 }
 
@@ -104,7 +105,7 @@ fn number_updated<S: WorldStore>(
     ensures later { InMemory result (Later S.meaning config.old config.new) }
     ensures found { HasOutcome S.meaning HasValue config.new result stops.new.waits stops.new.top }
     ensures does { Evaluates S.meaning (line_here S.meaning config.old frame.now
-        (λ t env. line.update_value (fix_in fix) operator env (reference_in t reference) (Number number.number)))
+        (λ t env. line.update_number (fix_in fix) operator env (reference_in t reference) number.number))
         gives_in result stops.new.waits stops.new.top config.old config.new }
 {
     match updated(operator, number) {
@@ -113,8 +114,10 @@ fn number_updated<S: WorldStore>(
             number_stored(config, frame, reference, next, told, stops)
         }
         Err(_) => {
-            let old = Value::Number(number);
-            converted(config, frame, node, fix, operator, reference, old, stops)
+            let point = Point::Expr(ExprPoint::UpdateNumber(fix, operator));
+            let phase = Phase::Given(point, Completion::Gives(Value::Number(number)));
+            let held = Held::Reference(reference);
+            Err(stop_holding(config, frame, node, held, phase, stops))
         }
     }
 }

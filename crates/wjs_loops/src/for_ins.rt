@@ -123,7 +123,7 @@ fn body_ended<S: WorldStore>(
     ensures { GoesOn S.meaning frame config.old config.new result (λ t env.
         after_body frame.node.0 env (visits_from frame.node.0 (taker_in t taker) s.0 (holding_in t frame.held).visits env) (completion_in t completion)) }
 {
-    match after_body(config, &frame, completion) {
+    match after_body(config, &frame, frame.node(), completion) {
         AfterBody::Again => visit_next(config, frame, taker, s),
         AfterBody::Ends(ended) => finish(config, frame, ended),
     }

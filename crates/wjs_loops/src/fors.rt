@@ -231,7 +231,7 @@ pub fn for_body<S: WorldStore>(
     requires completion { HasCompletion config.old completion }
     ensures { GoesOn S.meaning frame config.old config.new result (λ t env. loop_body frame.node.0 (number update) env (completion_in t completion)) }
 {
-    match after_body(config, &frame, completion) {
+    match after_body(config, &frame, frame.node(), completion) {
         AfterBody::Again => go_round(config, frame, Position::Update(update)),
         AfterBody::Ends(completion) => finish(config, frame, completion),
     }

@@ -28,18 +28,8 @@ pub fn same_label(texts: &Texts, a: TextId, b: TextId) -> bool
     same_value(Value::Text(a), Value::Text(b))
 }
 
-/// Whether a label is one of the loop's that the frame runs, in every table that grows from the texts.
-pub(crate) fn has_label<S: WorldStore>(config: &Config<S>, frame: &Frame, label: TextId) -> bool
-    requires base { Base S.meaning config.now }
-    requires label { Has config.now.heap.texts label }
-    ensures { (t : Table) → Grows config.now.heap.texts t →
-        has_text (labels (tree_here (env_in S.meaning config.now t frame.now)) frame.now.node.0) (text_in t label) ≡ result }
-{
-    is_labelled(config, frame, frame.node(), label)
-}
-
 /// Whether a label is one of the statement's at a node of the frame's tree, in every table that grows from the texts.
-pub fn is_labelled<S: WorldStore>(
+pub(crate) fn is_labelled<S: WorldStore>(
     config: &Config<S>,
     frame: &Frame,
     node: NodeId,

@@ -331,7 +331,7 @@ pub(crate) fn position_after<S: WorldStore>(
         ≡ position_in t frame.now.node.0 (env_in S.meaning config.now t frame.now) result }
     ensures found { HasPosition config.now frame.now result }
 {
-    match after_body(config, frame, completion) {
+    match after_body(config, frame, frame.node(), completion) {
         AfterBody::Again => Position::Update(u),
         AfterBody::Ends(ended) => Position::Ended(ended),
     }

@@ -85,7 +85,7 @@ pub fn while_body<S: WorldStore>(
     requires completion { HasCompletion config.old completion }
     ensures { GoesOn S.meaning frame config.old config.new result (λ t env. loop_body frame.node.0 None env (completion_in t completion)) }
 {
-    match after_body(config, &frame, completion) {
+    match after_body(config, &frame, frame.node(), completion) {
         AfterBody::Again => go_round(config, frame, Position::Again),
         AfterBody::Ends(completion) => finish(config, frame, completion),
     }
@@ -103,7 +103,7 @@ pub fn do_body<S: WorldStore>(
     requires completion { HasCompletion config.old completion }
     ensures { GoesOn S.meaning frame config.old config.new result (λ t env. do_body frame.node.0 e.0 env (completion_in t completion)) }
 {
-    match after_body(config, &frame, completion) {
+    match after_body(config, &frame, frame.node(), completion) {
         AfterBody::Again => do_asked(config, frame, e),
         AfterBody::Ends(completion) => finish(config, frame, completion),
     }

@@ -1266,11 +1266,11 @@ loops::body_run-returns-in-Err-clause-does = loops.body_run-returns-in-Err-claus
 pub loops::body_ended-returns-in-Again-clause-does : goal.loops::body_ended-returns-in-Again-clause-does
 loops::body_ended-returns-in-Again-clause-does = loops.body_ended-returns-in-Again-clause-does
 
-pub loops::body_ended-returns-in-Breaks-clause-does : goal.loops::body_ended-returns-in-Breaks-clause-does
-loops::body_ended-returns-in-Breaks-clause-does = loops.body_ended-returns-in-Breaks-clause-does
+pub loops::body_ended-returns-in-Ends-clause-found : goal.loops::body_ended-returns-in-Ends-clause-found
+loops::body_ended-returns-in-Ends-clause-found = loops.body_ended-returns-in-Ends-clause-found
 
-pub loops::body_ended-returns-in-Passes-clause-does : goal.loops::body_ended-returns-in-Passes-clause-does
-loops::body_ended-returns-in-Passes-clause-does = loops.body_ended-returns-in-Passes-clause-does
+pub loops::body_ended-returns-in-Ends-clause-does : goal.loops::body_ended-returns-in-Ends-clause-does
+loops::body_ended-returns-in-Ends-clause-does = loops.body_ended-returns-in-Ends-clause-does
 
 pub loops::updated-update_run-requires : goal.loops::updated-update_run-requires
 loops::updated-update_run-requires = loops.updated-update_run-requires
@@ -1921,11 +1921,11 @@ do_loops::iteration-returns-in-Err-clause-does = do_loops.iteration-returns-in-E
 pub do_loops::body_ended-returns-in-Again-clause-does : goal.do_loops::body_ended-returns-in-Again-clause-does
 do_loops::body_ended-returns-in-Again-clause-does = do_loops.body_ended-returns-in-Again-clause-does
 
-pub do_loops::body_ended-returns-in-Breaks-clause-does : goal.do_loops::body_ended-returns-in-Breaks-clause-does
-do_loops::body_ended-returns-in-Breaks-clause-does = do_loops.body_ended-returns-in-Breaks-clause-does
+pub do_loops::body_ended-returns-in-Ends-clause-found : goal.do_loops::body_ended-returns-in-Ends-clause-found
+do_loops::body_ended-returns-in-Ends-clause-found = do_loops.body_ended-returns-in-Ends-clause-found
 
-pub do_loops::body_ended-returns-in-Passes-clause-does : goal.do_loops::body_ended-returns-in-Passes-clause-does
-do_loops::body_ended-returns-in-Passes-clause-does = do_loops.body_ended-returns-in-Passes-clause-does
+pub do_loops::body_ended-returns-in-Ends-clause-does : goal.do_loops::body_ended-returns-in-Ends-clause-does
+do_loops::body_ended-returns-in-Ends-clause-does = do_loops.body_ended-returns-in-Ends-clause-does
 
 pub do_loops::asked-tested-requires : goal.do_loops::asked-tested-requires
 do_loops::asked-tested-requires = do_loops.asked-tested-requires
@@ -1955,3 +1955,39 @@ statements::statement_form-run_do-requires = statements.statement_form-run_do-re
 
 pub statements::statement_form-returns-in-Some-DoWhile-clause-does : goal.statements::statement_form-returns-in-Some-DoWhile-clause-does
 statements::statement_form-returns-in-Some-DoWhile-clause-does = statements.statement_form-returns-in-Some-DoWhile-clause-does
+
+pub statements::statement_form-returns-in-Some-Empty-clause-later : goal.statements::statement_form-returns-in-Some-Empty-clause-later
+statements::statement_form-returns-in-Some-Empty-clause-later = statements.statement_form-returns-in-Some-Empty-clause-later
+
+pub statements::statement_form-returns-in-Some-Empty-clause-found : goal.statements::statement_form-returns-in-Some-Empty-clause-found
+statements::statement_form-returns-in-Some-Empty-clause-found = statements.statement_form-returns-in-Some-Empty-clause-found
+
+pub statements::statement_form-returns-in-Some-Empty-clause-does : goal.statements::statement_form-returns-in-Some-Empty-clause-does
+statements::statement_form-returns-in-Some-Empty-clause-does = statements.statement_form-returns-in-Some-Empty-clause-does
+
+pub statements::statement_form-returns-in-Some-Break-clause-later : goal.statements::statement_form-returns-in-Some-Break-clause-later
+statements::statement_form-returns-in-Some-Break-clause-later = statements.statement_form-returns-in-Some-Break-clause-later
+
+pub statements::statement_form-returns-in-Some-Break-clause-found : goal.statements::statement_form-returns-in-Some-Break-clause-found
+statements::statement_form-returns-in-Some-Break-clause-found = statements.statement_form-returns-in-Some-Break-clause-found
+
+pub statements::statement_form-returns-in-Some-Break-clause-does : goal.statements::statement_form-returns-in-Some-Break-clause-does
+statements::statement_form-returns-in-Some-Break-clause-does = statements.statement_form-returns-in-Some-Break-clause-does
+
+pub statements::statement_form-returns-in-Some-Continue-clause-later : goal.statements::statement_form-returns-in-Some-Continue-clause-later
+statements::statement_form-returns-in-Some-Continue-clause-later = statements.statement_form-returns-in-Some-Continue-clause-later
+
+pub statements::statement_form-returns-in-Some-Continue-clause-found : goal.statements::statement_form-returns-in-Some-Continue-clause-found
+statements::statement_form-returns-in-Some-Continue-clause-found = statements.statement_form-returns-in-Some-Continue-clause-found
+
+pub statements::statement_form-returns-in-Some-Continue-clause-does : goal.statements::statement_form-returns-in-Some-Continue-clause-does
+statements::statement_form-returns-in-Some-Continue-clause-does = statements.statement_form-returns-in-Some-Continue-clause-does
+
+pub statements::statement_form-returns-in-Some-Return-None-default-clause-later : goal.statements::statement_form-returns-in-Some-Return-None-default-clause-later
+statements::statement_form-returns-in-Some-Return-None-default-clause-later = statements.statement_form-returns-in-Some-Return-None-default-clause-later
+
+pub statements::statement_form-returns-in-Some-Return-None-default-clause-found : goal.statements::statement_form-returns-in-Some-Return-None-default-clause-found
+statements::statement_form-returns-in-Some-Return-None-default-clause-found = statements.statement_form-returns-in-Some-Return-None-default-clause-found
+
+pub statements::statement_form-returns-in-Some-Return-None-default-clause-does : goal.statements::statement_form-returns-in-Some-Return-None-default-clause-does
+statements::statement_form-returns-in-Some-Return-None-default-clause-does = statements.statement_form-returns-in-Some-Return-None-default-clause-does

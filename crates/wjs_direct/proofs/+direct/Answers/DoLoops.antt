@@ -11,7 +11,6 @@ use Rattle.wjs_model.specs.declared.frame.Completion.{Completion}
 use Rattle.wjs_model.specs.Contents.{completion_in}
 use Rattle.wjs_model.specs.Soundness.{Base, HasCompletion, HasValue, IsThere, StandsHere}
 use Rattle.wjs_model.specs.declared.config.Config.{Config}
-use Rattle.wjs_model.specs.declared.frame.Completion.TheVariants as completions
 use Rattle.wjs_model.specs.declared.frame.Phase.TheVariants as phases
 use Rattle.wjs_model.specs.declared.point.Start.TheVariants as starts
 use Rattle.wjs_model.specs.declared.point.Point.TheVariants as points
@@ -28,10 +27,8 @@ use Rattle.wjs_direct.specs.Deeds.{goal_here, line_here, form_here}
 use Rattle.wjs_stopping.proofs.Evaluating.{in_memory, leaves_all}
 use Rattle.wjs_direct.proofs.Parts.{broke_does, broke_found, broke_later, due_does, later_stopped, later_then, stop_found}
 use Rattle.wjs_direct.proofs.Assigning.{broken_as}
-use Rattle.wjs_direct.proofs.Looping.{after_is, entry_broke, entry_left, line_begins, part_left, round_behind, round_ended}
-use Rattle.wjs_direct.proofs.DoLoops.{asks_test, do_begun, do_later, do_tested}
-use Rattle.wjs_direct.specs.declared.loops.After.TheVariants as afters
-use Rattle.wjs_direct.specs.Rounds.{HasRound, IsDo, round_left}
+use Rattle.wjs_direct.proofs.Looping.{asks_test, comes_behind, entry_broke, entry_left, line_begins, part_left, round_begun, round_ended, round_later, round_next}
+use Rattle.wjs_direct.specs.Rounds.{HasRound, IsDo, do_round, round_left}
 use Rattle.wjs_direct.proofs.+direct.Goals as goal
 
 -- from the first iteration on
@@ -47,7 +44,7 @@ run_do-iterations-requires g t c =
     let there : IsThere m mid f = l.frames f c.requires.there in
     let node : StandsHere mid f c.args.node = stands_later m old f mid c.args.node l c.requires.node in
     let empty : c.first.new.stops.waits ≡ [] = c.in-Ok.ensures.found.1 in
-    let is : IsDo m mid f c.args.node c.args.body c.args.test = do_later m old mid f c.args.node c.args.body c.args.test l c.requires.is in
+    let is : IsDo m mid f c.args.node c.args.body c.args.test = round_later m old mid f c.args.node (do_round c.args.node c.args.body c.args.test) l c.requires.is in
     let test : StandsHere mid f c.args.test = stands_later m old f mid c.args.test l c.requires.test in
     let body : StandsHere mid f c.args.body = stands_later m old f mid c.args.body l c.requires.body in
     search (rules, base, there, node, empty, is, test, body)
@@ -126,7 +123,7 @@ iterations-rounds-preserved g t c =
     let l = later_left m mid (mid.left - 1) inv.later.base in
     let line = line_here m now f (λ t env. Sub (stmt_at c.args.body.0 env) (loops.do_body c.args.node.0 c.args.test.0 env)) in
     let goal_at : Config g.row.S.Denot → Table → (Meant → Act) → Act = λ x. goal_here m x f (Again c.args.node.0) in
-    let begun = do_begun m mid f c.args.node c.args.body c.args.test (c.may_go_round.ensures.left c.rounds-test.true) (do_later m old mid f c.args.node c.args.body c.args.test inv.later c.requires.is) in
+    let begun = round_begun m mid f c.args.node (do_round c.args.node c.args.body c.args.test) (c.may_go_round.ensures.left c.rounds-test.true) (round_later m old mid f c.args.node (do_round c.args.node c.args.body c.args.test) inv.later c.requires.is) in
     let one = subst (λ (o : Option Completion). Leaves m line (round_left m new f c.args.node o) now new) c.in-None.is c.in-Ok.ensures.does in
     record {
       left = leaves_all m (goal_at old) (goal_at mid) (goal_at new) old mid new inv.left (leaves_all m (goal_at mid) line (goal_at new) mid now new begun one);
@@ -158,7 +155,7 @@ iterations-returns-in-Some-clause-does g t c =
     let inv = c.rounds.invariant in
     let line = line_here m now f (λ t env. Sub (stmt_at c.args.body.0 env) (loops.do_body c.args.node.0 c.args.test.0 env)) in
     let goal_at : Config g.row.S.Denot → Table → (Meant → Act) → Act = λ x. goal_here m x f (Again c.args.node.0) in
-    let begun = do_begun m mid f c.args.node c.args.body c.args.test (c.may_go_round.ensures.left c.rounds-test.true) (do_later m old mid f c.args.node c.args.body c.args.test inv.later c.requires.is) in
+    let begun = round_begun m mid f c.args.node (do_round c.args.node c.args.body c.args.test) (c.may_go_round.ensures.left c.rounds-test.true) (round_later m old mid f c.args.node (do_round c.args.node c.args.body c.args.test) inv.later c.requires.is) in
     let one = subst (λ (o : Option Completion). Leaves m line (round_left m new f c.args.node o) now new) c.in-Some.is c.in-Ok.ensures.does in
     leaves_all m (goal_at old) (goal_at mid) (round_left m new f c.args.node (Some c.in-Some.end)) old mid new inv.left (leaves_all m (goal_at mid) line (round_left m new f c.args.node (Some c.in-Some.end)) mid now new begun one)
 
@@ -185,9 +182,9 @@ iterations-returns-in-Err-clause-does g t c =
     let k = c.iteration.new.stops in
     let line = line_here m now f (λ t env. Sub (stmt_at c.args.body.0 env) (loops.do_body c.args.node.0 c.args.test.0 env)) in
     let goal_at : Config g.row.S.Denot → Table → (Meant → Act) → Act = λ x. goal_here m x f (Again c.args.node.0) in
-    let begun = do_begun m mid f c.args.node c.args.body c.args.test (c.may_go_round.ensures.left c.rounds-test.true) (do_later m old mid f c.args.node c.args.body c.args.test inv.later c.requires.is) in
-    round_behind m (goal_at old) (goal_at mid) f c.args.node (Err c.in-Err.end) k.waits k.top old mid new inv.left
-    (round_behind m (goal_at mid) line f c.args.node (Err c.in-Err.end) k.waits k.top mid now new begun c.in-Err.ensures.does)
+    let begun = round_begun m mid f c.args.node (do_round c.args.node c.args.body c.args.test) (c.may_go_round.ensures.left c.rounds-test.true) (round_later m old mid f c.args.node (do_round c.args.node c.args.body c.args.test) inv.later c.requires.is) in
+    comes_behind m (goal_at old) (goal_at mid) (round_left m new f c.args.node) (Err c.in-Err.end) k.waits k.top old mid new inv.left
+    (comes_behind m (goal_at mid) line (round_left m new f c.args.node) (Err c.in-Err.end) k.waits k.top mid now new begun c.in-Err.ensures.does)
 
 pub iterations-returns-clause-later : goal.do_loops::iterations-returns-clause-later
 iterations-returns-clause-later g t c =
@@ -216,7 +213,7 @@ iterations-returns-clause-does g t c =
     let mid = c.rounds.config in
     let s = c.stop.new.stops in
     let goal_at : Config g.row.S.Denot → Table → (Meant → Act) → Act = λ x. goal_here m x f (Again c.args.node.0) in
-    round_behind m (goal_at old) (goal_at mid) f c.args.node (Err c.stop.result) s.waits s.top old mid c.stop.new.config c.rounds.invariant.left
+    comes_behind m (goal_at old) (goal_at mid) (round_left m c.stop.new.config f c.args.node) (Err c.stop.result) s.waits s.top old mid c.stop.new.config c.rounds.invariant.left
     (due_does m {A = Completion} completion_in mid c.stop.new.config f c.stop.result s.waits s.top c.stop.ensures.same (part.Again c.args.node) c.stop.ensures.stops)
 
 -- the body of the first iteration
@@ -248,7 +245,7 @@ first-returns-in-Ok-clause-does g t c =
     let f = c.args.frame.now in
     let k = c.body_ended.new.stops in
     let next : Table → Env → Meant → Act = λ t env. loops.do_body c.args.node.0 c.args.test.0 env in
-    round_behind m (form_here m old f (AtStmt c.args.body.0) next) (line_here m mid f (λ t env. next t env (completion_in t c.in-Ok.end))) f c.args.node c.body_ended.result k.waits k.top old mid c.body_ended.new.config
+    comes_behind m (form_here m old f (AtStmt c.args.body.0) next) (line_here m mid f (λ t env. next t env (completion_in t c.in-Ok.end))) (round_left m c.body_ended.new.config f c.args.node) c.body_ended.result k.waits k.top old mid c.body_ended.new.config
     (part_left m completion_in old mid f (AtStmt c.args.body.0) next c.in-Ok.end c.in-Ok.ensures.later c.in-Ok.ensures.does) c.body_ended.ensures.does
 
 pub first-returns-in-Err-clause-later : goal.do_loops::first-returns-in-Err-clause-later
@@ -306,7 +303,7 @@ iteration-returns-in-Ok-clause-does g t c =
     let f = c.args.frame.now in
     let k = c.body_ended.new.stops in
     let next : Table → Env → Meant → Act = λ t env. loops.do_body c.args.node.0 c.args.test.0 env in
-    round_behind m (line_here m old f (λ t env. Sub (entry (AtStmt c.args.body.0) env) (next t env))) (line_here m mid f (λ t env. next t env (completion_in t c.in-Ok.end))) f c.args.node c.body_ended.result k.waits k.top old mid c.body_ended.new.config
+    comes_behind m (line_here m old f (λ t env. Sub (entry (AtStmt c.args.body.0) env) (next t env))) (line_here m mid f (λ t env. next t env (completion_in t c.in-Ok.end))) (round_left m c.body_ended.new.config f c.args.node) c.body_ended.result k.waits k.top old mid c.body_ended.new.config
     (entry_left m completion_in old mid f (AtStmt c.args.body.0) next c.in-Ok.end c.in-Ok.ensures.later c.in-Ok.ensures.does) c.body_ended.ensures.does
 
 pub iteration-returns-in-Err-clause-later : goal.do_loops::iteration-returns-in-Err-clause-later
@@ -345,35 +342,19 @@ body_ended-returns-in-Again-clause-does g t c =
     let k = c.asked.new.stops in
     let next : Table → Env → Meant → Act = λ t env. then_value (loops.do_test c.args.node.0 env) in
     let act : Table → Env → Act = λ t env. loops.do_body c.args.node.0 c.args.test.0 env (completion_in t c.args.end) in
-    round_behind m (line_here m old f act) (form_here m old f (AtExpr c.args.test.0) next) f c.args.node c.asked.result k.waits k.top old old c.asked.new.config
-    (line_begins m old f act (AtExpr c.args.test.0) next (λ t more.
-    let env = env_in m old t f in
-    let asks = asks_test c.args.node.0 c.args.test.0 env in
-    after_is t asks c.args.end (act t env) c.after_body.result afters.Again (c.after_body.ensures t more asks) c.in-Again.is)) c.asked.ensures.does
+    comes_behind m (line_here m old f act) (form_here m old f (AtExpr c.args.test.0) next) (round_left m c.asked.new.config f c.args.node) c.asked.result k.waits k.top old old c.asked.new.config
+    (line_begins m old f act (AtExpr c.args.test.0) next (λ t more. c.in-Again.ensures.means t more (asks_test c.args.node.0 c.args.test.0 (env_in m old t f)))) c.asked.ensures.does
 
-pub body_ended-returns-in-Breaks-clause-does : goal.do_loops::body_ended-returns-in-Breaks-clause-does
-body_ended-returns-in-Breaks-clause-does g t c =
+pub body_ended-returns-in-Ends-clause-found : goal.do_loops::body_ended-returns-in-Ends-clause-found
+body_ended-returns-in-Ends-clause-found g t c = (c.in-Ends.ensures.there, c.requires.empty)
+
+pub body_ended-returns-in-Ends-clause-does : goal.do_loops::body_ended-returns-in-Ends-clause-does
+body_ended-returns-in-Ends-clause-does g t c =
     let m = g.S.WorldStore.meaning in
     let old = c.args.config.now in
     let f = c.args.frame.now in
     let act : Table → Env → Act = λ t env. loops.do_body c.args.node.0 c.args.test.0 env (completion_in t c.args.end) in
-    round_ended m old f c.args.node act completions.Normal
-    (λ t more.
-    let env = env_in m old t f in
-    let asks = asks_test c.args.node.0 c.args.test.0 env in
-    after_is t asks c.args.end (act t env) c.after_body.result afters.Breaks (c.after_body.ensures t more asks) c.in-Breaks.is)
-
-pub body_ended-returns-in-Passes-clause-does : goal.do_loops::body_ended-returns-in-Passes-clause-does
-body_ended-returns-in-Passes-clause-does g t c =
-    let m = g.S.WorldStore.meaning in
-    let old = c.args.config.now in
-    let f = c.args.frame.now in
-    let act : Table → Env → Act = λ t env. loops.do_body c.args.node.0 c.args.test.0 env (completion_in t c.args.end) in
-    round_ended m old f c.args.node act c.args.end
-    (λ t more.
-    let env = env_in m old t f in
-    let asks = asks_test c.args.node.0 c.args.test.0 env in
-    after_is t asks c.args.end (act t env) c.after_body.result afters.Passes (c.after_body.ensures t more asks) c.in-Passes.is)
+    round_ended m old f c.args.node act c.in-Ends.ended (λ t more. c.in-Ends.ensures.means t more (asks_test c.args.node.0 c.args.test.0 (env_in m old t f)))
 
 -- the test
 
@@ -396,7 +377,7 @@ asked-returns-in-Ok-clause-does g t c =
     let next : Table → Env → Meant → Act = λ t env. then_value (loops.do_test c.args.node.0 env) in
     leaves_all m (form_here m old f (AtExpr c.args.test.0) next) (line_here m mid f (λ t env. next t env (gives_in t c.in-Ok.truth))) (round_left m mid f c.args.node c.tested.result) old mid mid
     (part_left m gives_in old mid f (AtExpr c.args.test.0) next c.in-Ok.truth c.in-Ok.ensures.later c.in-Ok.ensures.does)
-    (do_tested m mid f c.args.node (λ t env. next t env (gives_in t c.in-Ok.truth)) c.tested.result (λ t more env. c.tested.ensures.is t more c.args.node.0 env))
+    (round_next m mid f c.args.node (λ t env. next t env (gives_in t c.in-Ok.truth)) c.tested.result (λ t more env. c.tested.ensures.is t more c.args.node.0 env))
 
 pub asked-returns-in-Err-clause-later : goal.do_loops::asked-returns-in-Err-clause-later
 asked-returns-in-Err-clause-later g t c =

@@ -7,6 +7,7 @@ use Rattle.wjs_base.specs.declared.values.Value.{Value}
 use Rattle.wjs_by_content.specs.Tables.{value_in}
 use Rattle.wjs_by_content.specs.Values.{Value as Content}
 use Rattle.wjs_tree.specs.declared.node.ForInit.TheVariants as inits
+use Rattle.wjs_tree.specs.declared.node.Node.TheVariants as nodes
 use Rattle.wjs_meaning.specs.Deeds.{AtExpr, AtStmt, then_value, Again, Act, Sub, Env, Completion as Meant}
 use Rattle.wjs_meaning.specs.Programs.{entry}
 use Rattle.wjs_meaning.specs.Reading.{number}
@@ -39,9 +40,8 @@ use Rattle.wjs_stopping.proofs.Evaluating.{in_memory, leaves_all}
 use Rattle.wjs_direct.proofs.Forming.{form_goes_on, line_ended, node_there}
 use Rattle.wjs_direct.proofs.Parts.{broke_does, broke_found, broke_later, did, due_does, later_stopped, later_then, line_as, stop_found}
 use Rattle.wjs_direct.proofs.Assigning.{broken_as}
-use Rattle.wjs_direct.proofs.Looping.{after_is, entry_broke, entry_left, for_first_then, for_loops, if_here, if_stands, line_begins, line_same, loop_later, part_left, round_begun, round_behind, round_due, round_ended, round_there, round_updated, test_fails, test_holds}
-use Rattle.wjs_direct.specs.declared.loops.After.TheVariants as afters
-use Rattle.wjs_direct.specs.Rounds.{HasRound, IsLoop, round_left}
+use Rattle.wjs_direct.proofs.Looping.{comes_behind, entry_broke, entry_left, for_first_then, if_here, if_stands, line_begins, line_same, part_left, round_begun, round_due, round_ended, round_is, round_later, round_next, round_there, test_fails, test_holds}
+use Rattle.wjs_direct.specs.Rounds.{HasRound, IsLoop, loop_round, round_left}
 use Rattle.wjs_direct.proofs.+direct.Goals as goal
 
 -- ---- loops
@@ -60,7 +60,7 @@ for_expression-for_begun-requires g t c =
     let there : IsThere m mid f = l.frames f c.requires.there in
     let node : StandsHere mid f c.args.node = stands_later m old f mid c.args.node l c.requires.node in
     let empty : c.effect.new.stops.waits ≡ [] = c.in-Ok.ensures.found.1 in
-    let is : IsLoop m mid f c.args.node c.args.test c.args.update c.args.body = loop_later m old mid f c.args.node c.args.test c.args.update c.args.body l (for_loops m old f c.args.node (inits.Expr c.args.e) c.args.test c.args.update c.args.body c.requires.is) in
+    let is : IsLoop m mid f c.args.node c.args.test c.args.update c.args.body = round_later m old mid f c.args.node (loop_round c.args.node c.args.test c.args.update c.args.body) l (round_is m old f c.args.node (nodes.For (inits.Expr c.args.e) c.args.test c.args.update c.args.body) (loop_round c.args.node c.args.test c.args.update c.args.body) (λ t env. refl) c.requires.is) in
     let test : StandsIf mid f c.args.test = stands_if_later m old f mid c.args.test l (if_stands m old f c.args.node c.args.test parts.0) in
     let update : StandsIf mid f c.args.update = stands_if_later m old f mid c.args.update l (if_stands m old f c.args.node c.args.update parts.1.0) in
     let body : StandsHere mid f c.args.body = stands_later m old f mid c.args.body l parts.1.1 in
@@ -135,7 +135,7 @@ run_loop-iterations-requires g t c =
     let there : IsThere m mid f = l.frames f c.requires.there in
     let node : StandsHere mid f c.args.node = stands_later m old f mid c.args.node l c.requires.node in
     let empty : c.first.new.stops.waits ≡ [] = c.in-Ok.ensures.found.1 in
-    let is : IsLoop m mid f c.args.node c.args.test c.args.update c.args.body = loop_later m old mid f c.args.node c.args.test c.args.update c.args.body l c.requires.is in
+    let is : IsLoop m mid f c.args.node c.args.test c.args.update c.args.body = round_later m old mid f c.args.node (loop_round c.args.node c.args.test c.args.update c.args.body) l c.requires.is in
     let test : StandsIf mid f c.args.test = stands_if_later m old f mid c.args.test l c.requires.test in
     let update : StandsIf mid f c.args.update = stands_if_later m old f mid c.args.update l c.requires.update in
     let body : StandsHere mid f c.args.body = stands_later m old f mid c.args.body l c.requires.body in
@@ -190,8 +190,8 @@ first-returns-in-Some-clause-does g t c =
     let old = c.args.config.now in
     let f = c.args.frame.now in
     let k = c.first_tested.new.stops in
-    round_behind m (line_here m old f (λ t env. loops.loop_from c.args.node.0 (number c.args.test) (number c.args.update) c.args.body.0 env))
-    (form_here m old f (AtExpr c.in-Some.e.0) (λ t env. then_value (loops.loop_test c.args.node.0 (number c.args.update) c.args.body.0 env))) f c.args.node c.first_tested.result k.waits k.top old old c.first_tested.new.config
+    comes_behind m (line_here m old f (λ t env. loops.loop_from c.args.node.0 (number c.args.test) (number c.args.update) c.args.body.0 env))
+    (form_here m old f (AtExpr c.in-Some.e.0) (λ t env. then_value (loops.loop_test c.args.node.0 (number c.args.update) c.args.body.0 env))) (round_left m c.first_tested.new.config f c.args.node) c.first_tested.result k.waits k.top old old c.first_tested.new.config
     (line_begins m old f (λ t env. loops.loop_from c.args.node.0 (number c.args.test) (number c.args.update) c.args.body.0 env) (AtExpr c.in-Some.e.0) (λ t env. then_value (loops.loop_test c.args.node.0 (number c.args.update) c.args.body.0 env))
     (λ t more. ap (λ (o : Option NodeId). loops.loop_from c.args.node.0 (number o) (number c.args.update) c.args.body.0 (env_in m old t f)) c.in-Some.is)) c.first_tested.ensures.does
 
@@ -201,8 +201,8 @@ first-returns-in-None-clause-does g t c =
     let old = c.args.config.now in
     let f = c.args.frame.now in
     let k = c.body_run.new.stops in
-    round_behind m (line_here m old f (λ t env. loops.loop_from c.args.node.0 (number c.args.test) (number c.args.update) c.args.body.0 env))
-    (form_here m old f (AtStmt c.args.body.0) (λ t env. loops.loop_body c.args.node.0 (number c.args.update) env)) f c.args.node c.body_run.result k.waits k.top old old c.body_run.new.config
+    comes_behind m (line_here m old f (λ t env. loops.loop_from c.args.node.0 (number c.args.test) (number c.args.update) c.args.body.0 env))
+    (form_here m old f (AtStmt c.args.body.0) (λ t env. loops.loop_body c.args.node.0 (number c.args.update) env)) (round_left m c.body_run.new.config f c.args.node) c.body_run.result k.waits k.top old old c.body_run.new.config
     (line_begins m old f (λ t env. loops.loop_from c.args.node.0 (number c.args.test) (number c.args.update) c.args.body.0 env) (AtStmt c.args.body.0) (λ t env. loops.loop_body c.args.node.0 (number c.args.update) env)
     (λ t more. ap (λ (o : Option NodeId). loops.loop_from c.args.node.0 (number o) (number c.args.update) c.args.body.0 (env_in m old t f)) c.in-None.is)) c.body_run.ensures.does
 
@@ -234,7 +234,7 @@ first_tested-returns-in-Ok-clause-does g t c =
     let f = c.args.frame.now in
     let k = c.tested.new.stops in
     let next : Table → Env → Meant → Act = λ t env. then_value (loops.loop_test c.args.node.0 (number c.args.update) c.args.body.0 env) in
-    round_behind m (form_here m old f (AtExpr c.args.test.0) next) (line_here m mid f (λ t env. next t env (gives_in t c.in-Ok.truth))) f c.args.node c.tested.result k.waits k.top old mid c.tested.new.config
+    comes_behind m (form_here m old f (AtExpr c.args.test.0) next) (line_here m mid f (λ t env. next t env (gives_in t c.in-Ok.truth))) (round_left m c.tested.new.config f c.args.node) c.tested.result k.waits k.top old mid c.tested.new.config
     (part_left m gives_in old mid f (AtExpr c.args.test.0) next c.in-Ok.truth c.in-Ok.ensures.later c.in-Ok.ensures.does) c.tested.ensures.does
 
 pub first_tested-returns-in-Err-clause-later : goal.loops::first_tested-returns-in-Err-clause-later
@@ -302,7 +302,7 @@ iterations-loop-test-preserved g t c =
     let l = later_left m mid (mid.left - 1) inv.later.base in
     let line = line_here m now f (λ t env. iteration_from c.args.node.0 (number c.args.test) (number c.args.update) c.args.body.0 env) in
     let goal_at : Config g.row.S.Denot → Table → (Meant → Act) → Act = λ x. goal_here m x f (Again c.args.node.0) in
-    let begun = round_begun m mid f c.args.node c.args.test c.args.update c.args.body (c.may_go_round.ensures.left c.loop-test-test.true) (loop_later m old mid f c.args.node c.args.test c.args.update c.args.body inv.later c.requires.is) in
+    let begun = round_begun m mid f c.args.node (loop_round c.args.node c.args.test c.args.update c.args.body) (c.may_go_round.ensures.left c.loop-test-test.true) (round_later m old mid f c.args.node (loop_round c.args.node c.args.test c.args.update c.args.body) inv.later c.requires.is) in
     let one = subst (λ (o : Option Completion). Leaves m line (round_left m new f c.args.node o) now new) c.in-None.is c.in-Ok.ensures.does in
     record {
       left = leaves_all m (goal_at old) (goal_at mid) (goal_at new) old mid new inv.left (leaves_all m (goal_at mid) line (goal_at new) mid now new begun one);
@@ -334,7 +334,7 @@ iterations-returns-in-Some-clause-does g t c =
     let inv = c.loop-test.invariant in
     let line = line_here m now f (λ t env. iteration_from c.args.node.0 (number c.args.test) (number c.args.update) c.args.body.0 env) in
     let goal_at : Config g.row.S.Denot → Table → (Meant → Act) → Act = λ x. goal_here m x f (Again c.args.node.0) in
-    let begun = round_begun m mid f c.args.node c.args.test c.args.update c.args.body (c.may_go_round.ensures.left c.loop-test-test.true) (loop_later m old mid f c.args.node c.args.test c.args.update c.args.body inv.later c.requires.is) in
+    let begun = round_begun m mid f c.args.node (loop_round c.args.node c.args.test c.args.update c.args.body) (c.may_go_round.ensures.left c.loop-test-test.true) (round_later m old mid f c.args.node (loop_round c.args.node c.args.test c.args.update c.args.body) inv.later c.requires.is) in
     let one = subst (λ (o : Option Completion). Leaves m line (round_left m new f c.args.node o) now new) c.in-Some.is c.in-Ok.ensures.does in
     leaves_all m (goal_at old) (goal_at mid) (round_left m new f c.args.node (Some c.in-Some.end)) old mid new inv.left (leaves_all m (goal_at mid) line (round_left m new f c.args.node (Some c.in-Some.end)) mid now new begun one)
 
@@ -361,9 +361,9 @@ iterations-returns-in-Err-clause-does g t c =
     let k = c.iteration.new.stops in
     let line = line_here m now f (λ t env. iteration_from c.args.node.0 (number c.args.test) (number c.args.update) c.args.body.0 env) in
     let goal_at : Config g.row.S.Denot → Table → (Meant → Act) → Act = λ x. goal_here m x f (Again c.args.node.0) in
-    let begun = round_begun m mid f c.args.node c.args.test c.args.update c.args.body (c.may_go_round.ensures.left c.loop-test-test.true) (loop_later m old mid f c.args.node c.args.test c.args.update c.args.body inv.later c.requires.is) in
-    round_behind m (goal_at old) (goal_at mid) f c.args.node (Err c.in-Err.end) k.waits k.top old mid new inv.left
-    (round_behind m (goal_at mid) line f c.args.node (Err c.in-Err.end) k.waits k.top mid now new begun c.in-Err.ensures.does)
+    let begun = round_begun m mid f c.args.node (loop_round c.args.node c.args.test c.args.update c.args.body) (c.may_go_round.ensures.left c.loop-test-test.true) (round_later m old mid f c.args.node (loop_round c.args.node c.args.test c.args.update c.args.body) inv.later c.requires.is) in
+    comes_behind m (goal_at old) (goal_at mid) (round_left m new f c.args.node) (Err c.in-Err.end) k.waits k.top old mid new inv.left
+    (comes_behind m (goal_at mid) line (round_left m new f c.args.node) (Err c.in-Err.end) k.waits k.top mid now new begun c.in-Err.ensures.does)
 
 pub iterations-returns-clause-later : goal.loops::iterations-returns-clause-later
 iterations-returns-clause-later g t c =
@@ -392,7 +392,7 @@ iterations-returns-clause-does g t c =
     let mid = c.loop-test.config in
     let s = c.stop.new.stops in
     let goal_at : Config g.row.S.Denot → Table → (Meant → Act) → Act = λ x. goal_here m x f (Again c.args.node.0) in
-    round_behind m (goal_at old) (goal_at mid) f c.args.node (Err c.stop.result) s.waits s.top old mid c.stop.new.config c.loop-test.invariant.left
+    comes_behind m (goal_at old) (goal_at mid) (round_left m c.stop.new.config f c.args.node) (Err c.stop.result) s.waits s.top old mid c.stop.new.config c.loop-test.invariant.left
     (due_does m {A = Completion} completion_in mid c.stop.new.config f c.stop.result s.waits s.top c.stop.ensures.same (part.Again c.args.node) c.stop.ensures.stops)
 
 pub iteration-next_tested-requires : goal.loops::iteration-next_tested-requires
@@ -407,7 +407,7 @@ iteration-returns-in-Some-clause-does g t c =
     let f = c.args.frame.now in
     let k = c.next_tested.new.stops in
     let other : Table → Env → Act = λ t env. Sub (expr_at c.in-Some.e.0 env) (then_value (loops.loop_test c.args.node.0 (number c.args.update) c.args.body.0 env)) in
-    round_behind m (line_here m old f (λ t env. iteration_from c.args.node.0 (number c.args.test) (number c.args.update) c.args.body.0 env)) (line_here m old f other) f c.args.node c.next_tested.result k.waits k.top old old c.next_tested.new.config
+    comes_behind m (line_here m old f (λ t env. iteration_from c.args.node.0 (number c.args.test) (number c.args.update) c.args.body.0 env)) (line_here m old f other) (round_left m c.next_tested.new.config f c.args.node) c.next_tested.result k.waits k.top old old c.next_tested.new.config
     (line_same m old f (λ t env. iteration_from c.args.node.0 (number c.args.test) (number c.args.update) c.args.body.0 env) other (λ t more. ap (λ (o : Option NodeId). iteration_from c.args.node.0 (number o) (number c.args.update) c.args.body.0 (env_in m old t f)) c.in-Some.is)) c.next_tested.ensures.does
 
 pub iteration-returns-in-None-clause-does : goal.loops::iteration-returns-in-None-clause-does
@@ -417,7 +417,7 @@ iteration-returns-in-None-clause-does g t c =
     let f = c.args.frame.now in
     let k = c.body_entered.new.stops in
     let other : Table → Env → Act = λ t env. Sub (stmt_at c.args.body.0 env) (loops.loop_body c.args.node.0 (number c.args.update) env) in
-    round_behind m (line_here m old f (λ t env. iteration_from c.args.node.0 (number c.args.test) (number c.args.update) c.args.body.0 env)) (line_here m old f other) f c.args.node c.body_entered.result k.waits k.top old old c.body_entered.new.config
+    comes_behind m (line_here m old f (λ t env. iteration_from c.args.node.0 (number c.args.test) (number c.args.update) c.args.body.0 env)) (line_here m old f other) (round_left m c.body_entered.new.config f c.args.node) c.body_entered.result k.waits k.top old old c.body_entered.new.config
     (line_same m old f (λ t env. iteration_from c.args.node.0 (number c.args.test) (number c.args.update) c.args.body.0 env) other (λ t more. ap (λ (o : Option NodeId). iteration_from c.args.node.0 (number o) (number c.args.update) c.args.body.0 (env_in m old t f)) c.in-None.is)) c.body_entered.ensures.does
 
 pub next_tested-tested-requires : goal.loops::next_tested-tested-requires
@@ -448,7 +448,7 @@ next_tested-returns-in-Ok-clause-does g t c =
     let f = c.args.frame.now in
     let k = c.tested.new.stops in
     let next : Table → Env → Meant → Act = λ t env. then_value (loops.loop_test c.args.node.0 (number c.args.update) c.args.body.0 env) in
-    round_behind m (line_here m old f (λ t env. Sub (entry (AtExpr c.args.test.0) env) (next t env))) (line_here m mid f (λ t env. next t env (gives_in t c.in-Ok.truth))) f c.args.node c.tested.result k.waits k.top old mid c.tested.new.config
+    comes_behind m (line_here m old f (λ t env. Sub (entry (AtExpr c.args.test.0) env) (next t env))) (line_here m mid f (λ t env. next t env (gives_in t c.in-Ok.truth))) (round_left m c.tested.new.config f c.args.node) c.tested.result k.waits k.top old mid c.tested.new.config
     (entry_left m gives_in old mid f (AtExpr c.args.test.0) next c.in-Ok.truth c.in-Ok.ensures.later c.in-Ok.ensures.does) c.tested.ensures.does
 
 pub next_tested-returns-in-Err-clause-later : goal.loops::next_tested-returns-in-Err-clause-later
@@ -535,7 +535,7 @@ body_entered-returns-in-Ok-clause-does g t c =
     let f = c.args.frame.now in
     let k = c.body_ended.new.stops in
     let next : Table → Env → Meant → Act = λ t env. loops.loop_body c.args.node.0 (number c.args.update) env in
-    round_behind m (line_here m old f (λ t env. Sub (entry (AtStmt c.args.body.0) env) (next t env))) (line_here m mid f (λ t env. next t env (completion_in t c.in-Ok.end))) f c.args.node c.body_ended.result k.waits k.top old mid c.body_ended.new.config
+    comes_behind m (line_here m old f (λ t env. Sub (entry (AtStmt c.args.body.0) env) (next t env))) (line_here m mid f (λ t env. next t env (completion_in t c.in-Ok.end))) (round_left m c.body_ended.new.config f c.args.node) c.body_ended.result k.waits k.top old mid c.body_ended.new.config
     (entry_left m completion_in old mid f (AtStmt c.args.body.0) next c.in-Ok.end c.in-Ok.ensures.later c.in-Ok.ensures.does) c.body_ended.ensures.does
 
 pub body_entered-returns-in-Err-clause-later : goal.loops::body_entered-returns-in-Err-clause-later
@@ -572,8 +572,8 @@ tested-returns-then-to_boolean-clause-does g t c =
     let old = c.args.config.now in
     let f = c.args.frame.now in
     let k = c.body_run.new.stops in
-    round_behind m (line_here m old f (λ t env. loops.loop_test c.args.node.0 (number c.args.update) c.args.body.0 env (value_in t c.args.truth)))
-    (form_here m old f (AtStmt c.args.body.0) (λ t env. loops.loop_body c.args.node.0 (number c.args.update) env)) f c.args.node c.body_run.result k.waits k.top old old c.body_run.new.config
+    comes_behind m (line_here m old f (λ t env. loops.loop_test c.args.node.0 (number c.args.update) c.args.body.0 env (value_in t c.args.truth)))
+    (form_here m old f (AtStmt c.args.body.0) (λ t env. loops.loop_body c.args.node.0 (number c.args.update) env)) (round_left m c.body_run.new.config f c.args.node) c.body_run.result k.waits k.top old old c.body_run.new.config
     (line_begins m old f (λ t env. loops.loop_test c.args.node.0 (number c.args.update) c.args.body.0 env (value_in t c.args.truth)) (AtStmt c.args.body.0) (λ t env. loops.loop_body c.args.node.0 (number c.args.update) env)
     (λ t more. test_holds c.args.node.0 (number c.args.update) c.args.body.0 (env_in m old t f) (value_in t c.args.truth) (c.to_boolean.ensures t more ∙ c.if-to_boolean.true))) c.body_run.ensures.does
 
@@ -614,7 +614,7 @@ body_run-returns-in-Ok-clause-does g t c =
     let f = c.args.frame.now in
     let k = c.body_ended.new.stops in
     let next : Table → Env → Meant → Act = λ t env. loops.loop_body c.args.node.0 (number c.args.update) env in
-    round_behind m (form_here m old f (AtStmt c.args.body.0) next) (line_here m mid f (λ t env. next t env (completion_in t c.in-Ok.end))) f c.args.node c.body_ended.result k.waits k.top old mid c.body_ended.new.config
+    comes_behind m (form_here m old f (AtStmt c.args.body.0) next) (line_here m mid f (λ t env. next t env (completion_in t c.in-Ok.end))) (round_left m c.body_ended.new.config f c.args.node) c.body_ended.result k.waits k.top old mid c.body_ended.new.config
     (part_left m completion_in old mid f (AtStmt c.args.body.0) next c.in-Ok.end c.in-Ok.ensures.later c.in-Ok.ensures.does) c.body_ended.ensures.does
 
 pub body_run-returns-in-Err-clause-later : goal.loops::body_run-returns-in-Err-clause-later
@@ -653,34 +653,19 @@ body_ended-returns-in-Again-clause-does g t c =
     let k = c.updated.new.stops in
     let act : Table → Env → Act = λ t env. loops.loop_body c.args.node.0 (number c.args.update) env (completion_in t c.args.end) in
     let other : Table → Env → Act = λ t env. loops.loop_update c.args.node.0 (number c.args.update) env in
-    round_behind m (line_here m old f act) (line_here m old f other) f c.args.node c.updated.result k.waits k.top old old c.updated.new.config
-    (line_same m old f act other (λ t more.
-    let env = env_in m old t f in
-    after_is t (other t env) c.args.end (act t env) c.after_body.result afters.Again (c.after_body.ensures t more (other t env)) c.in-Again.is)) c.updated.ensures.does
+    comes_behind m (line_here m old f act) (line_here m old f other) (round_left m c.updated.new.config f c.args.node) c.updated.result k.waits k.top old old c.updated.new.config
+    (line_same m old f act other (λ t more. c.in-Again.ensures.means t more (other t (env_in m old t f)))) c.updated.ensures.does
 
-pub body_ended-returns-in-Breaks-clause-does : goal.loops::body_ended-returns-in-Breaks-clause-does
-body_ended-returns-in-Breaks-clause-does g t c =
+pub body_ended-returns-in-Ends-clause-found : goal.loops::body_ended-returns-in-Ends-clause-found
+body_ended-returns-in-Ends-clause-found g t c = (c.in-Ends.ensures.there, c.requires.empty)
+
+pub body_ended-returns-in-Ends-clause-does : goal.loops::body_ended-returns-in-Ends-clause-does
+body_ended-returns-in-Ends-clause-does g t c =
     let m = g.S.WorldStore.meaning in
     let old = c.args.config.now in
     let f = c.args.frame.now in
     let act : Table → Env → Act = λ t env. loops.loop_body c.args.node.0 (number c.args.update) env (completion_in t c.args.end) in
-    let other : Table → Env → Act = λ t env. loops.loop_update c.args.node.0 (number c.args.update) env in
-    round_ended m old f c.args.node act completions.Normal
-    (λ t more.
-    let env = env_in m old t f in
-    after_is t (other t env) c.args.end (act t env) c.after_body.result afters.Breaks (c.after_body.ensures t more (other t env)) c.in-Breaks.is)
-
-pub body_ended-returns-in-Passes-clause-does : goal.loops::body_ended-returns-in-Passes-clause-does
-body_ended-returns-in-Passes-clause-does g t c =
-    let m = g.S.WorldStore.meaning in
-    let old = c.args.config.now in
-    let f = c.args.frame.now in
-    let act : Table → Env → Act = λ t env. loops.loop_body c.args.node.0 (number c.args.update) env (completion_in t c.args.end) in
-    let other : Table → Env → Act = λ t env. loops.loop_update c.args.node.0 (number c.args.update) env in
-    round_ended m old f c.args.node act c.args.end
-    (λ t more.
-    let env = env_in m old t f in
-    after_is t (other t env) c.args.end (act t env) c.after_body.result afters.Passes (c.after_body.ensures t more (other t env)) c.in-Passes.is)
+    round_ended m old f c.args.node act c.in-Ends.ended (λ t more. c.in-Ends.ensures.means t more (loops.loop_update c.args.node.0 (number c.args.update) (env_in m old t f)))
 
 -- the update
 
@@ -695,8 +680,8 @@ updated-returns-in-Some-clause-does g t c =
     let old = c.args.config.now in
     let f = c.args.frame.now in
     let k = c.update_run.new.stops in
-    round_behind m (line_here m old f (λ t env. loops.loop_update c.args.node.0 (number c.args.update) env))
-    (form_here m old f (AtExpr c.in-Some.e.0) (λ t env. then_value (loops.loop_updated c.args.node.0 env))) f c.args.node c.update_run.result k.waits k.top old old c.update_run.new.config
+    comes_behind m (line_here m old f (λ t env. loops.loop_update c.args.node.0 (number c.args.update) env))
+    (form_here m old f (AtExpr c.in-Some.e.0) (λ t env. then_value (loops.loop_updated c.args.node.0 env))) (round_left m c.update_run.new.config f c.args.node) c.update_run.result k.waits k.top old old c.update_run.new.config
     (line_begins m old f (λ t env. loops.loop_update c.args.node.0 (number c.args.update) env) (AtExpr c.in-Some.e.0) (λ t env. then_value (loops.loop_updated c.args.node.0 env))
     (λ t more. ap (λ (o : Option NodeId). loops.loop_update c.args.node.0 (number o) (env_in m old t f)) c.in-Some.is)) c.update_run.ensures.does
 
@@ -724,7 +709,7 @@ update_run-returns-in-Ok-clause-does g t c =
     let next : Table → Env → Meant → Act = λ t env. then_value (loops.loop_updated c.args.node.0 env) in
     leaves_all m (form_here m old f (AtExpr c.args.update.0) next) (line_here m mid f (λ t env. next t env (completion_in t c.in-Ok.end))) (round_left m mid f c.args.node c.after_update.result) old mid mid
     (part_left m completion_in old mid f (AtExpr c.args.update.0) next c.in-Ok.end c.in-Ok.ensures.later c.in-Ok.ensures.does)
-    (round_updated m mid f c.args.node (λ t env. next t env (completion_in t c.in-Ok.end)) c.after_update.result (λ t env. c.after_update.ensures.is t c.args.node.0 env))
+    (round_next m mid f c.args.node (λ t env. next t env (completion_in t c.in-Ok.end)) c.after_update.result (λ t more env. c.after_update.ensures.is t c.args.node.0 env))
 
 pub update_run-returns-in-Err-clause-later : goal.loops::update_run-returns-in-Err-clause-later
 update_run-returns-in-Err-clause-later g t c =

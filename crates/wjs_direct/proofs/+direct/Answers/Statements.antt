@@ -4,6 +4,7 @@ use Rattle.std.specs.Prelude.{Ok, Err, IfNone, IfSome}
 use Rattle.wjs_base.specs.Text.{Table}
 use Rattle.wjs_base.specs.declared.ids.NodeId.{NodeId}
 use Rattle.wjs_base.specs.declared.values.Value.{Value}
+use Rattle.wjs_base.specs.declared.values.Value.TheVariants as values
 use Rattle.wjs_by_content.specs.Tables.{text_in, value_in}
 use Rattle.wjs_tree.specs.declared.node.Node.TheVariants as nodes
 use Rattle.wjs_tree.specs.declared.node.ForInit.{ForInit}
@@ -25,13 +26,14 @@ use Rattle.wjs_model.specs.declared.point.Point.TheVariants as points
 use Rattle.wjs_model.specs.declared.point.StmtPoint.TheVariants as stmt
 use Rattle.wjs_frames.specs.Doing.{Does}
 use Rattle.wjs_frames.specs.Parts.{env_in, node_among}
+use Rattle.wjs_frames.proofs.Places.{node_known}
 use Rattle.wjs_frames.proofs.Parting.{stands_here, stands_if_later, stands_later}
 use Rattle.wjs_frames.specs.declared.part.Part.TheVariants as part
 use Rattle.wjs_heap_steps.proofs.Later.{later_same, later_twice}
 use Rattle.wjs_quick.proofs.Coming.{later_left}
 use Rattle.wjs_effects.specs.Sequences.{NextIs}
 use Rattle.wjs_effects.proofs.Leaving.{shorten_as}
-use Rattle.wjs_effects.proofs.Lines.{stmt_is, if_yes, if_no}
+use Rattle.wjs_effects.proofs.Lines.{stmt_is, label_there, if_yes, if_no}
 use Rattle.wjs_effects.proofs.Running.{statement_is}
 use Rattle.wjs_effects.proofs.StandingElements.{element_stands}
 use Rattle.wjs_effects.proofs.Only.{dropped_is, dropped_there}
@@ -44,16 +46,16 @@ use Rattle.wjs_direct.specs.Deeds.{IsNode, goal_here}
 use Rattle.wjs_direct.proofs.Forming.{form_goes_on, line_ended, node_there}
 use Rattle.wjs_direct.proofs.Parts.{broke_does, broke_found, broke_later, did, due_does, else_stands, form_ends, later_stopped, later_then, line_as, line_form, line_last, ready_does, step_does, stop_found}
 use Rattle.wjs_direct.proofs.Elements.{block_begins, element_form, element_passed, element_then, not_normal, rest_all, rest_ended, rest_from, waits_then}
+use Rattle.wjs_direct.proofs.Ending.{end_does}
 use Rattle.wjs_direct.proofs.Declaring.{for_begins, var_begins}
 use Rattle.wjs_direct.proofs.Assigning.{returned_is, returned_there}
-use Rattle.wjs_direct.proofs.Looping.{while_loops, for_loops, if_stands}
-use Rattle.wjs_direct.specs.Rounds.{IsDo, IsLoop}
+use Rattle.wjs_direct.proofs.Looping.{if_stands, round_is}
+use Rattle.wjs_direct.specs.Rounds.{IsDo, IsLoop, do_round, loop_round}
 use Rattle.wjs_direct.specs.Variables.{DeclaresFirst, variables_left}
 use Rattle.wjs_direct.specs.Tries.{caught_here}
 use Rattle.wjs_direct.specs.Switches.{sought_then}
 use Rattle.wjs_direct.proofs.Trying.{last_stands, try_begins}
 use Rattle.wjs_direct.proofs.Switching.{switch_begins}
-use Rattle.wjs_direct.proofs.DoLoops.{do_is}
 use Rattle.wjs_direct.proofs.+direct.Goals as goal
 
 -- ---- statements
@@ -537,7 +539,7 @@ statement_form-run_loop-requires g t c =
     let f = c.args.frame.now in
     let s = c.in-Some-While in
     let n = s.ensures ∙ s.field-0-is in
-    let is : IsLoop m old f c.args.node (Some s.test) None s.body = while_loops m old f c.args.node s.test s.body n in
+    let is : IsLoop m old f c.args.node (Some s.test) None s.body = round_is m old f c.args.node (nodes.While s.test s.body) (loop_round c.args.node (Some s.test) None s.body) (λ t env. refl) n in
     let there = node_there m old f c.args.node [] c.requires.there c.requires.node tt in
     let test : StandsHere old f s.test = stands_here m old (at_node f c.args.node []) (nodes.While s.test s.body) s.test there n (inl refl) in
     let body : StandsHere old f s.body = stands_here m old (at_node f c.args.node []) (nodes.While s.test s.body) s.body there n (inr (inl refl)) in
@@ -560,7 +562,7 @@ statement_form-run_loop-requires-in-Some-For-Nothing-default-default-default g t
     let f = c.args.frame.now in
     let s = c.in-Some-For-Nothing-default-default-default in
     let n = s.ensures ∙ s.field-0-is ∙ ap (λ (i : ForInit). nodes.For i s.test s.update s.body) s.field-0-0-is in
-    let is : IsLoop m old f c.args.node s.test s.update s.body = for_loops m old f c.args.node inits.Nothing s.test s.update s.body n in
+    let is : IsLoop m old f c.args.node s.test s.update s.body = round_is m old f c.args.node (nodes.For inits.Nothing s.test s.update s.body) (loop_round c.args.node s.test s.update s.body) (λ t env. refl) n in
     let parts = for_stands m old (at_node f c.args.node []) (node_there m old f c.args.node [] c.requires.there c.requires.node tt) inits.Nothing s.test s.update s.body n in
     let test : StandsIf old f s.test = if_stands m old f c.args.node s.test parts.0 in
     let update : StandsIf old f s.update = if_stands m old f c.args.node s.update parts.1.0 in
@@ -693,7 +695,7 @@ statement_form-run_do-requires g t c =
     let s = c.in-Some-DoWhile in
     let n = s.ensures ∙ s.field-0-is in
     let here = node_there m old f c.args.node [] c.requires.there c.requires.node tt in
-    let is : IsDo m old f c.args.node s.body s.test = do_is m old f c.args.node s.body s.test s.field-0-2 n in
+    let is : IsDo m old f c.args.node s.body s.test = round_is m old f c.args.node (nodes.DoWhile s.body s.test s.field-0-2) (do_round c.args.node s.body s.test) (λ t env. refl) n in
     let body : StandsHere old f s.body = stands_here m old (at_node f c.args.node []) (nodes.DoWhile s.body s.test s.field-0-2) s.body here n (inl refl) in
     let test : StandsHere old f s.test = stands_here m old (at_node f c.args.node []) (nodes.DoWhile s.body s.test s.field-0-2) s.test here n (inr (inl refl)) in
     search (rules, is, body, test)
@@ -707,3 +709,59 @@ statement_form-returns-in-Some-DoWhile-clause-does g t c =
     let k = c.run_do.new.stops in
     line_form m completion_in old c.run_do.new.config f (λ t env. entry (AtStmt c.args.node.0) env) c.run_do.result k.waits k.top (AtStmt s.body.0) (λ t env. loops.do_body c.args.node.0 s.test.0 env)
     (λ t more. stmt_is m old f c.args.node _ t (s.ensures ∙ s.field-0-is)) c.run_do.ensures.does
+
+-- what ends at once
+
+pub statement_form-returns-in-Some-Empty-clause-later : goal.statements::statement_form-returns-in-Some-Empty-clause-later
+statement_form-returns-in-Some-Empty-clause-later g t c = later_same g.S.WorldStore.meaning c.args.config.now c.requires.base
+
+pub statement_form-returns-in-Some-Empty-clause-found : goal.statements::statement_form-returns-in-Some-Empty-clause-found
+statement_form-returns-in-Some-Empty-clause-found g t c = (tt, c.requires.empty)
+
+pub statement_form-returns-in-Some-Empty-clause-does : goal.statements::statement_form-returns-in-Some-Empty-clause-does
+statement_form-returns-in-Some-Empty-clause-does g t c =
+    let s = c.in-Some-Empty in
+    let k = c.args.stops.now in
+    end_does g.S.WorldStore.meaning c.args.config.now c.args.frame.now c.args.node nodes.Empty completions.Normal k.waits k.top (s.ensures ∙ s.field-0-is) (λ t env. refl)
+
+pub statement_form-returns-in-Some-Break-clause-later : goal.statements::statement_form-returns-in-Some-Break-clause-later
+statement_form-returns-in-Some-Break-clause-later g t c = later_same g.S.WorldStore.meaning c.args.config.now c.requires.base
+
+pub statement_form-returns-in-Some-Break-clause-found : goal.statements::statement_form-returns-in-Some-Break-clause-found
+statement_form-returns-in-Some-Break-clause-found g t c =
+    let old = c.args.config.now in
+    let s = c.in-Some-Break in
+    (label_there old s.label (node_known old.heap.texts old.units.items c.args.frame.now.tree c.args.node (nodes.Break s.label s.field-0-1) c.requires.base.units (s.ensures ∙ s.field-0-is)), c.requires.empty)
+
+pub statement_form-returns-in-Some-Break-clause-does : goal.statements::statement_form-returns-in-Some-Break-clause-does
+statement_form-returns-in-Some-Break-clause-does g t c =
+    let s = c.in-Some-Break in
+    let k = c.args.stops.now in
+    end_does g.S.WorldStore.meaning c.args.config.now c.args.frame.now c.args.node (nodes.Break s.label s.field-0-1) (completions.Breaks s.label) k.waits k.top (s.ensures ∙ s.field-0-is) (λ t env. refl)
+
+pub statement_form-returns-in-Some-Continue-clause-later : goal.statements::statement_form-returns-in-Some-Continue-clause-later
+statement_form-returns-in-Some-Continue-clause-later g t c = later_same g.S.WorldStore.meaning c.args.config.now c.requires.base
+
+pub statement_form-returns-in-Some-Continue-clause-found : goal.statements::statement_form-returns-in-Some-Continue-clause-found
+statement_form-returns-in-Some-Continue-clause-found g t c =
+    let old = c.args.config.now in
+    let s = c.in-Some-Continue in
+    (label_there old s.label (node_known old.heap.texts old.units.items c.args.frame.now.tree c.args.node (nodes.Continue s.label s.field-0-1) c.requires.base.units (s.ensures ∙ s.field-0-is)), c.requires.empty)
+
+pub statement_form-returns-in-Some-Continue-clause-does : goal.statements::statement_form-returns-in-Some-Continue-clause-does
+statement_form-returns-in-Some-Continue-clause-does g t c =
+    let s = c.in-Some-Continue in
+    let k = c.args.stops.now in
+    end_does g.S.WorldStore.meaning c.args.config.now c.args.frame.now c.args.node (nodes.Continue s.label s.field-0-1) (completions.Continues s.label) k.waits k.top (s.ensures ∙ s.field-0-is) (λ t env. refl)
+
+pub statement_form-returns-in-Some-Return-None-default-clause-later : goal.statements::statement_form-returns-in-Some-Return-None-default-clause-later
+statement_form-returns-in-Some-Return-None-default-clause-later g t c = later_same g.S.WorldStore.meaning c.args.config.now c.requires.base
+
+pub statement_form-returns-in-Some-Return-None-default-clause-found : goal.statements::statement_form-returns-in-Some-Return-None-default-clause-found
+statement_form-returns-in-Some-Return-None-default-clause-found g t c = (tt, c.requires.empty)
+
+pub statement_form-returns-in-Some-Return-None-default-clause-does : goal.statements::statement_form-returns-in-Some-Return-None-default-clause-does
+statement_form-returns-in-Some-Return-None-default-clause-does g t c =
+    let s = c.in-Some-Return-None-default in
+    let k = c.args.stops.now in
+    end_does g.S.WorldStore.meaning c.args.config.now c.args.frame.now c.args.node (nodes.Return None s.field-0-1) (completions.Returns values.Undefined) k.waits k.top (s.ensures ∙ s.field-0-is ∙ ap (λ (o : Option NodeId). nodes.Return o s.field-0-1) s.field-0-0-is) (λ t env. refl)

@@ -5,6 +5,7 @@ use Rattle.wjs_base.specs.Text.{Has, Table}
 use Rattle.wjs_base.proofs.TextLaws.{Grows-Has}
 use Rattle.wjs_base.specs.declared.values.Value.{Value}
 use Rattle.wjs_tree.specs.declared.node.ForInit.TheVariants as inits
+use Rattle.wjs_tree.specs.declared.node.Node.TheVariants as nodes
 use Rattle.wjs_meaning.specs.Deeds.{AtExpr, then_normal, then_value, Act, Sub, Env, Completion as Meant}
 use Rattle.wjs_meaning.specs.Reading.{number}
 use Rattle.wjs_meaning.specs.Loops as loops
@@ -26,9 +27,9 @@ use Rattle.wjs_stopping.proofs.Evaluating.{in_memory, leaves_all}
 use Rattle.wjs_direct.proofs.Forming.{line_ended, node_there}
 use Rattle.wjs_direct.proofs.Parts.{broke_does, broke_found, broke_later, later_then, line_as}
 use Rattle.wjs_direct.proofs.Elements.{not_normal}
-use Rattle.wjs_direct.proofs.Declaring.{all_passed, declares_later, for_variables_then, nested_broke, nested_left, next_as, next_broke, next_ended, next_passed, value_next, value_waits, variable_begins, variable_passed, variable_stands}
-use Rattle.wjs_direct.proofs.Looping.{for_loops, if_stands, loop_later}
-use Rattle.wjs_direct.specs.Rounds.{IsLoop}
+use Rattle.wjs_direct.proofs.Declaring.{all_passed, declares_later, for_variables_then, nested_broke, nested_left, next_broke, next_ended, next_passed, value_next, value_waits, variable_begins, variable_passed, variable_stands}
+use Rattle.wjs_direct.proofs.Looping.{comes_behind, if_stands, round_is, round_later}
+use Rattle.wjs_direct.specs.Rounds.{IsLoop, loop_round}
 use Rattle.wjs_direct.specs.Variables.{Declares, variable_valued, variables_left}
 use Rattle.wjs_direct.proofs.+direct.Goals as goal
 
@@ -113,8 +114,8 @@ declared-returns-in-Some-clause-does g t c =
     let x = c.args.variable in
     let e = c.in-Some.e in
     let k = c.initialised.new.stops in
-    next_as m f c.args.node (line_here m old f (variables_left old f c.args.node c.args.at)) (form_here m old f (AtExpr e.0) (λ t env. then_value (variable_valued old f c.args.node c.args.at t env)))
-    (variables_left old f c.args.node (c.args.at + 1)) c.initialised.result k.waits k.top old c.initialised.new.config
+    comes_behind m (line_here m old f (variables_left old f c.args.node c.args.at)) (form_here m old f (AtExpr e.0) (λ t env. then_value (variable_valued old f c.args.node c.args.at t env)))
+    (λ (end : Completion). line_here m old f (λ t env. then_normal (variables_left old f c.args.node (c.args.at + 1) t env) (completion_in t end))) c.initialised.result k.waits k.top old old c.initialised.new.config
     (variable_begins m f c.args.node old c.args.at x c.requires.is e c.in-Some.is) c.initialised.ensures.does
 
 pub declared-returns-in-None-clause-does : goal.variables::declared-returns-in-None-clause-does
@@ -198,7 +199,7 @@ for_variables-for_declared-requires g t c =
     let there : IsThere m mid f = l.frames f c.requires.there in
     let node : StandsHere mid f c.args.node = stands_later m old f mid c.args.node l c.requires.node in
     let empty : c.run_variables.new.stops.waits ≡ [] = c.in-Ok.ensures.found.1 in
-    let is : IsLoop m mid f c.args.node c.args.test c.args.update c.args.body = loop_later m old mid f c.args.node c.args.test c.args.update c.args.body l (for_loops m old f c.args.node first c.args.test c.args.update c.args.body c.requires.is.1) in
+    let is : IsLoop m mid f c.args.node c.args.test c.args.update c.args.body = round_later m old mid f c.args.node (loop_round c.args.node c.args.test c.args.update c.args.body) l (round_is m old f c.args.node (nodes.For first c.args.test c.args.update c.args.body) (loop_round c.args.node c.args.test c.args.update c.args.body) (λ t env. refl) c.requires.is.1) in
     let test : StandsIf mid f c.args.test = stands_if_later m old f mid c.args.test l (if_stands m old f c.args.node c.args.test parts.0) in
     let update : StandsIf mid f c.args.update = stands_if_later m old f mid c.args.update l (if_stands m old f c.args.node c.args.update parts.1.0) in
     let body : StandsHere mid f c.args.body = stands_later m old f mid c.args.body l parts.1.1 in

@@ -3,7 +3,7 @@ use Rattle.wjs_meaning.specs.Loops.{do_body}
 use Rattle.wjs_model.specs.Contents.{completion_in}
 use Rattle.wjs_frames.specs.Parts.{env_in}
 use Rattle.wjs_step_common.proofs.Following.{follows_as}
-use Rattle.wjs_direct.proofs.DoLoops.{asks_test}
+use Rattle.wjs_direct.proofs.Looping.{asks_test}
 use Rattle.wjs_direct.proofs.do_rounds.after_do_body.Goals as goal
 
 pub returns : goal.returns

@@ -10,8 +10,8 @@ use Rattle.wjs_frames.proofs.Parting.{stands_later}
 use Rattle.wjs_stopping.specs.Evaluating.{Evaluates, Leaves, outcome_in}
 use Rattle.wjs_stopping.proofs.Evaluating.{in_memory, leaves_all}
 use Rattle.wjs_direct.specs.Deeds.{form_here, goal_here}
-use Rattle.wjs_direct.specs.Rounds.{IsDo, round_left}
-use Rattle.wjs_direct.proofs.DoLoops.{do_later}
+use Rattle.wjs_direct.specs.Rounds.{IsDo, do_round, round_left}
+use Rattle.wjs_direct.proofs.Looping.{round_later}
 use Rattle.wjs_direct.proofs.Parts.{later_then}
 use Rattle.wjs_direct.proofs.do_rounds.tested.Goals as goal
 
@@ -28,7 +28,7 @@ iterations-requires-clause-is g c =
     let m = g.S.WorldStore.meaning in
     let mid = c.asked.new.config in
     let f = c.args.frame.now in
-    subst (λ (i : NodeId). IsDo m mid f i c.args.parts.body c.args.parts.test) (sym c.node-node.ensures) (do_later m c.args.config.now mid f f.node c.args.parts.body c.args.parts.test c.in-Ok.ensures.later c.requires.parts.is)
+    subst (λ (i : NodeId). IsDo m mid f i c.args.parts.body c.args.parts.test) (sym c.node-node.ensures) (round_later m c.args.config.now mid f f.node (do_round f.node c.args.parts.body c.args.parts.test) c.in-Ok.ensures.later c.requires.parts.is)
 
 pub iterations-requires-clause-body : goal.iterations-requires-clause-body
 iterations-requires-clause-body g c = stands_later g.S.WorldStore.meaning c.args.config.now c.args.frame.now c.asked.new.config c.args.parts.body c.in-Ok.ensures.later c.requires.parts.body

@@ -3,8 +3,6 @@ use Rattle.wjs_base.specs.declared.ids.NodeId.{NodeId}
 use Rattle.wjs_meaning.specs.Loops.{after_body}
 use Rattle.wjs_model.specs.Contents.{completion_in}
 use Rattle.wjs_frames.specs.Parts.{env_in}
-use Rattle.wjs_direct.specs.declared.loops.After.TheVariants as afters
-use Rattle.wjs_direct.proofs.Looping.{after_is}
 use Rattle.wjs_direct.proofs.rounds.is_followed.Goals as goal
 
 pub returns-in-Again : goal.returns-in-Again
@@ -12,4 +10,4 @@ returns-in-Again g c = λ yes t more again.
     let env = env_in g.S.WorldStore.meaning c.args.config.now t c.args.frame.now in
     let end = completion_in t c.args.end in
     ap (λ (i : NodeId). after_body i.0 env again end) (sym c.node-node.ensures)
-    ∙ after_is t again c.args.end (after_body c.node-node.result.0 env again end) c.after_body.result afters.Again (c.after_body.ensures t more again) c.in-Again.is
+    ∙ c.in-Again.ensures.means t more again

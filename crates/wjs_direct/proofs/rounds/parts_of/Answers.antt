@@ -1,8 +1,9 @@
-use Rattle.std.proofs.Common.{inl, inr, refl, ◌∙◌}
+use Rattle.std.proofs.Common.{None, Some, inl, inr, refl, ◌∙◌}
 use Rattle.wjs_tree.specs.declared.node.Node.TheVariants as nodes
 use Rattle.wjs_frames.proofs.Parting.{stands_here}
 use Rattle.wjs_effects.proofs.StandingFors.{for_stands}
-use Rattle.wjs_direct.proofs.Looping.{for_loops, while_loops}
+use Rattle.wjs_direct.specs.Rounds.{loop_round}
+use Rattle.wjs_direct.proofs.Looping.{round_is}
 use Rattle.wjs_direct.proofs.rounds.parts_of.Goals as goal
 
 pub returns-in-Some-While : goal.returns-in-Some-While
@@ -13,7 +14,7 @@ returns-in-Some-While g c =
     let s = c.in-Some-While in
     let n = s.ensures ∙ s.field-0-is in
     record {
-      is = while_loops m now f f.node s.test s.body n;
+      is = round_is m now f f.node (nodes.While s.test s.body) (loop_round f.node (Some s.test) None s.body) (λ t env. refl) n;
       test = stands_here m now f (nodes.While s.test s.body) s.test c.requires.there n (inl refl);
       update = tt;
       body = stands_here m now f (nodes.While s.test s.body) s.body c.requires.there n (inr (inl refl));
@@ -28,7 +29,7 @@ returns-in-Some-For g c =
     let n = s.ensures ∙ s.field-0-is in
     let parts = for_stands m now f c.requires.there _ _ _ _ n in
     record {
-      is = for_loops m now f f.node _ s.test s.update s.body n;
+      is = round_is m now f f.node _ (loop_round f.node s.test s.update s.body) (λ t env. refl) n;
       test = parts.0;
       update = parts.1.0;
       body = parts.1.1;

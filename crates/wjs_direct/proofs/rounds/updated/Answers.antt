@@ -10,7 +10,8 @@ use Rattle.wjs_frames.proofs.Parting.{stands_if_later, stands_later}
 use Rattle.wjs_stopping.specs.Evaluating.{Evaluates, Leaves, outcome_in}
 use Rattle.wjs_stopping.proofs.Evaluating.{in_memory, leaves_all}
 use Rattle.wjs_direct.specs.Deeds.{form_here, goal_here}
-use Rattle.wjs_direct.specs.Rounds.{round_left}
+use Rattle.wjs_direct.specs.Rounds.{IsLoop, loop_round, round_left}
+use Rattle.wjs_direct.proofs.Looping.{round_later}
 use Rattle.wjs_direct.proofs.Parts.{later_then}
 use Rattle.wjs_direct.proofs.rounds.updated.Goals as goal
 
@@ -21,6 +22,14 @@ pub iterations-requires-clause-node : goal.iterations-requires-clause-node
 iterations-requires-clause-node g c =
     let f = c.args.frame.now in
     subst (λ (i : NodeId). StandsHere c.update_run.new.config f i) (sym c.node-node.ensures) (c.in-Ok.ensures.later.frames f c.requires.there).stands.node
+
+pub iterations-requires-clause-is : goal.iterations-requires-clause-is
+iterations-requires-clause-is g c =
+    let m = g.S.WorldStore.meaning in
+    let mid = c.update_run.new.config in
+    let f = c.args.frame.now in
+    let p = c.args.parts in
+    subst (λ (i : NodeId). IsLoop m mid f i p.test p.update p.body) (sym c.node-node.ensures) (round_later m c.args.config.now mid f f.node (loop_round f.node p.test p.update p.body) c.in-Ok.ensures.later c.requires.parts.is)
 
 pub iterations-requires-clause-test : goal.iterations-requires-clause-test
 iterations-requires-clause-test g c = stands_if_later g.S.WorldStore.meaning c.args.config.now c.args.frame.now c.update_run.new.config c.args.parts.test c.in-Ok.ensures.later c.requires.parts.test
