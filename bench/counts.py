@@ -6,8 +6,8 @@ What a step takes is the difference of the runs of a script at its large and its
 what a start takes doesn't count.
 
 Turns are exact too. The program can't tell them; turns.main.txt, a program that is compiled unproved (`rt try`) beside a copy of the
-crates, counts them, and the objects that are made. They show where a form falls back to more turns, which no contract can say. How
-many frames are pushed nothing here counts.
+crates, counts them, the frames that they leave above those they began with, and the objects that are made. They show where a form
+falls back to more turns and frames, which no contract can say. A frame that is made and ends within one turn isn't counted.
 
 counts.json holds what each script took at its small size.
 """
@@ -28,6 +28,20 @@ TOP = os.path.dirname(HERE)
 COUNTER = os.path.join(TOP, 'tests', 'hostile', 'refuse.c')
 TURNS_NAME = 'turns_bench'
 TURNS_NAMES = 'wjs_base wjs_texts wjs_io wjs_load wjs_machine wjs_model wjs_overlay wjs_start'
+TURNS_COUNTS = 'turns', 'frames', 'objects'
+# what only the copy of the crates has, behind the frames of wjs_model
+HEIGHT = '''
+impl Frames {
+    /// How many frames there are, in a run.
+    pub fn height(&self) -> u64 {
+        let on_top = match &self.stack.top {
+            Some(_) => 1u64,
+            None => 0u64,
+        };
+        on_top.saturating_add(self.stack.list.len() as u64)
+    }
+}
+'''
 # so much more than is held is too much; in percent
 MOST_MORE = 3
 DEAREST = 10
@@ -204,12 +218,14 @@ def hold(program, only):
 
 
 def turns_of(scripts):
-    """For each script the steps, turns and objects of its run at its small size."""
+    """For each script the steps, turns, frames and objects of its run at its small size."""
     with tempfile.TemporaryDirectory() as folder:
         bench = os.path.join(folder, 'crates', TURNS_NAME, 'src')
         shutil.copytree(os.path.join(TOP, 'crates'), os.path.join(folder, 'crates'), ignore=shutil.ignore_patterns('out'))
         os.makedirs(bench)
         shutil.copy(os.path.join(HERE, 'turns.main.txt'), os.path.join(bench, 'main.rt'))
+        with open(os.path.join(folder, 'crates', 'wjs_model', 'src', 'frame.rt'), 'a') as frames:
+            frames.write(HEIGHT)
         shutil.copy(os.path.join(TOP, 'HANDLES'), folder)
         with open(os.path.join(TOP, 'crates.txt'), encoding='utf-8') as old, open(os.path.join(folder, 'crates.txt'), 'w') as new:
             new.write(f'{old.read()}{TURNS_NAME}: {TURNS_NAMES}\n')
@@ -223,19 +239,17 @@ def turns_of(scripts):
 
 
 def turns(program, only, holds=False):
-    """Tells the turns and objects a step; whether they are those that are held: 1 where not."""
+    """Tells the turns, frames and objects a step; whether they are those that are held: 1 where not."""
     scripts, wrong, held = all_scripts(only), 0, held_counts()
-    found = {name: {'turns': turns, 'objects': objects, 'steps': steps} for name, (steps, turns, objects) in turns_of(scripts).items()}
+    found = {name: dict(zip(('steps', *TURNS_COUNTS), counted)) for name, counted in turns_of(scripts).items()}
     for script in scripts:
-        it = found[script.name]
-        differs = {key: held.get(script.name, {}).get(key) for key in ('turns', 'objects') if it[key] != held.get(script.name, {}).get(key)}
-        if it['steps'] != script.steps[0]:
-            differs['steps'] = script.steps[0]
+        it, due = found[script.name], held.get(script.name, {}) | {'steps': script.steps[0]}
+        differs = {key: due.get(key) for key in it if it[key] != due.get(key)}
         wrong += bool(differs)
-        print(f'{script.name:14} {it["turns"] / it["steps"]:6.3f} turns and {it["objects"] / it["steps"]:6.3f} objects a step',
-              f'{it["turns"]} and {it["objects"]}, where are held {differs}' if differs else '', flush=True)
+        print(f'{script.name:14}', *(f'{it[key] / it["steps"]:6.3f} {key}' for key in TURNS_COUNTS), 'a step',
+              f'({it}, where are held {differs})' if differs else '', flush=True)
     if holds:
-        hold_counts((name, {'turns': it['turns'], 'objects': it['objects']}) for name, it in found.items())
+        hold_counts((name, {key: it[key] for key in TURNS_COUNTS}) for name, it in found.items())
     print(f'{len(scripts)} scripts, {wrong} differ')
     return 1 if wrong and not holds else 0
 

@@ -6,7 +6,7 @@ usage: bench/run.py [--runs N] [--only NAME] [COMMAND..]      times
        bench/run.py --peaks [--runs N] [--only NAME] [COMMAND..]     peaks of memory, and the bytes that one thing of a kind keeps
        bench/run.py --counts [--only NAME] [COMMAND..]        instructions a step, under valgrind
        bench/run.py --check [--only NAME] [COMMAND..]         whether steps, pieces of memory and instructions are those held
-       bench/run.py --turns [--only NAME]                     whether turns and objects are those held; wants rt, and some minutes
+       bench/run.py --turns [--only NAME]                     whether turns, frames and objects are those held; wants rt, and some minutes
        bench/run.py --steps|--hold|--hold-turns [..]          writes each script's steps; the counts; the turns
 
 COMMAND runs the program, with its words; left out, it is crates/worlds/out/worlds. --only: the scripts whose name begins so.
